@@ -1,0 +1,59 @@
+-- Small batches, maps and pages, worked out.
+use Rattle.std.specs.Prelude.{◌≡◌, ℕ, List, [], ◌∷◌, ◌++◌, take, true, false, Some, None, codes}
+use Rattle.kv_types.specs.declared.edit.Edit.{Edit}
+use Rattle.kv_types.specs.declared.edit.Edit.TheVariants.{Put, Delete}
+use Rattle.kv_types.specs.declared.row.Row.{Row}
+use Rattle.kv_types.specs.Order.{IsBelow}
+use Rattle.kv_types.specs.Spelling.{spelling}
+use Rattle.kv_types.specs.Maps.{map_of}
+use Rattle.kv_types.specs.Spans.{Span}
+use Rattle.kv_types.specs.Pages.{page_of}
+
+-- one batch: a=1 -a a=2
+abbrev pub thrice : List (List Edit)
+thrice = (Put (codes "a") (codes "1") ∷ Delete (codes "a") ∷ Put (codes "a") (codes "2") ∷ []) ∷ []
+
+-- two batches: a=1 b=1 c=1 d=1, then c=2
+abbrev pub letters : List (List Edit)
+letters =
+    (Put (codes "a") (codes "1") ∷ Put (codes "b") (codes "1") ∷ Put (codes "c") (codes "1") ∷ Put
+    (codes "d") (codes "1") ∷ [])
+    ∷ (Put (codes "c") (codes "2") ∷ [])
+    ∷ []
+
+-- at most two rows, walked backward
+abbrev pub two_back : List ℕ → List ℕ → Span
+two_back from to = record { from = from; to = Some to; backward = true; limit = 2 }
+
+-- at most ten rows from the first key on
+abbrev pub ten : Span
+ten = record { from = []; to = None; backward = false; limit = 10 }
+
+abbrev pub row : List ℕ → List ℕ → Row
+row key value = record { key = key; value = value }
+
+pub record Examples : Type 0 where
+  pub spelled : spelling (Put (codes "a") (codes "1") ∷ [])
+      ≡ 0 ∷ 1 ∷ 1 ∷ 0 ∷ 1 ∷ 97 ∷ 0 ∷ 1 ∷ 49 ∷ []
+  pub deletion : spelling (Delete (codes "a") ∷ []) ≡ 0 ∷ 1 ∷ 2 ∷ 0 ∷ 1 ∷ 97 ∷ []
+  pub beginning : IsBelow (codes "a") (codes "ab")
+  pub difference : IsBelow (codes "ab") (codes "b")
+  pub last : map_of thrice (codes "a") ≡ Some (codes "2")
+  pub other_key : map_of thrice (codes "b") ≡ None
+  pub no_more : page_of (take 1 letters) (two_back (codes "b") (codes "d"))
+      ≡ record {
+        rows = row (codes "c") (codes "1") ∷ row (codes "b") (codes "1") ∷ [];
+        more = false;
+      }
+  pub more : page_of (take 1 letters) (two_back (codes "a") (codes "d"))
+      ≡ record {
+        rows = row (codes "c") (codes "1") ∷ row (codes "b") (codes "1") ∷ [];
+        more = true;
+      }
+  pub later : page_of letters (two_back (codes "c") (codes "d"))
+      ≡ record { rows = row (codes "c") (codes "2") ∷ []; more = false }
+  pub deleted : page_of (thrice ++ ((Delete (codes "a") ∷ []) ∷ [])) ten
+      ≡ record { rows = []; more = false }
+  pub forward : page_of thrice ten
+      ≡ record { rows = row (codes "a") (codes "2") ∷ []; more = false }
+  pub empty : page_of [] ten ≡ record { rows = []; more = false }

@@ -1,0 +1,50 @@
+-- The map that a list of batches makes.
+use Rattle.std.specs.Prelude.{◌≡◌, ◌≢◌, ◌↔◌, ℕ, List, [], ◌∷◌, ◌++◌, Option, Some, None}
+use Rattle.std.specs.Prelude.{if◌then◌else◌}
+use Rattle.std.specs.List.{flat_map, All}
+use Rattle.std.specs.Option.{option_or, option_flatten}
+use Rattle.std.specs.Str.{bytes_eq}
+use Rattle.kv_types.specs.declared.edit.Edit.{Edit}
+use Rattle.kv_types.specs.declared.edit.Edit.TheVariants.{Put, Delete}
+
+-- the key that an edit changes
+abbrev pub key_of : Edit → List ℕ
+key_of (Put key value) = key
+key_of (Delete key) = key
+
+-- what it leaves there: a put its value, a deletion nothing
+abbrev pub left_by : Edit → Option (List ℕ)
+left_by (Put key value) = Some value
+left_by (Delete key) = None
+
+-- the edits of all batches in order
+abbrev pub joined : List (List Edit) → List Edit
+joined batches = flat_map (λ batch. batch) batches
+
+-- this is the last edit of the key
+pub record IsLastEdit (edits : List Edit) (key : List ℕ) (edit : Edit) : Type 0 where
+  pub before : List Edit
+  pub after : List Edit
+  pub parts : edits ≡ before ++ edit ∷ after
+  pub of_key : key_of edit ≡ key
+  pub none_later : All (λ later. key_of later ≢ key) after
+
+-- the batches give the key this value: its last edit puts it
+abbrev pub HasValue : List (List Edit) → List ℕ → List ℕ → Type 0
+HasValue batches key value = IsLastEdit (joined batches) key (Put key value)
+
+-- what the last edit of the key leaves, if the key has an edit
+abbrev pub last_edit : List Edit → List ℕ → Option (Option (List ℕ))
+last_edit [] key = None
+last_edit (edit ∷ edits) key =
+    option_or (last_edit edits key)
+    (if bytes_eq (key_of edit) key then Some (left_by edit) else None)
+
+-- the map of the batches, as a function
+abbrev pub map_of : List (List Edit) → List ℕ → Option (List ℕ)
+map_of batches key = option_flatten (last_edit (joined batches) key)
+
+-- the function gives exactly the values that the batches give
+abbrev pub MapsAgree : Type 0
+MapsAgree = (batches : List (List Edit)) (key value : List ℕ) →
+    (map_of batches key ≡ Some value) ↔ HasValue batches key value

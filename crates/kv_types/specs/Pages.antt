@@ -1,0 +1,114 @@
+-- The rows of a map in a range, and the page of them that an answer holds.
+use Rattle.std.specs.Prelude.{◌≡◌, ◌≢◌, ◌⊎◌, ◌↔◌, ◌≤◌, ◌+◌, ◌-◌, ℕ, zero, suc, List, [], ◌∷◌, ◌++◌}
+use Rattle.std.specs.Prelude.{length, reverse, Bool, true, false, not, ◌&&◌, IsTrue, nat_lt, nat_le}
+use Rattle.std.specs.Prelude.{if◌then◌else◌, Option, Some, None, IfSome}
+use Rattle.std.specs.List.{All, AllPairs, Contains, sum_by, filter_map}
+use Rattle.std.specs.Option.{option_map, option_map_or}
+use Rattle.std.specs.Ordering.{nat_cmp, is_lt, match_ordering}
+use Rattle.std.specs.Cmp.Lexicographic.{slice_cmp}
+use Rattle.kv_types.specs.declared.bounds.TheConstants.{MAX_PAGE, ROW_OVERHEAD}
+use Rattle.kv_types.specs.declared.edit.Edit.{Edit}
+use Rattle.kv_types.specs.declared.row.Row.{Row}
+use Rattle.kv_types.specs.Order.{IsBelow}
+use Rattle.kv_types.specs.Maps.{key_of, joined, map_of}
+use Rattle.kv_types.specs.Spans.{Span, Rows}
+
+-- a map gives a key its value, or none
+abbrev pub Map : Type 0
+Map = List ℕ → Option (List ℕ)
+
+-- from <= key < to
+abbrev pub IsWithin : Span → List ℕ → Type 0
+IsWithin range key =
+    ((range.from ≡ key) ⊎ IsBelow range.from key) × IfSome range.to (λ to. IsBelow key to)
+
+-- the row is one of the map's, and its key lies in the range
+abbrev pub IsRowOf : Map → Span → Row → Type 0
+IsRowOf map range row = (map row.key ≡ Some row.value) × IsWithin range row.key
+
+-- a walk forward meets lesser keys first, a walk backward greater ones
+abbrev pub ComesBefore : Bool → Row → Row → Type 0
+ComesBefore false a b = IsBelow a.key b.key
+ComesBefore true a b = IsBelow b.key a.key
+
+-- these are all rows of the map in the range, in the order of the walk
+pub record IsWalk (map : Map) (range : Span) (rows : List Row) : Type 0 where
+  pub each : All (IsRowOf map range) rows
+  pub all : (row : Row) → IsRowOf map range row → Contains rows row
+  pub ordered : AllPairs (ComesBefore range.backward) rows
+
+-- a row counts the bytes of its key and of its value, and a few more
+abbrev pub row_size : Row → ℕ
+row_size row = length row.key + length row.value + ROW_OVERHEAD
+
+-- the rows are so many at most, and of so many bytes at most
+abbrev pub KeepsLimits : ℕ → ℕ → List Row → Type 0
+KeepsLimits limit size rows = (length rows ≤ limit) × (sum_by row_size rows ≤ size)
+
+-- with the next of the rows left, the limits are not kept
+abbrev pub IsFull : ℕ → ℕ → List Row → List Row → Type 0
+IsFull limit size rows [] = Unit {0}
+IsFull limit size rows (next ∷ left) = KeepsLimits limit size (rows ++ next ∷ []) → ⊥
+
+-- the longest beginning of the walk that keeps the limits, and whether rows were left
+pub record IsPage (map : Map) (range : Span) (page : Rows) : Type 0 where
+  pub left : List Row
+  pub walk : IsWalk map range (page.rows ++ left)
+  pub fits : KeepsLimits range.limit MAX_PAGE page.rows
+  pub full : IsFull range.limit MAX_PAGE page.rows left
+  pub more : IsTrue page.more ↔ (left ≢ [])
+
+-- ---- the page as a function
+
+-- the keys in byte order with one more, which stands there once
+abbrev pub with_key : List ℕ → List (List ℕ) → List (List ℕ)
+with_key key [] = key ∷ []
+with_key key (first ∷ keys) =
+    match_ordering (slice_cmp nat_cmp key first) (key ∷ first ∷ keys) (first ∷ keys)
+    (first ∷ with_key key keys)
+
+-- the keys of the edits in byte order, each once
+abbrev pub keys_of : List Edit → List (List ℕ)
+keys_of [] = []
+keys_of (edit ∷ edits) = with_key (key_of edit) (keys_of edits)
+
+-- the test of `IsWithin`
+abbrev pub is_within : Span → List ℕ → Bool
+is_within range key =
+    not (is_lt (slice_cmp nat_cmp key range.from)) && option_map_or
+    (λ to. is_lt (slice_cmp nat_cmp key to)) range.to true
+
+-- the row of a key in the range that has a value
+abbrev pub row_at : List (List Edit) → Span → List ℕ → Option Row
+row_at batches range key =
+    if is_within range key then option_map (λ value. record { key = key; value = value })
+    (map_of batches key) else None
+
+-- all rows in the range, in the order of the walk
+abbrev pub walk_of : List (List Edit) → Span → List Row
+walk_of batches range =
+    let rows = filter_map (row_at batches range) (keys_of (joined batches)) in
+    if range.backward then reverse rows else rows
+
+-- the longest beginning that keeps the limits
+abbrev pub beginning : ℕ → ℕ → List Row → List Row
+beginning zero size rows = []
+beginning (suc limit) size [] = []
+beginning (suc limit) size (row ∷ rows) =
+    if nat_le (row_size row) size then row ∷ beginning limit (size - row_size row) rows else []
+
+-- the page of a range in the map of the batches
+abbrev pub page_of : List (List Edit) → Span → Rows
+page_of batches range =
+    let walk = walk_of batches range in
+    let rows = beginning range.limit MAX_PAGE walk in
+    record { rows = rows; more = nat_lt (length rows) (length walk) }
+
+-- the function gives a page of the map of the batches
+abbrev pub PagesAgree : Type 0
+PagesAgree = (batches : List (List Edit)) (range : Span)
+    → IsPage (map_of batches) range (page_of batches range)
+
+-- a map has one page in a range
+abbrev pub OnePage : Type 0
+OnePage = (map : Map) (range : Span) (p q : Rows) → IsPage map range p → IsPage map range q → p ≡ q

@@ -1,0 +1,68 @@
+-- Reading a batch from left to right.
+use Rattle.std.specs.Prelude.{◌≡◌, ℕ, zero, suc, List, [], ◌∷◌, length, take, drop, nat_lt, ◌==◌}
+use Rattle.std.specs.Prelude.{Option, Some, None, Result, Ok, Err, if◌then◌else◌}
+use Rattle.std.specs.Int.{w16, from_be_bytes}
+use Rattle.kv_types.specs.declared.bounds.TheConstants.{MAX_KEY, MAX_VALUE, MAX_EDITS, MAX_BATCH}
+use Rattle.kv_types.specs.declared.edit.Edit.{Edit}
+use Rattle.kv_types.specs.declared.edit.Edit.TheVariants.{Put, Delete}
+use Rattle.kv_types.specs.declared.error.KvError.{KvError}
+use Rattle.kv_types.specs.declared.error.KvError.TheVariants.{BadBytes, Memory}
+
+-- one reading after another
+infixl 10 ◌>>=◌
+abbrev pub ◌>>=◌ : {A B : Type 0} → Option A → (A → Option B) → Option B
+(Some x) >>= f = f x
+None >>= f = None
+
+-- a refusal: BadBytes only where nothing is read
+abbrev pub Fails : {Y : Type 0} → KvError → Option Y → Type 0
+Fails BadBytes read = read ≡ None
+Fails Memory read = Unit {0}
+Fails _ read = ⊥
+
+-- what a function returned, seen by view, is what was read, unless memory ran out
+abbrev pub Gives : {X Y : Type 0} → (X → Y) → Result X KvError → Option Y → Type 0
+Gives view (Ok x) read = read ≡ Some (view x)
+Gives view (Err e) read = Fails e read
+
+-- a number of two bytes, and the bytes after it
+abbrev pub number_at : List ℕ → Option (ℕ × List ℕ)
+number_at bytes =
+    if nat_lt (length bytes) 2 then None else Some (from_be_bytes w16 (take 2 bytes), drop 2 bytes)
+
+-- the bytes behind their length, which is at most the limit, and the bytes after them
+unfoldable pub text_at : ℕ → List ℕ → Option (List ℕ × List ℕ)
+text_at limit bytes = do
+  n ← number_at bytes
+  if nat_lt limit n.0 then None else
+      (if nat_lt (length n.1) n.0 then None else Some (take n.0 n.1, drop n.0 n.1))
+
+-- an edit, by its first byte, and the bytes after it
+unfoldable pub edit_at : List ℕ → Option (Edit × List ℕ)
+edit_at [] = None
+edit_at (zero ∷ rest) = None
+edit_at (suc zero ∷ rest) = do
+  key ← text_at MAX_KEY rest
+  value ← text_at MAX_VALUE key.1
+  Some (Put key.0 value.0, value.1)
+edit_at (suc (suc zero) ∷ rest) = do
+  key ← text_at MAX_KEY rest
+  Some (Delete key.0, key.1)
+edit_at (suc (suc (suc b)) ∷ rest) = None
+
+-- so many edits, and the bytes after them
+unfoldable pub edits_at : ℕ → List ℕ → Option (List Edit × List ℕ)
+edits_at zero bytes = Some ([], bytes)
+edits_at (suc n) bytes = do
+  first ← edit_at bytes
+  others ← edits_at n first.1
+  Some (first.0 ∷ others.0, others.1)
+
+-- the edits of a batch, where nothing is behind them
+unfoldable pub batch_of : List ℕ → Option (List Edit)
+batch_of bytes =
+    if nat_lt MAX_BATCH (length bytes) then None else do
+      n ← number_at bytes
+      if nat_lt MAX_EDITS n.0 then None else (if nat_lt n.0 1 then None else do
+        edits ← edits_at n.0 n.1
+        if length edits.1 == 0 then Some edits.0 else None)

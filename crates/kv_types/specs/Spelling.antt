@@ -1,0 +1,36 @@
+-- What a batch is, and its one spelling.
+use Rattle.std.specs.Prelude.{◌≡◌, ℕ, ◌≤◌, List, [], ◌∷◌, ◌++◌, length}
+use Rattle.std.specs.List.{flat_map, All}
+use Rattle.std.specs.Int.{w16, to_be_bytes}
+use Rattle.kv_types.specs.declared.bounds.TheConstants.{MAX_KEY, MAX_VALUE, MAX_EDITS, MAX_BATCH}
+use Rattle.kv_types.specs.declared.edit.Edit.{Edit}
+use Rattle.kv_types.specs.declared.edit.Edit.TheVariants.{Put, Delete}
+
+-- two bytes of length, and that many bytes
+abbrev pub text : List ℕ → List ℕ
+text bytes = to_be_bytes w16 (length bytes) ++ bytes
+
+abbrev pub edit_text : Edit → List ℕ
+edit_text (Put key value) = 1 ∷ text key ++ text value
+edit_text (Delete key) = 2 ∷ text key
+
+-- two bytes that count the edits, and the edits in order
+abbrev pub spelling : List Edit → List ℕ
+spelling edits = to_be_bytes w16 (length edits) ++ flat_map edit_text edits
+
+-- a key has at most 1,024 bytes, and a value at most 16,384
+abbrev pub IsEdit : Edit → Type 0
+IsEdit (Put key value) = (length key ≤ MAX_KEY) × (length value ≤ MAX_VALUE)
+IsEdit (Delete key) = length key ≤ MAX_KEY
+
+-- 1 to 256 edits, spelled in at most 65,536 bytes
+pub record IsBatch (edits : List Edit) : Type 0 where
+  pub some : 1 ≤ length edits
+  pub few : length edits ≤ MAX_EDITS
+  pub short : length (spelling edits) ≤ MAX_BATCH
+  pub each : All IsEdit edits
+
+-- no spelling begins another, and no two batches have one spelling
+abbrev pub SpellingsDiffer : Type 0
+SpellingsDiffer = (a b : List Edit) (rest : List ℕ) → IsBatch a → IsBatch b →
+    spelling a ++ rest ≡ spelling b → (a ≡ b) × (rest ≡ [])

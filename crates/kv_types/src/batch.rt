@@ -1,0 +1,93 @@
+ghost use Rattle.std.specs.Prelude.{◌≡◌, ◌<◌, ◌≤◌, ◌⊎◌, ◌↔◌, List, length};
+ghost use Rattle.std.specs.Prelude.{IfOk, IfErr, Err, IsErrOf};
+
+use crate::bounds::{MAX_BATCH, MAX_EDITS};
+use crate::reading::edits_of;
+use crate::writing::{put_edits, spelled_len};
+use crate::{Edit, KvError};
+use std::alloc::{AllocError, Global};
+use std::marker::Model;
+
+/// 1 to 256 edits in order, spelled in at most 65,536 bytes.
+#[derive(Debug, Drop)]
+pub struct Batch {
+    edits: Vec<Edit>,
+}
+
+impl Model for Batch {
+    ghost use Rattle.std.specs.Prelude.{List};
+    ghost use Rattle.kv_types.specs.declared.edit.Edit.{Edit};
+
+    ghost Value = { List Edit };
+
+    ghost use Rattle.kv_types.specs.Spelling.{IsBatch};
+
+    ghost view = { λ batch. batch.edits.items };
+
+    ghost invariant = { λ batch. IsBatch batch.edits.items };
+}
+
+impl Batch {
+    ghost use Rattle.kv_types.specs.declared.edit.Edit.{Edit};
+    ghost use Rattle.kv_types.specs.Spelling.{IsBatch, spelling};
+
+    pub fn new(edits: Vec<Edit>) -> Result<Batch, KvError>
+        ensures made { IfOk result (λ batch. batch ≡ edits.items) }
+        ensures none { (result ≡ Err KvError.NoEdits) ↔ (length edits.items ≡ 0) }
+        ensures many { (result ≡ Err KvError.TooManyEdits) ↔ (MAX_EDITS < length edits.items) }
+        ensures long { (result ≡ Err KvError.BatchTooLong) ↔
+            ((1 ≤ length edits.items) × (length edits.items ≤ MAX_EDITS)
+            × (MAX_BATCH < length (spelling edits.items))) }
+        ensures only { IfErr result (λ e. (e ≡ KvError.NoEdits)
+            ⊎ (e ≡ KvError.TooManyEdits) ⊎ (e ≡ KvError.BatchTooLong)) }
+    {
+        if edits.is_empty() {
+            return Err(KvError::NoEdits);
+        }
+        if edits.len() > MAX_EDITS {
+            return Err(KvError::TooManyEdits);
+        }
+        if spelled_len(&edits) > MAX_BATCH {
+            return Err(KvError::BatchTooLong);
+        }
+        Ok(Batch { edits })
+    }
+
+    pub fn edits(&self) -> &[Edit]
+        ensures edits { result.now ≡ self.now }
+        ensures batch { IsBatch self.now }
+    {
+        &self.edits
+    }
+
+    /// The one spelling of the batch.
+    pub fn to_bytes(&self, alloc: Global) -> Result<Vec<u8>, AllocError>
+        ensures { IfOk result (λ bytes. bytes.items ≡ spelling self.now) }
+    {
+        let mut out = Vec::new(alloc);
+        put_edits(&mut out, &self.edits)?;
+        Ok(out)
+    }
+
+    /// The batch that the bytes spell.
+    pub fn from_bytes(alloc: Global, bytes: &[u8]) -> Result<Batch, KvError>
+        ensures spelled { IfOk result (λ batch. bytes.now ≡ spelling batch) }
+        ensures bad { IsErrOf result KvError.BadBytes →
+            (batch : List Edit) → IsBatch batch → bytes.now ≡ spelling batch → ⊥ }
+        ensures only { IfErr result (λ e. (e ≡ KvError.BadBytes) ⊎ (e ≡ KvError.Memory)) }
+    {
+        Ok(Batch {
+            edits: edits_of(alloc, bytes)?,
+        })
+    }
+
+    pub fn clone(&self) -> Result<Batch, AllocError>
+        ensures { IfOk result (λ batch. batch ≡ self.now) }
+    {
+        let mut edits = Vec::new(*self.edits.allocator());
+        for edit in &self.edits {
+            edits.push(edit.clone()?)?;
+        }
+        Ok(Batch { edits })
+    }
+}

@@ -1,0 +1,103 @@
+ghost use Rattle.std.specs.Prelude.{◌≡◌, ◌<◌, ◌≤◌, ◌↔◌, length, nat_eq, IfOk, IsOkUnless};
+ghost use Rattle.std.specs.Prelude.{IsTrue, Err, Some};
+ghost use Rattle.std.specs.Cmp.{partial_equiv_from_equiv};
+ghost use Rattle.std.specs.Cmp.Lexicographic.{pointwise, slice_cmp, nat_list_eq_equiv};
+ghost use Rattle.std.specs.Cmp.Lexicographic.{nat_list_cmp_total, texts_po, texts_ties};
+ghost use Rattle.std.specs.Ordering.{nat_cmp};
+ghost use Rattle.std.proofs.Common.{refl};
+ghost use Rattle.kv_types.specs.Order.{IsBelow};
+
+use crate::KvError;
+use crate::bounds::MAX_KEY;
+use std::alloc::AllocError;
+use std::cmp::Ordering;
+use std::marker::Model;
+
+/// A key: at most 1,024 bytes. Keys compare byte by byte.
+#[derive(Debug, Drop)]
+pub struct Key {
+    bytes: Vec<u8>,
+}
+
+impl Model for Key {
+    ghost use Rattle.std.specs.Prelude.{◌≤◌, List, ℕ, length};
+    ghost use Rattle.kv_types.specs.declared.bounds.TheConstants.{MAX_KEY};
+
+    ghost Value = { List ℕ };
+
+    ghost view = { λ key. key.bytes.items };
+
+    ghost invariant = { λ key. length key.bytes.items ≤ MAX_KEY };
+}
+
+impl Key {
+    pub fn new(bytes: Vec<u8>) -> Result<Key, KvError>
+        ensures made { IfOk result (λ key. key ≡ bytes.items) }
+        ensures too_long { (result ≡ Err KvError.KeyTooLong) ↔ (MAX_KEY < length bytes.items) }
+        ensures otherwise { IsOkUnless result KvError.KeyTooLong }
+    {
+        if bytes.len() > MAX_KEY {
+            return Err(KvError::KeyTooLong);
+        }
+        Ok(Key { bytes })
+    }
+
+    pub fn as_bytes(&self) -> &[u8]
+        ensures bytes { result.now ≡ self.now }
+        ensures limit { length self.now ≤ MAX_KEY }
+    {
+        &self.bytes
+    }
+
+    pub fn is_below(&self, other: &Key) -> bool
+        ensures { IsTrue result ↔ IsBelow self.now other.now }
+    {
+        self < other
+    }
+
+    pub fn clone(&self) -> Result<Key, AllocError>
+        ensures { IfOk result (λ key. key ≡ self.now) }
+    {
+        Ok(Key {
+            bytes: self.bytes.clone()?,
+        })
+    }
+}
+
+impl PartialEq for Key {
+    ghost eq = { pointwise nat_eq };
+
+    ghost laws = { partial_equiv_from_equiv nat_list_eq_equiv };
+
+    fn eq(&self, other: &Key) -> bool {
+        self.bytes.as_slice() == other.bytes.as_slice()
+    }
+}
+
+impl Eq for Key {
+    ghost laws = { nat_list_eq_equiv };
+}
+
+impl PartialOrd for Key {
+    ghost partial_cmp = { λ a b. Some (slice_cmp nat_cmp a b) };
+
+    ghost laws = { texts_po };
+
+    fn partial_cmp(&self, other: &Key) -> Option<Ordering> {
+        Some(self.cmp(other))
+    }
+}
+
+impl Ord for Key {
+    ghost cmp = { slice_cmp nat_cmp };
+
+    ghost total = { nat_list_cmp_total };
+
+    ghost matches_partial_cmp = { λ a b. refl };
+
+    ghost matches_eq = { texts_ties };
+
+    fn cmp(&self, other: &Key) -> Ordering {
+        self.bytes.as_slice().cmp(&other.bytes.as_slice())
+    }
+}

@@ -1,0 +1,59 @@
+ghost use Rattle.std.specs.Prelude.{◌≡◌, ◌↔◌, IfOk, IsOkUnless, IsOk};
+ghost use Rattle.kv_types.specs.Limits.{IsInRange};
+
+use crate::KvError;
+
+/// When a store flushes and merges, and how many blocks it keeps in memory.
+#[derive(Clone, Copy, Debug)]
+pub struct Limits {
+    /// Bytes of a log file that make a flush due when they are passed.
+    pub log: u64,
+    /// Tables in level 0 that make a merge due when they are passed.
+    pub l0: u64,
+    /// Bytes of data at which a merge begins a new table.
+    pub table: u64,
+    /// Bytes of level 1 that make a merge due when they are passed: ten times more a level deeper.
+    pub level: u64,
+    /// Blocks that are kept in memory.
+    pub cache: u64,
+    ghost in_range: { IsInRange log l0 table level cache },
+}
+
+impl Limits {
+    /// `level` is the limit of level 1.
+    pub fn new(log: u64, l0: u64, table: u64, level: u64, cache: u64) -> Result<Limits, KvError>
+        ensures made { IfOk result (λ limits. (limits.log ≡ log) × (limits.l0 ≡ l0)
+            × (limits.table ≡ table) × (limits.level ≡ level) × (limits.cache ≡ cache)) }
+        ensures accepted { IsOk result ↔ IsInRange log l0 table level cache }
+        ensures otherwise { IsOkUnless result KvError.BadLimit }
+    {
+        if !(16..=1 << 30).contains(&log) || l0 > 64 || !(64..=1 << 30).contains(&table) {
+            return Err(KvError::BadLimit);
+        }
+        if !(64..=1 << 40).contains(&level) || !(1..=65536).contains(&cache) {
+            return Err(KvError::BadLimit);
+        }
+        Ok(Limits {
+            log,
+            l0,
+            table,
+            level,
+            cache,
+        })
+    }
+}
+
+impl Default for Limits {
+    ghost is_default = { λ limits. (limits.log ≡ 4194304) × (limits.l0 ≡ 4)
+        × (limits.table ≡ 2097152) × (limits.level ≡ 10485760) × (limits.cache ≡ 256) };
+
+    fn default() -> Limits {
+        Limits {
+            log: 4194304,
+            l0: 4,
+            table: 2097152,
+            level: 10485760,
+            cache: 256,
+        }
+    }
+}

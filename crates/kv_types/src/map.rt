@@ -1,0 +1,26 @@
+ghost use Rattle.std.specs.Prelude.{◌≡◌, option_copied, if◌then◌else◌};
+ghost use Rattle.std.specs.Str.{bytes_eq};
+ghost use Rattle.kv_types.specs.Maps.{key_of, left_by, map_of};
+
+use crate::{Batch, Edit, Key, Value};
+
+/// What the key has after one edit, where it had this before.
+fn after_edit<'a>(had: Option<&'a Value>, edit: &'a Edit, key: &Key) -> Option<&'a Value>
+    ensures { option_copied result ≡ (if bytes_eq (key_of edit.now) key.now
+        then left_by edit.now else option_copied had.entry) }
+{
+    if edit.key() == key { edit.value() } else { had }
+}
+
+/// The value that the batches give a key: that of its last edit.
+pub fn value_at<'a>(batches: &'a [Batch], key: &Key) -> Option<&'a Value>
+    ensures { option_copied result ≡ map_of batches.now key.now }
+{
+    let mut found = None;
+    for batch in batches {
+        for edit in batch.edits() {
+            found = after_edit(found, edit, key);
+        }
+    }
+    found
+}

@@ -1,0 +1,39 @@
+ghost use Rattle.std.specs.Prelude.{◌≡◌};
+
+use crate::Row;
+use std::marker::Model;
+
+/// Rows in the order of their walk, and whether the range has more behind them.
+#[derive(Debug, Drop)]
+pub struct Page {
+    rows: Vec<Row>,
+    more: bool,
+}
+
+impl Model for Page {
+    ghost use Rattle.kv_types.specs.Spans.{Rows};
+
+    ghost Value = { Rows };
+
+    ghost view = { λ page. record { rows = page.rows.items; more = page.more } };
+}
+
+impl Page {
+    pub fn new(rows: Vec<Row>, more: bool) -> Page
+        ensures { result ≡ record { rows = rows.items; more = more } }
+    {
+        Page { rows, more }
+    }
+
+    pub fn rows(&self) -> &[Row]
+        ensures { result.now ≡ self.now.rows }
+    {
+        &self.rows
+    }
+
+    pub fn has_more(&self) -> bool
+        ensures { result ≡ self.now.more }
+    {
+        self.more
+    }
+}

@@ -1,0 +1,108 @@
+ghost use Rattle.std.specs.Prelude.{◌≡◌, ◌⊎◌, ◌<◌, ◌≤◌, ◌↔◌, IfOk, IsTrue, IsOkUnless, Err};
+ghost use Rattle.std.specs.Prelude.{option_copied};
+
+use crate::bounds::MAX_ROWS;
+use crate::{Key, KvError};
+use std::alloc::AllocError;
+use std::marker::Model;
+
+/// The keys from one on and below another, which way to walk them, and how many rows to give.
+#[derive(Debug, Drop)]
+pub struct Range {
+    from: Key,
+    to: Option<Key>,
+    backward: bool,
+    limit: u32,
+}
+
+impl Model for Range {
+    ghost use Rattle.std.specs.Prelude.{◌≤◌};
+    ghost use Rattle.kv_types.specs.Spans.{Span};
+    ghost use Rattle.kv_types.specs.declared.bounds.TheConstants.{MAX_ROWS};
+
+    ghost Value = { Span };
+
+    ghost view = { λ range. record {
+      from = range.from;
+      to = range.to;
+      backward = range.backward;
+      limit = range.limit;
+    } };
+
+    ghost invariant = { λ range. (1 ≤ range.limit) × (range.limit ≤ MAX_ROWS) };
+}
+
+impl Range {
+    ghost use Rattle.kv_types.specs.Pages.{IsWithin};
+
+    /// The keys from `from` on, below `to` where there is one. An answer has at most `limit` rows.
+    pub fn new(from: Key, to: Option<Key>, backward: bool, limit: u32) -> Result<Range, KvError>
+        ensures made { IfOk result (λ range. range ≡
+            record { from = from; to = to; backward = backward; limit = limit }) }
+        ensures refused { (result ≡ Err KvError.BadLimit) ↔ ((limit ≡ 0) ⊎ (MAX_ROWS < limit)) }
+        ensures otherwise { IsOkUnless result KvError.BadLimit }
+    {
+        if limit == 0 || limit > MAX_ROWS {
+            return Err(KvError::BadLimit);
+        }
+        Ok(Range {
+            from,
+            to,
+            backward,
+            limit,
+        })
+    }
+
+    pub fn from(&self) -> &Key
+        ensures { result.now ≡ self.now.from }
+    {
+        &self.from
+    }
+
+    pub fn to(&self) -> Option<&Key>
+        ensures { option_copied result ≡ self.now.to }
+    {
+        self.to.as_ref()
+    }
+
+    pub fn is_backward(&self) -> bool
+        ensures { result ≡ self.now.backward }
+    {
+        self.backward
+    }
+
+    pub fn limit(&self) -> u32
+        ensures limit { result ≡ self.now.limit }
+        ensures some { 1 ≤ self.now.limit }
+        ensures most { self.now.limit ≤ MAX_ROWS }
+    {
+        self.limit
+    }
+
+    pub fn contains(&self, key: &Key) -> bool
+        ensures { IsTrue result ↔ IsWithin self.now key.now }
+    {
+        if key.is_below(&self.from) {
+            return false;
+        }
+        match &self.to {
+            Some(to) => key.is_below(to),
+            None => true,
+        }
+    }
+
+    pub fn clone(&self) -> Result<Range, AllocError>
+        ensures { IfOk result (λ range. range ≡ self.now) }
+    {
+        let to = match &self.to {
+            Some(key) => Some(key.clone()?),
+            None => None,
+        };
+        Ok(Range {
+            from: self.from.clone()?,
+            to,
+            backward: self.backward,
+            limit: self.limit,
+        })
+    }
+}

@@ -1,0 +1,345 @@
+use kv_types::{Batch, Edit, Key, KvError, Limits, Number, Page, Range, Row, Value, value_at};
+use std::alloc::Global;
+use std::test::Fail;
+
+fn key_of(alloc: Global, bytes: &[u8]) -> Result<Key, KvError> {
+    Key::new(bytes.to_vec(alloc)?)
+}
+
+fn value_of(alloc: Global, bytes: &[u8]) -> Result<Value, KvError> {
+    Value::new(bytes.to_vec(alloc)?)
+}
+
+/// A put, or a deletion where there is no value.
+fn edit_of(alloc: Global, key: &[u8], value: Option<&[u8]>) -> Result<Edit, KvError> {
+    let key = key_of(alloc, key)?;
+    match value {
+        Some(bytes) => Ok(Edit::Put(key, value_of(alloc, bytes)?)),
+        None => Ok(Edit::Delete(key)),
+    }
+}
+
+fn batch_of(alloc: Global, edits: &[(&[u8], Option<&[u8]>)]) -> Result<Batch, KvError> {
+    let mut list = Vec::new(alloc);
+    for (key, value) in edits {
+        list.push(edit_of(alloc, *key, *value)?)?;
+    }
+    Batch::new(list)
+}
+
+/// Whether the batch has this one edit.
+fn is_edit(batch: &Batch, key: &[u8], value: Option<&[u8]>) -> bool {
+    match (batch.edits(), value) {
+        ([Edit::Put(k, v)], Some(bytes)) => k.as_bytes() == key && v.as_bytes() == bytes,
+        ([Edit::Delete(k)], None) => k.as_bytes() == key,
+        _ => false,
+    }
+}
+
+#[test]
+fn one_edit_is_spelled_so(rt: HostRuntime) -> Result<(), Fail> {
+    let alloc = rt.alloc();
+    let put: &[u8] = &[0, 1, 1, 0, 1, 0x61, 0, 1, 0x31];
+    let delete: &[u8] = &[0, 1, 2, 0, 1, 0x61];
+    let one: &[u8] = b"1";
+    for (value, want) in [(Some(one), put), (None, delete)] {
+        let batch = batch_of(alloc, &[(b"a", value)])?;
+        let bytes = batch.to_bytes(alloc)?;
+        assert_eq!(rt; bytes.as_slice(), want);
+        let again = Batch::from_bytes(alloc, want)?;
+        assert!(rt; is_edit(&again, b"a", value));
+    }
+    Ok(())
+}
+
+fn refusal_of(alloc: Global, bytes: &[u8]) -> Option<KvError> {
+    Batch::from_bytes(alloc, bytes).err()
+}
+
+#[test]
+fn bytes_that_spell_no_batch(rt: HostRuntime) {
+    let alloc = rt.alloc();
+    let table: [&[u8]; 10] = [
+        &[],
+        &[0],
+        &[0, 0],
+        &[0, 1],
+        &[0, 1, 0, 0, 0],
+        &[0, 1, 3, 0, 0],
+        &[0, 1, 2, 0, 1],
+        &[0, 1, 1, 0, 0],
+        &[0, 2, 2, 0, 0],
+        &[0, 1, 2, 0, 0, 0],
+    ];
+    for bytes in table {
+        assert_eq!(rt;
+            refusal_of(alloc, bytes),
+            Some(KvError::BadBytes),
+            "{bytes:?}"
+        );
+    }
+}
+
+#[test]
+fn refusals_have_their_numbers(rt: HostRuntime) {
+    for (refusal, number) in [
+        (KvError::KeyTooLong, 1),
+        (KvError::ValueTooLong, 2),
+        (KvError::NoEdits, 3),
+        (KvError::TooManyEdits, 4),
+        (KvError::BatchTooLong, 5),
+        (KvError::BadBytes, 6),
+        (KvError::Memory, 7),
+        (KvError::BadLimit, 8),
+    ] {
+        assert_eq!(rt; refusal as u8, number, "{refusal:?}");
+    }
+}
+
+fn key_refusal(alloc: Global, len: usize) -> Option<KvError> {
+    let Ok(bytes) = vec![in alloc; 107u8; len] else {
+        return Some(KvError::Memory);
+    };
+    Key::new(bytes).err()
+}
+
+fn value_refusal(alloc: Global, len: usize) -> Option<KvError> {
+    let Ok(bytes) = vec![in alloc; 118u8; len] else {
+        return Some(KvError::Memory);
+    };
+    Value::new(bytes).err()
+}
+
+#[test]
+fn keys_and_values_at_their_limits(rt: HostRuntime) {
+    let alloc = rt.alloc();
+    for (len, want) in [(0, None), (1024, None), (1025, Some(KvError::KeyTooLong))] {
+        assert_eq!(rt; key_refusal(alloc, len), want, "{len}");
+    }
+    for (len, want) in [
+        (0, None),
+        (16384, None),
+        (16385, Some(KvError::ValueTooLong)),
+    ] {
+        assert_eq!(rt; value_refusal(alloc, len), want, "{len}");
+    }
+}
+
+/// What a batch of so many deletions is refused with.
+fn count_refusal(alloc: Global, count: usize) -> Result<Option<KvError>, KvError> {
+    let mut edits = Vec::new(alloc);
+    for _ in 0..count {
+        edits.push(edit_of(alloc, b"a", None)?)?;
+    }
+    Ok(Batch::new(edits).err())
+}
+
+#[test]
+fn batches_at_their_limit_of_edits(rt: HostRuntime) -> Result<(), Fail> {
+    let alloc = rt.alloc();
+    for (count, want) in [
+        (0, Some(KvError::NoEdits)),
+        (1, None),
+        (256, None),
+        (257, Some(KvError::TooManyEdits)),
+    ] {
+        assert_eq!(rt; count_refusal(alloc, count)?, want, "{count}");
+    }
+    Ok(())
+}
+
+/// Three puts of the longest value, and one of this length: 49,178 bytes and the value.
+fn long_batch(alloc: Global, last: usize) -> Result<Batch, KvError> {
+    let mut edits = Vec::new(alloc);
+    for len in [16384, 16384, 16384, last] {
+        let value = Value::new(vec![in alloc; 118u8; len]?)?;
+        edits.push(Edit::Put(key_of(alloc, b"k")?, value))?;
+    }
+    Batch::new(edits)
+}
+
+/// The length of its spelling, if the bytes are read again.
+fn spelled_len(alloc: Global, batch: &Batch) -> Result<usize, KvError> {
+    let bytes = batch.to_bytes(alloc)?;
+    let again = Batch::from_bytes(alloc, &bytes)?;
+    Ok(again.to_bytes(alloc)?.len())
+}
+
+#[test]
+fn batches_at_their_limit_of_bytes(rt: HostRuntime) -> Result<(), Fail> {
+    let alloc = rt.alloc();
+    let longest = long_batch(alloc, 16358)?;
+    assert_eq!(rt; spelled_len(alloc, &longest)?, 65536);
+    assert_eq!(rt; long_batch(alloc, 16359).err(), Some(KvError::BatchTooLong));
+    Ok(())
+}
+
+fn range_refusal(alloc: Global, limit: u32) -> Result<Option<KvError>, KvError> {
+    let from = key_of(alloc, b"a")?;
+    Ok(Range::new(from, None, false, limit).err())
+}
+
+#[test]
+fn ranges_at_their_limit(rt: HostRuntime) -> Result<(), Fail> {
+    let alloc = rt.alloc();
+    let bad = Some(KvError::BadLimit);
+    for (limit, want) in [
+        (0, bad),
+        (1, None),
+        (1024, None),
+        (1025, bad),
+        (u32::MAX, bad),
+    ] {
+        assert_eq!(rt; range_refusal(alloc, limit)?, want, "{limit}");
+    }
+    Ok(())
+}
+
+#[test]
+fn limits_at_their_ends(rt: HostRuntime) {
+    let (gib, tib) = (1 << 30, 1 << 40);
+    for (log, l0, table, level, cache, is_taken) in [
+        (16, 0, 64, 64, 1, true),
+        (gib, 64, gib, tib, 65536, true),
+        (15, 0, 64, 64, 1, false),
+        (gib + 1, 0, 64, 64, 1, false),
+        (16, 65, 64, 64, 1, false),
+        (16, 0, 63, 64, 1, false),
+        (16, 0, gib + 1, 64, 1, false),
+        (16, 0, 64, 63, 1, false),
+        (16, 0, 64, tib + 1, 1, false),
+        (16, 0, 64, 64, 0, false),
+        (16, 0, 64, 64, 65537, false),
+    ] {
+        let limits = Limits::new(log, l0, table, level, cache);
+        assert_eq!(rt;
+            limits.is_ok(),
+            is_taken,
+            "{log} {l0} {table} {level} {cache}"
+        );
+    }
+}
+
+#[test]
+fn default_limits(rt: HostRuntime) {
+    let limits = Limits::default();
+    assert_eq!(rt; (limits.log, limits.l0), (4194304, 4));
+    assert_eq!(rt;
+        (limits.table, limits.level, limits.cache),
+        (2097152, 10485760, 256)
+    );
+}
+
+#[test]
+fn numbers_up_to_the_greatest(rt: HostRuntime) {
+    let greatest = (1 << 63) - 1;
+    for (value, is_taken, has_next) in [
+        (0, true, true),
+        (greatest - 1, true, true),
+        (greatest, true, false),
+        (greatest + 1, false, false),
+    ] {
+        let number = Number::new(value);
+        assert_eq!(rt; number.is_some(), is_taken, "{value}");
+        assert_eq!(rt;
+            number.and_then(|n| n.next()).is_some(),
+            has_next,
+            "{value}"
+        );
+    }
+    assert_eq!(rt; Number::ZERO.get(), 0);
+}
+
+/// The value that two batches give a key: `a=1 -a a=2 b=1`, then `-b`.
+fn found(alloc: Global, key: &[u8]) -> Result<Option<Vec<u8>>, KvError> {
+    let first: [(&[u8], Option<&[u8]>); 4] = [
+        (b"a", Some(b"1")),
+        (b"a", None),
+        (b"a", Some(b"2")),
+        (b"b", Some(b"1")),
+    ];
+    let batches = [batch_of(alloc, &first)?, batch_of(alloc, &[(b"b", None)])?];
+    let key = key_of(alloc, key)?;
+    match value_at(&batches, &key) {
+        Some(value) => Ok(Some(value.as_bytes().to_vec(alloc)?)),
+        None => Ok(None),
+    }
+}
+
+#[test]
+fn the_last_edit_decides(rt: HostRuntime) -> Result<(), Fail> {
+    let alloc = rt.alloc();
+    let two: &[u8] = b"2";
+    for (key, want) in [(b"a", Some(two)), (b"b", None), (b"c", None)] {
+        let value = found(alloc, key)?;
+        assert_eq!(rt; value.as_deref(), want);
+    }
+    Ok(())
+}
+
+#[test]
+fn keys_compare_by_their_bytes(rt: HostRuntime) -> Result<(), Fail> {
+    let alloc = rt.alloc();
+    let table: [(&[u8], &[u8], bool); 6] = [
+        (b"", b"", false),
+        (b"", b"\x00", true),
+        (b"a", b"ab", true),
+        (b"ab", b"b", true),
+        (b"b", b"ab", false),
+        (b"\x7f", b"\x80", true),
+    ];
+    for (a, b, is_below) in table {
+        let (first, second) = (key_of(alloc, a)?, key_of(alloc, b)?);
+        assert_eq!(rt; first.is_below(&second), is_below, "{a:?} {b:?}");
+        assert_eq!(rt; first < second, is_below, "{a:?} {b:?}");
+        assert_eq!(rt; first == second, a == b, "{a:?} {b:?}");
+    }
+    Ok(())
+}
+
+#[test]
+fn a_range_ends_before_its_bound(rt: HostRuntime) -> Result<(), Fail> {
+    let alloc = rt.alloc();
+    let to = key_of(alloc, b"d")?;
+    let bounded = Range::new(key_of(alloc, b"b")?, Some(to), false, 1)?;
+    let open = Range::new(key_of(alloc, b"b")?, None, false, 1)?;
+    let table: [(&[u8], bool, bool); 5] = [
+        (b"a", false, false),
+        (b"b", true, true),
+        (b"cc", true, true),
+        (b"d", false, true),
+        (b"e", false, true),
+    ];
+    for (bytes, in_bounded, in_open) in table {
+        let key = key_of(alloc, bytes)?;
+        assert_eq!(rt; bounded.contains(&key), in_bounded, "{bytes:?}");
+        assert_eq!(rt; open.contains(&key), in_open, "{bytes:?}");
+    }
+    Ok(())
+}
+
+#[test]
+fn a_range_gives_what_it_was_made_of(rt: HostRuntime) -> Result<(), Fail> {
+    let alloc = rt.alloc();
+    let to = key_of(alloc, b"d")?;
+    let range = Range::new(key_of(alloc, b"b")?, Some(to), true, 2)?.clone()?;
+    assert_eq!(rt; range.from().as_bytes(), b"b".as_slice());
+    assert_eq!(rt; range.to().map(|key| key.as_bytes()), Some(b"d".as_slice()));
+    assert_eq!(rt; (range.is_backward(), range.limit()), (true, 2));
+    Ok(())
+}
+
+#[test]
+fn copies_are_made(rt: HostRuntime) -> Result<(), Fail> {
+    let alloc = rt.alloc();
+    let batch = batch_of(alloc, &[(b"a", Some(b"1"))])?.clone()?;
+    assert!(rt; is_edit(&batch, b"a", Some(b"1")));
+    let row = Row {
+        key: key_of(alloc, b"a")?,
+        value: value_of(alloc, b"1")?,
+    };
+    assert_eq!(rt; row.size(), 6);
+    let page = Page::new(vec![in alloc; row.clone()?]?, true);
+    assert_eq!(rt; (page.rows().len(), page.has_more()), (1, true));
+    Ok(())
+}

@@ -1,0 +1,5 @@
+//! Tests of what no clause says: bytes from outside, limits at their edges, calls that succeed.
+#![tactic(auto)]
+
+#[cfg(test)]
+mod batches;
