@@ -3,3 +3,5 @@
 
 #[cfg(test)]
 mod batches;
+#[cfg(test)]
+mod crashes;

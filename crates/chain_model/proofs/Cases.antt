@@ -1,0 +1,159 @@
+-- What a rule answers, by the tests that it makes: what holds of each answer holds of the rule's.
+use Rattle.std.proofs.Common.{◌≡◌, ℕ, suc, ◌-◌, ◌^◌, ◌<◌, ◌≤◌, List, length, Option, Some, None}
+use Rattle.std.proofs.Common.{Bool, true, false, cond, not, ◌==◌, ◌&&◌, nat_le, nat_lt, ap}
+use Rattle.std.proofs.Common.{eqb-true, leb-true, ltb-true, ltb-false}
+use Rattle.std.proofs.lemmas.Bool.{cond_both, false≢true, and_parts, not-false}
+use Rattle.chain_model.specs.Configuration.{has, is_head, leaves_out, predecessor, successor}
+use Rattle.chain_model.specs.Refusal as refusal
+use Rattle.chain_model.specs.Refusal.{Refusal}
+use Rattle.chain_model.specs.DropReason as reason
+use Rattle.chain_model.specs.DropReason.{DropReason}
+use Rattle.chain_model.specs.Frames.{Ack, Forward}
+use Rattle.chain_model.specs.Node.{Answer, Node, dropped_for, is_open, refused}
+use Rattle.chain_model.specs.Rules.{accept, adopt, append, close_at, close_snapshot, if_readable}
+use Rattle.chain_model.specs.Rules.{is_some_of, notice, number_read, open_at, open_snapshot}
+use Rattle.chain_model.specs.Rules.{pass_on, read, receive, resend, show, submit, take_ack}
+use Rattle.chain_model.specs.Rules.{take_forward, tell_again, tick}
+
+-- the test finds the node that it is asked for
+is_some : (o : Option ℕ) (p : ℕ) → is_some_of o p ≡ true → o ≡ Some p
+is_some None p e = absurd (false≢true e)
+is_some (Some q) p e = ap (λ k. Some k) (eqb-true q p e)
+
+module _ {A : Type 0} (P : Answer A → Type 0) where
+  -- one of two tests gives an answer, or neither does
+  guarded : (s t : Bool) (a b c : Answer A) → P a → (s ≡ false → t ≡ true → P b) → P c
+      → P (cond s a (cond t b c))
+  guarded s t a b c pa pb pc =
+      cond_both s a (cond t b c) P (λ _. pa)
+      (λ no. cond_both t b c P (λ yes. pb no yes) (λ _. pc))
+
+  -- a submit is refused, or the head takes the batch
+  pub submit_cases : (x : ℕ) (n : Node A) (i : ℕ) (b : A) → ((why : Refusal) → P (refused n i why))
+      → (has n.ids x ≡ true → is_head n.ids x ≡ true → P (accept x n i b)) → P (submit x n i b)
+  submit_cases x n i b refuse take =
+      let full = length n.list == 2 ^ 63 - 1 in
+      let at_head = cond full (refused n i refusal.Exhausted) (accept x n i b) in
+      let here = cond (not (is_head n.ids x)) (refused n i refusal.NotHead) at_head in
+      cond_both (not (has n.ids x)) (refused n i refusal.Removed) here P
+      (λ gone. refuse refusal.Removed)
+      (λ kept. cond_both (not (is_head n.ids x)) (refused n i refusal.NotHead) at_head P
+      (λ other. refuse refusal.NotHead)
+      (λ head. cond_both full (refused n i refusal.Exhausted) (accept x n i b) P
+      (λ full. refuse refusal.Exhausted)
+      (λ room. take (not-false (has n.ids x) kept) (not-false (is_head n.ids x) head))))
+
+  -- the batch is the next one, or another
+  pub take_forward_cases : (x : ℕ) (n : Node A) (k : ℕ) (b : A)
+      → (k ≡ suc (length n.list) → P (append x n k b)) → P (tell_again x n)
+      → P (take_forward x n k b)
+  take_forward_cases x n k b next other =
+      let size = suc (length n.list) in
+      cond_both (k == size) (append x n k b) (tell_again x n) P (λ is. next (eqb-true k size is))
+      (λ not. other)
+
+  -- an acknowledgement can be true, or it is dropped
+  pub take_ack_cases : (x : ℕ) (n : Node A) (committed have : ℕ)
+      → (committed ≤ have → P (pass_on x n committed have)) → P (dropped_for n reason.BadAck)
+      → P (take_ack x n committed have)
+  take_ack_cases x n committed have good bad =
+      let low = nat_le committed have in
+      let high = nat_le have (length n.list) in
+      cond_both (low && high) (pass_on x n committed have) (dropped_for n reason.BadAck) P
+      (λ both. good (leb-true committed have (and_parts low high both).0)) (λ _. bad)
+
+  -- a frame is dropped, or it comes from where it should
+  from_neighbour : (x : ℕ) (n : Node A) (e : ℕ) (o : Option ℕ) (p : ℕ) (a : Answer A)
+      (why : DropReason) → ((why : DropReason) → P (dropped_for n why))
+      → (has n.ids x ≡ true → e ≡ n.epoch → o ≡ Some p → P a)
+      → P (cond (not (has n.ids x)) (dropped_for n reason.Removed)
+      (cond (not (e == n.epoch)) (dropped_for n reason.OtherEpoch)
+      (cond (is_some_of o p) a (dropped_for n why))))
+  from_neighbour x n e o p a why drops goes =
+      let near = cond (is_some_of o p) a (dropped_for n why) in
+      let now = cond (not (e == n.epoch)) (dropped_for n reason.OtherEpoch) near in
+      cond_both (not (has n.ids x)) (dropped_for n reason.Removed) now P
+      (λ _. drops reason.Removed)
+      (λ here. guarded (not (e == n.epoch)) (is_some_of o p) (dropped_for n reason.OtherEpoch) a
+      (dropped_for n why) (drops reason.OtherEpoch)
+      (λ same is. goes (not-false (has n.ids x) here)
+      (eqb-true e n.epoch (not-false (e == n.epoch) same)) (is_some o p is))
+      (drops why))
+
+  -- a Forward is dropped, or comes from the predecessor
+  pub forward_cases : (x : ℕ) (n : Node A) (to e from k : ℕ) (b : A)
+      → ((why : DropReason) → P (dropped_for n why))
+      → (has n.ids x ≡ true → e ≡ n.epoch → predecessor n.ids x ≡ Some from
+      → P (take_forward x n k b)) → P (receive x n (Forward to e from k b))
+  forward_cases x n to e from k b drops goes =
+      from_neighbour x n e (predecessor n.ids x) from (take_forward x n k b)
+      reason.NotPredecessor drops goes
+
+  -- an Ack is dropped, or comes from the successor
+  pub ack_cases : (x : ℕ) (n : Node A) (to e from committed have : ℕ)
+      → ((why : DropReason) → P (dropped_for n why))
+      → (has n.ids x ≡ true → e ≡ n.epoch → successor n.ids x ≡ Some from
+      → P (take_ack x n committed have)) → P (receive x n (Ack to e from committed have))
+  ack_cases x n to e from committed have drops goes =
+      from_neighbour x n e (successor n.ids x) from (take_ack x n committed have)
+      reason.NotSuccessor drops goes
+
+  -- a notice is dropped, or its configuration is adopted
+  pub notice_cases : (x : ℕ) (n : Node A) (e : ℕ) (ids : List ℕ)
+      → ((why : DropReason) → P (dropped_for n why)) → (n.epoch < e → P (adopt x n e ids))
+      → P (notice x n e ids)
+  notice_cases x n e ids drops goes =
+      let new = nat_lt n.epoch e in
+      guarded (not new) (leaves_out ids n.ids) (dropped_for n reason.OldNotice) (adopt x n e ids)
+      (dropped_for n reason.BadNotice) (drops reason.OldNotice)
+      (λ later good. goes (ltb-true n.epoch e (not-false new later))) (drops reason.BadNotice)
+
+  -- a tick makes the node send again, or is dropped
+  pub tick_cases : (x : ℕ) (n : Node A) → P (resend x n) → P (dropped_for n reason.Removed)
+      → P (tick x n)
+  tick_cases x n sends drops =
+      cond_both (has n.ids x) (resend x n) (dropped_for n reason.Removed) P (λ is. sends)
+      (λ gone. drops)
+
+  -- a number is refused, or it is from the floor to what is committed
+  pub readable_cases : (x : ℕ) (n : Node A) (i at : ℕ) (a : Answer A)
+      → ((why : Refusal) → P (refused n i why)) → (n.floor ≤ at → at ≤ n.committed → P a)
+      → P (if_readable x n i at a)
+  readable_cases x n i at a refuse show =
+      let high = cond (nat_le at n.committed) a (refused n i refusal.NotCommitted) in
+      let here = cond (nat_lt at n.floor) (refused n i refusal.TooOld) high in
+      cond_both (not (has n.ids x)) (refused n i refusal.Removed) here P
+      (λ gone. refuse refusal.Removed)
+      (λ kept. guarded (nat_lt at n.floor) (nat_le at n.committed) (refused n i refusal.TooOld) a
+      (refused n i refusal.NotCommitted) (refuse refusal.TooOld)
+      (λ low le. show (ltb-false at n.floor low) (leb-true at n.committed le))
+      (refuse refusal.NotCommitted))
+
+  -- a read is refused, or shows
+  pub read_cases : (x : ℕ) (n : Node A) (i : ℕ) (at : Option ℕ)
+      → ((why : Refusal) → P (refused n i why))
+      → (n.floor ≤ number_read n at → number_read n at ≤ n.committed
+      → P (show n i (number_read n at))) → P (read x n i at)
+  read_cases x n i at refuse shows =
+      readable_cases x n i (number_read n at) (show n i (number_read n at)) refuse shows
+
+  -- a snapshot is refused, or opened
+  pub open_cases : (x : ℕ) (n : Node A) (i : ℕ) (at : Option ℕ)
+      → ((why : Refusal) → P (refused n i why))
+      → (n.floor ≤ number_read n at → number_read n at ≤ n.committed
+      → P (open_at n i (number_read n at))) → P (open_snapshot x n i at)
+  open_cases x n i at refuse opens =
+      let many = refused n i refusal.TooManySnapshots in
+      let opened = open_at n i (number_read n at) in
+      let full = length n.snapshots == 64 in
+      readable_cases x n i (number_read n at) (cond full many opened) refuse
+      (λ low le. cond_both full many opened P (λ full. refuse refusal.TooManySnapshots)
+      (λ room. opens low le))
+
+  -- a close is refused, or closes
+  pub close_cases : (x : ℕ) (n : Node A) (i s : ℕ) → ((why : Refusal) → P (refused n i why))
+      → P (close_at n i s) → P (close_snapshot x n i s)
+  close_cases x n i s refuse closes =
+      guarded (not (has n.ids x)) (is_open s n.snapshots) (refused n i refusal.Removed)
+      (close_at n i s) (refused n i refusal.NoSuchSnapshot) (refuse refusal.Removed)
+      (λ here there. closes) (refuse refusal.NoSuchSnapshot)

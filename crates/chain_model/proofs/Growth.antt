@@ -1,0 +1,214 @@
+-- What a step makes of what outlives a stop, and of the node that it leaves running.
+use Rattle.std.proofs.Common.{◌<◌, ◌≡◌, ℕ, suc, List, [], ◌∷◌, ◌++◌, length, Bool, true, false}
+use Rattle.std.proofs.Common.{cond, nat_lt, sym, refl, ◌∙◌, subst, arith}
+use Rattle.std.proofs.lemmas.Bool.{cond_both}
+use Rattle.chain_model.specs.Lists.{Begins}
+use Rattle.chain_model.specs.Configuration.{is_tail}
+use Rattle.chain_model.specs.Refusal.{Refusal}
+use Rattle.chain_model.specs.DropReason as reason
+use Rattle.chain_model.specs.DropReason.{DropReason}
+use Rattle.chain_model.specs.Frames.{Ack, Forward, Frame}
+use Rattle.chain_model.specs.Requests.{Close, Closed, Open, Opened, Read, Reply, Request, Submit}
+use Rattle.chain_model.specs.Node.{Answer, Node, dropped_for, refused, replied, silent, without}
+use Rattle.chain_model.specs.Rules.{accept, ack, acknowledge, adopt, append, ask, forward}
+use Rattle.chain_model.specs.Rules.{longer_for, moved, notice, number_read, pass_on, receive}
+use Rattle.chain_model.specs.Rules.{resend, show, tail_commits, take_ack, tell_again, tend, tick}
+use Rattle.chain_model.specs.Rules.{told}
+use Rattle.chain_model.specs.Growth.{GoesOn, Grows, StepsGoOn}
+use Rattle.chain_model.proofs.Lists.{begins_more, begins_refl, begins_trans}
+use Rattle.chain_model.proofs.Cases.{ack_cases, close_cases, forward_cases, notice_cases}
+use Rattle.chain_model.proofs.Cases.{open_cases, read_cases, submit_cases, take_ack_cases}
+use Rattle.chain_model.proofs.Cases.{take_forward_cases, tick_cases}
+
+-- a node is itself later
+pub grows_refl : {A : Type 0} (n : Node A) → Grows n n
+grows_refl n = record {
+  list = begins_refl n.list;
+  epoch = omega arith;
+  floor = omega arith;
+  kept = omega arith;
+}
+
+-- later than later is later
+pub grows_trans : {A : Type 0} {n m o : Node A} → Grows n m → Grows m o → Grows n o
+grows_trans a b = record {
+  list = begins_trans a.list b.list;
+  epoch = omega (arith, a.epoch, b.epoch);
+  floor = omega (arith, a.floor, b.floor);
+  kept = omega (arith, a.kept, b.kept);
+}
+
+-- nothing changed but what a stop forgets
+pub record Same {A : Type 0} (n m : Node A) : Type 0 where
+  pub list : m.list ≡ n.list
+  pub epoch : m.epoch ≡ n.epoch
+  pub floor : m.floor ≡ n.floor
+  pub kept : m.kept ≡ n.kept
+  pub running : m.running ≡ n.running
+
+-- nothing is changed by nothing
+same_refl : {A : Type 0} (n : Node A) → Same n n
+same_refl n = record { list = refl; epoch = refl; floor = refl; kept = refl; running = refl }
+
+-- an answer that leaves the node as it was
+still : {A : Type 0} (n : Node A) (a : Answer A) → Same n a.node → GoesOn n a
+still n a s = record {
+  grows = record {
+    list = subst (λ l. Begins n.list l) (sym s.list) (begins_refl n.list);
+    epoch = omega (arith, s.epoch);
+    floor = omega (arith, s.floor);
+    kept = omega (arith, s.kept);
+  };
+  running = s.running;
+}
+
+-- an answer that appends a batch
+longer : {A : Type 0} (n : Node A) (b : A) (m : Node A) (a : Answer A)
+    → m.list ≡ n.list ++ b ∷ [] → Same m a.node → m.epoch ≡ n.epoch → m.floor ≡ n.floor
+    → m.kept ≡ n.kept → m.running ≡ n.running → GoesOn n a
+longer n b m a list s epoch floor kept running = record {
+  grows = record {
+    list = subst (λ l. Begins n.list l) (sym (s.list ∙ list)) (begins_more n.list (b ∷ []));
+    epoch = omega (arith, s.epoch, epoch);
+    floor = omega (arith, s.floor, floor);
+    kept = omega (arith, s.kept, kept);
+  };
+  running = s.running ∙ running;
+}
+
+-- a tend only raises floor and kept number
+pub tend_goes_on : {A : Type 0} (n : Node A) (rises : Bool) (gives_up : ℕ)
+    → GoesOn n (tend n rises gives_up)
+tend_goes_on n false gives_up = still n (silent n) (same_refl n)
+tend_goes_on n true gives_up = record {
+  grows = record {
+    list = begins_refl n.list;
+    epoch = omega arith;
+    floor = omega arith;
+    kept = omega arith;
+  };
+  running = refl;
+}
+
+module _ {A : Type 0} (x : ℕ) where
+  -- a tail that commits changes nothing else
+  tail_same : (n : Node A) → Same n (tail_commits x n)
+  tail_same n =
+      cond_both (is_tail n.ids x) (record n { committed = length n.list }) n (λ m. Same n m)
+      (λ is. record { list = refl; epoch = refl; floor = refl; kept = refl; running = refl })
+      (λ not. same_refl n)
+
+  -- what is pending is forgotten by a stop
+  acknowledged : (n m : Node A) (fs : List (Frame A)) → Same n m → Same n (acknowledge m fs).node
+  acknowledged n m fs s = record {
+    list = s.list;
+    epoch = s.epoch;
+    floor = s.floor;
+    kept = s.kept;
+    running = s.running;
+  }
+
+  -- an acknowledgement leaves the list
+  pub take_ack_list : (n : Node A) (committed have : ℕ)
+      → (take_ack x n committed have).node.list ≡ n.list
+  take_ack_list n committed have =
+      take_ack_cases (λ a. a.node.list ≡ n.list) x n committed have (λ low. refl) refl
+
+  -- a drop leaves the node
+  drops : (n : Node A) (why : DropReason) → GoesOn n (dropped_for n why)
+  drops n why = still n (dropped_for n why) (same_refl n)
+
+  -- a refusal leaves the node
+  refuses : (n : Node A) (i : ℕ) (why : Refusal) → GoesOn n (refused n i why)
+  refuses n i why = still n (refused n i why) (same_refl n)
+
+  -- the head that takes a batch goes on
+  accept_goes_on : (n : Node A) (i : ℕ) (b : A) → GoesOn n (accept x n i b)
+  accept_goes_on n i b =
+      let more = longer_for n i b in
+      let m = tail_commits x more in
+      let fs = forward x m (suc (length n.list)) in
+      longer n b more (accept x n i b) refl (acknowledged more m fs (tail_same more)) refl refl
+      refl refl
+
+  -- a node that appends a batch goes on
+  append_goes_on : (n : Node A) (k : ℕ) (b : A) → GoesOn n (append x n k b)
+  append_goes_on n k b =
+      let more : Node A = record n { list = n.list ++ b ∷ [] } in
+      longer n b more (append x n k b) refl (tail_same more) refl refl refl refl
+
+  -- a node that is told what is committed goes on
+  pass_on_goes_on : (n : Node A) (committed have : ℕ) → GoesOn n (pass_on x n committed have)
+  pass_on_goes_on n committed have =
+      let m = told n committed have in
+      let fs = cond (nat_lt n.committed committed) (ack x m) [] in
+      let same : Same n m =
+      record { list = refl; epoch = refl; floor = refl; kept = refl; running = refl } in
+      still n (pass_on x n committed have) (acknowledged n m fs same)
+
+  -- a node that adopts a later configuration goes on
+  adopt_goes_on : (n : Node A) (e : ℕ) (ids : List ℕ) → n.epoch < e → GoesOn n (adopt x n e ids)
+  adopt_goes_on n e ids later =
+      let s : Same (moved x n e ids) (tail_commits x (moved x n e ids)) =
+      tail_same (moved x n e ids) in
+      record {
+        grows = record {
+          list = subst (λ l. Begins n.list l) (sym s.list) (begins_refl n.list);
+          epoch = omega (arith, s.epoch, later);
+          floor = omega (arith, s.floor);
+          kept = omega (arith, s.kept);
+        };
+        running = s.running;
+      }
+
+  -- snapshots are forgotten by a stop
+  snapshots_go_on : (n : Node A) (ss : List ℕ) (r : Reply A)
+      → GoesOn n (replied (record n { snapshots = ss }) r)
+  snapshots_go_on n ss r =
+      still n (replied (record n { snapshots = ss }) r)
+      (record { list = refl; epoch = refl; floor = refl; kept = refl; running = refl })
+
+  -- so does a node that is asked ..
+  pub ask_goes_on : (n : Node A) (i : ℕ) (q : Request A) → GoesOn n (ask x n i q)
+  ask_goes_on n i (Submit b) =
+      submit_cases (GoesOn n) x n i b (refuses n i) (λ here head. accept_goes_on n i b)
+  ask_goes_on n i (Read at) =
+      read_cases (GoesOn n) x n i at (refuses n i)
+      (λ low le. still n (show n i (number_read n at)) (same_refl n))
+  ask_goes_on n i (Open at) =
+      let s = number_read n at in
+      open_cases (GoesOn n) x n i at (refuses n i)
+      (λ low le. snapshots_go_on n (s ∷ n.snapshots) (Opened i s))
+  ask_goes_on n i (Close s) =
+      close_cases (GoesOn n) x n i s (refuses n i)
+      (snapshots_go_on n (without s n.snapshots) (Closed i s))
+
+  -- .. or has a turn ..
+  pub tick_goes_on : (n : Node A) → GoesOn n (tick x n)
+  tick_goes_on n =
+      tick_cases (GoesOn n) x n (still n (resend x n) (same_refl n)) (drops n reason.Removed)
+
+  -- .. or gets a notice ..
+  pub notice_goes_on : (n : Node A) (e : ℕ) (ids : List ℕ) → GoesOn n (notice x n e ids)
+  notice_goes_on n e ids = notice_cases (GoesOn n) x n e ids (drops n) (adopt_goes_on n e ids)
+
+  -- .. or a frame
+  pub receive_goes_on : (n : Node A) (f : Frame A) → GoesOn n (receive x n f)
+  receive_goes_on n (Forward to e p k b) =
+      forward_cases (GoesOn n) x n to e p k b (drops n)
+      (λ here now is. take_forward_cases (GoesOn n) x n k b (λ next. append_goes_on n k b)
+      (still n (tell_again x n) (same_refl n)))
+  receive_goes_on n (Ack to e s committed have) =
+      ack_cases (GoesOn n) x n to e s committed have (drops n)
+      (λ here now is. take_ack_cases (GoesOn n) x n committed have
+      (λ low. pass_on_goes_on n committed have) (drops n reason.BadAck))
+
+-- so does every step
+pub steps_go_on : {A : Type 0} → StepsGoOn A
+steps_go_on = record {
+  asked = λ x i n q. ask_goes_on x n i q;
+  received = λ x n f. receive_goes_on x n f;
+  noticed = λ x e n ids. notice_goes_on x n e ids;
+  ticked = λ x n. tick_goes_on x n;
+  tended = λ n rises gives_up. tend_goes_on n rises gives_up;
+}

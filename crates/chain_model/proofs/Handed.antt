@@ -1,0 +1,32 @@
+-- The batches that a run hands in, and which request hands in which.
+use Rattle.std.proofs.Common.{◌≡◌, ◌⊎◌, inl, inr, ℕ, List, [], ◌∷◌, ◌++◌}
+use Rattle.chain_model.specs.Requests.{Submit}
+use Rattle.chain_model.specs.World.{Ask, Event}
+use Rattle.chain_model.proofs.Lists.{Every}
+
+-- the batches that an event hands in, and those of a list of events, in order
+abbrev pub handed_by : {A : Type 0} → Event A → List A
+handed_by (Ask x i (Submit b) went) = b ∷ []
+handed_by _ = []
+
+-- the batches that events hand in, in order
+abbrev pub handed : {A : Type 0} → List (Event A) → List A
+handed [] = []
+handed (e ∷ es) = handed_by e ++ handed es
+
+-- in this event request i hands in b
+abbrev pub IsHandIn : {A : Type 0} → ℕ → A → Event A → Type 0
+IsHandIn i b (Ask x j (Submit c) went) = (j ≡ i) × (c ≡ b)
+IsHandIn i b _ = ⊥
+
+-- in one of these events request i hands in b
+abbrev pub WasHandedIn : {A : Type 0} → List (Event A) → ℕ → A → Type 0
+WasHandedIn [] i b = ⊥
+WasHandedIn (e ∷ es) i b = IsHandIn i b e ⊎ WasHandedIn es i b
+
+-- each batch of a run was handed in in it
+pub all_told : {A : Type 0} (Q : ℕ → A → Type 0) (es : List (Event A))
+    → ((i : ℕ) (b : A) → WasHandedIn es i b → Q i b)
+    → Every (λ e. (i : ℕ) (b : A) → IsHandIn i b e → Q i b) es
+all_told Q [] f = tt
+all_told Q (e ∷ es) f = (λ i b is. f i b (inl is), all_told Q es (λ i b was. f i b (inr was)))

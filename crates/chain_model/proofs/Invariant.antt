@@ -1,0 +1,149 @@
+-- What holds of a world after every list of events, and that it goes on to hold as lists grow.
+use Rattle.std.proofs.Common.{◌≡◌, ℕ, ◌<◌, ◌≤◌, List, ◌++◌, length, take, Some, true, false}
+use Rattle.chain_model.specs.Lists.{Begins, Part, place}
+use Rattle.chain_model.specs.Configuration.{Before, at_epoch, has, is_tail, last_of}
+use Rattle.chain_model.specs.Frames.{Ack, Forward, Frame}
+use Rattle.chain_model.specs.Requests.{Closed, Committed, Opened, Refused, Reply, Shows}
+use Rattle.chain_model.specs.Node.{Node}
+use Rattle.chain_model.specs.World.{Event, World}
+use Rattle.chain_model.specs.InOrder.{CommittedBy, IsUpTo, WasCommitted}
+use Rattle.chain_model.specs.KeepsEnough.{RisesFrom}
+use Rattle.chain_model.proofs.Lists.{Every, begins-place, begins_trans, part_wider}
+use Rattle.chain_model.proofs.Handed.{WasHandedIn}
+
+-- the list of every node of a configuration begins with this one
+abbrev pub Safe : {A : Type 0} → (ℕ → List A) → List ℕ → List A → Type 0
+Safe lists c l = (y : ℕ) → has c y ≡ true → Begins l (lists y)
+
+-- l is committed by an epoch that is not after e, and that keeps node x if the first one does
+abbrev pub IsKnown : {A : Type 0} → List (List ℕ) → List (Event A) → (x e : ℕ) → List A → Type 0
+IsKnown cs events x e l =
+    (e' : ℕ) × ((e' ≤ e) × (has (at_epoch cs 0) x ≡ true → has (at_epoch cs e') x ≡ true)
+    × WasCommitted cs events e' l)
+
+-- of node x with list l at epoch e, `lists` being the lists of all nodes and h the batches handed
+-- in
+pub record Sound {A : Type 0} (cs : List (List ℕ)) (events : List (Event A)) (h : List A)
+    (lists : ℕ → List A) (x : ℕ) (l : List A) (e : ℕ) (c : List ℕ)
+    (committed floor kept : ℕ) : Type 0 where
+  pub in_range : e < length cs
+  pub knows : c ≡ at_epoch cs e
+  -- the list of each node that stood before it, and that its configuration has, begins with its
+  -- list
+  pub behind : (z : ℕ) → Before (at_epoch cs 0) z x → has c z ≡ true → Begins l (lists z)
+  -- what it takes for committed, every node of its configuration has
+  pub safe : Safe lists c (take committed l)
+  -- and an epoch committed it, its own or an earlier one, which kept the node
+  pub known : IsKnown cs events x e (take committed l)
+  pub kept_le : kept ≤ floor
+  pub floor_le : floor ≤ committed
+  pub committed_le : committed ≤ length l
+  pub handed : Part l h
+
+-- of a node, with what it is after a step
+abbrev pub SoundNode : {A : Type 0} → List (List ℕ) → List (Event A) → List A → (ℕ → List A) → ℕ
+    → Node A → Type 0
+SoundNode cs events h lists x n = Sound cs events h lists x n.list n.epoch n.ids n.committed
+    n.floor n.kept
+
+-- at a number that a request waits for stands a batch that the request handed in
+abbrev pub IsPending : {A : Type 0} → List (Event A) → List A → ℕ × ℕ → Type 0
+IsPending events l p = (b : _) × (WasHandedIn events p.1 b × (place l p.0 ≡ Some b))
+
+-- what holds of a node
+pub record NodeOk {A : Type 0} (cs : List (List ℕ)) (events : List (Event A)) (h : List A)
+    (lists : ℕ → List A) (x : ℕ) (n : Node A) : Type 0 where
+  pub sound : Sound cs events h lists x n.list n.epoch n.ids n.committed n.floor n.kept
+  pub pending : Every (IsPending events n.list) n.pending
+  pub tail : n.running ≡ true → is_tail n.ids x ≡ true → n.committed ≡ length n.list
+  -- no snapshot is open below the floor
+  pub snapshots : Every (λ s. n.floor ≤ s) n.snapshots
+  -- requests wait in order of number
+  pub rising : RisesFrom 0 n.pending
+  pub resend : n.running ≡ true → is_tail n.ids x ≡ false → n.committed ≤ n.successor_has
+
+-- a frame is to a node of its epoch. A Forward tells of a batch of its sender and of all before the
+-- sender, an Ack of what all have
+abbrev pub FrameOk : {A : Type 0} → List (List ℕ) → List (Event A) → (ℕ → List A) → Frame A → Type 0
+FrameOk cs events lists (Forward to e from number batch) = (has (at_epoch cs e) to ≡ true)
+    × ((z : ℕ) → IsUpTo cs e from z → place (lists z) number ≡ Some batch)
+FrameOk cs events lists (Ack to e from committed have) = (has (at_epoch cs e) to ≡ true)
+    × ((l : List _) × ((length l ≡ committed) × Safe lists (at_epoch cs e) l
+    × CommittedBy cs events e l))
+
+-- a reply tells of a list with which the list of every node of the last configuration begins
+abbrev pub ReplyOk : {A : Type 0} → List (List ℕ) → List (Event A) → (ℕ → List A) → Reply A → Type 0
+ReplyOk cs events lists (Committed i n) =
+    (l : List _) × ((length l ≡ n) × IsPending events l (n, i) × Safe lists (last_of cs) l)
+ReplyOk cs events lists (Shows i s l) = (length l ≡ s) × Safe lists (last_of cs) l
+ReplyOk cs events lists (Opened i s) = (l : List _) × ((length l ≡ s) × Safe lists (last_of cs) l)
+ReplyOk cs events lists _ = Unit {0}
+
+-- the lists of all nodes
+abbrev pub lists_of : {A : Type 0} → World A → ℕ → List A
+lists_of w y = (w.nodes y).list
+
+-- what holds of a world
+pub record WorldOk {A : Type 0} (cs : List (List ℕ)) (events : List (Event A)) (h : List A)
+    (w : World A) : Type 0 where
+  pub nodes : (x : ℕ) → NodeOk cs events h (lists_of w) x (w.nodes x)
+  pub frames : Every (FrameOk cs events (lists_of w)) w.frames
+  pub replies : Every (ReplyOk cs events (lists_of w)) w.replies
+
+-- what begins a committed list is committed
+pub shorter_committed : {A : Type 0} {cs : List (List ℕ)} {events : List (Event A)} (e : ℕ)
+    (l m : List A) → Begins l m → WasCommitted cs events e m → WasCommitted cs events e l
+shorter_committed e l m b c = record {
+  before = c.before;
+  later = c.later;
+  whole = c.whole;
+  tail = c.tail;
+  is = c.is;
+  epoch = c.epoch;
+  begins = begins_trans b c.begins;
+}
+
+module _ {A : Type 0} (cs : List (List ℕ)) (events : List (Event A)) (lists more : ℕ → List A)
+    (grow : (y : ℕ) → Begins (lists y) (more y)) where
+  -- what every node has, it goes on to have
+  pub safe_grows : (c : List ℕ) (l : List A) → Safe lists c l → Safe more c l
+  safe_grows c l s y h = begins_trans (s y h) (grow y)
+
+  -- what holds of a node holds as other lists grow ..
+  pub node_grows : (h r : List A) (x : ℕ) (n : Node A) → NodeOk cs events h lists x n
+      → NodeOk cs events (h ++ r) more x n
+  node_grows h r x n ok =
+      let s = ok.sound in
+      record {
+        sound = record {
+          in_range = s.in_range;
+          knows = s.knows;
+          behind = λ z b k. begins_trans (s.behind z b k) (grow z);
+          safe = safe_grows n.ids (take n.committed n.list) s.safe;
+          known = s.known;
+          kept_le = s.kept_le;
+          floor_le = s.floor_le;
+          committed_le = s.committed_le;
+          handed = part_wider n.list h r s.handed;
+        };
+        pending = ok.pending;
+        tail = ok.tail;
+        snapshots = ok.snapshots;
+        rising = ok.rising;
+        resend = ok.resend;
+      }
+
+  -- .. of a frame too ..
+  pub frame_grows : (f : Frame A) → FrameOk cs events lists f → FrameOk cs events more f
+  frame_grows (Forward to e from number batch) ok =
+      (ok.0, λ z b. begins-place number batch (grow z) (ok.1 z b))
+  frame_grows (Ack to e from committed have) ok =
+      (ok.0, (ok.1.0, (ok.1.1.0, safe_grows (at_epoch cs e) ok.1.0 ok.1.1.1, ok.1.1.2)))
+
+  -- .. and of a reply
+  pub reply_grows : (r : Reply A) → ReplyOk cs events lists r → ReplyOk cs events more r
+  reply_grows (Committed i n) ok = (ok.0, (ok.1.0, ok.1.1, safe_grows (last_of cs) ok.0 ok.1.2))
+  reply_grows (Shows i s l) ok = (ok.0, safe_grows (last_of cs) l ok.1)
+  reply_grows (Opened i s) ok = (ok.0, (ok.1.0, safe_grows (last_of cs) ok.0 ok.1.1))
+  reply_grows (Closed i s) ok = tt
+  reply_grows (Refused i code) ok = tt

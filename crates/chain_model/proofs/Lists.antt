@@ -1,0 +1,203 @@
+-- Lists that begin one another, places and parts.
+use Rattle.std.proofs.Common.{◌≡◌, inl, inr, ℕ, zero, suc, ◌≤◌, List, [], ◌∷◌, ◌++◌, length, take}
+use Rattle.std.proofs.Common.{Some, None, All, slice_get, sym, refl, ◌∙◌, ap, subst, arith}
+use Rattle.std.proofs.Common.{take_at, append_assoc, append-nil, length-append}
+use Rattle.std.proofs.lemmas.List.{take-append-le}
+use Rattle.std.proofs.lemmas.List.Elements.{All-nil, All-cons}
+use Rattle.chain_model.specs.Lists.{Begins, Part, place}
+
+-- a list begins itself
+pub begins_refl : {A : Type 0} (l : List A) → Begins l l
+begins_refl l = record { rest = []; whole = append-nil l }
+
+-- the empty list begins each
+pub begins_nil : {A : Type 0} (l : List A) → Begins [] l
+begins_nil l = record { rest = l; whole = refl }
+
+-- a list begins what follows it
+pub begins_more : {A : Type 0} (l m : List A) → Begins l (l ++ m)
+begins_more l m = record { rest = m; whole = refl }
+
+-- the same element in front
+pub begins_cons : {A : Type 0} {x : A} {l m : List A} → Begins l m → Begins (x ∷ l) (x ∷ m)
+begins_cons {x = x} b = record { rest = b.rest; whole = ap (λ r. x ∷ r) b.whole }
+
+-- what begins a beginning begins the whole
+pub begins_trans : {A : Type 0} {l m n : List A} → Begins l m → Begins m n → Begins l n
+begins_trans {l = l} a b = record {
+  rest = a.rest ++ b.rest;
+  whole = sym (append_assoc l a.rest b.rest) ∙ ap (λ r. r ++ b.rest) a.whole ∙ b.whole;
+}
+
+-- what begins a list is no longer
+pub begins-length : {A : Type 0} {l m : List A} → Begins l m → length l ≤ length m
+begins-length {l = l} {m = m} b = omega (arith, length-append l b.rest, ap length b.whole)
+
+-- what stands behind a list stands at the next place
+place_middle : {A : Type 0} (l r : List A) (x : A) → place (l ++ x ∷ r) (suc (length l)) ≡ Some x
+place_middle [] r x = refl
+place_middle (y ∷ l) r x = place_middle l r x
+
+-- behind a list's end stands nothing
+place_end : {A : Type 0} (l : List A) → place l (suc (length l)) ≡ None
+place_end [] = refl
+place_end (y ∷ l) = place_end l
+
+-- the next batch
+pub begins_next : {A : Type 0} {l m : List A} (x : A) → Begins l m
+    → place m (suc (length l)) ≡ Some x → Begins (l ++ x ∷ []) m
+begins_next {l = l} {m = m} x b at = go b.rest b.whole
+  where
+    go : (rest : List _) → l ++ rest ≡ m → Begins (l ++ x ∷ []) m
+    go [] e = absurd (cc (at, place_end l, append-nil l, e))
+    go (y ∷ rest) e =
+        let is : Some y ≡ Some x = sym (place_middle l rest y)
+        ∙ ap (λ k. place k (suc (length l))) e ∙ at in
+        let same : y ≡ x = cc is in
+        record {
+          rest = rest;
+          whole = append_assoc l (x ∷ []) rest ∙ ap (λ z. l ++ z ∷ rest)
+              (sym same) ∙ e;
+        }
+
+-- what stands at a place stays there as the list grows
+pub place_in : {A : Type 0} (l r : List A) (n : ℕ) (x : A) → place l n ≡ Some x
+    → place (l ++ r) n ≡ Some x
+place_in [] r n x e = absurd (cc)
+place_in (y ∷ l) r zero x e = e
+place_in (y ∷ l) r (suc zero) x e = e
+place_in (y ∷ l) r (suc (suc n)) x e = place_in l r (suc n) x e
+
+-- what stands in a beginning stands in the whole
+pub begins-place : {A : Type 0} {l m : List A} (n : ℕ) (x : A) → Begins l m → place l n ≡ Some x
+    → place m n ≡ Some x
+begins-place {l = l} n x b e = subst (λ k. place k n ≡ Some x) b.whole (place_in l b.rest n x e)
+
+-- what is put last stands at the last place
+pub place_last : {A : Type 0} (l : List A) (x : A) → place (l ++ x ∷ []) (suc (length l)) ≡ Some x
+place_last l x = place_middle l [] x
+
+-- the first elements begin a list
+pub begins_take : {A : Type 0} (k : ℕ) (l : List A) → Begins (take k l) l
+begins_take zero l = begins_nil l
+begins_take (suc k) [] = begins_nil []
+begins_take (suc k) (x ∷ l) = begins_cons (begins_take k l)
+
+-- what begins a list is its first elements
+pub take_begins : {A : Type 0} (c l : List A) → Begins c l → take (length c) l ≡ c
+take_begins c l b = subst (λ m. take (length c) m ≡ c) b.whole (take_at c b.rest (length c) refl)
+
+-- fewer of the first elements begin more of them
+pub take_less : {A : Type 0} (j k : ℕ) (l : List A) → j ≤ k → Begins (take j l) (take k l)
+take_less zero k l h = begins_nil (take k l)
+take_less (suc j) zero l h = absurd (omega arith)
+take_less (suc j) (suc k) [] h = begins_nil []
+take_less (suc j) (suc k) (x ∷ l) h = begins_cons (take_less j k l (omega arith))
+
+-- the first elements of a beginning are those of the whole
+pub take_of_begins : {A : Type 0} (k : ℕ) (l m : List A) → Begins l m → k ≤ length l
+    → take k m ≡ take k l
+take_of_begins k l m b h = subst (λ z. take k z ≡ take k l) b.whole (take-append-le k l b.rest h)
+
+-- of two that begin one list, the shorter begins the longer
+pub begins_shorter : {A : Type 0} (a b m : List A) → Begins a m → Begins b m
+    → length a ≤ length b → Begins a b
+begins_shorter a b m p q h =
+    subst (λ l. Begins a l) (take_begins b m q) (subst (λ l. Begins l (take (length b) m))
+    (take_begins a m p) (take_less (length a) (length b) m h))
+
+-- what stands at an early place stands among the first elements
+pub place_take : {A : Type 0} (k : ℕ) (l : List A) (n : ℕ) (x : A) → place l n ≡ Some x → n ≤ k
+    → place (take k l) n ≡ Some x
+place_take k [] n x e h = absurd (cc)
+place_take zero (y ∷ l) zero x e h = absurd (cc)
+place_take zero (y ∷ l) (suc n) x e h = absurd (omega arith)
+place_take (suc k) (y ∷ l) zero x e h = e
+place_take (suc k) (y ∷ l) (suc zero) x e h = e
+place_take (suc k) (y ∷ l) (suc (suc n)) x e h = place_take k l (suc n) x e (omega arith)
+
+-- a place that something stands at is no greater than the length
+pub place-bounds : {A : Type 0} (l : List A) (n : ℕ) (x : A) → place l n ≡ Some x → n ≤ length l
+place-bounds [] n x e = absurd (cc)
+place-bounds (y ∷ l) zero x e = omega arith
+place-bounds (y ∷ l) (suc zero) x e = omega arith
+place-bounds (y ∷ l) (suc (suc n)) x e = omega (arith, place-bounds l (suc n) x e)
+
+-- a part of a list is a part of a longer one
+pub part_more : {A : Type 0} (l m : List A) (y : A) → Part l m → Part l (y ∷ m)
+part_more [] m y p = tt
+part_more (x ∷ l) m y p = inr p
+
+-- a list is a part of itself
+pub part_refl : {A : Type 0} (l : List A) → Part l l
+part_refl [] = tt
+part_refl (x ∷ l) = inl (refl, part_refl l)
+
+-- a part of a part is a part
+pub part_trans : {A : Type 0} (l m n : List A) → Part l m → Part m n → Part l n
+part_trans [] m n p q = tt
+part_trans (x ∷ l) [] n p q = absurd p
+part_trans (x ∷ l) (y ∷ m) [] p q = absurd q
+part_trans (x ∷ l) (y ∷ m) (z ∷ n) (inl p) (inl q) = inl (p.0 ∙ q.0, part_trans l m n p.1 q.1)
+part_trans (x ∷ l) (y ∷ m) (z ∷ n) (inr p) (inl q) = inr (part_trans (x ∷ l) m n p q.1)
+part_trans (x ∷ l) (y ∷ m) (z ∷ n) p (inr q) = inr (part_trans (x ∷ l) (y ∷ m) n p q)
+
+-- a list is a part of what it begins
+part_append : {A : Type 0} (l r : List A) → Part l (l ++ r)
+part_append [] r = tt
+part_append (x ∷ l) r = inl (refl, part_append l r)
+
+-- what begins a list is a part of it
+pub part_begins : {A : Type 0} {l m : List A} → Begins l m → Part l m
+part_begins {l = l} b = subst (λ z. Part l z) b.whole (part_append l b.rest)
+
+-- one more batch is handed in, and it may be taken at once
+pub part_wider : {A : Type 0} (l h r : List A) → Part l h → Part l (h ++ r)
+part_wider [] h r p = tt
+part_wider (x ∷ l) [] r p = absurd p
+part_wider (x ∷ l) (y ∷ h) r (inl p) = inl (p.0, part_wider l h r p.1)
+part_wider (x ∷ l) (y ∷ h) r (inr p) = inr (part_wider (x ∷ l) h r p)
+
+-- the same element behind both
+pub part_both : {A : Type 0} (l h : List A) (b : A) → Part l h → Part (l ++ b ∷ []) (h ++ b ∷ [])
+part_both [] [] b p = inl (refl, tt)
+part_both [] (y ∷ h) b p = inr (part_both [] h b tt)
+part_both (x ∷ l) [] b p = absurd p
+part_both (x ∷ l) (y ∷ h) b (inl p) = inl (p.0, part_both l h b p.1)
+part_both (x ∷ l) (y ∷ h) b (inr p) = inr (part_both (x ∷ l) h b p)
+
+-- P holds of each element, by recursion
+abbrev pub Every : {A : Type 0} → (A → Type 0) → List A → Type 0
+Every P [] = Unit {0}
+Every P (x ∷ l) = P x × Every P l
+
+-- what holds by recursion holds of all
+pub all_of_every : {A : Type 0} (P : A → Type 0) (l : List A) → Every P l → All P l
+all_of_every P [] each = All-nil P
+all_of_every P (x ∷ l) each = All-cons P x l each.0 (all_of_every P l each.1)
+
+-- what follows for each element
+pub every_map : {A : Type 0} (P Q : A → Type 0) (l : List A) → ((x : A) → P x → Q x) → Every P l
+    → Every Q l
+every_map P Q [] f h = tt
+every_map P Q (x ∷ l) f h = (f x h.0, every_map P Q l f h.1)
+
+-- what holds of two lists holds of both in a row
+pub every_append : {A : Type 0} (P : A → Type 0) (l m : List A) → Every P l → Every P m
+    → Every P (l ++ m)
+every_append P [] m h k = k
+every_append P (x ∷ l) m h k = (h.0, every_append P l m h.1 k)
+
+-- what holds of each holds of what stands at a place
+pub every_place : {A : Type 0} (P : A → Type 0) (l : List A) (n : ℕ) (x : A) → place l n ≡ Some x
+    → Every P l → P x
+every_place P [] n x e h = absurd (cc)
+every_place P (y ∷ l) zero x e h = absurd (cc)
+every_place P (y ∷ l) (suc zero) x e h = let same : y ≡ x = cc in subst P same h.0
+every_place P (y ∷ l) (suc (suc n)) x e h = every_place P l (suc n) x e h.1
+
+-- what stands at place n + 1 is what a slice gives at index n
+pub place-slice_get : {A : Type 0} (l : List A) (n : ℕ) → place l (suc n) ≡ slice_get l n
+place-slice_get [] n = refl
+place-slice_get (x ∷ l) zero = refl
+place-slice_get (x ∷ l) (suc n) = place-slice_get l n

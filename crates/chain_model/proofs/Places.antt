@@ -1,0 +1,192 @@
+-- The headline of batches from that of batches with their places, which the machine does not look
+-- into.
+use Rattle.std.proofs.Common.{◌≡◌, inl, inr, ℕ, suc, ◌+◌, List, [], ◌∷◌, ◌++◌, length, map, Some}
+use Rattle.std.proofs.Common.{sym, refl, ◌∙◌, ap, ap₂, subst, arith}
+use Rattle.std.proofs.lemmas.List.{map-append, take-map}
+use Rattle.chain_model.specs.Lists.{Begins, Part}
+use Rattle.chain_model.specs.Requests.{Close, Closed, Committed, Open, Opened, Read, Refused}
+use Rattle.chain_model.specs.Requests.{Reply, Request, Shows, Submit}
+use Rattle.chain_model.specs.World.{Ask, Deliver, Event, Lost, Notice, Start, Stop, Tend, Tick}
+use Rattle.chain_model.specs.World.{World, beginning, node_of, reached, run}
+use Rattle.chain_model.specs.Headline.{Agrees, OneList, batches, handed_in, numbered}
+use Rattle.chain_model.specs.Maps.{event_map, reply_map, request_map, world_map}
+use Rattle.chain_model.proofs.Lists.{Every, all_of_every}
+use Rattle.chain_model.proofs.Configuration.{IsChain}
+use Rattle.chain_model.proofs.Handed.{WasHandedIn, handed}
+use Rattle.chain_model.proofs.History.{OneHistory, Speaks, one_history}
+use Rattle.chain_model.proofs.WorldMaps.{run_map}
+
+module _ {A : Type 0} where
+  -- the batch without its place
+  abbrev batch_of : ℕ × A → A
+  batch_of p = p.1
+
+  -- each batch with its place
+  abbrev tag : ℕ → Request A → Request (ℕ × A)
+  tag i (Submit b) = Submit (i, b)
+  tag i (Read at) = Read at
+  tag i (Open at) = Open at
+  tag i (Close s) = Close s
+
+  -- events whose batches have their places
+  abbrev tagged : ℕ → List (Event A) → List (Event (ℕ × A))
+  tagged i [] = []
+  tagged i (Ask x j q went ∷ es) = Ask x i (tag i q) went ∷ tagged (suc i) es
+  tagged i (Tick x went ∷ es) = Tick x went ∷ tagged (suc i) es
+  tagged i (Tend x rises gives_up went ∷ es) = Tend x rises gives_up went ∷ tagged (suc i) es
+  tagged i (Notice x e went ∷ es) = Notice x e went ∷ tagged (suc i) es
+  tagged i (Deliver p went ∷ es) = Deliver p went ∷ tagged (suc i) es
+  tagged i (Start x went ∷ es) = Start x went ∷ tagged (suc i) es
+  tagged i (Stop x ∷ es) = Stop x ∷ tagged (suc i) es
+  tagged i (Lost ∷ es) = Lost ∷ tagged (suc i) es
+
+  -- a request without places is the request
+  untag : (i : ℕ) (q : Request A) → request_map batch_of (tag i q) ≡ q
+  untag i (Submit b) = refl
+  untag i (Read at) = refl
+  untag i (Open at) = refl
+  untag i (Close s) = refl
+
+  -- events without places are the numbered events
+  untagged : (i : ℕ) (es : List (Event A)) → map (event_map batch_of) (tagged i es) ≡ numbered i es
+  untagged i [] = refl
+  untagged i (Ask x j q went ∷ es) =
+      ap₂ (λ (p : Request A) (r : List (Event A)). Ask x i p went ∷ r) (untag i q)
+      (untagged (suc i) es)
+  untagged i (Tick x went ∷ es) = ap (λ r. Tick x went ∷ r) (untagged (suc i) es)
+  untagged i (Tend x rises gives_up went ∷ es) = ap (λ r. Tend x rises gives_up went ∷ r)
+      (untagged (suc i) es)
+  untagged i (Notice x e went ∷ es) = ap (λ r. Notice x e went ∷ r) (untagged (suc i) es)
+  untagged i (Deliver p went ∷ es) = ap (λ r. Deliver p went ∷ r) (untagged (suc i) es)
+  untagged i (Start x went ∷ es) = ap (λ r. Start x went ∷ r) (untagged (suc i) es)
+  untagged i (Stop x ∷ es) = ap (λ r. Stop x ∷ r) (untagged (suc i) es)
+  untagged i (Lost ∷ es) = ap (λ r. Lost ∷ r) (untagged (suc i) es)
+
+  -- they hand in batches with places
+  handed_tagged : (i : ℕ) (es : List (Event A)) → handed (tagged i es) ≡ handed_in i es
+  handed_tagged i [] = refl
+  handed_tagged i (Ask x j (Submit b) went ∷ es) = ap (λ r. (i, b) ∷ r) (handed_tagged (suc i) es)
+  handed_tagged i (Ask x j (Read at) went ∷ es) = handed_tagged (suc i) es
+  handed_tagged i (Ask x j (Open at) went ∷ es) = handed_tagged (suc i) es
+  handed_tagged i (Ask x j (Close s) went ∷ es) = handed_tagged (suc i) es
+  handed_tagged i (Tick x went ∷ es) = handed_tagged (suc i) es
+  handed_tagged i (Tend x rises gives_up went ∷ es) = handed_tagged (suc i) es
+  handed_tagged i (Notice x e went ∷ es) = handed_tagged (suc i) es
+  handed_tagged i (Deliver p went ∷ es) = handed_tagged (suc i) es
+  handed_tagged i (Start x went ∷ es) = handed_tagged (suc i) es
+  handed_tagged i (Stop x ∷ es) = handed_tagged (suc i) es
+  handed_tagged i (Lost ∷ es) = handed_tagged (suc i) es
+
+  -- a request's batch bears the request's number
+  number_tagged : (k : ℕ) (es : List (Event A)) (i : ℕ) (p : ℕ × A)
+      → WasHandedIn (tagged k es) i p → p.0 ≡ i
+  number_tagged k [] i p was = absurd was
+  number_tagged k (Ask x j (Submit b) went ∷ es) i p (inl is) =
+      ap (λ (q : ℕ × A). q.0) (sym is.1) ∙ is.0
+  number_tagged k (Ask x j (Submit b) went ∷ es) i p (inr was) = number_tagged (suc k) es i p was
+  number_tagged k (Ask x j (Read at) went ∷ es) i p (inl is) = absurd is
+  number_tagged k (Ask x j (Read at) went ∷ es) i p (inr was) = number_tagged (suc k) es i p was
+  number_tagged k (Ask x j (Open at) went ∷ es) i p (inl is) = absurd is
+  number_tagged k (Ask x j (Open at) went ∷ es) i p (inr was) = number_tagged (suc k) es i p was
+  number_tagged k (Ask x j (Close s) went ∷ es) i p (inl is) = absurd is
+  number_tagged k (Ask x j (Close s) went ∷ es) i p (inr was) = number_tagged (suc k) es i p was
+  number_tagged k (Tick x went ∷ es) i q (inl is) = absurd is
+  number_tagged k (Tick x went ∷ es) i q (inr was) = number_tagged (suc k) es i q was
+  number_tagged k (Tend x rises gives_up went ∷ es) i q (inl is) = absurd is
+  number_tagged k (Tend x rises gives_up went ∷ es) i q (inr was) = number_tagged (suc k) es i q was
+  number_tagged k (Notice x e went ∷ es) i q (inl is) = absurd is
+  number_tagged k (Notice x e went ∷ es) i q (inr was) = number_tagged (suc k) es i q was
+  number_tagged k (Deliver p went ∷ es) i q (inl is) = absurd is
+  number_tagged k (Deliver p went ∷ es) i q (inr was) = number_tagged (suc k) es i q was
+  number_tagged k (Start x went ∷ es) i q (inl is) = absurd is
+  number_tagged k (Start x went ∷ es) i q (inr was) = number_tagged (suc k) es i q was
+  number_tagged k (Stop x ∷ es) i q (inl is) = absurd is
+  number_tagged k (Lost ∷ es) i q (inl is) = absurd is
+  number_tagged k (Stop x ∷ es) i q (inr was) = number_tagged (suc k) es i q was
+  number_tagged k (Lost ∷ es) i q (inr was) = number_tagged (suc k) es i q was
+
+  -- numbers of requests do not matter for what is handed in
+  pub handed_in_numbered : (i j : ℕ) (es : List (Event A))
+      → handed_in i (numbered j es) ≡ handed_in i es
+  handed_in_numbered i j [] = refl
+  handed_in_numbered i j (Ask x k (Submit b) went ∷ es) =
+      ap (λ r. (i, b) ∷ r) (handed_in_numbered (suc i) (suc j) es)
+  handed_in_numbered i j (Ask x k (Read at) went ∷ es) = handed_in_numbered (suc i) (suc j) es
+  handed_in_numbered i j (Ask x k (Open at) went ∷ es) = handed_in_numbered (suc i) (suc j) es
+  handed_in_numbered i j (Ask x k (Close s) went ∷ es) = handed_in_numbered (suc i) (suc j) es
+  handed_in_numbered i j (Tick x went ∷ es) = handed_in_numbered (suc i) (suc j) es
+  handed_in_numbered i j (Tend x rises gives_up went ∷ es) = handed_in_numbered (suc i) (suc j) es
+  handed_in_numbered i j (Notice x e went ∷ es) = handed_in_numbered (suc i) (suc j) es
+  handed_in_numbered i j (Deliver p went ∷ es) = handed_in_numbered (suc i) (suc j) es
+  handed_in_numbered i j (Start x went ∷ es) = handed_in_numbered (suc i) (suc j) es
+  handed_in_numbered i j (Stop x ∷ es) = handed_in_numbered (suc i) (suc j) es
+  handed_in_numbered i j (Lost ∷ es) = handed_in_numbered (suc i) (suc j) es
+
+  -- one more event in front
+  one_more : (e : Event A) (i : ℕ) (es fs : List (Event A))
+      → numbered (suc i) (es ++ fs) ≡ numbered (suc i) es ++ numbered (suc i + length es) fs
+      → e ∷ numbered (suc i) (es ++ fs)
+      ≡ e ∷ (numbered (suc i) es ++ numbered (i + suc (length es)) fs)
+  one_more e i es fs rest =
+      let same : suc i + length es ≡ i + suc (length es) = omega arith in
+      ap (λ r. e ∷ r) (rest ∙ ap (λ k. numbered (suc i) es ++ numbered k fs) same)
+
+  -- events behind others have the numbers behind theirs
+  pub numbered_append : (i : ℕ) (es fs : List (Event A))
+      → numbered i (es ++ fs) ≡ numbered i es ++ numbered (i + length es) fs
+  numbered_append i [] fs = ap (λ k. numbered k fs) (omega arith)
+  numbered_append i (Ask x j q went ∷ es) fs =
+      one_more (Ask x i q went) i es fs (numbered_append (suc i) es fs)
+  numbered_append i (Tick x went ∷ es) fs =
+      one_more (Tick x went) i es fs (numbered_append (suc i) es fs)
+  numbered_append i (Tend x rises gives_up went ∷ es) fs =
+      one_more (Tend x rises gives_up went) i es fs (numbered_append (suc i) es fs)
+  numbered_append i (Notice x e went ∷ es) fs =
+      one_more (Notice x e went) i es fs (numbered_append (suc i) es fs)
+  numbered_append i (Deliver p went ∷ es) fs =
+      one_more (Deliver p went) i es fs (numbered_append (suc i) es fs)
+  numbered_append i (Start x went ∷ es) fs =
+      one_more (Start x went) i es fs (numbered_append (suc i) es fs)
+  numbered_append i (Stop x ∷ es) fs = one_more (Stop x) i es fs (numbered_append (suc i) es fs)
+  numbered_append i (Lost ∷ es) fs = one_more Lost i es fs (numbered_append (suc i) es fs)
+
+  -- a reply that speaks of batches with places agrees with the list
+  agrees_with : (es : List (Event A)) (B : List (ℕ × A)) (r : Reply (ℕ × A))
+      → Speaks (tagged 1 es) B r → Agrees B (reply_map batch_of r)
+  agrees_with es B (Committed i n) (p, (was, at)) =
+      (p.1, at ∙ ap (λ k. Some (k, p.1)) (number_tagged 1 es i p was))
+  agrees_with es B (Shows i s l) ok = (ok.0, ap (map batch_of) ok.1 ∙ sym (take-map batch_of s B))
+  agrees_with es B (Opened i s) ok = tt
+  agrees_with es B (Closed i s) ok = tt
+  agrees_with es B (Refused i why) ok = tt
+
+  -- so do all replies
+  agree_with : (es : List (Event A)) (B : List (ℕ × A)) (rs : List (Reply (ℕ × A)))
+      → Every (Speaks (tagged 1 es) B) rs → Every (Agrees B) (map (reply_map batch_of) rs)
+  agree_with es B [] ok = tt
+  agree_with es B (r ∷ rs) ok = (agrees_with es B r ok.0, agree_with es B rs ok.1)
+
+  -- the headline, of batches and places
+  pub one_list : (cs : List (List ℕ)) (es : List (Event A)) → IsChain cs → OneList cs es
+  one_list cs es lawful =
+      let h : OneHistory cs (tagged 1 es) = one_history cs (tagged 1 es) lawful in
+      let w : World A = reached cs (numbered 1 es) in
+      let is : world_map batch_of (reached cs (tagged 1 es)) ≡ w =
+      run_map batch_of cs (tagged 1 es) (beginning cs) ∙ ap (λ k. run cs k (beginning cs))
+      (untagged 1 es) in
+      record {
+        B = h.B;
+        taken = subst (λ l. Part h.B l) (handed_tagged 1 es) h.taken;
+        agrees = all_of_every (Agrees h.B) w.replies
+            (subst (λ (v : World A). Every (Agrees h.B) v.replies) is
+            (agree_with es h.B (reached cs (tagged 1 es)).replies h.speaks));
+        stands = λ x last.
+            let b = h.stands x last in
+            let mapped : Begins (batches h.B) (map batch_of (node_of cs (tagged 1 es) x).list) =
+            record {
+              rest = map batch_of b.rest;
+              whole = sym (map-append batch_of h.B b.rest)
+                  ∙ ap (map batch_of) b.whole;
+            } in
+            subst (λ (v : World A). Begins (batches h.B) (v.nodes x).list) is mapped;
+      }

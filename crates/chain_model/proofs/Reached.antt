@@ -1,0 +1,88 @@
+-- What is reached from the beginning: there all holds, lists only grow, so it holds after every
+-- run.
+use Rattle.std.proofs.Common.{◌≡◌, ℕ, ◌<◌, List, [], ◌∷◌, ◌++◌, length, true, refl, ◌∙◌, subst}
+use Rattle.std.proofs.Common.{arith, append_assoc, eq-eqb}
+use Rattle.chain_model.specs.Configuration.{at_epoch, is_tail}
+use Rattle.chain_model.specs.World.{Event, World, beginning, happens, reached, run}
+use Rattle.chain_model.proofs.Lists.{begins_nil, begins_refl}
+use Rattle.chain_model.proofs.Configuration.{IsChain}
+use Rattle.chain_model.proofs.Handed.{WasHandedIn, all_told, handed}
+use Rattle.chain_model.proofs.Invariant.{WorldOk}
+use Rattle.chain_model.proofs.WorldGrowth.{run_append}
+use Rattle.chain_model.proofs.Worlds.{Along, TailsIn, run_ok}
+
+-- a chain has epoch 0
+some_epoch : (cs : List (List ℕ)) → IsChain cs → 0 < length cs
+some_epoch [] w = absurd w
+some_epoch (c ∷ cs) w = omega arith
+
+-- a configuration that is not empty has a tail
+some_tail : (c : List ℕ) → 0 < length c → (t : ℕ) × (is_tail c t ≡ true)
+some_tail [] l = absurd (omega arith)
+some_tail (y ∷ []) l = (y, eq-eqb y y refl)
+some_tail (y ∷ z ∷ c) l = some_tail (z ∷ c) (omega arith)
+
+-- so has the first one
+first_tail : (cs : List (List ℕ)) → IsChain cs → (t : ℕ) × (is_tail (at_epoch cs 0) t ≡ true)
+first_tail [] w = absurd w
+first_tail (c ∷ cs) w = some_tail c w.1
+
+-- all holds at the beginning
+pub start_world_ok : {A : Type 0} (cs : List (List ℕ)) → IsChain cs → (events : List (Event A))
+    → TailsIn cs events (beginning cs) → WorldOk cs events [] (beginning cs)
+start_world_ok cs lawful events tails = record {
+  nodes = λ x. record {
+    sound = record {
+      in_range = some_epoch cs lawful;
+      knows = refl;
+      behind = λ z before k. begins_nil [];
+      safe = λ y k. begins_nil [];
+      known = let t = first_tail cs lawful in (0, (omega arith, λ first. first, tails t.0 t.1));
+      kept_le = omega arith;
+      floor_le = omega arith;
+      committed_le = omega arith;
+      handed = tt;
+    };
+    pending = tt;
+    tail = λ up t. refl;
+    snapshots = tt;
+    rising = tt;
+    resend = λ up t. omega arith;
+  };
+  frames = tt;
+  replies = tt;
+}
+
+-- What is reached.
+module _ {A : Type 0} (cs : List (List ℕ)) (lawful : IsChain cs) (events : List (Event A)) where
+  -- what a tail has, at any time of the run, is committed
+  tails_in : (before later : List (Event A)) → before ++ later ≡ events
+      → TailsIn cs events (run cs before (beginning cs))
+  tails_in before later e t is = record {
+    before = before;
+    later = later;
+    whole = e;
+    tail = t;
+    is = is;
+    epoch = refl;
+    begins = begins_refl _;
+  }
+
+  -- so all worlds on the way are as they should be
+  along : (before later : List (Event A)) → before ++ later ≡ events
+      → Along cs lawful events later (run cs before (beginning cs))
+  along before [] e = tt
+  along before (f ∷ later) e =
+      let next : before ++ (f ∷ []) ++ later ≡ events = append_assoc before (f ∷ []) later ∙ e in
+      let is : run cs (before ++ f ∷ []) (beginning cs) ≡ happens cs
+      (run cs before (beginning cs)) f = run_append cs before (f ∷ []) (beginning cs) in (
+        subst (λ (v : World A). TailsIn cs events v) is (tails_in (before ++ f ∷ []) later next),
+        subst (λ (v : World A). Along cs lawful events later v) is
+            (along (before ++ f ∷ []) later next),
+      )
+
+  pub reached_ok : WorldOk cs events (handed events) (reached cs events)
+  reached_ok =
+      run_ok cs lawful events events (all_told (WasHandedIn events) events (λ i b was. was)) []
+      (beginning cs) (along [] events refl)
+      (start_world_ok cs lawful events (tails_in [] events refl))

@@ -1,0 +1,207 @@
+-- What a node sends and replies tells what holds.
+use Rattle.std.proofs.Common.{◌≡◌, ⊎_elim, ℕ, zero, suc, ◌≤◌, List, [], ◌∷◌, take, Option, Some}
+use Rattle.std.proofs.Common.{None, true, nat_le, sym, refl, subst, arith, length-take-le}
+use Rattle.std.proofs.Common.{leb-true}
+use Rattle.std.proofs.lemmas.Bool.{cond_both}
+use Rattle.chain_model.specs.Lists.{Part, place}
+use Rattle.chain_model.specs.Configuration.{AllDifferent, Before, at_epoch, has, is_tail, last_of}
+use Rattle.chain_model.specs.Configuration.{predecessor, successor}
+use Rattle.chain_model.specs.Refusal.{Refusal}
+use Rattle.chain_model.specs.Frames.{Frame}
+use Rattle.chain_model.specs.Requests.{Committed}
+use Rattle.chain_model.specs.Node.{Answer, Node, dropped_for, due, not_due, refused, silent}
+use Rattle.chain_model.specs.Rules.{ack_to, acknowledge, forward, forward_to, forwards}
+use Rattle.chain_model.specs.World.{Event}
+use Rattle.chain_model.specs.InOrder.{WasCommitted}
+use Rattle.chain_model.specs.KeepsEnough.{RisesFrom}
+use Rattle.chain_model.proofs.Lists.{Every, begins-place, begins_trans, every_append, place_take}
+use Rattle.chain_model.proofs.Lists.{take_less}
+use Rattle.chain_model.proofs.Configuration.{IsChain, all_different, before_back, before_left}
+use Rattle.chain_model.proofs.Configuration.{before_part, has_part, last_epoch, later_part}
+use Rattle.chain_model.proofs.Configuration.{predecessor_before, successor_is_in}
+use Rattle.chain_model.proofs.Invariant.{FrameOk, IsPending, NodeOk, ReplyOk, Safe, SoundNode}
+
+-- what an answer has to be
+pub record AnswerOk {A : Type 0} (cs : List (List ℕ)) (events : List (Event A)) (h : List A)
+    (lists : ℕ → List A) (x : ℕ) (a : Answer A) : Type 0 where
+  pub node : NodeOk cs events h lists x a.node
+  pub frames : Every (FrameOk cs events lists) a.frames
+  pub replies : Every (ReplyOk cs events lists) a.replies
+
+-- where a node lands: its list in the new world, and what a tail commits by that
+pub record Lands {A : Type 0} (cs : List (List ℕ)) (events : List (Event A)) (lists : ℕ → List A)
+    (x : ℕ) (n : Node A) : Type 0 where
+  pub list : lists x ≡ n.list
+  pub tail : is_tail (at_epoch cs n.epoch) x ≡ true → WasCommitted cs events n.epoch n.list
+
+-- `lists` are the lists of all nodes after the step.
+module _ {A : Type 0} (cs : List (List ℕ)) (lawful : IsChain cs) (events : List (Event A))
+    (h : List A) (lists : ℕ → List A) (x : ℕ) where
+  -- the order of a smaller configuration is that of the first
+  pub before_first : (n : Node A) → SoundNode cs events h lists x n → (y z : ℕ)
+      → Before n.ids y z → Before (at_epoch cs 0) y z
+  before_first n s y z b = before_part (at_epoch cs n.epoch) (at_epoch cs 0) y z
+      (later_part cs 0 n.epoch lawful (omega arith) s.in_range)
+      (subst (λ c. Before c y z) s.knows b)
+
+  -- the order of the first configuration is that of a smaller one
+  pub before_known : (n : Node A) → SoundNode cs events h lists x n → (y z : ℕ)
+      → has n.ids y ≡ true → has n.ids z ≡ true → Before (at_epoch cs 0) y z → Before n.ids y z
+  before_known n s y z ky kz b =
+      before_back n.ids (at_epoch cs 0) y z (subst (λ c. Part c (at_epoch cs 0)) (sym s.knows)
+      (later_part cs 0 n.epoch lawful (omega arith) s.in_range))
+      (all_different cs 0 lawful (omega (arith, s.in_range))) ky kz b
+
+  -- a node's configuration has different ids
+  pub different : (n : Node A) → SoundNode cs events h lists x n → AllDifferent n.ids
+  different n s = subst (λ c. AllDifferent c) (sym s.knows)
+      (all_different cs n.epoch lawful s.in_range)
+
+  -- what every node of a configuration has, every node of the last configuration has
+  pub safe_last : (n : Node A) → SoundNode cs events h lists x n → (l : List A)
+      → Safe lists n.ids l → Safe lists (last_of cs) l
+  safe_last n s l safe y k =
+      let last = last_epoch cs lawful in
+      let its : has (at_epoch cs n.epoch) y ≡ true = has_part (at_epoch cs last.0)
+      (at_epoch cs n.epoch) y
+      (later_part cs n.epoch last.0 lawful (omega (arith, last.1.0, s.in_range))
+      (omega (arith, last.1.0))) (subst (λ c. has c y ≡ true) last.1.1 k) in
+      safe y (subst (λ c. has c y ≡ true) (sym s.knows) its)
+
+  -- what a node's configuration keeps, every earlier one kept
+  pub kept_earlier : (n : Node A) → SoundNode cs events h lists x n → (e : ℕ) → e ≤ n.epoch
+      → has n.ids x ≡ true → has (at_epoch cs e) x ≡ true
+  kept_earlier n s e le k = has_part (at_epoch cs n.epoch) (at_epoch cs e) x
+      (later_part cs e n.epoch lawful le s.in_range) (subst (λ c. has c x ≡ true) s.knows k)
+
+  -- an acknowledgement tells what is committed
+  pub ack_ok : (n : Node A) → SoundNode cs events h lists x n → (o : Option ℕ)
+      → predecessor n.ids x ≡ o → Every (FrameOk cs events lists) (ack_to o x n)
+  ack_ok n s None from = tt
+  ack_ok n s (Some p) from = (
+    (
+      subst (λ c. has c p ≡ true) s.knows
+          (before_left n.ids p x (predecessor_before n.ids x p from)),
+      (
+        take n.committed n.list,
+        (
+          length-take-le n.committed n.list s.committed_le,
+          subst
+              (λ c. Safe lists c (take n.committed n.list)) s.knows s.safe,
+          (s.known.0, (s.known.1.0, s.known.1.2)),
+        ),
+      ),
+    ),
+    tt,
+  )
+
+  -- a batch of the list is in all lists before
+  pub forward_ok : (n : Node A) → SoundNode cs events h lists x n → lists x ≡ n.list
+      → (k : ℕ) (o : Option ℕ) (b : Option A) → successor n.ids x ≡ o → place n.list k ≡ b
+      → Every (FrameOk cs events lists) (forward_to o x n k b)
+  forward_ok n s here k None b next e = tt
+  forward_ok n s here k (Some to) None next e = tt
+  forward_ok n s here k (Some to) (Some b) next e = (
+    (
+      subst (λ c. has c to ≡ true) s.knows (successor_is_in n.ids x to next),
+      λ z. ⊎_elim
+          (λ is. subst (λ y. place (lists y) k ≡ Some b) (sym is)
+          (subst (λ l. place l k ≡ Some b) (sym here) e))
+          (λ b'. begins-place k b
+          (s.behind z b'.0 (subst (λ c. has c z ≡ true) (sym s.knows) b'.1)) e),
+    ),
+    tt,
+  )
+
+  -- so are several in a row
+  pub forwards_ok : (n : Node A) → SoundNode cs events h lists x n → lists x ≡ n.list
+      → (k count : ℕ) → Every (FrameOk cs events lists) (forwards x n k count)
+  forwards_ok n s here k zero = tt
+  forwards_ok n s here k (suc count) =
+      every_append (FrameOk cs events lists) (forward x n (suc k)) (forwards x n (suc k) count)
+      (forward_ok n s here (suc k) (successor n.ids x) (place n.list (suc k)) refl refl)
+      (forwards_ok n s here (suc k) count)
+
+  -- who waits for what is committed is told the truth
+  pub due_ok : (n : Node A) → SoundNode cs events h lists x n → (ps : List (ℕ × ℕ))
+      → Every (IsPending events n.list) ps → Every (ReplyOk cs events lists) (due n.committed ps)
+  due_ok n s [] pending = tt
+  due_ok n s (p ∷ ps) pending =
+      cond_both (nat_le p.0 n.committed) (Committed p.1 p.0 ∷ due n.committed ps)
+      (due n.committed ps) (λ rs. Every (ReplyOk cs events lists) rs)
+      (λ le.
+      let small : p.0 ≤ n.committed = leb-true p.0 n.committed le in (
+        (
+          take p.0 n.list,
+          (
+            length-take-le p.0 n.list (omega (arith, s.committed_le)),
+            (
+              pending.0.0,
+              (
+                pending.0.1.0,
+                place_take p.0 n.list p.0 pending.0.0 pending.0.1.1
+                    (omega arith),
+              ),
+            ),
+            safe_last n s (take p.0 n.list)
+                (λ y k. begins_trans (take_less p.0 n.committed n.list small) (s.safe y k)),
+          ),
+        ),
+        due_ok n s ps pending.1,
+      ))
+      (λ gt. due_ok n s ps pending.1)
+
+  -- who waits for more goes on to wait
+  pub not_due_ok : (l : List A) (k : ℕ) (ps : List (ℕ × ℕ)) → Every (IsPending events l) ps
+      → Every (IsPending events l) (not_due k ps)
+  not_due_ok l k [] pending = tt
+  not_due_ok l k (p ∷ ps) pending =
+      cond_both (nat_le p.0 k) (not_due k ps) (p ∷ not_due k ps)
+      (λ rs. Every (IsPending events l) rs)
+      (λ le. not_due_ok l k ps pending.1)
+      (λ gt. (pending.0, not_due_ok l k ps pending.1))
+
+  -- what is left of numbers that rise rises
+  pub rises_less : (j k : ℕ) (ps : List (ℕ × ℕ)) → j ≤ k → RisesFrom k ps → RisesFrom j ps
+  rises_less j k [] le up = tt
+  rises_less j k (p ∷ ps) le up = (omega (arith, le, up.0), up.1)
+
+  -- those who go on to wait, wait in order
+  rises_not_due : (k j : ℕ) (ps : List (ℕ × ℕ)) → RisesFrom j ps → RisesFrom j (not_due k ps)
+  rises_not_due k j [] up = tt
+  rises_not_due k j (p ∷ ps) up =
+      cond_both (nat_le p.0 k) (not_due k ps) (p ∷ not_due k ps) (RisesFrom j)
+      (λ le. rises_not_due k j ps (rises_less j p.0 ps (omega (arith, up.0)) up.1))
+      (λ gt. (up.0, rises_not_due k p.0 ps up.1))
+
+  -- replies to those who wait keep what holds
+  pub acknowledge_ok : (n : Node A) (fs : List (Frame A)) → NodeOk cs events h lists x n
+      → Every (FrameOk cs events lists) fs → AnswerOk cs events h lists x (acknowledge n fs)
+  acknowledge_ok n fs ok sent = record {
+    node = record {
+      sound = ok.sound;
+      pending = not_due_ok n.list n.committed n.pending
+          ok.pending;
+      tail = ok.tail;
+      snapshots = ok.snapshots;
+      rising = rises_not_due n.committed 0 n.pending ok.rising;
+      resend = ok.resend;
+    };
+    frames = sent;
+    replies = due_ok n ok.sound n.pending ok.pending;
+  }
+
+  -- so does a step that says nothing ..
+  pub silent_ok : (n : Node A) → NodeOk cs events h lists x n → AnswerOk cs events h lists x
+      (silent n)
+  silent_ok n ok = record { node = ok; frames = tt; replies = tt }
+
+  -- .. a drop ..
+  pub dropped_ok : (n : Node A) → NodeOk cs events h lists x n → (r : _)
+      → AnswerOk cs events h lists x (dropped_for n r)
+  dropped_ok n ok r = record { node = ok; frames = tt; replies = tt }
+
+  -- .. and a refusal
+  pub refused_ok : (n : Node A) (i : ℕ) → NodeOk cs events h lists x n → (code : Refusal)
+      → AnswerOk cs events h lists x (refused n i code)
+  refused_ok n i ok code = record { node = ok; frames = tt; replies = (tt, tt) }

@@ -1,0 +1,286 @@
+-- Each event keeps what holds of a world, so a run does.
+use Rattle.std.proofs.Common.{◌≡◌, ℕ, List, [], ◌∷◌, ◌++◌, length, Option, Some, None, Bool, true}
+use Rattle.std.proofs.Common.{◌==◌, nat_lt, sym, refl, ap, subst, append_assoc, append-nil}
+use Rattle.std.proofs.Common.{eqb-true, eq-eqb, ltb-true}
+use Rattle.std.proofs.lemmas.Bool.{cond_both, cond-true}
+use Rattle.chain_model.specs.Lists.{Begins, Part, place}
+use Rattle.chain_model.specs.Configuration.{at_epoch, is_tail}
+use Rattle.chain_model.specs.Refusal as refusal
+use Rattle.chain_model.specs.Refusal.{Refusal}
+use Rattle.chain_model.specs.DropReason as reason
+use Rattle.chain_model.specs.DropReason.{DropReason}
+use Rattle.chain_model.specs.Frames.{Frame, addressee}
+use Rattle.chain_model.specs.Requests.{Close, Open, Read, Request, Submit}
+use Rattle.chain_model.specs.Node.{Answer, Node, dropped_for, refused, silent, started, stopped}
+use Rattle.chain_model.specs.Rules.{ask, notice, receive, tend, tick}
+use Rattle.chain_model.specs.World.{Answered, Ask, Deliver, Event, Lost, Notice, Outcome, Start}
+use Rattle.chain_model.specs.World.{Stop, StoppedAfter, StoppedBefore, Tend, Tick, Went, World}
+use Rattle.chain_model.specs.World.{after, answers, as_it_went, delivered, happens, if_running}
+use Rattle.chain_model.specs.World.{nothing, outcome, run, stops, takes}
+use Rattle.chain_model.specs.InOrder.{WasCommitted}
+use Rattle.chain_model.proofs.Lists.{Every, begins_refl, every_append, every_map, every_place}
+use Rattle.chain_model.proofs.Lists.{part_both, part_wider}
+use Rattle.chain_model.proofs.Configuration.{IsChain}
+use Rattle.chain_model.proofs.Handed.{IsHandIn, WasHandedIn, handed, handed_by}
+use Rattle.chain_model.proofs.Invariant.{FrameOk, NodeOk, ReplyOk, WorldOk, frame_grows, lists_of}
+use Rattle.chain_model.proofs.Invariant.{node_grows, reply_grows}
+use Rattle.chain_model.proofs.Growth.{ask_goes_on, notice_goes_on, receive_goes_on, tend_goes_on}
+use Rattle.chain_model.proofs.Growth.{tick_goes_on}
+use Rattle.chain_model.proofs.Sends.{AnswerOk, Lands, dropped_ok, refused_ok, silent_ok}
+use Rattle.chain_model.proofs.Steps.{notice_ok, receive_ok, tick_ok}
+use Rattle.chain_model.proofs.Queries.{RequestOk, ask_ok, started_ok, stopped_ok, tend_ok}
+
+-- the world after an answer of node x
+abbrev pub put : {A : Type 0} → World A → ℕ → Answer A → World A
+put w x a = after w (answers x a)
+
+-- what the tails of a world have at their epochs is committed
+abbrev pub TailsIn : {A : Type 0} → List (List ℕ) → List (Event A) → World A → Type 0
+TailsIn cs events w = (t : ℕ) → is_tail (at_epoch cs (w.nodes t).epoch) t ≡ true
+    → WasCommitted cs events (w.nodes t).epoch (w.nodes t).list
+
+module _ {A : Type 0} (cs : List (List ℕ)) (lawful : IsChain cs) (events : List (Event A))
+    (h : List A) (w : World A) (ok : WorldOk cs events h w) (r : List A) where
+  -- the lists after one node's step
+  abbrev new : ℕ → Answer A → ℕ → List A
+  new x a y = lists_of (put w x a) y
+
+  -- all lists begin those after an answer
+  grow : (x : ℕ) (a : Answer A) → Begins (w.nodes x).list a.node.list → (y : ℕ)
+      → Begins (lists_of w y) (new x a y)
+  grow x a g y =
+      cond_both {A = Node A} (x == y) a.node (w.nodes y) (λ n. Begins (w.nodes y).list n.list)
+      (λ is. subst (λ z. Begins (w.nodes z).list a.node.list) (eqb-true x y is) g)
+      (λ not. begins_refl (w.nodes y).list)
+
+  -- the list of the node is the answer's
+  here : (x : ℕ) (a : Answer A) → new x a x ≡ a.node.list
+  here x a = ap (λ (n : Node A). n.list) (cond-true (x == x) a.node (w.nodes x) (eq-eqb x x refl))
+
+  -- other lists are as before
+  apart : (x : ℕ) (a : Answer A) (z : ℕ) → (z ≡ x → ⊥) → new x a z ≡ lists_of w z
+  apart x a z other = cond_both {A = Node A} (x == z) a.node (w.nodes z)
+      (λ n. n.list ≡ (w.nodes z).list) (λ is. absurd (other (sym (eqb-true x z is)))) (λ not. refl)
+
+  -- a node lands where the answer puts it
+  lands : (x : ℕ) (a : Answer A) → TailsIn cs events (put w x a)
+      → Lands cs events (new x a) x a.node
+  lands x a tails = record {
+    list = here x a;
+    tail = subst (λ (n : Node A). is_tail (at_epoch cs n.epoch) x ≡ true
+        → WasCommitted cs events n.epoch n.list) (cond-true (x == x) a.node (w.nodes x)
+        (eq-eqb x x refl)) (tails x);
+  }
+
+  -- an answer that keeps what holds of its node keeps what holds of the world
+  put_ok : (x : ℕ) (a : Answer A) → Begins (w.nodes x).list a.node.list
+      → AnswerOk cs events (h ++ r) (new x a) x a → WorldOk cs events (h ++ r) (put w x a)
+  put_ok x a g good = record {
+    nodes = λ y. cond_both (x == y) a.node (w.nodes y)
+        (λ n. NodeOk cs events (h ++ r) (new x a) y n)
+        (λ is. subst (λ z. NodeOk cs events (h ++ r) (new x a) z a.node) (eqb-true x y is)
+        good.node)
+        (λ not. node_grows cs events (lists_of w) (new x a) (grow x a g) h r y (w.nodes y)
+        (ok.nodes y));
+    frames = every_append (FrameOk cs events (new x a)) w.frames a.frames
+        (every_map (FrameOk cs events (lists_of w)) (FrameOk cs events (new x a)) w.frames
+        (frame_grows cs events (lists_of w) (new x a) (grow x a g)) ok.frames) good.frames;
+    replies = every_append (ReplyOk cs events (new x a)) w.replies a.replies
+        (every_map (ReplyOk cs events (lists_of w)) (ReplyOk cs events (new x a)) w.replies
+        (reply_grows cs events (lists_of w) (new x a) (grow x a g)) ok.replies) good.replies;
+  }
+
+  -- where there was nothing to do
+  pub nothing_ok : WorldOk cs events (h ++ r) (after w nothing)
+  nothing_ok = record {
+    nodes = λ y. node_grows cs events (lists_of w) (lists_of w) (λ z. begins_refl (lists_of w z))
+        h r y (w.nodes y) (ok.nodes y);
+    frames = every_append (FrameOk cs events (lists_of w)) w.frames [] ok.frames tt;
+    replies = every_append (ReplyOk cs events (lists_of w)) w.replies [] ok.replies tt;
+  }
+
+  -- what answer a of node x keeps what holds of it
+  abbrev Keeps : ℕ → Answer A → Type 0
+  Keeps x a = (lists : ℕ → List A) → ((y : ℕ) → Begins (lists_of w y) (lists y))
+      → ((z : ℕ) → (z ≡ x → ⊥) → lists z ≡ lists_of w z) → NodeOk cs events (h ++ r) lists x
+      (w.nodes x) → Lands cs events lists x a.node → AnswerOk cs events (h ++ r) lists x a
+
+  -- the same of an answer that is made from what holds before
+  answer_ok : (x : ℕ) (a : Answer A) → Begins (w.nodes x).list a.node.list → Keeps x a
+      → TailsIn cs events (put w x a) → WorldOk cs events (h ++ r) (put w x a)
+  answer_ok x a g keeps tails =
+      put_ok x a g (keeps (new x a) (grow x a g) (apart x a)
+      (node_grows cs events (lists_of w) (new x a) (grow x a g) h r x (w.nodes x)
+      (ok.nodes x)) (lands x a tails))
+
+  -- a step, as it went
+  went_ok : (x : ℕ) (a : Answer A) (went : Went) → Begins (w.nodes x).list a.node.list
+      → Keeps x a → TailsIn cs events (after w (as_it_went x (w.nodes x) a went))
+      → WorldOk cs events (h ++ r) (after w (as_it_went x (w.nodes x) a went))
+  went_ok x a Answered g keeps tails = answer_ok x a g keeps tails
+  went_ok x a StoppedBefore g keeps tails =
+      let n = w.nodes x in
+      answer_ok x (silent (stopped n)) (begins_refl n.list)
+      (λ lists up other lifted at. silent_ok cs lawful events (h ++ r) lists x (stopped n)
+      (stopped_ok cs lawful events (h ++ r) lists x n lifted)) tails
+  went_ok x a StoppedAfter g keeps tails =
+      answer_ok x (silent (stopped a.node)) g
+      (λ lists up other lifted at. silent_ok cs lawful events (h ++ r) lists x (stopped a.node)
+      (stopped_ok cs lawful events (h ++ r) lists x a.node
+      (keeps lists up other lifted (record { list = at.list; tail = at.tail })).node)) tails
+
+  -- a drop changes nothing
+  drops_ok : (x : ℕ) (why : DropReason)
+      → TailsIn cs events (put w x (dropped_for (w.nodes x) why)) → WorldOk cs events (h ++ r)
+      (put w x (dropped_for (w.nodes x) why))
+  drops_ok x why tails = answer_ok x (dropped_for (w.nodes x) why) (begins_refl (w.nodes x).list)
+      (λ lists up other lifted at. dropped_ok cs lawful events (h ++ r) lists x (w.nodes x)
+      lifted why) tails
+
+  -- and so it is with a refusal
+  refuses_ok : (x i : ℕ) (why : Refusal)
+      → TailsIn cs events (put w x (refused (w.nodes x) i why)) → WorldOk cs events (h ++ r)
+      (put w x (refused (w.nodes x) i why))
+  refuses_ok x i why tails = answer_ok x (refused (w.nodes x) i why)
+      (begins_refl (w.nodes x).list) (λ lists up other lifted at. refused_ok cs lawful events
+      (h ++ r) lists x (w.nodes x) i lifted why) tails
+
+  -- what holds is kept by an outcome
+  abbrev Holds : Outcome A → Type 0
+  Holds o = TailsIn cs events (after w o) → WorldOk cs events (h ++ r) (after w o)
+
+  -- a step of a node that runs, or not
+  running_ok : (x : ℕ) (f g : Node A → Answer A) (went : Went) → Begins (w.nodes x).list
+      (f (w.nodes x)).node.list → Keeps x (f (w.nodes x)) → Holds (answers x (g (w.nodes x)))
+      → Holds (if_running w x f g went)
+  running_ok x f g went grows keeps otherwise =
+      let n = w.nodes x in
+      cond_both n.running (as_it_went x n (f n) went) (answers x (g n)) Holds
+      (λ up tails. went_ok x (f n) went grows keeps tails) (λ down tails. otherwise tails)
+
+  -- a step that is dropped by a node that does not run
+  takes_ok : (x : ℕ) (f : Node A → Answer A) (went : Went) → Begins (w.nodes x).list
+      (f (w.nodes x)).node.list → Keeps x (f (w.nodes x)) → Holds (takes w x f went)
+  takes_ok x f went grows keeps = running_ok x f (λ n. dropped_for n reason.NotRunning) went
+      grows keeps (drops_ok x reason.NotRunning)
+
+  -- a request
+  pub asked_ok : (x i : ℕ) (q : Request A) (went : Went)
+      → ((lists : ℕ → List A) → RequestOk cs lawful events (h ++ r) lists x (w.nodes x) i q)
+      → Holds (outcome w cs (Ask x i q went))
+  asked_ok x i q went given =
+      running_ok x (λ n. ask x n i q) (λ n. refused n i refusal.NotRunning) went
+      (ask_goes_on x (w.nodes x) i q).grows.list
+      (λ lists up other lifted at. ask_ok cs lawful events (h ++ r) lists x (w.nodes x) i q
+      lifted at (given lists))
+      (refuses_ok x i refusal.NotRunning)
+
+  -- a tick
+  pub ticked_ok : (x : ℕ) (went : Went) → Holds (outcome w cs (Tick x went))
+  ticked_ok x went = takes_ok x (λ n. tick x n) went (tick_goes_on x (w.nodes x)).grows.list
+      (λ lists up other lifted at. tick_ok cs lawful events (h ++ r) lists x (w.nodes x) lifted at)
+
+  -- a tend
+  pub tended_ok : (x : ℕ) (rises : Bool) (gives_up : ℕ) (went : Went)
+      → Holds (outcome w cs (Tend x rises gives_up went))
+  tended_ok x rises gives_up went = takes_ok x (λ n. tend n rises gives_up) went
+      (tend_goes_on (w.nodes x) rises gives_up).grows.list
+      (λ lists up other lifted at. tend_ok cs lawful events (h ++ r) lists x (w.nodes x) rises
+      gives_up lifted)
+
+  -- a notice
+  pub noticed_ok : (x e : ℕ) (went : Went) → Holds (outcome w cs (Notice x e went))
+  noticed_ok x e went =
+      cond_both (nat_lt e (length cs)) (takes w x (λ n. notice x n e (at_epoch cs e)) went)
+      nothing Holds
+      (λ in_range. takes_ok x (λ n. notice x n e (at_epoch cs e)) went
+      (notice_goes_on x (w.nodes x) e (at_epoch cs e)).grows.list
+      (λ lists up other lifted at. notice_ok cs lawful events (h ++ r) lists x (w.nodes x) e
+      (ltb-true e (length cs) in_range) lifted at))
+      (λ beyond tails. nothing_ok)
+
+  -- a frame that was sent
+  sent_ok : (f : Frame A) (went : Went) → FrameOk cs events (lists_of w) f
+      → Holds (delivered w (Some f) went)
+  sent_ok f went sent =
+      let x = addressee f in
+      takes_ok x (λ n. receive x n f) went (receive_goes_on x (w.nodes x) f).grows.list
+      (λ lists up other lifted at. receive_ok cs lawful events (h ++ r) lists x (w.nodes x) f
+      lifted (frame_grows cs events (lists_of w) lists up f sent)
+      (λ z ne. subst (λ l. Part l (h ++ r)) (sym (other z ne))
+      (part_wider (lists_of w z) h r (ok.nodes z).sound.handed)) at)
+
+  -- a frame that is delivered
+  pub delivered_ok : (p : ℕ) (went : Went) (o : Option (Frame A)) → place w.frames p ≡ o
+      → Holds (delivered w o went)
+  delivered_ok p went None e tails = nothing_ok
+  delivered_ok p went (Some f) e tails =
+      sent_ok f went (every_place (FrameOk cs events (lists_of w)) w.frames p f e ok.frames) tails
+
+  -- a start
+  pub start_ok : (x : ℕ) (went : Went) → Holds (outcome w cs (Start x went))
+  start_ok x went =
+      let n = w.nodes x in
+      let a = silent (started x n) in
+      cond_both n.running (answers x (dropped_for n reason.Running)) (as_it_went x n a went) Holds
+      (λ up. drops_ok x reason.Running)
+      (λ down. went_ok x a went (begins_refl n.list)
+      (λ lists up other lifted at. silent_ok cs lawful events (h ++ r) lists x (started x n)
+      (started_ok cs lawful events (h ++ r) lists x n lifted
+      (record { list = at.list; tail = at.tail }))))
+
+  -- a stop
+  pub stop_ok : (x : ℕ) → Holds (outcome w cs (Stop x))
+  stop_ok x =
+      let n = w.nodes x in
+      cond_both n.running (stops x n) (answers x (dropped_for n reason.NotRunning)) Holds
+      (λ up tails. went_ok x (silent n) StoppedBefore (begins_refl n.list)
+      (λ lists up other lifted at. silent_ok cs lawful events (h ++ r) lists x n lifted) tails)
+      (λ down. drops_ok x reason.NotRunning)
+
+module _ {A : Type 0} (cs : List (List ℕ)) (lawful : IsChain cs) (events : List (Event A)) where
+  -- what an event hands in, the run hands in
+  abbrev EventOk : Event A → Type 0
+  EventOk e = (i : ℕ) (b : A) → IsHandIn i b e → WasHandedIn events i b
+
+  -- every event keeps what holds
+  pub happens_ok : (h : List A) (w : World A) → WorldOk cs events h w → (e : Event A) → EventOk e
+      → TailsIn cs events (happens cs w e) → WorldOk cs events (h ++ handed_by e) (happens cs w e)
+  happens_ok h w ok (Ask x i (Submit b) went) told tails = asked_ok cs lawful events h w ok
+      (b ∷ []) x i (Submit b) went
+      (λ lists. (
+        told i b (refl, refl),
+        part_both (w.nodes x).list h b
+            (ok.nodes x).sound.handed,
+      )) tails
+  happens_ok h w ok (Ask x i (Read at) went) told tails = asked_ok cs lawful events h w ok [] x i
+      (Read at) went (λ lists. tt) tails
+  happens_ok h w ok (Ask x i (Open at) went) told tails = asked_ok cs lawful events h w ok [] x i
+      (Open at) went (λ lists. tt) tails
+  happens_ok h w ok (Ask x i (Close s) went) told tails = asked_ok cs lawful events h w ok [] x i
+      (Close s) went (λ lists. tt) tails
+  happens_ok h w ok (Tick x went) told tails = ticked_ok cs lawful events h w ok [] x went tails
+  happens_ok h w ok (Tend x rises gives_up went) told tails =
+      tended_ok cs lawful events h w ok [] x rises gives_up went tails
+  happens_ok h w ok (Notice x e went) told tails = noticed_ok cs lawful events h w ok [] x e went
+      tails
+  happens_ok h w ok (Deliver p went) told tails = delivered_ok cs lawful events h w ok [] p went
+      (place w.frames p) refl tails
+  happens_ok h w ok (Start x went) told tails = start_ok cs lawful events h w ok [] x went tails
+  happens_ok h w ok (Stop x) told tails = stop_ok cs lawful events h w ok [] x tails
+  happens_ok h w ok Lost told tails = nothing_ok cs lawful events h w ok []
+
+  -- of every world on the way
+  abbrev pub Along : List (Event A) → World A → Type 0
+  Along [] w = Unit {0}
+  Along (e ∷ es) w = TailsIn cs events (happens cs w e) × Along es (happens cs w e)
+
+  -- so does every run
+  pub run_ok : (es : List (Event A)) → Every EventOk es → (h : List A) (w : World A) → Along es w
+      → WorldOk cs events h w → WorldOk cs events (h ++ handed es) (run cs es w)
+  run_ok [] told h w along ok = subst (λ l. WorldOk cs events l w) (sym (append-nil h)) ok
+  run_ok (e ∷ es) told h w along ok =
+      subst (λ l. WorldOk cs events l (run cs es (happens cs w e)))
+      (append_assoc h (handed_by e) (handed es))
+      (run_ok es told.1 (h ++ handed_by e) (happens cs w e) along.1
+      (happens_ok h w ok e told.0 along.0))

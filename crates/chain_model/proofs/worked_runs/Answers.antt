@@ -1,0 +1,15 @@
+use Rattle.std.proofs.Common.{refl}
+use Rattle.chain_model.proofs.worked_runs.Goals as goal
+
+pub returns : goal.returns
+returns c = record {
+  repeated = refl;
+  resent = refl;
+  read = refl;
+  unaware = refl;
+  left_out = refl;
+  new_tail = refl;
+  skipped = refl;
+  stopped = refl;
+  floor = refl;
+}

@@ -1,0 +1,187 @@
+-- Worked runs, which show what each event sends, replies and drops. Batches are numbers here.
+use Rattle.std.specs.Prelude.{◌≡◌, ℕ, List, [], ◌∷◌, Some, None, true}
+use Rattle.chain_model.specs.Configuration.{Configurations}
+use Rattle.chain_model.specs.Refusal as refusal
+use Rattle.chain_model.specs.DropReason as reason
+use Rattle.chain_model.specs.Requests.{Submit, Read, Open, Close}
+use Rattle.chain_model.specs.World.{Event, Ask, Tick, Tend, Notice, Deliver, Start, Stop}
+use Rattle.chain_model.specs.World.{Answered, StoppedBefore, StoppedAfter}
+use Rattle.chain_model.specs.Trace.{Line, Forwards, Acks, Commits, Reads, Refuses, Drops, Adopts}
+use Rattle.chain_model.specs.Trace.{Opens, Starts, Stops, trace}
+
+-- each event of a run with the lines that it shows (this store's profile)
+abbrev pub Run : Type 0
+Run = List (Event ℕ × List (Line ℕ))
+
+-- the events of a run (this store's profile)
+abbrev pub events_of : Run → List (Event ℕ)
+events_of [] = []
+events_of (step ∷ run) = step.0 ∷ events_of run
+
+-- the lines that they are to show (this store's profile)
+abbrev pub lines_of : Run → List (List (Line ℕ))
+lines_of [] = []
+lines_of (step ∷ run) = step.1 ∷ lines_of run
+
+-- these configurations and events show these lines (this store's profile)
+abbrev pub ShowsThat : Configurations → Run → Type 0
+ShowsThat cs run = trace cs (events_of run) ≡ lines_of run
+
+-- three nodes; the frame of the first batch comes to node 2 twice, and the second time node 2 tells
+-- again what it has (this store's profile)
+abbrev pub a_repeated_forward_is_dropped : Run
+a_repeated_forward_is_dropped =
+    (Ask 1 1 (Submit 101) Answered, Forwards 1 2 0 1 ∷ []) ∷
+    (Deliver 1 Answered, Forwards 2 3 0 1 ∷ []) ∷
+    (Deliver 1 Answered, Drops reason.OtherNumber ∷ Acks 2 1 0 0 1 ∷ []) ∷
+    (Deliver 2 Answered, Acks 3 2 0 1 1 ∷ []) ∷
+    (Deliver 4 Answered, Acks 2 1 0 1 1 ∷ []) ∷
+    (Deliver 5 Answered, Commits 1 1 ∷ []) ∷
+    []
+
+-- two nodes; the first frame is lost, the second comes and is dropped, a tick sends both again;
+-- the acknowledgements come in the wrong order, and the older one changes nothing (this store's
+-- profile)
+abbrev pub a_lost_forward_is_sent_again : Run
+a_lost_forward_is_sent_again =
+    (Ask 1 1 (Submit 101) Answered, Forwards 1 2 0 1 ∷ []) ∷
+    (Ask 1 2 (Submit 102) Answered, Forwards 1 2 0 2 ∷ []) ∷
+    (Deliver 2 Answered, Drops reason.OtherNumber ∷ Acks 2 1 0 0 0 ∷ []) ∷
+    (Tick 1 Answered, Forwards 1 2 0 1 ∷ Forwards 1 2 0 2 ∷ []) ∷
+    (Deliver 4 Answered, Acks 2 1 0 1 1 ∷ []) ∷
+    (Deliver 5 Answered, Acks 2 1 0 2 2 ∷ []) ∷
+    (Deliver 7 Answered, Commits 1 1 ∷ Commits 2 2 ∷ []) ∷
+    (Deliver 6 Answered, []) ∷
+    (Ask 1 9 (Read None) Answered, Reads 9 2 (101 ∷ 102 ∷ []) ∷ []) ∷
+    []
+
+-- three nodes; node 2 has a second batch that is not committed: it is not read, and node 2, which
+-- is not the head, takes no batch of a client (this store's profile)
+abbrev pub only_what_is_committed_is_read : Run
+only_what_is_committed_is_read =
+    (Ask 1 1 (Submit 101) Answered, Forwards 1 2 0 1 ∷ []) ∷
+    (Deliver 1 Answered, Forwards 2 3 0 1 ∷ []) ∷
+    (Deliver 2 Answered, Acks 3 2 0 1 1 ∷ []) ∷
+    (Deliver 3 Answered, Acks 2 1 0 1 1 ∷ []) ∷
+    (Deliver 4 Answered, Commits 1 1 ∷ []) ∷
+    (Ask 1 6 (Submit 106) Answered, Forwards 1 2 0 2 ∷ []) ∷
+    (Deliver 5 Answered, Forwards 2 3 0 2 ∷ []) ∷
+    (Ask 2 8 (Read (Some 2)) Answered, Refuses 8 refusal.NotCommitted ∷ []) ∷
+    (Ask 2 9 (Read None) Answered, Reads 9 1 (101 ∷ []) ∷ []) ∷
+    (Ask 2 10 (Submit 110) Answered, Refuses 10 refusal.NotHead ∷ []) ∷
+    []
+
+-- the head is removed and does not know it: its successor takes none of its batches, and the new
+-- head goes on; the old one still shows what was committed (this store's profile)
+abbrev pub an_unaware_head_commits_nothing : Run
+an_unaware_head_commits_nothing =
+    (Ask 1 1 (Submit 101) Answered, Forwards 1 2 0 1 ∷ []) ∷
+    (Deliver 1 Answered, Forwards 2 3 0 1 ∷ []) ∷
+    (Deliver 2 Answered, Acks 3 2 0 1 1 ∷ []) ∷
+    (Deliver 3 Answered, Acks 2 1 0 1 1 ∷ []) ∷
+    (Deliver 4 Answered, Commits 1 1 ∷ []) ∷
+    (Notice 2 1 Answered, Adopts 2 1 ∷ []) ∷
+    (Notice 3 1 Answered, Adopts 3 1 ∷ Acks 3 2 1 1 1 ∷ []) ∷
+    (Ask 1 8 (Submit 108) Answered, Forwards 1 2 0 2 ∷ []) ∷
+    (Ask 2 9 (Submit 109) Answered, Forwards 2 3 1 2 ∷ []) ∷
+    (Deliver 5 Answered, []) ∷
+    (Deliver 6 Answered, Drops reason.OtherEpoch ∷ []) ∷
+    (Deliver 7 Answered, Acks 3 2 1 2 2 ∷ []) ∷
+    (Deliver 8 Answered, Commits 9 2 ∷ []) ∷
+    (Ask 3 14 (Read None) Answered, Reads 14 2 (101 ∷ 109 ∷ []) ∷ []) ∷
+    (Ask 1 15 (Read None) Answered, Reads 15 1 (101 ∷ []) ∷ []) ∷
+    []
+
+-- the middle node stops and is removed with a batch that it passed on to nobody; the head sends
+-- it to the tail (this store's profile)
+abbrev pub a_middle_node_is_left_out : Run
+a_middle_node_is_left_out =
+    (Ask 1 1 (Submit 101) Answered, Forwards 1 2 0 1 ∷ []) ∷
+    (Deliver 1 Answered, Forwards 2 3 0 1 ∷ []) ∷
+    (Deliver 2 Answered, Acks 3 2 0 1 1 ∷ []) ∷
+    (Deliver 3 Answered, Acks 2 1 0 1 1 ∷ []) ∷
+    (Deliver 4 Answered, Commits 1 1 ∷ []) ∷
+    (Ask 1 6 (Submit 106) Answered, Forwards 1 2 0 2 ∷ []) ∷
+    (Deliver 5 Answered, Forwards 2 3 0 2 ∷ []) ∷
+    (Stop 2, Stops 2 ∷ []) ∷
+    (Notice 1 1 Answered, Adopts 1 1 ∷ []) ∷
+    (Notice 3 1 Answered, Adopts 3 1 ∷ Acks 3 1 1 1 1 ∷ []) ∷
+    (Tick 1 Answered, Forwards 1 3 1 2 ∷ []) ∷
+    (Deliver 6 Answered, Drops reason.OtherEpoch ∷ []) ∷
+    (Deliver 7 Answered, []) ∷
+    (Deliver 8 Answered, Acks 3 1 1 2 2 ∷ []) ∷
+    (Deliver 9 Answered, Commits 6 2 ∷ []) ∷
+    []
+
+-- the tail is removed; the node before it is the tail then, and commits what it has (this store's
+-- profile)
+abbrev pub a_new_tail_commits : Run
+a_new_tail_commits =
+    (Ask 1 1 (Submit 101) Answered, Forwards 1 2 0 1 ∷ []) ∷
+    (Deliver 1 Answered, Forwards 2 3 0 1 ∷ []) ∷
+    (Notice 1 1 Answered, Adopts 1 1 ∷ []) ∷
+    (Notice 2 1 Answered, Adopts 2 1 ∷ Acks 2 1 1 1 1 ∷ []) ∷
+    (Deliver 3 Answered, Commits 1 1 ∷ []) ∷
+    []
+
+-- node 2 skips an epoch and drops the notice of it that comes late; node 1 learns that it is
+-- removed (this store's profile)
+abbrev pub epochs_are_skipped : Run
+epochs_are_skipped =
+    (Notice 2 2 Answered, Adopts 2 2 ∷ []) ∷
+    (Notice 2 1 Answered, Drops reason.OldNotice ∷ []) ∷
+    (Notice 1 2 Answered, Adopts 1 2 ∷ []) ∷
+    (Ask 1 4 (Read None) Answered, Refuses 4 refusal.Removed ∷ []) ∷
+    []
+
+-- a node that does not run refuses requests and drops the rest, and starts with what it synced; a
+-- frame that was never sent is no event of any node (this store's profile)
+abbrev pub a_stopped_node_says_so : Run
+a_stopped_node_says_so =
+    (Ask 1 1 (Submit 101) Answered, Commits 1 1 ∷ []) ∷
+    (Start 1 Answered, Drops reason.Running ∷ []) ∷
+    (Stop 1, Stops 1 ∷ []) ∷
+    (Stop 1, Drops reason.NotRunning ∷ []) ∷
+    (Tick 1 Answered, Drops reason.NotRunning ∷ []) ∷
+    (Notice 1 0 Answered, Drops reason.NotRunning ∷ []) ∷
+    (Tend 1 true 1 Answered, Drops reason.NotRunning ∷ []) ∷
+    (Ask 1 8 (Read None) Answered, Refuses 8 refusal.NotRunning ∷ []) ∷
+    (Deliver 1 Answered, []) ∷
+    (Start 1 Answered, Starts 1 0 1 1 ∷ []) ∷
+    (Ask 1 11 (Read None) Answered, Reads 11 1 (101 ∷ []) ∷ []) ∷
+    (Ask 1 12 (Submit 112) StoppedAfter, Stops 1 ∷ []) ∷
+    (Start 1 StoppedBefore, Stops 1 ∷ []) ∷
+    (Start 1 Answered, Starts 1 0 2 2 ∷ []) ∷
+    []
+
+-- two nodes; the floor rises to the open snapshot and no further; a start knows only the floor to
+-- be committed, forgets the snapshot, and a tick sends again from there (this store's profile)
+abbrev pub the_floor_waits_for_snapshots : Run
+the_floor_waits_for_snapshots =
+    (Ask 1 1 (Submit 101) Answered, Forwards 1 2 0 1 ∷ []) ∷
+    (Deliver 1 Answered, Acks 2 1 0 1 1 ∷ []) ∷
+    (Deliver 2 Answered, Commits 1 1 ∷ []) ∷
+    (Ask 1 4 (Open None) Answered, Opens 4 1 ∷ []) ∷
+    (Ask 1 5 (Submit 105) Answered, Forwards 1 2 0 2 ∷ []) ∷
+    (Deliver 3 Answered, Acks 2 1 0 2 2 ∷ []) ∷
+    (Deliver 4 Answered, Commits 5 2 ∷ []) ∷
+    (Tend 1 true 9 Answered, []) ∷
+    (Ask 1 9 (Read (Some 0)) Answered, Refuses 9 refusal.TooOld ∷ []) ∷
+    (Stop 1, Stops 1 ∷ []) ∷
+    (Start 1 Answered, Starts 1 0 2 1 ∷ []) ∷
+    (Ask 1 12 (Close 1) Answered, Refuses 12 refusal.NoSuchSnapshot ∷ []) ∷
+    (Ask 1 13 (Read None) Answered, Reads 13 1 (101 ∷ []) ∷ []) ∷
+    (Tick 1 Answered, Forwards 1 2 0 2 ∷ []) ∷
+    []
+
+-- the worked runs show what they are to show (this store's profile)
+pub record WorkedRuns : Type 0 where
+  pub repeated : ShowsThat ((1 ∷ 2 ∷ 3 ∷ []) ∷ []) a_repeated_forward_is_dropped
+  pub resent : ShowsThat ((1 ∷ 2 ∷ []) ∷ []) a_lost_forward_is_sent_again
+  pub read : ShowsThat ((1 ∷ 2 ∷ 3 ∷ []) ∷ []) only_what_is_committed_is_read
+  pub unaware : ShowsThat ((1 ∷ 2 ∷ 3 ∷ []) ∷ (2 ∷ 3 ∷ []) ∷ []) an_unaware_head_commits_nothing
+  pub left_out : ShowsThat ((1 ∷ 2 ∷ 3 ∷ []) ∷ (1 ∷ 3 ∷ []) ∷ []) a_middle_node_is_left_out
+  pub new_tail : ShowsThat ((1 ∷ 2 ∷ 3 ∷ []) ∷ (1 ∷ 2 ∷ []) ∷ []) a_new_tail_commits
+  pub skipped : ShowsThat ((1 ∷ 2 ∷ 3 ∷ []) ∷ (1 ∷ 2 ∷ []) ∷ (2 ∷ []) ∷ []) epochs_are_skipped
+  pub stopped : ShowsThat ((1 ∷ []) ∷ []) a_stopped_node_says_so
+  pub floor : ShowsThat ((1 ∷ 2 ∷ []) ∷ []) the_floor_waits_for_snapshots

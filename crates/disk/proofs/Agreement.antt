@@ -1,0 +1,94 @@
+-- What a sync kept agrees with what a read gives, off the loose places, whatever is called.
+use Rattle.std.proofs.Common.{◌≡◌, ◌≢◌, ℕ, ◌+◌, List, [], ◌∷◌, ◌++◌, length}
+use Rattle.std.proofs.Common.{Result, Ok, Err}
+use Rattle.std.proofs.Common.{refl, sym, ap, subst, ◌∙◌, inl, inr}
+use Rattle.std.specs.Prelude.{slice_get}
+use Rattle.std.proofs.lemmas.Bool.{cases_lt, cases_eq}
+use Rattle.disk.specs.declared.touch.Touch.{Touch}
+use Rattle.disk.specs.declared.touch.Touch.TheVariants.{Wrote, Cut}
+use Rattle.disk.specs.declared.error.DiskError.{DiskError}
+use Rattle.disk.specs.declared.error.DiskError.TheVariants.{Failed, NoFile, Short, Memory}
+use Rattle.disk.specs.State.{Slot, Absent, Fresh, Kept, State, seen, Loosens, IsLoose}
+use Rattle.disk.specs.State.{IsSame, Changes, written, cut_to}
+use Rattle.disk.specs.Calls.{CanBegin, Writes, Cuts}
+use Rattle.disk.specs.Memory.{Agrees, AllAgree}
+use Rattle.disk.proofs.Places.{get-take, overwritten_before, overwritten_after}
+
+-- a place that was loose stays loose under one more touch
+pub loose_still : (end : ℕ) (touches : List Touch) (one : Touch) (place : ℕ)
+    → IsLoose end touches place → IsLoose end (touches ++ one ∷ []) place
+loose_still end [] one place loose = absurd loose
+loose_still end (first ∷ touches) one place (inl here) = inl here
+loose_still end (first ∷ touches) one place (inr later) =
+    inr (loose_still end touches one place later)
+
+-- and the touch loosens its own
+pub loose_now : (end : ℕ) (touches : List Touch) (one : Touch) (place : ℕ)
+    → Loosens one end place → IsLoose end (touches ++ one ∷ []) place
+loose_now end [] one place here = inl here
+loose_now end (first ∷ touches) one place here = inr (loose_now end touches one place here)
+
+-- it agrees after a write
+agrees_written : (at : ℕ) (bytes : List ℕ) (slot : Slot) → CanBegin (seen slot) at → Agrees slot
+    → Agrees (written at bytes slot)
+agrees_written at bytes (Absent back) begins agrees = tt
+agrees_written at bytes (Fresh old back) begins agrees = tt
+agrees_written at bytes (Kept old kept touches) begins agrees = λ place tight.
+    let one = Wrote at (length bytes) in
+    let end = length kept in
+    let before : slice_get kept place ≡ slice_get old place =
+    agrees place (λ loose. tight (loose_still end touches one place loose)) in
+    elim (cases_lt place at) [
+      | inl lt ↦ before ∙ sym (overwritten_before old at bytes place begins lt)
+      | inr ge ↦ elim (cases_lt place (at + length bytes)) [
+        | inl inside ↦ absurd (tight (loose_now end touches one place (inl (ge, inside))))
+        | inr past ↦ before ∙ sym (overwritten_after old at bytes place begins past)
+      ]
+    ]
+
+-- and after a cut
+agrees_cut : (len : ℕ) (slot : Slot) → Agrees slot → Agrees (cut_to len slot)
+agrees_cut len (Absent back) agrees = tt
+agrees_cut len (Fresh old back) agrees = tt
+agrees_cut len (Kept old kept touches) agrees = λ place tight.
+    let before : slice_get kept place ≡ slice_get old place =
+    agrees place (λ loose. tight (loose_still (length kept) touches (Cut len) place loose)) in
+    elim (cases_lt place len) [
+      | inl lt ↦ before ∙ sym (get-take len old place lt)
+      | inr past ↦ absurd (tight (loose_now (length kept) touches (Cut len) place past))
+    ]
+
+-- what stays the same agrees
+same_agree : (old new : State) → IsSame old new → AllAgree old → AllAgree new
+same_agree old new same all = λ file. subst Agrees (sym (same file)) (all file)
+
+-- where one slot changes, that one decides
+changed_agree : (old new : State) (file : ℕ) (slot : Slot) → Changes old new file slot
+    → Agrees slot → AllAgree old → AllAgree new
+changed_agree old new file slot changes here all = λ other. elim (cases_eq other file) [
+  | inl is ↦ subst Agrees (sym (ap new is ∙ changes.here)) here
+  | inr apart ↦ subst Agrees (sym (changes.others other apart)) (all other)
+]
+
+-- a write that didn't fail
+pub writes_agree : {T : Type 0} (result : Result T DiskError) (old new : State) (file at : ℕ)
+    (bytes : List ℕ) → Writes old file at bytes result new → result ≢ Err Failed
+    → AllAgree old → AllAgree new
+writes_agree (Ok x) old new file at bytes w apart all =
+    changed_agree old new file (written at bytes (old file)) w.2
+    (agrees_written at bytes (old file) w.0 (all file)) all
+writes_agree (Err Failed) old new file at bytes w apart all = absurd (apart refl)
+writes_agree (Err NoFile) old new file at bytes w apart all = same_agree old new w.0 all
+writes_agree (Err Short) old new file at bytes w apart all = same_agree old new w.0 all
+writes_agree (Err Memory) old new file at bytes w apart all = same_agree old new w.0 all
+
+-- a cut that didn't fail
+pub cuts_agree : {T : Type 0} (result : Result T DiskError) (old new : State) (file len : ℕ)
+    → Cuts old file len result new → result ≢ Err Failed → AllAgree old → AllAgree new
+cuts_agree (Ok x) old new file len c apart all =
+    changed_agree old new file (cut_to len (old file)) c.1
+    (agrees_cut len (old file) (all file)) all
+cuts_agree (Err Failed) old new file len c apart all = absurd (apart refl)
+cuts_agree (Err NoFile) old new file len c apart all = same_agree old new c.0 all
+cuts_agree (Err Short) old new file len c apart all = same_agree old new c.0 all
+cuts_agree (Err Memory) old new file len c apart all = same_agree old new c.0 all

@@ -1,0 +1,8 @@
+pub mod Places
+pub mod Steps
+pub mod Counts
+pub mod Buffers
+pub mod Agreement
+pub mod Numbers
+pub mod Tears
+pub mod Outcomes

@@ -1,0 +1,157 @@
+-- What a crash with some junk leaves is one of the outcomes that the model allows.
+use Rattle.std.proofs.Common.{◌≡◌, ℕ, ◌<◌, ◌≤◌, List, [], ◌∷◌, length, Option, Some, None}
+use Rattle.std.proofs.Common.{Bool, true, false, refl, sym, ap, subst, ◌∙◌, inl, inr, arith}
+use Rattle.std.specs.Prelude.{◌+◌, slice_get, nat_le, nat_lt, ◌&&◌}
+use Rattle.std.specs.Option.{option_map}
+use Rattle.std.proofs.Math.Bool.{or-true}
+use Rattle.std.proofs.lemmas.Bool.{or_cases}
+use Rattle.std.proofs.lemmas.Bool.Decides.{nat_tests}
+use Rattle.disk.specs.declared.touch.Touch.{Touch}
+use Rattle.disk.specs.declared.touch.Touch.TheVariants.{Wrote, Cut}
+use Rattle.disk.specs.declared.junk.Junk.{Junk}
+use Rattle.disk.specs.declared.junk.Junk.TheVariants.{Old, New, Bytes}
+use Rattle.disk.specs.State.{Slot, Absent, Fresh, Kept, State, seen, contents}
+use Rattle.disk.specs.State.{Loosens, IsLoose, AgreesOff, Leaves, MayLeave, IsSure}
+use Rattle.disk.specs.Memory.{Agrees, AllAgree}
+use Rattle.disk.specs.Crashes.{loosens, is_loose, torn, torn_byte, left_by, sure, crashed, Crashes}
+use Rattle.std.proofs.Common.{map}
+use Rattle.std.specs.Prelude.{is_some}
+use Rattle.std.specs.List.{AllByRecursion}
+use Rattle.disk.proofs.Numbers.{SaysNothing}
+use Rattle.disk.proofs.Tears.{get-torn}
+
+-- ---- the tests say what the facts say
+
+-- what a test says of two numbers
+le_is : (a b : ℕ) → nat_le a b ≡ true → a ≤ b
+le_is a b is = grind (arith, nat_tests)
+
+-- and another
+lt_is : (a b : ℕ) → nat_lt a b ≡ true → a < b
+lt_is a b is = grind (arith, nat_tests)
+
+-- what two tests say together
+both_are : (x y : Bool) → (x && y) ≡ true → (x ≡ true) × (y ≡ true)
+both_are true y is = (refl, is)
+both_are false y is = absurd cc
+
+-- a touch that passes the test loosens the place
+loosens_is : (touch : Touch) (end place : ℕ) → loosens touch end place ≡ true
+    → Loosens touch end place
+loosens_is (Wrote at len) end place is =
+    elim (or_cases (nat_le at place && nat_lt place (at + len)) (nat_le end place) is) [
+      | inl both ↦ let parts = both_are (nat_le at place) (nat_lt place (at + len)) both in
+          inl (le_is at place parts.0, lt_is place (at + len) parts.1)
+      | inr past ↦ inr (le_is end place past)
+    ]
+loosens_is (Cut len) end place is = le_is len place is
+
+-- a place that passes the test is loose
+pub is_loose_is : (end : ℕ) (touches : List Touch) (place : ℕ) → is_loose end touches place ≡ true
+    → IsLoose end touches place
+is_loose_is end [] place is = absurd cc
+is_loose_is end (touch ∷ touches) place is =
+    elim (or_cases (loosens touch end place) (is_loose end touches place) is) [
+      | inl here ↦ inl (loosens_is touch end place here)
+      | inr later ↦ inr (is_loose_is end touches place later)
+    ]
+
+-- two numbers that pass a test
+is_le : (a b : ℕ) → a ≤ b → nat_le a b ≡ true
+is_le a b le = grind (arith, nat_tests)
+
+-- and another
+is_lt : (a b : ℕ) → a < b → nat_lt a b ≡ true
+is_lt a b lt = grind (arith, nat_tests)
+
+-- a touch that loosens the place passes the test
+is_loosens : (touch : Touch) (end place : ℕ) → Loosens touch end place
+    → loosens touch end place ≡ true
+is_loosens (Wrote at len) end place (inl inside) =
+    rw (is_le at place inside.0, is_lt place (at + len) inside.1) refl
+is_loosens (Wrote at len) end place (inr past) =
+    rw (is_le end place past) (or-true (nat_le at place && nat_lt place (at + len)))
+is_loosens (Cut len) end place past = is_le len place past
+
+-- a loose place passes the test
+pub is_is_loose : (end : ℕ) (touches : List Touch) (place : ℕ) → IsLoose end touches place
+    → is_loose end touches place ≡ true
+is_is_loose end [] place loose = absurd loose
+is_is_loose end (touch ∷ touches) place (inl here) = rw (is_loosens touch end place here) refl
+is_is_loose end (touch ∷ touches) place (inr later) =
+    rw (is_is_loose end touches place later) (or-true (loosens touch end place))
+
+-- a tight place does not pass
+tight_is : (b : Bool) (end : ℕ) (touches : List Touch) (place : ℕ) → is_loose end touches place ≡ b
+    → (IsLoose end touches place → ⊥) → b ≡ false
+tight_is true end touches place is tight = absurd (tight (is_loose_is end touches place is))
+tight_is false end touches place is tight = refl
+
+-- ---- a torn file keeps its tight places
+
+-- junk changes no tight place
+torn_agrees : (end : ℕ) (touches : List Touch) (junk bytes : List ℕ)
+    → AgreesOff end touches (torn end touches junk bytes) bytes
+torn_agrees end touches [] bytes = λ place tight. refl
+torn_agrees end touches (first ∷ junk) bytes = λ place tight.
+    let is : is_loose end touches place ≡ false =
+    tight_is (is_loose end touches place) end touches place refl tight in
+    get-torn end touches (first ∷ junk) bytes place (omega arith)
+    ∙ kept_byte end touches (first ∷ junk) place (slice_get bytes place) is
+  where
+    kept_byte : (end : ℕ) (touches : List Touch) (junk : List ℕ) (place : ℕ) (found : Option ℕ)
+        → is_loose end touches place ≡ false
+        → option_map (λ byte. torn_byte end touches junk (place, byte)) found ≡ found
+    kept_byte end touches junk place None is = refl
+    kept_byte end touches junk place (Some byte) is = rw is refl
+
+-- ---- each outcome is allowed
+
+-- each junk leaves an outcome of the slot
+left_allowed : (junk : Junk) (slot : Slot) → Agrees slot → Leaves slot (left_by junk slot)
+left_allowed Old (Absent back) agrees = inr refl
+left_allowed Old (Fresh bytes back) agrees = tt
+left_allowed Old (Kept bytes kept touches) agrees = agrees
+left_allowed New (Absent back) agrees = inl refl
+left_allowed New (Fresh bytes back) agrees = tt
+left_allowed New (Kept bytes kept touches) agrees = λ place tight. refl
+left_allowed (Bytes junk) (Absent back) agrees = inl refl
+left_allowed (Bytes junk) (Fresh bytes back) agrees = tt
+left_allowed (Bytes junk) (Kept bytes kept touches) agrees =
+    torn_agrees (length kept) touches junk bytes
+
+-- a sure slot is read as it was left
+seen-sure : (left : Option (List ℕ)) → seen (sure left) ≡ left
+seen-sure None = refl
+seen-sure (Some bytes) = refl
+
+-- what a crash leaves may be left
+pub crashes_allowed : (junk : Junk) (old new : State) → AllAgree old → Crashes junk old new
+    → MayLeave old (contents new)
+crashes_allowed junk old new all crashes = λ file.
+    subst (Leaves (old file)) (sym (ap seen (crashes file) ∙ seen-sure (left_by junk (old file))))
+    (left_allowed junk (old file) (all file))
+
+-- and is sure
+pub crashed_is_sure : (junk : Junk) (slot : Slot) → IsSure (crashed junk slot)
+crashed_is_sure junk slot = is_sure (left_by junk slot)
+  where
+    is_sure : (left : Option (List ℕ)) → IsSure (sure left)
+    is_sure None = refl
+    is_sure (Some bytes) = (refl, refl)
+
+-- where nothing was, nothing is left
+pub crashed_none : (junk : Junk) → crashed junk (Absent None) ≡ Absent None
+crashed_none Old = refl
+crashed_none New = refl
+crashed_none (Bytes junk) = refl
+
+-- what a crash left no file of says nothing
+pub crashed_says : (junk : Junk) (slots : List (ℕ × Slot))
+    → AllByRecursion SaysNothing (map (λ e. (e.0, crashed junk e.1)) slots)
+crashed_says junk [] = tt
+crashed_says junk (one ∷ others) = (says (left_by junk one.1), crashed_says junk others)
+  where
+    says : (left : Option (List ℕ)) → is_some (seen (sure left)) ≡ false → sure left ≡ Absent None
+    says None is = refl
+    says (Some bytes) is = absurd cc

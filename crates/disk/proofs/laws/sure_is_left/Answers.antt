@@ -1,0 +1,6 @@
+use Rattle.disk.proofs.Steps.{sure_left}
+use Rattle.disk.proofs.laws.sure_is_left.Goals as goal
+
+-- by the slot
+pub returns : goal.returns
+returns c = λ disk left file sure now. sure_left (disk file) (left file) sure (now file)

@@ -1,0 +1,13 @@
+use Rattle.std.proofs.Common.{subst}
+use Rattle.disk.specs.State.{MayLeave, contents}
+use Rattle.disk.specs.Memory.{Slots, state_of}
+use Rattle.disk.proofs.Outcomes.{crashes_allowed}
+use Rattle.disk.proofs.memory.MemDiskCrash.crash.Goals as goal
+
+-- what was synced agrees with what a read gave
+pub returns-clause-allowed : goal.returns-clause-allowed
+returns-clause-allowed c = λ honest.
+    let left = state_of c.crash_in.new.slots.entries in
+    subst (λ (disk : Slots). MayLeave (state_of disk.slots) (contents left)) c.self.view_is
+    (crashes_allowed c.args.junk
+    (state_of c.self.inside.slots.entries) left c.self.invariant c.crash_in.ensures)

@@ -1,0 +1,35 @@
+use Rattle.std.proofs.Common.{◌≡◌, ◌<◌, ℕ, length, sym, subst, ◌∙◌, arith, rules}
+use Rattle.disk.proofs.Tears.{IsTornTo, torn_loose, torn_tight, torn_all}
+use Rattle.disk.proofs.tear.tear.Goals.{then-is_loose, else-is_loose}
+use Rattle.disk.proofs.tear.tear.Goals as goal
+
+-- a loose place takes the next junk byte, and another stays
+pub loop-place-preserved : goal.loop-place-preserved
+loop-place-preserved c =
+    let some : 0 < length c.args.junk.now = search rules in
+    let touches = c.args.touches.now in
+    let junk = c.args.junk.now in
+    let old = c.args.bytes.now in
+    let at = c.loop-place in
+    let within : at.place < length old = omega arith in
+    let test = sym c.is_loose.ensures in
+    elim c.if-is_loose.branch [
+      | then-is_loose w ↦ rw (w.bytes-is, w.next-is)
+          (torn_loose c.args.end touches junk old some at.bytes at.place at.next within
+          (test ∙ w.if-is_loose.true) at.invariant)
+      | else-is_loose w ↦ rw (w.bytes-is, w.next-is)
+          (torn_tight c.args.end touches junk old some at.bytes at.place at.next within
+          (test ∙ w.if-is_loose.false) at.invariant)
+    ]
+
+-- no place is left
+pub returns : goal.returns
+returns c =
+    let some : 0 < length c.args.junk.now = search rules in
+    let touches = c.args.touches.now in
+    let junk = c.args.junk.now in
+    let old = c.args.bytes.now in
+    let at = c.loop-place in
+    let all : at.place ≡ length old = omega arith in
+    torn_all c.args.end touches junk old some at.bytes at.next
+    (subst (λ (n : ℕ). IsTornTo c.args.end touches junk old at.bytes n at.next) all at.invariant)

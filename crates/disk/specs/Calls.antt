@@ -1,0 +1,117 @@
+-- What the calls of a disk answer, and what they do to it.
+use Rattle.std.specs.Prelude.{◌≡◌, ℕ, ◌+◌, ◌-◌, ◌^◌, ◌<◌, ◌≤◌, ◌↔◌, ◌⊎◌}
+use Rattle.std.specs.Prelude.{List, length, take, drop, Contains}
+use Rattle.std.specs.Prelude.{Option, Some, None, IsSome, IsNone, IsSomeAnd}
+use Rattle.std.specs.Prelude.{Result, Ok, Err, IsErrOf}
+use Rattle.std.specs.List.Sorted.{IsStrictlyIncreasing}
+use Rattle.std.specs.Global.{Vec}
+use Rattle.disk.specs.declared.error.DiskError.{DiskError}
+use Rattle.disk.specs.declared.error.DiskError.TheVariants.{Failed, NoFile, Short, Memory}
+use Rattle.disk.specs.State.{State, Slot, seen, IsSame, Changes, MayHave}
+use Rattle.disk.specs.State.{written, cut_to, synced, removed}
+
+-- ---- the count of failures
+
+-- A count of failures has risen. At its last value it stays, and each call counts.
+abbrev pub HasRisen : ℕ → ℕ → Type 0
+HasRisen before now = before < 2 ^ 64 - 1 → before < now
+
+-- the count is one more, or stays at its last value
+pub record Rises (before now : ℕ) : Type 0 where
+  pub below : before < 2 ^ 64 - 1 → now ≡ before + 1
+  pub last : 2 ^ 64 - 1 ≤ before → now ≡ before
+
+-- what every call keeps, of an honest disk and of any other
+pub record Keeps {T : Type 0} (was is : Type 0) (before now : ℕ)
+    (result : Result T DiskError) : Type 0 where
+  -- the disk is honest now exactly if it was
+  pub honest : is ↔ was
+  -- `Failed` is told only where the count rises
+  pub failed : IsErrOf result Failed → Rises before now
+  -- it doesn't change otherwise
+  pub others : (IsErrOf result Failed → ⊥) → now ≡ before
+  -- at the last value nothing else is told
+  pub last : 2 ^ 64 - 1 ≤ before → IsErrOf result Failed
+
+-- ---- the calls that read
+
+-- the refusals of a call that needs a file, and so many bytes of it
+abbrev pub Refuses : DiskError → State → ℕ → ℕ → Type 0
+Refuses Failed disk file len = Unit {0}
+Refuses NoFile disk file len = IsNone (seen (disk file))
+Refuses Short disk file len = IsSomeAnd (seen (disk file)) (λ bytes. length bytes < len)
+Refuses Memory disk file len = Unit {0}
+
+-- the numbers of the files that are there, rising
+pub record Lists (disk : State) (files : List ℕ) : Type 0 where
+  pub rising : IsStrictlyIncreasing files
+  pub exact : (file : ℕ) → Contains files file ↔ IsSome (seen (disk file))
+
+-- what `files` answers
+abbrev pub Files : State → Result (Vec ℕ) DiskError → Type 0
+Files disk (Ok files) = Lists disk files.items
+Files disk (Err e) = (e ≡ Failed) ⊎ (e ≡ Memory)
+
+-- what `length` answers; no file is shorter than 0
+abbrev pub Lengths : State → ℕ → Result ℕ DiskError → Type 0
+Lengths disk file (Ok len) =
+    IsSomeAnd (seen (disk file)) (λ bytes. (len ≡ length bytes) × (len < 2 ^ 63))
+Lengths disk file (Err e) = Refuses e disk file 0
+
+-- what `read` answers, and leaves in its buffer of so many bytes
+abbrev pub Reads : {T : Type 0} → State → ℕ → ℕ → ℕ → Result T DiskError → List ℕ → Type 0
+Reads disk file at len (Ok _) into =
+    IsSomeAnd (seen (disk file))
+    (λ bytes. (at + len ≤ length bytes) × (into ≡ take len (drop at bytes)))
+Reads disk file at len (Err e) into = Refuses e disk file (at + len)
+
+-- ---- the calls that change
+
+-- what a failed call that goes to this slot leaves, and one that was refused
+abbrev pub Fails : DiskError → State → ℕ → Slot → State → Type 0
+Fails Failed old file slot new = MayHave old new file slot
+Fails NoFile old file slot new = IsSame old new
+Fails Short old file slot new = IsSame old new
+Fails Memory old file slot new = IsSame old new
+
+-- a place where a write of the file may begin: 0 makes the file
+abbrev pub CanBegin : Option (List ℕ) → ℕ → Type 0
+CanBegin None at = at ≡ 0
+CanBegin (Some bytes) at = at ≤ length bytes
+
+-- The refusals that name no failure come only to a write that fits, and the want of a file only
+-- to one that doesn't make it.
+abbrev pub CanRefuse : DiskError → ℕ → ℕ → Type 0
+CanRefuse Failed at len = Unit {0}
+CanRefuse NoFile at len = (0 < at) × (at + len < 2 ^ 63)
+CanRefuse Short at len = at + len < 2 ^ 63
+CanRefuse Memory at len = at + len < 2 ^ 63
+
+-- what `write_at` answers and leaves
+abbrev pub Writes : {T : Type 0} → State → ℕ → ℕ → List ℕ → Result T DiskError → State → Type 0
+Writes old file at bytes (Ok _) new =
+    CanBegin (seen (old file)) at
+    × (at + length bytes < 2 ^ 63)
+    × Changes old new file (written at bytes (old file))
+Writes old file at bytes (Err e) new =
+    Fails e old file (written at bytes (old file)) new
+    × Refuses e old file at
+    × CanRefuse e at (length bytes)
+
+-- what `cut` answers and leaves
+abbrev pub Cuts : {T : Type 0} → State → ℕ → ℕ → Result T DiskError → State → Type 0
+Cuts old file len (Ok _) new =
+    IsSomeAnd (seen (old file)) (λ bytes. len ≤ length bytes)
+    × Changes old new file (cut_to len (old file))
+Cuts old file len (Err e) new =
+    Fails e old file (cut_to len (old file)) new × Refuses e old file len
+
+-- what `sync` answers and leaves; where it failed, what it was
+abbrev pub Syncs : {T : Type 0} → State → ℕ → Result T DiskError → State → Type 0
+Syncs old file (Ok _) new = IsSome (seen (old file)) × Changes old new file (synced (old file))
+Syncs old file (Err e) new = Fails e old file (old file) new × Refuses e old file 0
+
+-- what `remove` answers and leaves
+abbrev pub Removes : {T : Type 0} → State → ℕ → Result T DiskError → State → Type 0
+Removes old file (Ok _) new = IsSome (seen (old file)) × Changes old new file (removed (old file))
+Removes old file (Err e) new = Fails e old file (removed (old file)) new × Refuses e old file 0

@@ -1,0 +1,11 @@
+-- What a disk in memory holds under one number, as a slot.
+use Rattle.std.specs.Option.{option_map}
+use Rattle.disk.specs.declared.slot.Held.{Held}
+use Rattle.disk.specs.declared.slot.Held.TheVariants as held
+use Rattle.disk.specs.State.{Slot, Absent, Fresh, Kept}
+
+-- the slot that it is
+abbrev pub slot_of : Held → Slot
+slot_of (held.Absent back) = Absent (option_map (λ v. v.items) back)
+slot_of (held.Fresh bytes back) = Fresh bytes.items (option_map (λ v. v.items) back)
+slot_of (held.Kept file) = Kept file.bytes file.kept file.touches

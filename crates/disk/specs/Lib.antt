@@ -1,0 +1,9 @@
+pub mod State
+pub mod Calls
+pub mod Piece
+pub mod Buffer
+pub mod Content
+pub mod File
+pub mod Held
+pub mod Memory
+pub mod Crashes

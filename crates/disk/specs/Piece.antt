@@ -1,0 +1,7 @@
+-- Some bytes of a buffer.
+use Rattle.std.specs.Prelude.{ℕ, List}
+
+-- the bytes from this place on
+pub record Piece : Type 0 where
+  pub at : ℕ
+  pub bytes : List ℕ

@@ -1,0 +1,92 @@
+// The buffer of a file, and the bytes of it that writes have covered.
+ghost use Rattle.std.specs.Prelude.{◌≡◌, ◌≤◌, ◌+◌, [], length, take, drop, OnOk, OnErr, IfOk};
+ghost use Rattle.disk.specs.State.{overwritten};
+ghost use Rattle.disk.specs.Buffer.{uncovered, AllWithin};
+
+use std::alloc::{AllocError, Global};
+use std::marker::Model;
+
+// Bytes of a buffer that a write has covered, by the place where they began.
+#[derive(Debug, Drop)]
+pub struct Covered {
+    at: usize,
+    bytes: Vec<u8>,
+}
+
+impl Model for Covered {
+    ghost use Rattle.disk.specs.Piece.{Piece};
+
+    ghost Value = { Piece };
+
+    ghost view = { λ covered. record { at = covered.at; bytes = covered.bytes.items } };
+}
+
+impl Covered {
+    fn clone(&self) -> Result<Covered, AllocError>
+        ensures { IfOk result (λ covered. covered ≡ self.now) }
+    {
+        Ok(Covered {
+            at: self.at,
+            bytes: self.bytes.clone()?,
+        })
+    }
+}
+
+pub fn clone_all(alloc: Global, covered: &[Covered]) -> Result<Vec<Covered>, AllocError>
+    ensures { IfOk result (λ all. all.items ≡ covered.now) }
+{
+    let mut all = Vec::new(alloc);
+    for one in covered {
+        all.push(one.clone()?)?;
+    }
+    Ok(all)
+}
+
+// What a write of so many bytes covers in the buffer.
+pub fn covered_by(
+    alloc: Global,
+    buffer: &[u8],
+    at: usize,
+    len: usize,
+) -> Result<Covered, AllocError>
+    requires { at ≤ length buffer.now }
+    ensures place { IfOk result (λ covered. covered.at ≡ at) }
+    ensures bytes { IfOk result (λ covered. covered.bytes ≡ take len (drop at buffer.now)) }
+{
+    let behind = &buffer[at..];
+    let bytes = behind[..len.min(behind.len())].to_vec(alloc)?;
+    Ok(Covered { at, bytes })
+}
+
+// Puts bytes over those from a place on, and past their end.
+pub fn overwrite(old: &mut Vec<u8>, at: usize, bytes: &[u8]) -> Result<(), AllocError>
+    requires { at ≤ length old.old.items }
+    ensures ok { OnOk result (old.new.items ≡ overwritten old.old.items at bytes.now) }
+    ensures err { OnErr result (old.new.items ≡ old.old.items) }
+{
+    let inside = bytes.len().min(old.len() - at);
+    old.extend_from_slice(&bytes[inside..])?;
+    put_over(old, at, &bytes[..inside]);
+    Ok(())
+}
+
+// Puts bytes over as many from a place on.
+fn put_over(old: &mut Vec<u8>, at: usize, bytes: &[u8])
+    requires { at + length bytes.now ≤ length old.old.items }
+    ensures { old.new.items ≡ overwritten old.old.items at bytes.now }
+{
+    let place = &mut old.as_mut_slice()[at..at + bytes.len()];
+    place.copy_from_slice(bytes);
+}
+
+// Puts the covered bytes back, the latest first.
+pub fn uncover(buffer: &mut Vec<u8>, covered: &mut Vec<Covered>)
+    requires { AllWithin (length buffer.old.items) covered.old.items }
+    ensures back { buffer.new.items ≡ uncovered buffer.old.items covered.old.items }
+    ensures none { covered.new.items ≡ [] }
+    ensures len { length buffer.new.items ≡ length buffer.old.items }
+{
+    while let Some(one) = covered.pop() {
+        put_over(buffer, one.at, &one.bytes);
+    }
+}

@@ -1,0 +1,25 @@
+// A disk that can be made to fail and to crash.
+ghost use Rattle.std.specs.Prelude.{◌≡◌, ◌↔◌};
+ghost use Rattle.disk.specs.State.{IsSame, MayLeave, contents};
+ghost use Rattle.disk.specs.Crashes.{Crashes};
+
+use crate::{Disk, Fault, Junk};
+
+/// A disk that can be made to fail and to crash.
+pub trait Crash: Disk {
+    /// Readies a fault for the calls to come. It has no effect yet.
+    fn arm(&mut self, fault: Fault)
+        ensures honest { Self.is_honest self.new ↔ Self.is_honest self.old }
+        ensures count { Self.failures self.new ≡ Self.failures self.old }
+        ensures same { Self.is_honest self.old →
+            IsSame (Self.state self.old) (Self.state self.new) };
+
+    /// Stops the machine and starts it again. It takes no memory.
+    fn crash(&mut self, junk: Junk)
+        ensures honest { Self.is_honest self.new ↔ Self.is_honest self.old }
+        ensures count { Self.failures self.new ≡ Self.failures self.old }
+        ensures crashes { Self.is_honest self.old →
+            Crashes junk (Self.state self.old) (Self.state self.new) }
+        ensures allowed { Self.is_honest self.old →
+            MayLeave (Self.state self.old) (contents (Self.state self.new)) };
+}

@@ -1,0 +1,23 @@
+//! A disk as the layers above see it, and one in memory.
+#![tactic(auto)]
+
+mod buffer;
+mod crash;
+mod disk;
+mod error;
+mod fault;
+mod file;
+mod junk;
+pub mod laws;
+mod memory;
+mod slot;
+mod tear;
+mod touch;
+
+pub use crash::Crash;
+pub use disk::Disk;
+pub use error::DiskError;
+pub use fault::Fault;
+pub use junk::{Junk, JunkBytes};
+pub use memory::MemDisk;
+pub use touch::Touch;

@@ -1,0 +1,262 @@
+// A disk in memory.
+ghost use Rattle.std.specs.Prelude.{◌≡◌, ◌≢◌, ℕ, ◌+◌, ◌-◌, ◌^◌, ◌<◌, ◌≤◌, length, min};
+ghost use Rattle.std.specs.Prelude.{IfOk, OnOk, OnErr, Err, Some, None};
+ghost use Rattle.std.specs.BTreeMap.{insert_entry};
+ghost use Rattle.std.specs.Ordering.{nat_cmp};
+ghost use Rattle.disk.specs.State.{IsSame, Absent, seen};
+ghost use Rattle.disk.specs.Calls.{Lists, Writes, Cuts, Syncs, Removes};
+ghost use Rattle.disk.specs.Crashes.{Crashes};
+ghost use Rattle.disk.specs.Memory.{state_of};
+
+use crate::slot::MemSlot;
+use crate::{Crash, Disk, DiskError, Fault, Junk};
+use std::alloc::{AllocError, Global};
+use std::collections::BTreeMap;
+use std::marker::Model;
+
+/// A disk in memory, which can be crashed. It is always honest.
+#[derive(Drop)]
+pub struct MemDisk {
+    alloc: Global,
+    slots: BTreeMap<u64, MemSlot>,
+    failures: u64,
+}
+
+impl Model for MemDisk {
+    ghost use Rattle.disk.specs.Memory.{Slots, state_of, AllAgree};
+
+    ghost Value = { Slots };
+
+    ghost view = { λ disk. record { slots = disk.slots.entries; failures = disk.failures } };
+
+    ghost invariant = { λ disk. AllAgree (state_of disk.slots.entries) };
+}
+
+// The greatest place where a file may end.
+const MAX_LEN: u64 = (1 << 63) - 1;
+
+impl MemDisk {
+    /// A disk with no files.
+    pub fn new(alloc: Global) -> MemDisk
+        ensures empty { (file : ℕ) → state_of result.slots file ≡ Absent None }
+        ensures count { result.failures ≡ 0 }
+    {
+        MemDisk {
+            alloc,
+            slots: BTreeMap::new(alloc),
+            failures: 0,
+        }
+    }
+
+    // At the last value of the count each call fails.
+    fn at_work(&self) -> Result<(), DiskError>
+        ensures ok { OnOk result (self.now.failures < 2 ^ 64 - 1) }
+        ensures last { OnErr result (2 ^ 64 - 1 ≤ self.now.failures) }
+        ensures failed { OnErr result (result ≡ Err DiskError.Failed) }
+    {
+        if self.failures == u64::MAX {
+            return Err(DiskError::Failed);
+        }
+        Ok(())
+    }
+
+    /// A disk with the same slots, and with the same failures behind it.
+    pub fn clone(&self) -> Result<MemDisk, AllocError>
+        ensures same { IfOk result (λ disk.
+            IsSame (state_of self.now.slots) (state_of disk.slots)) }
+        ensures count { IfOk result (λ disk. disk.failures ≡ self.now.failures) }
+    {
+        Ok(MemDisk {
+            alloc: self.alloc,
+            slots: clone_slots(self.alloc, &self.slots)?,
+            failures: self.failures,
+        })
+    }
+}
+
+fn clone_slots(
+    alloc: Global,
+    slots: &BTreeMap<u64, MemSlot>,
+) -> Result<BTreeMap<u64, MemSlot>, AllocError>
+    ensures { IfOk result (λ copy. IsSame (state_of slots.now.entries) (state_of copy.entries)) }
+{
+    let mut copy = BTreeMap::new(alloc);
+    for (number, slot) in slots {
+        put(&mut copy, *number, slot.clone(alloc)?)?;
+    }
+    Ok(copy)
+}
+
+fn put(slots: &mut BTreeMap<u64, MemSlot>, number: u64, slot: MemSlot) -> Result<(), AllocError>
+    ensures { OnOk result (slots.new.entries ≡ insert_entry nat_cmp slots.old.entries number slot) }
+{
+    slots.insert(number, slot)?;
+    Ok(())
+}
+
+fn bytes_of(slots: &BTreeMap<u64, MemSlot>, file: u64) -> Result<&[u8], DiskError>
+    ensures ok { IfOk result (λ bytes. seen (state_of slots.now.entries file) ≡ Some bytes.now) }
+    ensures none { OnErr result (seen (state_of slots.now.entries file) ≡ None) }
+    ensures err { OnErr result (result ≡ Err DiskError.NoFile) }
+{
+    match slots.get(&file) {
+        None => Err(DiskError::NoFile),
+        Some(slot) => slot.bytes().ok_or(DiskError::NoFile),
+    }
+}
+
+fn numbers(alloc: Global, slots: &BTreeMap<u64, MemSlot>) -> Result<Vec<u64>, AllocError>
+    ensures { IfOk result (λ numbers. Lists (state_of slots.now.entries) numbers.items) }
+{
+    let mut numbers = Vec::new(alloc);
+    for (number, slot) in slots {
+        if slot.bytes().is_some() {
+            numbers.push(*number)?;
+        }
+    }
+    Ok(numbers)
+}
+
+fn write_in(
+    alloc: Global,
+    slots: &mut BTreeMap<u64, MemSlot>,
+    file: u64,
+    at: u64,
+    bytes: &[u8],
+) -> Result<(), DiskError>
+    requires { at + length bytes.now < 2 ^ 63 }
+    ensures writes { Writes (state_of slots.old.entries) file at bytes.now result
+        (state_of slots.new.entries) }
+    ensures other { result ≢ Err DiskError.Failed }
+{
+    let Some(slot) = slots.get_mut(&file) else {
+        if at > 0 {
+            return Err(DiskError::NoFile);
+        }
+        slots.insert(file, MemSlot::fresh(bytes.to_vec(alloc)?))?;
+        return Ok(());
+    };
+    let len = match slot.bytes() {
+        None if at > 0 => return Err(DiskError::NoFile),
+        None => 0,
+        Some(old) => old.len() as u64,
+    };
+    if at > len {
+        return Err(DiskError::Short);
+    }
+    slot.write(alloc, at as usize, bytes)?;
+    Ok(())
+}
+
+fn cut_in(slots: &mut BTreeMap<u64, MemSlot>, file: u64, len: u64) -> Result<(), DiskError>
+    ensures cuts { Cuts (state_of slots.old.entries) file len result (state_of slots.new.entries) }
+    ensures other { result ≢ Err DiskError.Failed }
+{
+    let slot = slots.get_mut(&file).ok_or(DiskError::NoFile)?;
+    let old = slot.bytes().ok_or(DiskError::NoFile)?;
+    if len > old.len() as u64 {
+        return Err(DiskError::Short);
+    }
+    slot.cut(len as usize)?;
+    Ok(())
+}
+
+fn sync_in(alloc: Global, slots: &mut BTreeMap<u64, MemSlot>, file: u64) -> Result<(), DiskError>
+    ensures syncs { Syncs (state_of slots.old.entries) file result (state_of slots.new.entries) }
+    ensures other { result ≢ Err DiskError.Failed }
+{
+    let slot = slots.get_mut(&file).ok_or(DiskError::NoFile)?;
+    if slot.bytes().is_none() {
+        return Err(DiskError::NoFile);
+    }
+    slot.sync(alloc);
+    Ok(())
+}
+
+fn remove_in(slots: &mut BTreeMap<u64, MemSlot>, file: u64) -> Result<(), DiskError>
+    ensures removes { Removes (state_of slots.old.entries) file result
+        (state_of slots.new.entries) }
+    ensures other { result ≢ Err DiskError.Failed }
+{
+    let slot = slots.get_mut(&file).ok_or(DiskError::NoFile)?;
+    if slot.bytes().is_none() {
+        return Err(DiskError::NoFile);
+    }
+    slot.remove();
+    Ok(())
+}
+
+impl Disk for MemDisk {
+    ghost is_honest = { λ disk. Unit {0} };
+
+    ghost state = { λ disk. state_of disk.slots };
+
+    ghost failures = { λ disk. disk.failures };
+
+    fn files(&mut self) -> Result<Vec<u64>, DiskError> {
+        self.at_work()?;
+        Ok(numbers(self.alloc, &self.slots)?)
+    }
+
+    fn length(&mut self, file: u64) -> Result<u64, DiskError> {
+        self.at_work()?;
+        Ok(bytes_of(&self.slots, file)?.len() as u64)
+    }
+
+    fn read(&mut self, file: u64, at: u64, into: &mut [u8]) -> Result<(), DiskError> {
+        self.at_work()?;
+        let bytes = bytes_of(&self.slots, file)?;
+        if at > bytes.len() as u64 {
+            return Err(DiskError::Short);
+        }
+        let rest = &bytes[at as usize..];
+        if rest.len() < into.len() {
+            return Err(DiskError::Short);
+        }
+        into.copy_from_slice(&rest[..into.len()]);
+        Ok(())
+    }
+
+    fn write_at(&mut self, file: u64, at: u64, bytes: &[u8]) -> Result<(), DiskError> {
+        self.at_work()?;
+        if at > MAX_LEN || bytes.len() as u64 > MAX_LEN - at {
+            self.failures += 1;
+            return Err(DiskError::Failed);
+        }
+        write_in(self.alloc, &mut self.slots, file, at, bytes)
+    }
+
+    fn cut(&mut self, file: u64, length: u64) -> Result<(), DiskError> {
+        self.at_work()?;
+        cut_in(&mut self.slots, file, length)
+    }
+
+    fn sync(&mut self, file: u64) -> Result<(), DiskError> {
+        self.at_work()?;
+        sync_in(self.alloc, &mut self.slots, file)
+    }
+
+    fn remove(&mut self, file: u64) -> Result<(), DiskError> {
+        self.at_work()?;
+        remove_in(&mut self.slots, file)
+    }
+}
+
+fn crash_in(alloc: Global, slots: &mut BTreeMap<u64, MemSlot>, junk: &Junk)
+    ensures { Crashes junk.now (state_of slots.old.entries) (state_of slots.new.entries) }
+{
+    slots.retain(|_file, slot| {
+        slot.crash(alloc, junk);
+        true
+    });
+    // What is gone is forgotten.
+    slots.retain(|_file, slot| slot.bytes().is_some());
+}
+
+impl Crash for MemDisk {
+    fn arm(&mut self, _fault: Fault) {}
+
+    fn crash(&mut self, junk: Junk) {
+        crash_in(self.alloc, &mut self.slots, &junk);
+    }
+}

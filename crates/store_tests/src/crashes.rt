@@ -1,0 +1,305 @@
+use disk::{Crash, Disk, DiskError, Fault, Junk, JunkBytes, MemDisk};
+use std::alloc::{AllocError, Global};
+use std::test::Fail;
+
+// What is done to a file.
+#[derive(Clone, Copy, Debug, Drop)]
+enum Act {
+    Write(u64, &'static [u8]),
+    Cut(u64),
+    Sync,
+    Remove,
+}
+
+const FILE: u64 = 7;
+
+fn perform<D: Disk>(disk: &mut D, act: Act) -> Result<(), DiskError> {
+    match act {
+        Act::Write(at, bytes) => disk.write_at(FILE, at, bytes),
+        Act::Cut(len) => disk.cut(FILE, len),
+        Act::Sync => disk.sync(FILE),
+        Act::Remove => disk.remove(FILE),
+    }
+}
+
+// A want of memory changes nothing, so the call can be made again.
+fn run<D: Disk>(disk: &mut D, acts: &[Act]) -> Result<(), DiskError> {
+    for one in acts {
+        if let Err(e) = perform(disk, *one) {
+            if e != DiskError::Memory {
+                return Err(e);
+            }
+            perform(disk, *one)?;
+        }
+    }
+    Ok(())
+}
+
+fn content<D: Disk>(alloc: Global, disk: &mut D, file: u64) -> Result<Option<Vec<u8>>, DiskError> {
+    let len = match disk.length(file) {
+        Err(DiskError::NoFile) => return Ok(None),
+        other => other?,
+    };
+    let mut bytes = vec![in alloc; 0u8; len as usize]?;
+    disk.read(file, 0, bytes.as_mut_slice())?;
+    Ok(Some(bytes))
+}
+
+fn junk_of(alloc: Global, bytes: &[u8]) -> Result<Junk, AllocError> {
+    Ok(Junk::Bytes(JunkBytes::new(bytes.to_vec(alloc)?)))
+}
+
+// The content after these acts, a crash, and one more crash, which finds nothing loose.
+fn left(alloc: Global, acts: &[Act], junk: Junk) -> Result<Option<Vec<u8>>, Fail> {
+    let mut disk = MemDisk::new(alloc);
+    run(&mut disk, acts)?;
+    disk.crash(junk);
+    disk.crash(junk_of(alloc, &[0x55])?);
+    disk.crash(Junk::Old);
+    Ok(content(alloc, &mut disk, FILE)?)
+}
+
+const ABC: Act = Act::Write(0, b"abc");
+
+const DE: Act = Act::Write(0, b"de");
+
+// After the acts: what a crash leaves by `Old`, by `New`, and with the junk 1, 2, 3.
+type Row = (
+    &'static [Act],
+    Option<&'static [u8]>,
+    Option<&'static [u8]>,
+    Option<&'static [u8]>,
+);
+
+static ROWS: [Row; 14] = [
+    (&[], None, None, None),
+    // Sure.
+    (&[ABC, Act::Sync], Some(b"abc"), Some(b"abc"), Some(b"abc")),
+    // Never synced: it may be absent, and is loose everywhere.
+    (&[ABC], None, Some(b"abc"), Some(&[1, 2, 3])),
+    (
+        &[ABC, Act::Write(3, b"de")],
+        None,
+        Some(b"abcde"),
+        Some(&[1, 2, 3, 1, 2]),
+    ),
+    // The places written are loose, and those past the synced end.
+    (
+        &[ABC, Act::Sync, Act::Write(1, b"X")],
+        Some(b"abc"),
+        Some(b"aXc"),
+        Some(&[b'a', 1, b'c']),
+    ),
+    (
+        &[ABC, Act::Sync, Act::Write(3, b"de")],
+        Some(b"abc"),
+        Some(b"abcde"),
+        Some(&[b'a', b'b', b'c', 1, 2]),
+    ),
+    (
+        &[
+            Act::Write(0, b"abcd"),
+            Act::Sync,
+            Act::Write(0, b"X"),
+            Act::Write(2, b"YZW"),
+        ],
+        Some(b"abcd"),
+        Some(b"XbYZW"),
+        Some(&[1, b'b', 2, 3, 1]),
+    ),
+    // The places past a cut are loose.
+    (
+        &[ABC, Act::Sync, Act::Cut(1)],
+        Some(b"abc"),
+        Some(b"a"),
+        Some(b"a"),
+    ),
+    (
+        &[ABC, Act::Sync, Act::Cut(1), Act::Write(1, b"xyz")],
+        Some(b"abc"),
+        Some(b"axyz"),
+        Some(&[b'a', 1, 2, 3]),
+    ),
+    (
+        &[ABC, Act::Sync, Act::Cut(1), Act::Sync],
+        Some(b"a"),
+        Some(b"a"),
+        Some(b"a"),
+    ),
+    // A removed file may be back as its last sync left it.
+    (
+        &[ABC, Act::Sync, Act::Write(0, b"X"), Act::Remove],
+        Some(b"abc"),
+        None,
+        None,
+    ),
+    (&[ABC, Act::Remove], None, None, None),
+    // Its number was used again.
+    (
+        &[ABC, Act::Sync, Act::Remove, DE],
+        Some(b"abc"),
+        Some(b"de"),
+        Some(&[1, 2]),
+    ),
+    (
+        &[ABC, Act::Sync, Act::Remove, DE, Act::Sync],
+        Some(b"de"),
+        Some(b"de"),
+        Some(b"de"),
+    ),
+];
+
+#[test]
+fn outcomes_of_a_crash(rt: HostRuntime) -> Result<(), Fail> {
+    let alloc = rt.alloc();
+    for (acts, old, new, torn) in ROWS {
+        let by_old = left(alloc, acts, Junk::Old)?;
+        assert_eq!(rt; by_old.as_deref(), old, "old after {acts:?}");
+        let by_new = left(alloc, acts, Junk::New)?;
+        assert_eq!(rt; by_new.as_deref(), new, "new after {acts:?}");
+        let no_junk = left(alloc, acts, junk_of(alloc, &[])?)?;
+        assert_eq!(rt; no_junk.as_deref(), new, "no junk after {acts:?}");
+        let by_junk = left(alloc, acts, junk_of(alloc, &[1, 2, 3])?)?;
+        assert_eq!(rt; by_junk.as_deref(), torn, "junk after {acts:?}");
+    }
+    Ok(())
+}
+
+// A log of one record, its gate open, and a closed gate: 23 bytes.
+const LOG: &[u8] = &[
+    1, 0, 0, 0, 0x11, 0, 0, 0, 0, 0, 0, 0, 1, 0, 1, 1, 0, 1, 0x61, 0, 1, 0x31, 0,
+];
+
+// The next record behind the closed gate, and a closed gate: 22 bytes.
+const NEXT: &[u8] = &[
+    0, 0, 0, 0x11, 0, 0, 0, 0, 0, 0, 0, 2, 0, 1, 1, 0, 1, 0x61, 0, 1, 0x32, 0,
+];
+
+#[test]
+fn a_log_that_stops_in_an_append(rt: HostRuntime) -> Result<(), Fail> {
+    let alloc = rt.alloc();
+    let acts = [Act::Write(0, LOG), Act::Sync, Act::Write(23, NEXT)];
+    let found = left(alloc, &acts, junk_of(alloc, &[1])?)?;
+    let mut want = LOG[..22].to_vec(alloc)?;
+    want.push(0)?;
+    want.extend_from_slice(&[1; 22])?;
+    assert_eq!(rt; found.as_deref(), Some(want.as_slice()));
+    Ok(())
+}
+
+// Files 2 and 9 were never synced, and file 5 was.
+fn three_files(alloc: Global) -> Result<MemDisk, DiskError> {
+    let mut disk = MemDisk::new(alloc);
+    disk.write_at(9, 0, b"nine!")?;
+    disk.write_at(2, 0, b"two")?;
+    disk.write_at(5, 0, b"five")?;
+    disk.sync(5)?;
+    Ok(disk)
+}
+
+#[test]
+fn each_file_begins_with_the_first_junk(rt: HostRuntime) -> Result<(), Fail> {
+    let alloc = rt.alloc();
+    let mut disk = three_files(alloc)?;
+    assert_eq!(rt; disk.files()?.as_slice(), [2, 5, 9].as_slice());
+    disk.crash(junk_of(alloc, &[6, 7])?);
+    for (file, want) in [
+        (2, [6, 7, 6].as_slice()),
+        (5, b"five"),
+        (9, &[6, 7, 6, 7, 6]),
+    ] {
+        let found = content(alloc, &mut disk, file)?;
+        assert_eq!(rt; found.as_deref(), Some(want), "in {file}");
+    }
+    Ok(())
+}
+
+#[test]
+fn old_leaves_what_was_synced(rt: HostRuntime) -> Result<(), Fail> {
+    let mut disk = three_files(rt.alloc())?;
+    disk.remove(5)?;
+    assert_eq!(rt; disk.files()?.as_slice(), [2, 9].as_slice());
+    disk.arm(Fault::Stop(1, Junk::New));
+    disk.crash(Junk::Old);
+    assert_eq!(rt; disk.files()?.as_slice(), [5].as_slice());
+    Ok(())
+}
+
+#[test]
+fn a_clone_goes_its_own_way(rt: HostRuntime) -> Result<(), Fail> {
+    let alloc = rt.alloc();
+    let mut disk = three_files(alloc)?;
+    disk.write_at(5, 1, b"XYZW")?;
+    let mut copy = disk.clone()?;
+    disk.crash(Junk::New);
+    copy.crash(Junk::Old);
+    let written = content(alloc, &mut disk, 5)?.ok_or("gone")?;
+    let synced = content(alloc, &mut copy, 5)?.ok_or("gone")?;
+    assert_eq!(rt; written.as_slice(), b"fXYZW".as_slice());
+    assert_eq!(rt; synced.as_slice(), b"five".as_slice());
+    Ok(())
+}
+
+// A call.
+#[derive(Clone, Copy, Drop)]
+enum Try {
+    Length(u64),
+    Read(u64, u64, usize),
+    Write(u64, u64),
+    Cut(u64, u64),
+    Sync(u64),
+    Remove(u64),
+}
+
+fn attempt(disk: &mut MemDisk, call: Try) -> Result<(), DiskError> {
+    let mut into = [0; 8];
+    match call {
+        Try::Length(file) => disk.length(file).map(|_| ()),
+        Try::Read(file, at, len) => disk.read(file, at, &mut into[..len.min(8)]),
+        Try::Write(file, at) => disk.write_at(file, at, b"!"),
+        Try::Cut(file, len) => disk.cut(file, len),
+        Try::Sync(file) => disk.sync(file),
+        Try::Remove(file) => disk.remove(file),
+    }
+}
+
+#[test]
+fn refusals(rt: HostRuntime) -> Result<(), Fail> {
+    let mut disk = three_files(rt.alloc())?;
+    let missing = Some(DiskError::NoFile);
+    let short = Some(DiskError::Short);
+    let failed = Some(DiskError::Failed);
+    for (row, (call, want)) in [
+        (Try::Length(1), missing),
+        (Try::Length(5), None),
+        (Try::Read(1, 0, 0), missing),
+        (Try::Read(5, 4, 0), None),
+        (Try::Read(5, 3, 2), short),
+        (Try::Read(5, 5, 0), short),
+        (Try::Write(1, 1), missing),
+        (Try::Write(5, 5), short),
+        (Try::Write(5, 4), None),
+        (Try::Write(5, (1 << 63) - 2), short),
+        (Try::Write(5, (1 << 63) - 1), failed),
+        (Try::Write(1, u64::MAX), failed),
+        (Try::Cut(1, 0), missing),
+        (Try::Cut(5, 6), short),
+        (Try::Cut(5, 5), None),
+        (Try::Sync(1), missing),
+        (Try::Remove(1), missing),
+        (Try::Remove(5), None),
+        (Try::Remove(5), missing),
+        (Try::Write(1, 0), None),
+    ]
+    .into_iter()
+    .enumerate()
+    {
+        let mut answer = attempt(&mut disk, call).err();
+        if answer == Some(DiskError::Memory) {
+            answer = attempt(&mut disk, call).err();
+        }
+        assert_eq!(rt; answer, want, "in row {row}");
+    }
+    assert_eq!(rt; disk.files()?.as_slice(), [1, 2, 9].as_slice());
+    Ok(())
+}
