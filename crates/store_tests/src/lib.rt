@@ -4,4 +4,8 @@
 #[cfg(test)]
 mod batches;
 #[cfg(test)]
+mod calls;
+#[cfg(test)]
 mod crashes;
+#[cfg(test)]
+mod logs;

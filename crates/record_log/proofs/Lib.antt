@@ -1,0 +1,7 @@
+pub mod Fronts
+pub mod First
+pub mod Pushes
+pub mod Ways
+pub mod Appends
+mod Opens
+mod Spans

@@ -1,0 +1,142 @@
+-- Where a record's bytes are.
+use Rattle.std.proofs.Common.{◌≡◌, ℕ, zero, suc, ◌+◌, ◌-◌, ◌^◌, ◌<◌, ◌≤◌, min, List, [], ◌∷◌, ◌++◌}
+use Rattle.std.proofs.Common.{length, take, drop, Some, Result, Ok, Err, Vec, Global}
+use Rattle.std.proofs.Common.{refl, sym, ap, subst, ◌∙◌, inl, inr, append_assoc, length-append}
+use Rattle.std.proofs.Common.{arith}
+use Rattle.std.specs.Prelude.{IsSomeAnd, IsNone, IfOk, IfErr, MatchResult, slice_get}
+use Rattle.std.specs.Prelude.{slice_index_or, ◌⊎◌}
+use Rattle.std.specs.Int.{w32, to_be_bytes}
+use Rattle.std.proofs.lemmas.List.{take_at, drop_at, drop-drop, length-drop}
+use Rattle.disk.specs.declared.error.DiskError.TheVariants as disk'
+use Rattle.disk.specs.State.{State, Slot, seen}
+use Rattle.record_log.specs.declared.log.Log.{Log}
+use Rattle.record_log.specs.declared.error.LogError.{LogError}
+use Rattle.record_log.specs.declared.error.LogError.TheVariants as log'
+use Rattle.record_log.specs.Grammar.{StandsFor, entry, ends_from}
+use Rattle.record_log.specs.Stands.{Holds, IsOfMachine, IsOwn, IsPart, DeclinesBytes}
+
+-- record number i of those that begin at a place: its bytes, and what stands around them
+pub record Span (bytes : List ℕ) (at : ℕ) (records : List (List ℕ)) (i : ℕ) : Type 0 where
+  pub one : List ℕ
+  pub front : List ℕ
+  pub rest : List ℕ
+  pub is : slice_get records i ≡ Some one
+  pub parts : bytes ≡ front ++ (one ++ rest)
+  pub begin : at + length front ≡ slice_index_or (at ∷ ends_from at records) i 0 + 5
+  pub end : slice_index_or (ends_from at records) i 0 ≡ at + length front + length one
+
+-- each record has its bytes in their place
+pub span_of : (bytes : List ℕ) (at : ℕ) (records : List (List ℕ)) (i : ℕ) →
+    StandsFor bytes records → i < length records → Span bytes at records i
+span_of bytes at [] i s within = absurd (omega (arith, within))
+span_of bytes at (first ∷ others) zero s within =
+    let head = 1 ∷ to_be_bytes w32 (length first) in
+    record {
+      one = first;
+      front = head;
+      rest = s.0;
+      is = refl;
+      parts = s.2 ∙ append_assoc head first s.0;
+      begin = refl;
+      end = refl;
+    }
+span_of bytes at (first ∷ others) (suc i) s within =
+    let below = span_of s.0 (at + 5 + length first) others i s.3 (omega arith) in
+    let size = length-append (entry first) below.front in
+    record {
+      one = below.one;
+      front = entry first ++ below.front;
+      rest = below.rest;
+      is = below.is;
+      parts =
+          s.2 ∙ ap (λ (b : List ℕ). entry first ++ b) below.parts
+          ∙ sym (append_assoc (entry first) below.front (below.one ++ below.rest));
+      begin = omega (arith, below.begin, size);
+      end = omega (arith, below.end, size);
+    }
+
+-- there are as many ends as records
+length-ends : (at : ℕ) (records : List (List ℕ)) → length (ends_from at records) ≡ length records
+length-ends at [] = refl
+length-ends at (first ∷ others) = ap suc (length-ends (at + 5 + length first) others)
+
+-- The place and the length that the code takes for a record's bytes are those of the record.
+module _ (disk : State) (log : Log) (records : List (List ℕ)) (i begin len at : ℕ)
+    (h : Holds disk log records) (within : i < length log.ends.items)
+    (begin_is : begin ≡ min (slice_index_or (0 ∷ log.ends.items) i 0 + 5) (2 ^ 64 - 1))
+    (len_is : len ≡ slice_index_or log.ends.items i 0 - begin)
+    (at_is : at ≡ min (log.start + begin) (2 ^ 64 - 1)) where
+  span : Span (drop log.start h.bytes) 0 records i
+  span =
+      span_of (drop log.start h.bytes) 0 records i h.stands
+      (omega (arith, within, ap length h.ends, length-ends 0 records))
+
+  -- where the record's bytes begin and end, in the file
+  record Place : Type 0 where
+    pub front : length span.front ≡ begin
+    pub size : length span.one ≡ len
+    pub start : log.start + begin ≡ at
+    pub fits : at + len ≤ length h.bytes
+
+  -- it is where the code looks
+  place : Place
+  place =
+      let s = span in
+      let before = ap (λ (e : List ℕ). slice_index_or (0 ∷ e) i 0) h.ends in
+      let behind = ap (λ (e : List ℕ). slice_index_or e i 0) h.ends in
+      let begins = s.begin in
+      let ends = s.end in
+      let size : length (drop log.start h.bytes) ≡ length s.front + (length s.one + length s.rest) =
+      ap length s.parts ∙ length-append s.front (s.one ++ s.rest)
+      ∙ ap (λ (k : ℕ). length s.front + k) (length-append s.one s.rest) in
+      let cut = length-drop log.start h.bytes in
+      let front : length s.front ≡ begin =
+      omega (arith, begins, before, begin_is, size, cut, h.fits) in
+      let one : length s.one ≡ len = omega (arith, len_is, ends, behind, front) in
+      let start : log.start + begin ≡ at =
+      omega (arith, at_is, front, size, cut, h.fits, h.start) in
+      record {
+        front = front;
+        size = one;
+        start = start;
+        fits = omega (arith, size, cut, front, one, start, h.start);
+      }
+
+  -- what is read there is the record
+  pub given : (part : List ℕ) → IsPart disk log.file at len part → slice_get records i ≡ Some part
+  given part read =
+      let s = span in
+      let p = place in
+      let P : List ℕ → Type 0 = λ it. (at + len ≤ length it) × (part ≡ take len (drop at it)) in
+      let parts : P h.bytes = subst (λ (slot : Slot). IsSomeAnd (seen slot) P) h.sure read in
+      let moved : drop at h.bytes ≡ s.one ++ s.rest =
+      ap (λ (k : ℕ). drop k h.bytes) (sym p.start) ∙ sym (drop-drop begin log.start h.bytes)
+      ∙ ap (drop begin) s.parts ∙ drop_at s.front (s.one ++ s.rest) begin p.front in
+      s.is ∙ ap Some (sym (parts.1 ∙ ap (take len) moved ∙ take_at s.one s.rest len p.size))
+
+  -- a record that a log has is there to be read
+  pub there : (e : LogError) → DeclinesBytes e (seen (disk log.file)) (at + len) → (IsOwn e → ⊥) →
+      IsOfMachine e ⊎ (e ≡ log'.Failed)
+  there (log'.Disk disk'.Failed) why own = inl (inl refl)
+  there (log'.Disk disk'.NoFile) why own =
+      let gone : IsNone (Some h.bytes) = subst (λ (slot : Slot). IsNone (seen slot)) h.sure why in
+      absurd cc
+  there (log'.Disk disk'.Short) why own =
+      let p = place in
+      let P : List ℕ → Type 0 = λ it. length it < at + len in
+      let short : P h.bytes = subst (λ (slot : Slot). IsSomeAnd (seen slot) P) h.sure why in
+      absurd (omega (arith, short, p.fits))
+  there (log'.Disk disk'.Memory) why own = absurd why
+  there log'.Memory why own = inl (inr refl)
+  there log'.TooLong why own = absurd (own (inl refl))
+  there log'.Failed why own = inr refl
+
+  -- so what the read answers is what is promised of the record
+  pub answers : (result : Result (Vec ℕ Global) LogError)
+      → IfOk result (λ v. IsPart disk log.file at len v.items)
+      → IfErr result (λ e. DeclinesBytes e (seen (disk log.file)) (at + len))
+      → IfErr result (λ e. IsOwn e → ⊥)
+      → MatchResult result (λ v. slice_get records i ≡ Some v.items)
+      (λ e. IsOfMachine e ⊎ (e ≡ log'.Failed))
+  answers (Ok v) read why own = given v.items read
+  answers (Err e) read why own = there e why own

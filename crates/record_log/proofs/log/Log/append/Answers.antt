@@ -1,0 +1,91 @@
+use Rattle.std.proofs.Common.{◌≡◌, ◌++◌, ◌∷◌, [], false, refl, ◌∙◌, arith}
+use Rattle.std.proofs.lemmas.Result.{err_from_is_err_and}
+use Rattle.record_log.specs.declared.log.Log.{Log}
+use Rattle.record_log.proofs.Appends.{unchanged, is_met, gate_within, crashed}
+use Rattle.record_log.proofs.Appends.{spelled, appended}
+use Rattle.record_log.proofs.log.Log.append.Goals as goal
+
+-- ---- what a crash leaves; before the four calls nothing was done
+
+pub returns-then-self-clause-crash : goal.returns-then-self-clause-crash
+returns-then-self-clause-crash g c = λ records honest h.
+    unchanged _ c.args.self.now records c.args.bytes.now h
+
+pub returns-then-bytes-gt-MAX_RECORD-clause-crash :
+    goal.returns-then-bytes-gt-MAX_RECORD-clause-crash
+returns-then-bytes-gt-MAX_RECORD-clause-crash g c = λ records honest h.
+    unchanged _ c.args.self.now records c.args.bytes.now h
+
+pub returns-in_err-behind-clause-crash : goal.returns-in_err-behind-clause-crash
+returns-in_err-behind-clause-crash g c = λ records honest h.
+    unchanged _ c.args.self.now records c.args.bytes.now h
+
+pub returns-in_err-reserve-clause-crash : goal.returns-in_err-reserve-clause-crash
+returns-in_err-reserve-clause-crash g c = λ records honest h.
+    unchanged _ c.args.self.now records c.args.bytes.now h
+
+-- on the way a crash leaves the record or not
+pub returns-in_err-push-clause-crash : goal.returns-in_err-push-clause-crash
+returns-in_err-push-clause-crash g c = λ records honest h.
+    let old = g.D.Disk.state c.args.disk.now in
+    let new = g.D.Disk.state c.push.new.disk in
+    let behind = c.deref.ensures.value ∙ c.in_ok-behind.ensures in
+    crashed old c.args.self.now records c.args.bytes.now c.gate.result h (omega arith)
+    c.gate.ensures.gate new c.deref.result.now behind (λ bytes. c.push.ensures.crash bytes honest)
+
+-- and so it does at the end
+pub returns-clause-crash : goal.returns-clause-crash
+returns-clause-crash g c = λ records honest h.
+    let old = g.D.Disk.state c.args.disk.now in
+    let new = g.D.Disk.state c.push.new.disk in
+    let behind = c.deref.ensures.value ∙ c.in_ok-behind.ensures in
+    crashed old c.args.self.now records c.args.bytes.now c.gate.result h (omega arith)
+    c.gate.ensures.gate new c.deref.result.now behind (λ bytes. c.push.ensures.crash bytes honest)
+
+-- ---- what it answers
+
+-- the device's failure and want of memory are all that the four calls meet
+pub returns-in_err-push-clause-appended : goal.returns-in_err-push-clause-appended
+returns-in_err-push-clause-appended g c = λ records honest h.
+    let old = g.D.Disk.state c.args.disk.now in
+    let within =
+    gate_within old c.args.self.now records c.args.bytes.now c.gate.result h (omega arith)
+    c.gate.ensures.gate in
+    let why = c.in_err-push.ensures.refused h.bytes honest h.sure within in
+    let p = err_from_is_err_and c.from_residual-in_err-push.result
+    c.from_residual-in_err-push.ensures.1 in
+    rw (p.1, p.2) (is_met c.in_err-push.field-0.0 why)
+
+-- the bytes up to the gate stay, and behind it stand those of the record
+pub returns-clause-spelled : goal.returns-clause-spelled
+returns-clause-spelled g c = λ records honest h.
+    let old = g.D.Disk.state c.args.disk.now in
+    let new = g.D.Disk.state c.push.new.disk in
+    let behind = c.deref.ensures.value ∙ c.in_ok-behind.ensures in
+    spelled old c.args.self.now records c.args.bytes.now c.gate.result h (omega arith)
+    c.gate.ensures.gate new c.deref.result.now behind
+    (λ bytes sure within. (c.in_ok-push.ensures.done bytes honest sure within).0)
+
+-- the record is one more, and the log knows where it ends
+pub returns-clause-appended : goal.returns-clause-appended
+returns-clause-appended g c = λ records honest h.
+    let log = c.args.self.now in
+    let one = c.args.bytes.now in
+    let old = g.D.Disk.state c.args.disk.now in
+    let within =
+    gate_within old log records one c.gate.result h (omega arith) c.gate.ensures.gate in
+    let behind = c.deref.ensures.value ∙ c.in_ok-behind.ensures in
+    let end = c.saturating_add-self.result in
+    let after : Log = record {
+      file = log.file;
+      start = log.start;
+      ends = c.push_reserved.new.self;
+      end = end;
+      has_failed = false;
+    } in
+    let ends : c.push_reserved.new.self.items ≡ log.ends.items ++ end ∷ [] =
+    rw (c.push_reserved.ensures.items, c.reserve.ensures.items) refl in
+    appended old log records one c.gate.result h (omega arith) c.gate.ensures.gate
+    (g.D.Disk.state c.push.new.disk) after c.deref.result.now c.saturating_add.result behind
+    (c.in_ok-push.ensures.done h.bytes honest h.sure within) refl refl c.saturating_add.ensures
+    c.saturating_add-self.ensures ends

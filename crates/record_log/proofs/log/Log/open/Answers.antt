@@ -1,0 +1,43 @@
+use Rattle.std.proofs.Common.{ℕ, List, false, refl, sym, subst}
+use Rattle.std.proofs.lemmas.Result.{err_from_is_err_and}
+use Rattle.disk.specs.State.{seen}
+use Rattle.record_log.specs.declared.log.Log.{Log}
+use Rattle.record_log.specs.Stands.{IsRest}
+use Rattle.record_log.proofs.Opens.{declines_bytes, declined, holds_them}
+use Rattle.record_log.proofs.log.Log.open.Goals as goal
+
+-- what is no bytes from that place on is no log
+pub returns-in_err-bytes-clause-told : goal.returns-in_err-bytes-clause-told
+returns-in_err-bytes-clause-told g c = λ honest.
+    let p = err_from_is_err_and c.from_residual.result c.from_residual.ensures.1 in
+    let bytes = seen (g.D.Disk.state c.args.disk.now c.args.file) in
+    let why = c.in_err-bytes.ensures.refused honest in
+    rw (p.1, p.2) (declines_bytes c.in_err-bytes.field-0.0 bytes c.args.start why)
+
+-- so a file that stands for records is refused for the machine's sake alone
+pub returns-in_err-bytes-clause-opened : goal.returns-in_err-bytes-clause-opened
+returns-in_err-bytes-clause-opened g c = λ records honest stood.
+    let p = err_from_is_err_and c.from_residual.result c.from_residual.ensures.1 in
+    let bytes = seen (g.D.Disk.state c.args.disk.now c.args.file) in
+    let why = declines_bytes c.in_err-bytes.field-0.0 bytes c.args.start
+    (c.in_err-bytes.ensures.refused honest) in
+    rw (p.1, p.2) (declined c.in_err-bytes.field-0.0 bytes c.args.start records why stood)
+
+-- what the scan found are the file's records
+pub returns-clause-opened : goal.returns-clause-opened
+returns-clause-opened g c = λ records honest stood.
+    let found = c.in_ok-ends.ensures.found in
+    let old = g.D.Disk.state c.args.disk.now in
+    let new = g.D.Disk.state c.synced_from.new.disk in
+    let log : Log = record {
+      file = c.args.file;
+      start = c.args.start;
+      ends = c.in_ok-ends.ends;
+      end = c.in_ok-ends.end;
+      has_failed = false;
+    } in
+    let rest =
+    subst (λ (b : List ℕ). IsRest old c.args.file c.args.start new b) (sym c.deref.ensures.value)
+    (c.in_ok-bytes.ensures.read honest) in
+    holds_them old new c.args.file c.args.start c.deref.result.now log found.0 records rest found.1
+    refl refl found.2 found.3 stood

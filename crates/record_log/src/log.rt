@@ -1,0 +1,250 @@
+ghost use Rattle.std.specs.Prelude.{◌≡◌, ◌≢◌, ◌↔◌, ◌⊎◌, ℕ, ◌+◌, ◌<◌, ◌≤◌, ◌^◌, ◌-◌, min, List, []};
+ghost use Rattle.std.specs.Prelude.{◌∷◌, ◌++◌, length, slice_get, slice_index_or, Some, IfOk};
+ghost use Rattle.std.specs.Prelude.{IfErr, IsNone, IsErrOf, IsTrue, OnOk, MatchResult};
+ghost use Rattle.disk.specs.State.{seen, IsSame, Leaves};
+ghost use Rattle.record_log.specs.Error.{Keeps};
+ghost use Rattle.record_log.specs.Push.{IsSureOf, LeavesAt, behind_of, pushed};
+ghost use Rattle.record_log.specs.Stands.{Holds, HasRecords, IsAt, IsPart, IsRest, DeclinesBytes};
+ghost use Rattle.record_log.specs.Stands.{OpensOrDeclines, Tells, IsMet, IsOfMachine, IsOwn};
+ghost use Rattle.record_log.specs.Stands.{IsOldOrNew, IsInPlace, file_of, start_of, count_of};
+ghost use Rattle.record_log.specs.Stands.{gate_of, HasFailed};
+
+use crate::LogError;
+use crate::push::push;
+use crate::scan::scan;
+use disk::{Disk, DiskError};
+use std::alloc::{AllocError, Global};
+
+/// The greatest length of a record.
+pub const MAX_RECORD: usize = 16_777_216;
+
+/// A list of records in a file, from a place of the file on. It knows where each record ends, and
+/// keeps none of their bytes. The disk is lent to it at each call.
+#[derive(Debug, Drop)]
+pub struct Log {
+    file: u64,
+    start: u64,
+    // Behind each record, counted from the start.
+    ends: Vec<usize>,
+    // Behind the last.
+    end: usize,
+    has_failed: bool,
+}
+
+// What is put behind the closed gate: the length, the record, and a closed gate.
+fn bytes_behind(alloc: Global, bytes: &[u8]) -> Result<Vec<u8>, AllocError>
+    requires { length bytes.now < 2 ^ 32 }
+    ensures { IfOk result (λ v. v.items ≡ behind_of bytes.now) }
+{
+    let mut out = Vec::new(alloc);
+    out.extend_from_slice(&(bytes.len() as u32).to_be_bytes())?;
+    out.extend_from_slice(bytes)?;
+    out.push(0)?;
+    Ok(out)
+}
+
+// So many bytes of a file from a place on.
+fn bytes_at<D: Disk>(
+    alloc: Global,
+    disk: &mut D,
+    file: u64,
+    at: u64,
+    len: usize,
+) -> Result<Vec<u8>, LogError>
+    ensures keeps { Keeps (D.is_honest disk.old) (D.is_honest disk.new)
+        (D.failures disk.old) (D.failures disk.new) result }
+    ensures read { D.is_honest disk.old →
+        IfOk result (λ bytes. IsPart (D.state disk.old) file at len bytes.items) }
+    ensures refused { D.is_honest disk.old →
+        IfErr result (λ e. DeclinesBytes e (seen (D.state disk.old file)) (at + len)) }
+    ensures not_own { IfErr result (λ e. IsOwn e → ⊥) }
+    ensures same { D.is_honest disk.old → IsSame (D.state disk.old) (D.state disk.new) }
+{
+    let mut bytes = vec![in alloc; 0u8; len]?;
+    disk.read(file, at, &mut bytes)?;
+    Ok(bytes)
+}
+
+// The bytes of a file from a place on, when they are on the disk.
+fn synced_from<D: Disk>(
+    alloc: Global,
+    disk: &mut D,
+    file: u64,
+    start: u64,
+) -> Result<Vec<u8>, LogError>
+    ensures keeps { Keeps (D.is_honest disk.old) (D.is_honest disk.new)
+        (D.failures disk.old) (D.failures disk.new) result }
+    ensures read { D.is_honest disk.old →
+        IfOk result (λ bytes. IsRest (D.state disk.old) file start (D.state disk.new) bytes.items) }
+    ensures refused { D.is_honest disk.old →
+        IfErr result (λ e. DeclinesBytes e (seen (D.state disk.old file)) start) }
+    ensures crash { D.is_honest disk.old → (left : _) → Leaves (D.state disk.new file) left →
+        Leaves (D.state disk.old file) left }
+    ensures others { (other : ℕ) → D.is_honest disk.old → other ≢ file →
+        D.state disk.new other ≡ D.state disk.old other }
+{
+    disk.sync(file)?;
+    let length = disk.length(file)?;
+    if length < start {
+        return Err(LogError::Disk(DiskError::Short));
+    }
+    bytes_at(alloc, disk, file, start, (length - start) as usize)
+}
+
+impl Log {
+    /// The log of a file that is not there yet: a closed gate. Two device calls: write, sync.
+    /// A refusal may leave the file.
+    pub fn create<D: Disk>(alloc: Global, disk: &mut D, file: u64) -> Result<Log, LogError>
+        ensures keeps { Keeps (D.is_honest disk.old) (D.is_honest disk.new)
+            (D.failures disk.old) (D.failures disk.new) result }
+        ensures created { D.is_honest disk.old → IsNone (seen (D.state disk.old file)) →
+            MatchResult result (λ log. Holds (D.state disk.new) log []) IsOfMachine }
+        ensures spelled { D.is_honest disk.old → IsNone (seen (D.state disk.old file)) →
+            OnOk result (IsSureOf (D.state disk.new) file (0 ∷ [])) }
+        ensures at { IfOk result (IsAt file 0) }
+        ensures others { (other : ℕ) → D.is_honest disk.old → other ≢ file →
+            D.state disk.new other ≡ D.state disk.old other }
+    {
+        disk.write_at(file, 0, &[0])?;
+        disk.sync(file)?;
+        Ok(Log {
+            file,
+            start: 0,
+            ends: Vec::new(alloc),
+            end: 0,
+            has_failed: false,
+        })
+    }
+
+    /// The log that a file has from a place on. The file is synced before it is read.
+    pub fn open<D: Disk>(
+        alloc: Global,
+        disk: &mut D,
+        file: u64,
+        start: u64,
+    ) -> Result<Log, LogError>
+        ensures keeps { Keeps (D.is_honest disk.old) (D.is_honest disk.new)
+            (D.failures disk.old) (D.failures disk.new) result }
+        ensures at { IfOk result (IsAt file start) }
+        ensures told { D.is_honest disk.old →
+            OpensOrDeclines (D.state disk.old) file start result (D.state disk.new) }
+        ensures opened { (records : List (List ℕ)) → D.is_honest disk.old →
+            HasRecords (D.state disk.old) file start records →
+            MatchResult result (λ log. Holds (D.state disk.new) log records) IsOfMachine }
+
+        // A crash leaves nothing that it could not have left before.
+        ensures crash { D.is_honest disk.old → (left : _) → Leaves (D.state disk.new file) left →
+            Leaves (D.state disk.old file) left }
+        ensures others { (other : ℕ) → D.is_honest disk.old → other ≢ file →
+            D.state disk.new other ≡ D.state disk.old other }
+    {
+        let bytes = synced_from(alloc, disk, file, start)?;
+        let (ends, end) = scan(alloc, &bytes)?;
+        Ok(Log {
+            file,
+            start,
+            ends,
+            end,
+            has_failed: false,
+        })
+    }
+
+    /// How many records the log has. Of a log that failed, how many it had.
+    pub fn len(&self) -> usize
+        ensures { result ≡ count_of self.now }
+    {
+        self.ends.len()
+    }
+
+    // The place of the closed gate, where that is no place past all.
+    fn gate(&self) -> u64
+        ensures below { result + 1 < 2 ^ 64 }
+        ensures gate { self.now.start + self.now.end + 1 < 2 ^ 64 →
+            result ≡ self.now.start + self.now.end }
+    {
+        self.start.saturating_add(self.end as u64).min(u64::MAX - 1)
+    }
+
+    // Where the bytes of a record begin, counted from the start, and how many there are.
+    fn span(&self, index: usize) -> (usize, usize)
+        requires { index < length self.now.ends.items }
+        ensures begin { result.0 ≡
+            min (slice_index_or (0 ∷ self.now.ends.items) index 0 + 5) usize.MAX }
+        ensures len { result.1 ≡ slice_index_or self.now.ends.items index 0 - result.0 }
+    {
+        let before = if index == 0 { 0 } else { self.ends[index - 1] };
+        let begin = before.saturating_add(5);
+        (begin, self.ends[index].saturating_sub(begin))
+    }
+
+    /// Adds a record. Four device calls: it writes the record behind the closed gate, syncs, opens
+    /// the gate, and syncs.
+    pub fn append<D: Disk>(
+        &mut self,
+        alloc: Global,
+        disk: &mut D,
+        bytes: &[u8],
+    ) -> Result<(), LogError>
+        ensures keeps { Keeps (D.is_honest disk.old) (D.is_honest disk.new)
+            (D.failures disk.old) (D.failures disk.new) result }
+        ensures told { IsInPlace self.old self.new
+            × Tells MAX_RECORD result self.old self.new bytes.now }
+        ensures untouched { IfErr result (λ e. IsOwn e → disk.new ≡ disk.old) }
+        ensures appended { (records : List (List ℕ)) → D.is_honest disk.old →
+            Holds (D.state disk.old) self.old records →
+            MatchResult result
+            (λ _. Holds (D.state disk.new) self.new (records ++ bytes.now ∷ [])) IsMet }
+        ensures spelled { (records : List (List ℕ)) → D.is_honest disk.old →
+            (held : Holds (D.state disk.old) self.old records) →
+            OnOk result (IsSureOf (D.state disk.new) (file_of self.old)
+            (pushed held.bytes (gate_of self.old) (behind_of bytes.now))) }
+
+        // A crash now, whatever the answer, leaves the old records, with the new one or without.
+        ensures crash { (records : List (List ℕ)) → D.is_honest disk.old →
+            Holds (D.state disk.old) self.old records →
+            LeavesAt (D.state disk.new) (file_of self.old)
+            (IsOldOrNew (start_of self.old) records bytes.now) }
+        ensures others { (other : ℕ) → D.is_honest disk.old → other ≢ file_of self.old →
+            D.state disk.new other ≡ D.state disk.old other }
+    {
+        if self.has_failed {
+            return Err(LogError::Failed);
+        }
+        if bytes.len() > MAX_RECORD {
+            return Err(LogError::TooLong);
+        }
+        self.has_failed = true;
+        let behind = bytes_behind(alloc, bytes)?;
+        self.ends.reserve(1)?;
+        push(disk, self.file, self.gate(), &behind)?;
+        self.end = self.end.saturating_add(5).saturating_add(bytes.len());
+        self.ends.push_reserved(self.end);
+        self.has_failed = false;
+        Ok(())
+    }
+
+    /// The record at an index, from 0. It is read from the disk.
+    pub fn record<D: Disk>(
+        &self,
+        alloc: Global,
+        disk: &mut D,
+        index: usize,
+    ) -> Result<Vec<u8>, LogError>
+        requires { index < count_of self.now }
+        ensures keeps { Keeps (D.is_honest disk.old) (D.is_honest disk.new)
+            (D.failures disk.old) (D.failures disk.new) result }
+        ensures failed { IsErrOf result LogError.Failed ↔ HasFailed self.now }
+        ensures given { (records : List (List ℕ)) → D.is_honest disk.old →
+            Holds (D.state disk.old) self.now records →
+            MatchResult result (λ bytes. slice_get records index ≡ Some bytes.items)
+            (λ e. IsOfMachine e ⊎ (e ≡ LogError.Failed)) }
+        ensures same { D.is_honest disk.old → IsSame (D.state disk.old) (D.state disk.new) }
+    {
+        if self.has_failed {
+            return Err(LogError::Failed);
+        }
+        let (begin, len) = self.span(index);
+        let at = self.start.saturating_add(begin as u64);
+        bytes_at(alloc, disk, self.file, at, len)
+    }
+}

@@ -1,0 +1,108 @@
+// The calls that a log makes of its disk, in their order.
+ghost use Rattle.std.specs.Prelude.{None};
+ghost use Rattle.disk.specs.State.{Absent};
+
+use disk::{Disk, DiskError, MemDisk};
+use record_log::Log;
+use std::alloc::Global;
+use std::test::Fail;
+
+#[derive(Clone, Copy, Debug, PartialEq, Eq)]
+enum Called {
+    Write,
+    Sync,
+    Read,
+    Other,
+}
+
+// A disk in memory that notes its first calls. It claims nothing of what it does.
+#[derive(Drop)]
+struct NotingDisk {
+    disk: MemDisk,
+    calls: [Called; 8],
+    count: usize,
+}
+
+impl NotingDisk {
+    fn new(alloc: Global) -> NotingDisk {
+        NotingDisk {
+            disk: MemDisk::new(alloc),
+            calls: [Called::Other; 8],
+            count: 0,
+        }
+    }
+
+    // The calls since the last time that this was asked.
+    fn taken(&mut self) -> &[Called] {
+        let count = self.count.min(8);
+        self.count = 0;
+        &self.calls[..count]
+    }
+}
+
+fn note(calls: &mut [Called; 8], count: &mut usize, call: Called) {
+    if *count < 8 {
+        calls[*count] = call;
+    }
+    *count = count.saturating_add(1);
+}
+
+impl Disk for NotingDisk {
+    ghost is_honest = { λ disk. ⊥ };
+
+    ghost state = { λ disk file. Absent None };
+
+    ghost failures = { λ disk. disk.disk.failures };
+
+    fn files(&mut self) -> Result<Vec<u64>, DiskError> {
+        note(&mut self.calls, &mut self.count, Called::Other);
+        self.disk.files()
+    }
+
+    fn length(&mut self, file: u64) -> Result<u64, DiskError> {
+        note(&mut self.calls, &mut self.count, Called::Other);
+        self.disk.length(file)
+    }
+
+    fn read(&mut self, file: u64, at: u64, into: &mut [u8]) -> Result<(), DiskError> {
+        note(&mut self.calls, &mut self.count, Called::Read);
+        self.disk.read(file, at, into)
+    }
+
+    fn write_at(&mut self, file: u64, at: u64, bytes: &[u8]) -> Result<(), DiskError> {
+        note(&mut self.calls, &mut self.count, Called::Write);
+        self.disk.write_at(file, at, bytes)
+    }
+
+    fn cut(&mut self, file: u64, length: u64) -> Result<(), DiskError> {
+        note(&mut self.calls, &mut self.count, Called::Other);
+        self.disk.cut(file, length)
+    }
+
+    fn sync(&mut self, file: u64) -> Result<(), DiskError> {
+        note(&mut self.calls, &mut self.count, Called::Sync);
+        self.disk.sync(file)
+    }
+
+    fn remove(&mut self, file: u64) -> Result<(), DiskError> {
+        note(&mut self.calls, &mut self.count, Called::Other);
+        self.disk.remove(file)
+    }
+}
+
+#[test]
+fn a_log_makes_its_calls_in_their_order(rt: HostRuntime) -> Result<(), Fail> {
+    let mut disk = NotingDisk::new(rt.alloc());
+    let mut log = Log::create(rt.alloc(), &mut disk, 3)?;
+    assert_eq!(rt; disk.taken(), [Called::Write, Called::Sync].as_slice());
+    log.append(rt.alloc(), &mut disk, b"one")?;
+    let appended = [Called::Write, Called::Sync, Called::Write, Called::Sync];
+    assert_eq!(rt; disk.taken(), appended.as_slice());
+    log.append(rt.alloc(), &mut disk, b"")?;
+    assert_eq!(rt; disk.taken(), appended.as_slice());
+    let _opened = Log::open(rt.alloc(), &mut disk, 3, 0)?;
+    let calls = disk.taken();
+    assert!(rt; calls.first() == Some(&Called::Sync));
+    assert!(rt; !calls[1..].contains(&Called::Write));
+    Ok(())
+}

@@ -1,0 +1,305 @@
+use disk::{Crash, Disk, DiskError, Junk, JunkBytes, MemDisk};
+use record_log::{Log, LogError};
+use std::alloc::Global;
+use std::test::Fail;
+
+const FILE: u64 = 3;
+
+// The number 1 and the batch that puts 1 at a.
+const FIRST: &[u8] = &[0, 0, 0, 0, 0, 0, 0, 1, 0, 1, 1, 0, 1, b'a', 0, 1, b'1'];
+
+// The number 2 and the batch that puts 2 at a.
+const SECOND: &[u8] = &[0, 0, 0, 0, 0, 0, 0, 2, 0, 1, 1, 0, 1, b'a', 0, 1, b'2'];
+
+// The log of the first: an open gate, the length, the record, and a closed gate.
+const LOG: &[u8] = &[
+    1, 0, 0, 0, 0x11, 0, 0, 0, 0, 0, 0, 0, 1, 0, 1, 1, 0, 1, b'a', 0, 1, b'1', 0,
+];
+
+// What an append of the second writes behind that gate.
+const BEHIND: &[u8] = &[
+    0, 0, 0, 0x11, 0, 0, 0, 0, 0, 0, 0, 2, 0, 1, 1, 0, 1, b'a', 0, 1, b'2', 0,
+];
+
+// The log of both.
+const BOTH: &[u8] = &[
+    1, 0, 0, 0, 0x11, 0, 0, 0, 0, 0, 0, 0, 1, 0, 1, 1, 0, 1, b'a', 0, 1, b'1', 1, 0, 0, 0, 0x11, 0,
+    0, 0, 0, 0, 0, 0, 2, 0, 1, 1, 0, 1, b'a', 0, 1, b'2', 0,
+];
+
+fn content(alloc: Global, disk: &mut MemDisk) -> Result<Vec<u8>, DiskError> {
+    let len = disk.length(FILE)?;
+    let mut bytes = vec![in alloc; 0u8; len as usize]?;
+    disk.read(FILE, 0, bytes.as_mut_slice())?;
+    Ok(bytes)
+}
+
+fn log_of(alloc: Global, disk: &mut MemDisk, records: &[&[u8]]) -> Result<Log, LogError> {
+    let mut log = Log::create(alloc, disk, FILE)?;
+    for one in records {
+        log.append(alloc, disk, one)?;
+    }
+    Ok(log)
+}
+
+// A disk with this file, synced.
+fn disk_with(alloc: Global, file: Option<&[u8]>) -> Result<MemDisk, DiskError> {
+    let mut disk = MemDisk::new(alloc);
+    if let Some(bytes) = file {
+        disk.write_at(FILE, 0, bytes)?;
+        disk.sync(FILE)?;
+    }
+    Ok(disk)
+}
+
+// Whether the log has these records and no others.
+fn has(alloc: Global, disk: &mut MemDisk, log: &Log, want: &[&[u8]]) -> Result<bool, LogError> {
+    let mut same = log.len() == want.len();
+    for index in 0..log.len() {
+        let one = log.record(alloc, disk, index)?;
+        same = same && want.get(index) == Some(&one.as_slice());
+    }
+    Ok(same)
+}
+
+#[test]
+fn bytes_of_a_log(rt: HostRuntime) -> Result<(), Fail> {
+    let alloc = rt.alloc();
+    let rows: [(&[&[u8]], &[u8]); 5] = [
+        (&[], &[0]),
+        (&[FIRST], LOG),
+        (&[FIRST, SECOND], BOTH),
+        (&[b""], &[1, 0, 0, 0, 0, 0]),
+        (
+            &[b"", b"ab"],
+            &[1, 0, 0, 0, 0, 1, 0, 0, 0, 2, b'a', b'b', 0],
+        ),
+    ];
+    for (records, want) in rows {
+        let mut disk = MemDisk::new(alloc);
+        let log = log_of(alloc, &mut disk, records)?;
+        assert!(rt; has(alloc, &mut disk, &log, records)?, "{records:?}");
+        let again = Log::open(alloc, &mut disk, FILE, 0)?;
+        assert!(rt;
+            has(alloc, &mut disk, &again, records)?,
+            "{records:?} opened"
+        );
+        let bytes = content(alloc, &mut disk)?;
+        assert_eq!(rt; bytes.as_slice(), want);
+    }
+    Ok(())
+}
+
+// The first record is in the log, and the next is behind its gate.
+fn on_the_way(alloc: Global) -> Result<MemDisk, LogError> {
+    let mut disk = MemDisk::new(alloc);
+    let _log = log_of(alloc, &mut disk, &[FIRST])?;
+    disk.write_at(FILE, 23, BEHIND)?;
+    Ok(disk)
+}
+
+#[test]
+fn a_stop_before_the_first_sync(rt: HostRuntime) -> Result<(), Fail> {
+    let alloc = rt.alloc();
+    let mut disk = on_the_way(alloc)?;
+    disk.crash(Junk::Bytes(JunkBytes::new([1].to_vec(alloc)?)));
+    let mut want = LOG[..22].to_vec(alloc)?;
+    want.push(0)?;
+    want.extend_from_slice(&[1; 22])?;
+    let found = content(alloc, &mut disk)?;
+    assert_eq!(rt; found.as_slice(), want.as_slice());
+    let log = Log::open(alloc, &mut disk, FILE, 0)?;
+    assert_eq!(rt; log.len(), 1);
+    Ok(())
+}
+
+// The machine stops with the gate written, and the log is opened and takes the last record.
+fn stopped_at_the_gate(alloc: Global, junk: Junk) -> Result<(MemDisk, Log), LogError> {
+    let mut disk = on_the_way(alloc)?;
+    disk.sync(FILE)?;
+    disk.write_at(FILE, 22, &[1])?;
+    disk.crash(junk);
+    let mut log = Log::open(alloc, &mut disk, FILE, 0)?;
+    log.append(alloc, &mut disk, b"last")?;
+    Ok((disk, log))
+}
+
+#[test]
+fn a_stop_before_the_last_sync(rt: HostRuntime) -> Result<(), Fail> {
+    let alloc = rt.alloc();
+    let without: &[&[u8]] = &[FIRST, b"last"];
+    let with: &[&[u8]] = &[FIRST, SECOND, b"last"];
+    let (mut disk, log) = stopped_at_the_gate(alloc, Junk::Old)?;
+    assert!(rt; has(alloc, &mut disk, &log, without)?, "old");
+    let (mut disk, log) = stopped_at_the_gate(alloc, Junk::New)?;
+    assert!(rt; has(alloc, &mut disk, &log, with)?, "new");
+    for (gate, want) in [(0, without), (1, with), (2, without), (255, without)] {
+        let junk = Junk::Bytes(JunkBytes::new([gate].to_vec(alloc)?));
+        let (mut disk, log) = stopped_at_the_gate(alloc, junk)?;
+        assert!(rt; has(alloc, &mut disk, &log, want)?, "gate {gate}");
+    }
+    Ok(())
+}
+
+const SHORT: Option<LogError> = Some(LogError::Disk(DiskError::Short));
+
+// A file, where its log begins, why it is not opened, and how many records it has.
+type Opening = (Option<&'static [u8]>, u64, Option<LogError>, usize);
+
+static OPENINGS: [Opening; 22] = [
+    (None, 0, Some(LogError::Disk(DiskError::NoFile)), 0),
+    // No gate.
+    (Some(&[]), 0, SHORT, 0),
+    (Some(&[9, 9]), 2, SHORT, 0),
+    (Some(&[9, 9]), 3, SHORT, 0),
+    (Some(&[0]), u64::MAX, SHORT, 0),
+    // A closed gate ends the log, whatever follows it.
+    (Some(&[0]), 0, None, 0),
+    (Some(&[7]), 0, None, 0),
+    (Some(&[255, 0, 0]), 0, None, 0),
+    (Some(&[0, 1, 2]), 0, None, 0),
+    (Some(&[9, 1, 0]), 2, None, 0),
+    // It ends in the length.
+    (Some(&[1]), 0, SHORT, 0),
+    (Some(&[1, 0, 0, 0]), 0, SHORT, 0),
+    // It ends in the record.
+    (Some(&[1, 0, 0, 0, 1]), 0, SHORT, 0),
+    (Some(&[1, 0, 0, 0, 2, 0]), 0, SHORT, 0),
+    (Some(&[1, 255, 255, 255, 255, 0]), 0, SHORT, 0),
+    // It ends without its last gate.
+    (Some(&[1, 0, 0, 0, 0]), 0, SHORT, 0),
+    (Some(&[1, 0, 0, 0, 1, 5]), 0, SHORT, 0),
+    (Some(&[1, 0, 0, 0, 0, 1]), 0, SHORT, 0),
+    // Records.
+    (Some(&[1, 0, 0, 0, 0, 0]), 0, None, 1),
+    (Some(&[1, 0, 0, 0, 1, 5, 0]), 0, None, 1),
+    (Some(&[1, 0, 0, 0, 1, 5, 6, 1, 1]), 0, None, 1),
+    (Some(&[1, 1, 0, 0, 0, 0, 1, 0, 0, 0, 1, 1, 0]), 1, None, 2),
+];
+
+// Why a call was refused, if it was. Want of memory ends the test.
+fn refusal(answer: Result<(), LogError>) -> Result<Option<LogError>, LogError> {
+    match answer {
+        Ok(()) => Ok(None),
+        Err(LogError::Memory) => Err(LogError::Memory),
+        Err(e) => Ok(Some(e)),
+    }
+}
+
+#[test]
+fn what_is_opened(rt: HostRuntime) -> Result<(), Fail> {
+    let alloc = rt.alloc();
+    for (file, start, want, count) in OPENINGS {
+        let mut disk = disk_with(alloc, file)?;
+        let (answer, found) = match Log::open(alloc, &mut disk, FILE, start) {
+            Ok(log) => (Ok(()), log.len()),
+            Err(e) => (Err(e), 0),
+        };
+        assert_eq!(rt; refusal(answer)?, want, "{file:?} from {start}");
+        assert_eq!(rt; found, count, "{file:?} from {start}");
+    }
+    Ok(())
+}
+
+// The file after an append of one byte.
+fn appended(alloc: Global, file: &[u8], start: u64) -> Result<Vec<u8>, LogError> {
+    let mut disk = disk_with(alloc, Some(file))?;
+    let mut log = Log::open(alloc, &mut disk, FILE, start)?;
+    log.append(alloc, &mut disk, b"z")?;
+    Ok(content(alloc, &mut disk)?)
+}
+
+#[test]
+fn an_append_writes_its_own_bytes(rt: HostRuntime) -> Result<(), Fail> {
+    let alloc = rt.alloc();
+    let rows: [(&[u8], u64, &[u8]); 4] = [
+        (&[0], 0, &[1, 0, 0, 0, 1, b'z', 0]),
+        // Behind the closed gate the file has more.
+        (&[0, 9, 9], 0, &[1, 0, 0, 0, 1, b'z', 0]),
+        (
+            &[7, 9, 9, 9, 9, 9, 9, 9, 8],
+            0,
+            &[1, 0, 0, 0, 1, b'z', 0, 9, 8],
+        ),
+        // The log begins behind other bytes.
+        (&[9, 1, 0], 2, &[9, 1, 1, 0, 0, 0, 1, b'z', 0]),
+    ];
+    for (file, start, want) in rows {
+        let found = appended(alloc, file, start)?;
+        assert_eq!(rt; found.as_slice(), want, "{file:?} from {start}");
+    }
+    Ok(())
+}
+
+// What an append of so many bytes to a log of one record answers, and how many records then are
+// in the log, and in the log that is opened after it.
+fn sized(alloc: Global, len: usize) -> Result<(Option<LogError>, usize, usize), LogError> {
+    let mut disk = MemDisk::new(alloc);
+    let mut log = log_of(alloc, &mut disk, &[b"one"])?;
+    let bytes = vec![in alloc; 7u8; len]?;
+    let why = refusal(log.append(alloc, &mut disk, &bytes))?;
+    log.append(alloc, &mut disk, b"last")?;
+    let again = Log::open(alloc, &mut disk, FILE, 0)?;
+    Ok((why, log.len(), again.len()))
+}
+
+#[test]
+fn sizes_at_their_edges(rt: HostRuntime) -> Result<(), Fail> {
+    for (len, want) in [
+        (0, (None, 3, 3)),
+        (16_777_216, (None, 3, 3)),
+        (16_777_217, (Some(LogError::TooLong), 2, 2)),
+    ] {
+        let found = sized(rt.alloc(), len)?;
+        assert_eq!(rt; found, want, "{len}");
+    }
+    Ok(())
+}
+
+// The file is taken away under its log.
+fn failed(alloc: Global, disk: &mut MemDisk) -> Result<Log, LogError> {
+    let log = log_of(alloc, disk, &[b"one"])?;
+    disk.remove(FILE)?;
+    Ok(log)
+}
+
+#[test]
+fn a_failure_stays_until_the_log_is_opened(rt: HostRuntime) -> Result<(), Fail> {
+    let alloc = rt.alloc();
+    let mut disk = MemDisk::new(alloc);
+    let mut log = failed(alloc, &mut disk)?;
+    for (bytes, want) in [
+        (b"two", LogError::Disk(DiskError::NoFile)),
+        (b"two", LogError::Failed),
+        (b"six", LogError::Failed),
+    ] {
+        let answer = log.append(alloc, &mut disk, bytes);
+        assert_eq!(rt; refusal(answer)?, Some(want));
+    }
+    if log.len() == 1 {
+        let answer = log.record(alloc, &mut disk, 0).err();
+        assert_eq!(rt; answer, Some(LogError::Failed));
+    }
+    disk.crash(Junk::Old);
+    let again = Log::open(alloc, &mut disk, FILE, 0)?;
+    assert!(rt; has(alloc, &mut disk, &again, &[b"one"])?);
+    Ok(())
+}
+
+#[test]
+fn texts_of_refusals(rt: HostRuntime) -> Result<(), Fail> {
+    let alloc = rt.alloc();
+    for (e, want) in [
+        (LogError::Disk(DiskError::Failed), "disk: the device failed"),
+        (
+            LogError::TooLong,
+            "a record is longer than 16,777,216 bytes",
+        ),
+        (LogError::Memory, "out of memory"),
+        (LogError::Failed, "the log has to be opened again"),
+    ] {
+        let text = format!(in alloc; "{e}")?;
+        assert_eq!(rt; text.as_str(), want);
+    }
+    Ok(())
+}
