@@ -1,0 +1,5 @@
+mod Rests
+mod Happenings
+mod Growing
+mod Histories
+mod Reports

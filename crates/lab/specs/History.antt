@@ -1,0 +1,75 @@
+-- One history: the list of batches of which every line of a report speaks, and every disk.
+use Rattle.std.specs.Prelude.{◌≡◌, ℕ, suc, ◌≤◌, List, [], ◌∷◌, length, take, Option, Some, true}
+use Rattle.std.specs.Prelude.{All}
+use Rattle.std.specs.List.{AllZip}
+use Rattle.kv_types.specs.declared.edit.Edit.{Edit}
+use Rattle.kv_types.specs.Maps.{map_of}
+use Rattle.disk.specs.State.{Contents, MayLeave}
+use Rattle.chain_model.specs.Lists.{Begins, Part, place}
+use Rattle.chain_model.specs.Configuration.{Configurations, has, last_of}
+use Rattle.chain_model.specs.Headline.{batches}
+use Rattle.node.specs.Files.{HasBatches}
+use Rattle.node.specs.declared.output.Reply.{Reply}
+use Rattle.node.specs.declared.output.Reply.TheVariants.{Committed, Value, Refused}
+use Rattle.lab.specs.declared.event.Event.{Event}
+use Rattle.lab.specs.declared.event.What.{What}
+use Rattle.lab.specs.declared.event.What.TheVariants.{Submit, Get, Start, Stop}
+use Rattle.lab.specs.declared.report.Line.{Line}
+use Rattle.lab.specs.declared.report.Line.TheVariants.{Replied, Dropped, Started, Stopped}
+use Rattle.lab.specs.declared.report.NodeReport.{NodeReport}
+use Rattle.lab.specs.declared.report.Report.{Report}
+use Rattle.lab.specs.Members.{state}
+
+-- a batch with the place of its event
+abbrev pub Placed : Type 0
+Placed = ℕ × List Edit
+
+-- the batches that events hand in, the first event being in place i
+abbrev pub with_batch : ℕ → What → List Placed → List Placed
+with_batch i (Submit node batch) later = (i, batch) ∷ later
+with_batch i (Get node key at) later = later
+with_batch i (Start node) later = later
+with_batch i (Stop node junk) later = later
+
+abbrev pub handed_from : ℕ → List Event → List Placed
+handed_from i [] = []
+handed_from i (event ∷ events) = with_batch i event.what (handed_from (suc i) events)
+
+-- a read at s shows what its key has in the map of B's first s batches
+abbrev pub ShowsOf : List Placed → What → ℕ → Option (List ℕ) → Type 0
+ShowsOf B (Get node key at) s value =
+    (s ≤ length B) × (value ≡ map_of (take s (batches B)) key)
+ShowsOf B (Submit node batch) s value = ⊥
+ShowsOf B (Start node) s value = ⊥
+ShowsOf B (Stop node junk) s value = ⊥
+
+-- an acknowledgement of n to request i says that place n of B is the batch of event i
+abbrev pub SpeaksOf : List Placed → What → Reply → Type 0
+SpeaksOf B what (Committed i n) = (batch : List Edit) × (place B n ≡ Some (i, batch))
+SpeaksOf B what (Value i s value) = ShowsOf B what s value
+SpeaksOf B what (Refused i refusal) = Unit {0}
+
+abbrev pub LineSpeaksOf : List Placed → What → Line → Type 0
+LineSpeaksOf B what (Replied reply) = SpeaksOf B what reply
+LineSpeaksOf B what (Dropped reason) = Unit {0}
+LineSpeaksOf B what (Started node epoch count committed) = Unit {0}
+LineSpeaksOf B what (Stopped node cause) = Unit {0}
+
+-- each line of an event speaks of B
+abbrev pub StepSpeaksOf : List Placed → Event → List Line → Type 0
+StepSpeaksOf B event lines = All (LineSpeaksOf B event.what) lines
+
+-- whatever a crash leaves of the node's disk stands for a list that begins with B
+abbrev pub HasAll : List Placed → NodeReport → Type 0
+HasAll B node = (left : Contents) → MayLeave (state node.disk) left →
+    (list : List (List Edit)) × HasBatches left node.id list × Begins (batches B) list
+
+-- There is one list B ..
+pub record OneHistory (cs : Configurations) (events : List Event) (report : Report) : Type 0 where
+  pub B : List Placed
+  -- .. taken in order and none twice from the batches handed in
+  pub taken : Part B (handed_from 1 events)
+  -- .. of which every read and every acknowledgement speaks
+  pub speaks : AllZip (StepSpeaksOf B) events report.steps.items
+  -- .. and which every node of the last configuration has on its disk
+  pub stands : All (λ node. has (last_of cs) node.id ≡ true → HasAll B node) report.nodes.items

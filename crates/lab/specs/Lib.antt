@@ -1,0 +1,4 @@
+pub mod Events
+pub mod Members
+pub mod Runs
+pub mod History

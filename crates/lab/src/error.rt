@@ -1,0 +1,28 @@
+ghost use Rattle.std.specs.Prelude.{◌≡◌};
+ghost use Rattle.lab.specs.declared.error.LabError.TheVariants.{Memory};
+
+use std::alloc::{AllocError, AllocFailed};
+use thiserror::Error;
+
+/// Why a run has no report.
+#[derive(Clone, Copy, Debug, PartialEq, Eq, Error)]
+pub enum LabError {
+    #[error("out of memory")]
+    Memory = 1,
+}
+
+impl From<AllocError> for LabError {
+    ghost from_gives = { λ _ e. e ≡ Memory };
+
+    fn from(_e: AllocError) -> LabError {
+        LabError::Memory
+    }
+}
+
+impl<T: Drop> From<AllocFailed<T>> for LabError {
+    ghost from_gives = { λ _ e. e ≡ Memory };
+
+    fn from(_e: AllocFailed<T>) -> LabError {
+        LabError::Memory
+    }
+}

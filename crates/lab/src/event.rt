@@ -1,0 +1,58 @@
+ghost use Rattle.std.specs.Prelude.{◌≡◌, ◌↔◌, IsTrue};
+ghost use Rattle.lab.specs.Events.{node_in, NamesNodes};
+
+use disk::{Fault, Junk};
+use kv_types::{Batch, Key};
+use node::{Configs, NodeId};
+
+/// One step of one node. A request has the number of its event's place, from 1.
+#[derive(Debug, Drop)]
+pub struct Event {
+    pub what: What,
+    /// A fault of the disk during the step. It has no effect yet.
+    pub fault: Fault,
+}
+
+#[derive(Debug, Drop)]
+pub enum What {
+    Submit {
+        node: NodeId,
+        batch: Batch,
+    },
+    /// A read at a number, or else at the committed number.
+    Get {
+        node: NodeId,
+        key: Key,
+        at: Option<u64>,
+    },
+    Start {
+        node: NodeId,
+    },
+    /// The machine stops, and its disk crashes.
+    Stop {
+        node: NodeId,
+        junk: Junk,
+    },
+}
+
+impl What {
+    /// The node that the event is for.
+    pub fn node(&self) -> NodeId
+        ensures { result ≡ node_in self.now }
+    {
+        match self {
+            What::Submit { node, .. }
+            | What::Get { node, .. }
+            | What::Start { node }
+            | What::Stop { node, .. } => *node,
+        }
+    }
+}
+
+/// Whether each event is for a node of the first configuration, as `run` requires.
+pub fn names_nodes(configs: &Configs, events: &[Event]) -> bool
+    ensures { IsTrue result ↔ NamesNodes configs.now events.now }
+{
+    let id = configs.first().head();
+    events.iter().all(|event| event.what.node() == id)
+}

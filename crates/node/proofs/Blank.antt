@@ -1,0 +1,77 @@
+-- Disks on which a node was created, and others.
+use Rattle.std.proofs.Common.{◌≡◌, ℕ, ◌<◌, List, [], ◌∷◌, length, Option, Some, None}
+use Rattle.std.proofs.Common.{Result, Ok, Err, inl, inr, refl, ap, subst, arith}
+use Rattle.std.specs.Prelude.{IfErr, IsSomeAnd, MatchOption}
+use Rattle.disk.specs.State.{State}
+use Rattle.disk.specs.declared.error.DiskError.TheVariants as disk
+use Rattle.record_log.specs.declared.error.LogError.{LogError}
+use Rattle.record_log.specs.declared.error.LogError.TheVariants as log
+use Rattle.record_log.specs.declared.log.Log.{Log}
+use Rattle.record_log.specs.Grammar.{StandsFor}
+use Rattle.record_log.specs.Stands as log_stands
+use Rattle.record_log.specs.Stands.{Holds, count_of}
+use Rattle.record_log.proofs.Fronts.{one_reading}
+use Rattle.node.specs.declared.stop.Stop.{Stop}
+use Rattle.node.specs.declared.stop.Stop.TheVariants as stop
+use Rattle.node.specs.Files.{IsLog, IsBlankFile}
+use Rattle.node.specs.Stops.{TellsBlank, log_stop}
+use Rattle.node.proofs.Records.{length-ends}
+
+-- a log that counts no record holds none
+pub none_held : (s : State) (log : Log) (records : List (List ℕ)) → Holds s log records →
+    count_of log ≡ 0 → records ≡ []
+none_held s log [] h none = refl
+none_held s log (first ∷ others) h none =
+    absurd (omega (arith, none, ap length h.ends, length-ends 0 (first ∷ others)))
+
+-- a file that has a first byte
+abbrev pub HasBytes : Option (List ℕ) → Type 0
+HasBytes bytes = IsSomeAnd bytes (λ it. 0 < length it)
+
+pub has_bytes : (bytes : Option (List ℕ)) (len : ℕ) → (len ≡ 0 → ⊥) →
+    MatchOption bytes (len ≡ 0) (λ it. len ≡ length it) → HasBytes bytes
+has_bytes None len some is = some is
+has_bytes (Some it) len some is = omega (arith, some, is)
+
+-- bytes that stand for records are blank exactly where there are none
+blank_none : (bytes : Option (List ℕ)) (records : List (List ℕ)) → HasBytes bytes →
+    IsLog bytes records →
+    IsBlankFile bytes → records ≡ []
+blank_none None records has stands blank = absurd has
+blank_none (Some it) records has stands (inl empty) = absurd (omega (arith, has, ap length empty))
+blank_none (Some it) records has stands (inr none) = one_reading it records [] stands none
+
+-- an opened log has no record exactly where its file is blank
+blank_holds : (bytes : Option (List ℕ)) (records : List (List ℕ)) (e : Stop) → HasBytes bytes →
+    IsLog bytes records → TellsBlank e (records ≡ []) →
+    TellsBlank e (IsBlankFile bytes)
+blank_holds bytes records stop.Disk has stands told = tt
+blank_holds bytes records stop.Damaged has stands told =
+    λ blank. told (blank_none bytes records has stands blank)
+blank_holds bytes records stop.Memory has stands told = tt
+blank_holds None records stop.NotCreated has stands told = absurd has
+blank_holds (Some it) records stop.NotCreated has stands told =
+    inr (subst (λ (r : List (List ℕ)). StandsFor it r) told stands)
+
+pub blank_read : {T : Type 0} (result : Result T Stop) (bytes : Option (List ℕ))
+    (records : List (List ℕ)) → HasBytes bytes → IsLog bytes records →
+    IfErr result (λ e. TellsBlank e (records ≡ [])) →
+    IfErr result (λ e. TellsBlank e (IsBlankFile bytes))
+blank_read (Ok x) bytes records has stands told = tt
+blank_read (Err e) bytes records has stands told = blank_holds bytes records e has stands told
+
+-- a file that is not opened as a log is not blank
+pub blank_declined : (bytes : Option (List ℕ)) (e : LogError) → HasBytes bytes →
+    log_stands.Declines e bytes 0 → TellsBlank (log_stop e) (IsBlankFile bytes)
+blank_declined None e has declined = absurd has
+blank_declined (Some it) (log.Disk disk.Failed) has declined = tt
+blank_declined (Some it) (log.Disk disk.NoFile) has declined = absurd cc
+blank_declined (Some it) (log.Disk disk.Short) has declined =
+    λ blank. elim blank [
+      | inl empty ↦ absurd (omega (arith, has, ap length empty))
+      | inr none ↦ declined [] none
+    ]
+blank_declined (Some it) (log.Disk disk.Memory) has declined = absurd declined
+blank_declined (Some it) log.Memory has declined = tt
+blank_declined (Some it) log.TooLong has declined = absurd declined
+blank_declined (Some it) log.Failed has declined = absurd declined

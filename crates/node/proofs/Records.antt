@@ -1,0 +1,97 @@
+-- The records of batches that are numbered without a gap.
+use Rattle.std.proofs.Common.{◌≡◌, ℕ, zero, suc, ◌+◌, ◌≤◌, List, [], ◌∷◌, ◌++◌, length, take}
+use Rattle.std.proofs.Common.{Some, refl, sym, ap, ◌∙◌, length-append, arith}
+use Rattle.std.specs.Prelude.{All, slice_get}
+use Rattle.std.proofs.lemmas.List.{take_all}
+use Rattle.std.proofs.lemmas.List.Elements.{All-head, All-tail}
+use Rattle.std.specs.Int.{w64, to_be_bytes}
+use Rattle.kv_types.specs.declared.edit.Edit.{Edit}
+use Rattle.kv_types.specs.Spelling.{IsBatch, spelling}
+use Rattle.disk.specs.State.{State}
+use Rattle.record_log.specs.declared.log.Log.{Log}
+use Rattle.record_log.specs.Stands.{Holds, count_of}
+use Rattle.record_log.specs.Grammar.{ends_from}
+use Rattle.node.specs.Layout.{batch_record, records_from}
+
+-- one batch more is one record more
+pub records_from-push : (number : ℕ) (list : List (List Edit)) (batch : List Edit) →
+    records_from number (list ++ batch ∷ [])
+    ≡ records_from number list ++ batch_record (number + length list) batch ∷ []
+records_from-push number [] batch = ap (λ (n : ℕ). batch_record n batch ∷ []) (omega arith)
+records_from-push number (first ∷ list) batch =
+    let others : List (List ℕ) = records_from (suc number) list in
+    ap (λ (r : List (List ℕ)). batch_record number first ∷ r)
+    (records_from-push (suc number) list batch
+    ∙ ap (λ (n : ℕ). others ++ batch_record n batch ∷ []) (omega arith))
+
+-- a record of batches is that of a batch of its number
+pub record Numbered (number : ℕ) (bytes : List ℕ) : Type 0 where
+  pub batch : List Edit
+  pub is_batch : IsBatch batch
+  pub spelled : bytes ≡ batch_record number batch
+
+pub numbered_at : (number : ℕ) (list : List (List Edit)) (i : ℕ) (bytes : List ℕ) →
+    All IsBatch list → slice_get (records_from number list) i ≡ Some bytes →
+    Numbered (number + i) bytes
+numbered_at number [] i bytes each got = absurd cc
+numbered_at number (first ∷ list) zero bytes each got =
+    let same : batch_record number first ≡ bytes = cc in
+    record {
+      batch = first;
+      is_batch = All-head IsBatch first list each;
+      spelled = sym same ∙ ap (λ (n : ℕ). batch_record n first) (omega arith);
+    }
+numbered_at number (first ∷ list) (suc i) bytes each got =
+    let below = numbered_at (suc number) list i bytes (All-tail IsBatch first list each) got in
+    record {
+      batch = below.batch;
+      is_batch = below.is_batch;
+      spelled = below.spelled ∙ ap (λ (n : ℕ). batch_record n below.batch) (omega arith);
+    }
+
+take_suc : (records : List (List ℕ)) (i : ℕ) (one : List ℕ) → slice_get records i ≡ Some one →
+    take (suc i) records ≡ take i records ++ one ∷ []
+take_suc [] i one got = absurd cc
+take_suc (x ∷ records) zero one got =
+    let same : x ≡ one = cc in
+    ap (λ (y : List ℕ). y ∷ []) same
+take_suc (x ∷ records) (suc i) one got =
+    ap (λ (l : List (List ℕ)). x ∷ l) (take_suc records i one got)
+
+-- the records that were read are one more
+pub grows : (records : List (List ℕ)) (i : ℕ) (list new : List (List Edit)) (batch : List Edit) →
+    length list ≡ i → new ≡ list ++ batch ∷ [] → take i records ≡ records_from 1 list →
+    slice_get records i ≡ Some (batch_record (i + 1) batch) →
+    take (i + 1) records ≡ records_from 1 new
+grows records i list new batch size more before got =
+    let one : List ℕ = batch_record (i + 1) batch in
+    let number : one ≡ batch_record (1 + length list) batch =
+    ap (λ (n : ℕ). batch_record n batch) (omega (arith, size)) in
+    let after : i + 1 ≡ suc i = omega arith in
+    let next : take (i + 1) records ≡ take i records ++ one ∷ [] =
+    ap (λ (n : ℕ). take n records) after ∙ take_suc records i one got in
+    next ∙ ap (λ (l : List (List ℕ)). l ++ one ∷ []) before
+    ∙ ap (λ (r : List ℕ). records_from 1 list ++ r ∷ []) number
+    ∙ sym (records_from-push 1 list batch) ∙ ap (records_from 1) (sym more)
+
+-- a log knows an end for each record
+pub length-ends : (at : ℕ) (records : List (List ℕ)) →
+    length (ends_from at records) ≡ length records
+length-ends at [] = refl
+length-ends at (first ∷ others) = ap suc (length-ends (at + 5 + length first) others)
+
+-- all of a log's records were read
+pub all_read : (disk : State) (log : Log) (records : List (List ℕ)) (i : ℕ)
+    (list : List (List Edit)) → Holds disk log records → count_of log ≤ i →
+    take i records ≡ records_from 1 list → records ≡ records_from 1 list
+all_read disk log records i list h all before =
+    let size : length records ≤ i =
+    omega (arith, all, ap length h.ends, length-ends 0 records) in
+    sym (take_all i records size) ∙ before
+
+-- a record of a batch is shorter than a log takes
+pub record_fits : (number : ℕ) (batch : List Edit) → IsBatch batch →
+    length (batch_record number batch) ≤ 16777216
+record_fits number batch is =
+    let short = is.short in
+    omega (arith, length-append (to_be_bytes w64 number) (spelling batch), short)

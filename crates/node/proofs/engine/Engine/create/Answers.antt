@@ -1,0 +1,44 @@
+use Rattle.std.proofs.Common.{◌≡◌, [], ◌∷◌, refl, subst, ◌∙◌, arith, sym}
+use Rattle.std.specs.Prelude.{IsNone}
+use Rattle.std.proofs.lemmas.List.Elements.{All-nil}
+use Rattle.kv_types.specs.Spelling.{IsBatch}
+use Rattle.disk.specs.State.{Slot, seen}
+use Rattle.record_log.specs.Stands.{Holds}
+use Rattle.node.specs.Layout.{identity_file, identity_record, identity_records, batches_file}
+use Rattle.node.proofs.Stores.{holds_in, sure_of_id}
+use Rattle.node.proofs.engine.Engine.create.Goals as goal
+
+-- two new logs, and the node's record in one
+pub returns-clause-created : goal.returns-clause-created
+returns-clause-created g c = λ honest empty.
+    let honest1 = c.create.ensures.keeps.honest.1 honest in
+    let honest2 = c.create-2.ensures.keeps.honest.1 honest1 in
+    let s1 = g.D.Disk.state c.create.new.disk in
+    let s3 = g.D.Disk.state c.append.new.disk in
+    let log = c.in_ok-log.log in
+    let is = c.in_ok-identity.ensures.at in
+    let in_log = c.in_ok-log.ensures.at.in_file in
+    let apart : identity_file ≡ batches_file → ⊥ = λ e. omega (arith, e) in
+    let none = subst (λ (slot : Slot). IsNone (seen slot))
+    (sym (c.create.ensures.others identity_file honest apart)) empty.identity in
+    let new = c.in_ok-identity.ensures.created honest1 none in
+    let held = c.in_ok-append.ensures.appended [] honest2 new in
+    let told = c.in_ok-append.ensures.told.0 in
+    let one : c.deref.result.now ≡ identity_record c.args.id (c.args.id ∷ []) =
+    c.deref.ensures.value ∙ c.in_ok-record.ensures.spelled in
+    let named : Holds s3 c.append.new.self (identity_records c.args.id) =
+    subst (λ r. Holds s3 c.append.new.self (r ∷ [])) one held in
+    let identity = c.in_ok-identity.identity in
+    let other : log.file ≡ identity.file → ⊥ = λ e. omega (arith, e, in_log, is.in_file) in
+    let back : log.file ≡ identity_file → ⊥ = λ e. omega (arith, e, in_log) in
+    let kept : s3 log.file ≡ s1 log.file = c.append.ensures.others log.file honest2 other
+    ∙ c.create-2.ensures.others log.file honest1 back in
+    record {
+      is = refl;
+      id = sure_of_id s3 c.append.new.self c.args.id c.in_ok-record.ensures.id
+          (told.file ∙ is.in_file) (told.start ∙ is.from) named;
+      at = c.in_ok-log.ensures.at;
+      log = holds_in s1 s3 log [] kept (c.in_ok-log.ensures.created honest empty.batches);
+      batches = c.new-batches.ensures.items;
+      each = All-nil IsBatch;
+    }

@@ -1,0 +1,20 @@
+use Rattle.std.proofs.Common.{◌≡◌, ◌↔◌, ℕ, List, length, take}
+use Rattle.std.specs.Prelude.{All}
+use Rattle.kv_types.specs.Spelling.{IsBatch}
+use Rattle.disk.specs.State.{IsSame}
+use Rattle.record_log.specs.Stands.{Holds}
+use Rattle.node.specs.Layout.{records_from}
+use Rattle.node.proofs.engine.batches_in.Given as goal
+
+-- the batches of the records that the loop has passed
+abbrev pub invariant-loop-index : goal.invariant-loop-index
+invariant-loop-index g l = record {
+  honest : g.D.Disk.is_honest l.disk ↔ g.D.Disk.is_honest l.fn.disk;
+  count : g.D.Disk.failures l.disk ≡ g.D.Disk.failures l.fn.disk;
+  same : g.D.Disk.is_honest l.fn.disk → IsSame (g.D.Disk.state l.fn.disk) (g.D.Disk.state l.disk);
+  size : length l.batches.items ≡ l.index;
+  each : All IsBatch l.batches.items;
+  found : (records : List (List ℕ)) → g.D.Disk.is_honest l.fn.disk →
+      Holds (g.D.Disk.state l.fn.disk) l.log records →
+      take l.index records ≡ records_from 1 l.batches.items;
+}

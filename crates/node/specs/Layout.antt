@@ -1,0 +1,32 @@
+-- What a node's files hold, for now: a log with its id and configuration, and a log of batches.
+use Rattle.std.specs.Prelude.{ℕ, suc, List, [], ◌∷◌, ◌++◌, length}
+use Rattle.std.specs.List.{flat_map}
+use Rattle.std.specs.Int.{w16, w64, to_be_bytes}
+use Rattle.kv_types.specs.declared.edit.Edit.{Edit}
+use Rattle.kv_types.specs.Spelling.{spelling}
+
+-- the file with the node's id and configuration, and the file of its batches
+abbrev pub identity_file : ℕ
+identity_file = 1
+
+abbrev pub batches_file : ℕ
+batches_file = 3
+
+-- the record of a node's id and its configuration: the id, how many ids, and these
+abbrev pub identity_record : ℕ → List ℕ → List ℕ
+identity_record id ids =
+    to_be_bytes w16 id ++ (length ids ∷ flat_map (λ other. to_be_bytes w16 other) ids)
+
+-- the records of the identity file of a node that is alone in its configuration
+abbrev pub identity_records : ℕ → List (List ℕ)
+identity_records id = identity_record id (id ∷ []) ∷ []
+
+-- the record of a batch: its number and its spelling
+abbrev pub batch_record : ℕ → List Edit → List ℕ
+batch_record number batch = to_be_bytes w64 number ++ spelling batch
+
+-- the records of batches that are numbered from this one on, without a gap
+abbrev pub records_from : ℕ → List (List Edit) → List (List ℕ)
+records_from number [] = []
+records_from number (batch ∷ batches) =
+    batch_record number batch ∷ records_from (suc number) batches

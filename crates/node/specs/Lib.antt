@@ -1,0 +1,6 @@
+pub mod Id
+pub mod Stops
+pub mod Layout
+pub mod Files
+pub mod Steps
+pub mod Starts

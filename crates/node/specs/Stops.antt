@@ -1,0 +1,49 @@
+-- How a node tells what its disk and its log told it.
+use Rattle.std.specs.Prelude.{◌≡◌, ◌↔◌, ◌⊎◌, ℕ, Result, Err}
+use Rattle.disk.specs.declared.error.DiskError.{DiskError}
+use Rattle.disk.specs.declared.error.DiskError.TheVariants as disk
+use Rattle.disk.specs.Calls.{Rises}
+use Rattle.record_log.specs.declared.error.LogError.{LogError}
+use Rattle.record_log.specs.declared.error.LogError.TheVariants as log
+use Rattle.node.specs.declared.stop.Stop.{Stop}
+use Rattle.node.specs.declared.stop.Stop.TheVariants as stop
+
+-- a named file that is absent or too short is damage
+abbrev pub disk_stop : DiskError → Stop
+disk_stop disk.Failed = stop.Disk
+disk_stop disk.NoFile = stop.Damaged
+disk_stop disk.Short = stop.Damaged
+disk_stop disk.Memory = stop.Memory
+
+abbrev pub log_stop : LogError → Stop
+log_stop (log.Disk e) = disk_stop e
+log_stop log.Memory = stop.Memory
+log_stop log.TooLong = stop.Damaged
+log_stop log.Failed = stop.Damaged
+
+-- What every call keeps: the disk's honesty, and the count of failures but where the node stops
+-- for the disk.
+pub record Keeps (was_honest now_honest : Type 0) (before now : ℕ) (told : Type 0) : Type 0 where
+  pub honest : now_honest ↔ was_honest
+  pub failed : told → Rises before now
+  pub others : (told → ⊥) → now ≡ before
+
+-- .. of the disk that is lent to it
+abbrev pub KeepsDisk : {D : Type 0} → (D → Type 0) → (D → ℕ) → D → D → Type 0 → Type 0
+KeepsDisk is_honest failures old new told =
+    Keeps (is_honest old) (is_honest new) (failures old) (failures new) told
+
+-- a call stops the node for the disk
+abbrev pub TellsDisk : {T : Type 0} → Result T Stop → Type 0
+TellsDisk result = result ≡ Err stop.Disk
+
+-- the causes that say nothing of what the disk has
+abbrev pub IsOfMachine : Stop → Type 0
+IsOfMachine e = (e ≡ stop.Disk) ⊎ (e ≡ stop.Memory)
+
+-- what a stop says of whether a node was ever created on the disk
+abbrev pub TellsBlank : Stop → Type 0 → Type 0
+TellsBlank stop.Disk is_blank = Unit {0}
+TellsBlank stop.Damaged is_blank = is_blank → ⊥
+TellsBlank stop.Memory is_blank = Unit {0}
+TellsBlank stop.NotCreated is_blank = is_blank

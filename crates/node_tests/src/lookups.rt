@@ -1,0 +1,56 @@
+// Each look-up once, and the causes of a stop by their numbers and texts.
+use crate::running::created;
+use node::{Config, Configs, NodeId, Refusal, Stop};
+use std::test::Fail;
+
+#[test]
+fn a_new_node(rt: HostRuntime) -> Result<(), Fail> {
+    let node = created(rt.alloc())?.node;
+    assert_eq!(rt; (node.id().get(), node.epoch()), (1, 0));
+    assert_eq!(rt; (node.count(), node.committed()), (0, 0));
+    assert_eq!(rt; (node.floor(), node.kept()), (0, 0));
+    assert_eq!(rt; node.tables(), [0; 7]);
+    Ok(())
+}
+
+#[test]
+fn ids_and_configurations(rt: HostRuntime) {
+    for (id, is_taken) in [(0, false), (1, true), (65535, true)] {
+        assert_eq!(rt; NodeId::new(id).is_some(), is_taken, "{id}");
+    }
+    if let Some(id) = NodeId::new(7) {
+        let configs = Configs::of(Config::of(id));
+        assert_eq!(rt; configs.first().head().get(), 7);
+    }
+}
+
+#[test]
+fn causes_of_a_stop(rt: HostRuntime) -> Result<(), Fail> {
+    let alloc = rt.alloc();
+    for (stop, number, want) in [
+        (Stop::Disk, 1, "disk"),
+        (Stop::Damaged, 2, "damaged"),
+        (Stop::Memory, 3, "memory"),
+        (Stop::NotCreated, 4, "not created"),
+    ] {
+        let text = format!(in alloc; "{stop}")?;
+        assert_eq!(rt; (stop as u8, text.as_str()), (number, want));
+    }
+    Ok(())
+}
+
+#[test]
+fn refusals_have_their_numbers(rt: HostRuntime) {
+    for (refusal, number) in [
+        (Refusal::NotRunning, 1),
+        (Refusal::NotHead, 2),
+        (Refusal::TooOld, 3),
+        (Refusal::NotCommitted, 4),
+        (Refusal::NoSuchSnapshot, 5),
+        (Refusal::TooManySnapshots, 6),
+        (Refusal::Removed, 7),
+        (Refusal::Exhausted, 8),
+    ] {
+        assert_eq!(rt; refusal as u8, number, "{refusal:?}");
+    }
+}
