@@ -44,7 +44,8 @@ fn read(batches: &[Batch], request: u64, key: &Key, at: Option<u64>) -> Result<R
 }
 
 impl<D: Disk + Drop> Node<D> {
-    /// Makes a node's files on a disk that has none, and runs it. A refusal hands the disk back.
+    /// Makes a node's files on a disk that has none, and runs it. A refusal hands the disk back,
+    /// with none, one or both of the files.
     pub fn create(
         alloc: Global,
         mut disk: D,

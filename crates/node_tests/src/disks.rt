@@ -33,11 +33,12 @@ fn disk_of(
     Ok(disk)
 }
 
-/// Why the disk is not started, or else how many batches the node has.
-fn answer(alloc: Global, disk: MemDisk) -> (Option<Stop>, u64) {
+/// Why the disk is not started, or else how many batches the node has. Want of memory is no answer.
+fn answer(alloc: Global, disk: MemDisk) -> Result<(Option<Stop>, u64), Stop> {
     match started(alloc, disk) {
-        Ok(running) => (None, running.node.count()),
-        Err(stop) => (Some(stop), 0),
+        Ok(running) => Ok((None, running.node.count())),
+        Err(Stop::Memory) => Err(Stop::Memory),
+        Err(stop) => Ok((Some(stop), 0)),
     }
 }
 
@@ -75,7 +76,7 @@ fn identity_files(rt: HostRuntime) -> Result<(), Fail> {
     ];
     for (identity, want) in table {
         let disk = disk_of(alloc, identity, Some(BATCH_1))?;
-        assert_eq!(rt; answer(alloc, disk).0, want, "{identity:?}");
+        assert_eq!(rt; answer(alloc, disk)?.0, want, "{identity:?}");
     }
     Ok(())
 }
@@ -128,7 +129,7 @@ fn files_of_batches(rt: HostRuntime) -> Result<(), Fail> {
     ];
     for (batches, want) in table {
         let disk = disk_of(alloc, Some(NODE_1), batches)?;
-        assert_eq!(rt; answer(alloc, disk), want, "{batches:?}");
+        assert_eq!(rt; answer(alloc, disk)?, want, "{batches:?}");
     }
     Ok(())
 }

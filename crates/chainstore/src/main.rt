@@ -1,0 +1,32 @@
+//! The program: its words and streams go to `serve`, whose status it ends with.
+#![tactic(auto)]
+
+use program::{Failure, refuse, serve, tell};
+use std::env;
+use std::io::{self, BufWriter, ErrorKind};
+use std::process::ExitCode;
+
+/// Serves the program's words, and answers the exit status.
+fn serve_words(rt: &HostRuntime) -> io::Result<u8> {
+    let mut words = Vec::new(rt.alloc());
+    for word in env::args(rt)? {
+        words.push(word)?;
+    }
+    let mut texts: Vec<&str> = Vec::new(rt.alloc());
+    for word in &words {
+        texts.push(word.as_str())?;
+    }
+    let mut out = BufWriter::new(rt.alloc(), rt.stdout())?;
+    let (mut input, mut err) = (rt.stdin(), rt.stderr());
+    Ok(serve(rt, &texts, &mut input, &mut out, &mut err))
+}
+
+fn main(rt: HostRuntime) -> ExitCode {
+    let status = match serve_words(&rt) {
+        Ok(status) => status,
+        Err(e) if e.kind() == ErrorKind::OutOfMemory => tell(&mut rt.stderr(), Failure::Memory),
+        // A word is no text.
+        Err(_) => refuse(&mut rt.stderr()),
+    };
+    ExitCode::from(status)
+}

@@ -1,0 +1,13 @@
+pub mod Numbers
+pub mod Texts
+pub mod Edits
+pub mod Places
+pub mod FirstLine
+pub mod FaultWords
+pub mod Placing
+pub mod Going
+pub mod Escape
+pub mod Printed
+pub mod Wholes
+pub mod OneText
+pub mod ReadBack

@@ -1,0 +1,33 @@
+use Rattle.program.proofs.Wholes.{names_nodes}
+use Rattle.program.proofs.running.run_script.Goals as goal
+
+pub run-requires : goal.run-requires
+run-requires g c =
+    rw (
+      c.deref-3.ensures.value,
+      c.in_ok-events.ensures,
+      c.deref.ensures.value,
+      c.of-configs.ensures,
+      c.of.ensures,
+    )
+    (names_nodes c.args.script.now.node c.args.script.now.statements.items c.requires)
+
+pub returns-clause-run : goal.returns-clause-run
+returns-clause-run g c = record {
+  report = c.in_ok-report.report;
+  ran = rw (
+    c.deref-3.ensures.value,
+    c.in_ok-events.ensures,
+    c.deref.ensures.value,
+    c.of-configs.ensures,
+    c.of.ensures,
+  ) at c.in_ok-report.ensures.run;
+  history = rw (
+    c.deref-3.ensures.value,
+    c.in_ok-events.ensures,
+    c.deref.ensures.value,
+    c.of-configs.ensures,
+    c.of.ensures,
+  ) at c.in_ok-report.ensures.history;
+  wrote = rw (c.deref-5.ensures.value, c.deref-6.ensures.value) at c.in-Ok.ensures;
+}

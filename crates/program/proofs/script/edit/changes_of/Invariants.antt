@@ -1,0 +1,10 @@
+use Rattle.std.proofs.Common.{◌≡◌, map, take, false, not}
+use Rattle.std.specs.List.{list_any}
+use Rattle.program.specs.Statements.{is_edit, edit_text}
+use Rattle.program.proofs.script.edit.changes_of.Given as goal
+
+abbrev pub invariant-loop-word : goal.invariant-loop-word
+invariant-loop-word l = record {
+  each : list_any (λ w. not (is_edit w.now)) (take l.word-index l.words) ≡ false;
+  spelled : map (λ w. w.now) (take l.word-index l.words) ≡ map edit_text l.changes;
+}

@@ -1,0 +1,11 @@
+use Rattle.program.proofs.OneText.{one_text, one_edit, one_event}
+use Rattle.program.proofs.script.laws.spellings_differ.Goals as goal
+
+pub returns-clause-strings : goal.returns-clause-strings
+returns-clause-strings c = one_text
+
+pub returns-clause-edits : goal.returns-clause-edits
+returns-clause-edits c = one_edit
+
+pub returns-clause-events : goal.returns-clause-events
+returns-clause-events c = one_event

@@ -1,0 +1,36 @@
+use Rattle.std.proofs.Common.{arith, append-nil, refl, ◌∙◌, []}
+use Rattle.program.specs.Scripts.{lines_of, IsScript}
+use Rattle.program.proofs.Going.{takes_on, keeps_fault, all_name}
+use Rattle.program.proofs.script.reader.read_script.Goals as goal
+
+pub loop-line-preserved : goal.loop-line-preserved
+loop-line-preserved c =
+    let before = c.loop-line.before in let n = c.loop-line.number in let line =
+    c.in-Some.line.now in
+    let lines = lines_of c.next.new.self.0.now in let old = c.loop-line.statements.items in
+    let taken = rw c.in-Ok.is at c.take_line.ensures in
+    record {
+      found = takes_on before c.in-Ok.after n line lines old _ (λ node rest. IsScript 1
+          (lines_of c.args.text.now) node rest) taken
+          (λ node rest h. c.loop-line.invariant.found node rest (rw c.in-Some.ensures.steps h));
+      fault = keeps_fault before c.in-Ok.after n line lines old _ taken
+          ∙ rw c.in-Some.ensures.steps at c.loop-line.invariant.fault;
+      few = omega (arith, taken.1);
+    }
+
+pub returns-in-Some-node-clause-found : goal.returns-in-Some-node-clause-found
+returns-in-Some-node-clause-found c =
+    rw (← append-nil c.loop-line.statements.items)
+    (c.loop-line.invariant.found c.in-Some-node.node [] (rw (
+      c.in-None.ensures.steps.0,
+      c.in-Some-node.is,
+    ) (refl, refl)))
+
+pub returns-in-Some-node-clause-node : goal.returns-in-Some-node-clause-node
+returns-in-Some-node-clause-node c =
+    all_name 1 (lines_of c.args.text.now) c.in-Some-node.node c.loop-line.statements.items
+    (rw (← append-nil c.loop-line.statements.items)
+    (c.loop-line.invariant.found c.in-Some-node.node [] (rw (
+      c.in-None.ensures.steps.0,
+      c.in-Some-node.is,
+    ) (refl, refl))))

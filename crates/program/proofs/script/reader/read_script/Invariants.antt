@@ -1,0 +1,18 @@
+use Rattle.std.proofs.Common.{◌≡◌, ◌++◌, ◌≤◌, ℕ, List}
+use Rattle.program.specs.declared.script.statement.Statement.{Statement}
+use Rattle.program.specs.Scripts.{lines_of, IsScript}
+use Rattle.program.specs.Faults.{script_fault, start}
+use Rattle.program.proofs.Going.{IsRest}
+use Rattle.program.proofs.script.reader.read_script.Given as goal
+
+-- what was found and what is left make the whole, and the fault of what is left is that of the
+-- whole
+abbrev pub invariant-loop-line : goal.invariant-loop-line
+invariant-loop-line l = record {
+  found : (node : ℕ) (rest : List Statement) → IsRest l.before.node l.number
+      (lines_of l.line-iterator.0.now) node rest
+      → IsScript 1 (lines_of l.fn.text) node (l.statements.items ++ rest);
+  fault : script_fault l.before l.number (lines_of l.line-iterator.0.now) ≡ script_fault start 1
+      (lines_of l.fn.text);
+  few : l.number ≤ 100001;
+}

@@ -1,0 +1,11 @@
+use Rattle.std.proofs.Common.{rules, ◌∙◌}
+use Rattle.program.proofs.Texts.{not_bytes, bytes_done}
+use Rattle.program.proofs.script.word.bytes_of.Goals as goal
+
+pub returns-in-None : goal.returns-in-None
+returns-in-None c = not_bytes c.args.word.now (search rules) (c.loop-rest.invariant.decides
+    ∙ c.in-None.ensures)
+
+pub returns : goal.returns
+returns c = bytes_done c.args.word.now c.loop-rest.bytes.items (search rules) (search rules)
+    (search rules)

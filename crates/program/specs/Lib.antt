@@ -1,0 +1,10 @@
+pub mod Words
+pub mod Statements
+pub mod Meanings
+pub mod Scripts
+pub mod Faults
+pub mod Edits
+pub mod Reading
+pub mod Text
+pub mod Runs
+pub mod Laws

@@ -1,0 +1,87 @@
+-- What the parts of the script's reader promise.
+use Rattle.std.specs.Prelude.{◌≡◌, ◌≢◌, ◌≤◌, ℕ, true, List, [], ◌∷◌, ◌++◌, codes}
+use Rattle.std.specs.Prelude.{Some, None, Result, Ok, Err}
+use Rattle.std.specs.Fmt.{decimal}
+use Rattle.lab.specs.declared.event.What.{What}
+use Rattle.lab.specs.declared.event.What.TheVariants as what
+use Rattle.lab.specs.Events.{node_in}
+use Rattle.program.specs.declared.script.error.ScriptError.{ScriptError}
+use Rattle.program.specs.declared.script.error.ScriptError.TheVariants.{OutOfMemory}
+use Rattle.program.specs.declared.script.asked.Asked.{Asked}
+use Rattle.program.specs.declared.script.asked.Asked.TheVariants.{Submit, Get, Stop, Start}
+use Rattle.program.specs.declared.script.statement.Before.{Before}
+use Rattle.program.specs.declared.script.statement.Item.{Item}
+use Rattle.program.specs.declared.script.statement.Item.TheVariants.{Skipped, Config, Asks}
+use Rattle.program.specs.declared.script.statement.Meaning.{Meaning}
+use Rattle.program.specs.declared.script.statement.Statement.{Statement}
+use Rattle.program.specs.Statements.{IsSpelled, fault_of_words}
+use Rattle.program.specs.Meanings.{meaning_of}
+use Rattle.program.specs.Scripts.{is_skipped, words_of, statement}
+use Rattle.program.specs.Faults.{statement_fault, words_fault, after_words, line_fault}
+use Rattle.program.specs.Faults.{after_line, numbered_fault}
+
+-- the event that is asked for
+abbrev pub what_of : Asked → What
+what_of (Submit node changes) = what.Submit node changes
+what_of (Get node key at) = what.Get node key at
+what_of (Stop node junk) = what.Stop node junk
+what_of (Start node) = what.Start node
+
+-- a reader gives the statement that is spelled, or the least fault, unless memory runs out
+abbrev pub Reads : List (List ℕ) → Result Asked ScriptError → Type 0
+Reads words (Ok asked) = (fault_of_words words ≡ None) × IsSpelled (what_of asked) words
+Reads words (Err e) = (e ≢ OutOfMemory) → fault_of_words words ≡ Some e
+
+-- the words say so, behind such lines
+abbrev pub IsItemOfWords : Before → List (List ℕ) → Item → Type 0
+IsItemOfWords before words Skipped = ⊥
+IsItemOfWords before words (Config node) =
+    (words ≡ codes "config" ∷ decimal node ∷ []) × (before.node ≡ None)
+IsItemOfWords before words (Asks meaning) =
+    (what : What) × IsSpelled what words × (before.node ≡ Some (node_in what))
+    × (meaning ≡ meaning_of what)
+
+-- the line says so
+abbrev pub IsItem : Before → List ℕ → Item → Type 0
+IsItem before line Skipped = is_skipped line ≡ true
+IsItem before line item = IsItemOfWords before (words_of line) item
+
+-- what an item leaves for the lines behind it
+abbrev pub after_item : Before → Item → Before
+after_item before Skipped = before
+after_item before (Config node) = record { node = Some node; begun = before.begun }
+after_item before (Asks meaning) = record { node = before.node; begun = true }
+
+abbrev pub statements_of : ℕ → Item → List Statement
+statements_of n Skipped = []
+statements_of n (Config node) = []
+statements_of n (Asks meaning) = statement n meaning ∷ []
+
+-- a statement that may stand here, for this node
+abbrev pub Places : Before → List ℕ → List (List ℕ) → Result Meaning ScriptError → Type 0
+Places before name args (Ok meaning) =
+    (statement_fault before name args ≡ None)
+    × ((what : What) × IsSpelled what (name ∷ args) × (before.node ≡ Some (node_in what))
+    × (meaning ≡ meaning_of what))
+Places before name args (Err e) = (e ≢ OutOfMemory) → statement_fault before name args ≡ Some e
+
+abbrev pub ReadsWords : Before → List (List ℕ) → Result Item ScriptError → Type 0
+ReadsWords before words (Ok item) =
+    (words_fault before words ≡ None) × IsItemOfWords before words item
+    × (after_words before words ≡ after_item before item)
+ReadsWords before words (Err e) = (e ≢ OutOfMemory) → words_fault before words ≡ Some e
+
+abbrev pub ReadsLine : Before → List ℕ → Result Item ScriptError → Type 0
+ReadsLine before line (Ok item) =
+    (line_fault before line ≡ None) × IsItem before line item
+    × (after_line before line ≡ after_item before item)
+ReadsLine before line (Err e) = (e ≢ OutOfMemory) → line_fault before line ≡ Some e
+
+-- a line that is one too many counts last
+abbrev pub Takes : Before → ℕ → List ℕ → List Statement → List Statement
+    → Result Before ScriptError → Type 0
+Takes before n line old new (Ok after) =
+    (numbered_fault before n line ≡ None) × (n ≤ 100000) × (after_line before line ≡ after)
+    × ((item : Item) × IsItem before line item × (after ≡ after_item before item)
+    × (new ≡ old ++ statements_of n item))
+Takes before n line old new (Err e) = (e ≢ OutOfMemory) → numbered_fault before n line ≡ Some e

@@ -1,0 +1,83 @@
+-- A whole run: from the bytes of a script to the bytes that are printed, and how it can end.
+use Rattle.std.specs.Prelude.{◌≡◌, ◌≢◌, ◌⊎◌, ℕ, List, [], ◌∷◌, ◌++◌, codes, Option, Some, IfSome}
+use Rattle.std.specs.Fmt.{decimal}
+use Rattle.std.specs.List.{flat_map}
+use Rattle.std.specs.Io.KnownBytes.{Appends}
+use Rattle.disk.specs.declared.fault.Fault.TheVariants as fault
+use Rattle.lab.specs.declared.event.Event as lab
+use Rattle.lab.specs.declared.report.Report.{Report}
+use Rattle.lab.specs.Runs.{IsRun}
+use Rattle.lab.specs.History.{OneHistory}
+use Rattle.program.specs.declared.failure.Failure.{Failure}
+use Rattle.program.specs.declared.failure.Failure.TheVariants.{Unreadable, Script, Output}
+use Rattle.program.specs.declared.failure.Failure.TheVariants.{Memory}
+use Rattle.program.specs.declared.script.error.ScriptError.TheVariants.{OutOfMemory}
+use Rattle.program.specs.declared.script.statement.Meaning.{Meaning}
+use Rattle.program.specs.declared.script.statement.Meaning.TheVariants.{Event, Invalid}
+use Rattle.program.specs.declared.script.statement.Statement.{Statement}
+use Rattle.program.specs.Scripts.{lines_of, IsScript}
+use Rattle.program.specs.Faults.{script_fault, start}
+use Rattle.program.specs.Text.{run_text, fault_text}
+
+abbrev pub event_of : Meaning → List lab.Event
+event_of (Event what) = record { what = what; fault = fault.None } ∷ []
+event_of (Invalid e) = []
+
+-- the events of the statements, in order
+abbrev pub events_of : List Statement → List lab.Event
+events_of statements = flat_map (λ it. event_of it.meaning) statements
+
+-- one configuration, of one node
+abbrev pub alone : ℕ → List (List ℕ)
+alone node = (node ∷ []) ∷ []
+
+-- the statements' events were run at the node, all that came of them is of one history, and the
+-- text
+-- of exactly that run was written
+pub record IsRunOf (node : ℕ) (statements : List Statement) (old new : Option
+    (List ℕ)) : Type 0 where
+  pub report : Report
+  pub ran : IsRun (alone node) (events_of statements) report
+  pub history : OneHistory (alone node) (events_of statements) report
+  pub wrote : Appends old new (run_text statements report.steps.items)
+
+-- what was read, where that is known, is a script, and the text of its run was written
+pub record IsRunOfText (text : Option (List ℕ)) (old new : Option (List ℕ)) : Type 0 where
+  pub node : ℕ
+  pub statements : List Statement
+  pub spelled : IfSome text (λ t. IsScript 1 (lines_of t) node statements)
+  pub run : IsRunOf node statements old new
+
+-- why a run ended early
+abbrev pub failure_text : Failure → List ℕ
+failure_text Unreadable = codes "script: unreadable"
+failure_text (Script f) = codes "line " ++ (decimal f.line ++ (codes ": " ++ fault_text f.error))
+failure_text Output = codes "output: write"
+failure_text Memory = codes "run: memory"
+
+-- a fault of the script is the least of its first faulty line; only want of memory may come before
+abbrev pub IsFailureOf : List ℕ → Failure → Type 0
+IsFailureOf text (Script f) =
+    f.error ≢ OutOfMemory → script_fault start 1 (lines_of text) ≡ Some (f.line, f.error)
+IsFailureOf text Unreadable = Unit {0}
+IsFailureOf text Output = Unit {0}
+IsFailureOf text Memory = Unit {0}
+
+-- a run of a script that was read fails for these alone
+abbrev pub IsOfRun : Failure → Type 0
+IsOfRun Unreadable = ⊥
+IsOfRun (Script f) = ⊥
+IsOfRun Output = Unit {0}
+IsOfRun Memory = Unit {0}
+
+-- the line that tells of a failure
+abbrev pub line_told : Failure → List ℕ
+line_told failure = failure_text failure ++ 10 ∷ []
+
+-- with status 0 the run was printed, with status 1 the line that says why not
+abbrev pub Ends : Option (List ℕ) → Option (List ℕ) → Option (List ℕ) → Option (List ℕ)
+    → Option (List ℕ) → ℕ → Type 0
+Ends text old_out new_out old_err new_err status =
+    ((status ≡ 0) × IsRunOfText text old_out new_out)
+    ⊎ ((status ≡ 1) × ((failure : Failure) × IfSome text (λ t. IsFailureOf t failure)
+    × Appends old_err new_err (line_told failure)))

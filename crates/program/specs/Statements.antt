@@ -1,0 +1,128 @@
+-- The statements of a script: how each is spelled, and the least fault of the words of one.
+use Rattle.std.specs.Prelude.{◌≡◌, ℕ, ◌+◌, ◌/◌, ◌%◌, Bool, true, false, ◌&&◌, ◌||◌, not, ◌==◌}
+use Rattle.std.specs.Prelude.{nat_lt, if◌then◌else◌, List, [], ◌∷◌, ◌++◌, length, map, codes, ◌⊎◌}
+use Rattle.std.specs.Prelude.{Option, Some, None, take, drop, position}
+use Rattle.std.specs.Fmt.{decimal}
+use Rattle.std.specs.List.{list_any, zip, flat_map}
+use Rattle.std.specs.Option.{option_map_or}
+use Rattle.std.specs.Str.{bytes_eq}
+use Rattle.std.specs.Char.{digit_char}
+use Rattle.kv_types.specs.declared.edit.Edit.{Edit}
+use Rattle.kv_types.specs.declared.edit.Edit.TheVariants.{Put, Delete}
+use Rattle.disk.specs.declared.junk.Junk.{Junk}
+use Rattle.disk.specs.declared.junk.Junk.TheVariants.{Old, New, Bytes}
+use Rattle.lab.specs.declared.event.What.{What}
+use Rattle.lab.specs.declared.event.What.TheVariants.{Submit, Get, Start, Stop}
+use Rattle.program.specs.declared.script.error.ScriptError.{ScriptError}
+use Rattle.program.specs.declared.script.error.ScriptError.TheVariants.{UnknownStatement}
+use Rattle.program.specs.declared.script.error.ScriptError.TheVariants.{WrongNumberOfWords}
+use Rattle.program.specs.declared.script.error.ScriptError.TheVariants.{BadNumber, BadBytes}
+use Rattle.program.specs.declared.script.error.ScriptError.TheVariants.{BadFault}
+use Rattle.program.specs.Words.{bytes_text, is_byte_string, is_number, is_hex}
+
+-- KEY=VALUE or -KEY
+abbrev pub edit_text : Edit → List ℕ
+edit_text (Put key value) = bytes_text key ++ 61 ∷ bytes_text value
+edit_text (Delete key) = 45 ∷ bytes_text key
+
+-- two digits for each byte
+abbrev pub hex_text : List ℕ → List ℕ
+hex_text bs = flat_map (λ b. digit_char (b / 16) ∷ digit_char (b % 16) ∷ []) bs
+
+-- the word for what a stop leaves; one that spells bytes has some
+abbrev pub IsJunk : Junk → List ℕ → Type 0
+IsJunk Old word = word ≡ codes "old"
+IsJunk New word = word ≡ codes "new"
+IsJunk (Bytes bs) word = (nat_lt 0 (length bs) ≡ true) × (word ≡ hex_text bs)
+
+-- these words spell the event
+abbrev pub IsSpelled : What → List (List ℕ) → Type 0
+IsSpelled (Submit node edits) words = words ≡ codes "submit" ∷ decimal node ∷ map edit_text edits
+IsSpelled (Get node key None) words =
+    words ≡ codes "get" ∷ decimal node ∷ bytes_text key ∷ []
+IsSpelled (Get node key (Some at)) words =
+    words ≡ codes "get" ∷ decimal node ∷ bytes_text key ∷ decimal at ∷ []
+IsSpelled (Stop node junk) words =
+    ((junk ≡ Old) × (words ≡ codes "stop" ∷ decimal node ∷ []))
+    ⊎ ((word : List ℕ) × IsJunk junk word × (words ≡ codes "stop" ∷ decimal node ∷ word ∷ []))
+IsSpelled (Start node) words = words ≡ codes "start" ∷ decimal node ∷ []
+
+-- what stands in a word's place
+pub data Kind : Type 0 where
+  number : Kind
+  text : Kind
+  edit : Kind
+  junk : Kind
+
+abbrev pub submit_shape : List (List ℕ) → Option (List Kind)
+submit_shape [] = None
+submit_shape (node ∷ edits) = Some (number ∷ map (λ _. edit) edits)
+
+abbrev pub get_shape : ℕ → Option (List Kind)
+get_shape n =
+    if n == 2 then Some (number ∷ text ∷ [])
+    else if n == 3 then Some (number ∷ text ∷ number ∷ []) else None
+
+abbrev pub stop_shape : ℕ → Option (List Kind)
+stop_shape n =
+    if n == 1 then Some (number ∷ [])
+    else if n == 2 then Some (number ∷ junk ∷ []) else None
+
+-- the kinds of the words behind a statement's name, if there may be so many
+abbrev pub shape : List ℕ → List (List ℕ) → Option (List Kind)
+shape name args =
+    if bytes_eq name (codes "submit") then submit_shape args else
+    if bytes_eq name (codes "get") then get_shape (length args) else
+    if bytes_eq name (codes "stop") then stop_shape (length args) else
+    if length args == 1 then Some (number ∷ []) else None
+
+-- a word that begins with - is a deletion, any other is cut at its first =
+abbrev pub is_edit : List ℕ → Bool
+is_edit w =
+    if bytes_eq (take 1 w) (codes "-") then is_byte_string (drop 1 w)
+    else option_map_or (λ i. is_byte_string (take i w) && is_byte_string (drop (i + 1) w))
+    (position (λ b. b == 61) w) false
+
+-- pairs of hex digits
+abbrev pub are_pairs : List ℕ → Bool
+are_pairs [] = true
+are_pairs (a ∷ []) = false
+are_pairs (a ∷ b ∷ bs) = is_hex a && is_hex b && are_pairs bs
+
+abbrev pub is_junk : List ℕ → Bool
+is_junk w =
+    bytes_eq w (codes "old") || bytes_eq w (codes "new")
+    || (nat_lt 0 (length w) && are_pairs w)
+
+-- a word that is not what has to stand there
+abbrev pub is_bad_number : Kind × List ℕ → Bool
+is_bad_number (number, w) = not (is_number w)
+is_bad_number (_, w) = false
+
+abbrev pub is_bad_text : Kind × List ℕ → Bool
+is_bad_text (text, w) = not (is_byte_string w)
+is_bad_text (edit, w) = not (is_edit w)
+is_bad_text (_, w) = false
+
+abbrev pub is_bad_junk : Kind × List ℕ → Bool
+is_bad_junk (junk, w) = not (is_junk w)
+is_bad_junk (_, w) = false
+
+abbrev pub fault_of_places : List (Kind × List ℕ) → Option ScriptError
+fault_of_places places =
+    if list_any is_bad_number places then Some BadNumber else
+    if list_any is_bad_text places then Some BadBytes else
+    if list_any is_bad_junk places then Some BadFault else None
+
+abbrev pub is_name : List ℕ → Bool
+is_name w =
+    bytes_eq w (codes "submit") || bytes_eq w (codes "get") || bytes_eq w (codes "stop")
+    || bytes_eq w (codes "start")
+
+-- the least fault of the words of a statement, as far as they are words
+abbrev pub fault_of_words : List (List ℕ) → Option ScriptError
+fault_of_words [] = Some UnknownStatement
+fault_of_words (name ∷ args) =
+    if is_name name then option_map_or (λ kinds. fault_of_places (zip kinds args))
+    (shape name args) (Some WrongNumberOfWords)
+    else Some UnknownStatement

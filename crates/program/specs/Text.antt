@@ -1,0 +1,144 @@
+-- The text of a run: what is printed for each line of a report, and for each invalid statement.
+use Rattle.std.specs.Prelude.{ℕ, ◌-◌, List, [], ◌∷◌, ◌++◌, codes, drop, slice_get}
+use Rattle.std.specs.Prelude.{Some, None}
+use Rattle.std.specs.Fmt.{decimal}
+use Rattle.std.specs.List.{flat_map}
+use Rattle.std.specs.Option.{option_map_or}
+use Rattle.kv_types.specs.declared.error.KvError.{KvError}
+use Rattle.kv_types.specs.declared.error.KvError.TheVariants as kv
+use Rattle.node.specs.declared.output.Refusal.{Refusal}
+use Rattle.node.specs.declared.output.Refusal.TheVariants as refused
+use Rattle.node.specs.declared.output.Reply.{Reply}
+use Rattle.node.specs.declared.output.Reply.TheVariants.{Committed, Value, Refused}
+use Rattle.node.specs.declared.stop.Stop.{Stop}
+use Rattle.node.specs.declared.stop.Stop.TheVariants as stop
+use Rattle.lab.specs.declared.report.DropReason.{DropReason}
+use Rattle.lab.specs.declared.report.DropReason.TheVariants as reason
+use Rattle.lab.specs.declared.report.Line.{Line}
+use Rattle.lab.specs.declared.report.Line.TheVariants.{Replied, Dropped, Started, Stopped}
+use Rattle.program.specs.declared.script.statement.Meaning.{Meaning}
+use Rattle.program.specs.declared.script.statement.Meaning.TheVariants.{Event, Invalid}
+use Rattle.program.specs.declared.script.statement.Statement.{Statement}
+use Rattle.program.specs.declared.script.error.ScriptError.{ScriptError}
+use Rattle.program.specs.declared.script.error.ScriptError.TheVariants as fault
+use Rattle.program.specs.Words.{bytes_text}
+
+-- a refusal's number and name
+abbrev pub refusal_text : Refusal → List ℕ
+refusal_text refused.NotRunning = codes "1 NotRunning"
+refusal_text refused.NotHead = codes "2 NotHead"
+refusal_text refused.TooOld = codes "3 TooOld"
+refusal_text refused.NotCommitted = codes "4 NotCommitted"
+refusal_text refused.NoSuchSnapshot = codes "5 NoSuchSnapshot"
+refusal_text refused.TooManySnapshots = codes "6 TooManySnapshots"
+refusal_text refused.Removed = codes "7 Removed"
+refusal_text refused.Exhausted = codes "8 Exhausted"
+
+-- the number and name of what is wrong with a statement
+abbrev pub error_text : KvError → List ℕ
+error_text kv.KeyTooLong = codes "1 KeyTooLong"
+error_text kv.ValueTooLong = codes "2 ValueTooLong"
+error_text kv.NoEdits = codes "3 NoEdits"
+error_text kv.TooManyEdits = codes "4 TooManyEdits"
+error_text kv.BatchTooLong = codes "5 BatchTooLong"
+error_text kv.BadBytes = codes "6 BadBytes"
+error_text kv.Memory = codes "7 Memory"
+error_text kv.BadLimit = codes "8 BadLimit"
+
+abbrev pub reason_text : DropReason → List ℕ
+reason_text reason.NotRunning = codes "NotRunning"
+reason_text reason.Running = codes "Running"
+
+abbrev pub cause_text : Stop → List ℕ
+cause_text stop.Disk = codes "disk"
+cause_text stop.Damaged = codes "damaged"
+cause_text stop.Memory = codes "memory"
+cause_text stop.NotCreated = codes "not created"
+
+abbrev pub reply_text : Reply → List ℕ
+reply_text (Committed request n) = codes "committed " ++ decimal n
+reply_text (Value request n None) = codes "none at " ++ decimal n
+reply_text (Value request n (Some value)) =
+    codes "value " ++ (bytes_text value ++ (codes " at " ++ decimal n))
+reply_text (Refused request refusal) = codes "refused " ++ refusal_text refusal
+
+abbrev pub started_text : ℕ → ℕ → ℕ → ℕ → List ℕ
+started_text node epoch count committed =
+    codes "node " ++ (decimal node ++ (codes " started epoch " ++ (decimal epoch
+    ++ (codes " count " ++ (decimal count ++ (codes " committed " ++ decimal committed))))))
+
+abbrev pub line_text : Line → List ℕ
+line_text (Replied reply) = reply_text reply
+line_text (Dropped reason) = codes "dropped " ++ reason_text reason
+line_text (Started node epoch count committed) = started_text node epoch count committed
+line_text (Stopped node None) = codes "node " ++ (decimal node ++ codes " stopped")
+line_text (Stopped node (Some cause)) =
+    codes "node " ++ (decimal node ++ (codes " stopped: " ++ cause_text cause))
+
+-- a line of output: a number of a line of the script, and what is said of it
+abbrev pub numbered : ℕ → List ℕ → List ℕ
+numbered n text = decimal n ++ (codes ": " ++ (text ++ 10 ∷ []))
+
+abbrev pub line_of_event : ℕ → Meaning → List ℕ
+line_of_event n (Event what) = n ∷ []
+line_of_event n (Invalid e) = []
+
+-- the lines of the script where the events stand, in order
+abbrev pub event_lines : List Statement → List ℕ
+event_lines statements = flat_map (λ it. line_of_event it.line it.meaning) statements
+
+-- the line of a request, which has the number of its event, from 1; one of no event stands here
+abbrev pub line_of_request : List ℕ → ℕ → ℕ → ℕ
+line_of_request events here request =
+    option_map_or (λ n. n) (slice_get events (request - 1)) here
+
+abbrev pub request_of : Reply → ℕ
+request_of (Committed request n) = request
+request_of (Value request n value) = request
+request_of (Refused request refusal) = request
+
+-- a reply is told at its request's line, all else here
+abbrev pub line_told_at : List ℕ → ℕ → Line → ℕ
+line_told_at events here (Replied reply) = line_of_request events here (request_of reply)
+line_told_at events here (Dropped reason) = here
+line_told_at events here (Started node epoch count committed) = here
+line_told_at events here (Stopped node cause) = here
+
+abbrev pub told_text : List ℕ → ℕ → Line → List ℕ
+told_text events here line = numbered (line_told_at events here line) (line_text line)
+
+-- what is printed at a statement: of an event the lines of its step, of any other its error
+abbrev pub statement_text : List ℕ → ℕ → Meaning → List (List Line) → List ℕ
+statement_text events here (Invalid e) steps = numbered here (codes "invalid " ++ error_text e)
+statement_text events here (Event what) [] = []
+statement_text events here (Event what) (step ∷ steps) = flat_map (told_text events here) step
+
+-- the steps of the statements behind it
+abbrev pub steps_behind : Meaning → List (List Line) → List (List Line)
+steps_behind (Invalid e) steps = steps
+steps_behind (Event what) steps = drop 1 steps
+
+abbrev pub statements_text : List ℕ → List Statement → List (List Line) → List ℕ
+statements_text events [] steps = []
+statements_text events (it ∷ statements) steps =
+    statement_text events it.line it.meaning steps
+    ++ statements_text events statements (steps_behind it.meaning steps)
+
+-- the text of a run of statements of which each event had a step
+abbrev pub run_text : List Statement → List (List Line) → List ℕ
+run_text statements steps = statements_text (event_lines statements) statements steps
+
+-- the text of what is wrong with a script's line
+abbrev pub fault_text : ScriptError → List ℕ
+fault_text fault.LineTooLong = codes "line too long"
+fault_text fault.UnknownStatement = codes "unknown statement"
+fault_text fault.WrongNumberOfWords = codes "wrong number of words"
+fault_text fault.BadNumber = codes "bad number"
+fault_text fault.BadBytes = codes "bad bytes"
+fault_text fault.BadFault = codes "bad fault"
+fault_text fault.OutOfPlace = codes "out of place"
+fault_text fault.BadConfiguration = codes "bad configuration"
+fault_text fault.UnknownNode = codes "unknown node"
+fault_text fault.BadLimit = codes "bad limit"
+fault_text fault.TooManyLines = codes "too many lines"
+fault_text fault.OutOfMemory = codes "out of memory"

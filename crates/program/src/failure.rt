@@ -1,0 +1,50 @@
+ghost use Rattle.std.specs.Prelude.{◌≡◌, Some};
+ghost use Rattle.program.specs.Runs.{failure_text};
+ghost use Rattle.program.specs.declared.failure.Failure.TheVariants.{Memory};
+
+use crate::script::Fault;
+use crate::text::FaultText;
+use lab::LabError;
+use std::alloc::AllocError;
+use std::fmt;
+
+/// Why a run ended early. With `Output`, a beginning of its text may have been written.
+#[derive(Clone, Copy, Debug)]
+pub enum Failure {
+    Unreadable,
+    Script(Fault),
+    Output,
+    Memory,
+}
+
+impl fmt::Display for Failure {
+    ghost output = { λ it. Some (failure_text it) };
+
+    fn fmt<W: fmt::Write>(&self, f: &mut fmt::Formatter<W>) -> fmt::Result {
+        match self {
+            Failure::Unreadable => write!(f, "script: unreadable"),
+            Failure::Script(fault) => {
+                let (line, text) = (fault.line, FaultText(fault.error));
+                write!(f, "line {line}: {text}")
+            }
+            Failure::Output => write!(f, "output: write"),
+            Failure::Memory => write!(f, "run: memory"),
+        }
+    }
+}
+
+impl From<AllocError> for Failure {
+    ghost from_gives = { λ _ e. e ≡ Memory };
+
+    fn from(_e: AllocError) -> Failure {
+        Failure::Memory
+    }
+}
+
+impl From<LabError> for Failure {
+    ghost from_gives = { λ _ e. e ≡ Memory };
+
+    fn from(_e: LabError) -> Failure {
+        Failure::Memory
+    }
+}

@@ -1,0 +1,14 @@
+//! What the program does: it reads a script, runs it at a node, and prints what happens.
+#![tactic(auto)]
+
+mod command;
+mod failure;
+mod running;
+mod script;
+mod serving;
+mod text;
+
+pub use failure::Failure;
+pub use script::laws::{events_are_read, spellings_differ};
+pub use script::{Fault, ScriptError};
+pub use serving::{refuse, serve, serve_script, tell};

@@ -1,0 +1,105 @@
+ghost use Rattle.std.specs.Prelude.{◌≡◌, ◌++◌, ◌∷◌, [], map, OnOk};
+ghost use Rattle.lab.specs.Events.{node_in};
+ghost use Rattle.program.specs.Reading.{what_of};
+ghost use Rattle.program.specs.Edits.{edit_of};
+
+use disk::Junk;
+use std::alloc::{AllocError, Global};
+use std::marker::Model;
+
+/// A byte string of any length.
+#[derive(Debug, Drop)]
+pub struct Bytes {
+    bytes: Vec<u8>,
+}
+
+impl Model for Bytes {
+    ghost use Rattle.std.specs.Prelude.{ℕ, List};
+
+    ghost Value = { List ℕ };
+
+    ghost view = { λ b. b.bytes.items };
+}
+
+impl Bytes {
+    pub fn new(bytes: Vec<u8>) -> Bytes
+        ensures { result ≡ bytes.items }
+    {
+        Bytes { bytes }
+    }
+
+    pub fn into_vec(self) -> Vec<u8>
+        ensures { result.items ≡ self }
+    {
+        self.bytes
+    }
+}
+
+/// An edit whose key and value are of any length.
+#[derive(Debug, Drop)]
+pub enum Change {
+    Put(Bytes, Bytes),
+    Delete(Bytes),
+}
+
+/// Edits, any number of them.
+#[derive(Debug, Drop)]
+pub struct Changes {
+    changes: Vec<Change>,
+}
+
+impl Model for Changes {
+    ghost use Rattle.std.specs.Prelude.{List, map};
+    ghost use Rattle.kv_types.specs.declared.edit.Edit.{Edit};
+    ghost use Rattle.program.specs.Edits.{edit_of};
+
+    ghost Value = { List Edit };
+
+    ghost view = { λ c. map edit_of c.changes.items };
+}
+
+impl Changes {
+    pub fn new(alloc: Global) -> Changes
+        ensures { result ≡ [] }
+    {
+        Changes {
+            changes: Vec::new(alloc),
+        }
+    }
+
+    pub fn push(&mut self, change: Change) -> Result<(), AllocError>
+        ensures { OnOk result (self.new ≡ self.old ++ edit_of change ∷ []) }
+    {
+        self.changes.push(change)?;
+        Ok(())
+    }
+
+    pub fn into_vec(self) -> Vec<Change>
+        ensures { map edit_of result.items ≡ self }
+    {
+        self.changes
+    }
+}
+
+/// What a line asks for, before anything but its spelling is known.
+#[derive(Debug, Drop)]
+pub enum Asked {
+    Submit(u64, Changes),
+    Get(u64, Bytes, Option<u64>),
+    Stop(u64, Junk),
+    Start(u64),
+}
+
+impl Asked {
+    /// The node that it names.
+    pub fn node(&self) -> u64
+        ensures { result ≡ node_in (what_of self.now) }
+    {
+        match self {
+            Asked::Submit(node, _) => *node,
+            Asked::Get(node, _, _) => *node,
+            Asked::Stop(node, _) => *node,
+            Asked::Start(node) => *node,
+        }
+    }
+}

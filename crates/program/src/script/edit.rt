@@ -1,0 +1,55 @@
+ghost use Rattle.std.specs.Prelude.{◌≡◌, ◌==◌, true, false, not, map, position, MatchOption, IfOk};
+ghost use Rattle.std.specs.List.{list_any};
+ghost use Rattle.program.specs.Statements.{is_edit, edit_text};
+ghost use Rattle.program.specs.Edits.{edit_of};
+
+use super::asked::{Bytes, Change, Changes};
+use super::word::bytes_of;
+use std::alloc::{AllocError, Global};
+
+/// Where the first `=` stands.
+fn place_of_equals(word: &[u8]) -> Option<usize>
+    ensures { result ≡ position (λ b. b == 61) word.now }
+{
+    word.iter().position(|b| *b == b'=')
+}
+
+/// The change that a word spells.
+fn change_of(alloc: Global, word: &[u8]) -> Result<Option<Change>, AllocError>
+    ensures { IfOk result (λ found. MatchOption found (is_edit word.now ≡ false)
+        (λ e. (is_edit word.now ≡ true) × (word.now ≡ edit_text (edit_of e)))) }
+{
+    if let Some(key) = word.strip_prefix(b"-") {
+        return match bytes_of(alloc, key)? {
+            None => Ok(None),
+            Some(key) => Ok(Some(Change::Delete(Bytes::new(key)))),
+        };
+    }
+    let Some(place) = place_of_equals(word) else {
+        return Ok(None);
+    };
+    let Some(key) = bytes_of(alloc, &word[..place])? else {
+        return Ok(None);
+    };
+    let Some(value) = bytes_of(alloc, &word[place + 1..])? else {
+        return Ok(None);
+    };
+    Ok(Some(Change::Put(Bytes::new(key), Bytes::new(value))))
+}
+
+/// The changes that the words spell.
+pub fn changes_of(alloc: Global, words: &[&[u8]]) -> Result<Option<Changes>, AllocError>
+    ensures { IfOk result (λ found. MatchOption found
+        (list_any (λ w. not (is_edit w.now)) words.now ≡ true)
+        (λ edits. (list_any (λ w. not (is_edit w.now)) words.now ≡ false)
+        × (map (λ w. w.now) words.now ≡ map edit_text edits))) }
+{
+    let mut changes = Changes::new(alloc);
+    for word in words {
+        match change_of(alloc, word)? {
+            None => return Ok(None),
+            Some(change) => changes.push(change)?,
+        }
+    }
+    Ok(Some(changes))
+}

@@ -1,0 +1,15 @@
+//! What holds of the words of contracts. The functions do nothing: their clauses are the laws.
+ghost use Rattle.program.specs.Laws.{StringsDiffer, EditsDiffer, EventsDiffer};
+ghost use Rattle.program.specs.Laws.{EventsAreRead};
+
+/// A word spells one byte string at most, and one edit, and words one event.
+pub fn spellings_differ()
+    ensures strings { StringsDiffer }
+    ensures edits { EditsDiffer }
+    ensures events { EventsDiffer }
+{}
+
+/// The words that spell an event are no fault of a script.
+pub fn events_are_read()
+    ensures { EventsAreRead }
+{}

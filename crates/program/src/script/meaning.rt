@@ -1,0 +1,98 @@
+ghost use Rattle.std.specs.Prelude.{◌≡◌, None, Some, map, IfOk, MatchResult};
+ghost use Rattle.std.specs.Option.{option_or};
+ghost use Rattle.lab.specs.Events.{node_in};
+ghost use Rattle.program.specs.Edits.{edit_of};
+ghost use Rattle.program.specs.Meanings.{key_error, value_error, edit_error, edits_error};
+ghost use Rattle.program.specs.Meanings.{size_error, meaning_of};
+ghost use Rattle.program.specs.Reading.{what_of};
+
+use super::asked::{Asked, Bytes, Change, Changes};
+use super::statement::Meaning;
+use kv_types::{Batch, Edit, Key, KvError, Value};
+use lab::What;
+use node::NodeId;
+use std::alloc::{AllocError, Global};
+
+fn key_of(bytes: Bytes) -> Result<Key, KvError>
+    ensures { MatchResult result (λ key. (key_error bytes ≡ None) × (key ≡ bytes))
+        (λ e. key_error bytes ≡ Some e) }
+{
+    Key::new(bytes.into_vec())
+}
+
+fn value_of(bytes: Bytes) -> Result<Value, KvError>
+    ensures { MatchResult result (λ value. (value_error bytes ≡ None) × (value ≡ bytes))
+        (λ e. value_error bytes ≡ Some e) }
+{
+    Value::new(bytes.into_vec())
+}
+
+/// The edit that a change makes. A key's error comes before its value's.
+fn edit(change: Change) -> Result<Edit, KvError>
+    ensures { MatchResult result
+        (λ edit. (edit_error (edit_of change) ≡ None) × (edit ≡ edit_of change))
+        (λ e. edit_error (edit_of change) ≡ Some e) }
+{
+    match change {
+        Change::Put(key, value) => {
+            let key = key_of(key)?;
+            let value = value_of(value)?;
+            Ok(Edit::Put(key, value))
+        }
+        Change::Delete(key) => Ok(Edit::Delete(key_of(key)?)),
+    }
+}
+
+/// The edits that changes make, or the first error of one of them.
+fn edits(alloc: Global, changes: Changes) -> Result<Result<Vec<Edit>, KvError>, AllocError>
+    ensures { IfOk result (λ made. MatchResult made
+        (λ edits. (edits_error changes ≡ None) × (edits.items ≡ changes))
+        (λ e. edits_error changes ≡ Some e)) }
+{
+    let mut edits = Vec::new(alloc);
+    for change in changes.into_vec() {
+        match edit(change) {
+            Ok(edit) => edits.push(edit)?,
+            Err(e) => return Ok(Err(e)),
+        }
+    }
+    Ok(Ok(edits))
+}
+
+/// The batch that edits make, if they may be one.
+fn batch(edits: Vec<Edit>) -> Result<Batch, KvError>
+    ensures { MatchResult result
+        (λ batch. (size_error edits.items ≡ None) × (batch ≡ edits.items))
+        (λ e. size_error edits.items ≡ Some e) }
+{
+    Batch::new(edits)
+}
+
+fn submit(alloc: Global, node: NodeId, changes: Changes) -> Result<Meaning, AllocError>
+    ensures { IfOk result (λ meaning. meaning ≡ meaning_of (What.Submit node changes)) }
+{
+    let edits = match edits(alloc, changes)? {
+        Ok(edits) => edits,
+        Err(e) => return Ok(Meaning::Invalid(e)),
+    };
+    match batch(edits) {
+        Ok(batch) => Ok(Meaning::Event(What::Submit { node, batch })),
+        Err(e) => Ok(Meaning::Invalid(e)),
+    }
+}
+
+/// What comes of a statement that names this node.
+pub fn meaning(alloc: Global, node: NodeId, asked: Asked) -> Result<Meaning, AllocError>
+    requires { node_in (what_of asked) ≡ node }
+    ensures { IfOk result (λ meaning. meaning ≡ meaning_of (what_of asked)) }
+{
+    match asked {
+        Asked::Submit(_, changes) => submit(alloc, node, changes),
+        Asked::Get(_, key, at) => match key_of(key) {
+            Ok(key) => Ok(Meaning::Event(What::Get { node, key, at })),
+            Err(e) => Ok(Meaning::Invalid(e)),
+        },
+        Asked::Stop(_, junk) => Ok(Meaning::Event(What::Stop { node, junk })),
+        Asked::Start(_) => Ok(Meaning::Event(What::Start { node })),
+    }
+}

@@ -1,0 +1,17 @@
+//! Reads the script of a run.
+
+mod asked;
+mod edit;
+mod error;
+mod fault;
+pub mod laws;
+mod lines;
+mod meaning;
+mod reader;
+mod statement;
+mod statements;
+mod word;
+
+pub use error::ScriptError;
+pub use reader::{Fault, Script, read_script};
+pub use statement::{Meaning, Statement};

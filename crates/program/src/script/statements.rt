@@ -1,0 +1,132 @@
+ghost use Rattle.std.specs.Prelude.{◌≡◌, ◌∷◌, ◌<◌, nat_lt, length, true, false, map, codes};
+ghost use Rattle.std.specs.Prelude.{MatchOption, IfOk};
+ghost use Rattle.program.specs.Statements.{are_pairs, hex_text, is_junk, IsJunk};
+ghost use Rattle.program.specs.Reading.{Reads};
+
+use super::asked::{Asked, Bytes};
+use super::edit::changes_of;
+use super::error::ScriptError;
+use super::word::{bytes_of, hex_digit, number};
+use disk::{Junk, JunkBytes};
+use std::alloc::{AllocError, Global};
+
+fn get(alloc: Global, args: &[&[u8]]) -> Result<Asked, ScriptError>
+    ensures { Reads (codes "get" ∷ map (λ w. w.now) args.now) result }
+{
+    let (node, key, at) = match args {
+        [node, key] => (node, key, None),
+        [node, key, at] => (node, key, Some(at)),
+        _ => return Err(ScriptError::WrongNumberOfWords),
+    };
+    let Some(node) = number(node) else {
+        return Err(ScriptError::BadNumber);
+    };
+    let at = match at {
+        None => None,
+        Some(at) => match number(at) {
+            None => return Err(ScriptError::BadNumber),
+            at => at,
+        },
+    };
+    match bytes_of(alloc, key)? {
+        None => Err(ScriptError::BadBytes),
+        Some(key) => Ok(Asked::Get(node, Bytes::new(key), at)),
+    }
+}
+
+fn start(args: &[&[u8]]) -> Result<Asked, ScriptError>
+    ensures { Reads (codes "start" ∷ map (λ w. w.now) args.now) result }
+{
+    match args {
+        [node] => match number(node) {
+            None => Err(ScriptError::BadNumber),
+            Some(node) => Ok(Asked::Start(node)),
+        },
+        _ => Err(ScriptError::WrongNumberOfWords),
+    }
+}
+
+fn submit(alloc: Global, args: &[&[u8]]) -> Result<Asked, ScriptError>
+    ensures { Reads (codes "submit" ∷ map (λ w. w.now) args.now) result }
+{
+    let [node, edits @ ..] = args else {
+        return Err(ScriptError::WrongNumberOfWords);
+    };
+    let Some(node) = number(node) else {
+        return Err(ScriptError::BadNumber);
+    };
+    match changes_of(alloc, edits)? {
+        None => Err(ScriptError::BadBytes),
+        Some(changes) => Ok(Asked::Submit(node, changes)),
+    }
+}
+
+/// The bytes that pairs of hex digits spell.
+fn pairs_of(alloc: Global, word: &[u8]) -> Result<Option<Vec<u8>>, AllocError>
+    ensures { IfOk result (λ found. MatchOption found (are_pairs word.now ≡ false)
+        (λ bytes. (are_pairs word.now ≡ true) × (word.now ≡ hex_text bytes.items))) }
+{
+    let mut bytes = Vec::new(alloc);
+    let mut rest = word;
+    while let [high, low, after @ ..] = rest {
+        match (hex_digit(*high), hex_digit(*low)) {
+            (Some(high), Some(low)) => bytes.push(high * 16 + low)?,
+            _ => return Ok(None),
+        }
+        rest = after;
+    }
+    Ok(if rest.is_empty() { Some(bytes) } else { None })
+}
+
+fn junk_of(alloc: Global, word: &[u8]) -> Result<Option<Junk>, AllocError>
+    ensures { IfOk result (λ found. MatchOption found (is_junk word.now ≡ false)
+        (λ junk. (is_junk word.now ≡ true) × IsJunk junk word.now)) }
+{
+    match word {
+        b"old" => Ok(Some(Junk::Old)),
+        b"new" => Ok(Some(Junk::New)),
+        b"" => Ok(None),
+        _ => match pairs_of(alloc, word)? {
+            None => Ok(None),
+            Some(bytes) => Ok(Some(Junk::Bytes(JunkBytes::new(bytes)))),
+        },
+    }
+}
+
+fn stop(alloc: Global, args: &[&[u8]]) -> Result<Asked, ScriptError>
+    ensures { Reads (codes "stop" ∷ map (λ w. w.now) args.now) result }
+{
+    let (node, junk) = match args {
+        [node] => (node, None),
+        [node, junk] => (node, Some(junk)),
+        _ => return Err(ScriptError::WrongNumberOfWords),
+    };
+    let Some(node) = number(node) else {
+        return Err(ScriptError::BadNumber);
+    };
+    let junk = match junk {
+        None => Junk::Old,
+        Some(junk) => match junk_of(alloc, junk)? {
+            None => return Err(ScriptError::BadFault),
+            Some(junk) => junk,
+        },
+    };
+    Ok(Asked::Stop(node, junk))
+}
+
+/// What the words behind a statement's name ask for, or their least fault.
+pub fn asked_of(alloc: Global, name: &[u8], args: &[&[u8]]) -> Result<Asked, ScriptError>
+    ensures { Reads (name.now ∷ map (λ w. w.now) args.now) result }
+{
+    if name == b"submit".as_slice() {
+        submit(alloc, args)
+    } else if name == b"get".as_slice() {
+        get(alloc, args)
+    } else if name == b"stop".as_slice() {
+        stop(alloc, args)
+    } else if name == b"start".as_slice() {
+        start(args)
+    } else {
+        Err(ScriptError::UnknownStatement)
+    }
+}

@@ -1,0 +1,9 @@
+//! The text of a run.
+
+mod line;
+mod names;
+mod printing;
+mod spelled;
+
+pub use names::FaultText;
+pub use printing::{event_places, print_run};

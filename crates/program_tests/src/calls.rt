@@ -1,0 +1,38 @@
+// What comes of the program's words.
+use program::serve;
+use std::alloc::AllocError;
+
+#[derive(Drop)]
+pub struct Outcome {
+    pub out: Vec<u8>,
+    pub err: Vec<u8>,
+    pub status: u8,
+}
+
+impl Outcome {
+    // Whether this is on standard output and on standard error.
+    pub fn tells(&self, out: &[u8], err: &[u8]) -> bool {
+        self.out.as_slice() == out && self.err.as_slice() == err
+    }
+}
+
+pub fn called(rt: &HostRuntime, words: &[&str], input: &[u8]) -> Outcome {
+    let (mut out, mut err) = (Vec::new(rt.alloc()), Vec::new(rt.alloc()));
+    let mut rest = input;
+    let status = serve(rt, words, &mut rest, &mut out, &mut err);
+    Outcome { out, err, status }
+}
+
+// A script on standard input.
+pub fn ran(rt: &HostRuntime, script: &[u8]) -> Outcome {
+    called(rt, &["chainstore", "lab", "-"], script)
+}
+
+// The bytes so many times.
+pub fn times(rt: &HostRuntime, bytes: &[u8], count: u32) -> Result<Vec<u8>, AllocError> {
+    let mut all = Vec::new(rt.alloc());
+    for _ in 0..count {
+        all.extend_from_slice(bytes)?;
+    }
+    Ok(all)
+}

@@ -1,0 +1,13 @@
+//! Tests of the program: scripts and what is printed of them, faults, the program's words.
+#![tactic(auto)]
+
+#[cfg(test)]
+mod calls;
+#[cfg(test)]
+mod faults;
+#[cfg(test)]
+mod runs;
+#[cfg(test)]
+mod sizes;
+#[cfg(test)]
+mod words;

@@ -1,0 +1,61 @@
+// The program's words, and what goes to standard error where they ask for nothing.
+use crate::calls::called;
+use program::serve;
+
+const USAGE: &[u8] = b"usage: chainstore lab SCRIPT | loop SCRIPT --dir D | dump DIR\n";
+
+const SCRIPT: &[u8] = b"config 1\nsubmit 1 a=1\nget 1 a\n";
+
+const REFUSED: &[&[&str]] = &[
+    &["chainstore"],
+    &["chainstore", "lab"],
+    &["chainstore", "lab", "-", "-"],
+    &["chainstore", "lab", "-x"],
+    &["chainstore", "lab", "--help"],
+    &["chainstore", "--help"],
+    &["chainstore", "-h"],
+    &["chainstore", "--version"],
+    &["chainstore", "-V"],
+    &["chainstore", "help"],
+    &["chainstore", "fly", "-"],
+    &["chainstore", "loop", "-", "--dir", "folder"],
+    &["chainstore", "dump", "folder"],
+];
+
+#[test]
+fn other_words_show_the_usage(rt: HostRuntime) {
+    for words in REFUSED {
+        let outcome = called(&rt, words, SCRIPT);
+        assert!(rt; outcome.tells(b"", USAGE) && outcome.status == 2);
+    }
+}
+
+#[test]
+fn words_name_a_script(rt: HostRuntime) {
+    for words in [
+        ["chainstore", "lab", "-"].as_slice(),
+        &["chainstore", "lab", "--", "-"],
+    ] {
+        let outcome = called(&rt, words, SCRIPT);
+        assert!(rt; outcome.tells(b"2: committed 1\n3: value 1 at 1\n", b""));
+        assert_eq!(rt; outcome.status, 0);
+    }
+    let absent = called(&rt, &["chainstore", "lab", "/no/such/script"], SCRIPT);
+    assert!(rt; absent.tells(b"", b"script: unreadable\n") && absent.status == 1);
+}
+
+#[test]
+fn output_that_takes_no_more_is_told(rt: HostRuntime) {
+    let mut place = [0u8; 4];
+    let mut out = place.as_mut_slice();
+    let mut err = Vec::new(rt.alloc());
+    let mut input = SCRIPT;
+    let status = serve(
+        &rt,
+        &["chainstore", "lab", "-"],
+        &mut input,
+        &mut out,
+        &mut err,
+    );
+    assert!(rt; err.as_slice() == b"output: write\n".as_slice() && status == 1);
+}
