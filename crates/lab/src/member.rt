@@ -5,7 +5,8 @@ ghost use Rattle.chain_model.specs.World.{World};
 ghost use Rattle.lab.specs.Events.{node_in};
 ghost use Rattle.chain_model.specs.Node.{Answer, stopped};
 ghost use Rattle.node.specs.Steps.{Machine, Runs, HasStopped, StopsAs, disk_of};
-ghost use Rattle.lab.specs.Members.{Is, Works, HasCrashed, Asked, WasAsked, WasStarted, WasStopped, Happened};
+ghost use Rattle.lab.specs.Members.{Is, Works, HasCrashed, Asked, WasAsked, WasStarted};
+ghost use Rattle.lab.specs.Members.{WasStopped, Happened};
 ghost use Rattle.lab.specs.Members.{is_honest, state};
 
 use crate::report::{DropReason, Line, Lines};
@@ -46,7 +47,8 @@ fn one_line(alloc: Global, line: Line) -> Result<Lines, AllocError>
 
 // The lines of a step that answered.
 fn replied(alloc: Global, output: Output) -> Result<Lines, AllocError>
-    ensures { IfOk result (λ lines. lines ≡ map (λ reply. Line.Replied reply) output.replies.items) }
+    ensures { IfOk result (λ lines.
+        lines ≡ map (λ reply. Line.Replied reply) output.replies.items) }
 {
     let lines = output
         .replies

@@ -29,6 +29,7 @@ const FAULTS: &[(&str, &str)] = &[
     ("config 1\nget 1 %2D\n", "line 2: bad bytes\n"),
     ("config 1\nget 1 %61\n", "line 2: bad bytes\n"),
     ("config 1\nget 1 a-b\n", "line 2: bad bytes\n"),
+    ("config 1\nget 1 a=\n", "line 2: bad bytes\n"),
     ("config 1\nget 1 %2\n", "line 2: bad bytes\n"),
     ("config 1\nget 1 @@\n", "line 2: bad bytes\n"),
     ("config 1\nget 1 \n", "line 2: bad bytes\n"),

@@ -50,6 +50,15 @@ const RUNS: &[(&str, &str)] = &[
         "2: invalid 3 NoEdits\n3: committed 1\n4: value 1 at 1\n",
     ),
     ("config 1", ""),
+    // The example of docs/SCRIPT.md.
+    (
+        "config 1\n# One batch: the last edit of a key wins.\nsubmit 1 a=1 b=%20x%20 -b\nget 1 a\n\
+         get 1 b\nget 1 a 0\nget 1 a 7\nsubmit 1\nstop 1 01\nget 1 a\nstart 1\nget 1 a\nstart 1\n",
+        "3: committed 1\n4: value 1 at 1\n5: none at 1\n6: none at 0\n7: refused 4 NotCommitted\n\
+         8: invalid 3 NoEdits\n9: node 1 stopped\n10: refused 1 NotRunning\n\
+         11: node 1 started epoch 0 count 1 committed 1\n12: value 1 at 1\n\
+         13: dropped Running\n",
+    ),
 ];
 
 #[test]
