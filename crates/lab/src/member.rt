@@ -4,7 +4,7 @@ ghost use Rattle.chain_model.specs.Configuration.{Configurations};
 ghost use Rattle.chain_model.specs.World.{World};
 ghost use Rattle.lab.specs.Events.{node_in};
 ghost use Rattle.chain_model.specs.Node.{Answer, stopped};
-ghost use Rattle.node.specs.Steps.{Machine, Runs, HasStopped, StopsAs, disk_of};
+ghost use Rattle.node.specs.Steps.{Machine, Runs, MayStep, StopsAs, disk_of};
 ghost use Rattle.lab.specs.Members.{Is, Works, HasCrashed, Asked, WasAsked, WasStarted};
 ghost use Rattle.lab.specs.Members.{WasStopped, Happened};
 ghost use Rattle.lab.specs.Members.{is_honest, state};
@@ -65,7 +65,7 @@ fn asked(
     id: NodeId,
     input: Input,
 ) -> Result<(Member, Lines), LabError>
-    requires { HasStopped node → ⊥ }
+    requires { MayStep node }
     ensures asked { (n : Machine) → Runs is_honest state node id n →
         IfOk result (λ it. Asked id n input it.0 it.1) }
     ensures works { IfOk result (λ it. Works it.0) }
