@@ -104,6 +104,8 @@ impl Member {
         requires { Works self }
         ensures asked { (n : Machine) → Is self id n →
             IfOk result (λ it. WasAsked id n request input it.0 it.1) }
+        ensures same { (disk : _) → self ≡ Member.Resting disk →
+            IfOk result (λ it. it.0 ≡ self) }
         ensures works { IfOk result (λ it. Works it.0) }
     {
         match self {
@@ -120,6 +122,8 @@ impl Member {
         requires { Works self }
         ensures started { (n : Machine) → Is self id n →
             IfOk result (λ it. WasStarted id n it.0 it.1) }
+        ensures same { (node : _) → self ≡ Member.Running node →
+            IfOk result (λ it. it.0 ≡ self) }
         ensures works { IfOk result (λ it. Works it.0) }
     {
         let disk = match self {
@@ -155,6 +159,8 @@ impl Member {
             IfOk result (λ it. HasCrashed junk node it.0) }
         ensures stopped { (n : Machine) → Is self id n →
             IfOk result (λ it. WasStopped id n it.0 it.1) }
+        ensures same { (disk : _) → self ≡ Member.Resting disk →
+            IfOk result (λ it. it.0 ≡ self) }
         ensures works { IfOk result (λ it. Works it.0) }
     {
         match self {
