@@ -196,6 +196,8 @@ impl Member {
         ensures happened { (cs : Configurations) (w : World (List Edit)) → node_in what.now ≡ id →
             Is self id (w.nodes id) →
             IfOk result (λ it. Happened cs w place id what.now it.0 it.1) }
+        ensures crashes { (x : ℕ) (junk : _) (node : _) → what.now ≡ What.Stop x junk →
+            self ≡ Member.Running node → IfOk result (λ it. HasCrashed junk node it.0) }
         ensures works { IfOk result (λ it. Works it.0) }
     {
         let request = place;
