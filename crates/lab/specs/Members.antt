@@ -9,7 +9,7 @@ use Rattle.chain_model.specs.Configuration.{Configurations}
 use Rattle.chain_model.specs.World as model
 use Rattle.node.specs.declared.node.Node.{Node}
 use Rattle.node.specs.declared.stop.Stop.{Stop as Cause}
-use Rattle.node.specs.Steps.{Machine, Runs, AlwaysRests, HasStopped, answer_to, disk_of}
+use Rattle.node.specs.Steps.{Machine, Runs, AlwaysRests, MayStep, answer_to, disk_of}
 use Rattle.lab.specs.declared.event.What.{What}
 use Rattle.lab.specs.declared.member.Member.{Member}
 use Rattle.lab.specs.declared.member.Member.TheVariants.{Running, Resting}
@@ -31,7 +31,7 @@ state disk = state_of disk.slots
 
 -- no step of it was answered by a stop
 abbrev pub Works : Member → Type 0
-Works (Running node) = HasStopped node → ⊥
+Works (Running node) = MayStep node
 Works (Resting disk) = Unit {0}
 
 -- a running node is node x as this machine; a resting one's disk stands for it

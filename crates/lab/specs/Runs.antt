@@ -1,6 +1,6 @@
 -- The report of a run, and the run of the model that it tells of.
 use Rattle.std.specs.Prelude.{◌≡◌, ℕ, suc, List, [], ◌∷◌, length, map, Option, Some, None, true}
-use Rattle.std.specs.Prelude.{false, All}
+use Rattle.std.specs.Prelude.{false, All, replicate}
 use Rattle.kv_types.specs.declared.edit.Edit.{Edit}
 use Rattle.chain_model.specs.Configuration.{Configurations, at_epoch}
 use Rattle.chain_model.specs.World as model
@@ -39,22 +39,22 @@ pub record Ran (cs : Configurations) (w : model.World (List Edit)) (x : ℕ) (ev
   pub is : Is member x ((model.run cs (modelled_from 1 events choices) w).nodes x)
   pub told : steps ≡ told_from cs 1 events choices w
 
--- a machine's numbers
+-- a machine's numbers; it has no tables yet
 pub record AreOf (n : Machine) (numbers : Numbers) : Type 0 where
   pub epoch : numbers.epoch ≡ n.epoch
   pub count : numbers.count ≡ length n.list
   pub committed : numbers.committed ≡ n.committed
   pub floor : numbers.floor ≡ n.floor
   pub kept : numbers.kept ≡ n.kept
+  pub tables : numbers.tables ≡ replicate 7 0
 
 -- a running machine tells its numbers, and one that rests none
 abbrev pub Tells : Option Numbers → Machine → Type 0
 Tells None n = n.running ≡ false
 Tells (Some numbers) n = (n.running ≡ true) × AreOf n numbers
 
--- what is told of a node, and what is left of it: its disk, as it reads and whatever a crash
--- leaves,
--- stands for its machine's whole list
+-- what is told of a node, and what is left of it: its disk stands for its machine's whole list, as
+-- it reads and whatever a crash leaves
 pub record IsLeft (n : Machine) (left : NodeReport) : Type 0 where
   pub disk : AlwaysRests (state left.disk) left.id n
   pub numbers : Tells left.running n

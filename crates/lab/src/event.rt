@@ -1,9 +1,10 @@
-ghost use Rattle.std.specs.Prelude.{◌≡◌, ◌↔◌, IsTrue};
+ghost use Rattle.std.specs.Prelude.{◌≡◌, ◌↔◌, IfOk, IsTrue};
 ghost use Rattle.lab.specs.Events.{node_in, NamesNodes};
 
 use disk::{Fault, Junk};
 use kv_types::{Batch, Key};
 use node::{Configs, NodeId};
+use std::alloc::AllocError;
 
 /// One step of one node. A request has the number of its event's place, from 1.
 #[derive(Debug, Drop)]
@@ -46,6 +47,27 @@ impl What {
             | What::Start { node }
             | What::Stop { node, .. } => *node,
         }
+    }
+
+    pub fn clone(&self) -> Result<What, AllocError>
+        ensures { IfOk result (λ what. what ≡ self.now) }
+    {
+        Ok(match self {
+            What::Submit { node, batch } => What::Submit {
+                node: *node,
+                batch: batch.clone()?,
+            },
+            What::Get { node, key, at } => What::Get {
+                node: *node,
+                key: key.clone()?,
+                at: *at,
+            },
+            What::Start { node } => What::Start { node: *node },
+            What::Stop { node, junk } => What::Stop {
+                node: *node,
+                junk: junk.clone()?,
+            },
+        })
     }
 }
 

@@ -4,7 +4,7 @@ ghost use Rattle.chain_model.specs.Configuration.{Configurations};
 ghost use Rattle.chain_model.specs.World.{World};
 ghost use Rattle.lab.specs.Events.{node_in};
 ghost use Rattle.chain_model.specs.Node.{Answer, stopped};
-ghost use Rattle.node.specs.Steps.{Machine, Runs, HasStopped, StopsAs, disk_of};
+ghost use Rattle.node.specs.Steps.{Machine, Runs, MayStep, StopsAs, disk_of};
 ghost use Rattle.lab.specs.Members.{Is, Works, HasCrashed, Asked, WasAsked, WasStarted};
 ghost use Rattle.lab.specs.Members.{WasStopped, Happened};
 ghost use Rattle.lab.specs.Members.{is_honest, state};
@@ -65,7 +65,7 @@ fn asked(
     id: NodeId,
     input: Input,
 ) -> Result<(Member, Lines), LabError>
-    requires { HasStopped node → ⊥ }
+    requires { MayStep node }
     ensures asked { (n : Machine) → Runs is_honest state node id n →
         IfOk result (λ it. Asked id n input it.0 it.1) }
     ensures works { IfOk result (λ it. Works it.0) }
@@ -104,6 +104,8 @@ impl Member {
         requires { Works self }
         ensures asked { (n : Machine) → Is self id n →
             IfOk result (λ it. WasAsked id n request input it.0 it.1) }
+        ensures same { (disk : _) → self ≡ Member.Resting disk →
+            IfOk result (λ it. it.0 ≡ self) }
         ensures works { IfOk result (λ it. Works it.0) }
     {
         match self {
@@ -120,6 +122,8 @@ impl Member {
         requires { Works self }
         ensures started { (n : Machine) → Is self id n →
             IfOk result (λ it. WasStarted id n it.0 it.1) }
+        ensures same { (node : _) → self ≡ Member.Running node →
+            IfOk result (λ it. it.0 ≡ self) }
         ensures works { IfOk result (λ it. Works it.0) }
     {
         let disk = match self {
@@ -155,6 +159,8 @@ impl Member {
             IfOk result (λ it. HasCrashed junk node it.0) }
         ensures stopped { (n : Machine) → Is self id n →
             IfOk result (λ it. WasStopped id n it.0 it.1) }
+        ensures same { (disk : _) → self ≡ Member.Resting disk →
+            IfOk result (λ it. it.0 ≡ self) }
         ensures works { IfOk result (λ it. Works it.0) }
     {
         match self {
@@ -190,6 +196,8 @@ impl Member {
         ensures happened { (cs : Configurations) (w : World (List Edit)) → node_in what.now ≡ id →
             Is self id (w.nodes id) →
             IfOk result (λ it. Happened cs w place id what.now it.0 it.1) }
+        ensures crashes { (x : ℕ) (junk : _) (node : _) → what.now ≡ What.Stop x junk →
+            self ≡ Member.Running node → IfOk result (λ it. HasCrashed junk node it.0) }
         ensures works { IfOk result (λ it. Works it.0) }
     {
         let request = place;

@@ -1,5 +1,5 @@
 -- The files of a node: what their contents stand for, and an open store over them.
-use Rattle.std.specs.Prelude.{◌≡◌, ◌⊎◌, ℕ, List, [], Option, All}
+use Rattle.std.specs.Prelude.{◌≡◌, ◌≢◌, ◌⊎◌, ℕ, List, [], Option, All}
 use Rattle.std.specs.Prelude.{IsNone, IsSomeAnd, MatchOption}
 use Rattle.kv_types.specs.declared.edit.Edit.{Edit}
 use Rattle.kv_types.specs.Spelling.{IsBatch}
@@ -55,6 +55,11 @@ pub record IsSureOfId (disk : State) (x : ℕ) : Type 0 where
 pub record IsSureId (old new : State) (x : ℕ) : Type 0 where
   pub had : HasId (contents old) x
   pub sure : IsSureOfId new x
+
+-- the files that are no node's are as they were
+abbrev pub KeepsOthers : State → State → Type 0
+KeepsOthers old new = (other : ℕ) → other ≢ identity_file → other ≢ batches_file →
+    new other ≡ old other
 
 -- a crash leaves nothing now that it could not have left before
 abbrev pub LeavesNoMore : State → State → Type 0

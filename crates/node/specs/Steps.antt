@@ -55,9 +55,9 @@ pub record Runs {D : Type 0} (is_honest : D → Type 0) (state : D → State) (n
   pub pending : n.pending ≡ []
   pub running : n.running ≡ true
 
--- an append of it failed, so no step may follow
-abbrev pub HasStopped : {D : Type 0} → Node D → Type 0
-HasStopped node = HasFailed node.engine.log
+-- no append of it failed, so a step may follow
+abbrev pub MayStep : {D : Type 0} → Node D → Type 0
+MayStep node = HasFailed node.engine.log → ⊥
 
 -- what the machine answers to an input
 abbrev pub answer_to : ℕ → Machine → Input → model.Answer (List Edit)

@@ -6,7 +6,7 @@ ghost use Rattle.kv_types.specs.Spelling.{IsBatch};
 ghost use Rattle.disk.specs.State.{Leaves, contents, IsSame};
 ghost use Rattle.record_log.specs.Stands.{Holds, HasFailed, count_of};
 ghost use Rattle.node.specs.Files.{HasBatches, HasId, IsBlank, IsEmpty, IsStore, IsSureId};
-ghost use Rattle.node.specs.Files.{KeepsOneOf, LeavesNoMore};
+ghost use Rattle.node.specs.Files.{KeepsOneOf, KeepsOthers, LeavesNoMore};
 ghost use Rattle.node.specs.Layout.{identity_file, identity_records, batches_file};
 ghost use Rattle.node.specs.Layout.{batch_record, records_from};
 ghost use Rattle.node.specs.Id.{IsId};
@@ -142,6 +142,7 @@ impl Engine {
         ensures created { D.is_honest disk.old → IsEmpty (D.state disk.old) →
             MatchResult result (λ engine. IsStore (D.state disk.new) engine id []) IsOfMachine }
         ensures works { IfOk result (λ engine. HasFailed engine.log → ⊥) }
+        ensures others { D.is_honest disk.old → KeepsOthers (D.state disk.old) (D.state disk.new) }
     {
         let log = Log::create(alloc, disk, BATCHES_FILE)?;
         let mut identity = Log::create(alloc, disk, IDENTITY_FILE)?;
@@ -163,6 +164,7 @@ impl Engine {
             IfErr result (λ e. TellsBlank e (IsBlank (contents (D.state disk.old)))) }
         ensures works { IfOk result (λ engine. HasFailed engine.log → ⊥) }
         ensures crash { D.is_honest disk.old → LeavesNoMore (D.state disk.old) (D.state disk.new) }
+        ensures others { D.is_honest disk.old → KeepsOthers (D.state disk.old) (D.state disk.new) }
     {
         let id = identity_on(alloc, disk)?;
         let log = Log::open(alloc, disk, BATCHES_FILE, 0)?;
@@ -183,6 +185,9 @@ impl Engine {
         ensures crash { (x : ℕ) (list : List (List Edit)) → D.is_honest disk.old →
             IsStore (D.state disk.old) self.old x list →
             KeepsOneOf (D.state disk.new) x list (list ++ batch ∷ []) }
+        ensures others { (x : ℕ) (list : List (List Edit)) → D.is_honest disk.old →
+            IsStore (D.state disk.old) self.old x list →
+            KeepsOthers (D.state disk.old) (D.state disk.new) }
         ensures works { OnOk result (HasFailed self.new.log → ⊥) }
     {
         let number = self.batches.len() as u64 + 1;

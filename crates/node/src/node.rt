@@ -2,9 +2,9 @@ ghost use Rattle.std.specs.Prelude.{◌≡◌, ℕ, [], ◌∷◌, length, repli
 ghost use Rattle.std.specs.Prelude.{OnOk, OnErr, IfOk, MatchResult};
 ghost use Rattle.disk.specs.State.{contents};
 ghost use Rattle.chain_model.specs.Node.{created, started};
-ghost use Rattle.node.specs.Files.{IsEmpty, LeavesNoMore};
+ghost use Rattle.node.specs.Files.{IsEmpty, KeepsOthers, LeavesNoMore};
 ghost use Rattle.node.specs.Starts.{IsStarted, Declines, KeepsTaken, disk_behind};
-ghost use Rattle.node.specs.Steps.{Machine, Runs, AlwaysRests, Answers, StopsAs, HasStopped};
+ghost use Rattle.node.specs.Steps.{Machine, Runs, AlwaysRests, Answers, StopsAs, MayStep};
 ghost use Rattle.node.specs.Steps.{answer_to, disk_of, read_reply};
 ghost use Rattle.node.specs.Stops.{KeepsDisk, TellsDisk, IsOfMachine};
 
@@ -58,7 +58,9 @@ impl<D: Disk + Drop> Node<D> {
         ensures created { D.is_honest disk → IsEmpty (D.state disk) →
             MatchResult result (λ node. Runs D.is_honest D.state node id (created config.now))
             (λ refused. IsOfMachine refused.0) }
-        ensures works { IfOk result (λ node. HasStopped node → ⊥) }
+        ensures others { D.is_honest disk →
+            KeepsOthers (D.state disk) (D.state (disk_behind result)) }
+        ensures works { IfOk result MayStep }
     {
         match Engine::create(alloc, &mut disk, id) {
             Ok(engine) => Ok(Node {
@@ -82,7 +84,9 @@ impl<D: Disk + Drop> Node<D> {
             (λ refused. Declines refused.0 (contents (D.state disk))) }
         ensures crash { D.is_honest disk →
             LeavesNoMore (D.state disk) (D.state (disk_behind result)) }
-        ensures works { IfOk result (λ node. HasStopped node → ⊥) }
+        ensures others { D.is_honest disk →
+            KeepsOthers (D.state disk) (D.state (disk_behind result)) }
+        ensures works { IfOk result MayStep }
     {
         match Engine::open(alloc, &mut disk) {
             Ok(engine) => Ok(Node {
@@ -96,7 +100,7 @@ impl<D: Disk + Drop> Node<D> {
 
     // Takes a batch: the only node of a chain is its head, and commits what it has.
     fn submit(&mut self, alloc: Global, request: u64, batch: Batch) -> Result<Reply, Stop>
-        requires { HasStopped self.old → ⊥ }
+        requires { MayStep self.old }
         ensures keeps { KeepsDisk D.is_honest D.failures (disk_of self.old) (disk_of self.new)
             (TellsDisk result) }
         ensures answered { (x : ℕ) (n : Machine) → Runs D.is_honest D.state self.old x n →
@@ -107,7 +111,9 @@ impl<D: Disk + Drop> Node<D> {
             OnErr result (D.is_honest (disk_of self.new)
             × StopsAs (D.state (disk_of self.new)) x n
             (answer_to x n (Input.Submit request batch))) }
-        ensures works { OnOk result (HasStopped self.new → ⊥) }
+        ensures others { (x : ℕ) (n : Machine) → Runs D.is_honest D.state self.old x n →
+            KeepsOthers (D.state (disk_of self.old)) (D.state (disk_of self.new)) }
+        ensures works { OnOk result (MayStep self.new) }
     {
         if self.engine.batches.len() as u64 == MAX_NUMBER {
             let refusal = Refusal::Exhausted;
@@ -119,7 +125,7 @@ impl<D: Disk + Drop> Node<D> {
     }
 
     fn reply_to(&mut self, alloc: Global, input: Input) -> Result<Reply, Stop>
-        requires { HasStopped self.old → ⊥ }
+        requires { MayStep self.old }
         ensures keeps { KeepsDisk D.is_honest D.failures (disk_of self.old) (disk_of self.new)
             (TellsDisk result) }
         ensures answered { (x : ℕ) (n : Machine) → Runs D.is_honest D.state self.old x n →
@@ -128,7 +134,9 @@ impl<D: Disk + Drop> Node<D> {
         ensures stopped { (x : ℕ) (n : Machine) → Runs D.is_honest D.state self.old x n →
             OnErr result (D.is_honest (disk_of self.new)
             × StopsAs (D.state (disk_of self.new)) x n (answer_to x n input)) }
-        ensures works { OnOk result (HasStopped self.new → ⊥) }
+        ensures others { (x : ℕ) (n : Machine) → Runs D.is_honest D.state self.old x n →
+            KeepsOthers (D.state (disk_of self.old)) (D.state (disk_of self.new)) }
+        ensures works { OnOk result (MayStep self.new) }
     {
         match input {
             Input::Submit { request, batch } => self.submit(alloc, request, batch),
@@ -141,7 +149,7 @@ impl<D: Disk + Drop> Node<D> {
     /// Handles an input to its end. A batch is on the disk before it is acknowledged. After a
     /// `Stop` the node is at its end: its disk is what is left of it.
     pub fn step(&mut self, alloc: Global, input: Input) -> Result<Output, Stop>
-        requires { HasStopped self.old → ⊥ }
+        requires { MayStep self.old }
         ensures keeps { KeepsDisk D.is_honest D.failures (disk_of self.old) (disk_of self.new)
             (TellsDisk result) }
         ensures answered { (x : ℕ) (n : Machine) → Runs D.is_honest D.state self.old x n →
@@ -150,7 +158,9 @@ impl<D: Disk + Drop> Node<D> {
         ensures stopped { (x : ℕ) (n : Machine) → Runs D.is_honest D.state self.old x n →
             OnErr result (D.is_honest (disk_of self.new)
             × StopsAs (D.state (disk_of self.new)) x n (answer_to x n input)) }
-        ensures works { OnOk result (HasStopped self.new → ⊥) }
+        ensures others { (x : ℕ) (n : Machine) → Runs D.is_honest D.state self.old x n →
+            KeepsOthers (D.state (disk_of self.old)) (D.state (disk_of self.new)) }
+        ensures works { OnOk result (MayStep self.new) }
     {
         let mut replies = Vec::new(alloc);
         replies.reserve(1)?;

@@ -12,13 +12,13 @@ pub struct Running {
 }
 
 impl Model for Running {
-    ghost use Rattle.node.specs.Steps.{HasStopped};
+    ghost use Rattle.node.specs.Steps.{MayStep};
 
     ghost Value = { Unit {0} };
 
     ghost view = { λ running. tt };
 
-    ghost invariant = { λ running. HasStopped running.node → ⊥ };
+    ghost invariant = { λ running. MayStep running.node };
 }
 
 /// A put of one key, or its deletion where there is no value.

@@ -37,16 +37,18 @@ go None begun n line lines node rest Skipped is more = inl (is, more)
 go (Some m) begun n line lines node rest Skipped is more = (more.0, inl (is, more.1))
 go None begun n line lines node rest (Config id) is more = inr (
   rw more.0 at is.0,
+  rw more.0 at is.1,
   rw more.0 at more.1,
 )
-go (Some m) begun n line lines node rest (Config id) is more = absurd (filled m is.1)
-go None begun n line lines node rest (Asks meaning) (what, spelled, at, same) more = absurd
+go (Some m) begun n line lines node rest (Config id) is more = absurd (filled m is.2)
+go None begun n line lines node rest (Asks meaning) (what, said, spelled, at, same) more = absurd
     (filled _ (sym at))
-go (Some m) begun n line lines node rest (Asks meaning) (what, spelled, at, same) more = (
+go (Some m) begun n line lines node rest (Asks meaning) (what, said, spelled, at, same) more = (
   more.0,
   inr (
     what,
     rest,
+    said,
     spelled,
     sym (ap (λ o. option_map_or (λ x. x) o 0) at),
     rw same refl,
@@ -75,7 +77,7 @@ behind : (m n : ℕ) (lines : List (List ℕ)) (ss : List Statement) → AreStat
     → AllName m ss
 behind m n [] ss e = rw e (All-nil _)
 behind m n (line ∷ lines) ss (inl more) = behind m (suc n) lines ss more.1
-behind m n (line ∷ lines) ss (inr (what, rest, spelled, node, same, more)) =
+behind m n (line ∷ lines) ss (inr (what, rest, said, spelled, node, same, more)) =
     rw same (All-cons (λ it. Names m it.meaning) (statement n (meaning_of what)) rest
     (has_name m what (error_of what) node) (behind m (suc n) lines rest more))
 
@@ -83,7 +85,7 @@ pub all_name : (n : ℕ) (lines : List (List ℕ)) (m : ℕ) (ss : List Statemen
     → IsScript n lines m ss → AllName m ss
 all_name n [] m ss e = absurd e
 all_name n (line ∷ lines) m ss (inl more) = all_name (suc n) lines m ss more.1
-all_name n (line ∷ lines) m ss (inr more) = behind m (suc n) lines ss more.1
+all_name n (line ∷ lines) m ss (inr more) = behind m (suc n) lines ss more.2
 
 -- one line is taken
 pub takes_on : (before after : Before) (n : ℕ) (line : List ℕ) (lines : List (List ℕ))

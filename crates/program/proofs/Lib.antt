@@ -11,3 +11,4 @@ pub mod Printed
 pub mod Wholes
 pub mod OneText
 pub mod ReadBack
+pub mod ReadScripts

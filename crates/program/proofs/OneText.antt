@@ -17,7 +17,8 @@ use Rattle.kv_types.specs.declared.edit.Edit.{Edit}
 use Rattle.kv_types.specs.declared.edit.Edit.TheVariants.{Put, Delete}
 use Rattle.program.specs.Words.{is_plain, byte_text, bytes_text}
 use Rattle.program.specs.Statements.{edit_text, hex_text, IsJunk, IsSpelled}
-use Rattle.program.specs.Laws.{AreBytes, AreBytesIn, AreBytesOf, CanBeSaid}
+use Rattle.program.specs.Words.{AreBytes}
+use Rattle.program.specs.Statements.{AreBytesIn, AreBytesOf, CanBeSaid}
 use Rattle.lab.specs.declared.event.What.{What}
 use Rattle.lab.specs.declared.event.What.TheVariants.{Submit, Get, Start, Stop}
 

@@ -12,8 +12,9 @@ use Rattle.program.specs.declared.script.statement.Before.{Before}
 use Rattle.program.specs.declared.script.statement.Item.TheVariants.{Config}
 use Rattle.program.specs.declared.script.statement.Meaning.{Meaning}
 use Rattle.program.specs.Words.{has_fault, before_fault}
-use Rattle.program.specs.Statements.{IsSpelled, fault_of_words}
+use Rattle.program.specs.Statements.{CanBeSaid, IsSpelled, fault_of_words}
 use Rattle.program.specs.Meanings.{meaning_of}
+use Rattle.program.specs.Scripts.{CanBeNode}
 use Rattle.program.specs.Faults.{node_fault, place_fault, statement_fault, config_fault}
 use Rattle.program.specs.Reading.{Places, ReadsWords}
 use Rattle.program.proofs.Numbers.{own}
@@ -35,7 +36,7 @@ place_of before words (Stop n junk) small (inr e) = at_second before words _ n _
 place_of before words (Start n) small e = at_second before words _ n _ small e
 
 -- the fault of a statement that is spelled and bears no fault is that of its place
-is_of_place : (before : Before) (name : List ℕ) (args cut : List (List ℕ)) (what : What)
+pub is_of_place : (before : Before) (name : List ℕ) (args cut : List (List ℕ)) (what : What)
     → cut ≡ args → cut ≡ before_fault args → false ≡ has_fault args
     → node_in what < 2 ^ 64 → fault_of_words (name ∷ cut) ≡ None → IsSpelled what (name ∷ cut)
     → statement_fault before name args ≡ node_fault before.node (node_in what)
@@ -45,15 +46,15 @@ is_of_place before name args cut what whole before_it none small good spelled =
 -- a statement that stands in its place, and one that does not
 pub is_placed : (before : Before) (name : List ℕ) (args cut : List (List ℕ)) (what : What)
     (meaning : Meaning) (id : ℕ) → cut ≡ args → cut ≡ before_fault args → false ≡ has_fault args
-    → node_in what < 2 ^ 64 → fault_of_words (name ∷ cut) ≡ None → IsSpelled what (name ∷ cut)
-    → before.node ≡ Some id → node_in what ≡ id → node_fault (Some id) id ≡ None
+    → node_in what < 2 ^ 64 → fault_of_words (name ∷ cut) ≡ None → CanBeSaid what
+    → IsSpelled what (name ∷ cut) → before.node ≡ Some id → node_in what ≡ id → node_fault (Some id) id ≡ None
     → meaning ≡ meaning_of what
     → Places before name args (Ok meaning)
-is_placed before name args cut what meaning id whole before_it none small good spelled node same
-    free is = (
+is_placed before name args cut what meaning id whole before_it none small good said spelled node
+    same free is = (
       is_of_place before name args cut what whole before_it none small good spelled
           ∙ rw (node, same) free,
-      (what, rw whole at spelled, rw same node, is),
+      (what, said, rw whole at spelled, rw same node, is),
     )
 
 pub is_misplaced : (before : Before) (name : List ℕ) (args cut : List (List ℕ)) (what : What)
@@ -69,8 +70,8 @@ pub own_node : (id : ℕ) → node_fault (Some id) id ≡ None
 own_node id = grind (arith, nat_tests)
 
 pub is_config : (before : Before) (words args : List (List ℕ)) (n : ℕ) → n < 2 ^ 64
-    → words ≡ codes "config" ∷ args → args ≡ decimal n ∷ [] → before.node ≡ None
+    → words ≡ codes "config" ∷ args → args ≡ decimal n ∷ [] → CanBeNode n → before.node ≡ None
     → config_fault before args ≡ None
     → ReadsWords before words (Ok (Config n))
-is_config before words args n small e a free good =
-    (rw (e, good) refl, (rw (e, a) refl, free), rw (e, a, digits_value-decimal own n small) refl)
+is_config before words args n small e a can free good =
+    (rw (e, good) refl, (rw (e, a) refl, can, free), rw (e, a, digits_value-decimal own n small) refl)

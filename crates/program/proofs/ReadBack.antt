@@ -28,7 +28,8 @@ use Rattle.program.specs.Statements.{edit_text, hex_text, IsJunk, IsSpelled, is_
 use Rattle.program.specs.Statements.{are_pairs, is_bad_number, is_bad_text, is_bad_junk}
 use Rattle.program.specs.Statements.{fault_of_words, Kind}
 use Rattle.program.specs.Statements.Kind.{edit}
-use Rattle.program.specs.Laws.{AreBytes, AreBytesIn, AreBytesOf, CanBeSaid}
+use Rattle.program.specs.Words.{AreBytes}
+use Rattle.program.specs.Statements.{AreBytesIn, AreBytesOf, CanBeSaid}
 use Rattle.program.proofs.Numbers.{own, is_number_of}
 use Rattle.program.proofs.Texts.{bytes_done}
 
@@ -37,7 +38,7 @@ lead zero small e =
     omega (arith, length-decimal-le 1 0 (omega arith) (omega arith) small, decimal_nonempty 0 small)
 lead (suc n) small e = absurd (omega (arith, first_decimal (suc n) (omega arith) small, e))
 
-number_read : (n : ℕ) → n < 2 ^ 63 → is_number (decimal n) ≡ true
+pub number_read : (n : ℕ) → n < 2 ^ 63 → is_number (decimal n) ≡ true
 number_read n small =
     let wide : n < 2 ^ 64 = omega arith in
     is_number_of (decimal n) (record {

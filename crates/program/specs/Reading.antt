@@ -14,9 +14,9 @@ use Rattle.program.specs.declared.script.statement.Item.{Item}
 use Rattle.program.specs.declared.script.statement.Item.TheVariants.{Skipped, Config, Asks}
 use Rattle.program.specs.declared.script.statement.Meaning.{Meaning}
 use Rattle.program.specs.declared.script.statement.Statement.{Statement}
-use Rattle.program.specs.Statements.{IsSpelled, fault_of_words}
+use Rattle.program.specs.Statements.{CanBeSaid, IsSpelled, fault_of_words}
 use Rattle.program.specs.Meanings.{meaning_of}
-use Rattle.program.specs.Scripts.{is_skipped, words_of, statement}
+use Rattle.program.specs.Scripts.{CanBeNode, is_skipped, words_of, statement}
 use Rattle.program.specs.Faults.{statement_fault, words_fault, after_words, line_fault}
 use Rattle.program.specs.Faults.{after_line, numbered_fault}
 
@@ -29,16 +29,17 @@ what_of (Start node) = what.Start node
 
 -- a reader gives the statement that is spelled, or the least fault, unless memory runs out
 abbrev pub Reads : List (List ℕ) → Result Asked ScriptError → Type 0
-Reads words (Ok asked) = (fault_of_words words ≡ None) × IsSpelled (what_of asked) words
+Reads words (Ok asked) =
+    (fault_of_words words ≡ None) × CanBeSaid (what_of asked) × IsSpelled (what_of asked) words
 Reads words (Err e) = (e ≢ OutOfMemory) → fault_of_words words ≡ Some e
 
 -- the words say so, behind such lines
 abbrev pub IsItemOfWords : Before → List (List ℕ) → Item → Type 0
 IsItemOfWords before words Skipped = ⊥
 IsItemOfWords before words (Config node) =
-    (words ≡ codes "config" ∷ decimal node ∷ []) × (before.node ≡ None)
+    (words ≡ codes "config" ∷ decimal node ∷ []) × CanBeNode node × (before.node ≡ None)
 IsItemOfWords before words (Asks meaning) =
-    (what : What) × IsSpelled what words × (before.node ≡ Some (node_in what))
+    (what : What) × CanBeSaid what × IsSpelled what words × (before.node ≡ Some (node_in what))
     × (meaning ≡ meaning_of what)
 
 -- the line says so
@@ -61,8 +62,8 @@ statements_of n (Asks meaning) = statement n meaning ∷ []
 abbrev pub Places : Before → List ℕ → List (List ℕ) → Result Meaning ScriptError → Type 0
 Places before name args (Ok meaning) =
     (statement_fault before name args ≡ None)
-    × ((what : What) × IsSpelled what (name ∷ args) × (before.node ≡ Some (node_in what))
-    × (meaning ≡ meaning_of what))
+    × ((what : What) × CanBeSaid what × IsSpelled what (name ∷ args)
+    × (before.node ≡ Some (node_in what)) × (meaning ≡ meaning_of what))
 Places before name args (Err e) = (e ≢ OutOfMemory) → statement_fault before name args ≡ Some e
 
 abbrev pub ReadsWords : Before → List (List ℕ) → Result Item ScriptError → Type 0

@@ -1,6 +1,6 @@
 -- A whole script: lines that are skipped, one configuration, and statements for its node.
 use Rattle.std.specs.Prelude.{◌≡◌, ◌⊎◌, ℕ, suc, Bool, true, ◌==◌, if◌then◌else◌, List, [], ◌∷◌}
-use Rattle.std.specs.Prelude.{codes}
+use Rattle.std.specs.Prelude.{◌≤◌, codes}
 use Rattle.std.specs.Fmt.{decimal}
 use Rattle.std.specs.List.{slice_split, onto_first}
 use Rattle.lab.specs.declared.event.What.{What}
@@ -8,7 +8,7 @@ use Rattle.lab.specs.Events.{node_in}
 use Rattle.program.specs.declared.script.statement.Statement.{Statement}
 use Rattle.program.specs.declared.script.statement.Meaning.{Meaning}
 use Rattle.program.specs.declared.script.statement.Meaning.TheVariants.{Event, Invalid}
-use Rattle.program.specs.Statements.{IsSpelled}
+use Rattle.program.specs.Statements.{CanBeSaid, IsSpelled}
 use Rattle.program.specs.Meanings.{meaning_of}
 
 -- the lines of a text, each ended by a line feed, which the last may lack
@@ -35,9 +35,14 @@ AreStatements node n [] statements = statements ≡ []
 AreStatements node n (line ∷ lines) statements =
     ((is_skipped line ≡ true) × AreStatements node (suc n) lines statements)
     ⊎ ((what : What) × (rest : List Statement)
-    × IsSpelled what (words_of line) × (node_in what ≡ node)
+    × CanBeSaid what × IsSpelled what (words_of line) × (node_in what ≡ node)
     × (statements ≡ statement n (meaning_of what) ∷ rest)
     × AreStatements node (suc n) lines rest)
+
+-- a number that a node may have
+pub record CanBeNode (node : ℕ) : Type 0 where
+  pub least : 1 ≤ node
+  pub greatest : node ≤ 65535
 
 -- lines that are a script, the first with number n: skipped ones, then a configuration, then what
 -- may stand behind it
@@ -45,7 +50,7 @@ abbrev pub IsScript : ℕ → List (List ℕ) → ℕ → List Statement → Typ
 IsScript n [] node statements = ⊥
 IsScript n (line ∷ lines) node statements =
     ((is_skipped line ≡ true) × IsScript (suc n) lines node statements)
-    ⊎ ((words_of line ≡ codes "config" ∷ decimal node ∷ [])
+    ⊎ ((words_of line ≡ codes "config" ∷ decimal node ∷ []) × CanBeNode node
     × AreStatements node (suc n) lines statements)
 
 -- an event names the node

@@ -1,7 +1,7 @@
 -- The statements of a script: how each is spelled, and the least fault of the words of one.
 use Rattle.std.specs.Prelude.{◌≡◌, ℕ, ◌+◌, ◌/◌, ◌%◌, Bool, true, false, ◌&&◌, ◌||◌, not, ◌==◌}
 use Rattle.std.specs.Prelude.{nat_lt, if◌then◌else◌, List, [], ◌∷◌, ◌++◌, length, map, codes, ◌⊎◌}
-use Rattle.std.specs.Prelude.{Option, Some, None, take, drop, position}
+use Rattle.std.specs.Prelude.{Option, Some, None, take, drop, position, ◌<◌, ◌^◌, All}
 use Rattle.std.specs.Fmt.{decimal}
 use Rattle.std.specs.List.{list_any, zip, flat_map}
 use Rattle.std.specs.Option.{option_map_or}
@@ -18,7 +18,7 @@ use Rattle.program.specs.declared.script.error.ScriptError.TheVariants.{UnknownS
 use Rattle.program.specs.declared.script.error.ScriptError.TheVariants.{WrongNumberOfWords}
 use Rattle.program.specs.declared.script.error.ScriptError.TheVariants.{BadNumber, BadBytes}
 use Rattle.program.specs.declared.script.error.ScriptError.TheVariants.{BadFault}
-use Rattle.program.specs.Words.{bytes_text, is_byte_string, is_number, is_hex}
+use Rattle.program.specs.Words.{AreBytes, bytes_text, is_byte_string, is_number, is_hex}
 
 -- KEY=VALUE or -KEY
 abbrev pub edit_text : Edit → List ℕ
@@ -34,6 +34,24 @@ abbrev pub IsJunk : Junk → List ℕ → Type 0
 IsJunk Old word = word ≡ codes "old"
 IsJunk New word = word ≡ codes "new"
 IsJunk (Bytes bs) word = (nat_lt 0 (length bs) ≡ true) × (word ≡ hex_text bs)
+
+-- an edit, and what a stop leaves, of bytes
+abbrev pub AreBytesIn : Edit → Type 0
+AreBytesIn (Put key value) = AreBytes key × AreBytes value
+AreBytesIn (Delete key) = AreBytes key
+
+abbrev pub AreBytesOf : Junk → Type 0
+AreBytesOf Old = Unit {0}
+AreBytesOf New = Unit {0}
+AreBytesOf (Bytes bytes) = AreBytes bytes
+
+-- an event of bytes, and of numbers that a script may name
+abbrev pub CanBeSaid : What → Type 0
+CanBeSaid (Submit node edits) = (node < 2 ^ 63) × All AreBytesIn edits
+CanBeSaid (Get node key None) = (node < 2 ^ 63) × AreBytes key
+CanBeSaid (Get node key (Some at)) = (node < 2 ^ 63) × AreBytes key × (at < 2 ^ 63)
+CanBeSaid (Start node) = node < 2 ^ 63
+CanBeSaid (Stop node junk) = (node < 2 ^ 63) × AreBytesOf junk
 
 -- these words spell the event
 abbrev pub IsSpelled : What → List (List ℕ) → Type 0

@@ -1,11 +1,16 @@
 -- The words of a script: numbers and byte strings, each with one spelling.
 use Rattle.std.specs.Prelude.{ℕ, ◌+◌, ◌-◌, ◌*◌, ◌/◌, ◌%◌, ◌^◌, Bool, true, false, ◌&&◌, ◌||◌, not}
+use Rattle.std.specs.Prelude.{◌<◌, All}
 use Rattle.std.specs.Prelude.{◌==◌, nat_lt, nat_le, if◌then◌else◌, List, [], ◌∷◌, length}
 use Rattle.std.specs.Prelude.{slice_index}
 use Rattle.std.specs.List.{flat_map, list_any}
 use Rattle.std.specs.Char.{digit_char}
 use Rattle.std.specs.Str.{all_ascii_digits}
 use Rattle.std.specs.Str.Parse.{digits_value}
+
+-- each is a byte
+abbrev pub AreBytes : List ℕ → Type 0
+AreBytes bytes = All (λ b. b < 256) bytes
 
 -- letters, digits, _ and . stand for themselves in a byte string
 abbrev pub is_plain : ℕ → Bool

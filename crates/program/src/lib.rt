@@ -9,6 +9,6 @@ mod serving;
 mod text;
 
 pub use failure::Failure;
-pub use script::laws::{events_are_read, spellings_differ};
+pub use script::laws::{scripts_are_read, spellings_differ};
 pub use script::{Fault, ScriptError};
 pub use serving::{refuse, serve, serve_script, tell};

@@ -8,37 +8,16 @@ use crate::script::{Meaning, Script, Statement, read_script};
 use crate::text::{event_places, print_run};
 use disk::Fault;
 use kv_types::Limits;
-use lab::{Event, What};
+use lab::Event;
 use node::{Config, Configs};
 use std::alloc::{AllocError, Global};
 use std::io::{self, ErrorKind, Read, Write};
-
-fn copy(what: &What) -> Result<What, AllocError>
-    ensures { IfOk result (λ it. it ≡ what.now) }
-{
-    Ok(match what {
-        What::Submit { node, batch } => What::Submit {
-            node: *node,
-            batch: batch.clone()?,
-        },
-        What::Get { node, key, at } => What::Get {
-            node: *node,
-            key: key.clone()?,
-            at: *at,
-        },
-        What::Start { node } => What::Start { node: *node },
-        What::Stop { node, junk } => What::Stop {
-            node: *node,
-            junk: junk.clone()?,
-        },
-    })
-}
 
 fn add_event(events: &mut Vec<Event>, meaning: &Meaning) -> Result<(), AllocError>
     ensures { OnOk result (events.new.items ≡ events.old.items ++ event_of meaning.now) }
 {
     if let Meaning::Event(what) = meaning {
-        let what = copy(what)?;
+        let what = what.clone()?;
         let fault = Fault::None;
         events.push(Event { what, fault })?;
     }

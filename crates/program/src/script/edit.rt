@@ -1,6 +1,6 @@
-ghost use Rattle.std.specs.Prelude.{◌≡◌, ◌==◌, true, false, not, map, position, MatchOption, IfOk};
+ghost use Rattle.std.specs.Prelude.{◌≡◌, ◌==◌, true, false, not, map, position, MatchOption, IfOk, All};
 ghost use Rattle.std.specs.List.{list_any};
-ghost use Rattle.program.specs.Statements.{is_edit, edit_text};
+ghost use Rattle.program.specs.Statements.{is_edit, edit_text, AreBytesIn};
 ghost use Rattle.program.specs.Edits.{edit_of};
 
 use super::asked::{Bytes, Change, Changes};
@@ -17,7 +17,8 @@ fn place_of_equals(word: &[u8]) -> Option<usize>
 /// The change that a word spells.
 fn change_of(alloc: Global, word: &[u8]) -> Result<Option<Change>, AllocError>
     ensures { IfOk result (λ found. MatchOption found (is_edit word.now ≡ false)
-        (λ e. (is_edit word.now ≡ true) × (word.now ≡ edit_text (edit_of e)))) }
+        (λ e. (is_edit word.now ≡ true) × AreBytesIn (edit_of e)
+        × (word.now ≡ edit_text (edit_of e)))) }
 {
     if let Some(key) = word.strip_prefix(b"-") {
         return match bytes_of(alloc, key)? {
@@ -41,7 +42,7 @@ fn change_of(alloc: Global, word: &[u8]) -> Result<Option<Change>, AllocError>
 pub fn changes_of(alloc: Global, words: &[&[u8]]) -> Result<Option<Changes>, AllocError>
     ensures { IfOk result (λ found. MatchOption found
         (list_any (λ w. not (is_edit w.now)) words.now ≡ true)
-        (λ edits. (list_any (λ w. not (is_edit w.now)) words.now ≡ false)
+        (λ edits. (list_any (λ w. not (is_edit w.now)) words.now ≡ false) × All AreBytesIn edits
         × (map (λ w. w.now) words.now ≡ map edit_text edits))) }
 {
     let mut changes = Changes::new(alloc);

@@ -4,7 +4,7 @@ ghost use Rattle.std.specs.Fmt.{decimal};
 ghost use Rattle.std.specs.List.{list_all};
 ghost use Rattle.program.specs.declared.script.error.ScriptError.TheVariants.{OutOfMemory};
 ghost use Rattle.program.specs.Words.{is_number};
-ghost use Rattle.program.specs.Scripts.{lines_of, is_skipped, IsScript, Names};
+ghost use Rattle.program.specs.Scripts.{lines_of, is_skipped, CanBeNode, IsScript, Names};
 ghost use Rattle.program.specs.Faults.{is_one_id, config_fault, script_fault, start};
 ghost use Rattle.program.specs.Reading.{ReadsLine, ReadsWords, Places, Takes};
 ghost use Rattle.program.specs.Reading.{statements_of};
@@ -48,7 +48,7 @@ fn are_numbers(words: &[&[u8]]) -> bool
 fn one_id(words: &[&[u8]]) -> Option<NodeId>
     ensures { MatchOption result (is_one_id (map (λ w. w.now) words.now) ≡ false)
         (λ id. (is_one_id (map (λ w. w.now) words.now) ≡ true)
-        × (map (λ w. w.now) words.now ≡ decimal id ∷ [])) }
+        × CanBeNode id × (map (λ w. w.now) words.now ≡ decimal id ∷ [])) }
 {
     let [word] = words else {
         return None;
@@ -63,7 +63,8 @@ fn one_id(words: &[&[u8]]) -> Option<NodeId>
 fn config(before: Before, args: &[&[u8]]) -> Result<NodeId, ScriptError>
     ensures { MatchResult result
         (λ node. (config_fault before (map (λ w. w.now) args.now) ≡ None)
-        × (map (λ w. w.now) args.now ≡ decimal node ∷ []) × (before.node ≡ None))
+        × (map (λ w. w.now) args.now ≡ decimal node ∷ []) × CanBeNode node
+        × (before.node ≡ None))
         (λ e. config_fault before (map (λ w. w.now) args.now) ≡ Some e) }
 {
     let (ids, has_fault) = split_fault(args);

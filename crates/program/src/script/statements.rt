@@ -1,6 +1,7 @@
 ghost use Rattle.std.specs.Prelude.{◌≡◌, ◌∷◌, ◌<◌, nat_lt, length, true, false, map, codes};
 ghost use Rattle.std.specs.Prelude.{MatchOption, IfOk};
-ghost use Rattle.program.specs.Statements.{are_pairs, hex_text, is_junk, IsJunk};
+ghost use Rattle.program.specs.Statements.{are_pairs, hex_text, is_junk, AreBytesOf, IsJunk};
+ghost use Rattle.program.specs.Words.{AreBytes};
 ghost use Rattle.program.specs.Reading.{Reads};
 
 use super::asked::{Asked, Bytes};
@@ -64,7 +65,8 @@ fn submit(alloc: Global, args: &[&[u8]]) -> Result<Asked, ScriptError>
 /// The bytes that pairs of hex digits spell.
 fn pairs_of(alloc: Global, word: &[u8]) -> Result<Option<Vec<u8>>, AllocError>
     ensures { IfOk result (λ found. MatchOption found (are_pairs word.now ≡ false)
-        (λ bytes. (are_pairs word.now ≡ true) × (word.now ≡ hex_text bytes.items))) }
+        (λ bytes. (are_pairs word.now ≡ true) × AreBytes bytes.items
+        × (word.now ≡ hex_text bytes.items))) }
 {
     let mut bytes = Vec::new(alloc);
     let mut rest = word;
@@ -80,7 +82,7 @@ fn pairs_of(alloc: Global, word: &[u8]) -> Result<Option<Vec<u8>>, AllocError>
 
 fn junk_of(alloc: Global, word: &[u8]) -> Result<Option<Junk>, AllocError>
     ensures { IfOk result (λ found. MatchOption found (is_junk word.now ≡ false)
-        (λ junk. (is_junk word.now ≡ true) × IsJunk junk word.now)) }
+        (λ junk. (is_junk word.now ≡ true) × AreBytesOf junk × IsJunk junk word.now)) }
 {
     match word {
         b"old" => Ok(Some(Junk::Old)),

@@ -1,7 +1,7 @@
 ghost use Rattle.std.specs.Prelude.{◌≡◌, ◌^◌, ◌<◌, ◌++◌, true, false, MatchOption, IfOk, length};
 ghost use Rattle.std.specs.Fmt.{decimal};
 ghost use Rattle.std.specs.Str.Parse.{digits_value};
-ghost use Rattle.program.specs.Words.{is_plain, byte_text, bytes_text, are_bytes};
+ghost use Rattle.program.specs.Words.{AreBytes, is_plain, byte_text, bytes_text, are_bytes};
 ghost use Rattle.program.specs.Words.{is_byte_string, is_number, is_hex, hex_value};
 
 use std::alloc::{AllocError, Global};
@@ -66,7 +66,8 @@ fn first_byte(text: &[u8]) -> Option<(u8, &[u8])>
 /// The byte string that a word spells.
 pub fn bytes_of(alloc: Global, word: &[u8]) -> Result<Option<Vec<u8>>, AllocError>
     ensures { IfOk result (λ found. MatchOption found (is_byte_string word.now ≡ false)
-        (λ bytes. (is_byte_string word.now ≡ true) × (word.now ≡ bytes_text bytes.items))) }
+        (λ bytes. (is_byte_string word.now ≡ true) × AreBytes bytes.items
+        × (word.now ≡ bytes_text bytes.items))) }
 {
     let mut bytes = Vec::new(alloc);
     if word == b"@".as_slice() {

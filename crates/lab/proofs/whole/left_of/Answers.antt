@@ -17,6 +17,7 @@ returns-in-Running-clause-left c = λ n is.
           committed = c.committed.ensures x n r;
           floor = c.floor.ensures x n r;
           kept = c.kept.ensures x n r;
+          tables = c.tables.ensures;
         },
       );
     }

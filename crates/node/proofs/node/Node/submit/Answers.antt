@@ -25,3 +25,11 @@ returns-clause-answered g c = λ x n r.
     c.if-len-eq-MAX_NUMBER.false (omega (arith, c.len.ensures, ap length r.store.batches, full)) in
     took g.D.Disk.is_honest g.D.Disk.state old new x n c.args.request c.args.batch r honest store
     apart c.len-number.result (omega (arith, c.len-number.ensures))
+
+-- it writes as the store does
+pub returns-in_err-append-clause-others : goal.returns-in_err-append-clause-others
+returns-in_err-append-clause-others g c = λ x n r.
+    c.append.ensures.others x n.list r.honest r.store
+
+pub returns-clause-others : goal.returns-clause-others
+returns-clause-others g c = λ x n r. c.append.ensures.others x n.list r.honest r.store

@@ -12,7 +12,7 @@ returns-in_err-node c =
           (λ w. w.now) c.split_fault-has_fault.result.0.now)
           (what_of c.in_ok-asked.asked) c.in_err-node.field-0.0
           (cut.whole c.if-has_fault.false) cut.before
-          (sym c.if-has_fault.false ∙ cut.has) (search rules) asked.0 asked.1,
+          (sym c.if-has_fault.false ∙ cut.has) (search rules) asked.0 asked.2,
     )
 
 pub returns : goal.returns
@@ -22,5 +22,5 @@ returns c =
     is_placed c.args.before c.args.name.now (map (λ w. w.now) c.args.args.now) _
     (what_of c.in_ok-asked.asked) _ c.in_ok-node.node
     (cut.whole c.if-has_fault.false) cut.before
-    (sym c.if-has_fault.false ∙ cut.has) (search rules) asked.0 asked.1 at.0 (search rules)
+    (sym c.if-has_fault.false ∙ cut.has) (search rules) asked.0 asked.1 asked.2 at.0 (search rules)
     (own_node _) (search rules)

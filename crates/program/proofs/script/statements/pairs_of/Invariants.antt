@@ -1,4 +1,5 @@
 use Rattle.std.proofs.Common.{◌≡◌, ◌++◌, length}
+use Rattle.program.specs.Words.{AreBytes}
 use Rattle.program.specs.Statements.{are_pairs, hex_text}
 use Rattle.program.proofs.script.statements.pairs_of.Given as goal
 
@@ -6,6 +7,7 @@ abbrev pub invariant-loop-rest : goal.invariant-loop-rest
 invariant-loop-rest l = record {
   spelled : l.fn.word ≡ hex_text l.bytes.items ++ l.rest;
   decides : are_pairs l.fn.word ≡ are_pairs l.rest;
+  each : AreBytes l.bytes.items;
 }
 
 abbrev pub decreases-loop-rest : goal.decreases-loop-rest

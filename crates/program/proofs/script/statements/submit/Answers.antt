@@ -13,5 +13,6 @@ pub returns-in-Some-2 : goal.returns-in-Some-2
 returns-in-Some-2 c =
     let e = rw c.in-Some-2.is at c.in_ok-changes_of.ensures in (
       rw (submit_fault c.args.args.now _ c.in-len1-up.len_at_least c.in-Some.ensures.0, e.0) refl,
-      rw (named c.args.args.now _ _ c.in-len1-up.len_at_least c.in-Some.ensures.2, e.1) refl,
+      (c.in-Some.ensures.1, e.1),
+      rw (named c.args.args.now _ _ c.in-len1-up.len_at_least c.in-Some.ensures.2, e.2) refl,
     )

@@ -7,5 +7,7 @@ returns-in-None c = not_bytes c.args.word.now (search rules) (c.loop-rest.invari
     ∙ c.in-None.ensures)
 
 pub returns : goal.returns
-returns c = bytes_done c.args.word.now c.loop-rest.bytes.items (search rules) (search rules)
-    (search rules)
+returns c =
+    let done = bytes_done c.args.word.now c.loop-rest.bytes.items (search rules) (search rules)
+    (search rules) in
+    (done.0, c.loop-rest.invariant.each, done.1)

@@ -1,6 +1,6 @@
 use Rattle.std.proofs.Common.{◌≡◌, ◌++◌, length}
 use Rattle.std.specs.List.{flat_map}
-use Rattle.program.specs.Words.{byte_text, are_bytes}
+use Rattle.program.specs.Words.{AreBytes, byte_text, are_bytes}
 use Rattle.program.proofs.script.word.bytes_of.Given as goal
 
 -- the bytes so far are spelled by what was read, and the rest decides
@@ -8,6 +8,7 @@ abbrev pub invariant-loop-rest : goal.invariant-loop-rest
 invariant-loop-rest l = record {
   spelled : l.fn.word ≡ flat_map byte_text l.bytes.items ++ l.rest;
   decides : are_bytes l.fn.word ≡ are_bytes l.rest;
+  each : AreBytes l.bytes.items;
 }
 
 abbrev pub decreases-loop-rest : goal.decreases-loop-rest

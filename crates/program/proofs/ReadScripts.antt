@@ -1,0 +1,263 @@
+-- A script has no fault, where its lines are neither too long nor too many.
+use Rattle.std.proofs.Common.{◌≡◌, ◌≢◌, ◌+◌, ◌/◌, ◌<◌, ◌≤◌, ◌^◌, ℕ, suc, List, [], ◌∷◌, ◌++◌, codes}
+use Rattle.std.proofs.Common.{refl, sym, ap, ◌∙◌, inl, inr, arith, true, false, Bool, map, length}
+use Rattle.std.proofs.Common.{drop, Option, Some, None, append-nil}
+use Rattle.std.specs.Prelude.{All, ◌==◌, nat_lt, nat_le}
+use Rattle.std.specs.Str.{bytes_eq}
+use Rattle.std.specs.Str.Parse.{digits_value}
+use Rattle.std.specs.Char.{digit_char}
+use Rattle.std.specs.Fmt.{decimal}
+use Rattle.std.specs.List.{slice_split, onto_first}
+use Rattle.std.proofs.lemmas.Bool.{cases_Bool}
+use Rattle.std.proofs.lemmas.Bool.Decides.{nat_tests}
+use Rattle.std.proofs.lemmas.Fmt.{digits_value-decimal}
+use Rattle.std.proofs.lemmas.Grind.{common_steps}
+use Rattle.std.proofs.lemmas.List.Elements.{All-head, All-tail}
+use Rattle.disk.specs.declared.junk.Junk.{Junk}
+use Rattle.disk.specs.declared.junk.Junk.TheVariants.{Old, New, Bytes}
+use Rattle.kv_types.specs.declared.edit.Edit.{Edit}
+use Rattle.kv_types.specs.declared.edit.Edit.TheVariants.{Put, Delete}
+use Rattle.lab.specs.declared.event.What.{What}
+use Rattle.lab.specs.declared.event.What.TheVariants.{Submit, Get, Start, Stop}
+use Rattle.lab.specs.Events.{node_in}
+use Rattle.program.specs.declared.script.statement.Before.{Before}
+use Rattle.program.specs.declared.script.statement.Statement.{Statement}
+use Rattle.program.specs.Words.{AreBytes, is_plain, byte_text, bytes_text, is_number}
+use Rattle.program.specs.Words.{begins_fault, has_fault, before_fault}
+use Rattle.program.specs.Statements.{AreBytesIn, AreBytesOf, CanBeSaid, edit_text, hex_text, IsJunk}
+use Rattle.program.specs.Statements.{IsSpelled, fault_of_words}
+use Rattle.program.specs.Scripts.{words_of, is_skipped, AreStatements, CanBeNode, IsScript}
+use Rattle.program.specs.Faults.{statement_fault, words_fault, line_fault, after_words, after_line}
+use Rattle.program.specs.Faults.{script_fault, start}
+use Rattle.program.proofs.Numbers.{own}
+use Rattle.program.proofs.FaultWords.{all_before}
+use Rattle.program.proofs.Placing.{is_of_place, own_node}
+use Rattle.program.proofs.ReadBack.{number_read, event_read}
+
+-- ---- no word of an event begins a fault
+
+number_begins : (w : List ℕ) → is_number w ≡ true → begins_fault w ≡ false
+number_begins [] is = refl
+number_begins (b ∷ bs) is = grind (arith, nat_tests)
+
+text_begins : (k xs : List ℕ) → AreBytes k → begins_fault (bytes_text k ++ xs) ≡ false
+text_begins [] xs all = refl
+text_begins (b ∷ k) xs all = elim (cases_Bool (is_plain b)) [
+  | inl t ↦ rw t (grind (arith, nat_tests))
+  | inr f ↦ rw f refl
+]
+
+edit_begins : (e : Edit) → AreBytesIn e → begins_fault (edit_text e) ≡ false
+edit_begins (Put key value) all = text_begins key (61 ∷ bytes_text value) all.0
+edit_begins (Delete key) all = refl
+
+edits_begin : (edits : List Edit) → All AreBytesIn edits → has_fault (map edit_text edits) ≡ false
+edits_begin [] all = refl
+edits_begin (e ∷ edits) all =
+    rw (edit_begins e (All-head AreBytesIn e edits all))
+    (edits_begin edits (All-tail AreBytesIn e edits all))
+
+hex_begins : (bytes : List ℕ) → AreBytes bytes → begins_fault (hex_text bytes) ≡ false
+hex_begins [] all = refl
+hex_begins (b ∷ bytes) all =
+    let small : b < 256 = All-head (λ x. x < 256) b bytes all in
+    let high : b / 16 < 16 = omega arith in
+    grind (arith, nat_tests)
+
+junk_begins : (junk : Junk) (word : List ℕ) → AreBytesOf junk → IsJunk junk word →
+    begins_fault word ≡ false
+junk_begins Old word all is = rw is refl
+junk_begins New word all is = rw is refl
+junk_begins (Bytes bytes) word all is = rw is.1 (hex_begins bytes all)
+
+text_alone : (k : List ℕ) → AreBytes k → begins_fault (bytes_text k) ≡ false
+text_alone k all = rw (append-nil (bytes_text k)) at (text_begins k [] all)
+
+no_fault : (what : What) (words : List (List ℕ)) → CanBeSaid what → IsSpelled what words →
+    has_fault (drop 1 words) ≡ false
+no_fault (Submit node edits) words said e =
+    rw (e, number_begins (decimal node) (number_read node said.0)) (edits_begin edits said.1)
+no_fault (Get node key None) words said e =
+    rw (e, number_begins (decimal node) (number_read node said.0), text_alone key said.1) refl
+no_fault (Get node key (Some at)) words said e =
+    rw (
+      e,
+      number_begins (decimal node) (number_read node said.0),
+      text_alone key said.1,
+      number_begins (decimal at) (number_read at said.2),
+    ) refl
+no_fault (Start node) words said e =
+    rw (e, number_begins (decimal node) (number_read node said)) refl
+no_fault (Stop node junk) words said (inl e) =
+    rw (e.1, number_begins (decimal node) (number_read node said.0)) refl
+no_fault (Stop node junk) words said (inr e) =
+    rw (
+      e.2,
+      number_begins (decimal node) (number_read node said.0),
+      junk_begins junk e.0 said.1 e.1,
+    ) refl
+
+-- ---- a line of words that begin so is not skipped
+
+abbrev first_byte : List (List ℕ) → ℕ
+first_byte [] = 0
+first_byte ([] ∷ words) = 0
+first_byte ((b ∷ bs) ∷ words) = b
+
+onto : (b : ℕ) (words : List (List ℕ)) → first_byte (onto_first b words) ≡ b
+onto b [] = refl
+onto b (w ∷ words) = refl
+
+not_skipped : (line : List ℕ) (c : ℕ) → first_byte (words_of line) ≡ c → 97 ≤ c →
+    is_skipped line ≡ false
+not_skipped [] c e letter = absurd (omega (arith, e, letter))
+not_skipped (b ∷ bs) c e letter = elim (cases_Bool (b == 32)) [
+  | inl t ↦ let none : 0 ≡ c = rw t at e in absurd (omega (arith, none, letter))
+  | inr f ↦
+      let is : first_byte (onto_first b (words_of bs)) ≡ c = rw f at e in
+      let same : b ≡ c = sym (onto b (words_of bs)) ∙ is in
+      grind (arith, nat_tests)
+]
+
+-- ---- a line that spells an event for the node has no fault
+
+abbrev behind_node : ℕ → Bool → Before
+behind_node node begun = record { node = Some node; begun = begun }
+
+node_fits : (what : What) → CanBeSaid what → node_in what < 2 ^ 64
+node_fits (Submit node edits) said = omega (arith, said.0)
+node_fits (Get node key None) said = omega (arith, said.0)
+node_fits (Get node key (Some at)) said = omega (arith, said.0)
+node_fits (Start node) said = omega (arith, said)
+node_fits (Stop node junk) said = omega (arith, said.0)
+
+-- what is to be said of the words of such a line
+pub record IsPassed (node : ℕ) (begun : Bool) (words : List (List ℕ)) : Type 0 where
+  pub good : words_fault (behind_node node begun) words ≡ None
+  pub after : after_words (behind_node node begun) words ≡ behind_node node true
+  pub letter : 97 ≤ first_byte words
+
+good_statement : (node : ℕ) (begun : Bool) (what : What) (name : List ℕ) (args : List (List ℕ)) →
+    CanBeSaid what → IsSpelled what (name ∷ args) → node_in what ≡ node →
+    statement_fault (behind_node node begun) name args ≡ None
+good_statement node begun what name args said spelled is =
+    let none = sym (no_fault what (name ∷ args) said spelled) in
+    is_of_place (behind_node node begun) name args args what refl (all_before args none) none
+    (node_fits what said) (event_read what (name ∷ args) said spelled) spelled
+    ∙ rw is (own_node node)
+
+passes : (node : ℕ) (begun : Bool) (what : What) (words : List (List ℕ)) (name : List ℕ)
+    (args : List (List ℕ)) → words ≡ name ∷ args → bytes_eq name (codes "config") ≡ false →
+    97 ≤ first_byte (name ∷ args) → CanBeSaid what → IsSpelled what words → node_in what ≡ node →
+    IsPassed node begun words
+passes node begun what words name args e other letter said spelled is = record {
+  good = rw (e, other) (good_statement node begun what name args said (rw e at spelled) is);
+  after = rw (e, other) refl;
+  letter = rw e letter;
+}
+
+event_passes : (node : ℕ) (begun : Bool) (what : What) (words : List (List ℕ)) → CanBeSaid what →
+    IsSpelled what words → node_in what ≡ node → IsPassed node begun words
+event_passes node begun (Submit n edits) words said e is =
+    passes node begun (Submit n edits) words _ _ e refl (omega arith) said e is
+event_passes node begun (Get n key None) words said e is =
+    passes node begun (Get n key None) words _ _ e refl (omega arith) said e is
+event_passes node begun (Get n key (Some at)) words said e is =
+    passes node begun (Get n key (Some at)) words _ _ e refl (omega arith) said e is
+event_passes node begun (Start n) words said e is =
+    passes node begun (Start n) words _ _ e refl (omega arith) said e is
+event_passes node begun (Stop n junk) words said (inl e) is =
+    passes node begun (Stop n junk) words _ _ e.1 refl (omega arith) said (inl e) is
+event_passes node begun (Stop n junk) words said (inr e) is =
+    passes node begun (Stop n junk) words _ _ e.2 refl (omega arith) said (inr e) is
+
+-- ---- line by line
+
+short_line : (line : List ℕ) → length line ≤ 262144 → nat_lt 262144 (length line) ≡ false
+short_line line short = grind (arith, nat_tests)
+
+few_lines : (n : ℕ) → n ≤ 100000 → nat_lt 100000 n ≡ false
+few_lines n few = grind (arith, nat_tests)
+
+passed : (before after : Before) (n : ℕ) (line : List ℕ) (lines : List (List ℕ)) → n ≤ 100000 →
+    line_fault before line ≡ None → after_line before line ≡ after →
+    script_fault after (suc n) lines ≡ None → script_fault before n (line ∷ lines) ≡ None
+passed before after n line lines few good later rest = rw (good, few_lines n few, later) rest
+
+skipped : (before : Before) (n : ℕ) (line : List ℕ) (lines : List (List ℕ)) →
+    length line ≤ 262144 → n ≤ 100000 → is_skipped line ≡ true →
+    script_fault before (suc n) lines ≡ None → script_fault before n (line ∷ lines) ≡ None
+skipped before n line lines short few skip rest =
+    passed before before n line lines few (rw (short_line line short, skip) refl) (rw skip refl) rest
+
+stated : (before after : Before) (n : ℕ) (line : List ℕ) (lines : List (List ℕ)) →
+    length line ≤ 262144 → n ≤ 100000 → 97 ≤ first_byte (words_of line) →
+    words_fault before (words_of line) ≡ None → after_words before (words_of line) ≡ after →
+    script_fault after (suc n) lines ≡ None → script_fault before n (line ∷ lines) ≡ None
+stated before after n line lines short few letter good later rest =
+    let reads = not_skipped line (first_byte (words_of line)) refl letter in
+    passed before after n line lines few (rw (short_line line short, reads) good)
+    (rw reads later) rest
+
+abbrev AreShort : List (List ℕ) → Type 0
+AreShort lines = All (λ line. length line ≤ 262144) lines
+
+statements_read : (node : ℕ) (begun : Bool) (n : ℕ) (lines : List (List ℕ))
+    (statements : List Statement) → AreShort lines → n + length lines ≤ 100001 →
+    AreStatements node n lines statements →
+    script_fault (behind_node node begun) n lines ≡ None
+statements_read node begun n [] statements short few are = refl
+statements_read node begun n (line ∷ lines) statements short few (inl more) =
+    skipped (behind_node node begun) n line lines
+    (All-head (λ l. length l ≤ 262144) line lines short) (omega (arith, few)) more.0
+    (statements_read node begun (suc n) lines statements
+    (All-tail (λ l. length l ≤ 262144) line lines short) (omega (arith, few)) more.1)
+statements_read node begun n (line ∷ lines) statements short few
+    (inr (what, rest, said, spelled, is, same, more)) =
+    let p = event_passes node begun what (words_of line) said spelled is in
+    stated (behind_node node begun) (behind_node node true) n line lines
+    (All-head (λ l. length l ≤ 262144) line lines short) (omega (arith, few)) p.letter p.good
+    p.after
+    (statements_read node true (suc n) lines rest
+    (All-tail (λ l. length l ≤ 262144) line lines short) (omega (arith, few)) more)
+
+-- the configuration stands first
+node_value : (node : ℕ) → CanBeNode node → (is_number (decimal node) ≡ true)
+    × (digits_value 10 (decimal node) ≡ node)
+node_value node can =
+    let small : node < 2 ^ 63 = omega (arith, can.greatest) in
+    (number_read node small, digits_value-decimal own node (omega (arith, small)))
+
+config_good : (node : ℕ) (words : List (List ℕ)) → CanBeNode node →
+    words ≡ codes "config" ∷ decimal node ∷ [] →
+    (words_fault start words ≡ None) × (after_words start words ≡ behind_node node false)
+config_good node words can e =
+    let value = node_value node can in
+    let least : nat_le 1 node ≡ true = grind (arith, nat_tests, can.least) in
+    let greatest : nat_le node 65535 ≡ true = grind (arith, nat_tests, can.greatest) in (
+      rw (e, number_begins (decimal node) value.0, value.0, value.1, least, greatest) refl,
+      rw (e, value.1) refl,
+    )
+
+lines_read : (n : ℕ) (lines : List (List ℕ)) (node : ℕ) (statements : List Statement) →
+    AreShort lines → n + length lines ≤ 100001 → IsScript n lines node statements →
+    script_fault start n lines ≡ None
+lines_read n [] node statements short few is = absurd is
+lines_read n (line ∷ lines) node statements short few (inl more) =
+    skipped start n line lines (All-head (λ l. length l ≤ 262144) line lines short)
+    (omega (arith, few)) more.0
+    (lines_read (suc n) lines node statements
+    (All-tail (λ l. length l ≤ 262144) line lines short) (omega (arith, few)) more.1)
+lines_read n (line ∷ lines) node statements short few (inr (e, can, more)) =
+    let good = config_good node (words_of line) can e in
+    stated start (behind_node node false) n line lines
+    (All-head (λ l. length l ≤ 262144) line lines short) (omega (arith, few))
+    (rw e (omega arith)) good.0 good.1
+    (statements_read node false (suc n) lines statements
+    (All-tail (λ l. length l ≤ 262144) line lines short) (omega (arith, few)) more)
+
+pub script_read : (lines : List (List ℕ)) (node : ℕ) (statements : List Statement) →
+    AreShort lines → length lines ≤ 100000 → IsScript 1 lines node statements →
+    script_fault start 1 lines ≡ None
+script_read lines node statements short few is =
+    lines_read 1 lines node statements short (omega (arith, few)) is
