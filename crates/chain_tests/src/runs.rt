@@ -1,8 +1,12 @@
 // Runs of one node: what each event gives, by the rules of a step.
+ghost use Rattle.std.specs.Prelude.{IfOk};
+ghost use Rattle.lab.specs.Events.{IsOneNode};
+
+use configurations::{Config, ConfigError, Configs, NodeId};
 use disk::{Fault, Junk, JunkBytes};
 use kv_types::{Batch, Edit, Key, Limits, Value};
 use lab::{DropReason, Event, LabError, Line, Report, What, names_nodes, run};
-use node::{Config, Configs, NodeId, Refusal, Reply};
+use node::{Refusal, Reply};
 use std::alloc::Global;
 use std::test::Fail;
 
@@ -82,12 +86,21 @@ fn events_of(alloc: Global, node: NodeId, steps: &[Step]) -> Result<Vec<Event>, 
     Ok(events)
 }
 
+// The list of one configuration, of node 1.
+fn alone(alloc: Global) -> Result<Configs, ConfigError>
+    ensures { IfOk result IsOneNode }
+{
+    let mut configs = Vec::new(alloc);
+    configs.push(Config::new(alloc, [1].to_vec(alloc)?)?)?;
+    Configs::new(configs)
+}
+
 // The report of these events of node 1, which is alone.
 fn report_of(alloc: Global, steps: &[Step]) -> Result<Option<Report>, LabError> {
-    let Some(node) = NodeId::new(1) else {
-        return Ok(None);
+    let Ok(configs) = alone(alloc) else {
+        return Err(LabError::Memory);
     };
-    let configs = Configs::of(Config::of(node));
+    let node = configs.first().head();
     let events = events_of(alloc, node, steps)?;
     if !names_nodes(&configs, &events) {
         return Ok(None);

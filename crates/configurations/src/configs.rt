@@ -88,7 +88,8 @@ impl Configs {
 
     /// The configuration that nodes are created with.
     pub fn first(&self) -> &Config
-        ensures { result.now ≡ at_epoch self.now 0 }
+        ensures first { result.now ≡ at_epoch self.now 0 }
+        ensures lawful { Lawful self.now }
     {
         &self.configs[0]
     }

@@ -7,41 +7,35 @@ use Rattle.chain_model.specs.Requests.{Reply}
 use Rattle.std.proofs.lemmas.Bool.{cond_both, eqb-true, false≢true}
 use Rattle.std.proofs.lemmas.List.Elements.{All-nil, All-cons, All-weaker, recursion_from_All}
 use Rattle.kv_types.specs.declared.edit.Edit.{Edit}
-use Rattle.chain_model.specs.Configuration.{Configurations, IsId as IsModelId, has, at_epoch}
-use Rattle.chain_model.specs.Configuration.{last_of, Lawful}
+use Rattle.chain_model.specs.Configuration.{Configurations, has, at_epoch, is_head}
+use Rattle.chain_model.specs.Configuration.{last_of}
 use Rattle.chain_model.specs.Headline.{Agrees, OneList, batches, handed_in}
 use Rattle.chain_model.specs.Outcomes.{MadeOfOutcomes}
 use Rattle.chain_model.specs.Node.{created}
 use Rattle.chain_model.specs.Lists.{Part, Begins}
 use Rattle.chain_model.specs.World.{World, Outcome, Event as ModelEvent, outcomes, beginning}
 use Rattle.chain_model.specs.World.{reached, node_of, run}
-use Rattle.node.specs.Id.{IsId}
 use Rattle.node.specs.Steps.{Machine}
 use Rattle.lab.specs.declared.event.Event.{Event}
 use Rattle.lab.specs.declared.member.Member.{Member}
 use Rattle.lab.specs.declared.report.Line.{Line}
 use Rattle.lab.specs.declared.report.NodeReport.{NodeReport}
 use Rattle.lab.specs.declared.report.Report.{Report}
-use Rattle.lab.specs.Events.{node_in, NamesNodes}
+use Rattle.lab.specs.Events.{node_in, IsOneNode, NamesNodes}
 use Rattle.lab.specs.Members.{Is}
 use Rattle.lab.specs.Runs.{Ran, IsRun, IsLeft, modelled_from}
 use Rattle.lab.specs.History.{Placed, OneHistory, StepSpeaksOf, HasAll, handed_from}
 use Rattle.lab.proofs.Histories.{numbered_same, handed_same, all_speak}
 
--- one configuration of one node is a lawful list
-pub one_is_lawful : (x : ℕ) → IsId x → Lawful ((x ∷ []) ∷ [])
-one_is_lawful x id = record {
-  at_least_one = omega arith;
-  at_most_16 = omega arith;
-  nodes = omega arith;
-  at_most_16_nodes = omega arith;
-  ids = All-cons IsModelId x [] model_id (All-nil IsModelId);
-  different = (refl, tt);
-  shrinks = λ e later. absurd (omega (arith, later));
-}
-  where
-    model_id : IsModelId x
-    model_id = (id.0, omega (arith, id.1))
+-- a configuration of one node is its head alone
+pub of_head : (cs : Configurations) (c : List ℕ) (h : ℕ) → IsOneNode cs → c ≡ at_epoch cs 0
+    → is_head c h ≡ true → (cs ≡ (h ∷ []) ∷ []) × (c ≡ h ∷ [])
+of_head cs c h one first head =
+    let only = first ∙ ap (λ (l : Configurations). at_epoch l 0) one.1 in
+    let same = eqb-true one.0 h (subst (λ (l : List ℕ). is_head l h ≡ true) only head) in (
+      one.1 ∙ ap (λ x. (x ∷ []) ∷ []) same,
+      only ∙ ap (λ x. x ∷ []) same,
+    )
 
 -- an event that names a node of it is for that node
 pub for_one : (x : ℕ) (events : List Event) → NamesNodes ((x ∷ []) ∷ []) events →
@@ -110,15 +104,18 @@ one_of cs events report is one made =
 -- A run of one node, in whatever terms its only configuration comes.
 module _ (cs : Configurations) (c : List ℕ) (x : ℕ) (events : List Event) (first member : Member)
     (report : Report) (left : NodeReport)
-    (only : cs ≡ c ∷ []) (alone : c ≡ x ∷ []) (named : NamesNodes cs events)
-    (begins : Is first x (created c))
+    (one : IsOneNode cs) (at : c ≡ at_epoch cs 0) (head : is_head c x ≡ true)
+    (named : NamesNodes cs events) (begins : Is first x (created c))
     (ran : (ds : Configurations) (w : World (List Edit)) →
     All (λ event. node_in event.what ≡ x) events → Is first x (w.nodes x) →
     Ran ds w x events member report.steps.items)
     (leaves : (n : Machine) → Is member x n → IsLeft n left) (id : left.id ≡ x)
     (nodes : report.nodes.items ≡ left ∷ []) where
   lone : cs ≡ (x ∷ []) ∷ []
-  lone = only ∙ ap (λ (d : List ℕ). d ∷ []) alone
+  lone = (of_head cs c x one at head).0
+
+  alone : c ≡ x ∷ []
+  alone = (of_head cs c x one at head).1
 
   pub runs_alone : IsRun cs events report
   runs_alone =
@@ -128,6 +125,3 @@ module _ (cs : Configurations) (c : List ℕ) (x : ℕ) (events : List Event) (f
       subst (λ (es : Configurations). IsRun es events report) (sym lone)
       (reported x events member report left
       (ran ds (beginning ds) (for_one x events named') begins') leaves id nodes)
-
-  pub lawful_alone : IsId x → Lawful cs
-  lawful_alone is = subst (λ (es : Configurations). Lawful es) (sym lone) (one_is_lawful x is)

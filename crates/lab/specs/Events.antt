@@ -26,6 +26,10 @@ node_in (Get node key at) = node
 node_in (Start node) = node
 node_in (Stop node junk) = node
 
+-- there is one configuration, of one node
+abbrev pub IsOneNode : Configurations → Type 0
+IsOneNode cs = (x : ℕ) × (cs ≡ (x ∷ []) ∷ [])
+
 -- every event names a node of configuration 0
 abbrev pub NamesNodes : Configurations → List Event → Type 0
 NamesNodes cs events = All (λ event. has (at_epoch cs 0) (node_in event.what) ≡ true) events

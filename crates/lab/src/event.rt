@@ -3,7 +3,7 @@ ghost use Rattle.lab.specs.Events.{node_in, NamesNodes};
 
 use disk::{Fault, Junk};
 use kv_types::{Batch, Key};
-use node::{Configs, NodeId};
+use configurations::{Configs, NodeId};
 use std::alloc::AllocError;
 
 /// One step of one node. A request has the number of its event's place, from 1.
@@ -75,6 +75,6 @@ impl What {
 pub fn names_nodes(configs: &Configs, events: &[Event]) -> bool
     ensures { IsTrue result ↔ NamesNodes configs.now events.now }
 {
-    let id = configs.first().head();
-    events.iter().all(|event| event.what.node() == id)
+    let config = configs.first();
+    events.iter().all(|event| config.has(event.what.node()))
 }

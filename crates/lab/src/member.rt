@@ -13,7 +13,8 @@ use crate::report::{DropReason, Line, Lines};
 use crate::{LabError, What};
 use disk::{Crash, Junk, MemDisk};
 use kv_types::Limits;
-use node::{Input, Node, NodeId, Output, Refusal, Reply, Stop};
+use configurations::NodeId;
+use node::{Input, Node, Output, Refusal, Reply, Stop};
 use std::alloc::{AllocError, Global};
 
 /// A node of the lab: it runs, or its disk is what is left of it.

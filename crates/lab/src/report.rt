@@ -1,7 +1,8 @@
 ghost use Rattle.std.specs.Prelude.{◌≡◌};
 
 use disk::MemDisk;
-use node::{NodeId, Reply, Stop};
+use configurations::NodeId;
+use node::{Reply, Stop};
 use std::marker::Model;
 
 /// Why what came to a node was dropped. It changed nothing.

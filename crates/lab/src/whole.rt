@@ -4,7 +4,7 @@ ghost use Rattle.chain_model.specs.Configuration.{Configurations};
 ghost use Rattle.chain_model.specs.World.{World};
 ghost use Rattle.chain_model.specs.Node.{created};
 ghost use Rattle.node.specs.Steps.{Machine};
-ghost use Rattle.lab.specs.Events.{node_in, NamesNodes};
+ghost use Rattle.lab.specs.Events.{node_in, IsOneNode, NamesNodes};
 ghost use Rattle.lab.specs.Members.{Is, Works};
 ghost use Rattle.lab.specs.Runs.{Ran, IsRun, IsLeft};
 ghost use Rattle.lab.specs.History.{OneHistory};
@@ -14,7 +14,8 @@ use crate::report::{Lines, NodeReport, Numbers, Report};
 use crate::{Event, LabError};
 use disk::MemDisk;
 use kv_types::{Batch, Limits};
-use node::{Config, Configs, Node, NodeId};
+use configurations::{Config, Configs, NodeId};
+use node::Node;
 use std::alloc::Global;
 
 // A node that was just created.
@@ -92,7 +93,8 @@ pub fn run(
     events: &[Event],
     limits: &Limits,
 ) -> Result<Report, LabError>
-    requires { NamesNodes configs.now events.now }
+    requires alone { IsOneNode configs.now }
+    requires named { NamesNodes configs.now events.now }
     ensures run { IfOk result (IsRun configs.now events.now) }
     ensures history { IfOk result (OneHistory configs.now events.now) }
 {

@@ -1,6 +1,6 @@
 -- What an opened disk had.
 use Rattle.std.proofs.Common.{◌≡◌, ℕ, suc, List, [], ◌∷◌, take, drop, Option, Some, None}
-use Rattle.std.proofs.Common.{Result, Ok, Err, refl, sym, ap, subst, ◌∙◌}
+use Rattle.std.proofs.Common.{Result, Ok, Err, refl, sym, ap, subst, ◌∙◌, arith}
 use Rattle.std.specs.Prelude.{All, IfOk}
 use Rattle.std.specs.Int.{w16, to_be_bytes, from_be_bytes}
 use Rattle.std.proofs.lemmas.Nat.{from_be_bytes-to_be_bytes_2}
@@ -14,7 +14,7 @@ use Rattle.record_log.specs.declared.log.Log.{Log}
 use Rattle.record_log.specs.Stands.{Holds, HasRecords, IsAt, Opens}
 use Rattle.record_log.proofs.Fronts.{one_reading}
 use Rattle.node.specs.declared.stop.Stop.{Stop}
-use Rattle.node.specs.Id.{IsId}
+use Rattle.chain_model.specs.Configuration.{IsId}
 use Rattle.node.specs.Layout.{identity_file, identity_record, identity_records}
 use Rattle.node.specs.Layout.{batch_record, records_from}
 use Rattle.node.specs.Files.{IsLog, HasId, IsSureId}
@@ -35,8 +35,8 @@ one_id : (a b : ℕ) → IsId a → IsId b →
     identity_record a (a ∷ []) ≡ identity_record b (b ∷ []) → a ≡ b
 one_id a b is_a is_b same =
     let heads : to_be_bytes w16 a ≡ to_be_bytes w16 b = ap (take 2) same in
-    sym (from_be_bytes-to_be_bytes_2 a is_a.1) ∙ ap (from_be_bytes w16) heads
-    ∙ from_be_bytes-to_be_bytes_2 b is_b.1
+    sym (from_be_bytes-to_be_bytes_2 a (omega (arith, is_a.1))) ∙ ap (from_be_bytes w16) heads
+    ∙ from_be_bytes-to_be_bytes_2 b (omega (arith, is_b.1))
 
 -- what a disk has stands for one node at most
 pub same_id : (left : Contents) (a b : ℕ) → HasId left a → HasId left b → a ≡ b

@@ -13,7 +13,7 @@ use Rattle.record_log.specs.Grammar.{StandsFor}
 use Rattle.record_log.specs.Push.{LeavesAt}
 use Rattle.record_log.specs.Stands.{Holds, IsAt, IsOldOrNew, count_of}
 use Rattle.node.specs.declared.engine.Engine.{Engine}
-use Rattle.node.specs.Id.{IsId}
+use Rattle.chain_model.specs.Configuration.{IsId}
 use Rattle.node.specs.Layout.{identity_file, identity_records, batches_file}
 use Rattle.node.specs.Layout.{batch_record, records_from}
 use Rattle.node.specs.Files.{IsLog, HasId, HasBatches, IsSureOfId, IsStore, KeepsOneOf}

@@ -8,7 +8,7 @@ use Rattle.record_log.specs.Grammar.{StandsFor}
 use Rattle.record_log.specs.Push.{IsSureOf}
 use Rattle.record_log.specs.Stands.{Holds, IsAt}
 use Rattle.node.specs.declared.engine.Engine.{Engine}
-use Rattle.node.specs.Id.{IsId}
+use Rattle.chain_model.specs.Configuration.{IsId}
 use Rattle.node.specs.Layout.{identity_file, batches_file, identity_records, records_from}
 
 -- no file of a node is there

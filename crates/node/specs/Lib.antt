@@ -1,4 +1,3 @@
-pub mod Id
 pub mod Stops
 pub mod Layout
 pub mod Files

@@ -9,13 +9,14 @@ ghost use Rattle.node.specs.Files.{HasBatches, HasId, IsBlank, IsEmpty, IsStore,
 ghost use Rattle.node.specs.Files.{KeepsOneOf, KeepsOthers, LeavesNoMore};
 ghost use Rattle.node.specs.Layout.{identity_file, identity_records, batches_file};
 ghost use Rattle.node.specs.Layout.{batch_record, records_from};
-ghost use Rattle.node.specs.Id.{IsId};
+ghost use Rattle.chain_model.specs.Configuration.{IsId};
 ghost use Rattle.node.specs.Stops.{KeepsDisk, TellsDisk, IsOfMachine, TellsBlank};
 
+use crate::Stop;
 use crate::layout::{
     BATCHES_FILE, IDENTITY_FILE, batch_of, batch_record, identity_of, identity_record,
 };
-use crate::{NodeId, Stop};
+use configurations::NodeId;
 use disk::{Disk, DiskError};
 use kv_types::Batch;
 use record_log::Log;

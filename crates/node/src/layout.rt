@@ -2,10 +2,11 @@ ghost use Rattle.std.specs.Prelude.{◌≡◌, ◌⊎◌, ℕ, [], ◌∷◌, Li
 ghost use Rattle.std.specs.Prelude.{IfOk, IfErr, IfSome, IsNone, IsErrOf};
 ghost use Rattle.kv_types.specs.declared.edit.Edit.{Edit};
 ghost use Rattle.kv_types.specs.Spelling.{IsBatch};
-ghost use Rattle.node.specs.Id.{IsId};
+ghost use Rattle.chain_model.specs.Configuration.{IsId};
 ghost use Rattle.node.specs.Layout.{identity_record, batch_record};
 
-use crate::{NodeId, Stop};
+use crate::Stop;
+use configurations::NodeId;
 use kv_types::{Batch, KvError};
 use std::alloc::{AllocError, Global};
 

@@ -1,7 +1,6 @@
 //! One node of a chain: a store on a disk, and the rules of a step over it.
 #![tactic(auto)]
 
-mod config;
 mod engine;
 mod input;
 mod layout;
@@ -9,7 +8,6 @@ mod node;
 mod output;
 mod stop;
 
-pub use config::{Config, Configs, NodeId};
 pub use input::Input;
 pub use node::Node;
 pub use output::{Output, Refusal, Reply};

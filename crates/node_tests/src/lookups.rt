@@ -1,6 +1,6 @@
 // Each look-up once, and the causes of a stop by their numbers and texts.
 use crate::running::created;
-use node::{Config, Configs, NodeId, Refusal, Stop};
+use node::{Refusal, Stop};
 use std::test::Fail;
 
 #[test]
@@ -11,17 +11,6 @@ fn a_new_node(rt: HostRuntime) -> Result<(), Fail> {
     assert_eq!(rt; (node.floor(), node.kept()), (0, 0));
     assert_eq!(rt; node.tables(), [0; 7]);
     Ok(())
-}
-
-#[test]
-fn ids_and_configurations(rt: HostRuntime) {
-    for (id, is_taken) in [(0, false), (1, true), (65535, true)] {
-        assert_eq!(rt; NodeId::new(id).is_some(), is_taken, "{id}");
-    }
-    if let Some(id) = NodeId::new(7) {
-        let configs = Configs::of(Config::of(id));
-        assert_eq!(rt; configs.first().head().get(), 7);
-    }
 }
 
 #[test]

@@ -1,7 +1,8 @@
 // A running node, as the tests drive it.
+use configurations::Config;
 use disk::{Crash, Junk, JunkBytes, MemDisk};
 use kv_types::{Batch, Edit, Key, KvError, Limits, Value};
-use node::{Config, Input, Node, NodeId, Output, Reply, Stop};
+use node::{Input, Node, Output, Reply, Stop};
 use std::alloc::{AllocError, Global};
 use std::marker::Model;
 
@@ -50,11 +51,11 @@ pub fn batch_of(alloc: Global, changes: &[Change]) -> Result<Batch, KvError> {
 
 /// Node 1, created on an empty disk.
 pub fn created(alloc: Global) -> Result<Running, Stop> {
-    let Some(id) = NodeId::new(1) else {
-        return Err(Stop::Damaged);
+    let Ok(config) = Config::new(alloc, [1].to_vec(alloc)?) else {
+        return Err(Stop::Memory);
     };
-    let config = Config::of(id);
-    match Node::create(alloc, MemDisk::new(alloc), id, &config, &Limits::default()) {
+    let disk = MemDisk::new(alloc);
+    match Node::create(alloc, disk, config.head(), &config, &Limits::default()) {
         Ok(node) => Ok(Running { node }),
         Err((stop, _disk)) => Err(stop),
     }

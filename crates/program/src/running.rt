@@ -1,15 +1,15 @@
 ghost use Rattle.std.specs.Prelude.{◌≡◌, ◌++◌, All, IfOk, IfErr, IfSome, OnOk};
 ghost use Rattle.program.specs.Scripts.{lines_of, IsScript, Names};
 ghost use Rattle.program.specs.Runs.{event_of, events_of, IsRunOf, IsRunOfText, IsFailureOf};
-ghost use Rattle.program.specs.Runs.{IsOfRun};
+ghost use Rattle.program.specs.Runs.{IsOfRun, alone};
 
 use crate::failure::Failure;
 use crate::script::{Meaning, Script, Statement, read_script};
 use crate::text::{event_places, print_run};
+use configurations::{Config, ConfigError, Configs, NodeId};
 use disk::Fault;
 use kv_types::Limits;
 use lab::Event;
-use node::{Config, Configs};
 use std::alloc::{AllocError, Global};
 use std::io::{self, ErrorKind, Read, Write};
 
@@ -35,6 +35,16 @@ fn events(alloc: Global, statements: &[Statement]) -> Result<Vec<Event>, AllocEr
     Ok(events)
 }
 
+/// The list of one configuration, of this node.
+fn alone(alloc: Global, node: NodeId) -> Result<Configs, ConfigError>
+    ensures { IfOk result (λ configs. configs ≡ alone node) }
+{
+    let ids = [node.get()].to_vec(alloc)?;
+    let mut configs = Vec::new(alloc);
+    configs.push(Config::new(alloc, ids)?)?;
+    Configs::new(configs)
+}
+
 /// Runs a script at its node, and writes what happened.
 fn run_script<W: Write>(alloc: Global, script: &Script, out: &mut W) -> Result<(), Failure>
     requires { All (λ it. Names script.now.node it.meaning) script.now.statements.items }
@@ -44,7 +54,10 @@ fn run_script<W: Write>(alloc: Global, script: &Script, out: &mut W) -> Result<(
 {
     let events = events(alloc, &script.statements)?;
     let places = event_places(alloc, &script.statements)?;
-    let configs = Configs::of(Config::of(script.node));
+    // One node is lawful, so only memory can be wanting.
+    let Ok(configs) = alone(alloc, script.node) else {
+        return Err(Failure::Memory);
+    };
     let limits = Limits::default();
     let report = lab::run(alloc, &configs, &events, &limits)?;
     let Ok(()) = print_run(&places, &script.statements, &report.steps, out) else {

@@ -16,7 +16,7 @@ use super::meaning::meaning;
 use super::statement::{Before, Item, Meaning, Statement};
 use super::statements::asked_of;
 use super::word::number;
-use node::NodeId;
+use configurations::NodeId;
 use std::alloc::{AllocError, Global};
 
 /// The most bytes of a line, without its line feed.

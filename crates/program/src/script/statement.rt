@@ -1,7 +1,7 @@
 use super::error::ScriptError;
+use configurations::NodeId;
 use kv_types::KvError;
 use lab::What;
-use node::NodeId;
 
 /// What a statement comes to: something that happens at the node, or a key, value or batch that
 /// there can't be.

@@ -1,14 +1,16 @@
 use Rattle.program.proofs.Wholes.{names_nodes}
 use Rattle.program.proofs.running.run_script.Goals as goal
 
-pub run-requires : goal.run-requires
-run-requires g c =
+pub run-requires-clause-alone : goal.run-requires-clause-alone
+run-requires-clause-alone g c = (c.args.script.now.node, c.in-Ok.ensures)
+
+pub run-requires-clause-named : goal.run-requires-clause-named
+run-requires-clause-named g c =
     rw (
       c.deref-3.ensures.value,
       c.in_ok-events.ensures,
       c.deref.ensures.value,
-      c.of-configs.ensures,
-      c.of.ensures,
+      c.in-Ok.ensures,
     )
     (names_nodes c.args.script.now.node c.args.script.now.statements.items c.requires)
 
@@ -19,15 +21,13 @@ returns-clause-run g c = record {
     c.deref-3.ensures.value,
     c.in_ok-events.ensures,
     c.deref.ensures.value,
-    c.of-configs.ensures,
-    c.of.ensures,
+    c.in-Ok.ensures,
   ) at c.in_ok-report.ensures.run;
   history = rw (
     c.deref-3.ensures.value,
     c.in_ok-events.ensures,
     c.deref.ensures.value,
-    c.of-configs.ensures,
-    c.of.ensures,
+    c.in-Ok.ensures,
   ) at c.in_ok-report.ensures.history;
-  wrote = rw (c.deref-5.ensures.value, c.deref-6.ensures.value) at c.in-Ok.ensures;
+  wrote = rw (c.deref-5.ensures.value, c.deref-6.ensures.value) at c.in-Ok-print_run.ensures;
 }
