@@ -1,7 +1,8 @@
-ghost use Rattle.std.specs.Prelude.{◌≡◌, ◌++◌, All, IfOk, IfErr, IfSome, OnOk};
+ghost use Rattle.std.specs.Prelude.{◌≡◌, ◌≢◌, ◌++◌, All, IfOk, IfErr, IfSome, OnOk};
 ghost use Rattle.program.specs.Scripts.{lines_of, IsScript, Names};
 ghost use Rattle.program.specs.Runs.{event_of, events_of, IsRunOf, IsRunOfText, IsFailureOf};
 ghost use Rattle.program.specs.Runs.{IsOfRun};
+ghost use Rattle.program.specs.declared.failure.Failure.TheVariants.{Output};
 
 use crate::failure::Failure;
 use crate::script::{Meaning, Script, Statement, read_script};
@@ -41,6 +42,8 @@ fn run_script<W: Write>(alloc: Global, script: &Script, out: &mut W) -> Result<(
     ensures run { OnOk result (IsRunOf script.now.node script.now.statements.items
         (W.contents out.old) (W.contents out.new)) }
     ensures fault { IfErr result IsOfRun }
+    ensures untouched { IfErr result (λ failure. failure ≢ Output →
+        W.contents out.new ≡ W.contents out.old) }
 {
     let events = events(alloc, &script.statements)?;
     let places = event_places(alloc, &script.statements)?;
@@ -87,6 +90,8 @@ pub fn run<R: Read, W: Write>(alloc: Global, input: &mut R, out: &mut W) -> Resu
         (IsRunOfText (R.remaining input.old) (W.contents out.old) (W.contents out.new)) }
     ensures fault { IfErr result (λ failure. IfSome (R.remaining input.old) (λ text.
         IsFailureOf text failure)) }
+    ensures untouched { IfErr result (λ failure. failure ≢ Output →
+        W.contents out.new ≡ W.contents out.old) }
 {
     let script = script_of(alloc, input)?;
     run_script(alloc, &script, out)
