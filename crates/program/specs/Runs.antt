@@ -62,6 +62,13 @@ IsFailureOf text Unreadable = Unit {0}
 IsFailureOf text Output = Unit {0}
 IsFailureOf text Memory = Unit {0}
 
+-- a script is refused for these alone, before anything runs
+abbrev pub IsOfReading : Failure → Type 0
+IsOfReading Unreadable = Unit {0}
+IsOfReading (Script f) = Unit {0}
+IsOfReading Output = ⊥
+IsOfReading Memory = Unit {0}
+
 -- a run of a script that was read fails for these alone
 abbrev pub IsOfRun : Failure → Type 0
 IsOfRun Unreadable = ⊥
