@@ -29,7 +29,7 @@ is_honest disk = Unit {0}
 abbrev pub state : Slots → State
 state disk = state_of disk.slots
 
--- no step of it was answered by a stop
+-- a step of it may follow, if it runs
 abbrev pub Works : Member → Type 0
 Works (Running node) = MayStep node
 Works (Resting disk) = Unit {0}
@@ -60,15 +60,15 @@ pub data Asked (x : ℕ) (n : Machine) (request : Input) (member : Member) (line
       → Is member x (stopped n) ⊎ Is member x (stopped (answer_to x n request).node)
       → lines ≡ Stopped x (Some cause) ∷ [] → Asked x n request member lines
 
--- a request came to a node: one that rests refuses it and stays as it is
+-- a request came to a node: one that rests refuses it and stays this machine
 abbrev pub WasAsked : ℕ → Machine → ℕ → Input → Member → List Line → Type 0
 WasAsked x n i request member lines =
     ((n.running ≡ true) × Asked x n request member lines)
     ⊎ ((n.running ≡ false) × Is member x n
     × (lines ≡ Replied (reply.Refused i refusal.NotRunning) ∷ []))
 
--- a node was started: it runs as the machine that was started, or it rests as it did; one that ran
--- stays as it is
+-- a node was started: it runs as the machine that was started, or it rests as this machine; one
+-- that ran stays this machine
 pub data WasStarted (x : ℕ) (n : Machine) (member : Member) (lines : List Line) : Type 0 where
   Starts : n.running ≡ false → Is member x (started x n) → lines ≡ start_line x (started x n) ∷ []
       → WasStarted x n member lines
@@ -77,7 +77,7 @@ pub data WasStarted (x : ℕ) (n : Machine) (member : Member) (lines : List Line
   RunsOn : n.running ≡ true → Is member x n → lines ≡ Dropped reason.Running ∷ []
       → WasStarted x n member lines
 
--- a node was stopped: one that rests stays as it is
+-- a node was stopped: one that rests stays this machine
 pub data WasStopped (x : ℕ) (n : Machine) (member : Member) (lines : List Line) : Type 0 where
   Stops : n.running ≡ true → Is member x (stopped n) → lines ≡ Stopped x None ∷ []
       → WasStopped x n member lines

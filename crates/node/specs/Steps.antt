@@ -31,7 +31,7 @@ pub record IsAlone (x : ℕ) (n : Machine) : Type 0 where
   pub floor : n.floor ≡ 0
   pub kept : n.kept ≡ 0
 
--- what a disk has stands for node x, stopped as this machine
+-- what a disk has stands for node x with this machine's batches
 pub record Rests (left : Contents) (x : ℕ) (n : Machine) : Type 0 where
   pub batches : HasBatches left x n.list
   pub alone : IsAlone x n

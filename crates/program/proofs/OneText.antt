@@ -44,8 +44,8 @@ one_digit a b la lb e = grind (arith, nat_tests)
 
 -- what a byte's text begins with
 begins : (b : ℕ) (xs : List ℕ) → ((is_plain b ≡ true) × (byte_text b ++ xs ≡ b ∷ xs)) ⊎
-    ((is_plain b ≡ false) × (byte_text b ++ xs ≡ 37 ∷ digit_char (b / 16) ∷ digit_char
-    (b % 16) ∷ xs))
+    ((is_plain b ≡ false)
+    × (byte_text b ++ xs ≡ 37 ∷ digit_char (b / 16) ∷ digit_char (b % 16) ∷ xs))
 begins b xs = elim (cases_Bool (is_plain b)) [
   | inl t ↦ inl (t, rw t refl)
   | inr f ↦ inr (f, rw f refl)
@@ -59,20 +59,25 @@ one_byte : (b c : ℕ) (xs ys : List ℕ) → b < 256 → c < 256 → byte_text 
     → (b ≡ c) × (xs ≡ ys)
 one_byte b c xs ys lb lc e = elim (begins b xs) [
   | inl p ↦ elim (begins c ys) [
-    | inl q ↦ let whole : b ∷ xs ≡ c ∷ ys = sym p.1 ∙ e ∙ q.1 in (ap head whole, ap rest whole)
-    | inr q ↦ let whole : b ∷ xs ≡ 37 ∷ digit_char (c / 16) ∷ digit_char (c % 16) ∷ ys = sym p.1
-        ∙ e ∙ q.1 in absurd (no_percent b p.0 (ap head whole))
+    | inl q ↦
+        let whole : b ∷ xs ≡ c ∷ ys = sym p.1 ∙ e ∙ q.1 in
+        (ap head whole, ap rest whole)
+    | inr q ↦
+        let first : b ≡ 37 = ap head (sym p.1 ∙ e ∙ q.1) in
+        absurd (no_percent b p.0 first)
   ]
   | inr p ↦ elim (begins c ys) [
-    | inl q ↦ let whole : 37 ∷ digit_char (b / 16) ∷ digit_char (b % 16) ∷ xs ≡ c ∷ ys = sym p.1
-        ∙ e ∙ q.1 in absurd (no_percent c q.0 (sym (ap head whole)))
+    | inl q ↦
+        let first : c ≡ 37 = sym (ap head (sym p.1 ∙ e ∙ q.1)) in
+        absurd (no_percent c q.0 first)
     | inr q ↦
-        let whole : 37 ∷ digit_char (b / 16) ∷ digit_char (b % 16) ∷ xs ≡ 37 ∷ digit_char
-        (c / 16) ∷ digit_char (c % 16) ∷ ys = sym p.1 ∙ e ∙ q.1 in
-        let high : b / 16 ≡ c / 16 = one_digit (b / 16) (c / 16) (omega arith) (omega arith) (ap
-        (λ l. head (rest l)) whole) in
-        let low : b % 16 ≡ c % 16 = one_digit (b % 16) (c % 16) (omega arith) (omega arith) (ap
-        (λ l. head (rest (rest l))) whole) in
+        let whole = sym p.1 ∙ e ∙ q.1 in
+        let high : b / 16 ≡ c / 16 =
+        one_digit (b / 16) (c / 16) (omega arith) (omega arith)
+        (ap (λ l. head (rest l)) whole) in
+        let low : b % 16 ≡ c % 16 =
+        one_digit (b % 16) (c % 16) (omega arith) (omega arith)
+        (ap (λ l. head (rest (rest l))) whole) in
         (omega (arith, high, low), ap (λ l. rest (rest (rest l))) whole)
   ]
 ]
@@ -95,17 +100,19 @@ starts b xs (y ∷ ys) ends e = elim (begins b xs) [
 one_flat : (a b xs ys : List ℕ) → AreBytes a → AreBytes b → Ends xs → Ends ys
     → flat_map byte_text a ++ xs ≡ flat_map byte_text b ++ ys → (a ≡ b) × (xs ≡ ys)
 one_flat [] [] xs ys la lb ex ey e = (refl, e)
-one_flat [] (c ∷ b) xs ys la lb ex ey e = absurd (starts c (flat_map byte_text b ++ ys) xs ex (sym
-    (append_assoc (byte_text c) (flat_map byte_text b) ys) ∙ sym e))
-one_flat (c ∷ a) [] xs ys la lb ex ey e = absurd (starts c (flat_map byte_text a ++ xs) ys ey (sym
-    (append_assoc (byte_text c) (flat_map byte_text a) xs) ∙ e))
+one_flat [] (c ∷ b) xs ys la lb ex ey e =
+    absurd (starts c (flat_map byte_text b ++ ys) xs ex
+    (sym (append_assoc (byte_text c) (flat_map byte_text b) ys) ∙ sym e))
+one_flat (c ∷ a) [] xs ys la lb ex ey e =
+    absurd (starts c (flat_map byte_text a ++ xs) ys ey
+    (sym (append_assoc (byte_text c) (flat_map byte_text a) xs) ∙ e))
 one_flat (c ∷ a) (d ∷ b) xs ys la lb ex ey e =
-    let first = one_byte c d (flat_map byte_text a ++ xs) (flat_map byte_text b ++ ys) (All-head
-    (λ x. x < 256) c a la) (All-head (λ x. x < 256) d b lb)
+    let first = one_byte c d (flat_map byte_text a ++ xs) (flat_map byte_text b ++ ys)
+    (All-head (λ x. x < 256) c a la) (All-head (λ x. x < 256) d b lb)
     (sym (append_assoc (byte_text c) (flat_map byte_text a) xs) ∙ e
     ∙ append_assoc (byte_text d) (flat_map byte_text b) ys) in
-    let others = one_flat a b xs ys (All-tail (λ x. x < 256) c a la) (All-tail
-    (λ x. x < 256) d b lb) ex ey first.1 in
+    let others = one_flat a b xs ys
+    (All-tail (λ x. x < 256) c a la) (All-tail (λ x. x < 256) d b lb) ex ey first.1 in
     (rw (first.0, others.0) refl, others.1)
 
 no_at : (b : ℕ) (xs ys : List ℕ) → byte_text b ++ xs ≡ 64 ∷ ys → ⊥
@@ -118,26 +125,31 @@ no_at b xs ys e = elim (begins b xs) [
 one_string : (a b xs ys : List ℕ) → AreBytes a → AreBytes b → Ends xs → Ends ys
     → bytes_text a ++ xs ≡ bytes_text b ++ ys → (a ≡ b) × (xs ≡ ys)
 one_string [] [] xs ys la lb ex ey e = (refl, ap rest e)
-one_string [] (c ∷ b) xs ys la lb ex ey e = absurd (no_at c (flat_map byte_text b ++ ys) xs (sym
-    (append_assoc (byte_text c) (flat_map byte_text b) ys) ∙ sym e))
-one_string (c ∷ a) [] xs ys la lb ex ey e = absurd (no_at c (flat_map byte_text a ++ xs) ys (sym
-    (append_assoc (byte_text c) (flat_map byte_text a) xs) ∙ e))
+one_string [] (c ∷ b) xs ys la lb ex ey e =
+    absurd (no_at c (flat_map byte_text b ++ ys) xs
+    (sym (append_assoc (byte_text c) (flat_map byte_text b) ys) ∙ sym e))
+one_string (c ∷ a) [] xs ys la lb ex ey e =
+    absurd (no_at c (flat_map byte_text a ++ xs) ys
+    (sym (append_assoc (byte_text c) (flat_map byte_text a) xs) ∙ e))
 one_string (c ∷ a) (d ∷ b) xs ys la lb ex ey e = one_flat (c ∷ a) (d ∷ b) xs ys la lb ex ey e
 
 pub one_text : (a b : List ℕ) → AreBytes a → AreBytes b → bytes_text a ≡ bytes_text b → a ≡ b
-one_text a b la lb e = (one_string a b [] [] la lb tt tt (rw (
-  append-nil (bytes_text a),
-  append-nil
-      (bytes_text b),
-) e)).0
+one_text a b la lb e =
+    let same : bytes_text a ++ [] ≡ bytes_text b ++ [] =
+    rw (append-nil (bytes_text a), append-nil (bytes_text b)) e in
+    (one_string a b [] [] la lb tt tt same).0
 
 no_dash : (k xs ys : List ℕ) → bytes_text k ++ xs ≡ 45 ∷ ys → ⊥
 no_dash [] xs ys e = let at : 64 ≡ 45 = ap head e in omega (arith, at)
 no_dash (b ∷ k) xs ys e = elim (begins b (flat_map byte_text k ++ xs)) [
-  | inl p ↦ let at : b ≡ 45 = ap head (sym p.1 ∙ sym (append_assoc (byte_text b)
-      (flat_map byte_text k) xs) ∙ e) in grind (arith, nat_tests)
-  | inr p ↦ let at : 37 ≡ 45 = ap head (sym p.1 ∙ sym (append_assoc (byte_text b)
-      (flat_map byte_text k) xs) ∙ e) in omega (arith, at)
+  | inl p ↦
+      let at : b ≡ 45 =
+      ap head (sym p.1 ∙ sym (append_assoc (byte_text b) (flat_map byte_text k) xs) ∙ e) in
+      grind (arith, nat_tests)
+  | inr p ↦
+      let at : 37 ≡ 45 =
+      ap head (sym p.1 ∙ sym (append_assoc (byte_text b) (flat_map byte_text k) xs) ∙ e) in
+      omega (arith, at)
 ]
 
 pub one_edit : (a b : Edit) → AreBytesIn a → AreBytesIn b → edit_text a ≡ edit_text b → a ≡ b
@@ -145,8 +157,8 @@ one_edit (Put k v) (Put l w) la lb e =
     let parts = one_string k l (61 ∷ bytes_text v) (61 ∷ bytes_text w) la.0 lb.0 refl refl e in
     rw (parts.0, one_text v w la.1 lb.1 (ap rest parts.1)) refl
 one_edit (Put k v) (Delete l) la lb e = absurd (no_dash k (61 ∷ bytes_text v) (bytes_text l) e)
-one_edit (Delete k) (Put l w) la lb e = absurd (no_dash l (61 ∷ bytes_text w) (bytes_text k)
-    (sym e))
+one_edit (Delete k) (Put l w) la lb e =
+    absurd (no_dash l (61 ∷ bytes_text w) (bytes_text k) (sym e))
 one_edit (Delete k) (Delete l) la lb e = rw (one_text k l la lb (ap rest e)) refl
 
 -- ---- whole statements
@@ -171,39 +183,40 @@ one_hex [] [] la lb e = refl
 one_hex [] (d ∷ b) la lb e = absurd (grind (arith, common_steps))
 one_hex (c ∷ a) [] la lb e = absurd (grind (arith, common_steps))
 one_hex (c ∷ a) (d ∷ b) la lb e =
-    let sc : c < 256 = All-head (λ x. x < 256) c a la in let sd : d < 256 = All-head
-    (λ x. x < 256) d b lb in
-    let high : c / 16 ≡ d / 16 = one_digit (c / 16) (d / 16) (omega arith) (omega arith)
-    (ap head e) in
-    let low : c % 16 ≡ d % 16 = one_digit (c % 16) (d % 16) (omega arith) (omega arith) (ap
-    (λ l. head (rest l)) e) in
+    let sc : c < 256 = All-head (λ x. x < 256) c a la in
+    let sd : d < 256 = All-head (λ x. x < 256) d b lb in
+    let high : c / 16 ≡ d / 16 =
+    one_digit (c / 16) (d / 16) (omega arith) (omega arith) (ap head e) in
+    let low : c % 16 ≡ d % 16 =
+    one_digit (c % 16) (d % 16) (omega arith) (omega arith) (ap (λ l. head (rest l)) e) in
     let same : c ≡ d = omega (arith, high, low) in
-    rw (
-      same,
-      one_hex a b (All-tail (λ x. x < 256) c a la) (All-tail (λ x. x < 256) d b lb) (ap
-          (λ l. rest (rest l)) e),
-    ) refl
+    let others : a ≡ b =
+    one_hex a b (All-tail (λ x. x < 256) c a la) (All-tail (λ x. x < 256) d b lb)
+    (ap (λ l. rest (rest l)) e) in
+    rw (same, others) refl
 
 -- a hex digit is no letter behind f
 low_digit : (b : ℕ) → b < 256 → digit_char (b / 16) < 103
-low_digit b s = let small : b / 16 < 16 = omega arith in grind (arith, nat_tests)
+low_digit b s =
+    let small : b / 16 < 16 = omega arith in
+    grind (arith, nat_tests)
 
 no_letter : (bs : List ℕ) (c : ℕ) (xs : List ℕ) → AreBytes bs → 103 ≤ c → c ∷ xs ≡ hex_text bs → ⊥
 no_letter [] c xs la le e = grind (arith, common_steps)
-no_letter (b ∷ bs) c xs la le e = let at : c ≡ digit_char (b / 16) = ap head e in omega (
-  arith,
-  at,
-  low_digit b (All-head (λ x. x < 256) b bs la),
-)
+no_letter (b ∷ bs) c xs la le e =
+    let at : c ≡ digit_char (b / 16) = ap head e in
+    omega (arith, at, low_digit b (All-head (λ x. x < 256) b bs la))
 
 one_junk : (a b : Junk) (word : List ℕ) → AreBytesOf a → AreBytesOf b → IsJunk a word
     → IsJunk b word → a ≡ b
 one_junk Old Old word la lb p q = refl
-one_junk Old New word la lb p q = let at : 111 ≡ 110 = ap head (sym p
-    ∙ q) in absurd (omega (arith, at))
+one_junk Old New word la lb p q =
+    let at : 111 ≡ 110 = ap head (sym p ∙ q) in
+    absurd (omega (arith, at))
 one_junk Old (Bytes b) word la lb p q = absurd (no_letter b 111 _ lb (omega arith) (sym p ∙ q.1))
-one_junk New Old word la lb p q = let at : 110 ≡ 111 = ap head (sym p
-    ∙ q) in absurd (omega (arith, at))
+one_junk New Old word la lb p q =
+    let at : 110 ≡ 111 = ap head (sym p ∙ q) in
+    absurd (omega (arith, at))
 one_junk New New word la lb p q = refl
 one_junk New (Bytes b) word la lb p q = absurd (no_letter b 110 _ lb (omega arith) (sym p ∙ q.1))
 one_junk (Bytes a) Old word la lb p q = absurd (no_letter a 111 _ la (omega arith) (sym q ∙ p.1))
@@ -238,33 +251,33 @@ one_get m n k l None None words la lb e f =
       one_number m n la.0 lb.0 (ap (λ w. first_word (words_behind w)) both),
       one_text k l la.1 lb.1 (ap (λ w. first_word (words_behind (words_behind w))) both),
     ) refl
-one_get m n k l None (Some y) words la lb e f = let three : 3 ≡ 4 = ap length (sym e
-    ∙ f) in absurd (omega (arith, three))
-one_get m n k l (Some x) None words la lb e f = let three : 4 ≡ 3 = ap length (sym e
-    ∙ f) in absurd (omega (arith, three))
+one_get m n k l None (Some y) words la lb e f =
+    let size : 3 ≡ 4 = ap length (sym e ∙ f) in
+    absurd (omega (arith, size))
+one_get m n k l (Some x) None words la lb e f =
+    let size : 4 ≡ 3 = ap length (sym e ∙ f) in
+    absurd (omega (arith, size))
 one_get m n k l (Some x) (Some y) words la lb e f =
     let both = sym e ∙ f in
     rw (
       one_number m n la.0 lb.0 (ap (λ w. first_word (words_behind w)) both),
       one_text k l la.1 lb.1 (ap (λ w. first_word (words_behind (words_behind w))) both),
-      one_number x y la.2 lb.2 (ap (λ w. first_word (words_behind (words_behind
-          (words_behind w)))) both),
+      one_number x y la.2 lb.2
+          (ap (λ w. first_word (words_behind (words_behind (words_behind w)))) both),
     ) refl
 
 one_stop : (m n : ℕ) (j k : Junk) (words : List (List ℕ)) → CanBeSaid (Stop m j)
     → CanBeSaid (Stop n k) → IsSpelled (Stop m j) words → IsSpelled (Stop n k) words
     → Stop m j ≡ Stop n k
 one_stop m n j k words la lb (inl p) (inl q) =
-    let both = sym p.1 ∙ q.1 in rw (
-      p.0,
-      q.0,
-      one_number m n la.0 lb.0 (ap (λ w. first_word
-          (words_behind w)) both),
-    ) refl
-one_stop m n j k words la lb (inl p) (inr q) = let two : 2 ≡ 3 = ap length (sym p.1
-    ∙ q.2) in absurd (omega (arith, two))
-one_stop m n j k words la lb (inr p) (inl q) = let two : 3 ≡ 2 = ap length (sym p.2
-    ∙ q.1) in absurd (omega (arith, two))
+    let node = ap (λ w. first_word (words_behind w)) (sym p.1 ∙ q.1) in
+    rw (p.0, q.0, one_number m n la.0 lb.0 node) refl
+one_stop m n j k words la lb (inl p) (inr q) =
+    let size : 2 ≡ 3 = ap length (sym p.1 ∙ q.2) in
+    absurd (omega (arith, size))
+one_stop m n j k words la lb (inr p) (inl q) =
+    let size : 3 ≡ 2 = ap length (sym p.2 ∙ q.1) in
+    absurd (omega (arith, size))
 one_stop m n j k words la lb (inr p) (inr q) =
     let both = sym p.2 ∙ q.2 in
     let same = ap (λ w. first_word (words_behind (words_behind w))) both in
@@ -285,31 +298,44 @@ one_event (Submit m es) (Submit n fs) words la lb e f =
       one_number m n la.0 lb.0 (ap (λ w. first_word (words_behind w)) both),
       one_list es fs la.1 lb.1 (ap (λ w. words_behind (words_behind w)) both),
     ) refl
-one_event (Submit m es) (Get n k o) words la lb e f = let x : 115 ≡ 103 = apart (Submit m es)
-    (Get n k o) words 0 e f in absurd (omega (arith, x))
-one_event (Submit m es) (Start n) words la lb e f = let x : 117 ≡ 116 = apart (Submit m es)
-    (Start n) words 1 e f in absurd (omega (arith, x))
-one_event (Submit m es) (Stop n j) words la lb e f = let x : 117 ≡ 116 = apart (Submit m es)
-    (Stop n j) words 1 e f in absurd (omega (arith, x))
-one_event (Get m k o) (Submit n fs) words la lb e f = let x : 103 ≡ 115 = apart (Get m k o)
-    (Submit n fs) words 0 e f in absurd (omega (arith, x))
+one_event (Submit m es) (Get n k o) words la lb e f =
+    let x : 115 ≡ 103 = apart (Submit m es) (Get n k o) words 0 e f in
+    absurd (omega (arith, x))
+one_event (Submit m es) (Start n) words la lb e f =
+    let x : 117 ≡ 116 = apart (Submit m es) (Start n) words 1 e f in
+    absurd (omega (arith, x))
+one_event (Submit m es) (Stop n j) words la lb e f =
+    let x : 117 ≡ 116 = apart (Submit m es) (Stop n j) words 1 e f in
+    absurd (omega (arith, x))
+one_event (Get m k o) (Submit n fs) words la lb e f =
+    let x : 103 ≡ 115 = apart (Get m k o) (Submit n fs) words 0 e f in
+    absurd (omega (arith, x))
 one_event (Get m k o) (Get n l p) words la lb e f = one_get m n k l o p words la lb e f
-one_event (Get m k o) (Start n) words la lb e f = let x : 103 ≡ 115 = apart (Get m k o)
-    (Start n) words 0 e f in absurd (omega (arith, x))
-one_event (Get m k o) (Stop n j) words la lb e f = let x : 103 ≡ 115 = apart (Get m k o)
-    (Stop n j) words 0 e f in absurd (omega (arith, x))
-one_event (Start m) (Submit n fs) words la lb e f = let x : 116 ≡ 117 = apart (Start m)
-    (Submit n fs) words 1 e f in absurd (omega (arith, x))
-one_event (Start m) (Get n k o) words la lb e f = let x : 115 ≡ 103 = apart (Start m)
-    (Get n k o) words 0 e f in absurd (omega (arith, x))
-one_event (Start m) (Start n) words la lb e f = rw (one_number m n la lb (ap (λ w. first_word
-    (words_behind w)) (sym e ∙ f))) refl
-one_event (Start m) (Stop n j) words la lb e f = let x : 97 ≡ 111 = apart (Start m)
-    (Stop n j) words 2 e f in absurd (omega (arith, x))
-one_event (Stop m i) (Submit n fs) words la lb e f = let x : 116 ≡ 117 = apart (Stop m i)
-    (Submit n fs) words 1 e f in absurd (omega (arith, x))
-one_event (Stop m i) (Get n k o) words la lb e f = let x : 115 ≡ 103 = apart (Stop m i)
-    (Get n k o) words 0 e f in absurd (omega (arith, x))
-one_event (Stop m i) (Start n) words la lb e f = let x : 111 ≡ 97 = apart (Stop m i)
-    (Start n) words 2 e f in absurd (omega (arith, x))
+one_event (Get m k o) (Start n) words la lb e f =
+    let x : 103 ≡ 115 = apart (Get m k o) (Start n) words 0 e f in
+    absurd (omega (arith, x))
+one_event (Get m k o) (Stop n j) words la lb e f =
+    let x : 103 ≡ 115 = apart (Get m k o) (Stop n j) words 0 e f in
+    absurd (omega (arith, x))
+one_event (Start m) (Submit n fs) words la lb e f =
+    let x : 116 ≡ 117 = apart (Start m) (Submit n fs) words 1 e f in
+    absurd (omega (arith, x))
+one_event (Start m) (Get n k o) words la lb e f =
+    let x : 115 ≡ 103 = apart (Start m) (Get n k o) words 0 e f in
+    absurd (omega (arith, x))
+one_event (Start m) (Start n) words la lb e f =
+    let node = ap (λ w. first_word (words_behind w)) (sym e ∙ f) in
+    rw (one_number m n la lb node) refl
+one_event (Start m) (Stop n j) words la lb e f =
+    let x : 97 ≡ 111 = apart (Start m) (Stop n j) words 2 e f in
+    absurd (omega (arith, x))
+one_event (Stop m i) (Submit n fs) words la lb e f =
+    let x : 116 ≡ 117 = apart (Stop m i) (Submit n fs) words 1 e f in
+    absurd (omega (arith, x))
+one_event (Stop m i) (Get n k o) words la lb e f =
+    let x : 115 ≡ 103 = apart (Stop m i) (Get n k o) words 0 e f in
+    absurd (omega (arith, x))
+one_event (Stop m i) (Start n) words la lb e f =
+    let x : 111 ≡ 97 = apart (Stop m i) (Start n) words 2 e f in
+    absurd (omega (arith, x))
 one_event (Stop m i) (Stop n j) words la lb e f = one_stop m n i j words la lb e f

@@ -20,8 +20,8 @@ use Rattle.program.specs.Reading.{Places, ReadsWords}
 use Rattle.program.proofs.Numbers.{own}
 
 -- the second word of a statement is its node
-at_second : (before : Before) (words : List (List ℕ)) (name : List ℕ) (n : ℕ) (rest : List
-    (List ℕ)) → n < 2 ^ 64 → words ≡ name ∷ decimal n ∷ rest
+at_second : (before : Before) (words : List (List ℕ)) (name : List ℕ) (n : ℕ)
+    (rest : List (List ℕ)) → n < 2 ^ 64 → words ≡ name ∷ decimal n ∷ rest
     → place_fault before (drop 1 words) ≡ node_fault before.node n
 at_second before words name n rest small e = rw (e, digits_value-decimal own n small) refl
 
@@ -47,8 +47,8 @@ is_of_place before name args cut what whole before_it none small good spelled =
 pub is_placed : (before : Before) (name : List ℕ) (args cut : List (List ℕ)) (what : What)
     (meaning : Meaning) (id : ℕ) → cut ≡ args → cut ≡ before_fault args → false ≡ has_fault args
     → node_in what < 2 ^ 64 → fault_of_words (name ∷ cut) ≡ None → CanBeSaid what
-    → IsSpelled what (name ∷ cut) → before.node ≡ Some id → node_in what ≡ id → node_fault (Some id) id ≡ None
-    → meaning ≡ meaning_of what
+    → IsSpelled what (name ∷ cut) → before.node ≡ Some id → node_in what ≡ id
+    → node_fault (Some id) id ≡ None → meaning ≡ meaning_of what
     → Places before name args (Ok meaning)
 is_placed before name args cut what meaning id whole before_it none small good said spelled node
     same free is = (
@@ -74,4 +74,5 @@ pub is_config : (before : Before) (words args : List (List ℕ)) (n : ℕ) → n
     → config_fault before args ≡ None
     → ReadsWords before words (Ok (Config n))
 is_config before words args n small e a can free good =
-    (rw (e, good) refl, (rw (e, a) refl, can, free), rw (e, a, digits_value-decimal own n small) refl)
+    let value = digits_value-decimal own n small in
+    (rw (e, good) refl, (rw (e, a) refl, can, free), rw (e, a, value) refl)

@@ -188,7 +188,8 @@ skipped : (before : Before) (n : ℕ) (line : List ℕ) (lines : List (List ℕ)
     length line ≤ 262144 → n ≤ 100000 → is_skipped line ≡ true →
     script_fault before (suc n) lines ≡ None → script_fault before n (line ∷ lines) ≡ None
 skipped before n line lines short few skip rest =
-    passed before before n line lines few (rw (short_line line short, skip) refl) (rw skip refl) rest
+    passed before before n line lines few (rw (short_line line short, skip) refl) (rw skip refl)
+    rest
 
 stated : (before after : Before) (n : ℕ) (line : List ℕ) (lines : List (List ℕ)) →
     length line ≤ 262144 → n ≤ 100000 → 97 ≤ first_byte (words_of line) →

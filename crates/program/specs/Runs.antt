@@ -32,14 +32,13 @@ abbrev pub alone : ℕ → List (List ℕ)
 alone node = (node ∷ []) ∷ []
 
 -- the statements' events were run at the node, all that came of them is of one history, and the
--- text
--- of exactly that run was written
-pub record IsRunOf (node : ℕ) (statements : List Statement) (old new : Option
-    (List ℕ)) : Type 0 where
-  pub report : Report
-  pub ran : IsRun (alone node) (events_of statements) report
-  pub history : OneHistory (alone node) (events_of statements) report
-  pub wrote : Appends old new (run_text statements report.steps.items)
+-- text of exactly that run was written
+pub record IsRunOf (node : ℕ) (statements : List Statement) (old new : Option (List ℕ)) : Type 0
+  where
+    pub report : Report
+    pub ran : IsRun (alone node) (events_of statements) report
+    pub history : OneHistory (alone node) (events_of statements) report
+    pub wrote : Appends old new (run_text statements report.steps.items)
 
 -- what was read, where that is known, is a script, and the text of its run was written
 pub record IsRunOfText (text : Option (List ℕ)) (old new : Option (List ℕ)) : Type 0 where
@@ -63,6 +62,13 @@ IsFailureOf text Unreadable = Unit {0}
 IsFailureOf text Output = Unit {0}
 IsFailureOf text Memory = Unit {0}
 
+-- a script is refused for these alone, before anything runs
+abbrev pub IsOfReading : Failure → Type 0
+IsOfReading Unreadable = Unit {0}
+IsOfReading (Script f) = Unit {0}
+IsOfReading Output = ⊥
+IsOfReading Memory = Unit {0}
+
 -- a run of a script that was read fails for these alone
 abbrev pub IsOfRun : Failure → Type 0
 IsOfRun Unreadable = ⊥
@@ -74,10 +80,26 @@ IsOfRun Memory = Unit {0}
 abbrev pub line_told : Failure → List ℕ
 line_told failure = failure_text failure ++ 10 ∷ []
 
--- with status 0 the run was printed, with status 1 the line that says why not
+-- the run was printed, and no fault was told
+pub record Prints (text old_out new_out old_err new_err : Option (List ℕ)) (answer : ℕ) : Type 0
+  where
+    pub status : answer ≡ 0
+    pub run : IsRunOfText text old_out new_out
+    pub quiet : new_err ≡ old_err
+
+-- the line was told that says why there is no run; only where the output takes no more, a part may
+-- be printed
+pub record Fails (text old_out new_out old_err new_err : Option (List ℕ)) (answer : ℕ) : Type 0
+  where
+    pub status : answer ≡ 1
+    pub failure : Failure
+    pub cause : IfSome text (λ t. IsFailureOf t failure)
+    pub told : Appends old_err new_err (line_told failure)
+    pub untouched : failure ≢ Output → new_out ≡ old_out
+
+-- how a run ends: with status 0 it was printed, with status 1 it is told why not
 abbrev pub Ends : Option (List ℕ) → Option (List ℕ) → Option (List ℕ) → Option (List ℕ)
     → Option (List ℕ) → ℕ → Type 0
-Ends text old_out new_out old_err new_err status =
-    ((status ≡ 0) × IsRunOfText text old_out new_out)
-    ⊎ ((status ≡ 1) × ((failure : Failure) × IfSome text (λ t. IsFailureOf t failure)
-    × Appends old_err new_err (line_told failure)))
+Ends text old_out new_out old_err new_err answer =
+    Prints text old_out new_out old_err new_err answer
+    ⊎ Fails text old_out new_out old_err new_err answer

@@ -1,7 +1,8 @@
-ghost use Rattle.std.specs.Prelude.{◌≡◌, ◌++◌, All, IfOk, IfErr, IfSome, OnOk};
+ghost use Rattle.std.specs.Prelude.{◌≡◌, ◌≢◌, ◌++◌, All, IfOk, IfErr, IfSome, OnOk};
 ghost use Rattle.program.specs.Scripts.{lines_of, IsScript, Names};
 ghost use Rattle.program.specs.Runs.{event_of, events_of, IsRunOf, IsRunOfText, IsFailureOf};
-ghost use Rattle.program.specs.Runs.{IsOfRun, alone};
+ghost use Rattle.program.specs.Runs.{IsOfReading, IsOfRun, alone};
+ghost use Rattle.program.specs.declared.failure.Failure.TheVariants.{Output};
 
 use crate::failure::Failure;
 use crate::script::{Meaning, Script, Statement, read_script};
@@ -50,7 +51,9 @@ fn run_script<W: Write>(alloc: Global, script: &Script, out: &mut W) -> Result<(
     requires { All (λ it. Names script.now.node it.meaning) script.now.statements.items }
     ensures run { OnOk result (IsRunOf script.now.node script.now.statements.items
         (W.contents out.old) (W.contents out.new)) }
-    ensures fault { IfErr result IsOfRun }
+    ensures cause { IfErr result IsOfRun }
+    ensures untouched { IfErr result (λ failure. failure ≢ Output →
+        W.contents out.new ≡ W.contents out.old) }
 {
     let events = events(alloc, &script.statements)?;
     let places = event_places(alloc, &script.statements)?;
@@ -80,6 +83,7 @@ fn script_of<R: Read>(alloc: Global, input: &mut R) -> Result<Script, Failure>
         IsScript 1 (lines_of text) script.node script.statements.items)) }
     ensures fault { IfErr result (λ failure. IfSome (R.remaining input.old) (λ text.
         IsFailureOf text failure)) }
+    ensures cause { IfErr result IsOfReading }
     ensures node { IfOk result (λ script.
         All (λ it. Names script.node it.meaning) script.statements.items) }
 {
@@ -100,6 +104,8 @@ pub fn run<R: Read, W: Write>(alloc: Global, input: &mut R, out: &mut W) -> Resu
         (IsRunOfText (R.remaining input.old) (W.contents out.old) (W.contents out.new)) }
     ensures fault { IfErr result (λ failure. IfSome (R.remaining input.old) (λ text.
         IsFailureOf text failure)) }
+    ensures untouched { IfErr result (λ failure. failure ≢ Output →
+        W.contents out.new ≡ W.contents out.old) }
 {
     let script = script_of(alloc, input)?;
     run_script(alloc, &script, out)

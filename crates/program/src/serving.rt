@@ -22,6 +22,7 @@ pub fn serve<F: Files + Alloc<A = Global>, R: Read, O: Write, E: Write>(
 ) -> u8
     ensures run { result ≡ 0 → IsRunOfText None (O.contents out.old) (O.contents out.new) }
     ensures status { result ≤ 2 }
+    ensures usage { result ≡ 2 → O.contents out.new ≡ O.contents out.old }
 {
     let script = match request_of(rt.alloc(), words) {
         Ok(Request::Lab(script)) => script,

@@ -1,4 +1,5 @@
-ghost use Rattle.std.specs.Prelude.{◌≡◌, ◌==◌, true, false, not, map, position, MatchOption, IfOk, All};
+ghost use Rattle.std.specs.Prelude.{◌≡◌, ◌==◌, true, false, not, map, position, MatchOption};
+ghost use Rattle.std.specs.Prelude.{IfOk, All};
 ghost use Rattle.std.specs.List.{list_any};
 ghost use Rattle.program.specs.Statements.{is_edit, edit_text, AreBytesIn};
 ghost use Rattle.program.specs.Edits.{edit_of};
