@@ -1,6 +1,7 @@
 -- An open log, and the file that it is kept in.
 use Rattle.std.specs.Prelude.{◌≡◌, ◌⊎◌, ℕ, ◌+◌, ◌<◌, ◌≤◌, ◌^◌, List, [], ◌∷◌, ◌++◌, length, take}
-use Rattle.std.specs.Prelude.{drop, Result, Ok, Err, IfErr, Option, Some, None, IsNone, IsSomeAnd, IfSome, IsTrue}
+use Rattle.std.specs.Prelude.{drop, Result, Ok, Err, IfErr, Option, Some, None, IsNone, IfSome}
+use Rattle.std.specs.Prelude.{IsSomeAnd, IsTrue}
 use Rattle.disk.specs.declared.error.DiskError.TheVariants as disk
 use Rattle.disk.specs.State.{State, seen}
 use Rattle.record_log.specs.declared.error.LogError.{LogError}

@@ -6,8 +6,8 @@ ghost use Rattle.record_log.specs.Error.{Keeps};
 ghost use Rattle.record_log.specs.Push.{IsSureOf, LeavesAt, behind_of, pushed};
 ghost use Rattle.record_log.specs.Stands.{Holds, HasRecords, IsAt, IsPart, IsRest, DeclinesBytes};
 ghost use Rattle.record_log.specs.Stands.{OpensOrDeclines, Answers, IsMet, IsOfMachine, IsOwn};
-ghost use Rattle.record_log.specs.Stands.{IsOldOrNew, EndsInRange, begun, file_of, start_of, count_of};
-ghost use Rattle.record_log.specs.Stands.{gate_of, HasFailed};
+ghost use Rattle.record_log.specs.Stands.{IsOldOrNew, EndsInRange, begun, file_of, start_of};
+ghost use Rattle.record_log.specs.Stands.{gate_of, count_of, HasFailed};
 
 use crate::LogError;
 use crate::push::push;
