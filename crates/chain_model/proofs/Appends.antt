@@ -2,6 +2,7 @@
 use Rattle.std.proofs.Common.{◌<◌, ◌≡◌, ◌⊎◌, ⊎_elim, ℕ, suc, ◌≤◌, List, [], ◌∷◌, ◌++◌, length}
 use Rattle.std.proofs.Common.{Some, true, false, cond, sym, refl, ◌∙◌, subst, arith, take_all}
 use Rattle.std.proofs.Common.{length-append}
+use Rattle.std.specs.List.{AllByRecursion}
 use Rattle.std.proofs.lemmas.Bool.{cond_both, false≢true}
 use Rattle.chain_model.specs.Lists.{Begins, Part, place}
 use Rattle.chain_model.specs.Configuration.{Before, at_epoch, has, is_head, is_tail, predecessor}
@@ -12,7 +13,7 @@ use Rattle.chain_model.specs.Rules.{tail_commits, take_forward}
 use Rattle.chain_model.specs.World.{Event}
 use Rattle.chain_model.specs.InOrder.{WasCommitted}
 use Rattle.chain_model.specs.KeepsEnough.{RisesFrom}
-use Rattle.chain_model.proofs.Lists.{Every, begins_more, begins_next, begins_refl, every_append}
+use Rattle.chain_model.proofs.Lists.{begins_more, begins_next, begins_refl, every_append}
 use Rattle.chain_model.proofs.Lists.{every_map, part_begins, part_trans, place-bounds, place_in}
 use Rattle.chain_model.proofs.Lists.{place_last, take_of_begins}
 use Rattle.chain_model.proofs.Configuration.{IsChain, before_left, before_predecessor}
@@ -67,7 +68,8 @@ module _ {A : Type 0} (cs : List (List ℕ)) (lawful : IsChain cs) (events : Lis
 
   -- a tail that commits its whole list keeps what holds
   pub tail_ok : (n : Node A) → Lands cs events lists x n → SoundNode cs events h lists x n
-      → Every (IsPending events n.list) n.pending → Every (λ s. n.floor ≤ s) n.snapshots
+      → AllByRecursion (IsPending events n.list) n.pending
+      → AllByRecursion (λ s. n.floor ≤ s) n.snapshots
       → RisesFrom 0 n.pending
       → (n.running ≡ true → is_tail n.ids x ≡ false → n.committed ≤ n.successor_has)
       → NodeOk cs events h lists x (tail_commits x n)
@@ -121,14 +123,14 @@ module _ {A : Type 0} (cs : List (List ℕ)) (lawful : IsChain cs) (events : Lis
   }
 
   -- what is pending of a list is pending of a longer one
-  pub pending_longer : (l : List A) (b : A) (ps : List (ℕ × ℕ)) → Every (IsPending events l) ps
-      → Every (IsPending events (l ++ b ∷ [])) ps
+  pub pending_longer : (l : List A) (b : A) (ps : List (ℕ × ℕ))
+      → AllByRecursion (IsPending events l) ps → AllByRecursion (IsPending events (l ++ b ∷ [])) ps
   pending_longer l b ps pending = every_map (IsPending events l) (IsPending events (l ++ b ∷ []))
       ps (λ p is. (is.0, (is.1.0, place_in l (b ∷ []) p.0 is.0 is.1.1))) pending
 
   -- a number above those that rise may follow them
   rises_append : (j k i : ℕ) (ps : List (ℕ × ℕ)) → j < k → RisesFrom j ps
-      → Every (λ (p : ℕ × ℕ). p.0 < k) ps → RisesFrom j (ps ++ (k, i) ∷ [])
+      → AllByRecursion (λ (p : ℕ × ℕ). p.0 < k) ps → RisesFrom j (ps ++ (k, i) ∷ [])
   rises_append j k i [] lt up each = (lt, tt)
   rises_append j k i (p ∷ ps) lt up each =
       (up.0, rises_append p.0 k i ps each.0 up.1 each.1)
@@ -147,7 +149,7 @@ module _ {A : Type 0} (cs : List (List ℕ)) (lawful : IsChain cs) (events : Lis
 
   -- frames of a batch that is passed on
   passed_on : (m : Node A) → NodeOk cs events h lists x m → lists x ≡ m.list → (k : ℕ)
-      → Every (FrameOk cs events lists) (forward x m k)
+      → AllByRecursion (FrameOk cs events lists) (forward x m k)
   passed_on m ok here k =
       forward_ok cs lawful events h lists x m ok.sound here k (successor m.ids x) (place m.list k)
       refl refl
@@ -164,7 +166,7 @@ module _ {A : Type 0} (cs : List (List ℕ)) (lawful : IsChain cs) (events : Lis
       λ z before. absurd
       (none_before_head n.ids z x (different cs lawful events h lists x n ok.sound) head
       before) in
-      let waits : Every (IsPending events more.list) more.pending =
+      let waits : AllByRecursion (IsPending events more.list) more.pending =
       every_append (IsPending events more.list) n.pending ((size, i) ∷ [])
       (pending_longer n.list b n.pending ok.pending) ((b, (brought, place_last n.list b)), tt) in
       let ok' : NodeOk cs events h lists x m =
@@ -207,8 +209,8 @@ module _ {A : Type 0} (cs : List (List ℕ)) (lawful : IsChain cs) (events : Lis
       tail_ok more (lands_tail more (record { list = at.list; tail = at.tail }))
       (append_sound n b ok.sound has_x next handed)
       (pending_longer n.list b n.pending ok.pending) ok.snapshots ok.rising ok.resend in
-      let acks : Every (FrameOk cs events lists) (cond (is_tail m.ids x) (ack x m) []) =
-      cond_both (is_tail m.ids x) (ack x m) [] (Every (FrameOk cs events lists))
+      let acks : AllByRecursion (FrameOk cs events lists) (cond (is_tail m.ids x) (ack x m) []) =
+      cond_both (is_tail m.ids x) (ack x m) [] (AllByRecursion (FrameOk cs events lists))
       (λ t. ack_ok cs lawful events h lists x m ok'.sound (predecessor m.ids x) refl) (λ t. tt) in
       record {
         node = ok';

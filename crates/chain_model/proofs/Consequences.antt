@@ -3,6 +3,7 @@ use Rattle.std.proofs.Common.{All, ◌≡◌, inl, inr, ⊎_elim, ℕ, suc, ◌�
 use Rattle.std.proofs.Common.{take, ap₂, refl, None, true, not, nat_le, nat_lt, sym, ◌∙◌, ap}
 use Rattle.std.proofs.Common.{subst, arith, take_all, length-take-le, le-leb, le-ltb}
 use Rattle.std.proofs.lemmas.Bool.{cond-true, cond-false, not_from_true}
+use Rattle.std.proofs.lemmas.List.Elements.{All-from_recursion}
 use Rattle.chain_model.specs.Lists.{Begins, Part}
 use Rattle.chain_model.specs.Configuration.{Before, at_epoch, has, is_tail, last_of, leaves_out}
 use Rattle.chain_model.specs.Refusal as refusal
@@ -17,7 +18,7 @@ use Rattle.chain_model.specs.Headline.{batches, handed_in}
 use Rattle.chain_model.specs.InOrder.{InOrder, IsTaken, TellsCommitted, TellsTrue}
 use Rattle.chain_model.specs.Freshness.{IsAtMost, ReadsFresh}
 use Rattle.chain_model.specs.KeepsEnough.{KeepsEnough}
-use Rattle.chain_model.proofs.Lists.{all_of_every, begins-length, begins_refl, begins_trans}
+use Rattle.chain_model.proofs.Lists.{begins-length, begins_refl, begins_trans}
 use Rattle.chain_model.proofs.Lists.{every_map, part_more}
 use Rattle.chain_model.proofs.Configuration.{IsChain, before_part, before_tail, last_epoch}
 use Rattle.chain_model.proofs.Configuration.{later_leaves_out, later_part, tail_has}
@@ -124,7 +125,7 @@ module _ {A : Type 0} (cs : List (List ℕ)) (lawful : IsChain cs) where
       let frames = (reached cs events).frames in
       let each : (P : Frame A → Type 0) → ((f : Frame A) → FrameOk cs events lists f → P f)
       → All P frames =
-      λ P tells. all_of_every P frames
+      λ P tells. All-from_recursion P frames
       (every_map (FrameOk cs events lists) P frames tells (holds events).frames) in
       record {
         lists = order events;
@@ -201,7 +202,7 @@ module _ {A : Type 0} (cs : List (List ℕ)) (lawful : IsChain cs) where
       record {
         shows = λ i. shows_whole w t i up (subst (λ c. has c t ≡ true) (sym knows) k)
             ok.sound.floor_le whole;
-        before = all_of_every (IsAtMost (length n.list)) w.replies
+        before = All-from_recursion (IsAtMost (length n.list)) w.replies
             (every_map (ReplyOk cs events (lists_of w)) (IsAtMost (length n.list)) w.replies
             (up_to events t k) (holds events).replies);
       }

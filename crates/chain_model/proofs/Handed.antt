@@ -1,8 +1,8 @@
 -- The batches that a run hands in, and which request hands in which.
 use Rattle.std.proofs.Common.{◌≡◌, ◌⊎◌, inl, inr, ℕ, List, [], ◌∷◌, ◌++◌}
+use Rattle.std.specs.List.{AllByRecursion}
 use Rattle.chain_model.specs.Requests.{Submit}
 use Rattle.chain_model.specs.World.{Ask, Event}
-use Rattle.chain_model.proofs.Lists.{Every}
 
 -- the batches that an event hands in, and those of a list of events, in order
 abbrev pub handed_by : {A : Type 0} → Event A → List A
@@ -27,6 +27,6 @@ WasHandedIn (e ∷ es) i b = IsHandIn i b e ⊎ WasHandedIn es i b
 -- each batch of a run was handed in in it
 pub all_told : {A : Type 0} (Q : ℕ → A → Type 0) (es : List (Event A))
     → ((i : ℕ) (b : A) → WasHandedIn es i b → Q i b)
-    → Every (λ e. (i : ℕ) (b : A) → IsHandIn i b e → Q i b) es
+    → AllByRecursion (λ e. (i : ℕ) (b : A) → IsHandIn i b e → Q i b) es
 all_told Q [] f = tt
 all_told Q (e ∷ es) f = (λ i b is. f i b (inl is), all_told Q es (λ i b was. f i b (inr was)))

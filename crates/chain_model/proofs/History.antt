@@ -1,12 +1,13 @@
 -- The one history: the longest list that a reply spoke of.
 use Rattle.std.proofs.Common.{◌≡◌, ⊎_elim, ℕ, ◌<◌, ◌≤◌, max, List, [], ◌∷◌, length, take, Some}
 use Rattle.std.proofs.Common.{true, sym, refl, subst, arith}
+use Rattle.std.specs.List.{AllByRecursion}
 use Rattle.std.proofs.lemmas.Bool.{cases_lt}
 use Rattle.chain_model.specs.Lists.{Begins, Part, place}
 use Rattle.chain_model.specs.Configuration.{has, last_of}
 use Rattle.chain_model.specs.Requests.{Closed, Committed, Opened, Refused, Reply, Shows}
 use Rattle.chain_model.specs.World.{Event, node_of, reached}
-use Rattle.chain_model.proofs.Lists.{Every, begins-place, begins_nil, begins_shorter, part_begins}
+use Rattle.chain_model.proofs.Lists.{begins-place, begins_nil, begins_shorter, part_begins}
 use Rattle.chain_model.proofs.Lists.{part_trans, take_begins}
 use Rattle.chain_model.proofs.Configuration.{IsChain, last_epoch, someone}
 use Rattle.chain_model.proofs.Handed.{WasHandedIn, handed}
@@ -23,7 +24,7 @@ Speaks events B _ = Unit {0}
 pub record OneHistory {A : Type 0} (cs : List (List ℕ)) (events : List (Event A)) : Type 0 where
   pub B : List A
   pub taken : Part B (handed events)
-  pub speaks : Every (Speaks events B) (reached cs events).replies
+  pub speaks : AllByRecursion (Speaks events B) (reached cs events).replies
   pub stands : (x : ℕ) → has (last_of cs) x ≡ true → Begins B (node_of cs events x).list
 
 -- the number that a reply speaks of
@@ -54,7 +55,7 @@ module _ {A : Type 0} (events : List (Event A)) (cs : List (List ℕ)) (lists : 
   list_of (Refused i why) ok = ([], (refl, λ y k. begins_nil (lists y)))
 
   -- the longest list that a reply tells of
-  longest : (rs : List (Reply A)) → Every GoodReply rs → (l : List A)
+  longest : (rs : List (Reply A)) → AllByRecursion GoodReply rs → (l : List A)
       × ((length l ≡ top rs) × Safe lists (last_of cs) l)
   longest [] ok = ([], (refl, λ y k. begins_nil (lists y)))
   longest (r ∷ rs) ok =
@@ -85,8 +86,8 @@ module _ {A : Type 0} (events : List (Event A)) (cs : List (List ℕ)) (lists : 
     agree (Closed i s) ok le = tt
     agree (Refused i why) ok le = tt
 
-    agree_all : (rs : List (Reply A)) → Every GoodReply rs → top rs ≤ length B
-        → Every (Speaks events B) rs
+    agree_all : (rs : List (Reply A)) → AllByRecursion GoodReply rs → top rs ≤ length B
+        → AllByRecursion (Speaks events B) rs
     agree_all [] ok le = tt
     agree_all (r ∷ rs) ok le = (agree r ok.0 (omega arith), agree_all rs ok.1 (omega arith))
 

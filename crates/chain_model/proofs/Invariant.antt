@@ -1,5 +1,6 @@
 -- What holds of a world after every list of events, and that it goes on to hold as lists grow.
 use Rattle.std.proofs.Common.{◌≡◌, ℕ, ◌<◌, ◌≤◌, List, ◌++◌, length, take, Some, true, false}
+use Rattle.std.specs.List.{AllByRecursion}
 use Rattle.chain_model.specs.Lists.{Begins, Part, place}
 use Rattle.chain_model.specs.Configuration.{Before, at_epoch, has, is_tail, last_of}
 use Rattle.chain_model.specs.Frames.{Ack, Forward, Frame}
@@ -8,7 +9,7 @@ use Rattle.chain_model.specs.Node.{Node}
 use Rattle.chain_model.specs.World.{Event, World}
 use Rattle.chain_model.specs.InOrder.{CommittedBy, IsUpTo, WasCommitted}
 use Rattle.chain_model.specs.KeepsEnough.{RisesFrom}
-use Rattle.chain_model.proofs.Lists.{Every, begins-place, begins_trans, part_wider}
+use Rattle.chain_model.proofs.Lists.{begins-place, begins_trans, part_wider}
 use Rattle.chain_model.proofs.Handed.{WasHandedIn}
 
 -- the list of every node of a configuration begins with this one
@@ -54,10 +55,10 @@ IsPending events l p = (b : _) × (WasHandedIn events p.1 b × (place l p.0 ≡ 
 pub record NodeOk {A : Type 0} (cs : List (List ℕ)) (events : List (Event A)) (h : List A)
     (lists : ℕ → List A) (x : ℕ) (n : Node A) : Type 0 where
   pub sound : Sound cs events h lists x n.list n.epoch n.ids n.committed n.floor n.kept
-  pub pending : Every (IsPending events n.list) n.pending
+  pub pending : AllByRecursion (IsPending events n.list) n.pending
   pub tail : n.running ≡ true → is_tail n.ids x ≡ true → n.committed ≡ length n.list
   -- no snapshot is open below the floor
-  pub snapshots : Every (λ s. n.floor ≤ s) n.snapshots
+  pub snapshots : AllByRecursion (λ s. n.floor ≤ s) n.snapshots
   -- requests wait in order of number
   pub rising : RisesFrom 0 n.pending
   pub resend : n.running ≡ true → is_tail n.ids x ≡ false → n.committed ≤ n.successor_has
@@ -87,8 +88,8 @@ lists_of w y = (w.nodes y).list
 pub record WorldOk {A : Type 0} (cs : List (List ℕ)) (events : List (Event A)) (h : List A)
     (w : World A) : Type 0 where
   pub nodes : (x : ℕ) → NodeOk cs events h (lists_of w) x (w.nodes x)
-  pub frames : Every (FrameOk cs events (lists_of w)) w.frames
-  pub replies : Every (ReplyOk cs events (lists_of w)) w.replies
+  pub frames : AllByRecursion (FrameOk cs events (lists_of w)) w.frames
+  pub replies : AllByRecursion (ReplyOk cs events (lists_of w)) w.replies
 
 -- what begins a committed list is committed
 pub shorter_committed : {A : Type 0} {cs : List (List ℕ)} {events : List (Event A)} (e : ℕ)

@@ -1,9 +1,9 @@
 -- Lists that begin one another, places and parts.
 use Rattle.std.proofs.Common.{◌≡◌, inl, inr, ℕ, zero, suc, ◌≤◌, List, [], ◌∷◌, ◌++◌, length, take}
-use Rattle.std.proofs.Common.{Some, None, All, slice_get, sym, refl, ◌∙◌, ap, subst, arith}
+use Rattle.std.proofs.Common.{Some, None, slice_get, sym, refl, ◌∙◌, ap, subst, arith}
 use Rattle.std.proofs.Common.{take_at, append_assoc, append-nil, length-append}
 use Rattle.std.proofs.lemmas.List.{take-append-le}
-use Rattle.std.proofs.lemmas.List.Elements.{All-nil, All-cons}
+use Rattle.std.specs.List.{AllByRecursion}
 use Rattle.chain_model.specs.Lists.{Begins, Part, place}
 
 -- a list begins itself
@@ -166,31 +166,21 @@ part_both (x ∷ l) [] b p = absurd p
 part_both (x ∷ l) (y ∷ h) b (inl p) = inl (p.0, part_both l h b p.1)
 part_both (x ∷ l) (y ∷ h) b (inr p) = inr (part_both (x ∷ l) h b p)
 
--- P holds of each element, by recursion
-abbrev pub Every : {A : Type 0} → (A → Type 0) → List A → Type 0
-Every P [] = Unit {0}
-Every P (x ∷ l) = P x × Every P l
-
--- what holds by recursion holds of all
-pub all_of_every : {A : Type 0} (P : A → Type 0) (l : List A) → Every P l → All P l
-all_of_every P [] each = All-nil P
-all_of_every P (x ∷ l) each = All-cons P x l each.0 (all_of_every P l each.1)
-
 -- what follows for each element
-pub every_map : {A : Type 0} (P Q : A → Type 0) (l : List A) → ((x : A) → P x → Q x) → Every P l
-    → Every Q l
+pub every_map : {A : Type 0} (P Q : A → Type 0) (l : List A) → ((x : A) → P x → Q x)
+    → AllByRecursion P l → AllByRecursion Q l
 every_map P Q [] f h = tt
 every_map P Q (x ∷ l) f h = (f x h.0, every_map P Q l f h.1)
 
 -- what holds of two lists holds of both in a row
-pub every_append : {A : Type 0} (P : A → Type 0) (l m : List A) → Every P l → Every P m
-    → Every P (l ++ m)
+pub every_append : {A : Type 0} (P : A → Type 0) (l m : List A) → AllByRecursion P l
+    → AllByRecursion P m → AllByRecursion P (l ++ m)
 every_append P [] m h k = k
 every_append P (x ∷ l) m h k = (h.0, every_append P l m h.1 k)
 
 -- what holds of each holds of what stands at a place
 pub every_place : {A : Type 0} (P : A → Type 0) (l : List A) (n : ℕ) (x : A) → place l n ≡ Some x
-    → Every P l → P x
+    → AllByRecursion P l → P x
 every_place P [] n x e h = absurd (cc)
 every_place P (y ∷ l) zero x e h = absurd (cc)
 every_place P (y ∷ l) (suc zero) x e h = let same : y ≡ x = cc in subst P same h.0

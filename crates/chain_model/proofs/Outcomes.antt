@@ -1,6 +1,7 @@
 -- What a run sends and replies is what its events send and reply.
 use Rattle.std.proofs.Common.{◌≡◌, suc, ℕ, List, [], ◌∷◌, ◌++◌, length, flat_map, sym, refl, ◌∙◌}
-use Rattle.std.proofs.Common.{ap, subst, Some, ◌==◌, eqb-true, eq-eqb, append_assoc, append-nil}
+use Rattle.std.proofs.Common.{ap, subst, Some, None, ◌==◌, eqb-true, eq-eqb, append_assoc}
+use Rattle.std.proofs.Common.{append-nil}
 use Rattle.std.proofs.lemmas.Bool.{cond_both, cond-true}
 use Rattle.chain_model.specs.Node.{Node}
 use Rattle.chain_model.specs.World.{Event, Outcome, World, beginning, happens, outcome, outcomes}
@@ -52,6 +53,11 @@ module _ {A : Type 0} (cs : List (List ℕ)) where
       (cond_both {A = Node A} (x == y) n (w.nodes y) (λ m. m ≡ w.nodes y)
       (λ same. absurd (other (eqb-true x y same))) (λ not. refl))
 
+  -- an event that came to none changes none
+  none_after : (w : World A) (e : Event A) (y : ℕ) → (outcome w cs e).came_to ≡ None
+      → (happens cs w e).nodes y ≡ w.nodes y
+  none_after w e y is = subst (λ c. with_node w.nodes c y ≡ w.nodes y) (sym is) refl
+
   -- a run is made of its outcomes
   pub made_of_outcomes : (es : List (Event A)) → MadeOfOutcomes cs es
   made_of_outcomes es = record {
@@ -60,4 +66,5 @@ module _ {A : Type 0} (cs : List (List ℕ)) where
     replies = replies_of es (beginning cs);
     node = node_after (reached cs es);
     others = others_after (reached cs es);
+    nowhere = none_after (reached cs es);
   }

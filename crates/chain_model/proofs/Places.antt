@@ -2,6 +2,8 @@
 -- into.
 use Rattle.std.proofs.Common.{◌≡◌, inl, inr, ℕ, suc, ◌+◌, List, [], ◌∷◌, ◌++◌, length, map, Some}
 use Rattle.std.proofs.Common.{sym, refl, ◌∙◌, ap, ap₂, subst, arith}
+use Rattle.std.specs.List.{AllByRecursion}
+use Rattle.std.proofs.lemmas.List.Elements.{All-from_recursion}
 use Rattle.std.proofs.lemmas.List.{map-append, take-map}
 use Rattle.chain_model.specs.Lists.{Begins, Part}
 use Rattle.chain_model.specs.Requests.{Close, Closed, Committed, Open, Opened, Read, Refused}
@@ -10,7 +12,6 @@ use Rattle.chain_model.specs.World.{Ask, Deliver, Event, Lost, Notice, Start, St
 use Rattle.chain_model.specs.World.{World, beginning, node_of, reached, run}
 use Rattle.chain_model.specs.Headline.{Agrees, OneList, batches, handed_in, numbered}
 use Rattle.chain_model.specs.Maps.{event_map, reply_map, request_map, world_map}
-use Rattle.chain_model.proofs.Lists.{Every, all_of_every}
 use Rattle.chain_model.proofs.Configuration.{IsChain}
 use Rattle.chain_model.proofs.Handed.{WasHandedIn, handed}
 use Rattle.chain_model.proofs.History.{OneHistory, Speaks, one_history}
@@ -162,7 +163,8 @@ module _ {A : Type 0} where
 
   -- so do all replies
   agree_with : (es : List (Event A)) (B : List (ℕ × A)) (rs : List (Reply (ℕ × A)))
-      → Every (Speaks (tagged 1 es) B) rs → Every (Agrees B) (map (reply_map batch_of) rs)
+      → AllByRecursion (Speaks (tagged 1 es) B) rs
+      → AllByRecursion (Agrees B) (map (reply_map batch_of) rs)
   agree_with es B [] ok = tt
   agree_with es B (r ∷ rs) ok = (agrees_with es B r ok.0, agree_with es B rs ok.1)
 
@@ -177,8 +179,8 @@ module _ {A : Type 0} where
       record {
         B = h.B;
         taken = subst (λ l. Part h.B l) (handed_tagged 1 es) h.taken;
-        agrees = all_of_every (Agrees h.B) w.replies
-            (subst (λ (v : World A). Every (Agrees h.B) v.replies) is
+        agrees = All-from_recursion (Agrees h.B) w.replies
+            (subst (λ (v : World A). AllByRecursion (Agrees h.B) v.replies) is
             (agree_with es h.B (reached cs (tagged 1 es)).replies h.speaks));
         stands = λ x last.
             let b = h.stands x last in

@@ -1,6 +1,7 @@
 -- Each read, snapshot and tend, each start and stop keeps what holds.
 use Rattle.std.proofs.Common.{◌≡◌, ℕ, ◌≤◌, min, max, List, [], ◌∷◌, ◌++◌, length, take, Option}
 use Rattle.std.proofs.Common.{Bool, true, false, ◌==◌, sym, refl, ◌∙◌, arith, length-take-le}
+use Rattle.std.specs.List.{AllByRecursion}
 use Rattle.std.proofs.lemmas.Bool.{cond_both, false≢true}
 use Rattle.chain_model.specs.Lists.{Part}
 use Rattle.chain_model.specs.Configuration.{is_tail, last_of}
@@ -9,7 +10,7 @@ use Rattle.chain_model.specs.Requests.{Close, Closed, Open, Opened, Read, Reply,
 use Rattle.chain_model.specs.Node.{Node, least, refused, replied, started, stopped, without}
 use Rattle.chain_model.specs.Rules.{ask, close_snapshot, number_read, open_snapshot, read, tend}
 use Rattle.chain_model.specs.World.{Event}
-use Rattle.chain_model.proofs.Lists.{Every, begins_trans, every_map, take_less}
+use Rattle.chain_model.proofs.Lists.{begins_trans, every_map, take_less}
 use Rattle.chain_model.proofs.Configuration.{IsChain}
 use Rattle.chain_model.proofs.Handed.{WasHandedIn}
 use Rattle.chain_model.proofs.Invariant.{NodeOk, ReplyOk, Safe, shorter_committed}
@@ -18,20 +19,22 @@ use Rattle.chain_model.proofs.Sends.{AnswerOk, Lands, refused_ok, safe_last, sil
 use Rattle.chain_model.proofs.Appends.{submit_ok, tail_sound}
 
 -- the least is below each of them ..
-pub least_below : (f m : ℕ) (ts : List ℕ) → f ≤ least m ts → (f ≤ m) × Every (λ t. f ≤ t) ts
+pub least_below : (f m : ℕ) (ts : List ℕ) → f ≤ least m ts
+    → (f ≤ m) × AllByRecursion (λ t. f ≤ t) ts
 least_below f m [] le = (le, tt)
 least_below f m (t ∷ ts) le = let rest = least_below f (min m t) ts le in
     (omega (arith, rest.0), (omega (arith, rest.0), rest.1))
 
 -- .. and above what is below each
-pub least_above : (f m : ℕ) (ts : List ℕ) → f ≤ m → Every (λ t. f ≤ t) ts → f ≤ least m ts
+pub least_above : (f m : ℕ) (ts : List ℕ) → f ≤ m → AllByRecursion (λ t. f ≤ t) ts → f ≤ least m ts
 least_above f m [] le each = le
 least_above f m (t ∷ ts) le each = least_above f (min m t) ts (omega (arith, le, each.0)) each.1
 
 -- what holds of each holds with one left out
-every_without : (P : ℕ → Type 0) (s : ℕ) (ts : List ℕ) → Every P ts → Every P (without s ts)
+every_without : (P : ℕ → Type 0) (s : ℕ) (ts : List ℕ) → AllByRecursion P ts
+    → AllByRecursion P (without s ts)
 every_without P s [] each = tt
-every_without P s (t ∷ ts) each = cond_both (s == t) ts (t ∷ without s ts) (λ l. Every P l)
+every_without P s (t ∷ ts) each = cond_both (s == t) ts (t ∷ without s ts) (λ l. AllByRecursion P l)
     (λ is. each.1) (λ not. (each.0, every_without P s ts each.1))
 
 -- `lists` are the lists of all nodes after the step.
@@ -64,7 +67,7 @@ module _ {A : Type 0} (cs : List (List ℕ)) (lawful : IsChain cs) (events : Lis
 
   -- snapshots matter for the floor alone
   snapshots_ok : (n : Node A) (ss : List ℕ) (r : Reply A) → NodeOk cs events h lists x n
-      → Every (λ s. n.floor ≤ s) ss → ReplyOk cs events lists r
+      → AllByRecursion (λ s. n.floor ≤ s) ss → ReplyOk cs events lists r
       → AnswerOk cs events h lists x (replied (record n { snapshots = ss }) r)
   snapshots_ok n ss r ok above good = record {
     node = record {
@@ -102,7 +105,7 @@ module _ {A : Type 0} (cs : List (List ℕ)) (lawful : IsChain cs) (events : Lis
   tend_ok n false gives_up ok = silent_ok cs lawful events h lists x n ok
   tend_ok n true gives_up ok =
       let low = least n.committed n.snapshots in
-      let below : (low ≤ n.committed) × Every (λ s. low ≤ s) n.snapshots =
+      let below : (low ≤ n.committed) × AllByRecursion (λ s. low ≤ s) n.snapshots =
       least_below low n.committed n.snapshots (omega arith) in
       let above : n.floor ≤ low = least_above n.floor n.committed n.snapshots ok.sound.floor_le
       ok.snapshots in

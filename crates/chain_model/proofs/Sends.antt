@@ -2,6 +2,7 @@
 use Rattle.std.proofs.Common.{◌≡◌, ⊎_elim, ℕ, zero, suc, ◌≤◌, List, [], ◌∷◌, take, Option, Some}
 use Rattle.std.proofs.Common.{None, true, nat_le, sym, refl, subst, arith, length-take-le}
 use Rattle.std.proofs.Common.{leb-true}
+use Rattle.std.specs.List.{AllByRecursion}
 use Rattle.std.proofs.lemmas.Bool.{cond_both}
 use Rattle.chain_model.specs.Lists.{Part, place}
 use Rattle.chain_model.specs.Configuration.{AllDifferent, Before, at_epoch, has, is_tail, last_of}
@@ -14,7 +15,7 @@ use Rattle.chain_model.specs.Rules.{ack_to, acknowledge, forward, forward_to, fo
 use Rattle.chain_model.specs.World.{Event}
 use Rattle.chain_model.specs.InOrder.{WasCommitted}
 use Rattle.chain_model.specs.KeepsEnough.{RisesFrom}
-use Rattle.chain_model.proofs.Lists.{Every, begins-place, begins_trans, every_append, place_take}
+use Rattle.chain_model.proofs.Lists.{begins-place, begins_trans, every_append, place_take}
 use Rattle.chain_model.proofs.Lists.{take_less}
 use Rattle.chain_model.proofs.Configuration.{IsChain, all_different, before_back, before_left}
 use Rattle.chain_model.proofs.Configuration.{before_part, has_part, last_epoch, later_part}
@@ -25,8 +26,8 @@ use Rattle.chain_model.proofs.Invariant.{FrameOk, IsPending, NodeOk, ReplyOk, Sa
 pub record AnswerOk {A : Type 0} (cs : List (List ℕ)) (events : List (Event A)) (h : List A)
     (lists : ℕ → List A) (x : ℕ) (a : Answer A) : Type 0 where
   pub node : NodeOk cs events h lists x a.node
-  pub frames : Every (FrameOk cs events lists) a.frames
-  pub replies : Every (ReplyOk cs events lists) a.replies
+  pub frames : AllByRecursion (FrameOk cs events lists) a.frames
+  pub replies : AllByRecursion (ReplyOk cs events lists) a.replies
 
 -- where a node lands: its list in the new world, and what a tail commits by that
 pub record Lands {A : Type 0} (cs : List (List ℕ)) (events : List (Event A)) (lists : ℕ → List A)
@@ -76,7 +77,7 @@ module _ {A : Type 0} (cs : List (List ℕ)) (lawful : IsChain cs) (events : Lis
 
   -- an acknowledgement tells what is committed
   pub ack_ok : (n : Node A) → SoundNode cs events h lists x n → (o : Option ℕ)
-      → predecessor n.ids x ≡ o → Every (FrameOk cs events lists) (ack_to o x n)
+      → predecessor n.ids x ≡ o → AllByRecursion (FrameOk cs events lists) (ack_to o x n)
   ack_ok n s None from = tt
   ack_ok n s (Some p) from = (
     (
@@ -98,7 +99,7 @@ module _ {A : Type 0} (cs : List (List ℕ)) (lawful : IsChain cs) (events : Lis
   -- a batch of the list is in all lists before
   pub forward_ok : (n : Node A) → SoundNode cs events h lists x n → lists x ≡ n.list
       → (k : ℕ) (o : Option ℕ) (b : Option A) → successor n.ids x ≡ o → place n.list k ≡ b
-      → Every (FrameOk cs events lists) (forward_to o x n k b)
+      → AllByRecursion (FrameOk cs events lists) (forward_to o x n k b)
   forward_ok n s here k None b next e = tt
   forward_ok n s here k (Some to) None next e = tt
   forward_ok n s here k (Some to) (Some b) next e = (
@@ -115,7 +116,7 @@ module _ {A : Type 0} (cs : List (List ℕ)) (lawful : IsChain cs) (events : Lis
 
   -- so are several in a row
   pub forwards_ok : (n : Node A) → SoundNode cs events h lists x n → lists x ≡ n.list
-      → (k count : ℕ) → Every (FrameOk cs events lists) (forwards x n k count)
+      → (k count : ℕ) → AllByRecursion (FrameOk cs events lists) (forwards x n k count)
   forwards_ok n s here k zero = tt
   forwards_ok n s here k (suc count) =
       every_append (FrameOk cs events lists) (forward x n (suc k)) (forwards x n (suc k) count)
@@ -124,11 +125,12 @@ module _ {A : Type 0} (cs : List (List ℕ)) (lawful : IsChain cs) (events : Lis
 
   -- who waits for what is committed is told the truth
   pub due_ok : (n : Node A) → SoundNode cs events h lists x n → (ps : List (ℕ × ℕ))
-      → Every (IsPending events n.list) ps → Every (ReplyOk cs events lists) (due n.committed ps)
+      → AllByRecursion (IsPending events n.list) ps
+      → AllByRecursion (ReplyOk cs events lists) (due n.committed ps)
   due_ok n s [] pending = tt
   due_ok n s (p ∷ ps) pending =
       cond_both (nat_le p.0 n.committed) (Committed p.1 p.0 ∷ due n.committed ps)
-      (due n.committed ps) (λ rs. Every (ReplyOk cs events lists) rs)
+      (due n.committed ps) (λ rs. AllByRecursion (ReplyOk cs events lists) rs)
       (λ le.
       let small : p.0 ≤ n.committed = leb-true p.0 n.committed le in (
         (
@@ -152,12 +154,12 @@ module _ {A : Type 0} (cs : List (List ℕ)) (lawful : IsChain cs) (events : Lis
       (λ gt. due_ok n s ps pending.1)
 
   -- who waits for more goes on to wait
-  pub not_due_ok : (l : List A) (k : ℕ) (ps : List (ℕ × ℕ)) → Every (IsPending events l) ps
-      → Every (IsPending events l) (not_due k ps)
+  pub not_due_ok : (l : List A) (k : ℕ) (ps : List (ℕ × ℕ)) → AllByRecursion (IsPending events l) ps
+      → AllByRecursion (IsPending events l) (not_due k ps)
   not_due_ok l k [] pending = tt
   not_due_ok l k (p ∷ ps) pending =
       cond_both (nat_le p.0 k) (not_due k ps) (p ∷ not_due k ps)
-      (λ rs. Every (IsPending events l) rs)
+      (λ rs. AllByRecursion (IsPending events l) rs)
       (λ le. not_due_ok l k ps pending.1)
       (λ gt. (pending.0, not_due_ok l k ps pending.1))
 
@@ -176,7 +178,8 @@ module _ {A : Type 0} (cs : List (List ℕ)) (lawful : IsChain cs) (events : Lis
 
   -- replies to those who wait keep what holds
   pub acknowledge_ok : (n : Node A) (fs : List (Frame A)) → NodeOk cs events h lists x n
-      → Every (FrameOk cs events lists) fs → AnswerOk cs events h lists x (acknowledge n fs)
+      → AllByRecursion (FrameOk cs events lists) fs
+      → AnswerOk cs events h lists x (acknowledge n fs)
   acknowledge_ok n fs ok sent = record {
     node = record {
       sound = ok.sound;

@@ -1,6 +1,7 @@
 -- Each frame, notice and tick that comes to a node keeps what holds.
 use Rattle.std.proofs.Common.{◌≡◌, inl, inr, ⊎_elim, ℕ, ◌<◌, ◌≤◌, max, List, [], length, take}
 use Rattle.std.proofs.Common.{true, cond, nat_lt, sym, refl, ◌∙◌, ap, subst, arith}
+use Rattle.std.specs.List.{AllByRecursion}
 use Rattle.std.proofs.lemmas.Bool.{cond_both, false≢true, cases_lt}
 use Rattle.chain_model.specs.Lists.{Begins, Part}
 use Rattle.chain_model.specs.Configuration.{at_epoch, has, is_tail, predecessor}
@@ -12,7 +13,7 @@ use Rattle.chain_model.specs.Rules.{told}
 use Rattle.chain_model.specs.World.{Event}
 use Rattle.chain_model.specs.InOrder.{CommittedBy, WasCommitted}
 use Rattle.chain_model.specs.KeepsEnough.{RisesFrom}
-use Rattle.chain_model.proofs.Lists.{Every, begins-length, every_append, take_begins}
+use Rattle.chain_model.proofs.Lists.{begins-length, every_append, take_begins}
 use Rattle.chain_model.proofs.Configuration.{IsChain, before_left, has_part, later_part}
 use Rattle.chain_model.proofs.Invariant.{FrameOk, IsKnown, IsPending, NodeOk, Safe, SoundNode}
 use Rattle.chain_model.proofs.Cases.{ack_cases, forward_cases, notice_cases, take_ack_cases}
@@ -85,7 +86,7 @@ module _ {A : Type 0} (cs : List (List ℕ)) (lawful : IsChain cs) (events : Lis
         resend = λ up t. omega (arith, ok.resend up t);
       } in
       acknowledge_ok cs lawful events h lists x m (cond grew (ack x m) []) ok'
-      (cond_both grew (ack x m) [] (Every (FrameOk cs events lists))
+      (cond_both grew (ack x m) [] (AllByRecursion (FrameOk cs events lists))
       (λ t. ack_ok cs lawful events h lists x m sound (predecessor m.ids x) refl) (λ t. tt))
 
   -- a frame
@@ -149,9 +150,9 @@ module _ {A : Type 0} (cs : List (List ℕ)) (lawful : IsChain cs) (events : Lis
   adopted_ok n e ok sound lands =
       let ids = at_epoch cs e in
       let to : Node A = moved x n e ids in
-      let pending : Every (IsPending events n.list) to.pending =
-      cond_both (has ids x) n.pending [] (Every (IsPending events n.list)) (λ stays. ok.pending)
-      (λ gone. tt) in
+      let pending : AllByRecursion (IsPending events n.list) to.pending =
+      cond_both (has ids x) n.pending [] (AllByRecursion (IsPending events n.list))
+      (λ stays. ok.pending) (λ gone. tt) in
       let rising : RisesFrom 0 to.pending =
       cond_both (has ids x) n.pending [] (RisesFrom 0) (λ stays. ok.rising) (λ gone. tt) in
       cond_both (is_tail ids x) (record to { committed = length n.list }) to

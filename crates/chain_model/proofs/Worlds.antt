@@ -2,6 +2,7 @@
 use Rattle.std.proofs.Common.{◌≡◌, ℕ, List, [], ◌∷◌, ◌++◌, length, Option, Some, None, Bool, true}
 use Rattle.std.proofs.Common.{◌==◌, nat_lt, sym, refl, ap, subst, append_assoc, append-nil}
 use Rattle.std.proofs.Common.{eqb-true, eq-eqb, ltb-true}
+use Rattle.std.specs.List.{AllByRecursion}
 use Rattle.std.proofs.lemmas.Bool.{cond_both, cond-true}
 use Rattle.chain_model.specs.Lists.{Begins, Part, place}
 use Rattle.chain_model.specs.Configuration.{at_epoch, is_tail}
@@ -18,7 +19,7 @@ use Rattle.chain_model.specs.World.{Stop, StoppedAfter, StoppedBefore, Tend, Tic
 use Rattle.chain_model.specs.World.{after, answers, as_it_went, delivered, happens, if_running}
 use Rattle.chain_model.specs.World.{nothing, outcome, run, stops, takes}
 use Rattle.chain_model.specs.InOrder.{WasCommitted}
-use Rattle.chain_model.proofs.Lists.{Every, begins_refl, every_append, every_map, every_place}
+use Rattle.chain_model.proofs.Lists.{begins_refl, every_append, every_map, every_place}
 use Rattle.chain_model.proofs.Lists.{part_both, part_wider}
 use Rattle.chain_model.proofs.Configuration.{IsChain}
 use Rattle.chain_model.proofs.Handed.{IsHandIn, WasHandedIn, handed, handed_by}
@@ -276,8 +277,8 @@ module _ {A : Type 0} (cs : List (List ℕ)) (lawful : IsChain cs) (events : Lis
   Along (e ∷ es) w = TailsIn cs events (happens cs w e) × Along es (happens cs w e)
 
   -- so does every run
-  pub run_ok : (es : List (Event A)) → Every EventOk es → (h : List A) (w : World A) → Along es w
-      → WorldOk cs events h w → WorldOk cs events (h ++ handed es) (run cs es w)
+  pub run_ok : (es : List (Event A)) → AllByRecursion EventOk es → (h : List A) (w : World A)
+      → Along es w → WorldOk cs events h w → WorldOk cs events (h ++ handed es) (run cs es w)
   run_ok [] told h w along ok = subst (λ l. WorldOk cs events l w) (sym (append-nil h)) ok
   run_ok (e ∷ es) told h w along ok =
       subst (λ l. WorldOk cs events l (run cs es (happens cs w e)))

@@ -1,5 +1,5 @@
 -- That a run is made of its events' outcomes.
-use Rattle.std.specs.Prelude.{◌≡◌, ℕ, List, length, flat_map, Some}
+use Rattle.std.specs.Prelude.{◌≡◌, ℕ, List, length, flat_map, Some, None}
 use Rattle.chain_model.specs.Configuration.{Configurations}
 use Rattle.chain_model.specs.Node.{Node}
 use Rattle.chain_model.specs.World.{Event, Outcome, outcome, happens, reached, node_of, outcomes}
@@ -20,4 +20,8 @@ pub record MadeOfOutcomes {A : Type 0} (cs : Configurations) (events : List (Eve
         → (happens cs (reached cs events) event).nodes x ≡ n
     pub others : (event : Event A) (x y : ℕ) (n : Node A)
         → (outcome (reached cs events) cs event).came_to ≡ Some (x, n) → (x ≡ y → ⊥)
+        → (happens cs (reached cs events) event).nodes y ≡ node_of cs events y
+    -- where it came to none, none has changed
+    pub nowhere : (event : Event A) (y : ℕ)
+        → (outcome (reached cs events) cs event).came_to ≡ None
         → (happens cs (reached cs events) event).nodes y ≡ node_of cs events y

@@ -152,6 +152,8 @@ a_stopped_node_says_so =
     (Ask 1 12 (Submit 112) StoppedAfter, Stops 1 ∷ []) ∷
     (Start 1 StoppedBefore, Stops 1 ∷ []) ∷
     (Start 1 Answered, Starts 1 0 2 2 ∷ []) ∷
+    (Ask 1 15 (Submit 115) StoppedBefore, Stops 1 ∷ []) ∷
+    (Start 1 Answered, Starts 1 0 2 2 ∷ []) ∷
     []
 
 -- two nodes; the floor rises to the open snapshot and no further; a start knows only the floor to

@@ -5,3 +5,4 @@ pub mod Ways
 pub mod Appends
 mod Opens
 mod Spans
+pub mod Creates

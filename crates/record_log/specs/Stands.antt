@@ -1,6 +1,7 @@
 -- An open log, and the file that it is kept in.
 use Rattle.std.specs.Prelude.{◌≡◌, ◌⊎◌, ℕ, ◌+◌, ◌<◌, ◌≤◌, ◌^◌, List, [], ◌∷◌, ◌++◌, length, take}
-use Rattle.std.specs.Prelude.{drop, Result, Ok, Err, Option, Some, IsNone, IsSomeAnd, IsTrue}
+use Rattle.std.specs.Prelude.{drop, Result, Ok, Err, IfErr, Option, Some, None, IsNone, IfSome}
+use Rattle.std.specs.Prelude.{IsSomeAnd, IsTrue}
 use Rattle.disk.specs.declared.error.DiskError.TheVariants as disk
 use Rattle.disk.specs.State.{State, seen}
 use Rattle.record_log.specs.declared.error.LogError.{LogError}
@@ -54,6 +55,15 @@ IsOldOrNew start records one bytes =
 pub record IsInPlace (old new : Log) : Type 0 where
   pub file : file_of new ≡ file_of old
   pub start : start_of new ≡ start_of old
+
+-- what reads give of a file ends below place 2^63, as `length` tells of each file; absent ones do
+abbrev pub EndsInRange : Option (List ℕ) → Type 0
+EndsInRange bytes = IfSome bytes (λ it. length it < 2 ^ 63)
+
+-- the bytes of a file that was begun as a log: a closed gate, and what was behind the first byte
+abbrev pub begun : Option (List ℕ) → List ℕ
+begun None = 0 ∷ []
+begun (Some bytes) = 0 ∷ drop 1 bytes
 
 -- the refusals that say nothing of the file
 abbrev pub IsOfMachine : LogError → Type 0
@@ -111,14 +121,16 @@ abbrev pub OpensOrDeclines : State → ℕ → ℕ → Result Log LogError → S
 OpensOrDeclines old file start (Ok log) new = Opens old file start new log
 OpensOrDeclines old file start (Err e) new = Declines e (seen (old file)) start
 
--- what an append answers, by the log alone, and whether the log works on
+-- What an append answers, by the log alone; how many records the log counts then, and whether it
+-- works on.
 abbrev pub Tells : {T : Type 0} → ℕ → Result T LogError → Log → Log → List ℕ → Type 0
 Tells limit (Ok _) old new one =
     (HasFailed old → ⊥) × (length one ≤ limit) × (HasFailed new → ⊥)
+    × (count_of new ≡ count_of old + 1)
 Tells limit (Err (log.Disk e)) old new one =
-    (HasFailed old → ⊥) × (length one ≤ limit) × HasFailed new
+    (HasFailed old → ⊥) × (length one ≤ limit) × HasFailed new × (count_of new ≡ count_of old)
 Tells limit (Err log.Memory) old new one =
-    (HasFailed old → ⊥) × (length one ≤ limit) × HasFailed new
+    (HasFailed old → ⊥) × (length one ≤ limit) × HasFailed new × (count_of new ≡ count_of old)
 Tells limit (Err log.TooLong) old new one =
     (HasFailed old → ⊥) × (limit < length one) × (new ≡ old)
 Tells limit (Err log.Failed) old new one = HasFailed old × (new ≡ old)
@@ -130,3 +142,9 @@ IsMet e = IsOfMachine e ⊎ ((e ≡ log.TooLong) ⊎ (e ≡ log.Failed))
 -- the refusals that touch no disk
 abbrev pub IsOwn : LogError → Type 0
 IsOwn e = (e ≡ log.TooLong) ⊎ (e ≡ log.Failed)
+
+-- an append leaves the log in its place, answers by the log alone, and where the refusal is the
+-- log's own it leaves the disk untouched
+abbrev pub Answers : {T : Type 0} → ℕ → Result T LogError → Log → Log → List ℕ → Type 0 → Type 0
+Answers limit result old new one untouched =
+    IsInPlace old new × Tells limit result old new one × IfErr result (λ e. IsOwn e → untouched)

@@ -1,13 +1,13 @@
 ghost use Rattle.std.specs.Prelude.{◌≡◌, ◌≢◌, ◌↔◌, ◌⊎◌, ℕ, ◌+◌, ◌<◌, ◌≤◌, ◌^◌, ◌-◌, min, List, []};
 ghost use Rattle.std.specs.Prelude.{◌∷◌, ◌++◌, length, slice_get, slice_index_or, Some, IfOk};
-ghost use Rattle.std.specs.Prelude.{IfErr, IsNone, IsErrOf, IsTrue, OnOk, MatchResult};
+ghost use Rattle.std.specs.Prelude.{IfErr, IsErrOf, IsTrue, OnOk, MatchResult};
 ghost use Rattle.disk.specs.State.{seen, IsSame, Leaves};
 ghost use Rattle.record_log.specs.Error.{Keeps};
 ghost use Rattle.record_log.specs.Push.{IsSureOf, LeavesAt, behind_of, pushed};
 ghost use Rattle.record_log.specs.Stands.{Holds, HasRecords, IsAt, IsPart, IsRest, DeclinesBytes};
-ghost use Rattle.record_log.specs.Stands.{OpensOrDeclines, Tells, IsMet, IsOfMachine, IsOwn};
-ghost use Rattle.record_log.specs.Stands.{IsOldOrNew, IsInPlace, file_of, start_of, count_of};
-ghost use Rattle.record_log.specs.Stands.{gate_of, HasFailed};
+ghost use Rattle.record_log.specs.Stands.{OpensOrDeclines, Answers, IsMet, IsOfMachine, IsOwn};
+ghost use Rattle.record_log.specs.Stands.{IsOldOrNew, EndsInRange, begun, file_of, start_of};
+ghost use Rattle.record_log.specs.Stands.{gate_of, count_of, HasFailed};
 
 use crate::LogError;
 use crate::push::push;
@@ -92,15 +92,16 @@ fn synced_from<D: Disk>(
 }
 
 impl Log {
-    /// The log of a file that is not there yet: a closed gate. Two device calls: write, sync.
-    /// A refusal may leave the file.
+    /// A log of no records, from the first place of a file on: a closed gate. Two device calls:
+    /// write, sync. A file that is there loses its first byte, and with it the records from there
+    /// on. A refusal may leave the file changed.
     pub fn create<D: Disk>(alloc: Global, disk: &mut D, file: u64) -> Result<Log, LogError>
         ensures keeps { Keeps (D.is_honest disk.old) (D.is_honest disk.new)
             (D.failures disk.old) (D.failures disk.new) result }
-        ensures created { D.is_honest disk.old → IsNone (seen (D.state disk.old file)) →
+        ensures created { D.is_honest disk.old → EndsInRange (seen (D.state disk.old file)) →
             MatchResult result (λ log. Holds (D.state disk.new) log []) IsOfMachine }
-        ensures spelled { D.is_honest disk.old → IsNone (seen (D.state disk.old file)) →
-            OnOk result (IsSureOf (D.state disk.new) file (0 ∷ [])) }
+        ensures spelled { D.is_honest disk.old →
+            OnOk result (IsSureOf (D.state disk.new) file (begun (seen (D.state disk.old file)))) }
         ensures at { IfOk result (IsAt file 0) }
         ensures others { (other : ℕ) → D.is_honest disk.old → other ≢ file →
             D.state disk.new other ≡ D.state disk.old other }
@@ -187,9 +188,8 @@ impl Log {
     ) -> Result<(), LogError>
         ensures keeps { Keeps (D.is_honest disk.old) (D.is_honest disk.new)
             (D.failures disk.old) (D.failures disk.new) result }
-        ensures told { IsInPlace self.old self.new
-            × Tells MAX_RECORD result self.old self.new bytes.now }
-        ensures untouched { IfErr result (λ e. IsOwn e → disk.new ≡ disk.old) }
+        ensures told { Answers MAX_RECORD result self.old self.new bytes.now
+            (disk.new ≡ disk.old) }
         ensures appended { (records : List (List ℕ)) → D.is_honest disk.old →
             Holds (D.state disk.old) self.old records →
             MatchResult result

@@ -4,6 +4,7 @@ use Rattle.std.proofs.lemmas.List.Elements.{All-nil}
 use Rattle.kv_types.specs.Spelling.{IsBatch}
 use Rattle.disk.specs.State.{Slot, seen}
 use Rattle.record_log.specs.Stands.{Holds}
+use Rattle.record_log.proofs.Creates.{absent_ends}
 use Rattle.node.specs.Layout.{identity_file, identity_record, identity_records, batches_file}
 use Rattle.node.proofs.Stores.{holds_in, sure_of_id}
 use Rattle.node.proofs.engine.Engine.create.Goals as goal
@@ -21,7 +22,7 @@ returns-clause-created g c = λ honest empty.
     let apart : identity_file ≡ batches_file → ⊥ = λ e. omega (arith, e) in
     let none = subst (λ (slot : Slot). IsNone (seen slot))
     (sym (c.create.ensures.others identity_file honest apart)) empty.identity in
-    let new = c.in_ok-identity.ensures.created honest1 none in
+    let new = c.in_ok-identity.ensures.created honest1 (absent_ends _ none) in
     let held = c.in_ok-append.ensures.appended [] honest2 new in
     let told = c.in_ok-append.ensures.told.0 in
     let one : c.deref.result.now ≡ identity_record c.args.id (c.args.id ∷ []) =
@@ -38,7 +39,8 @@ returns-clause-created g c = λ honest empty.
       id = sure_of_id s3 c.append.new.self c.args.id c.in_ok-record.ensures.id
           (told.file ∙ is.in_file) (told.start ∙ is.from) named;
       at = c.in_ok-log.ensures.at;
-      log = holds_in s1 s3 log [] kept (c.in_ok-log.ensures.created honest empty.batches);
+      log = holds_in s1 s3 log [] kept
+          (c.in_ok-log.ensures.created honest (absent_ends _ empty.batches));
       batches = c.new-batches.ensures.items;
       each = All-nil IsBatch;
     }
