@@ -264,7 +264,7 @@ part_rest x (z ∷ d) (y ∷ c) (inl p) = inr p.1
 part_rest x (z ∷ d) (y ∷ c) (inr p) = inr (part_rest x (z ∷ d) c p)
 
 -- the test finds each part ..
-part_test : (d c : List ℕ) → Part d c → is_part d c ≡ true
+pub part_test : (d c : List ℕ) → Part d c → is_part d c ≡ true
 part_test [] c p = refl
 part_test (x ∷ d) [] p = absurd p
 part_test (x ∷ d) (y ∷ c) p =

@@ -1,8 +1,9 @@
 //! The chain as a pure machine: what holds of every run, whatever stops, is lost, repeated or late.
 #![tactic(auto)]
 
-ghost use Rattle.std.specs.Prelude.{ℕ, List};
-ghost use Rattle.chain_model.specs.Configuration.{Configurations, Lawful};
+ghost use Rattle.std.specs.Prelude.{◌≡◌, ◌↔◌, ℕ, List, true};
+ghost use Rattle.chain_model.specs.Lists.{Part};
+ghost use Rattle.chain_model.specs.Configuration.{Configurations, Lawful, is_part};
 ghost use Rattle.chain_model.specs.World.{Event};
 ghost use Rattle.chain_model.specs.Headline.{OneList};
 ghost use Rattle.chain_model.specs.Outcomes.{MadeOfOutcomes};
@@ -66,4 +67,9 @@ pub fn worked_runs()
 /// What a new node drops, and for which reason.
 pub fn worked_drops()
     ensures { WorkedDrops }
+{}
+
+/// The test for a part is passed by exactly the parts.
+pub fn is_part_decides()
+    ensures { (d c : List ℕ) → (is_part d c ≡ true) ↔ Part d c }
 {}

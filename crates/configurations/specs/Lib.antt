@@ -1,0 +1,3 @@
+pub mod Configs
+pub mod Refusals
+pub mod Checks

@@ -1,0 +1,138 @@
+ghost use Rattle.std.specs.Prelude.{◌≡◌, ◌⊎◌, ◌↔◌, IfOk, IfErr, IsFalse, true};
+ghost use Rattle.chain_model.specs.Configuration.{AllDifferent, has, is_head, is_tail};
+ghost use Rattle.chain_model.specs.Configuration.{predecessor, successor};
+ghost use Rattle.configurations.specs.Configs.{IsConfig};
+ghost use Rattle.configurations.specs.Refusals.{IdsHave, IsLeast};
+
+use crate::{ConfigError, NodeId};
+use std::alloc::{AllocError, Global};
+use std::marker::Model;
+
+/// The greatest number of nodes in a configuration.
+const MAX_NODES: usize = 16;
+
+/// The nodes of a chain, from its head to its tail: 1 to 16 different ids.
+#[derive(Debug, Drop)]
+pub struct Config {
+    ids: Vec<NodeId>,
+}
+
+impl Model for Config {
+    ghost use Rattle.std.specs.Prelude.{List, ℕ};
+    ghost use Rattle.configurations.specs.Configs.{IsConfig};
+
+    ghost Value = { List ℕ };
+
+    ghost view = { λ config. config.ids.items };
+
+    ghost invariant = { λ config. IsConfig config.ids.items };
+}
+
+// Whether an id stands in the list twice.
+fn has_repeated(ids: &[u16]) -> bool
+    ensures { IsFalse result ↔ AllDifferent ids.now }
+{
+    match ids {
+        [] => false,
+        [first, later @ ..] => later.contains(first) || has_repeated(later),
+    }
+}
+
+fn before_in(ids: &[NodeId], id: NodeId) -> Option<NodeId>
+    ensures { result ≡ predecessor ids.now id }
+{
+    match ids {
+        [first, next, ..] if *next == id => Some(*first),
+        [_, later @ ..] => before_in(later, id),
+        [] => None,
+    }
+}
+
+fn after_in(ids: &[NodeId], id: NodeId) -> Option<NodeId>
+    ensures { result ≡ successor ids.now id }
+{
+    match ids {
+        [first, next, ..] if *first == id => Some(*next),
+        [_, later @ ..] => after_in(later, id),
+        [] => None,
+    }
+}
+
+impl Config {
+    /// The configuration of these ids, the head first.
+    pub fn new(alloc: Global, ids: Vec<u16>) -> Result<Config, ConfigError>
+        ensures made { IfOk result (λ config. (config ≡ ids.items) × IsConfig config) }
+        ensures refused { IfErr result (λ e.
+            (e ≡ ConfigError.Memory) ⊎ IsLeast (λ fault. IdsHave fault ids.items) e) }
+    {
+        if ids.is_empty() {
+            return Err(ConfigError::Empty);
+        }
+        if has_repeated(&ids) {
+            return Err(ConfigError::Repeated);
+        }
+        if ids.len() > MAX_NODES {
+            return Err(ConfigError::TooMany);
+        }
+        let mut nodes = Vec::new(alloc);
+        for &id in &ids {
+            let Some(node) = NodeId::new(id) else {
+                return Err(ConfigError::BadId);
+            };
+            nodes.push(node)?;
+        }
+        Ok(Config { ids: nodes })
+    }
+
+    /// The ids, from the head to the tail.
+    pub fn ids(&self) -> &[NodeId]
+        ensures ids { result.now ≡ self.now }
+        ensures is { IsConfig self.now }
+    {
+        &self.ids
+    }
+
+    /// The first node.
+    pub fn head(&self) -> NodeId
+        ensures { is_head self.now result ≡ true }
+    {
+        self.ids[0]
+    }
+
+    /// The last node.
+    pub fn tail(&self) -> NodeId
+        ensures { is_tail self.now result ≡ true }
+    {
+        let ids = self.ids();
+        ids[ids.len() - 1]
+    }
+
+    /// The node just before this one, its predecessor.
+    pub fn before(&self, id: NodeId) -> Option<NodeId>
+        ensures { result ≡ predecessor self.now id }
+    {
+        before_in(&self.ids, id)
+    }
+
+    /// The node just after this one, its successor.
+    pub fn after(&self, id: NodeId) -> Option<NodeId>
+        ensures { result ≡ successor self.now id }
+    {
+        after_in(&self.ids, id)
+    }
+
+    /// Whether the node stands in it.
+    pub fn has(&self, id: NodeId) -> bool
+        ensures { result ≡ has self.now id }
+    {
+        self.ids.contains(&id)
+    }
+
+    pub fn clone(&self) -> Result<Config, AllocError>
+        ensures { IfOk result (λ config. config ≡ self.now) }
+    {
+        Ok(Config {
+            ids: self.ids.clone()?,
+        })
+    }
+}

@@ -1,0 +1,103 @@
+ghost use Rattle.std.specs.Prelude.{◌≡◌, ◌<◌, ◌≤◌, length, nat_lt, IfOk, IfErr, IsTrue, MatchOption};
+ghost use Rattle.chain_model.specs.Configuration.{Lawful, at_epoch, is_part};
+ghost use Rattle.configurations.specs.Checks.{each_later, is_smaller, is_in_order};
+ghost use Rattle.configurations.specs.Refusals.{ListHas, IsLeast};
+
+use crate::{Config, ConfigError, Epoch, NodeId};
+use chain_model::is_part_decides;
+use std::marker::Model;
+
+/// The greatest number of configurations.
+const MAX_CONFIGS: usize = 16;
+
+/// The master's list of configurations: 1 to 16 of them, each later one with nodes left out.
+#[derive(Debug, Drop)]
+pub struct Configs {
+    configs: Vec<Config>,
+}
+
+impl Model for Configs {
+    ghost use Rattle.std.specs.Prelude.{List, ℕ};
+    ghost use Rattle.chain_model.specs.Configuration.{Lawful};
+
+    ghost Value = { List (List ℕ) };
+
+    ghost view = { λ configs. configs.configs.items };
+
+    ghost invariant = { λ configs. Lawful configs.configs.items };
+}
+
+// Whether each later configuration has fewer nodes.
+fn all_smaller(configs: &[Config]) -> bool
+    ensures smaller { result ≡ each_later is_smaller configs.now }
+    ensures some { IsTrue result → IsTrue (each_later (λ c d. nat_lt 0 (length d)) configs.now) }
+{
+    match configs {
+        [first, next, ..] if next.ids().len() >= first.ids().len() => false,
+        [_, later @ ..] => all_smaller(later),
+        [] => true,
+    }
+}
+
+// Whether some of the ids are a part of the others, order kept.
+fn is_part(ids: &[NodeId], others: &[NodeId]) -> bool
+    ensures { result ≡ is_part ids.now others.now }
+{
+    let [first, later @ ..] = ids else {
+        return true;
+    };
+    let [other, rest @ ..] = others else {
+        return false;
+    };
+    is_part(if first == other { later } else { ids }, rest)
+}
+
+// Whether each later configuration is the one before it with nodes left out.
+fn all_in_order(configs: &[Config]) -> bool
+    ensures { result ≡ each_later is_in_order configs.now }
+{
+    match configs {
+        [first, next, ..] if !is_part(next.ids(), first.ids()) => false,
+        [_, later @ ..] => all_in_order(later),
+        [] => true,
+    }
+}
+
+impl Configs {
+    /// The list of these configurations, the first first.
+    pub fn new(configs: Vec<Config>) -> Result<Configs, ConfigError>
+        ensures made { IfOk result (λ it. (it ≡ configs.items) × Lawful configs.items) }
+        ensures refused { IfErr result (IsLeast (λ fault. ListHas fault configs.items)) }
+    {
+        let Some(first) = configs.first() else {
+            return Err(ConfigError::Empty);
+        };
+        let _ids = first.ids();
+        is_part_decides();
+        if !all_smaller(&configs) {
+            return Err(ConfigError::NotSmaller);
+        }
+        if !all_in_order(&configs) {
+            return Err(ConfigError::NotInOrder);
+        }
+        if configs.len() > MAX_CONFIGS {
+            return Err(ConfigError::TooMany);
+        }
+        Ok(Configs { configs })
+    }
+
+    /// The configuration that nodes are created with.
+    pub fn first(&self) -> &Config
+        ensures { result.now ≡ at_epoch self.now 0 }
+    {
+        &self.configs[0]
+    }
+
+    /// The configuration of an epoch, where the list has one.
+    pub fn at(&self, epoch: Epoch) -> Option<&Config>
+        ensures { MatchOption result (length self.now ≤ epoch)
+            (λ it. (epoch < length self.now) × (it.now ≡ at_epoch self.now epoch)) }
+    {
+        self.configs.get(epoch.get() as usize)
+    }
+}

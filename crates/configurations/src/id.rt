@@ -1,0 +1,41 @@
+ghost use Rattle.std.specs.Prelude.{◌≡◌, ◌≤◌, SomeIff};
+ghost use Rattle.chain_model.specs.Configuration.{IsId};
+
+use std::marker::Model;
+
+/// The id of a node: 1 to 65,535.
+#[derive(Clone, Copy, Debug, PartialEq, Eq)]
+pub struct NodeId {
+    id: u16,
+}
+
+impl Model for NodeId {
+    ghost use Rattle.std.specs.Prelude.{ℕ};
+    ghost use Rattle.chain_model.specs.Configuration.{IsId};
+
+    ghost Value = { ℕ };
+
+    ghost view = { λ node. node.id };
+
+    ghost invariant = { λ node. IsId node.id };
+
+    ghost inverse = { λ id. record { id = id } };
+}
+
+impl NodeId {
+    pub fn new(id: u16) -> Option<NodeId>
+        ensures { SomeIff result (1 ≤ id) id }
+    {
+        if id == 0 {
+            return None;
+        }
+        Some(NodeId { id })
+    }
+
+    pub fn get(self) -> u16
+        ensures same { result ≡ self }
+        ensures id { IsId self }
+    {
+        self.id
+    }
+}
