@@ -30,6 +30,7 @@ impl Model for Batch {
 impl Batch {
     ghost use Rattle.kv_types.specs.declared.edit.Edit.{Edit};
     ghost use Rattle.kv_types.specs.Spelling.{IsBatch, spelling};
+    ghost use Rattle.kv_types.specs.Reading.{Gives, batch_at};
 
     pub fn new(edits: Vec<Edit>) -> Result<Batch, KvError>
         ensures made { IfOk result (λ batch. batch ≡ edits.items) }
@@ -62,7 +63,8 @@ impl Batch {
 
     /// Spells the batch behind what `out` holds.
     pub fn spell_into(&self, out: &mut Vec<u8>) -> Result<(), AllocError>
-        ensures { OnOk result (out.new.items ≡ out.old.items ++ spelling self.now) }
+        ensures spelled { OnOk result (out.new.items ≡ out.old.items ++ spelling self.now) }
+        ensures batch { IsBatch self.now }
     {
         put_edits(out, &self.edits)
     }
@@ -73,6 +75,7 @@ impl Batch {
         ensures bad { IsErrOf result KvError.BadBytes → (batch : List Edit) (rest : List ℕ)
             → IsBatch batch → bytes.now ≡ spelling batch ++ rest → ⊥ }
         ensures only { IfErr result (λ e. (e ≡ KvError.BadBytes) ⊎ (e ≡ KvError.Memory)) }
+        ensures exact { Gives (λ x. (x.0, x.1.now)) result (batch_at bytes.now) }
     {
         let (edits, rest) = edits_of(alloc, bytes)?;
         Ok((Batch { edits }, rest))

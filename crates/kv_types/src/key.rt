@@ -7,6 +7,7 @@ ghost use Rattle.std.specs.Ordering.{nat_cmp};
 ghost use Rattle.std.proofs.Common.{refl};
 ghost use Rattle.kv_types.specs.Order.{IsBelow};
 ghost use Rattle.kv_types.specs.Spelling.{text};
+ghost use Rattle.kv_types.specs.Reading.{Gives, text_at};
 
 use crate::KvError;
 use crate::bounds::MAX_KEY;
@@ -54,7 +55,8 @@ impl Key {
 
     /// Spells the key behind what `out` holds.
     pub fn spell_into(&self, out: &mut Vec<u8>) -> Result<(), AllocError>
-        ensures { OnOk result (out.new.items ≡ out.old.items ++ text self.now) }
+        ensures spelled { OnOk result (out.new.items ≡ out.old.items ++ text self.now) }
+        ensures limit { length self.now ≤ MAX_KEY }
     {
         put_text(out, &self.bytes)
     }
@@ -66,6 +68,7 @@ impl Key {
         ensures bad { IsErrOf result KvError.BadBytes → (key rest : List ℕ)
             → length key ≤ MAX_KEY → bytes.now ≡ text key ++ rest → ⊥ }
         ensures only { IfErr result (λ e. (e ≡ KvError.BadBytes) ⊎ (e ≡ KvError.Memory)) }
+        ensures exact { Gives (λ x. (x.0, x.1.now)) result (text_at MAX_KEY bytes.now) }
     {
         key_of(alloc, bytes)
     }

@@ -1,6 +1,7 @@
 ghost use Rattle.std.specs.Prelude.{◌≡◌, ◌<◌, ◌≤◌, ◌↔◌, length, IfOk, IsOkUnless, Err};
 ghost use Rattle.std.specs.Prelude.{List, ℕ, ◌++◌, ◌⊎◌, OnOk, IfErr, IsErrOf};
 ghost use Rattle.kv_types.specs.Spelling.{text};
+ghost use Rattle.kv_types.specs.Reading.{Gives, text_at};
 
 use crate::KvError;
 use crate::bounds::MAX_VALUE;
@@ -47,7 +48,8 @@ impl Value {
 
     /// Spells the value behind what `out` holds.
     pub fn spell_into(&self, out: &mut Vec<u8>) -> Result<(), AllocError>
-        ensures { OnOk result (out.new.items ≡ out.old.items ++ text self.now) }
+        ensures spelled { OnOk result (out.new.items ≡ out.old.items ++ text self.now) }
+        ensures limit { length self.now ≤ MAX_VALUE }
     {
         put_text(out, &self.bytes)
     }
@@ -59,6 +61,7 @@ impl Value {
         ensures bad { IsErrOf result KvError.BadBytes → (value rest : List ℕ)
             → length value ≤ MAX_VALUE → bytes.now ≡ text value ++ rest → ⊥ }
         ensures only { IfErr result (λ e. (e ≡ KvError.BadBytes) ⊎ (e ≡ KvError.Memory)) }
+        ensures exact { Gives (λ x. (x.0, x.1.now)) result (text_at MAX_VALUE bytes.now) }
     {
         value_of(alloc, bytes)
     }
