@@ -1,3 +1,5 @@
 pub mod Readers
 pub mod Loop
 pub mod FieldLaws
+pub mod FrameLaws
+pub mod Contents

@@ -1,4 +1,5 @@
 ghost use Rattle.std.specs.Prelude.{◌≡◌, ◌++◌, OnOk, IfSome, option_copied};
+ghost use Rattle.std.specs.Int.{w16};
 ghost use Rattle.chain_model.specs.Configuration.{IsId};
 ghost use Rattle.configurations.specs.Configs.{IsConfig};
 ghost use Rattle.kv_types.specs.declared.bounds.TheConstants.{MAX_KEY, MAX_VALUE};
@@ -7,7 +8,7 @@ ghost use Rattle.kv_types.specs.Reading.{text_at, batch_at};
 ghost use Rattle.link_messages.specs.Spelling.{u16, u32, u64, optional, at_text, config_text};
 ghost use Rattle.link_messages.specs.Spelling.{range_text, IsEpoch, IsNumber, IsKey, IsValue};
 ghost use Rattle.link_messages.specs.Spelling.{IsRange};
-ghost use Rattle.link_messages.specs.Reading.{GivesAt, items_of, many, epoch_at, id_at, count_at, place_at};
+ghost use Rattle.link_messages.specs.Reading.{GivesAt, items_of, as_fault, number_at, many, epoch_at, id_at, count_at, place_at};
 ghost use Rattle.link_messages.specs.Reading.{at_at, found_at, config_at, bound_at, range_at};
 
 use crate::FrameError;
@@ -231,13 +232,22 @@ pub fn range_of(alloc: Global, bytes: &mut &[u8]) -> Result<Range, FrameError>
 }
 
 fn ids_of(alloc: Global, count: u8, bytes: &mut &[u8]) -> Result<Vec<u16>, FrameError>
-    ensures { GivesAt (items_of result) bytes.new.now (many id_at count bytes.old.now) }
+    ensures { GivesAt (items_of result) bytes.new.now (many (number_at w16) count bytes.old.now) }
 {
     let mut ids = Vec::new(alloc);
     for _ in 0..count {
-        ids.push(id_of(bytes)?.get())?;
+        ids.push(u16_of(bytes)?)?;
     }
     Ok(ids)
+}
+
+fn fault_of(e: ConfigError) -> FrameError
+    ensures { result ≡ as_fault e }
+{
+    match e {
+        ConfigError::Memory => FrameError::Memory,
+        _ => FrameError::BadField,
+    }
 }
 
 #[tactic(auto, unfolding(crate::specs::Reading::config_at))]
@@ -247,7 +257,6 @@ pub fn config_of(alloc: Global, bytes: &mut &[u8]) -> Result<Config, FrameError>
     let count = u8_of(bytes)?;
     match Config::new(alloc, ids_of(alloc, count, bytes)?) {
         Ok(config) => Ok(config),
-        Err(ConfigError::Memory) => Err(FrameError::Memory),
-        Err(_) => Err(FrameError::BadField),
+        Err(e) => Err(fault_of(e)),
     }
 }
