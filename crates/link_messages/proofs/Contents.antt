@@ -1,12 +1,11 @@
 -- What the content of a frame is: a frame, of no kind, malformed, or too much.
-use Rattle.std.proofs.Common.{◌≡◌, ◌⊎◌, inl, inr, ℕ, suc, ◌<◌, ◌≤◌, List, [], ◌∷◌, ◌++◌, length}
+use Rattle.std.proofs.Common.{◌≡◌, ◌⊎◌, inl, inr, ℕ, ◌≤◌, List, [], ◌∷◌, ◌++◌, length}
 use Rattle.std.proofs.Common.{Option, Some, None, Result, Ok, Err, refl, sym, ap, subst, ◌∙◌, arith}
 use Rattle.kv_types.proofs.Fields.{IsBytes, IsBytes-rest}
 use Rattle.link_messages.specs.declared.error.FrameError.{FrameError}
 use Rattle.link_messages.specs.declared.error.FrameError.TheVariants as fault
 use Rattle.link_messages.specs.declared.frame.Frame.{Frame}
-use Rattle.link_messages.specs.declared.frame.Frame.TheVariants as frame
-use Rattle.link_messages.specs.Spelling.{kind, fields, body, IsFrame}
+use Rattle.link_messages.specs.Spelling.{kind, fields}
 use Rattle.link_messages.specs.Stream.{HasKind, Begins, IsMalformed, IsTooMuch}
 use Rattle.link_messages.specs.Reading.{Reader, reader_of, ended, read_by, content_at}
 use Rattle.link_messages.proofs.FrameLaws.{reader_is, known, unknown, frame_again}

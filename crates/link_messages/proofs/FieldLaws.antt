@@ -1,12 +1,12 @@
 -- The reader of each field gives what was spelled.
-use Rattle.std.proofs.Common.{◌≡◌, ℕ, zero, suc, ◌+◌, ◌<◌, ◌≤◌, ◌^◌, Bool, true, false, not, ◌&&◌}
+use Rattle.std.proofs.Common.{◌≡◌, ℕ, zero, suc, ◌<◌, ◌≤◌, ◌^◌, Bool, true, false, not, ◌&&◌}
 use Rattle.std.proofs.Common.{List, [], ◌∷◌, ◌++◌, length, Option, Some, None, IfSome, All, refl, sym}
 use Rattle.std.proofs.Common.{◌⊎◌, inl, inr}
 use Rattle.std.proofs.Common.{ap, subst, ◌∙◌, arith, nat_le}
 use Rattle.std.specs.List.{flat_map, sum_by, AllByRecursion}
 use Rattle.std.specs.Int.{w8, w16, w32, w64}
 use Rattle.std.proofs.lemmas.Bool.{leb-true, le-leb}
-use Rattle.std.proofs.lemmas.List.Elements.{All-from_recursion, recursion_from_All, All-nil, All-cons}
+use Rattle.std.proofs.lemmas.List.Elements.{All-from_recursion, recursion_from_All}
 use Rattle.chain_model.specs.Configuration.{has, AllDifferent, IsId}
 use Rattle.configurations.specs.Configs.{IsConfig}
 use Rattle.configurations.specs.Refusals.{IdsHave, IsLeast}
@@ -14,20 +14,18 @@ use Rattle.configurations.specs.declared.error.ConfigError.{ConfigError}
 use Rattle.configurations.specs.declared.error.ConfigError.TheVariants as config
 use Rattle.kv_types.specs.declared.bounds.TheConstants.{MAX_KEY, MAX_VALUE, MAX_ROWS, MAX_PAGE}
 use Rattle.kv_types.specs.declared.bounds.TheConstants.{MAX_NUMBER}
-use Rattle.kv_types.specs.declared.row.Row.{Row}
-use Rattle.kv_types.specs.Spans.{Span, Rows}
 use Rattle.kv_types.specs.Spelling.{text, IsBatch}
 use Rattle.kv_types.specs.Spelling.{spelling as batch_text}
-use Rattle.kv_types.specs.Pages.{row_size, KeepsLimits}
+use Rattle.kv_types.specs.Pages.{row_size}
 use Rattle.kv_types.specs.Reading.{◌>>=◌, text_at, batch_at}
-use Rattle.kv_types.proofs.Fields.{IsBytes, bind_some, some_is, Takes, text_takes, text_again}
+use Rattle.kv_types.proofs.Fields.{bind_some, some_is, Takes, text_takes, text_again}
 use Rattle.kv_types.proofs.Batches.{front_takes, front_again}
 use Rattle.link_messages.specs.declared.refusal.Refusal.{Refusal}
 use Rattle.link_messages.specs.declared.refusal.Refusal.TheVariants as refused
-use Rattle.link_messages.specs.Spelling.{u8, u16, u32, u64, truth, optional, at_text, config_text}
+use Rattle.link_messages.specs.Spelling.{u8, u16, u32, u64, optional, at_text, config_text}
 use Rattle.link_messages.specs.Spelling.{range_text, row_text, page_text, code, IsEpoch, IsNumber}
 use Rattle.link_messages.specs.Spelling.{IsPlace, IsKey, IsValue, IsRange, IsRow, IsSmall}
-use Rattle.link_messages.specs.Reading.{both, counted, only, number_at, truth_at, epoch_at, id_at}
+use Rattle.link_messages.specs.Reading.{only, number_at, epoch_at, id_at}
 use Rattle.link_messages.specs.Reading.{count_at, place_at, at_at, found_at, bound_at, limit_at}
 use Rattle.link_messages.specs.Reading.{range_at, as_range, row_at, as_row, rows_at, page_at, as_page}
 use Rattle.link_messages.specs.Reading.{all_differ, all_ids, is_config, config_at, many, as_fault}

@@ -1,25 +1,24 @@
 -- Frames: the reader of each kind gives what was spelled, and each frame keeps the limit.
 use Rattle.std.proofs.Common.{◌≡◌, ℕ, zero, suc, ◌+◌, ◌*◌, ◌<◌, ◌≤◌, Bool, true, false, List, [], ◌∷◌, ◌++◌, length}
-use Rattle.std.proofs.Common.{Option, Some, None, IfSome, All, refl, sym, ap, subst, ◌∙◌, arith}
+use Rattle.std.proofs.Common.{Option, Some, None, IfSome, refl, ap, subst, ◌∙◌, arith}
 use Rattle.std.specs.List.{flat_map, sum_by}
 use Rattle.std.proofs.lemmas.List.{length-append}
 use Rattle.std.proofs.lemmas.List.Concat.{flat_map-cons}
 use Rattle.std.proofs.lemmas.List.Sums.{sum_by-cons}
 use Rattle.kv_types.specs.declared.row.Row.{Row}
 use Rattle.kv_types.specs.Pages.{row_size}
-use Rattle.kv_types.specs.Reading.{◌>>=◌, text_at, batch_at}
+use Rattle.kv_types.specs.Reading.{◌>>=◌}
 use Rattle.kv_types.specs.declared.bounds.TheConstants.{MAX_KEY, MAX_VALUE, MAX_PAGE}
 use Rattle.kv_types.specs.Spans.{Span, Rows}
 use Rattle.kv_types.specs.Spelling.{text}
 use Rattle.kv_types.proofs.Fields.{IsBytes, bind_some, some_is, Takes}
 use Rattle.link_messages.specs.declared.frame.Frame.{Frame}
 use Rattle.link_messages.specs.declared.frame.Frame.TheVariants as frame
-use Rattle.link_messages.specs.declared.frame.TheConstants.{MAX_FRAME}
-use Rattle.link_messages.specs.Spelling.{kind, fields, body, IsFrame, u16, u32, u64, row_text}
+use Rattle.link_messages.specs.Spelling.{kind, fields, IsFrame, u16, u32, row_text}
 use Rattle.link_messages.specs.Spelling.{truth, optional, at_text, range_text, page_text, IsRange}
 use Rattle.link_messages.specs.Spelling.{IsSmall}
 use Rattle.link_messages.specs.Stream.{FramesFit}
-use Rattle.link_messages.specs.Reading.{Reader, both, made, count_at, forward_at, ack_at, notice_at}
+use Rattle.link_messages.specs.Reading.{Reader, made, forward_at, ack_at, notice_at}
 use Rattle.link_messages.specs.Reading.{submit_at, get_at, rows_frame_at, open_at, close_at}
 use Rattle.link_messages.specs.Reading.{committed_at, value_at, rows_are_at, opened_at, refused_at}
 use Rattle.link_messages.specs.Reading.{closed_at, readers, nth, reader_of}

@@ -3,3 +3,4 @@ pub mod Loop
 pub mod FieldLaws
 pub mod FrameLaws
 pub mod Contents
+pub mod Streams

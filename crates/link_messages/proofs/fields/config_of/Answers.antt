@@ -1,4 +1,4 @@
-use Rattle.std.proofs.Common.{◌≡◌, List, ℕ, Some, ap, subst, sym, ◌∙◌}
+use Rattle.std.proofs.Common.{List, ℕ, Some, ap, subst, sym, ◌∙◌}
 use Rattle.configurations.specs.Configs.{IsConfig}
 use Rattle.link_messages.specs.declared.error.FrameError.{FrameError}
 use Rattle.link_messages.specs.Reading.{config_at, Fails}

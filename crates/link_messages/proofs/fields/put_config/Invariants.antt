@@ -1,6 +1,6 @@
-use Rattle.std.proofs.Common.{◌≡◌, ◌++◌, take, length}
+use Rattle.std.proofs.Common.{◌≡◌, ◌++◌, take}
 use Rattle.std.specs.List.{flat_map}
-use Rattle.link_messages.specs.Spelling.{u8, u16}
+use Rattle.link_messages.specs.Spelling.{u16}
 use Rattle.link_messages.proofs.fields.put_config.Given as goal
 
 abbrev pub invariant-loop-id : goal.invariant-loop-id

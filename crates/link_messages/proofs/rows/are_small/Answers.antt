@@ -1,4 +1,4 @@
-use Rattle.std.proofs.Common.{◌≡◌, ◌+◌, ◌<◌, List, take, nat_le, arith, sym, ap, ◌∙◌, length}
+use Rattle.std.proofs.Common.{◌+◌, ◌<◌, take, arith, sym, ap, ◌∙◌}
 use Rattle.std.specs.List.{sum_by}
 use Rattle.std.proofs.lemmas.List.{take_all}
 use Rattle.std.proofs.lemmas.List.Sums.{sum_by_more, sum_by-take-le}
