@@ -122,7 +122,8 @@ pub one_verdict : (v w : Result Frame FrameError) (content : List ℕ) → 1 ≤
 one_verdict v w content some is_v is_w =
     elim (settled v content some is_v) [
       | inl e ↦
-          e ∙ sym (malformed_alone w content is_w (subst (λ (u : Result Frame FrameError). Verdict u content) e is_v))
+          e ∙ sym (malformed_alone w content is_w (subst (λ
+          (u : Result Frame FrameError). Verdict u content) e is_v))
       | inr e ↦
           elim (settled w content some is_w) [
             | inl d ↦

@@ -1,6 +1,7 @@
 -- The reader of each field gives what was spelled.
 use Rattle.std.proofs.Common.{◌≡◌, ℕ, zero, suc, ◌<◌, ◌≤◌, ◌^◌, Bool, true, false, not, ◌&&◌}
-use Rattle.std.proofs.Common.{List, [], ◌∷◌, ◌++◌, length, Option, Some, None, IfSome, All, refl, sym}
+use Rattle.std.proofs.Common.{List, [], ◌∷◌, ◌++◌, length, Option, Some, None, IfSome, All, refl}
+use Rattle.std.proofs.Common.{sym}
 use Rattle.std.proofs.Common.{◌⊎◌, inl, inr}
 use Rattle.std.proofs.Common.{ap, subst, ◌∙◌, arith, nat_le}
 use Rattle.std.specs.List.{flat_map, sum_by, AllByRecursion}
@@ -27,7 +28,8 @@ use Rattle.link_messages.specs.Spelling.{range_text, row_text, page_text, code, 
 use Rattle.link_messages.specs.Spelling.{IsPlace, IsKey, IsValue, IsRange, IsRow, IsSmall}
 use Rattle.link_messages.specs.Reading.{only, number_at, epoch_at, id_at}
 use Rattle.link_messages.specs.Reading.{count_at, place_at, at_at, found_at, bound_at, limit_at}
-use Rattle.link_messages.specs.Reading.{range_at, as_range, row_at, as_row, rows_at, page_at, as_page}
+use Rattle.link_messages.specs.Reading.{range_at, as_range, row_at, as_row, rows_at, page_at}
+use Rattle.link_messages.specs.Reading.{as_page}
 use Rattle.link_messages.specs.Reading.{all_differ, all_ids, is_config, config_at, many, as_fault}
 use Rattle.link_messages.specs.Reading.{Fails, refusal_of, refusal_at}
 use Rattle.link_messages.proofs.Readers.{Reads, both_reads, made_reads, only_reads, number_reads}

@@ -1,5 +1,6 @@
 -- Frames: the reader of each kind gives what was spelled, and each frame keeps the limit.
-use Rattle.std.proofs.Common.{◌≡◌, ℕ, zero, suc, ◌+◌, ◌*◌, ◌<◌, ◌≤◌, Bool, true, false, List, [], ◌∷◌, ◌++◌, length}
+use Rattle.std.proofs.Common.{◌≡◌, ℕ, zero, suc, ◌+◌, ◌*◌, ◌<◌, ◌≤◌, Bool, true, false, List, []}
+use Rattle.std.proofs.Common.{◌∷◌, ◌++◌, length}
 use Rattle.std.proofs.Common.{Option, Some, None, IfSome, refl, ap, subst, ◌∙◌, arith}
 use Rattle.std.specs.List.{flat_map, sum_by}
 use Rattle.std.proofs.lemmas.List.{length-append}
@@ -23,7 +24,8 @@ use Rattle.link_messages.specs.Reading.{submit_at, get_at, rows_frame_at, open_a
 use Rattle.link_messages.specs.Reading.{committed_at, value_at, rows_are_at, opened_at, refused_at}
 use Rattle.link_messages.specs.Reading.{closed_at, readers, nth, reader_of}
 use Rattle.link_messages.proofs.Readers.{Reads, both_reads}
-use Rattle.link_messages.proofs.FieldLaws.{epoch_reads, id_reads, count_reads, place_reads, at_reads}
+use Rattle.link_messages.proofs.FieldLaws.{epoch_reads, id_reads, count_reads, place_reads}
+use Rattle.link_messages.proofs.FieldLaws.{at_reads}
 use Rattle.link_messages.proofs.FieldLaws.{key_reads, found_reads, batch_reads, config_reads}
 use Rattle.link_messages.proofs.FieldLaws.{range_reads, page_reads, refusal_reads}
 
@@ -57,13 +59,15 @@ again {A} {Is} {spell} {read} make a rest is r =
 forward_reader : IsReaderOf 1 forward_at
 unfolding forward_at
 forward_reader =
-    of_kind 1 (λ x. frame.Forward x.0 x.1.0 x.1.1.0 x.1.1.1) (λ a. refl) (λ a. refl) (λ a p. (p.0, p.1.0, p.1.1.0, p.1.1.1))
+    of_kind 1 (λ x. frame.Forward x.0 x.1.0 x.1.1.0 x.1.1.1) (λ a. refl) (λ a. refl) (λ a p.
+    (p.0, p.1.0, p.1.1.0, p.1.1.1))
     (both_reads epoch_reads (both_reads id_reads (both_reads place_reads batch_reads)))
 
 ack_reader : IsReaderOf 2 ack_at
 unfolding ack_at
 ack_reader =
-    of_kind 2 (λ x. frame.Ack x.0 x.1.0 x.1.1.0 x.1.1.1) (λ a. refl) (λ a. refl) (λ a p. (p.0, p.1.0, p.1.1.0, p.1.1.1))
+    of_kind 2 (λ x. frame.Ack x.0 x.1.0 x.1.1.0 x.1.1.1) (λ a. refl) (λ a. refl) (λ a p.
+    (p.0, p.1.0, p.1.1.0, p.1.1.1))
     (both_reads epoch_reads (both_reads id_reads (both_reads count_reads count_reads)))
 
 notice_reader : IsReaderOf 3 notice_at
@@ -111,13 +115,15 @@ committed_reader =
 value_reader : IsReaderOf 10 value_at
 unfolding value_at
 value_reader =
-    of_kind 10 (λ x. frame.Value x.0 x.1.0 x.1.1) (λ a. refl) (λ a. refl) (λ a p. (p.0, p.1.0, p.1.1))
+    of_kind 10 (λ x. frame.Value x.0 x.1.0 x.1.1) (λ a. refl) (λ a. refl) (λ a p.
+    (p.0, p.1.0, p.1.1))
     (both_reads count_reads (both_reads count_reads found_reads))
 
 rows_are_reader : IsReaderOf 11 rows_are_at
 unfolding rows_are_at
 rows_are_reader =
-    of_kind 11 (λ x. frame.RowsAre x.0 x.1.0 x.1.1) (λ a. refl) (λ a. refl) (λ a p. (p.0, p.1.0, p.1.1))
+    of_kind 11 (λ x. frame.RowsAre x.0 x.1.0 x.1.1) (λ a. refl) (λ a. refl) (λ a p.
+    (p.0, p.1.0, p.1.1))
     (both_reads count_reads (both_reads count_reads page_reads))
 
 opened_reader : IsReaderOf 12 opened_at
@@ -144,8 +150,37 @@ Each k (read ∷ reads) = IsReaderOf k read × Each (suc k) reads
 
 each_reader : Each 1 readers
 unfolding Each
-each_reader =
-    (forward_reader, (ack_reader, (notice_reader, (submit_reader, (get_reader, (rows_frame_reader, (open_reader, (close_reader, (committed_reader, (value_reader, (rows_are_reader, (opened_reader, (refused_reader, (closed_reader, tt))))))))))))))
+each_reader = (
+  forward_reader,
+  (
+    ack_reader,
+    (
+      notice_reader,
+      (
+        submit_reader,
+        (
+          get_reader,
+          (
+            rows_frame_reader,
+            (
+              open_reader,
+              (
+                close_reader,
+                (
+                  committed_reader,
+                  (
+                    value_reader,
+                    (rows_are_reader, (opened_reader, (refused_reader, (closed_reader, tt)))),
+                  ),
+                ),
+              ),
+            ),
+          ),
+        ),
+      ),
+    ),
+  ),
+)
 
 nth_reader : (k : ℕ) (reads : List (Reader Frame)) (i m : ℕ) (read : Reader Frame) → Each k reads
     → m ≡ k + i → nth reads i ≡ Some read → IsReaderOf m read
@@ -194,14 +229,26 @@ frame_again (frame.Forward epoch from number batch) rest is =
     record {
       read = forward_at;
       of_kind = refl;
-      again = again (λ x. frame.Forward x.0 x.1.0 x.1.1.0 x.1.1.1) (epoch, (from, (number, batch))) rest (is.0, (is.1, (is.2, is.3)))
+      again = again (λ x. frame.Forward x.0 x.1.0 x.1.1.0 x.1.1.1) (
+        epoch,
+        (
+          from,
+          (number, batch),
+        ),
+      ) rest (is.0, (is.1, (is.2, is.3)))
           (both_reads epoch_reads (both_reads id_reads (both_reads place_reads batch_reads)));
     }
 frame_again (frame.Ack epoch from committed have) rest is =
     record {
       read = ack_at;
       of_kind = refl;
-      again = again (λ x. frame.Ack x.0 x.1.0 x.1.1.0 x.1.1.1) (epoch, (from, (committed, have))) rest (is.0, (is.1, (is.2, is.3)))
+      again = again (λ x. frame.Ack x.0 x.1.0 x.1.1.0 x.1.1.1) (
+        epoch,
+        (
+          from,
+          (committed, have),
+        ),
+      ) rest (is.0, (is.1, (is.2, is.3)))
           (both_reads epoch_reads (both_reads id_reads (both_reads count_reads count_reads)));
     }
 frame_again (frame.Notice epoch config) rest is =
@@ -229,7 +276,10 @@ frame_again (frame.Rows request at range) rest is =
     record {
       read = rows_frame_at;
       of_kind = refl;
-      again = again (λ x. frame.Rows x.0 x.1.0 x.1.1) (request, (at, range)) rest (is.0, (is.1, is.2))
+      again = again (λ x. frame.Rows x.0 x.1.0 x.1.1) (request, (at, range)) rest (
+        is.0,
+        (is.1, is.2),
+      )
           (both_reads count_reads (both_reads at_reads range_reads));
     }
 frame_again (frame.Open request at) rest is =
@@ -257,14 +307,20 @@ frame_again (frame.Value request number value) rest is =
     record {
       read = value_at;
       of_kind = refl;
-      again = again (λ x. frame.Value x.0 x.1.0 x.1.1) (request, (number, value)) rest (is.0, (is.1, is.2))
+      again = again (λ x. frame.Value x.0 x.1.0 x.1.1) (request, (number, value)) rest (
+        is.0,
+        (is.1, is.2),
+      )
           (both_reads count_reads (both_reads count_reads found_reads));
     }
 frame_again (frame.RowsAre request number page) rest is =
     record {
       read = rows_are_at;
       of_kind = refl;
-      again = again (λ x. frame.RowsAre x.0 x.1.0 x.1.1) (request, (number, page)) rest (is.0, (is.1, is.2))
+      again = again (λ x. frame.RowsAre x.0 x.1.0 x.1.1) (request, (number, page)) rest (
+        is.0,
+        (is.1, is.2),
+      )
           (both_reads count_reads (both_reads count_reads page_reads));
     }
 frame_again (frame.Opened request number) rest is =
@@ -347,7 +403,13 @@ frames_fit (frame.Submit request batch) is = omega (arith, is.1.short)
 frames_fit (frame.Get request at key) is =
     omega (arith, is.2, at_length at, length-append (at_text at) (text key))
 frames_fit (frame.Rows request at range) is =
-    omega (arith, range_length range is.2, at_length at, length-append (at_text at) (range_text range))
+    omega (
+      arith,
+      range_length range is.2,
+      at_length at,
+      length-append (at_text at)
+          (range_text range),
+    )
 frames_fit (frame.Open request at) is = omega (arith, at_length at)
 frames_fit (frame.Close request number) is = omega arith
 frames_fit (frame.Committed request number) is = omega arith

@@ -1,5 +1,6 @@
 -- A reader gives what was spelled and nothing else; and so do readers made of such readers.
-use Rattle.std.proofs.Common.{◌≡◌, ℕ, zero, suc, ◌+◌, ◌%◌, ◌^◌, ◌<◌, ◌≤◌, Bool, true, false, cond, ltb, List}
+use Rattle.std.proofs.Common.{◌≡◌, ℕ, zero, suc, ◌+◌, ◌%◌, ◌^◌, ◌<◌, ◌≤◌, Bool, true, false, cond}
+use Rattle.std.proofs.Common.{ltb, List}
 use Rattle.std.proofs.Common.{[], ◌∷◌, ◌++◌, length, take, drop, Option, Some, None, IfSome, refl}
 use Rattle.std.proofs.Common.{sym, ap, subst, ◌∙◌, append_assoc, arith, inl, inr, All}
 use Rattle.std.specs.List.{flat_map, AllByRecursion}
@@ -15,11 +16,13 @@ use Rattle.kv_types.specs.Reading.{◌>>=◌}
 use Rattle.kv_types.proofs.Fields.{IsBytes, IsBytes-rest, bind_some, guard_some, some_is, Takes}
 use Rattle.kv_types.proofs.Fields.{Takes-then}
 use Rattle.link_messages.specs.Spelling.{truth, optional}
-use Rattle.link_messages.specs.Reading.{Reader, both, made, only, many, counted, number_at, truth_at}
+use Rattle.link_messages.specs.Reading.{Reader, both, made, only, many, counted, number_at}
+use Rattle.link_messages.specs.Reading.{truth_at}
 use Rattle.link_messages.specs.Reading.{optional_at}
 
 -- what is read is spelled at the front and is right; what is right and spelled at the front is read
-pub record Reads {A : Type 0} (Is : A → Type 0) (spell : A → List ℕ) (read : Reader A) : Type 0 where
+pub record Reads {A : Type 0} (Is : A → Type 0) (spell : A → List ℕ)
+    (read : Reader A) : Type 0 where
   pub takes : (bytes : List ℕ) (x : A × List ℕ) → IsBytes bytes → read bytes ≡ Some x
       → Takes bytes (spell x.0) x.1 × Is x.0
   pub again : (a : A) (rest : List ℕ) → Is a → read (spell a ++ rest) ≡ Some (a, rest)
@@ -177,11 +180,13 @@ wide64 = record {
   len = λ n. refl;
   back = λ bytes len fits. be_bytes_8 bytes _ len fits refl;
   again = λ n lt. from_be_bytes-to_be_bytes_8 n lt;
-  below = λ bytes fits. omega (arith, fits 0, fits 1, fits 2, fits 3, fits 4, fits 5, fits 6, fits 7);
+  below = λ bytes fits. omega
+      (arith, fits 0, fits 1, fits 2, fits 3, fits 4, fits 5, fits 6, fits 7);
 }
 
 number_takes : (w : Width) (bound : ℕ) (wide : IsWide w bound) (bytes : List ℕ) (x : ℕ × List ℕ)
-    → IsBytes bytes → number_at w bytes ≡ Some x → Takes bytes (to_be_bytes w x.0) x.1 × (x.0 < bound)
+    → IsBytes bytes → number_at w bytes ≡ Some x → Takes bytes (to_be_bytes w x.0) x.1 ×
+    (x.0 < bound)
 number_takes w bound wide bytes x fits e =
     let front = take (byte_len w) bytes in
     let found : ℕ × List ℕ = (from_be_bytes w front, drop (byte_len w) bytes) in

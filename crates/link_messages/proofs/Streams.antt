@@ -1,6 +1,7 @@
 -- What stands at the front of a stream has one answer, and a stream has one list of frames.
 use Rattle.std.proofs.Common.{◌≡◌, inl, inr, ℕ, ◌+◌, ◌<◌, ◌≤◌, false, true, cond, ltb, eqb}
-use Rattle.std.proofs.Common.{List, [], ◌∷◌, ◌++◌, length, take, drop, Option, Some, None, Result, Ok}
+use Rattle.std.proofs.Common.{List, [], ◌∷◌, ◌++◌, length, take, drop, Option, Some, None, Result}
+use Rattle.std.proofs.Common.{Ok}
 use Rattle.std.proofs.Common.{Err, refl, sym, ap, subst, ◌∙◌, append_assoc, arith}
 use Rattle.std.specs.List.{flat_map}
 use Rattle.std.specs.Int.{w32, from_be_bytes}
@@ -39,7 +40,8 @@ whole bytes n fits long told some few there =
     let content = take n (drop 4 bytes) in
     let len : n ≡ length content = omega (arith, length-take n (drop 4 bytes)) in
     let field : u32 n ≡ take 4 bytes =
-    be_bytes_4 (take 4 bytes) n (omega (arith, length-take 4 bytes)) (IsBytes-take 4 bytes fits) told in
+    be_bytes_4 (take 4 bytes) n (omega (arith, length-take 4 bytes))
+    (IsBytes-take 4 bytes fits) told in
     record {
       some = omega (arith, len);
       few = omega (arith, len);
@@ -89,11 +91,15 @@ told_fault e bytes content w fits read =
 
 fault_or : (e : FrameError) (bytes content : List ℕ) → IsWhole bytes content → IsBytes content
     → IsOr (Err e) (content_at content) → Answers (Err e) bytes bytes
-fault_or fault.Memory bytes content w fits read = refl
-fault_or fault.TooLong bytes content w fits read = told_fault fault.TooLong bytes content w fits read
-fault_or fault.BadKind bytes content w fits read = told_fault fault.BadKind bytes content w fits read
-fault_or fault.BadField bytes content w fits read = told_fault fault.BadField bytes content w fits read
-fault_or fault.Trailing bytes content w fits read = told_fault fault.Trailing bytes content w fits read
+fault_or fault.Memory bytes content w fits read = ((content, w), refl)
+fault_or fault.TooLong bytes content w fits read =
+    told_fault fault.TooLong bytes content w fits read
+fault_or fault.BadKind bytes content w fits read =
+    told_fault fault.BadKind bytes content w fits read
+fault_or fault.BadField bytes content w fits read =
+    told_fault fault.BadField bytes content w fits read
+fault_or fault.Trailing bytes content w fits read =
+    told_fault fault.Trailing bytes content w fits read
 
 pub front_fault : (bytes : List ℕ) (n : ℕ) (e : FrameError) → IsBytes bytes → 4 ≤ length bytes
     → n ≡ length_field bytes → 1 ≤ n → n ≤ MAX_FRAME → n ≤ length (drop 4 bytes)
@@ -246,7 +252,8 @@ one_spelling f g x y is_f is_g same =
     (is_g, same) in
     (some_is f g both.0, both.1)
 
-whole_stays : (bytes more content : List ℕ) → IsWhole bytes content → IsWhole (bytes ++ more) content
+whole_stays : (bytes more content : List ℕ) → IsWhole bytes content → IsWhole
+    (bytes ++ more) content
 whole_stays bytes more content w =
     let field = u32 (length content) in
     record {
@@ -276,7 +283,8 @@ faults_stay fault.Trailing bytes more h = (h.0, whole_stays bytes more h.0 h.1, 
 faults_stay fault.Memory bytes more h = absurd h
 
 -- a first frame, and the stream behind it
-first_told : (stream rest : List ℕ) (f : Frame) (frames : List Frame) → Splits stream (f ∷ frames) rest
+first_told : (stream rest : List ℕ) (f : Frame) (frames : List Frame) → Splits stream (f
+    ∷ frames) rest
     → Tells (Ok (Some f)) stream (flat_map spelling frames ++ rest)
 first_told stream rest f frames s = (
   (recursion_from_All IsFrame (f ∷ frames) s.each).0,

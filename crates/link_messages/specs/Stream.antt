@@ -63,12 +63,13 @@ HasFault fault.BadField bytes =
 HasFault fault.Trailing bytes = (content : List ℕ) × IsWhole bytes content × IsTooMuch content
 HasFault fault.Memory bytes = ⊥
 
--- a frame is at the front, and the rest stays; or it is not whole yet; or memory ran out; or there
--- is a fault. Without a frame all bytes stay.
+-- a frame is at the front, and the rest stays; or it is not whole yet; or it is whole, and memory
+-- ran out; or there is a fault. Without a frame all bytes stay.
 abbrev pub Answers : Result (Option Frame) FrameError → List ℕ → List ℕ → Type 0
 Answers (Ok (Some f)) old new = IsFrame f × (old ≡ spelling f ++ new)
 Answers (Ok None) old new = IsPartial old × (new ≡ old)
-Answers (Err fault.Memory) old new = new ≡ old
+Answers (Err fault.Memory) old new =
+    ((content : List ℕ) × IsWhole old content) × (new ≡ old)
 Answers (Err e) old new = HasFault e old × (new ≡ old)
 
 -- the stream is these frames, and then less than a whole one

@@ -8,7 +8,8 @@ ghost use Rattle.kv_types.specs.Reading.{text_at, batch_at};
 ghost use Rattle.link_messages.specs.Spelling.{u16, u32, u64, optional, at_text, config_text};
 ghost use Rattle.link_messages.specs.Spelling.{range_text, IsEpoch, IsNumber, IsKey, IsValue};
 ghost use Rattle.link_messages.specs.Spelling.{IsRange};
-ghost use Rattle.link_messages.specs.Reading.{GivesAt, items_of, as_fault, number_at, many, epoch_at, id_at, count_at, place_at};
+ghost use Rattle.link_messages.specs.Reading.{GivesAt, items_of, as_fault, number_at, many};
+ghost use Rattle.link_messages.specs.Reading.{epoch_at, id_at, count_at, place_at};
 ghost use Rattle.link_messages.specs.Reading.{at_at, found_at, config_at, bound_at, range_at};
 
 use crate::FrameError;

@@ -23,7 +23,7 @@ impl Model for FrameReader {
     ghost view = { λ reader. reader.buffer.items };
 }
 
-// The frame at the front of the bytes with the length of its spelling. `None` where it is not whole.
+// The frame at the front of the bytes, and how many bytes spell it. `None` where it is not whole.
 fn front_of(alloc: Global, bytes: &[u8]) -> Result<Option<(Frame, usize)>, FrameError>
     ensures answer { Answers (told_by result) bytes.now (left_by result bytes.now) }
     ensures len { IfOk result (λ front. IfSome front (λ x. x.1 ≤ length bytes.now)) }
