@@ -6,7 +6,8 @@ use configurations::{Config, ConfigError, Configs, NodeId};
 use disk::{Fault, Junk, JunkBytes};
 use kv_types::{Batch, Edit, Key, Limits, Value};
 use lab::{DropReason, Event, LabError, Line, Report, What, names_nodes, run};
-use node::{Refusal, Reply};
+use link_messages::Refusal;
+use node::Reply;
 use std::alloc::Global;
 use std::test::Fail;
 

@@ -15,7 +15,7 @@ use Rattle.node.specs.declared.stop.Stop.TheVariants.{Disk}
 use Rattle.node.specs.declared.input.Input.{Input}
 use Rattle.node.specs.declared.input.Input.TheVariants as input
 use Rattle.node.specs.declared.output.Reply.TheVariants as reply
-use Rattle.node.specs.declared.output.Refusal.TheVariants as refused_as
+use Rattle.link_messages.specs.declared.refusal.Refusal.TheVariants as refused_as
 use Rattle.node.specs.Steps.{Machine, answer_to}
 use Rattle.disk.specs.declared.junk.Junk.{Junk}
 use Rattle.lab.specs.declared.event.What.{What}

@@ -16,7 +16,7 @@ use Rattle.lab.specs.declared.member.Member.TheVariants.{Running, Resting}
 use Rattle.lab.specs.declared.report.Line.{Line}
 use Rattle.lab.specs.declared.report.Line.TheVariants.{Replied, Dropped, Stopped}
 use Rattle.lab.specs.declared.report.DropReason.TheVariants as reason
-use Rattle.node.specs.declared.output.Refusal.TheVariants as refusal
+use Rattle.link_messages.specs.declared.refusal.Refusal.TheVariants as refusal
 use Rattle.node.specs.declared.output.Reply.TheVariants as reply
 use Rattle.lab.specs.Events.{modelled, reply_lines, start_line, lines_of}
 use Rattle.chain_model.specs.Node.{started, stopped}

@@ -1,9 +1,9 @@
 ghost use Rattle.std.specs.Prelude.{◌≡◌, ◌↔◌, IfOk, IsTrue};
 ghost use Rattle.lab.specs.Events.{node_in, NamesNodes};
 
+use configurations::{Configs, NodeId};
 use disk::{Fault, Junk};
 use kv_types::{Batch, Key};
-use configurations::{Configs, NodeId};
 use std::alloc::AllocError;
 
 /// One step of one node. A request has the number of its event's place, from 1.

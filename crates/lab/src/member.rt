@@ -11,10 +11,11 @@ ghost use Rattle.lab.specs.Members.{is_honest, state};
 
 use crate::report::{DropReason, Line, Lines};
 use crate::{LabError, What};
+use configurations::NodeId;
 use disk::{Crash, Junk, MemDisk};
 use kv_types::Limits;
-use configurations::NodeId;
-use node::{Input, Node, Output, Refusal, Reply, Stop};
+use link_messages::Refusal;
+use node::{Input, Node, Output, Reply, Stop};
 use std::alloc::{AllocError, Global};
 
 /// A node of the lab: it runs, or its disk is what is left of it.

@@ -1,7 +1,7 @@
 ghost use Rattle.std.specs.Prelude.{◌≡◌};
 
-use disk::MemDisk;
 use configurations::NodeId;
+use disk::MemDisk;
 use node::{Reply, Stop};
 use std::marker::Model;
 

@@ -12,9 +12,9 @@ ghost use Rattle.lab.specs.History.{OneHistory};
 use crate::member::Member;
 use crate::report::{Lines, NodeReport, Numbers, Report};
 use crate::{Event, LabError};
+use configurations::{Config, Configs, NodeId};
 use disk::MemDisk;
 use kv_types::{Batch, Limits};
-use configurations::{Config, Configs, NodeId};
 use node::Node;
 use std::alloc::Global;
 

@@ -14,8 +14,8 @@ use Rattle.chain_model.specs.Rules.{ask}
 use Rattle.node.specs.declared.node.Node.{Node}
 use Rattle.node.specs.declared.input.Input.{Input}
 use Rattle.node.specs.declared.input.Input.TheVariants.{Submit, Get}
-use Rattle.node.specs.declared.output.Refusal.{Refusal}
-use Rattle.node.specs.declared.output.Refusal.TheVariants as refusal
+use Rattle.link_messages.specs.declared.refusal.Refusal.{Refusal}
+use Rattle.link_messages.specs.declared.refusal.Refusal.TheVariants as refusal
 use Rattle.node.specs.declared.output.Reply.{Reply}
 use Rattle.node.specs.declared.output.Reply.TheVariants as reply
 use Rattle.node.specs.Files.{HasBatches, IsStore}

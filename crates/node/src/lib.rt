@@ -10,5 +10,5 @@ mod stop;
 
 pub use input::Input;
 pub use node::Node;
-pub use output::{Output, Refusal, Reply};
+pub use output::{Output, Reply};
 pub use stop::Stop;

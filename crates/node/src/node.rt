@@ -9,11 +9,12 @@ ghost use Rattle.node.specs.Steps.{answer_to, disk_of, read_reply};
 ghost use Rattle.node.specs.Stops.{KeepsDisk, TellsDisk, IsOfMachine};
 
 use crate::engine::Engine;
-use crate::{Input, Output, Refusal, Reply, Stop};
+use crate::{Input, Output, Reply, Stop};
 use configurations::{Config, NodeId};
 use disk::Disk;
 use kv_types::bounds::MAX_NUMBER;
 use kv_types::{Batch, Key, Limits, value_at};
+use link_messages::Refusal;
 use std::alloc::{AllocError, Global};
 
 /// A running node of a chain, and its disk.

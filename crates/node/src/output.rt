@@ -1,17 +1,5 @@
 use kv_types::Value;
-
-/// Why a client's request is refused. It changes nothing.
-#[derive(Clone, Copy, Debug, PartialEq, Eq)]
-pub enum Refusal {
-    NotRunning = 1,
-    NotHead,
-    TooOld,
-    NotCommitted,
-    NoSuchSnapshot,
-    TooManySnapshots,
-    Removed,
-    Exhausted,
-}
+use link_messages::Refusal;
 
 /// What a client is told of a request.
 #[derive(Debug, Drop)]

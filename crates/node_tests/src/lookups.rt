@@ -1,6 +1,6 @@
 // Each look-up once, and the causes of a stop by their numbers and texts.
 use crate::running::created;
-use node::{Refusal, Stop};
+use node::Stop;
 use std::test::Fail;
 
 #[test]
@@ -26,20 +26,4 @@ fn causes_of_a_stop(rt: HostRuntime) -> Result<(), Fail> {
         assert_eq!(rt; (stop as u8, text.as_str()), (number, want));
     }
     Ok(())
-}
-
-#[test]
-fn refusals_have_their_numbers(rt: HostRuntime) {
-    for (refusal, number) in [
-        (Refusal::NotRunning, 1),
-        (Refusal::NotHead, 2),
-        (Refusal::TooOld, 3),
-        (Refusal::NotCommitted, 4),
-        (Refusal::NoSuchSnapshot, 5),
-        (Refusal::TooManySnapshots, 6),
-        (Refusal::Removed, 7),
-        (Refusal::Exhausted, 8),
-    ] {
-        assert_eq!(rt; refusal as u8, number, "{refusal:?}");
-    }
 }

@@ -6,8 +6,8 @@ use Rattle.std.specs.List.{flat_map}
 use Rattle.std.specs.Option.{option_map_or}
 use Rattle.kv_types.specs.declared.error.KvError.{KvError}
 use Rattle.kv_types.specs.declared.error.KvError.TheVariants as kv
-use Rattle.node.specs.declared.output.Refusal.{Refusal}
-use Rattle.node.specs.declared.output.Refusal.TheVariants as refused
+use Rattle.link_messages.specs.declared.refusal.Refusal.{Refusal}
+use Rattle.link_messages.specs.declared.refusal.Refusal.TheVariants as refused
 use Rattle.node.specs.declared.output.Reply.{Reply}
 use Rattle.node.specs.declared.output.Reply.TheVariants.{Committed, Value, Refused}
 use Rattle.node.specs.declared.stop.Stop.{Stop}

@@ -5,7 +5,8 @@ ghost use Rattle.program.specs.Text.{fault_text};
 use crate::script::ScriptError;
 use kv_types::KvError;
 use lab::DropReason;
-use node::{Refusal, Stop};
+use link_messages::Refusal;
+use node::Stop;
 use std::fmt;
 
 /// A refusal, by its number and name.
