@@ -1,4 +1,4 @@
-ghost use Rattle.std.specs.Prelude.{◌≡◌, ◌++◌, OnOk, IfOk, IfSome};
+ghost use Rattle.std.specs.Prelude.{◌≡◌, ◌≤◌, ◌++◌, OnOk, IfOk, IfSome};
 ghost use Rattle.chain_model.specs.Configuration.{IsId};
 ghost use Rattle.kv_types.specs.Spelling.{IsBatch};
 ghost use Rattle.kv_types.specs.Spelling.{spelling as batch_text};
@@ -75,7 +75,9 @@ fn put_refusal(out: &mut Vec<u8>, refusal: Refusal) -> Result<(), AllocError>
     Ok(out.push(refusal as u8)?)
 }
 
-fn put_fields(out: &mut Vec<u8>, frame: &Frame) -> Result<(), AllocError>
+// The fields of a frame to a node of the chain.
+fn put_link(out: &mut Vec<u8>, frame: &Frame) -> Result<(), AllocError>
+    requires { kind frame.now ≤ 3 }
     ensures spelled { OnOk result (out.new.items ≡ out.old.items ++ fields frame.now) }
     ensures lawful { OnOk result (HasBounds frame.now → IsFrame frame.now) }
 {
@@ -102,6 +104,17 @@ fn put_fields(out: &mut Vec<u8>, frame: &Frame) -> Result<(), AllocError>
             put_epoch(out, *epoch)?;
             put_config(out, config)
         }
+        _ => Ok(()),
+    }
+}
+
+// The fields of what a client asks.
+fn put_request(out: &mut Vec<u8>, frame: &Frame) -> Result<(), AllocError>
+    requires { (4 ≤ kind frame.now) × (kind frame.now ≤ 8) }
+    ensures spelled { OnOk result (out.new.items ≡ out.old.items ++ fields frame.now) }
+    ensures lawful { OnOk result (HasBounds frame.now → IsFrame frame.now) }
+{
+    match frame {
         Frame::Submit { request, batch } => put_batch(out, *request, batch),
         Frame::Get { request, at, key } => {
             put_asked(out, *request, *at)?;
@@ -112,6 +125,19 @@ fn put_fields(out: &mut Vec<u8>, frame: &Frame) -> Result<(), AllocError>
             put_range(out, range)
         }
         Frame::Open { request, at } => put_asked(out, *request, *at),
+        Frame::Close { request, number } => put_two(out, *request, *number),
+        _ => Ok(()),
+    }
+}
+
+// The fields of what a client is told.
+fn put_reply(out: &mut Vec<u8>, frame: &Frame) -> Result<(), AllocError>
+    requires { 9 ≤ kind frame.now }
+    ensures spelled { OnOk result (out.new.items ≡ out.old.items ++ fields frame.now) }
+    ensures lawful { OnOk result (HasBounds frame.now → IsFrame frame.now) }
+{
+    match frame {
+        Frame::Committed { request, number } => put_two(out, *request, *number),
         Frame::Value {
             request,
             number,
@@ -128,14 +154,24 @@ fn put_fields(out: &mut Vec<u8>, frame: &Frame) -> Result<(), AllocError>
             put_two(out, *request, *number)?;
             put_page(out, page)
         }
+        Frame::Opened { request, number } => put_two(out, *request, *number),
         Frame::Refused { request, refusal } => {
             put_number(out, *request)?;
             put_refusal(out, *refusal)
         }
-        Frame::Close { request, number }
-        | Frame::Committed { request, number }
-        | Frame::Opened { request, number }
-        | Frame::Closed { request, number } => put_two(out, *request, *number),
+        Frame::Closed { request, number } => put_two(out, *request, *number),
+        _ => Ok(()),
+    }
+}
+
+fn put_fields(out: &mut Vec<u8>, frame: &Frame) -> Result<(), AllocError>
+    ensures spelled { OnOk result (out.new.items ≡ out.old.items ++ fields frame.now) }
+    ensures lawful { OnOk result (HasBounds frame.now → IsFrame frame.now) }
+{
+    match kind_of(frame) {
+        ..4 => put_link(out, frame),
+        4..9 => put_request(out, frame),
+        _ => put_reply(out, frame),
     }
 }
 

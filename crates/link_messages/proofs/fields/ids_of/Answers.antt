@@ -11,16 +11,16 @@ returns-in_err-u16_of c =
     rw (p.1, p.2)
     (ends (number_at w16) c.in_err-u16_of.field-0.0 c.loop.ids.items c.args.count c.loop.counter
     c.loop.bytes.now
-    (many (number_at w16) c.args.count c.args.bytes.now.now) c.loop-test.true c.in_err-u16_of.ensures
-    c.loop.invariant)
+    (many (number_at w16) c.args.count c.args.bytes.now.now) c.loop-test.true
+    c.in_err-u16_of.ensures c.loop.invariant)
 
 pub loop-preserved : goal.loop-preserved
 loop-preserved c =
     let e : c.push.new.self.items ≡ c.loop.ids.items ++ c.in_ok-u16_of.field-0 ∷ [] =
     c.in_ok-push.ensures.items in
     rw e (goes_on
-    (number_at w16) c.loop.ids.items c.args.count c.loop.counter c.loop.bytes.now c.in_ok-u16_of.field-0
-    c.u16_of.new.bytes.now
+    (number_at w16) c.loop.ids.items c.args.count c.loop.counter c.loop.bytes.now
+    c.in_ok-u16_of.field-0 c.u16_of.new.bytes.now
     (many (number_at w16) c.args.count c.args.bytes.now.now) c.loop-test.true
     c.in_ok-u16_of.ensures
     c.loop.invariant)

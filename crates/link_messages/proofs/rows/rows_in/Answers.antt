@@ -17,8 +17,8 @@ pub loop-preserved : goal.loop-preserved
 loop-preserved c =
     let e : c.push.new.self.items ≡ c.loop.rows.items ++ c.in_ok-row_of.field-0 ∷ [] =
     c.in_ok-push.ensures.items in
-    rw e (goes_on row_at c.loop.rows.items c.args.count c.loop.counter c.loop.bytes.now c.in_ok-row_of.field-0
-    c.row_of.new.bytes.now
+    rw e (goes_on row_at c.loop.rows.items c.args.count c.loop.counter c.loop.bytes.now
+    c.in_ok-row_of.field-0 c.row_of.new.bytes.now
     (many row_at c.args.count c.args.bytes.now.now) c.loop-test.true
     c.in_ok-row_of.ensures
     c.loop.invariant)
