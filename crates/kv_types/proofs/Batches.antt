@@ -1,18 +1,19 @@
 -- The two laws: what is read is spelled so, and what is spelled so is read.
-use Rattle.std.proofs.Common.{◌≡◌, ℕ, zero, suc, ◌≤◌, Bool, true, false, cond, eqb, ltb, List, []}
+use Rattle.std.proofs.Common.{◌≡◌, ℕ, zero, suc, ◌+◌, ◌-◌, ◌≤◌, Bool, true, false, cond, eqb, ltb, List, []}
 use Rattle.std.proofs.Common.{◌∷◌, ◌++◌, length, Option, Some, None, refl, sym, ap, subst, ◌∙◌}
 use Rattle.std.proofs.Common.{append_assoc, arith}
 use Rattle.std.specs.List.{flat_map, AllByRecursion}
 use Rattle.std.specs.Int.{w16, to_be_bytes}
 use Rattle.std.proofs.lemmas.Bool.{eqb-true, ltb-false, le-ltb}
-use Rattle.std.proofs.lemmas.List.{append-nil, nil_from_length}
+use Rattle.std.proofs.lemmas.List.{append-nil, nil_from_length, length-append}
 use Rattle.std.proofs.lemmas.List.Elements.{All-from_recursion, recursion_from_All}
 use Rattle.std.proofs.lemmas.List.Concat.{flat_map-cons}
 use Rattle.kv_types.specs.declared.bounds.TheConstants.{MAX_KEY, MAX_VALUE, MAX_EDITS, MAX_BATCH}
 use Rattle.kv_types.specs.declared.edit.Edit.{Edit}
 use Rattle.kv_types.specs.declared.edit.Edit.TheVariants.{Put, Delete}
 use Rattle.kv_types.specs.Spelling.{text, edit_text, spelling, IsEdit, IsBatch, SpellingsDiffer}
-use Rattle.kv_types.specs.Reading.{◌>>=◌, number_at, text_at, edit_at, edits_at, batch_of}
+use Rattle.kv_types.specs.Reading.{◌>>=◌, number_at, text_at, edit_at, edits_at, batch_at}
+use Rattle.kv_types.specs.Reading.{batch_of}
 use Rattle.kv_types.proofs.Fields.{IsBytes, IsBytes-rest, bind_some, guard_some, some_is, Takes}
 use Rattle.kv_types.proofs.Fields.{Takes-then, number_takes, number_again, text_takes, text_again}
 
@@ -109,102 +110,108 @@ edits_again (edit ∷ edits) rest fits =
       edits_again edits rest fits.1,
     ) refl
 
--- the steps of `batch_of`, from the last on
+-- ---- a batch at the front
+
+-- the steps of `batch_at`, from the last on
+abbrev limited : List ℕ → List Edit × List ℕ → Option (List Edit × List ℕ)
+limited bytes read = cond (ltb MAX_BATCH (length bytes - length read.1)) None (Some read)
+
+abbrev not_none : List ℕ → ℕ × List ℕ → Option (List Edit × List ℕ)
+not_none bytes n = cond (ltb n.0 1) None (edits_at n.0 n.1 >>= limited bytes)
+
+abbrev counted : List ℕ → ℕ × List ℕ → Option (List Edit × List ℕ)
+counted bytes n = cond (ltb MAX_EDITS n.0) None (not_none bytes n)
+
+spells_batch : (bytes rest : List ℕ) (count : ℕ) (edits : List Edit) → length edits ≡ count
+    → AllByRecursion IsEdit edits → 1 ≤ count → count ≤ MAX_EDITS
+    → length bytes - length rest ≤ MAX_BATCH → Takes bytes (spelling edits) rest → IsBatch edits
+spells_batch bytes rest count edits same each some few short taken =
+    let whole : length bytes ≡ length (spelling edits) + length rest =
+    ap length taken.parts ∙ length-append (spelling edits) rest in
+    record {
+      some = omega (arith, some, same);
+      few = omega (arith, few, same);
+      short = omega (arith, short, whole);
+      each = All-from_recursion IsEdit edits each;
+    }
+
+pub front_takes : (bytes : List ℕ) (x : List Edit × List ℕ) → IsBytes bytes
+    → batch_at bytes ≡ Some x → Takes bytes (spelling x.0) x.1 × IsBatch x.0
+unfolding batch_at
+front_takes bytes x fits e =
+    let a = bind_some (number_at bytes) (counted bytes) x e in
+    let n = a.0 in
+    let g = guard_some (ltb MAX_EDITS n.0) (not_none bytes n) x a.2 in
+    let h = guard_some (ltb n.0 1) (edits_at n.0 n.1 >>= limited bytes) x g.1 in
+    let b = bind_some (edits_at n.0 n.1) (limited bytes) x h.1 in
+    let read = b.0 in
+    let i = guard_some (ltb MAX_BATCH (length bytes - length read.1)) (Some read) x b.2 in
+    let first = number_takes bytes n fits a.1 in
+    let second = edits_take n.0 n.1 read first.rest_fits b.1 in
+    let texts = flat_map edit_text read.0 in
+    let both = Takes-then bytes (to_be_bytes w16 n.0) n.1 texts read.1 first second.0 in
+    let whole : Takes bytes (spelling read.0) read.1 =
+    subst (λ (k : ℕ). Takes bytes (to_be_bytes w16 k ++ texts) read.1) (sym second.1) both in
+    let batch = spells_batch bytes read.1 n.0 read.0 second.1 second.2 (ltb-false n.0 1 h.0)
+    (ltb-false MAX_EDITS n.0 g.0)
+    (ltb-false MAX_BATCH (length bytes - length read.1) i.0) whole in
+    subst (λ (y : List Edit × List ℕ). Takes bytes (spelling y.0) y.1 × IsBatch y.0)
+    (some_is read x i.1) (whole, batch)
+
+pub front_again : (edits : List Edit) (rest : List ℕ) → IsBatch edits
+    → batch_at (spelling edits ++ rest) ≡ Some (edits, rest)
+unfolding batch_at
+front_again edits rest is =
+    let texts = flat_map edit_text edits in
+    let whole = spelling edits ++ rest in
+    let regrouped = append_assoc (to_be_bytes w16 (length edits)) texts rest in
+    let count : number_at whole ≡ Some (length edits, texts ++ rest) = ap number_at regrouped
+    ∙ number_again (length edits) (texts ++ rest) (omega (arith, is.few)) in
+    let few : ltb MAX_EDITS (length edits) ≡ false = le-ltb _ _ is.few in
+    let some : ltb (length edits) 1 ≡ false = le-ltb _ _ is.some in
+    let each = edits_again edits rest (recursion_from_All IsEdit edits is.each) in
+    let short : ltb MAX_BATCH (length whole - length rest) ≡ false =
+    le-ltb _ _ (omega (arith, is.short, length-append (spelling edits) rest)) in
+    ap (λ (r : Option (ℕ × List ℕ)). r >>= counted whole) count
+    ∙ ap (λ (t : Bool). cond t None (not_none whole (length edits, texts ++ rest))) few
+    ∙ ap (λ (t : Bool). cond t None
+    (edits_at (length edits) (texts ++ rest) >>= limited whole)) some
+    ∙ ap (λ (r : Option (List Edit × List ℕ)). r >>= limited whole) each
+    ∙ ap (λ (t : Bool). cond t None (Some (edits, rest))) short
+
+-- ---- a batch that is all of the bytes
+
 abbrev ended : List Edit × List ℕ → Option (List Edit)
 ended read = cond (eqb (length read.1) 0) (Some read.0) None
-
-abbrev not_none : ℕ × List ℕ → Option (List Edit)
-not_none n = cond (ltb n.0 1) None (edits_at n.0 n.1 >>= ended)
-
-abbrev counted : ℕ × List ℕ → Option (List Edit)
-counted n = cond (ltb MAX_EDITS n.0) None (not_none n)
-
--- the bytes are the spelling, where the count is right and nothing is behind
-spelled_whole : (bytes rest : List ℕ) (count : ℕ) (edits : List Edit)
-    → bytes ≡ (to_be_bytes w16 count ++ flat_map edit_text edits) ++ rest → rest ≡ []
-    → length edits ≡ count → bytes ≡ spelling edits
-spelled_whole bytes rest count edits parts nothing same =
-    let texts = flat_map edit_text edits in
-    let front = to_be_bytes w16 count ++ texts in
-    parts ∙ ap (λ (r : List ℕ). front ++ r) nothing ∙ append-nil front
-    ∙ ap (λ (k : ℕ). to_be_bytes w16 k ++ texts) (sym same)
-
-spells_batch : (bytes : List ℕ) (count : ℕ) (edits : List Edit) → length edits ≡ count
-    → AllByRecursion IsEdit edits → 1 ≤ count → count ≤ MAX_EDITS → length bytes ≤ MAX_BATCH
-    → bytes ≡ spelling edits → IsBatch edits × (bytes ≡ spelling edits)
-spells_batch bytes count edits same each some few short whole = (
-  record {
-    some = omega (arith, some, same);
-    few = omega (arith, few, same);
-    short = subst (λ (s : List ℕ). length s ≤ MAX_BATCH) whole short;
-    each = All-from_recursion IsEdit edits each;
-  },
-  whole,
-)
 
 pub batch_takes : (bytes : List ℕ) (edits : List Edit) → IsBytes bytes → batch_of bytes ≡ Some edits
     → IsBatch edits × (bytes ≡ spelling edits)
 unfolding batch_of
 batch_takes bytes edits fits e =
-    let z = guard_some (ltb MAX_BATCH (length bytes)) (number_at bytes >>= counted) edits e in
-    let a = bind_some (number_at bytes) counted edits z.1 in
-    let n = a.0 in
-    let g = guard_some (ltb MAX_EDITS n.0) (not_none n) edits a.2 in
-    let h = guard_some (ltb n.0 1) (edits_at n.0 n.1 >>= ended) edits g.1 in
-    let b = bind_some (edits_at n.0 n.1) ended edits h.1 in
-    let i = guard_ended (eqb (length b.0.1) 0) b.0.0 edits b.2 in
-    let first = number_takes bytes n fits a.1 in
-    let second = edits_take n.0 n.1 b.0 first.rest_fits b.1 in
-    let texts = flat_map edit_text b.0.0 in
-    let both = Takes-then bytes (to_be_bytes w16 n.0) n.1 texts b.0.1 first second.0 in
-    let nothing = nil_from_length b.0.1 (eqb-true (length b.0.1) 0 i.0) in
-    let whole = spelled_whole bytes b.0.1 n.0 b.0.0 both.parts nothing second.1 in
-    let some = ltb-false n.0 1 h.0 in
-    let few = ltb-false MAX_EDITS n.0 g.0 in
-    let short = ltb-false MAX_BATCH (length bytes) z.0 in
-    let batch = spells_batch bytes n.0 b.0.0 second.1 second.2 some few short whole in
-    subst (λ (v : List Edit). IsBatch v × (bytes ≡ spelling v)) i.1 batch
+    let z = guard_some (ltb MAX_BATCH (length bytes)) (batch_at bytes >>= ended) edits e in
+    let a = bind_some (batch_at bytes) ended edits z.1 in
+    let i = guard_ended (eqb (length a.0.1) 0) a.0.0 edits a.2 in
+    let front = front_takes bytes a.0 fits a.1 in
+    let nothing = nil_from_length a.0.1 (eqb-true (length a.0.1) 0 i.0) in
+    let whole : bytes ≡ spelling a.0.0 = front.0.parts
+    ∙ ap (λ (r : List ℕ). spelling a.0.0 ++ r) nothing
+    ∙ append-nil (spelling a.0.0) in
+    subst (λ (v : List Edit). IsBatch v × (bytes ≡ spelling v)) i.1 (front.1, whole)
 
 pub batch_again : (edits : List Edit) → IsBatch edits → batch_of (spelling edits) ≡ Some edits
 unfolding batch_of
-batch_again edits fits =
-    let rest : edits_at (length edits) (flat_map edit_text edits) ≡ Some (edits, []) =
-    ap (edits_at (length edits)) (sym (append-nil (flat_map edit_text edits)))
-    ∙ edits_again edits [] (recursion_from_All IsEdit edits fits.each) in
-    let short : ltb MAX_BATCH (length (spelling edits)) ≡ false =
-    le-ltb MAX_BATCH (length (spelling edits)) fits.short in
-    let few : ltb MAX_EDITS (length edits) ≡ false = le-ltb _ _ fits.few in
-    let some : ltb (length edits) 1 ≡ false = le-ltb _ _ fits.some in
-    rw (
-      short,
-      number_again (length edits) (flat_map edit_text edits) (omega (arith, fits.few)),
-      few,
-      some,
-      rest,
-    ) refl
-
--- the edits behind their number, and what is behind them
-abbrev counted_edits : List ℕ → Option (List Edit × List ℕ)
-counted_edits bytes = number_at bytes >>= λ n. edits_at n.0 n.1
-
-edits_of_spelling : (edits : List Edit) (rest : List ℕ) → IsBatch edits
-    → counted_edits (spelling edits ++ rest) ≡ Some (edits, rest)
-edits_of_spelling edits rest is =
-    let few = is.few in
-    let texts = flat_map edit_text edits in
-    let regrouped = append_assoc (to_be_bytes w16 (length edits)) texts rest in
-    let count = number_again (length edits) (texts ++ rest) (omega (arith, few)) in
-    ap counted_edits regrouped
-    ∙ ap (λ (r : Option (ℕ × List ℕ)). r >>= λ n. edits_at n.0 n.1) count
-    ∙ edits_again edits rest (recursion_from_All IsEdit edits is.each)
+batch_again edits is =
+    let front : batch_at (spelling edits) ≡ Some (edits, []) =
+    ap batch_at (sym (append-nil (spelling edits))) ∙ front_again edits [] is in
+    let short : ltb MAX_BATCH (length (spelling edits)) ≡ false = le-ltb _ _ is.short in
+    rw (short, front) refl
 
 pub spellings_differ : SpellingsDiffer
 spellings_differ a b rest is_a is_b same =
     let bytes : spelling a ++ rest ≡ spelling b ++ [] = same ∙ sym (append-nil (spelling b)) in
-    let read_a = edits_of_spelling a rest is_a in
-    let read_b = edits_of_spelling b [] is_b in
     let first : List Edit × List ℕ = (a, rest) in
     let second : List Edit × List ℕ = (b, []) in
     let one : first ≡ second =
-    some_is first second (sym read_a ∙ ap counted_edits bytes ∙ read_b) in
+    some_is first second
+    (sym (front_again a rest is_a) ∙ ap batch_at bytes ∙ front_again b [] is_b) in
     (ap (λ (x : List Edit × List ℕ). x.0) one, ap (λ (x : List Edit × List ℕ). x.1) one)

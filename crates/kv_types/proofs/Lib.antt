@@ -6,3 +6,4 @@ pub mod PageLaws
 pub mod Loop
 pub mod Fields
 pub mod Batches
+pub mod Fronts

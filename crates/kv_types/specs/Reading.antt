@@ -1,6 +1,6 @@
 -- Reading a batch from left to right.
-use Rattle.std.specs.Prelude.{◌≡◌, ℕ, zero, suc, List, [], ◌∷◌, length, take, drop, nat_lt, ◌==◌}
-use Rattle.std.specs.Prelude.{Option, Some, None, Result, Ok, Err, if◌then◌else◌}
+use Rattle.std.specs.Prelude.{◌≡◌, ℕ, zero, suc, ◌-◌, List, [], ◌∷◌, length, take, drop, nat_lt}
+use Rattle.std.specs.Prelude.{◌==◌, Option, Some, None, Result, Ok, Err, if◌then◌else◌}
 use Rattle.std.specs.Int.{w16, from_be_bytes}
 use Rattle.kv_types.specs.declared.bounds.TheConstants.{MAX_KEY, MAX_VALUE, MAX_EDITS, MAX_BATCH}
 use Rattle.kv_types.specs.declared.edit.Edit.{Edit}
@@ -58,11 +58,17 @@ edits_at (suc n) bytes = do
   others ← edits_at n first.1
   Some (first.0 ∷ others.0, others.1)
 
+-- the edits of a batch, spelled within the limit, and the bytes after them
+unfoldable pub batch_at : List ℕ → Option (List Edit × List ℕ)
+batch_at bytes = do
+  n ← number_at bytes
+  if nat_lt MAX_EDITS n.0 then None else (if nat_lt n.0 1 then None else do
+    edits ← edits_at n.0 n.1
+    if nat_lt MAX_BATCH (length bytes - length edits.1) then None else Some edits)
+
 -- the edits of a batch, where nothing is behind them
 unfoldable pub batch_of : List ℕ → Option (List Edit)
 batch_of bytes =
     if nat_lt MAX_BATCH (length bytes) then None else do
-      n ← number_at bytes
-      if nat_lt MAX_EDITS n.0 then None else (if nat_lt n.0 1 then None else do
-        edits ← edits_at n.0 n.1
-        if length edits.1 == 0 then Some edits.0 else None)
+      edits ← batch_at bytes
+      if length edits.1 == 0 then Some edits.0 else None

@@ -1,8 +1,8 @@
-ghost use Rattle.std.specs.Prelude.{◌≡◌, ◌<◌, ◌≤◌, ◌⊎◌, ◌↔◌, List, length};
-ghost use Rattle.std.specs.Prelude.{IfOk, IfErr, Err, IsErrOf};
+ghost use Rattle.std.specs.Prelude.{◌≡◌, ◌<◌, ◌≤◌, ◌⊎◌, ◌↔◌, List, ℕ, ◌++◌, length};
+ghost use Rattle.std.specs.Prelude.{IfOk, IfErr, Err, IsErrOf, OnOk};
 
 use crate::bounds::{MAX_BATCH, MAX_EDITS};
-use crate::reading::edits_of;
+use crate::reading::{all_edits_of, edits_of};
 use crate::writing::{put_edits, spelled_len};
 use crate::{Edit, KvError};
 use std::alloc::{AllocError, Global};
@@ -30,6 +30,7 @@ impl Model for Batch {
 impl Batch {
     ghost use Rattle.kv_types.specs.declared.edit.Edit.{Edit};
     ghost use Rattle.kv_types.specs.Spelling.{IsBatch, spelling};
+    ghost use Rattle.kv_types.specs.Reading.{Gives, batch_at};
 
     pub fn new(edits: Vec<Edit>) -> Result<Batch, KvError>
         ensures made { IfOk result (λ batch. batch ≡ edits.items) }
@@ -60,6 +61,26 @@ impl Batch {
         &self.edits
     }
 
+    /// Spells the batch behind what `out` holds.
+    pub fn spell_into(&self, out: &mut Vec<u8>) -> Result<(), AllocError>
+        ensures spelled { OnOk result (out.new.items ≡ out.old.items ++ spelling self.now) }
+        ensures batch { IsBatch self.now }
+    {
+        put_edits(out, &self.edits)
+    }
+
+    /// The batch at the front of the bytes, and the bytes behind it.
+    pub fn read_from(alloc: Global, bytes: &[u8]) -> Result<(Batch, &[u8]), KvError>
+        ensures found { IfOk result (λ x. (bytes.now ≡ spelling x.0 ++ x.1.now) × IsBatch x.0) }
+        ensures bad { IsErrOf result KvError.BadBytes → (batch : List Edit) (rest : List ℕ)
+            → IsBatch batch → bytes.now ≡ spelling batch ++ rest → ⊥ }
+        ensures only { IfErr result (λ e. (e ≡ KvError.BadBytes) ⊎ (e ≡ KvError.Memory)) }
+        ensures exact { Gives (λ x. (x.0, x.1.now)) result (batch_at bytes.now) }
+    {
+        let (edits, rest) = edits_of(alloc, bytes)?;
+        Ok((Batch { edits }, rest))
+    }
+
     /// The one spelling of the batch.
     pub fn to_bytes(&self, alloc: Global) -> Result<Vec<u8>, AllocError>
         ensures { IfOk result (λ bytes. bytes.items ≡ spelling self.now) }
@@ -77,7 +98,7 @@ impl Batch {
         ensures only { IfErr result (λ e. (e ≡ KvError.BadBytes) ⊎ (e ≡ KvError.Memory)) }
     {
         Ok(Batch {
-            edits: edits_of(alloc, bytes)?,
+            edits: all_edits_of(alloc, bytes)?,
         })
     }
 

@@ -1,15 +1,19 @@
 ghost use Rattle.std.specs.Prelude.{◌≡◌, ◌<◌, ◌≤◌, ◌↔◌, length, nat_eq, IfOk, IsOkUnless};
-ghost use Rattle.std.specs.Prelude.{IsTrue, Err, Some};
+ghost use Rattle.std.specs.Prelude.{IsTrue, Err, Some, List, ℕ, ◌++◌, ◌⊎◌, OnOk, IfErr, IsErrOf};
 ghost use Rattle.std.specs.Cmp.{partial_equiv_from_equiv};
 ghost use Rattle.std.specs.Cmp.Lexicographic.{pointwise, slice_cmp, nat_list_eq_equiv};
 ghost use Rattle.std.specs.Cmp.Lexicographic.{nat_list_cmp_total, texts_po, texts_ties};
 ghost use Rattle.std.specs.Ordering.{nat_cmp};
 ghost use Rattle.std.proofs.Common.{refl};
 ghost use Rattle.kv_types.specs.Order.{IsBelow};
+ghost use Rattle.kv_types.specs.Spelling.{text};
+ghost use Rattle.kv_types.specs.Reading.{Gives, text_at};
 
 use crate::KvError;
 use crate::bounds::MAX_KEY;
-use std::alloc::AllocError;
+use crate::reading::key_of;
+use crate::writing::put_text;
+use std::alloc::{AllocError, Global};
 use std::cmp::Ordering;
 use std::marker::Model;
 
@@ -47,6 +51,26 @@ impl Key {
         ensures limit { length self.now ≤ MAX_KEY }
     {
         &self.bytes
+    }
+
+    /// Spells the key behind what `out` holds.
+    pub fn spell_into(&self, out: &mut Vec<u8>) -> Result<(), AllocError>
+        ensures spelled { OnOk result (out.new.items ≡ out.old.items ++ text self.now) }
+        ensures limit { length self.now ≤ MAX_KEY }
+    {
+        put_text(out, &self.bytes)
+    }
+
+    /// The key at the front of the bytes, and the bytes behind it.
+    pub fn read_from(alloc: Global, bytes: &[u8]) -> Result<(Key, &[u8]), KvError>
+        ensures found { IfOk result (λ x. (bytes.now ≡ text x.0 ++ x.1.now)
+            × (length x.0 ≤ MAX_KEY)) }
+        ensures bad { IsErrOf result KvError.BadBytes → (key rest : List ℕ)
+            → length key ≤ MAX_KEY → bytes.now ≡ text key ++ rest → ⊥ }
+        ensures only { IfErr result (λ e. (e ≡ KvError.BadBytes) ⊎ (e ≡ KvError.Memory)) }
+        ensures exact { Gives (λ x. (x.0, x.1.now)) result (text_at MAX_KEY bytes.now) }
+    {
+        key_of(alloc, bytes)
     }
 
     pub fn is_below(&self, other: &Key) -> bool

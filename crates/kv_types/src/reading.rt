@@ -1,5 +1,6 @@
 ghost use Rattle.std.specs.Prelude.{◌≡◌, ◌≤◌, length, IfOk};
-ghost use Rattle.kv_types.specs.Reading.{Gives, number_at, text_at, edit_at, edits_at, batch_of};
+ghost use Rattle.kv_types.specs.Reading.{Gives, number_at, text_at, edit_at, edits_at, batch_at};
+ghost use Rattle.kv_types.specs.Reading.{batch_of};
 
 use crate::bounds::{MAX_BATCH, MAX_EDITS, MAX_KEY, MAX_VALUE};
 use crate::{Edit, Key, KvError, Value};
@@ -31,14 +32,14 @@ fn text_of(limit: usize, bytes: &[u8]) -> Result<(&[u8], &[u8]), KvError>
     Ok(rest.split_at(len))
 }
 
-fn key_of(alloc: Global, bytes: &[u8]) -> Result<(Key, &[u8]), KvError>
+pub fn key_of(alloc: Global, bytes: &[u8]) -> Result<(Key, &[u8]), KvError>
     ensures { Gives (λ x. (x.0, x.1.now)) result (text_at MAX_KEY bytes.now) }
 {
     let (text, rest) = text_of(MAX_KEY, bytes)?;
     Ok((Key::new(text.to_vec(alloc)?)?, rest))
 }
 
-fn value_of(alloc: Global, bytes: &[u8]) -> Result<(Value, &[u8]), KvError>
+pub fn value_of(alloc: Global, bytes: &[u8]) -> Result<(Value, &[u8]), KvError>
     ensures { Gives (λ x. (x.0, x.1.now)) result (text_at MAX_VALUE bytes.now) }
 {
     let (text, rest) = text_of(MAX_VALUE, bytes)?;
@@ -76,13 +77,10 @@ fn edits_in(alloc: Global, count: usize, bytes: &[u8]) -> Result<(Vec<Edit>, &[u
     Ok((edits, rest))
 }
 
-#[tactic(auto, unfolding(crate::specs::Reading::batch_of))]
-pub fn edits_of(alloc: Global, bytes: &[u8]) -> Result<Vec<Edit>, KvError>
-    ensures { Gives (λ v. v.items) result (batch_of bytes.now) }
+#[tactic(auto, unfolding(crate::specs::Reading::batch_at))]
+pub fn edits_of(alloc: Global, bytes: &[u8]) -> Result<(Vec<Edit>, &[u8]), KvError>
+    ensures { Gives (λ x. (x.0.items, x.1.now)) result (batch_at bytes.now) }
 {
-    if bytes.len() > MAX_BATCH {
-        return Err(KvError::BadBytes);
-    }
     let (count, rest) = u16_at(bytes)?;
     if count > MAX_EDITS {
         return Err(KvError::BadBytes);
@@ -91,6 +89,20 @@ pub fn edits_of(alloc: Global, bytes: &[u8]) -> Result<Vec<Edit>, KvError>
         return Err(KvError::BadBytes);
     }
     let (edits, rest) = edits_in(alloc, count, rest)?;
+    if bytes.len().saturating_sub(rest.len()) > MAX_BATCH {
+        return Err(KvError::BadBytes);
+    }
+    Ok((edits, rest))
+}
+
+#[tactic(auto, unfolding(crate::specs::Reading::batch_of))]
+pub fn all_edits_of(alloc: Global, bytes: &[u8]) -> Result<Vec<Edit>, KvError>
+    ensures { Gives (λ v. v.items) result (batch_of bytes.now) }
+{
+    if bytes.len() > MAX_BATCH {
+        return Err(KvError::BadBytes);
+    }
+    let (edits, rest) = edits_of(alloc, bytes)?;
     if !rest.is_empty() {
         return Err(KvError::BadBytes);
     }

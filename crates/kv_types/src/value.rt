@@ -1,8 +1,13 @@
 ghost use Rattle.std.specs.Prelude.{◌≡◌, ◌<◌, ◌≤◌, ◌↔◌, length, IfOk, IsOkUnless, Err};
+ghost use Rattle.std.specs.Prelude.{List, ℕ, ◌++◌, ◌⊎◌, OnOk, IfErr, IsErrOf};
+ghost use Rattle.kv_types.specs.Spelling.{text};
+ghost use Rattle.kv_types.specs.Reading.{Gives, text_at};
 
 use crate::KvError;
 use crate::bounds::MAX_VALUE;
-use std::alloc::AllocError;
+use crate::reading::value_of;
+use crate::writing::put_text;
+use std::alloc::{AllocError, Global};
 use std::marker::Model;
 
 /// A value: at most 16,384 bytes.
@@ -39,6 +44,26 @@ impl Value {
         ensures limit { length self.now ≤ MAX_VALUE }
     {
         &self.bytes
+    }
+
+    /// Spells the value behind what `out` holds.
+    pub fn spell_into(&self, out: &mut Vec<u8>) -> Result<(), AllocError>
+        ensures spelled { OnOk result (out.new.items ≡ out.old.items ++ text self.now) }
+        ensures limit { length self.now ≤ MAX_VALUE }
+    {
+        put_text(out, &self.bytes)
+    }
+
+    /// The value at the front of the bytes, and the bytes behind it.
+    pub fn read_from(alloc: Global, bytes: &[u8]) -> Result<(Value, &[u8]), KvError>
+        ensures found { IfOk result (λ x. (bytes.now ≡ text x.0 ++ x.1.now)
+            × (length x.0 ≤ MAX_VALUE)) }
+        ensures bad { IsErrOf result KvError.BadBytes → (value rest : List ℕ)
+            → length value ≤ MAX_VALUE → bytes.now ≡ text value ++ rest → ⊥ }
+        ensures only { IfErr result (λ e. (e ≡ KvError.BadBytes) ⊎ (e ≡ KvError.Memory)) }
+        ensures exact { Gives (λ x. (x.0, x.1.now)) result (text_at MAX_VALUE bytes.now) }
+    {
+        value_of(alloc, bytes)
     }
 
     pub fn clone(&self) -> Result<Value, AllocError>

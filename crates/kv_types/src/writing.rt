@@ -5,7 +5,7 @@ use crate::Edit;
 use crate::bounds::{MAX_EDITS, MAX_KEY, MAX_VALUE};
 use std::alloc::AllocError;
 
-fn put_text(out: &mut Vec<u8>, bytes: &[u8]) -> Result<(), AllocError>
+pub fn put_text(out: &mut Vec<u8>, bytes: &[u8]) -> Result<(), AllocError>
     requires { length bytes.now < 2 ^ 16 }
     ensures { OnOk result (out.new.items ≡ out.old.items ++ text bytes.now) }
 {

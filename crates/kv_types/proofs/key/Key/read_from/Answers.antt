@@ -1,0 +1,14 @@
+use Rattle.std.proofs.Common.{arith}
+use Rattle.kv_types.specs.declared.bounds.TheConstants.{MAX_KEY}
+use Rattle.kv_types.proofs.Fronts.{text_found, text_bad}
+use Rattle.kv_types.proofs.key.Key.read_from.Goals as goal
+
+pub returns-clause-found : goal.returns-clause-found
+returns-clause-found c =
+    text_found (λ x. (x.0, x.1.now)) MAX_KEY c.args.bytes.now c.key_of.result
+    (λ i. omega (arith, c.type_inv.bytes i)) c.key_of.ensures
+
+pub returns-clause-bad : goal.returns-clause-bad
+returns-clause-bad c =
+    text_bad (λ x. (x.0, x.1.now)) MAX_KEY c.args.bytes.now c.key_of.result (omega arith)
+    c.key_of.ensures

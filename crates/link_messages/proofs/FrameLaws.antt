@@ -1,0 +1,421 @@
+-- Frames: the reader of each kind gives what was spelled, and each frame keeps the limit.
+use Rattle.std.proofs.Common.{◌≡◌, ℕ, zero, suc, ◌+◌, ◌*◌, ◌<◌, ◌≤◌, Bool, true, false, List, []}
+use Rattle.std.proofs.Common.{◌∷◌, ◌++◌, length}
+use Rattle.std.proofs.Common.{Option, Some, None, IfSome, refl, ap, subst, ◌∙◌, arith}
+use Rattle.std.specs.List.{flat_map, sum_by}
+use Rattle.std.proofs.lemmas.List.{length-append}
+use Rattle.std.proofs.lemmas.List.Concat.{flat_map-cons}
+use Rattle.std.proofs.lemmas.List.Sums.{sum_by-cons}
+use Rattle.kv_types.specs.declared.row.Row.{Row}
+use Rattle.kv_types.specs.Pages.{row_size}
+use Rattle.kv_types.specs.Reading.{◌>>=◌}
+use Rattle.kv_types.specs.declared.bounds.TheConstants.{MAX_KEY, MAX_VALUE, MAX_PAGE}
+use Rattle.kv_types.specs.Spans.{Span, Rows}
+use Rattle.kv_types.specs.Spelling.{text}
+use Rattle.kv_types.proofs.Fields.{IsBytes, bind_some, some_is, Takes}
+use Rattle.link_messages.specs.declared.frame.Frame.{Frame}
+use Rattle.link_messages.specs.declared.frame.Frame.TheVariants as frame
+use Rattle.link_messages.specs.Spelling.{kind, fields, IsFrame, u16, u32, row_text}
+use Rattle.link_messages.specs.Spelling.{truth, optional, at_text, range_text, page_text, IsRange}
+use Rattle.link_messages.specs.Spelling.{IsSmall}
+use Rattle.link_messages.specs.Stream.{FramesFit}
+use Rattle.link_messages.specs.Reading.{Reader, made, forward_at, ack_at, notice_at}
+use Rattle.link_messages.specs.Reading.{submit_at, get_at, rows_frame_at, open_at, close_at}
+use Rattle.link_messages.specs.Reading.{committed_at, value_at, rows_are_at, opened_at, refused_at}
+use Rattle.link_messages.specs.Reading.{closed_at, readers, nth, reader_of}
+use Rattle.link_messages.proofs.Readers.{Reads, both_reads}
+use Rattle.link_messages.proofs.FieldLaws.{epoch_reads, id_reads, count_reads, place_reads}
+use Rattle.link_messages.proofs.FieldLaws.{at_reads}
+use Rattle.link_messages.proofs.FieldLaws.{key_reads, found_reads, batch_reads, config_reads}
+use Rattle.link_messages.proofs.FieldLaws.{range_reads, page_reads, refusal_reads}
+
+-- what a reader of this kind reads is a frame of the kind, in range and spelled so
+pub record IsReaderOf (k : ℕ) (read : Reader Frame) : Type 0 where
+  pub takes : (bytes : List ℕ) (x : Frame × List ℕ) → IsBytes bytes → read bytes ≡ Some x
+      → (kind x.0 ≡ k) × Takes bytes (fields x.0) x.1 × IsFrame x.0
+
+of_kind : {A : Type 0} {Is : A → Type 0} {spell : A → List ℕ} {read : Reader A} (k : ℕ)
+    (make : A → Frame) → ((a : A) → kind (make a) ≡ k) → ((a : A) → spell a ≡ fields (make a))
+    → ((a : A) → Is a → IsFrame (make a)) → Reads Is spell read → IsReaderOf k (made make read)
+of_kind {A} {Is} {spell} {read} k make kinds spelled right r =
+    record {
+      takes = λ bytes x fits e.
+          let a = bind_some (read bytes) (λ a. Some (make a.0, a.1)) x e in
+          let t = r.takes bytes a.0 fits a.1 in
+          let whole : Takes bytes (fields (make a.0.0)) a.0.1 =
+          subst (λ (s : List ℕ). Takes bytes s a.0.1) (spelled a.0.0) t.0 in
+          let found : Frame × List ℕ = (make a.0.0, a.0.1) in
+          subst (λ (y : Frame × List ℕ). (kind y.0 ≡ k) × Takes bytes (fields y.0) y.1
+          × IsFrame y.0) (some_is found x a.2)
+          (kinds a.0.0, whole, right a.0.0 t.1);
+    }
+
+again : {A : Type 0} {Is : A → Type 0} {spell : A → List ℕ} {read : Reader A} (make : A → Frame)
+    (a : A) (rest : List ℕ) → Is a → Reads Is spell read
+    → made make read (spell a ++ rest) ≡ Some (make a, rest)
+again {A} {Is} {spell} {read} make a rest is r =
+    ap (λ (o : Option (A × List ℕ)). o >>= λ a. Some (make a.0, a.1)) (r.again a rest is)
+
+forward_reader : IsReaderOf 1 forward_at
+unfolding forward_at
+forward_reader =
+    of_kind 1 (λ x. frame.Forward x.0 x.1.0 x.1.1.0 x.1.1.1) (λ a. refl) (λ a. refl) (λ a p.
+    (p.0, p.1.0, p.1.1.0, p.1.1.1))
+    (both_reads epoch_reads (both_reads id_reads (both_reads place_reads batch_reads)))
+
+ack_reader : IsReaderOf 2 ack_at
+unfolding ack_at
+ack_reader =
+    of_kind 2 (λ x. frame.Ack x.0 x.1.0 x.1.1.0 x.1.1.1) (λ a. refl) (λ a. refl) (λ a p.
+    (p.0, p.1.0, p.1.1.0, p.1.1.1))
+    (both_reads epoch_reads (both_reads id_reads (both_reads count_reads count_reads)))
+
+notice_reader : IsReaderOf 3 notice_at
+unfolding notice_at
+notice_reader =
+    of_kind 3 (λ x. frame.Notice x.0 x.1) (λ a. refl) (λ a. refl) (λ a p. (p.0, p.1))
+    (both_reads epoch_reads config_reads)
+
+submit_reader : IsReaderOf 4 submit_at
+unfolding submit_at
+submit_reader =
+    of_kind 4 (λ x. frame.Submit x.0 x.1) (λ a. refl) (λ a. refl) (λ a p. (p.0, p.1))
+    (both_reads count_reads batch_reads)
+
+get_reader : IsReaderOf 5 get_at
+unfolding get_at
+get_reader =
+    of_kind 5 (λ x. frame.Get x.0 x.1.0 x.1.1) (λ a. refl) (λ a. refl) (λ a p. (p.0, p.1.0, p.1.1))
+    (both_reads count_reads (both_reads at_reads key_reads))
+
+rows_frame_reader : IsReaderOf 6 rows_frame_at
+unfolding rows_frame_at
+rows_frame_reader =
+    of_kind 6 (λ x. frame.Rows x.0 x.1.0 x.1.1) (λ a. refl) (λ a. refl) (λ a p. (p.0, p.1.0, p.1.1))
+    (both_reads count_reads (both_reads at_reads range_reads))
+
+open_reader : IsReaderOf 7 open_at
+unfolding open_at
+open_reader =
+    of_kind 7 (λ x. frame.Open x.0 x.1) (λ a. refl) (λ a. refl) (λ a p. (p.0, p.1))
+    (both_reads count_reads at_reads)
+
+close_reader : IsReaderOf 8 close_at
+unfolding close_at
+close_reader =
+    of_kind 8 (λ x. frame.Close x.0 x.1) (λ a. refl) (λ a. refl) (λ a p. (p.0, p.1))
+    (both_reads count_reads count_reads)
+
+committed_reader : IsReaderOf 9 committed_at
+unfolding committed_at
+committed_reader =
+    of_kind 9 (λ x. frame.Committed x.0 x.1) (λ a. refl) (λ a. refl) (λ a p. (p.0, p.1))
+    (both_reads count_reads count_reads)
+
+value_reader : IsReaderOf 10 value_at
+unfolding value_at
+value_reader =
+    of_kind 10 (λ x. frame.Value x.0 x.1.0 x.1.1) (λ a. refl) (λ a. refl) (λ a p.
+    (p.0, p.1.0, p.1.1))
+    (both_reads count_reads (both_reads count_reads found_reads))
+
+rows_are_reader : IsReaderOf 11 rows_are_at
+unfolding rows_are_at
+rows_are_reader =
+    of_kind 11 (λ x. frame.RowsAre x.0 x.1.0 x.1.1) (λ a. refl) (λ a. refl) (λ a p.
+    (p.0, p.1.0, p.1.1))
+    (both_reads count_reads (both_reads count_reads page_reads))
+
+opened_reader : IsReaderOf 12 opened_at
+unfolding opened_at
+opened_reader =
+    of_kind 12 (λ x. frame.Opened x.0 x.1) (λ a. refl) (λ a. refl) (λ a p. (p.0, p.1))
+    (both_reads count_reads count_reads)
+
+refused_reader : IsReaderOf 13 refused_at
+unfolding refused_at
+refused_reader =
+    of_kind 13 (λ x. frame.Refused x.0 x.1) (λ a. refl) (λ a. refl) (λ a p. p.0)
+    (both_reads count_reads refusal_reads)
+
+closed_reader : IsReaderOf 14 closed_at
+unfolding closed_at
+closed_reader =
+    of_kind 14 (λ x. frame.Closed x.0 x.1) (λ a. refl) (λ a. refl) (λ a p. (p.0, p.1))
+    (both_reads count_reads count_reads)
+
+Each : ℕ → List (Reader Frame) → Type 0
+Each k [] = Unit {0}
+Each k (read ∷ reads) = IsReaderOf k read × Each (suc k) reads
+
+each_reader : Each 1 readers
+unfolding Each
+each_reader = (
+  forward_reader,
+  (
+    ack_reader,
+    (
+      notice_reader,
+      (
+        submit_reader,
+        (
+          get_reader,
+          (
+            rows_frame_reader,
+            (
+              open_reader,
+              (
+                close_reader,
+                (
+                  committed_reader,
+                  (
+                    value_reader,
+                    (rows_are_reader, (opened_reader, (refused_reader, (closed_reader, tt)))),
+                  ),
+                ),
+              ),
+            ),
+          ),
+        ),
+      ),
+    ),
+  ),
+)
+
+nth_reader : (k : ℕ) (reads : List (Reader Frame)) (i m : ℕ) (read : Reader Frame) → Each k reads
+    → m ≡ k + i → nth reads i ≡ Some read → IsReaderOf m read
+unfolding Each
+nth_reader k [] i m read each is e = absurd cc
+nth_reader k (first ∷ reads) zero m read each is e =
+    let same : first ≡ read = cc e in
+    let place : k ≡ m = omega (arith, is) in
+    subst (λ (n : ℕ). IsReaderOf n read) place (subst (IsReaderOf k) same each.0)
+nth_reader k (first ∷ reads) (suc i) m read each is e =
+    nth_reader (suc k) reads i m read each.1 (omega (arith, is)) e
+
+-- the reader of a known kind
+pub reader_is : (k : ℕ) (read : Reader Frame) → reader_of k ≡ Some read → IsReaderOf k read
+reader_is zero read e = absurd cc
+reader_is (suc i) read e = nth_reader 1 readers i (suc i) read each_reader (omega arith) e
+
+nth_there : {A : Type 0} (xs : List A) (i : ℕ) (x : A) → nth xs i ≡ Some x → i < length xs
+nth_there [] i x e = absurd cc
+nth_there (y ∷ xs) zero x e = omega arith
+nth_there (y ∷ xs) (suc i) x e = omega (arith, nth_there xs i x e)
+
+nth_not : {A : Type 0} (xs : List A) (i : ℕ) → nth xs i ≡ None → length xs ≤ i
+nth_not [] i e = omega arith
+nth_not (y ∷ xs) zero e = absurd cc
+nth_not (y ∷ xs) (suc i) e = omega (arith, nth_not xs i e)
+
+-- kinds 1 to 14 have readers, and no others
+pub known : (k : ℕ) (read : Reader Frame) → reader_of k ≡ Some read → (1 ≤ k) × (k ≤ 14)
+known zero read e = absurd cc
+known (suc i) read e = (omega arith, omega (arith, nth_there readers i read e))
+
+pub unknown : (k : ℕ) → reader_of k ≡ None → (1 ≤ k) × (k ≤ 14) → ⊥
+unknown zero e in_range = absurd (omega (arith, in_range.0))
+unknown (suc i) e in_range = absurd (omega (arith, in_range.1, nth_not readers i e))
+
+-- the reader that a frame's kind has reads the frame
+pub record ReadsAgain (f : Frame) (rest : List ℕ) : Type 0 where
+  pub read : Reader Frame
+  pub of_kind : reader_of (kind f) ≡ Some read
+  pub again : read (fields f ++ rest) ≡ Some (f, rest)
+
+pub frame_again : (f : Frame) (rest : List ℕ) → IsFrame f → ReadsAgain f rest
+unfolding forward_at ack_at notice_at submit_at get_at rows_frame_at open_at close_at committed_at value_at rows_are_at opened_at refused_at closed_at
+frame_again (frame.Forward epoch from number batch) rest is =
+    record {
+      read = forward_at;
+      of_kind = refl;
+      again = again (λ x. frame.Forward x.0 x.1.0 x.1.1.0 x.1.1.1) (
+        epoch,
+        (
+          from,
+          (number, batch),
+        ),
+      ) rest (is.0, (is.1, (is.2, is.3)))
+          (both_reads epoch_reads (both_reads id_reads (both_reads place_reads batch_reads)));
+    }
+frame_again (frame.Ack epoch from committed have) rest is =
+    record {
+      read = ack_at;
+      of_kind = refl;
+      again = again (λ x. frame.Ack x.0 x.1.0 x.1.1.0 x.1.1.1) (
+        epoch,
+        (
+          from,
+          (committed, have),
+        ),
+      ) rest (is.0, (is.1, (is.2, is.3)))
+          (both_reads epoch_reads (both_reads id_reads (both_reads count_reads count_reads)));
+    }
+frame_again (frame.Notice epoch config) rest is =
+    record {
+      read = notice_at;
+      of_kind = refl;
+      again = again (λ x. frame.Notice x.0 x.1) (epoch, config) rest (is.0, is.1)
+          (both_reads epoch_reads config_reads);
+    }
+frame_again (frame.Submit request batch) rest is =
+    record {
+      read = submit_at;
+      of_kind = refl;
+      again = again (λ x. frame.Submit x.0 x.1) (request, batch) rest (is.0, is.1)
+          (both_reads count_reads batch_reads);
+    }
+frame_again (frame.Get request at key) rest is =
+    record {
+      read = get_at;
+      of_kind = refl;
+      again = again (λ x. frame.Get x.0 x.1.0 x.1.1) (request, (at, key)) rest (is.0, (is.1, is.2))
+          (both_reads count_reads (both_reads at_reads key_reads));
+    }
+frame_again (frame.Rows request at range) rest is =
+    record {
+      read = rows_frame_at;
+      of_kind = refl;
+      again = again (λ x. frame.Rows x.0 x.1.0 x.1.1) (request, (at, range)) rest (
+        is.0,
+        (is.1, is.2),
+      )
+          (both_reads count_reads (both_reads at_reads range_reads));
+    }
+frame_again (frame.Open request at) rest is =
+    record {
+      read = open_at;
+      of_kind = refl;
+      again = again (λ x. frame.Open x.0 x.1) (request, at) rest (is.0, is.1)
+          (both_reads count_reads at_reads);
+    }
+frame_again (frame.Close request number) rest is =
+    record {
+      read = close_at;
+      of_kind = refl;
+      again = again (λ x. frame.Close x.0 x.1) (request, number) rest (is.0, is.1)
+          (both_reads count_reads count_reads);
+    }
+frame_again (frame.Committed request number) rest is =
+    record {
+      read = committed_at;
+      of_kind = refl;
+      again = again (λ x. frame.Committed x.0 x.1) (request, number) rest (is.0, is.1)
+          (both_reads count_reads count_reads);
+    }
+frame_again (frame.Value request number value) rest is =
+    record {
+      read = value_at;
+      of_kind = refl;
+      again = again (λ x. frame.Value x.0 x.1.0 x.1.1) (request, (number, value)) rest (
+        is.0,
+        (is.1, is.2),
+      )
+          (both_reads count_reads (both_reads count_reads found_reads));
+    }
+frame_again (frame.RowsAre request number page) rest is =
+    record {
+      read = rows_are_at;
+      of_kind = refl;
+      again = again (λ x. frame.RowsAre x.0 x.1.0 x.1.1) (request, (number, page)) rest (
+        is.0,
+        (is.1, is.2),
+      )
+          (both_reads count_reads (both_reads count_reads page_reads));
+    }
+frame_again (frame.Opened request number) rest is =
+    record {
+      read = opened_at;
+      of_kind = refl;
+      again = again (λ x. frame.Opened x.0 x.1) (request, number) rest (is.0, is.1)
+          (both_reads count_reads count_reads);
+    }
+frame_again (frame.Refused request refusal) rest is =
+    record {
+      read = refused_at;
+      of_kind = refl;
+      again = again (λ x. frame.Refused x.0 x.1) (request, refusal) rest (is, tt)
+          (both_reads count_reads refusal_reads);
+    }
+frame_again (frame.Closed request number) rest is =
+    record {
+      read = closed_at;
+      of_kind = refl;
+      again = again (λ x. frame.Closed x.0 x.1) (request, number) rest (is.0, is.1)
+          (both_reads count_reads count_reads);
+    }
+
+-- ---- lengths
+
+rows_length : (rows : List Row) → length (flat_map row_text rows) ≡ sum_by row_size rows
+rows_length [] = refl
+rows_length (row ∷ rows) =
+    ap length (flat_map-cons row_text row rows)
+    ∙ length-append (row_text row) (flat_map row_text rows)
+    ∙ rw (rows_length rows, sum_by-cons row_size row rows)
+    (omega (arith, length-append row.key (text row.value)))
+
+ids_length : (ids : List ℕ) → length (flat_map u16 ids) ≡ 2 * length ids
+ids_length [] = refl
+ids_length (id ∷ ids) = ap length (flat_map-cons u16 id ids) ∙ omega (arith, ids_length ids)
+
+at_length : (at : Option ℕ) → length (at_text at) ≤ 9
+at_length None = omega arith
+at_length (Some n) = omega arith
+
+optional_length : (limit : ℕ) (o : Option (List ℕ)) → IfSome o (λ t. length t ≤ limit)
+    → length (optional text o) ≤ 3 + limit
+optional_length limit None is = omega arith
+optional_length limit (Some t) is = omega (arith, is)
+
+truth_length : (b : Bool) → length (truth b) ≡ 1
+truth_length true = refl
+truth_length false = refl
+
+range_length : (range : Span) → IsRange range → length (range_text range) ≤ 2060
+range_length range is =
+    let way = truth range.backward ++ u32 range.limit in
+    omega (
+      arith,
+      is.from,
+      optional_length MAX_KEY range.to is.to,
+      truth_length range.backward,
+      length-append range.from (optional text range.to ++ way),
+      length-append (optional text range.to) way,
+      length-append (truth range.backward) (u32 range.limit),
+    )
+
+page_length : (page : Rows) → IsSmall page → length (page_text page) ≤ 3 + MAX_PAGE
+page_length page is =
+    omega (
+      arith,
+      is.limits.1,
+      rows_length page.rows,
+      truth_length page.more,
+      length-append (truth page.more) (u16 (length page.rows) ++ flat_map row_text page.rows),
+    )
+
+pub frames_fit : FramesFit
+frames_fit (frame.Forward epoch from number batch) is = omega (arith, is.3.short)
+frames_fit (frame.Ack epoch from committed have) is = omega arith
+frames_fit (frame.Notice epoch config) is = omega (arith, is.1.few, ids_length config)
+frames_fit (frame.Submit request batch) is = omega (arith, is.1.short)
+frames_fit (frame.Get request at key) is =
+    omega (arith, is.2, at_length at, length-append (at_text at) (text key))
+frames_fit (frame.Rows request at range) is =
+    omega (
+      arith,
+      range_length range is.2,
+      at_length at,
+      length-append (at_text at)
+          (range_text range),
+    )
+frames_fit (frame.Open request at) is = omega (arith, at_length at)
+frames_fit (frame.Close request number) is = omega arith
+frames_fit (frame.Committed request number) is = omega arith
+frames_fit (frame.Value request number value) is =
+    omega (arith, optional_length MAX_VALUE value is.2)
+frames_fit (frame.RowsAre request number page) is = omega (arith, page_length page is.2)
+frames_fit (frame.Opened request number) is = omega arith
+frames_fit (frame.Refused request refusal) is = omega arith
+frames_fit (frame.Closed request number) is = omega arith

@@ -1,0 +1,6 @@
+pub mod Readers
+pub mod Loop
+pub mod FieldLaws
+pub mod FrameLaws
+pub mod Contents
+pub mod Streams

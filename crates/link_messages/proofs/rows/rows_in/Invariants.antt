@@ -1,0 +1,9 @@
+use Rattle.std.proofs.Common.{◌≡◌, ◌-◌}
+use Rattle.link_messages.specs.Reading.{many, row_at}
+use Rattle.link_messages.proofs.Loop.{with_front}
+use Rattle.link_messages.proofs.rows.rows_in.Given as goal
+
+abbrev pub invariant-loop : goal.invariant-loop
+invariant-loop l =
+    with_front l.rows.items (many row_at (l.count - l.counter) l.bytes.now)
+    ≡ many row_at l.count l.fn.bytes.now

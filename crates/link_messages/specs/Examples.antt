@@ -1,0 +1,31 @@
+-- Small frames, spelled out.
+use Rattle.std.specs.Prelude.{◌≡◌, List, [], ◌∷◌, codes}
+use Rattle.kv_types.specs.declared.edit.Edit.{Edit}
+use Rattle.kv_types.specs.declared.edit.Edit.TheVariants.{Put}
+use Rattle.kv_types.specs.Spelling as batch
+use Rattle.link_messages.specs.declared.frame.Frame.{Frame}
+use Rattle.link_messages.specs.declared.frame.Frame.TheVariants as frame
+use Rattle.link_messages.specs.Spelling.{spelling}
+
+-- a=1
+abbrev pub one_put : List Edit
+one_put = Put (codes "a") (codes "1") ∷ []
+
+-- in epoch 0, node 1 gives batch 1
+abbrev pub first_forward : Frame
+first_forward = frame.Forward 0 1 1 one_put
+
+-- in epoch 0, node 3 has batch 1 and knows it to be committed
+abbrev pub first_ack : Frame
+first_ack = frame.Ack 0 3 1 1
+
+pub record Examples : Type 0 where
+  pub put : batch.spelling one_put ≡ 0 ∷ 1 ∷ 1 ∷ 0 ∷ 1 ∷ 97 ∷ 0 ∷ 1 ∷ 49 ∷ []
+  pub forward : spelling first_forward
+      ≡ 0 ∷ 0 ∷ 0 ∷ 24 ∷ 1 ∷ 0 ∷ 0 ∷ 0 ∷ 0 ∷ 0 ∷ 1 ∷ 0 ∷ 0 ∷ 0 ∷ 0 ∷ 0 ∷ 0 ∷ 0 ∷ 1 ∷ 0 ∷ 1 ∷ 1
+      ∷ 0 ∷ 1
+      ∷ 97 ∷ 0 ∷ 1 ∷ 49 ∷ []
+  pub ack : spelling first_ack
+      ≡ 0 ∷ 0 ∷ 0 ∷ 23 ∷ 2 ∷ 0 ∷ 0 ∷ 0 ∷ 0 ∷ 0 ∷ 3 ∷ 0 ∷ 0 ∷ 0 ∷ 0 ∷ 0 ∷ 0 ∷ 0 ∷ 1 ∷ 0 ∷ 0 ∷ 0
+      ∷ 0 ∷ 0
+      ∷ 0 ∷ 0 ∷ 1 ∷ []

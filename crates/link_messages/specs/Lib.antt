@@ -1,0 +1,4 @@
+pub mod Spelling
+pub mod Stream
+pub mod Reading
+pub mod Examples

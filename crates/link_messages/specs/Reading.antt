@@ -1,0 +1,293 @@
+-- Reading a frame from left to right.
+use Rattle.std.specs.Prelude.{◌≡◌, ℕ, zero, suc, List, [], ◌∷◌, length, take, drop, nat_lt}
+use Rattle.std.specs.Prelude.{nat_le, ◌==◌, Bool, true, false, ◌&&◌, not, Option, Some, None}
+use Rattle.std.specs.Prelude.{Result, Ok, Err, if◌then◌else◌}
+use Rattle.std.specs.Global.{Vec}
+use Rattle.std.specs.List.{sum_by}
+use Rattle.std.specs.Int.{Width, w8, w16, w32, w64, byte_len, from_be_bytes}
+use Rattle.chain_model.specs.Configuration.{has}
+use Rattle.configurations.specs.declared.error.ConfigError.{ConfigError}
+use Rattle.configurations.specs.declared.error.ConfigError.TheVariants as config
+use Rattle.kv_types.specs.declared.bounds.TheConstants.{MAX_KEY, MAX_VALUE, MAX_ROWS, MAX_PAGE}
+use Rattle.kv_types.specs.declared.bounds.TheConstants.{MAX_NUMBER}
+use Rattle.kv_types.specs.declared.row.Row.{Row}
+use Rattle.kv_types.specs.Spans.{Span, Rows}
+use Rattle.kv_types.specs.Pages.{row_size}
+use Rattle.kv_types.specs.Reading.{◌>>=◌, text_at, batch_at}
+use Rattle.link_messages.specs.declared.refusal.Refusal.{Refusal}
+use Rattle.link_messages.specs.declared.refusal.Refusal.TheVariants as refused
+use Rattle.link_messages.specs.declared.frame.Frame.{Frame}
+use Rattle.link_messages.specs.declared.frame.Frame.TheVariants as frame
+use Rattle.link_messages.specs.declared.frame.TheConstants.{MAX_FRAME}
+use Rattle.link_messages.specs.declared.error.FrameError.{FrameError}
+use Rattle.link_messages.specs.declared.error.FrameError.TheVariants as fault
+use Rattle.link_messages.specs.Stream.{length_field}
+
+-- reads something from the front of bytes: it, and the bytes after it
+abbrev pub Reader : Type 0 → Type 0
+Reader A = List ℕ → Option (A × List ℕ)
+
+-- ---- readers made of others
+
+-- one, and then another behind it
+abbrev pub both : {A B : Type 0} → Reader A → Reader B → Reader (A × B)
+both first second bytes = first bytes >>= λ a. second a.1 >>= λ b. Some ((a.0, b.0), b.1)
+
+-- what is read, made into something else
+abbrev pub made : {A B : Type 0} → (A → B) → Reader A → Reader B
+made make read bytes = read bytes >>= λ a. Some (make a.0, a.1)
+
+-- only what passes a test
+abbrev pub only : {A : Type 0} → (A → Bool) → Reader A → Reader A
+only test read bytes = read bytes >>= λ a. if test a.0 then Some a else None
+
+-- so many, one behind the other
+unfoldable pub many : {A : Type 0} → Reader A → ℕ → Reader (List A)
+many read zero bytes = Some ([], bytes)
+many read (suc n) bytes = read bytes >>= λ first. many read n first.1 >>= λ others. Some
+    (first.0 ∷ others.0, others.1)
+
+-- their number, and so many
+abbrev pub counted : {A : Type 0} → Reader ℕ → Reader A → Reader (List A)
+counted count read bytes = count bytes >>= λ n. many read n.0 n.1
+
+-- ---- fields
+
+abbrev pub number_at : Width → Reader ℕ
+number_at w bytes =
+    if nat_lt (length bytes) (byte_len w) then None else Some
+    (from_be_bytes w (take (byte_len w) bytes), drop (byte_len w) bytes)
+
+unfoldable pub truth_at : Reader Bool
+truth_at [] = None
+truth_at (zero ∷ rest) = Some (false, rest)
+truth_at (suc zero ∷ rest) = Some (true, rest)
+truth_at (suc (suc b) ∷ rest) = None
+
+abbrev pub optional_at : {A : Type 0} → Reader A → Reader (Option A)
+optional_at read bytes = truth_at bytes >>= λ there. if there.0 then made Some read there.1 else
+    Some (None, there.1)
+
+unfoldable pub epoch_at : Reader ℕ
+epoch_at bytes = only (λ n. nat_le n 15) (number_at w32) bytes
+
+unfoldable pub id_at : Reader ℕ
+id_at bytes = only (λ n. nat_le 1 n) (number_at w16) bytes
+
+-- a number of a batch or a request
+unfoldable pub count_at : Reader ℕ
+count_at bytes = only (λ n. nat_le n MAX_NUMBER) (number_at w64) bytes
+
+-- a number of a batch that is there
+unfoldable pub place_at : Reader ℕ
+place_at bytes = only (λ n. nat_le 1 n) count_at bytes
+
+unfoldable pub at_at : Reader (Option ℕ)
+at_at bytes = optional_at count_at bytes
+
+unfoldable pub found_at : Reader (Option (List ℕ))
+found_at bytes = optional_at (text_at MAX_VALUE) bytes
+
+-- whether no id stands twice
+abbrev pub all_differ : List ℕ → Bool
+all_differ [] = true
+all_differ (id ∷ ids) = not (has ids id) && all_differ ids
+
+-- whether all are ids
+abbrev pub all_ids : List ℕ → Bool
+all_ids [] = true
+all_ids (id ∷ ids) = (nat_le 1 id && nat_le id 65535) && all_ids ids
+
+abbrev pub is_config : List ℕ → Bool
+is_config ids =
+    (nat_le 1 (length ids) && nat_le (length ids) 16) && (all_ids ids && all_differ ids)
+
+unfoldable pub config_at : Reader (List ℕ)
+config_at bytes = only is_config (counted (number_at w8) (number_at w16)) bytes
+
+-- why a configuration was refused, as a fault
+abbrev pub as_fault : ConfigError → FrameError
+as_fault config.Memory = fault.Memory
+as_fault _ = fault.BadField
+
+abbrev pub as_range : List ℕ × (Option (List ℕ) × (Bool × ℕ)) → Span
+as_range x = record { from = x.0; to = x.1.0; backward = x.1.1.0; limit = x.1.1.1 }
+
+unfoldable pub limit_at : Reader ℕ
+limit_at bytes = only (λ n. nat_le 1 n && nat_le n MAX_ROWS) (number_at w32) bytes
+
+unfoldable pub bound_at : Reader (Option (List ℕ))
+bound_at bytes = optional_at (text_at MAX_KEY) bytes
+
+unfoldable pub range_at : Reader Span
+range_at bytes =
+    made as_range (both (text_at MAX_KEY) (both bound_at (both truth_at limit_at))) bytes
+
+abbrev pub as_row : List ℕ × List ℕ → Row
+as_row x = record { key = x.0; value = x.1 }
+
+unfoldable pub row_at : Reader Row
+row_at bytes = made as_row (both (text_at MAX_KEY) (text_at MAX_VALUE)) bytes
+
+abbrev pub as_page : Bool × List Row → Rows
+as_page x = record { rows = x.1; more = x.0 }
+
+-- as many rows as a page may have
+unfoldable pub rows_at : Reader (List Row)
+rows_at bytes = counted (only (λ n. nat_le n MAX_ROWS) (number_at w16)) row_at bytes
+
+unfoldable pub page_at : Reader Rows
+page_at bytes =
+    only (λ page. nat_le (sum_by row_size page.rows) MAX_PAGE)
+    (made as_page (both truth_at rows_at)) bytes
+
+-- the refusal of a code
+abbrev pub refusal_of : ℕ → Option Refusal
+refusal_of zero = None
+refusal_of (suc zero) = Some refused.NotRunning
+refusal_of (suc (suc zero)) = Some refused.NotHead
+refusal_of (suc (suc (suc zero))) = Some refused.TooOld
+refusal_of (suc (suc (suc (suc zero)))) = Some refused.NotCommitted
+refusal_of (suc (suc (suc (suc (suc zero))))) = Some refused.NoSuchSnapshot
+refusal_of (suc (suc (suc (suc (suc (suc zero)))))) = Some refused.TooManySnapshots
+refusal_of (suc (suc (suc (suc (suc (suc (suc zero))))))) = Some refused.Removed
+refusal_of (suc (suc (suc (suc (suc (suc (suc (suc zero)))))))) = Some refused.Exhausted
+refusal_of (suc (suc (suc (suc (suc (suc (suc (suc (suc n))))))))) = None
+
+unfoldable pub refusal_at : Reader Refusal
+refusal_at bytes = number_at w8 bytes >>= λ code. refusal_of code.0 >>= λ refusal. Some
+    (refusal, code.1)
+
+-- ---- frames, without their kind
+
+unfoldable pub forward_at : Reader Frame
+forward_at bytes =
+    made (λ x. frame.Forward x.0 x.1.0 x.1.1.0 x.1.1.1)
+    (both epoch_at (both id_at (both place_at batch_at))) bytes
+
+unfoldable pub ack_at : Reader Frame
+ack_at bytes =
+    made (λ x. frame.Ack x.0 x.1.0 x.1.1.0 x.1.1.1)
+    (both epoch_at (both id_at (both count_at count_at))) bytes
+
+unfoldable pub notice_at : Reader Frame
+notice_at bytes = made (λ x. frame.Notice x.0 x.1) (both epoch_at config_at) bytes
+
+unfoldable pub submit_at : Reader Frame
+submit_at bytes = made (λ x. frame.Submit x.0 x.1) (both count_at batch_at) bytes
+
+unfoldable pub get_at : Reader Frame
+get_at bytes =
+    made (λ x. frame.Get x.0 x.1.0 x.1.1) (both count_at (both at_at (text_at MAX_KEY))) bytes
+
+unfoldable pub rows_frame_at : Reader Frame
+rows_frame_at bytes =
+    made (λ x. frame.Rows x.0 x.1.0 x.1.1) (both count_at (both at_at range_at)) bytes
+
+unfoldable pub open_at : Reader Frame
+open_at bytes = made (λ x. frame.Open x.0 x.1) (both count_at at_at) bytes
+
+unfoldable pub close_at : Reader Frame
+close_at bytes = made (λ x. frame.Close x.0 x.1) (both count_at count_at) bytes
+
+unfoldable pub committed_at : Reader Frame
+committed_at bytes = made (λ x. frame.Committed x.0 x.1) (both count_at count_at) bytes
+
+unfoldable pub value_at : Reader Frame
+value_at bytes =
+    made (λ x. frame.Value x.0 x.1.0 x.1.1) (both count_at (both count_at found_at)) bytes
+
+unfoldable pub rows_are_at : Reader Frame
+rows_are_at bytes =
+    made (λ x. frame.RowsAre x.0 x.1.0 x.1.1) (both count_at (both count_at page_at)) bytes
+
+unfoldable pub opened_at : Reader Frame
+opened_at bytes = made (λ x. frame.Opened x.0 x.1) (both count_at count_at) bytes
+
+unfoldable pub refused_at : Reader Frame
+refused_at bytes = made (λ x. frame.Refused x.0 x.1) (both count_at refusal_at) bytes
+
+unfoldable pub closed_at : Reader Frame
+closed_at bytes = made (λ x. frame.Closed x.0 x.1) (both count_at count_at) bytes
+
+-- the readers in order of their kinds, from 1
+abbrev pub readers : List (Reader Frame)
+readers =
+    forward_at ∷ ack_at ∷ notice_at ∷ submit_at ∷ get_at ∷ rows_frame_at ∷ open_at ∷ close_at
+    ∷ committed_at ∷ value_at ∷ rows_are_at ∷ opened_at ∷ refused_at ∷ closed_at ∷ []
+
+abbrev pub nth : {A : Type 0} → List A → ℕ → Option A
+nth [] n = None
+nth (x ∷ xs) zero = Some x
+nth (x ∷ xs) (suc n) = nth xs n
+
+abbrev pub reader_of : ℕ → Option (Reader Frame)
+reader_of zero = None
+reader_of (suc n) = nth readers n
+
+-- ---- the content of a frame, and a frame in a stream
+
+-- a frame that is all of the bytes that were read for it
+abbrev pub ended : Option (Frame × List ℕ) → Result Frame FrameError
+ended None = Err fault.BadField
+ended (Some (f, [])) = Ok f
+ended (Some (f, b ∷ more)) = Err fault.Trailing
+
+abbrev pub read_by : Option (Reader Frame) → List ℕ → Result Frame FrameError
+read_by None bytes = Err fault.BadKind
+read_by (Some read) bytes = ended (read bytes)
+
+unfoldable pub content_at : List ℕ → Result Frame FrameError
+content_at [] = Err fault.BadField
+content_at (k ∷ bytes) = read_by (reader_of k) bytes
+
+abbrev pub as_answer : Result Frame FrameError → Result (Option Frame) FrameError
+as_answer (Ok f) = Ok (Some f)
+as_answer (Err e) = Err e
+
+unfoldable pub answer_at : List ℕ → Result (Option Frame) FrameError
+answer_at bytes =
+    if nat_lt (length bytes) 4 then Ok None else
+    (if nat_lt MAX_FRAME (length_field bytes) then Err fault.TooLong else
+    (if length_field bytes == 0 then Err fault.BadField else
+    (if nat_lt (length (drop 4 bytes)) (length_field bytes) then Ok None else as_answer
+    (content_at (take (length_field bytes) (drop 4 bytes))))))
+
+-- ---- what functions return
+
+-- a refusal of a field: BadField only where nothing is read
+abbrev pub Fails : {Y : Type 0} → FrameError → Option Y → Type 0
+Fails fault.BadField read = read ≡ None
+Fails fault.Memory read = Unit {0}
+Fails _ read = ⊥
+
+-- what a function returned is what was read, with the bytes after it, unless memory ran out
+abbrev pub GivesAt : {X : Type 0} → Result X FrameError → List ℕ → Option (X × List ℕ) → Type 0
+GivesAt (Ok x) rest read = read ≡ Some (x, rest)
+GivesAt (Err e) rest read = Fails e read
+
+-- the same of a frame of a kind that may be unknown
+abbrev pub GivesKind : Result Frame FrameError → List ℕ → Option (Reader Frame) → List ℕ → Type 0
+GivesKind result rest (Some read) bytes = GivesAt result rest (read bytes)
+GivesKind result rest None bytes = result ≡ Err fault.BadKind
+
+-- a function returned this, unless memory ran out
+abbrev pub IsOr : Result Frame FrameError → Result Frame FrameError → Type 0
+IsOr (Ok f) told = told ≡ Ok f
+IsOr (Err fault.Memory) told = Unit {0}
+IsOr (Err e) told = told ≡ Err e
+
+-- a list with what stands in it
+abbrev pub items_of : {A E : Type 0} → Result (Vec A) E → Result (List A) E
+items_of (Ok v) = Ok v.items
+items_of (Err e) = Err e
+
+-- an answer with how many bytes it takes, as an answer and what it leaves
+abbrev pub told_by : Result (Option (Frame × ℕ)) FrameError → Result (Option Frame) FrameError
+told_by (Ok None) = Ok None
+told_by (Ok (Some x)) = Ok (Some x.0)
+told_by (Err e) = Err e
+
+abbrev pub left_by : Result (Option (Frame × ℕ)) FrameError → List ℕ → List ℕ
+left_by (Ok (Some x)) bytes = drop x.1 bytes
+left_by _ bytes = bytes

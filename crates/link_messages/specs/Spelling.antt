@@ -1,0 +1,178 @@
+-- What a frame is, and its one spelling.
+use Rattle.std.specs.Prelude.{ℕ, ◌≤◌, List, [], ◌∷◌, ◌++◌, length, Bool, true, false, Option}
+use Rattle.std.specs.Prelude.{Some, None, IfSome, All}
+use Rattle.std.specs.List.{flat_map}
+use Rattle.std.specs.Int.{w8, w16, w32, w64, to_be_bytes}
+use Rattle.chain_model.specs.Configuration.{IsId}
+use Rattle.configurations.specs.Configs.{IsConfig}
+use Rattle.kv_types.specs.declared.bounds.TheConstants.{MAX_KEY, MAX_VALUE, MAX_ROWS, MAX_PAGE}
+use Rattle.kv_types.specs.declared.bounds.TheConstants.{MAX_NUMBER}
+use Rattle.kv_types.specs.declared.row.Row.{Row}
+use Rattle.kv_types.specs.Spans.{Span, Rows}
+use Rattle.kv_types.specs.Spelling.{text, IsBatch}
+use Rattle.kv_types.specs.Spelling.{spelling as batch_text}
+use Rattle.kv_types.specs.Pages.{KeepsLimits}
+use Rattle.link_messages.specs.declared.refusal.Refusal.{Refusal}
+use Rattle.link_messages.specs.declared.refusal.Refusal.TheVariants as refused
+use Rattle.link_messages.specs.declared.frame.Frame.{Frame}
+use Rattle.link_messages.specs.declared.frame.Frame.TheVariants as frame
+
+-- ---- fields
+
+-- a number in one, two, four or eight bytes, the most significant first
+abbrev pub u8 : ℕ → List ℕ
+u8 n = to_be_bytes w8 n
+
+abbrev pub u16 : ℕ → List ℕ
+u16 n = to_be_bytes w16 n
+
+abbrev pub u32 : ℕ → List ℕ
+u32 n = to_be_bytes w32 n
+
+abbrev pub u64 : ℕ → List ℕ
+u64 n = to_be_bytes w64 n
+
+-- a truth value is the byte 0 or 1
+abbrev pub truth : Bool → List ℕ
+truth false = 0 ∷ []
+truth true = 1 ∷ []
+
+-- what may be there: the byte 0, or the byte 1 and what is there
+abbrev pub optional : {A : Type 0} → (A → List ℕ) → Option A → List ℕ
+optional spell None = 0 ∷ []
+optional spell (Some x) = 1 ∷ spell x
+
+-- the number at which to read, if one is given
+abbrev pub at_text : Option ℕ → List ℕ
+at_text at = optional u64 at
+
+-- one byte that counts the ids, and the ids
+abbrev pub config_text : List ℕ → List ℕ
+config_text ids = u8 (length ids) ++ flat_map u16 ids
+
+-- the first key, the bound, the way and the limit
+abbrev pub range_text : Span → List ℕ
+range_text range =
+    text range.from ++ (optional text range.to ++ (truth range.backward ++ u32 range.limit))
+
+abbrev pub row_text : Row → List ℕ
+row_text row = text row.key ++ text row.value
+
+-- whether more were left, two bytes that count the rows, and the rows
+abbrev pub page_text : Rows → List ℕ
+page_text page = truth page.more ++ (u16 (length page.rows) ++ flat_map row_text page.rows)
+
+-- the refusals, numbered from 1
+abbrev pub code : Refusal → ℕ
+code refused.NotRunning = 1
+code refused.NotHead = 2
+code refused.TooOld = 3
+code refused.NotCommitted = 4
+code refused.NoSuchSnapshot = 5
+code refused.TooManySnapshots = 6
+code refused.Removed = 7
+code refused.Exhausted = 8
+
+-- ---- frames
+
+-- the kinds of frames, numbered from 1
+abbrev pub kind : Frame → ℕ
+kind (frame.Forward epoch from number batch) = 1
+kind (frame.Ack epoch from committed have) = 2
+kind (frame.Notice epoch config) = 3
+kind (frame.Submit request batch) = 4
+kind (frame.Get request at key) = 5
+kind (frame.Rows request at range) = 6
+kind (frame.Open request at) = 7
+kind (frame.Close request number) = 8
+kind (frame.Committed request number) = 9
+kind (frame.Value request number value) = 10
+kind (frame.RowsAre request number page) = 11
+kind (frame.Opened request number) = 12
+kind (frame.Refused request refusal) = 13
+kind (frame.Closed request number) = 14
+
+-- the fields of a frame, one behind the other
+abbrev pub fields : Frame → List ℕ
+fields (frame.Forward epoch from number batch) =
+    u32 epoch ++ (u16 from ++ (u64 number ++ batch_text batch))
+fields (frame.Ack epoch from committed have) =
+    u32 epoch ++ (u16 from ++ (u64 committed ++ u64 have))
+fields (frame.Notice epoch config) = u32 epoch ++ config_text config
+fields (frame.Submit request batch) = u64 request ++ batch_text batch
+fields (frame.Get request at key) = u64 request ++ (at_text at ++ text key)
+fields (frame.Rows request at range) = u64 request ++ (at_text at ++ range_text range)
+fields (frame.Open request at) = u64 request ++ at_text at
+fields (frame.Close request number) = u64 request ++ u64 number
+fields (frame.Committed request number) = u64 request ++ u64 number
+fields (frame.Value request number value) = u64 request ++ (u64 number ++ optional text value)
+fields (frame.RowsAre request number page) = u64 request ++ (u64 number ++ page_text page)
+fields (frame.Opened request number) = u64 request ++ u64 number
+fields (frame.Refused request refusal) = u64 request ++ u8 (code refusal)
+fields (frame.Closed request number) = u64 request ++ u64 number
+
+-- the kind in one byte, and the fields
+abbrev pub body : Frame → List ℕ
+body f = kind f ∷ fields f
+
+-- four bytes of length, and that many bytes
+abbrev pub spelling : Frame → List ℕ
+spelling f = u32 (length (body f)) ++ body f
+
+-- ---- ranges of the fields
+
+-- an epoch is the place of one of at most 16 configurations
+abbrev pub IsEpoch : ℕ → Type 0
+IsEpoch epoch = epoch ≤ 15
+
+abbrev pub IsNumber : ℕ → Type 0
+IsNumber n = n ≤ MAX_NUMBER
+
+-- batches are numbered from 1
+abbrev pub IsPlace : ℕ → Type 0
+IsPlace n = (1 ≤ n) × (n ≤ MAX_NUMBER)
+
+abbrev pub IsKey : List ℕ → Type 0
+IsKey key = length key ≤ MAX_KEY
+
+abbrev pub IsValue : List ℕ → Type 0
+IsValue value = length value ≤ MAX_VALUE
+
+pub record IsRange (range : Span) : Type 0 where
+  pub from : IsKey range.from
+  pub to : IfSome range.to IsKey
+  pub limit : (1 ≤ range.limit) × (range.limit ≤ MAX_ROWS)
+
+abbrev pub IsRow : Row → Type 0
+IsRow row = IsKey row.key × IsValue row.value
+
+-- a page has at most 1,024 rows and 98,304 bytes
+pub record IsSmall (page : Rows) : Type 0 where
+  pub each : All IsRow page.rows
+  pub limits : KeepsLimits MAX_ROWS MAX_PAGE page.rows
+
+-- each field is in its range
+abbrev pub IsFrame : Frame → Type 0
+IsFrame (frame.Forward epoch from number batch) =
+    IsEpoch epoch × IsId from × IsPlace number × IsBatch batch
+IsFrame (frame.Ack epoch from committed have) =
+    IsEpoch epoch × IsId from × IsNumber committed × IsNumber have
+IsFrame (frame.Notice epoch config) = IsEpoch epoch × IsConfig config
+IsFrame (frame.Submit request batch) = IsNumber request × IsBatch batch
+IsFrame (frame.Get request at key) = IsNumber request × IfSome at IsNumber × IsKey key
+IsFrame (frame.Rows request at range) = IsNumber request × IfSome at IsNumber × IsRange range
+IsFrame (frame.Open request at) = IsNumber request × IfSome at IsNumber
+IsFrame (frame.Close request number) = IsNumber request × IsNumber number
+IsFrame (frame.Committed request number) = IsNumber request × IsNumber number
+IsFrame (frame.Value request number value) =
+    IsNumber request × IsNumber number × IfSome value IsValue
+IsFrame (frame.RowsAre request number page) = IsNumber request × IsNumber number × IsSmall page
+IsFrame (frame.Opened request number) = IsNumber request × IsNumber number
+IsFrame (frame.Refused request refusal) = IsNumber request
+IsFrame (frame.Closed request number) = IsNumber request × IsNumber number
+
+-- what the types of the fields leave open
+abbrev pub HasBounds : Frame → Type 0
+HasBounds (frame.Forward epoch from number batch) = 1 ≤ number
+HasBounds (frame.RowsAre request number page) = KeepsLimits MAX_ROWS MAX_PAGE page.rows
+HasBounds _ = Unit {0}

@@ -1,0 +1,263 @@
+ghost use Rattle.std.specs.Prelude.{◌≡◌, ◌++◌, OnOk, IfSome, option_copied};
+ghost use Rattle.std.specs.Int.{w16};
+ghost use Rattle.chain_model.specs.Configuration.{IsId};
+ghost use Rattle.configurations.specs.Configs.{IsConfig};
+ghost use Rattle.kv_types.specs.declared.bounds.TheConstants.{MAX_KEY, MAX_VALUE};
+ghost use Rattle.kv_types.specs.Spelling.{text};
+ghost use Rattle.kv_types.specs.Reading.{text_at, batch_at};
+ghost use Rattle.link_messages.specs.Spelling.{u16, u32, u64, optional, at_text, config_text};
+ghost use Rattle.link_messages.specs.Spelling.{range_text, IsEpoch, IsNumber, IsKey, IsValue};
+ghost use Rattle.link_messages.specs.Spelling.{IsRange};
+ghost use Rattle.link_messages.specs.Reading.{GivesAt, items_of, as_fault, number_at, many};
+ghost use Rattle.link_messages.specs.Reading.{epoch_at, id_at, count_at, place_at};
+ghost use Rattle.link_messages.specs.Reading.{at_at, found_at, config_at, bound_at, range_at};
+
+use crate::FrameError;
+use crate::numbers::{
+    put_truth, put_u16, put_u32, put_u64, truth_of, u8_of, u16_of, u32_of, u64_of,
+};
+use configurations::{Config, ConfigError, Epoch, NodeId};
+use kv_types::{Batch, Key, KvError, Number, Range, Value};
+use std::alloc::{AllocError, Global};
+
+// ---- writing
+
+pub fn put_epoch(out: &mut Vec<u8>, epoch: Epoch) -> Result<(), AllocError>
+    ensures spelled { OnOk result (out.new.items ≡ out.old.items ++ u32 epoch) }
+    ensures is { IsEpoch epoch }
+{
+    put_u32(out, epoch.get())
+}
+
+pub fn put_id(out: &mut Vec<u8>, id: NodeId) -> Result<(), AllocError>
+    ensures spelled { OnOk result (out.new.items ≡ out.old.items ++ u16 id) }
+    ensures is { IsId id }
+{
+    put_u16(out, id.get())
+}
+
+pub fn put_number(out: &mut Vec<u8>, number: Number) -> Result<(), AllocError>
+    ensures spelled { OnOk result (out.new.items ≡ out.old.items ++ u64 number) }
+    ensures is { IsNumber number }
+{
+    put_u64(out, number.get())
+}
+
+pub fn put_at(out: &mut Vec<u8>, at: Option<Number>) -> Result<(), AllocError>
+    ensures spelled { OnOk result (out.new.items ≡ out.old.items ++ at_text at) }
+    ensures is { OnOk result (IfSome at IsNumber) }
+{
+    match at {
+        Some(number) => {
+            out.push(1)?;
+            put_number(out, number)
+        }
+        None => Ok(out.push(0)?),
+    }
+}
+
+pub fn put_found(out: &mut Vec<u8>, value: Option<&Value>) -> Result<(), AllocError>
+    ensures spelled { OnOk result (out.new.items
+        ≡ out.old.items ++ optional text (option_copied value.entry)) }
+    ensures is { OnOk result (IfSome (option_copied value.entry) IsValue) }
+{
+    match value {
+        Some(value) => {
+            out.push(1)?;
+            value.spell_into(out)
+        }
+        None => Ok(out.push(0)?),
+    }
+}
+
+fn put_bound(out: &mut Vec<u8>, to: Option<&Key>) -> Result<(), AllocError>
+    ensures spelled { OnOk result (out.new.items
+        ≡ out.old.items ++ optional text (option_copied to.entry)) }
+    ensures is { OnOk result (IfSome (option_copied to.entry) IsKey) }
+{
+    match to {
+        Some(key) => {
+            out.push(1)?;
+            key.spell_into(out)
+        }
+        None => Ok(out.push(0)?),
+    }
+}
+
+pub fn put_range(out: &mut Vec<u8>, range: &Range) -> Result<(), AllocError>
+    ensures spelled { OnOk result (out.new.items ≡ out.old.items ++ range_text range.now) }
+    ensures is { OnOk result (IsRange range.now) }
+{
+    range.from().spell_into(out)?;
+    put_bound(out, range.to())?;
+    put_truth(out, range.is_backward())?;
+    put_u32(out, range.limit())
+}
+
+pub fn put_config(out: &mut Vec<u8>, config: &Config) -> Result<(), AllocError>
+    ensures spelled { OnOk result (out.new.items ≡ out.old.items ++ config_text config.now) }
+    ensures is { IsConfig config.now }
+{
+    let ids = config.ids();
+    out.push(ids.len() as u8)?;
+    for id in ids {
+        put_u16(out, id.get())?;
+    }
+    Ok(())
+}
+
+// ---- reading: from the front of the bytes, which are left at what is behind it
+
+#[tactic(auto, unfolding(crate::specs::Reading::epoch_at))]
+pub fn epoch_of(bytes: &mut &[u8]) -> Result<Epoch, FrameError>
+    ensures { GivesAt result bytes.new.now (epoch_at bytes.old.now) }
+{
+    match Epoch::new(u32_of(bytes)?) {
+        Some(epoch) => Ok(epoch),
+        None => Err(FrameError::BadField),
+    }
+}
+
+#[tactic(auto, unfolding(crate::specs::Reading::id_at))]
+pub fn id_of(bytes: &mut &[u8]) -> Result<NodeId, FrameError>
+    ensures { GivesAt result bytes.new.now (id_at bytes.old.now) }
+{
+    match NodeId::new(u16_of(bytes)?) {
+        Some(id) => Ok(id),
+        None => Err(FrameError::BadField),
+    }
+}
+
+#[tactic(auto, unfolding(crate::specs::Reading::count_at))]
+pub fn number_of(bytes: &mut &[u8]) -> Result<Number, FrameError>
+    ensures { GivesAt result bytes.new.now (count_at bytes.old.now) }
+{
+    match Number::new(u64_of(bytes)?) {
+        Some(number) => Ok(number),
+        None => Err(FrameError::BadField),
+    }
+}
+
+#[tactic(auto, unfolding(crate::specs::Reading::place_at))]
+pub fn place_of(bytes: &mut &[u8]) -> Result<Number, FrameError>
+    ensures { GivesAt result bytes.new.now (place_at bytes.old.now) }
+{
+    let number = number_of(bytes)?;
+    if number.get() < 1 {
+        return Err(FrameError::BadField);
+    }
+    Ok(number)
+}
+
+#[tactic(auto, unfolding(crate::specs::Reading::at_at))]
+pub fn at_of(bytes: &mut &[u8]) -> Result<Option<Number>, FrameError>
+    ensures { GivesAt result bytes.new.now (at_at bytes.old.now) }
+{
+    if !truth_of(bytes)? {
+        return Ok(None);
+    }
+    Ok(Some(number_of(bytes)?))
+}
+
+pub fn key_of(alloc: Global, bytes: &mut &[u8]) -> Result<Key, FrameError>
+    ensures { GivesAt result bytes.new.now (text_at MAX_KEY bytes.old.now) }
+{
+    match Key::read_from(alloc, bytes) {
+        Ok((read, rest)) => {
+            *bytes = rest;
+            Ok(read)
+        }
+        Err(KvError::BadBytes) => Err(FrameError::BadField),
+        Err(_) => Err(FrameError::Memory),
+    }
+}
+
+pub fn value_of(alloc: Global, bytes: &mut &[u8]) -> Result<Value, FrameError>
+    ensures { GivesAt result bytes.new.now (text_at MAX_VALUE bytes.old.now) }
+{
+    match Value::read_from(alloc, bytes) {
+        Ok((read, rest)) => {
+            *bytes = rest;
+            Ok(read)
+        }
+        Err(KvError::BadBytes) => Err(FrameError::BadField),
+        Err(_) => Err(FrameError::Memory),
+    }
+}
+
+pub fn batch_of(alloc: Global, bytes: &mut &[u8]) -> Result<Batch, FrameError>
+    ensures { GivesAt result bytes.new.now (batch_at bytes.old.now) }
+{
+    match Batch::read_from(alloc, bytes) {
+        Ok((read, rest)) => {
+            *bytes = rest;
+            Ok(read)
+        }
+        Err(KvError::BadBytes) => Err(FrameError::BadField),
+        Err(_) => Err(FrameError::Memory),
+    }
+}
+
+#[tactic(auto, unfolding(crate::specs::Reading::found_at))]
+pub fn found_of(alloc: Global, bytes: &mut &[u8]) -> Result<Option<Value>, FrameError>
+    ensures { GivesAt result bytes.new.now (found_at bytes.old.now) }
+{
+    if !truth_of(bytes)? {
+        return Ok(None);
+    }
+    Ok(Some(value_of(alloc, bytes)?))
+}
+
+#[tactic(auto, unfolding(crate::specs::Reading::bound_at))]
+fn bound_of(alloc: Global, bytes: &mut &[u8]) -> Result<Option<Key>, FrameError>
+    ensures { GivesAt result bytes.new.now (bound_at bytes.old.now) }
+{
+    if !truth_of(bytes)? {
+        return Ok(None);
+    }
+    Ok(Some(key_of(alloc, bytes)?))
+}
+
+#[tactic(auto, unfolding(crate::specs::Reading::range_at, crate::specs::Reading::limit_at))]
+pub fn range_of(alloc: Global, bytes: &mut &[u8]) -> Result<Range, FrameError>
+    ensures { GivesAt result bytes.new.now (range_at bytes.old.now) }
+{
+    let from = key_of(alloc, bytes)?;
+    let to = bound_of(alloc, bytes)?;
+    let backward = truth_of(bytes)?;
+    let limit = u32_of(bytes)?;
+    match Range::new(from, to, backward, limit) {
+        Ok(range) => Ok(range),
+        Err(_) => Err(FrameError::BadField),
+    }
+}
+
+fn ids_of(alloc: Global, count: u8, bytes: &mut &[u8]) -> Result<Vec<u16>, FrameError>
+    ensures { GivesAt (items_of result) bytes.new.now (many (number_at w16) count bytes.old.now) }
+{
+    let mut ids = Vec::new(alloc);
+    for _ in 0..count {
+        ids.push(u16_of(bytes)?)?;
+    }
+    Ok(ids)
+}
+
+fn fault_of(e: ConfigError) -> FrameError
+    ensures { result ≡ as_fault e }
+{
+    match e {
+        ConfigError::Memory => FrameError::Memory,
+        _ => FrameError::BadField,
+    }
+}
+
+#[tactic(auto, unfolding(crate::specs::Reading::config_at))]
+pub fn config_of(alloc: Global, bytes: &mut &[u8]) -> Result<Config, FrameError>
+    ensures { GivesAt result bytes.new.now (config_at bytes.old.now) }
+{
+    let count = u8_of(bytes)?;
+    match Config::new(alloc, ids_of(alloc, count, bytes)?) {
+        Ok(config) => Ok(config),
+        Err(e) => Err(fault_of(e)),
+    }
+}

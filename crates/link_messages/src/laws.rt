@@ -1,0 +1,27 @@
+//! What holds of the words of contracts. The functions do nothing: their clauses are the laws.
+ghost use Rattle.link_messages.specs.Stream.{OneSpelling, OneAnswer, FaultsStay, OneSplit};
+ghost use Rattle.link_messages.specs.Stream.{FramesFit};
+ghost use Rattle.link_messages.specs.Examples.{Examples};
+
+/// No spelling begins another, no two frames have one spelling, and each keeps the limit.
+pub fn one_spelling()
+    ensures one { OneSpelling }
+    ensures fit { FramesFit }
+{}
+
+/// The contract of `FrameReader::next` leaves no choice, but that memory may run out; and a fault
+/// stays, fed or not.
+pub fn one_answer()
+    ensures one { OneAnswer }
+    ensures stays { FaultsStay }
+{}
+
+/// A stream is one list of frames and one rest, however it was cut into pieces.
+pub fn one_split()
+    ensures { OneSplit }
+{}
+
+/// Small frames, spelled out.
+pub fn examples()
+    ensures { Examples }
+{}
