@@ -1,5 +1,7 @@
 -- What is decided of an input, and what is done: the rules of the chain's model by name.
-use Rattle.std.specs.Prelude.{◌≡◌, ◌≤◌, ℕ, suc, List, [], ◌∷◌, length, map, Option, Some, None}
+use Rattle.std.specs.Prelude.{◌≡◌, ◌≤◌, ◌<◌, ℕ, suc, List, [], ◌∷◌, length}
+use Rattle.std.specs.List.{flat_map}
+use Rattle.kv_types.specs.declared.bounds.TheConstants.{MAX_NUMBER}
 use Rattle.kv_types.specs.declared.edit.Edit.{Edit}
 use Rattle.chain_model.specs.Refusal as model_refusal
 use Rattle.chain_model.specs.DropReason as model_reason
@@ -20,7 +22,9 @@ use Rattle.chain_core.specs.declared.decision.Decision.{Decision}
 use Rattle.chain_core.specs.declared.decision.Decision.TheVariants as decision
 use Rattle.chain_core.specs.declared.done.Done.{Done}
 use Rattle.chain_core.specs.declared.done.Done.TheVariants as done
-use Rattle.chain_core.specs.States.{Machine}
+use Rattle.chain_core.specs.declared.sending.Sent.{Sent}
+use Rattle.chain_core.specs.declared.waiting.Waiting.{Waiting}
+use Rattle.chain_core.specs.States.{Machine, Core, Is, replies_of}
 
 -- what the machine of node x answers to an input
 abbrev pub answer_to : ℕ → Machine → Input → Answer (List Edit)
@@ -85,10 +89,31 @@ done_of x n batch (done.Accepted request) = accept x n request batch
 done_of x n batch done.Appended = append x n (suc (length n.list)) batch
 done_of x n batch (done.Told committed have) = pass_on x n committed have
 
--- a frame that is sent to a node, as the model has it
-abbrev pub sent_as : ℕ → Frame → Option (model_frame.Frame (List Edit))
-sent_as to (frame.Forward epoch from number batch) =
-    Some (model_frame.Forward to epoch from number batch)
-sent_as to (frame.Ack epoch from committed have) =
-    Some (model_frame.Ack to epoch from committed have)
-sent_as to _ = None
+-- a number is left for a batch that is taken
+abbrev pub HasRoomFor : ℕ → Decision → Type 0
+HasRoomFor count (decision.Accept request batch) = count < MAX_NUMBER
+HasRoomFor count (decision.Append batch) = count < MAX_NUMBER
+HasRoomFor count _ = Unit {0}
+
+-- .. or that was taken
+abbrev pub HasRoom : ℕ → Done → Type 0
+HasRoom count (done.Accepted request) = count < MAX_NUMBER
+HasRoom count done.Appended = count < MAX_NUMBER
+HasRoom count (done.Told committed have) = Unit {0}
+
+-- what a node knows is what the machine of an answer has, and these requests have its replies
+pub record Follows (new : Core) (answer : Answer (List Edit)) (due : List Waiting) : Type 0 where
+  pub is : Is new answer.node
+  pub replied : answer.replies ≡ replies_of due
+
+-- a frame to a node, as the model has it
+abbrev pub frame_as : ℕ → Frame → List (model_frame.Frame (List Edit))
+frame_as to (frame.Forward epoch from number batch) =
+    model_frame.Forward to epoch from number batch ∷ []
+frame_as to (frame.Ack epoch from committed have) =
+    model_frame.Ack to epoch from committed have ∷ []
+frame_as to _ = []
+
+-- frames as the model has them
+abbrev pub frames_of : List Sent → List (model_frame.Frame (List Edit))
+frames_of sent = flat_map (λ it. frame_as it.to it.frame) sent

@@ -5,14 +5,9 @@ use kv_types::Number;
 #[derive(Clone, Copy, Debug)]
 pub enum Done {
     /// A batch of this request was appended.
-    Accepted {
-        request: Number,
-    },
+    Accepted { request: Number },
     /// The predecessor's batch was appended.
     Appended,
     /// The successor told this.
-    Told {
-        committed: Number,
-        have: Number,
-    },
+    Told { committed: Number, have: Number },
 }
