@@ -1,2 +1,4 @@
 pub mod Ends
 pub mod Resends
+pub mod Queues
+pub mod After

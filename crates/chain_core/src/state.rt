@@ -1,9 +1,16 @@
-ghost use Rattle.std.specs.Prelude.{◌≡◌, not};
+ghost use Rattle.std.specs.Prelude.{◌≡◌, ◌<◌, suc, List, length, max, not};
+ghost use Rattle.std.specs.Prelude.{if◌then◌else◌};
+ghost use Rattle.std.specs.Prelude.{IfOk, OnErr};
+ghost use Rattle.kv_types.specs.declared.bounds.TheConstants.{MAX_NUMBER};
+ghost use Rattle.kv_types.specs.declared.edit.Edit.{Edit};
 ghost use Rattle.chain_model.specs.Configuration.{has, is_head, is_tail, predecessor, successor};
 ghost use Rattle.chain_model.specs.Node.{created, started};
+ghost use Rattle.chain_model.specs.Rules.{accept, append, pass_on};
 ghost use Rattle.chain_core.specs.States.{Machine, Is, IsAtRest};
+ghost use Rattle.chain_core.specs.Decisions.{Follows, HasRoom, done_of};
 
-use crate::Waiting;
+use crate::queue::{count_due, move_due};
+use crate::{CoreError, Done, Waiting};
 use configurations::{Config, Epoch, NodeId};
 use kv_types::Number;
 use std::alloc::Global;
@@ -67,6 +74,12 @@ fn is_tail(config: &Config, id: NodeId) -> bool
     ensures { result ≡ is_tail config.now id }
 {
     config.tail() == id
+}
+
+fn greater(a: Number, b: Number) -> Number
+    ensures { result ≡ max a b }
+{
+    if a < b { b } else { a }
 }
 
 impl CoreState {
@@ -180,6 +193,18 @@ impl CoreState {
         self.config.after(self.id)
     }
 
+    // What is committed once it has so many batches: at a tail, all.
+    fn committed_with(&self, number: Number) -> Number
+        ensures { result ≡ (if is_tail self.now.ids self.now.id then number
+            else self.now.committed) }
+    {
+        if is_tail(&self.config, self.id) {
+            number
+        } else {
+            self.committed
+        }
+    }
+
     // Whether its configuration does not have it.
     pub(crate) fn is_removed(&self) -> bool
         ensures { result ≡ not (has self.now.ids self.now.id) }
@@ -191,5 +216,77 @@ impl CoreState {
         ensures { result ≡ is_head self.now.ids self.now.id }
     {
         is_head(&self.config, self.id)
+    }
+
+    // The head has one more batch, for which a request waits. A tail commits it.
+    fn accept(&mut self, alloc: Global, request: Number) -> Result<Vec<Waiting>, CoreError>
+        requires { self.old.count < MAX_NUMBER }
+        ensures after { (n : Machine) (batch : List Edit) → Is self.old n →
+            IfOk result (λ due.
+            Follows self.new (accept self.old.id n request batch) due.items) }
+        ensures same { self.new.id ≡ self.old.id }
+        ensures memory { OnErr result (self.new ≡ self.old) }
+    {
+        let number = self.count.next().unwrap();
+        let committed = self.committed_with(number);
+        let mut due = Vec::new(alloc);
+        due.reserve(count_due(&self.pending, committed) + 1)?;
+        self.pending.push_back(Waiting { number, request })?;
+        self.count = number;
+        self.committed = committed;
+        move_due(&mut self.pending, &mut due, committed);
+        Ok(due)
+    }
+
+    // The node has one more batch of its predecessor. A tail commits it.
+    fn append(&mut self)
+        requires { self.old.count < MAX_NUMBER }
+        ensures after { (n : Machine) (batch : List Edit) → Is self.old n →
+            Is self.new (append self.old.id n (suc (length n.list)) batch).node }
+        ensures same { self.new.id ≡ self.old.id }
+    {
+        let number = self.count.next().unwrap();
+        self.committed = self.committed_with(number);
+        self.count = number;
+    }
+
+    // What the successor told is taken.
+    fn pass_on(
+        &mut self,
+        alloc: Global,
+        committed: Number,
+        have: Number,
+    ) -> Result<Vec<Waiting>, CoreError>
+        ensures after { (n : Machine) → Is self.old n → IfOk result (λ due.
+            Follows self.new (pass_on self.old.id n committed have) due.items) }
+        ensures same { self.new.id ≡ self.old.id }
+        ensures memory { OnErr result (self.new ≡ self.old) }
+    {
+        let committed = greater(self.committed, committed);
+        let mut due = Vec::new(alloc);
+        due.reserve(count_due(&self.pending, committed))?;
+        self.committed = committed;
+        self.successor_has = greater(self.successor_has, have);
+        move_due(&mut self.pending, &mut due, committed);
+        Ok(due)
+    }
+
+    /// What a node knows after the store's part is done, and the requests whose batches are now
+    /// committed, in order of number.
+    pub fn after(&mut self, alloc: Global, done: Done) -> Result<Vec<Waiting>, CoreError>
+        requires { HasRoom self.old.count done }
+        ensures after { (n : Machine) (batch : List Edit) → Is self.old n →
+            IfOk result (λ due. Follows self.new (done_of self.old.id n batch done) due.items) }
+        ensures same { self.new.id ≡ self.old.id }
+        ensures memory { OnErr result (self.new ≡ self.old) }
+    {
+        match done {
+            Done::Accepted { request } => self.accept(alloc, request),
+            Done::Appended => {
+                self.append();
+                Ok(Vec::new(alloc))
+            }
+            Done::Told { committed, have } => self.pass_on(alloc, committed, have),
+        }
     }
 }
