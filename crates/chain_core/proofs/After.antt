@@ -14,7 +14,7 @@ use Rattle.chain_core.specs.Decisions.{Follows}
 use Rattle.chain_core.proofs.Queues.{due_front, not_due_behind, waiting_push, push_in_order}
 
 -- a tail commits its whole list, another node what it had committed
-committed_by : (b : Bool) (n : Machine) →
+pub committed_by : (b : Bool) (n : Machine) →
     (if b then record n { committed = length n.list } else n)
     ≡ record n { committed = if b then length n.list else n.committed }
 committed_by true n = refl

@@ -2,3 +2,4 @@ pub mod Ends
 pub mod Resends
 pub mod Queues
 pub mod After
+pub mod Steps

@@ -7,6 +7,7 @@ mod done;
 mod drop_reason;
 mod error;
 mod input;
+pub mod laws;
 mod queue;
 mod sending;
 mod state;

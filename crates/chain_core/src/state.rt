@@ -218,6 +218,13 @@ impl CoreState {
         is_head(&self.config, self.id)
     }
 
+    /// Whether it is the last node of its configuration.
+    pub fn is_tail(&self) -> bool
+        ensures { result ≡ is_tail self.now.ids self.now.id }
+    {
+        is_tail(&self.config, self.id)
+    }
+
     // The head has one more batch, for which a request waits. A tail commits it.
     fn accept(&mut self, alloc: Global, request: Number) -> Result<Vec<Waiting>, CoreError>
         requires { self.old.count < MAX_NUMBER }
