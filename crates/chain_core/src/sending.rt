@@ -1,4 +1,5 @@
-ghost use Rattle.std.specs.Prelude.{◌≡◌, ◌<◌, ◌≤◌, ◌+◌, ◌-◌, Some, option_to_list};
+ghost use Rattle.std.specs.Prelude.{◌≡◌, ◌<◌, ◌≤◌, ◌+◌, ◌-◌, Some, IsSome};
+ghost use Rattle.std.specs.Prelude.{option_to_list};
 ghost use Rattle.chain_model.specs.Configuration.{successor};
 ghost use Rattle.chain_model.specs.Lists.{place};
 ghost use Rattle.chain_model.specs.Rules.{ack, forward, forwards};
@@ -57,6 +58,8 @@ impl CoreState {
         ensures from { result.start ≡ self.now.successor_has + 1 }
         ensures limit { result.end ≤ result.start + 16 }
         ensures there { result.start < result.end → result.end ≤ self.now.count + 1 }
+        ensures to { result.start < result.end →
+            IsSome (successor self.now.ids self.now.id) }
         ensures all { (n : Machine) → Is self.now n →
             forwards self.now.id n n.successor_has 16
             ≡ forwards self.now.id n n.successor_has (result.end - result.start) }
