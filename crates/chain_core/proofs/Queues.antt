@@ -30,7 +30,8 @@ pub due_front : (a m k : ℕ) (ps : List Waiting) → IsInOrder a m ps →
 due_front a m k [] o = refl
 due_front a m k (p ∷ ps) o = go (nat_le p.number k) refl (due_front p.number m k ps o.2)
   where
-    go : (b : Bool) → nat_le p.number k ≡ b → due {A = List Edit} k (waiting ps) ≡ replies_of (front k ps) →
+    go : (b : Bool) → nat_le p.number k ≡ b →
+        due {A = List Edit} k (waiting ps) ≡ replies_of (front k ps) →
         due {A = List Edit} k (waiting (p ∷ ps)) ≡ replies_of (front k (p ∷ ps))
     go true e rest = rw (e, rest) refl
     go false e rest =
@@ -55,7 +56,8 @@ pub behind_in_order : (a m k : ℕ) (ps : List Waiting) → IsInOrder a m ps →
 behind_in_order a m k [] o = tt
 behind_in_order a m k (p ∷ ps) o = go (nat_le p.number k) refl (behind_in_order p.number m k ps o.2)
   where
-    go : (b : Bool) → nat_le p.number k ≡ b → IsInOrder p.number m (behind k ps) → IsInOrder a m (behind k (p ∷ ps))
+    go : (b : Bool) → nat_le p.number k ≡ b → IsInOrder p.number m (behind k ps) →
+        IsInOrder a m (behind k (p ∷ ps))
     go true e rest =
         rw e (lower a p.number m (behind k ps) (omega (arith, o.0))
         rest)
@@ -85,7 +87,8 @@ pub front_few : (a m k : ℕ) (ps : List Waiting) → IsInOrder a m ps → a ≤
 front_few a m k [] o le = omega (arith, le)
 front_few a m k (p ∷ ps) o le = go (nat_le p.number k) refl (front_few p.number m k ps o.2 o.1)
   where
-    go : (b : Bool) → nat_le p.number k ≡ b → p.number + length (front k ps) ≤ m → a + length (front k (p ∷ ps)) ≤ m
+    go : (b : Bool) → nat_le p.number k ≡ b → p.number + length (front k ps) ≤ m →
+        a + length (front k (p ∷ ps)) ≤ m
     go true e rest = rw e (omega (arith, o.0, rest))
     go false e rest = rw e (omega (arith, le))
 
@@ -98,7 +101,8 @@ front_push k [] w = go (nat_le w.number k) refl
     go false e = rw e (omega arith)
 front_push k (p ∷ ps) w = go (nat_le p.number k) refl (front_push k ps w)
   where
-    go : (b : Bool) → nat_le p.number k ≡ b → length (front k (ps ++ w ∷ [])) ≤ length (front k ps) + 1 →
+    go : (b : Bool) → nat_le p.number k ≡ b →
+        length (front k (ps ++ w ∷ [])) ≤ length (front k ps) + 1 →
         length (front k (p ∷ ps ++ w ∷ [])) ≤ length (front k (p ∷ ps)) + 1
     go true e rest = rw e (omega (arith, rest))
     go false e rest = rw e (omega arith)

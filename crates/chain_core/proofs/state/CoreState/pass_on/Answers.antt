@@ -11,8 +11,9 @@ use Rattle.chain_core.proofs.state.CoreState.pass_on.Goals as goal
 pub invariant_of-self : goal.invariant_of-self
 invariant_of-self c =
     let inside = c.self.inside in
+    let committed = c.greater-committed.result in
     rw c.move_due.ensures.pending
-    (behind_in_order 0 inside.count c.greater-committed.result inside.pending.items c.self.invariant)
+    (behind_in_order 0 inside.count committed inside.pending.items c.self.invariant)
 
 pub returns-clause-after : goal.returns-clause-after
 returns-clause-after c = λ n is.
