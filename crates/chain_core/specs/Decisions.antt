@@ -1,6 +1,6 @@
 -- What is decided of an input, and what is done: the rules of the chain's model by name.
-use Rattle.std.specs.Prelude.{◌≡◌, ◌≤◌, ◌<◌, ℕ, suc, List, [], ◌∷◌, length}
-use Rattle.std.specs.List.{flat_map}
+use Rattle.std.specs.Prelude.{◌≡◌, ◌≤◌, ◌<◌, ℕ, suc, List, [], ◌∷◌, length, map, Option}
+use Rattle.std.specs.Prelude.{Some, None}
 use Rattle.kv_types.specs.declared.bounds.TheConstants.{MAX_NUMBER}
 use Rattle.kv_types.specs.declared.edit.Edit.{Edit}
 use Rattle.chain_model.specs.Refusal as model_refusal
@@ -106,14 +106,14 @@ pub record Follows (new : Core) (answer : Answer (List Edit)) (due : List Waitin
   pub is : Is new answer.node
   pub replied : answer.replies ≡ replies_of due
 
--- a frame to a node, as the model has it
-abbrev pub frame_as : ℕ → Frame → List (model_frame.Frame (List Edit))
+-- a frame to a node, as the model has it, where it is one between nodes
+abbrev pub frame_as : ℕ → Frame → Option (model_frame.Frame (List Edit))
 frame_as to (frame.Forward epoch from number batch) =
-    model_frame.Forward to epoch from number batch ∷ []
+    Some (model_frame.Forward to epoch from number batch)
 frame_as to (frame.Ack epoch from committed have) =
-    model_frame.Ack to epoch from committed have ∷ []
-frame_as to _ = []
+    Some (model_frame.Ack to epoch from committed have)
+frame_as to _ = None
 
--- frames as the model has them
-abbrev pub frames_of : List Sent → List (model_frame.Frame (List Edit))
-frames_of sent = flat_map (λ it. frame_as it.to it.frame) sent
+-- what is sent is these frames of the model, one by one
+abbrev pub AreFrames : List Sent → List (model_frame.Frame (List Edit)) → Type 0
+AreFrames sent frames = map (λ it. frame_as it.to it.frame) sent ≡ map Some frames

@@ -4,7 +4,7 @@ ghost use Rattle.chain_model.specs.Configuration.{successor};
 ghost use Rattle.chain_model.specs.Lists.{place};
 ghost use Rattle.chain_model.specs.Rules.{ack, forward, forwards};
 ghost use Rattle.chain_core.specs.States.{Machine, Is};
-ghost use Rattle.chain_core.specs.Decisions.{frames_of};
+ghost use Rattle.chain_core.specs.Decisions.{AreFrames};
 
 use crate::CoreState;
 use configurations::NodeId;
@@ -26,7 +26,7 @@ impl CoreState {
     /// What is committed and what it has, for its predecessor.
     pub fn ack(&self) -> Option<Sent>
         ensures { (n : Machine) → Is self.now n →
-            frames_of (option_to_list result) ≡ ack self.now.id n }
+            AreFrames (option_to_list result) (ack self.now.id n) }
     {
         let to = self.predecessor()?;
         let frame = Frame::Ack {
@@ -41,7 +41,7 @@ impl CoreState {
     /// A batch that it has, for its successor.
     pub fn forward(&self, number: Number, batch: Batch) -> Option<Sent>
         ensures { (n : Machine) → Is self.now n → place n.list number ≡ Some batch →
-            frames_of (option_to_list result) ≡ forward self.now.id n number }
+            AreFrames (option_to_list result) (forward self.now.id n number) }
     {
         let to = self.successor()?;
         let frame = Frame::Forward {
