@@ -1,0 +1,130 @@
+-- What a node knows after a step, and the machine after it.
+use Rattle.std.proofs.Common.{◌≡◌, ℕ, suc, ◌+◌, List, [], ◌∷◌, ◌++◌, length, Bool, true, max}
+use Rattle.std.proofs.Common.{false, refl, sym, ap, subst, ◌∙◌, length-append, arith}
+use Rattle.std.specs.Prelude.{if◌then◌else◌, Option, Some, SomeIff}
+use Rattle.kv_types.specs.declared.edit.Edit.{Edit}
+use Rattle.chain_model.specs.Configuration.{is_tail}
+use Rattle.chain_model.specs.Node.{due, not_due}
+use Rattle.chain_model.specs.Rules.{accept, append, pass_on, longer_for}
+use Rattle.chain_model.specs.Rules.{acknowledge, forward}
+use Rattle.chain_core.specs.declared.waiting.Waiting.{Waiting}
+use Rattle.chain_core.specs.States.{Machine, Core, Is, IsInOrder, waiting, replies_of}
+use Rattle.chain_core.specs.Queues.{front, behind}
+use Rattle.chain_core.specs.Decisions.{Follows}
+use Rattle.chain_core.proofs.Queues.{due_front, not_due_behind, waiting_push, push_in_order}
+
+-- a tail commits its whole list, another node what it had committed
+pub committed_by : (b : Bool) (n : Machine) →
+    (if b then record n { committed = length n.list } else n)
+    ≡ record n { committed = if b then length n.list else n.committed }
+committed_by true n = refl
+committed_by false n = refl
+
+longer : (n : Machine) (batch : List Edit) (count number : ℕ) → length n.list ≡ count →
+    number ≡ suc count → length (n.list ++ batch ∷ []) ≡ number
+longer n batch count number e next = omega (arith, length-append n.list (batch ∷ []), e, next)
+
+-- the next number, as it was found
+pub next_of : (o : Option ℕ) (P : Type 0) (old count number : ℕ) → SomeIff o P (old + 1) →
+    o ≡ Some number → old ≡ count → number ≡ suc count
+next_of o P old count number found some same =
+    let at : P × (number ≡ old + 1) = subst (λ (q : Option ℕ). SomeIff q P (old + 1)) some found in
+    omega (arith, at.1, same)
+
+module _ (core : Core) (n : Machine) (is : Is core n) where
+  -- after a batch of the head
+  module _ (i : ℕ) (batch : List Edit) (number c : ℕ) (next : number ≡ suc core.count)
+      (ordered : IsInOrder 0 core.count core.pending)
+      (commits : c ≡ (if is_tail core.ids core.id then number else core.committed)) where
+    abbrev pub all : List Waiting
+    all = core.pending ++ record { number = number; request = i } ∷ []
+
+    pub follows_accept : (pending due : List Waiting) → pending ≡ behind c all → due ≡ front c all →
+        Follows (record core { count = number; committed = c; pending = pending })
+        (accept core.id n i batch) due
+    follows_accept pending answered left out =
+        let asked : Waiting = record { number = number; request = i } in
+        let new : Core = record core { count = number; committed = c; pending = pending } in
+        let c' = if is_tail n.ids core.id then length (n.list ++ batch ∷ []) else n.committed in
+        let m : Machine = record (longer_for n i batch) { committed = c' } in
+        let long = longer n batch core.count number is.count next in
+        let same : c' ≡ c = rw (is.ids, long, is.committed) (sym commits) in
+        let rises = push_in_order 0 core.count core.pending asked ordered (omega arith) next in
+        let waits : m.pending ≡ waiting all =
+        rw (is.pending, is.count, ← next) (sym (waiting_push core.pending asked)) in
+        let base : Follows new (acknowledge m (forward core.id m (suc (length n.list)))) answered =
+        record {
+          is = record {
+            epoch = is.epoch;
+            ids = is.ids;
+            count = long;
+            committed = same;
+            floor = is.floor;
+            kept = is.kept;
+            successor_has = is.successor_has;
+            snapshots = is.snapshots;
+            pending = ap (λ (k : ℕ). not_due k m.pending) same ∙ (ap (not_due c) waits
+                ∙ (not_due_behind 0 number c all rises ∙ ap waiting (sym left)));
+            running = is.running;
+          };
+          replied = ap (λ (k : ℕ). due {A = List Edit} k m.pending) same
+              ∙ (ap (due {A = List Edit} c) waits
+              ∙ (due_front 0 number c all rises ∙ ap replies_of (sym out)));
+        } in
+        subst (λ (k : Machine). Follows new
+        (acknowledge k (forward core.id k (suc (length n.list)))) answered)
+        (sym (committed_by (is_tail n.ids core.id) (longer_for n i batch))) base
+
+  -- after a batch of the predecessor
+  pub follows_append : (batch : List Edit) (number c : ℕ) → number ≡ suc core.count →
+      c ≡ (if is_tail core.ids core.id then number else core.committed) →
+      Is (record core { count = number; committed = c })
+      (append core.id n (suc (length n.list)) batch).node
+  follows_append batch number c next commits =
+      let c' = if is_tail n.ids core.id then length (n.list ++ batch ∷ []) else n.committed in
+      let m : Machine = record n { list = n.list ++ batch ∷ []; committed = c' } in
+      let long = longer n batch core.count number is.count next in
+      let same : c' ≡ c = rw (is.ids, long, is.committed) (sym commits) in
+      let base : Is (record core { count = number; committed = c }) m = record {
+        epoch = is.epoch;
+        ids = is.ids;
+        count = long;
+        committed = same;
+        floor = is.floor;
+        kept = is.kept;
+        successor_has = is.successor_has;
+        snapshots = is.snapshots;
+        pending = is.pending;
+        running = is.running;
+      } in
+      subst (λ (k : Machine). Is (record core { count = number; committed = c }) k)
+      (sym (committed_by (is_tail n.ids core.id) (record n { list = n.list ++ batch ∷ [] }))) base
+
+  -- after what the successor told
+  pub follows_told : (committed have c has : ℕ) (pending due : List Waiting) →
+      c ≡ max core.committed committed → has ≡ max core.successor_has have →
+      IsInOrder 0 core.count core.pending →
+      pending ≡ behind c core.pending → due ≡ front c core.pending →
+      Follows (record core { committed = c; successor_has = has; pending = pending })
+      (pass_on core.id n committed have) due
+  follows_told committed have c has pending answered greater more ordered left out =
+      let same : max n.committed committed ≡ c =
+      ap (λ (k : ℕ). max k committed) is.committed ∙ sym greater in
+      record {
+        is = record {
+          epoch = is.epoch;
+          ids = is.ids;
+          count = is.count;
+          committed = same;
+          floor = is.floor;
+          kept = is.kept;
+          successor_has = ap (λ (k : ℕ). max k have) is.successor_has ∙ sym more;
+          snapshots = is.snapshots;
+          pending = ap (λ (k : ℕ). not_due k n.pending) same ∙ (ap (not_due c) is.pending
+              ∙ (not_due_behind 0 core.count c core.pending ordered ∙ ap waiting (sym left)));
+          running = is.running;
+        };
+        replied = ap (λ (k : ℕ). due {A = List Edit} k n.pending) same
+            ∙ (ap (due {A = List Edit} c) is.pending
+            ∙ (due_front 0 core.count c core.pending ordered ∙ ap replies_of (sym out)));
+      }

@@ -1,0 +1,5 @@
+pub mod Ends
+pub mod Resends
+pub mod Queues
+pub mod After
+pub mod Steps

@@ -1,0 +1,108 @@
+-- What a step leaves and sends.
+use Rattle.std.proofs.Common.{◌≡◌, ℕ, zero, suc, ◌+◌, List, [], ◌∷◌, ◌++◌, length, Option}
+use Rattle.std.proofs.Common.{Some, None, refl, sym, ap, subst, ◌∙◌, append_assoc, append-nil}
+use Rattle.std.proofs.Common.{arith}
+use Rattle.std.specs.Prelude.{if◌then◌else◌, nat_lt}
+use Rattle.kv_types.specs.declared.edit.Edit.{Edit}
+use Rattle.chain_model.specs.Configuration.{is_tail, predecessor, successor}
+use Rattle.chain_model.specs.Frames.{Frame}
+use Rattle.chain_model.specs.Lists.{place}
+use Rattle.chain_model.specs.Node.{Answer, not_due}
+use Rattle.chain_model.specs.Rules.{ack, ack_to, acknowledge, forward, forward_to, forwards}
+use Rattle.chain_model.specs.Rules.{longer_for, told}
+use Rattle.chain_core.specs.declared.done.Done.TheVariants as done
+use Rattle.chain_core.specs.States.{Machine}
+use Rattle.chain_core.specs.Steps.{Leaves, StepsLeave, StandsLast, OneByOne}
+use Rattle.chain_core.proofs.After.{committed_by}
+
+-- who waits is not told
+same_forward : (s : Option ℕ) (x k : ℕ) (b : Option (List Edit)) (n : Machine) (ps : List (ℕ × ℕ)) →
+    forward_to s x n k b ≡ forward_to s x (record n { pending = ps }) k b
+same_forward None x k b n ps = refl
+same_forward (Some s) x k None n ps = refl
+same_forward (Some s) x k (Some b) n ps = refl
+
+same_ack : (p : Option ℕ) (x : ℕ) (n : Machine) (ps : List (ℕ × ℕ)) →
+    ack_to p x n ≡ ack_to p x (record n { pending = ps })
+same_ack None x n ps = refl
+same_ack (Some p) x n ps = refl
+
+module _ (x : ℕ) (n : Machine) (batch : List Edit) where
+  abbrev long : List (List Edit)
+  long = n.list ++ batch ∷ []
+
+  abbrev next : ℕ
+  next = suc (length n.list)
+
+  abbrev c : ℕ
+  c = if is_tail n.ids x then length long else n.committed
+
+  accepted : (i : ℕ) → Leaves x n batch (done.Accepted i)
+      (acknowledge (record (longer_for n i batch) { committed = c })
+      (forward x (record (longer_for n i batch) { committed = c }) next))
+  accepted i =
+      let m : Machine = record (longer_for n i batch) { committed = c } in record {
+        list = refl;
+        epoch = refl;
+        ids = refl;
+        floor = refl;
+        kept = refl;
+        frames = same_forward (successor n.ids x) x next (place long next) m
+            (not_due m.committed m.pending);
+        dropped = refl;
+      }
+
+pub steps_leave : StepsLeave
+steps_leave x n batch (done.Accepted i) =
+    subst (λ (m : Machine). Leaves x n batch (done.Accepted i)
+    (acknowledge m (forward x m (suc (length n.list)))))
+    (sym (committed_by (is_tail n.ids x) (longer_for n i batch))) (accepted x n batch i)
+steps_leave x n batch done.Appended =
+    let answer : Machine → Answer (List Edit) = λ m. record {
+      node = m;
+      frames = forward x m (suc (length n.list)) ++ (if is_tail m.ids x then ack x m else []);
+      replies = [];
+      dropped = None;
+    } in
+    let c = if is_tail n.ids x then length (n.list ++ batch ∷ []) else n.committed in
+    let m : Machine = record n { list = n.list ++ batch ∷ []; committed = c } in
+    let base : Leaves x n batch done.Appended (answer m) = record {
+      list = refl;
+      epoch = refl;
+      ids = refl;
+      floor = refl;
+      kept = refl;
+      frames = refl;
+      dropped = refl;
+    } in
+    subst (λ (k : Machine). Leaves x n batch done.Appended (answer k))
+    (sym (committed_by (is_tail n.ids x) (record n { list = n.list ++ batch ∷ [] }))) base
+steps_leave x n batch (done.Told committed have) =
+    let m : Machine = told n committed have in
+    record {
+      list = refl;
+      epoch = refl;
+      ids = refl;
+      floor = refl;
+      kept = refl;
+      frames = ap
+          (λ (fs : List (Frame (List Edit))). if nat_lt n.committed committed then fs else [])
+          (same_ack (predecessor n.ids x) x m (not_due m.committed m.pending));
+      dropped = refl;
+    }
+
+pub stands_last : StandsLast
+stands_last [] batch = refl
+stands_last (b ∷ l) batch = stands_last l batch
+
+pub one_by_one : OneByOne
+one_by_one x n k zero =
+    let same : k ≡ k + 0 = omega arith in
+    append-nil (forward x n (suc k)) ∙ ap (λ (j : ℕ). forward x n (suc j)) same
+one_by_one x n k (suc m) =
+    let first = forward x n (suc k) in
+    let others = forwards x n (suc k) m in
+    let same : suc k + m ≡ k + suc m = omega arith in
+    let rest = one_by_one x n (suc k) m ∙ ap (λ (j : ℕ). others ++ forward x n (suc j)) same in
+    ap (λ (fs : List (Frame (List Edit))). first ++ fs) rest
+    ∙ sym (append_assoc first others (forward x n (suc (k + suc m))))

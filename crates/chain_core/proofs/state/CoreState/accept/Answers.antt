@@ -1,0 +1,71 @@
+use Rattle.std.proofs.Common.{◌≡◌, ◌∷◌, [], ◌++◌, List, suc, refl, sym, ap, subst, ◌∙◌}
+use Rattle.std.proofs.Common.{arith}
+use Rattle.chain_model.specs.Rules.{accept}
+use Rattle.chain_core.specs.declared.waiting.Waiting.{Waiting}
+use Rattle.chain_core.specs.States.{Core, IsInOrder}
+use Rattle.chain_core.specs.Queues.{front, behind}
+use Rattle.chain_core.specs.Decisions.{Follows}
+use Rattle.chain_core.proofs.Queues.{behind_in_order, push_in_order, front_few, front_push}
+use Rattle.chain_core.proofs.After.{follows_accept, next_of}
+use Rattle.chain_core.proofs.state.CoreState.accept.Goals as goal
+
+-- there are no more requests than numbers
+pub overflow_add-count_due : goal.overflow_add-count_due
+overflow_add-count_due c =
+    let inside = c.self.inside in
+    let few = front_few 0 inside.count c.committed_with-committed.result inside.pending.items
+    c.self.invariant (omega arith) in
+    omega (arith, few, ap (λ (v : Core). v.count) c.self.view_is, c.requires, c.count_due.ensures)
+
+-- there is room for those that were due and for the new one
+pub move_due-requires : goal.move_due-requires
+move_due-requires c =
+    let asked : Waiting = record { number = c.unwrap-number.result; request = c.args.request } in
+    let committed = c.committed_with-committed.result in
+    let due = front_push committed c.self.inside.pending.items asked in
+    rw c.in_ok-push_back.ensures.items
+    (omega (arith, due, c.in_ok-reserve.ensures.ok, c.count_due.ensures))
+
+pub invariant_of-self-2 : goal.invariant_of-self-2
+invariant_of-self-2 c =
+    let old = c.self.inside.count in
+    let number = c.unwrap-number.result in
+    let asked : Waiting = record { number = number; request = c.args.request } in
+    let pending = c.self.inside.pending.items in
+    let next : number ≡ suc old =
+    next_of c.next.result _ old old number c.next.ensures c.unwrap-number.ensures refl in
+    let rises = push_in_order 0 old pending asked c.self.invariant (omega arith) next in
+    rw (c.move_due.ensures.pending, c.in_ok-push_back.ensures.items)
+    (behind_in_order 0 number c.committed_with-committed.result (pending ++ asked ∷ []) rises)
+
+pub returns-clause-after : goal.returns-clause-after
+returns-clause-after c = λ n batch is.
+    let now = c.args.self.now in
+    let i = c.args.request in
+    let number = c.unwrap-number.result in
+    let asked : Waiting = record { number = number; request = i } in
+    let committed = c.committed_with-committed.result in
+    let pending = c.move_due.new.pending.items in
+    let due = c.move_due.new.due.items in
+    let empty = c.reserve.ensures.items ∙ c.new-due.ensures.items in
+    let same = c.self.view_is in
+    let ordered = subst (λ (v : Core). IsInOrder 0 v.count v.pending) same c.self.invariant in
+    let next : number ≡ suc now.count =
+    next_of c.next.result _ c.self.inside.count now.count number c.next.ensures
+    c.unwrap-number.ensures (ap (λ (v : Core). v.count) same) in
+    let all : c.push_back.new.self.items ≡ now.pending ++ asked ∷ [] =
+    c.in_ok-push_back.ensures.items ∙ ap (λ (v : Core). v.pending ++ asked ∷ []) same in
+    let out : due ≡ front committed (now.pending ++ asked ∷ []) =
+    c.move_due.ensures.due
+    ∙ (ap (λ (l : List Waiting). l ++ front committed c.push_back.new.self.items) empty
+    ∙ ap (front committed) all) in
+    let left : pending ≡ behind committed (now.pending ++ asked ∷ []) =
+    c.move_due.ensures.pending ∙ ap (behind committed) all in
+    let new : Core → Core = λ v. record v {
+      count = number;
+      committed = committed;
+      pending = pending;
+    } in
+    subst (λ (v : Core). Follows v (accept now.id n i batch) due) (sym (ap new same))
+    (follows_accept now n is i batch number committed next ordered
+    c.committed_with-committed.ensures pending due left out)

@@ -1,0 +1,27 @@
+use Rattle.std.proofs.Common.{◌≡◌, suc, length, refl, sym, ap, subst, arith}
+use Rattle.chain_model.specs.Rules.{append}
+use Rattle.chain_core.specs.States.{Core, Is}
+use Rattle.chain_core.proofs.Queues.{raise}
+use Rattle.chain_core.proofs.After.{follows_append, next_of}
+use Rattle.chain_core.proofs.state.CoreState.append.Goals as goal
+
+pub invariant_of-self : goal.invariant_of-self
+invariant_of-self c =
+    let old = c.self.inside.count in
+    let number = c.unwrap-number.result in
+    let next : number ≡ suc old =
+    next_of c.next.result _ old old number c.next.ensures c.unwrap-number.ensures refl in
+    raise 0 old number c.self.inside.pending.items c.self.invariant (omega (arith, next))
+
+pub returns-clause-after : goal.returns-clause-after
+returns-clause-after c = λ n batch is.
+    let now = c.args.self.now in
+    let number = c.unwrap-number.result in
+    let committed = c.committed_with-self-inside.result in
+    let next : number ≡ suc now.count =
+    next_of c.next.result _ c.self.inside.count now.count number c.next.ensures
+    c.unwrap-number.ensures (ap (λ (v : Core). v.count) c.self.view_is) in
+    let new : Core → Core = λ v. record v { count = number; committed = committed } in
+    subst (λ (v : Core). Is v (append now.id n (suc (length n.list)) batch).node)
+    (sym (ap new c.self.view_is))
+    (follows_append now n is batch number committed next c.committed_with-self-inside.ensures)

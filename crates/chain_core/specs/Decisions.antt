@@ -1,0 +1,119 @@
+-- What is decided of an input, and what is done: the rules of the chain's model by name.
+use Rattle.std.specs.Prelude.{◌≡◌, ◌≤◌, ◌<◌, ℕ, suc, List, [], ◌∷◌, length, map, Option}
+use Rattle.std.specs.Prelude.{Some, None}
+use Rattle.kv_types.specs.declared.bounds.TheConstants.{MAX_NUMBER}
+use Rattle.kv_types.specs.declared.edit.Edit.{Edit}
+use Rattle.chain_model.specs.Refusal as model_refusal
+use Rattle.chain_model.specs.DropReason as model_reason
+use Rattle.chain_model.specs.Frames as model_frame
+use Rattle.chain_model.specs.Requests as model_request
+use Rattle.chain_model.specs.Node.{Answer, dropped_for, refused}
+use Rattle.chain_model.specs.Rules.{ask, receive, tick, accept, append, tell_again, pass_on}
+use Rattle.chain_model.specs.Rules.{resend, show}
+use Rattle.link_messages.specs.declared.refusal.Refusal.{Refusal}
+use Rattle.link_messages.specs.declared.refusal.Refusal.TheVariants as refusal
+use Rattle.link_messages.specs.declared.frame.Frame.{Frame}
+use Rattle.link_messages.specs.declared.frame.Frame.TheVariants as frame
+use Rattle.chain_core.specs.declared.drop_reason.DropReason.{DropReason}
+use Rattle.chain_core.specs.declared.drop_reason.DropReason.TheVariants as reason
+use Rattle.chain_core.specs.declared.input.Input.{Input}
+use Rattle.chain_core.specs.declared.input.Input.TheVariants as input
+use Rattle.chain_core.specs.declared.decision.Decision.{Decision}
+use Rattle.chain_core.specs.declared.decision.Decision.TheVariants as decision
+use Rattle.chain_core.specs.declared.done.Done.{Done}
+use Rattle.chain_core.specs.declared.done.Done.TheVariants as done
+use Rattle.chain_core.specs.declared.sending.Sent.{Sent}
+use Rattle.chain_core.specs.declared.waiting.Waiting.{Waiting}
+use Rattle.chain_core.specs.States.{Machine, Core, Is, replies_of}
+
+-- what the machine of node x answers to an input
+abbrev pub answer_to : ℕ → Machine → Input → Answer (List Edit)
+answer_to x n (input.Submit request batch) = ask x n request (model_request.Submit batch)
+answer_to x n (input.Get request key at) = ask x n request (model_request.Read at)
+answer_to x n (input.Forward epoch from number batch) =
+    receive x n (model_frame.Forward x epoch from number batch)
+answer_to x n (input.Ack epoch from committed have) =
+    receive x n (model_frame.Ack x epoch from committed have)
+answer_to x n input.Tick = tick x n
+
+abbrev pub refusal_as : Refusal → model_refusal.Refusal
+refusal_as refusal.NotRunning = model_refusal.NotRunning
+refusal_as refusal.NotHead = model_refusal.NotHead
+refusal_as refusal.TooOld = model_refusal.TooOld
+refusal_as refusal.NotCommitted = model_refusal.NotCommitted
+refusal_as refusal.NoSuchSnapshot = model_refusal.NoSuchSnapshot
+refusal_as refusal.TooManySnapshots = model_refusal.TooManySnapshots
+refusal_as refusal.Removed = model_refusal.Removed
+refusal_as refusal.Exhausted = model_refusal.Exhausted
+
+abbrev pub reason_as : DropReason → model_reason.DropReason
+reason_as reason.NotRunning = model_reason.NotRunning
+reason_as reason.Running = model_reason.Running
+reason_as reason.Removed = model_reason.Removed
+reason_as reason.OtherEpoch = model_reason.OtherEpoch
+reason_as reason.NotPredecessor = model_reason.NotPredecessor
+reason_as reason.NotSuccessor = model_reason.NotSuccessor
+reason_as reason.OtherNumber = model_reason.OtherNumber
+reason_as reason.BadAck = model_reason.BadAck
+reason_as reason.OldNotice = model_reason.OldNotice
+reason_as reason.BadNotice = model_reason.BadNotice
+reason_as reason.NotForNodes = model_reason.NotForNodes
+reason_as reason.Unreadable = model_reason.Unreadable
+
+-- the rule that a decision names
+abbrev pub rule_of : ℕ → Machine → Decision → Answer (List Edit)
+rule_of x n (decision.Accept request batch) = accept x n request batch
+rule_of x n (decision.Append batch) = append x n (suc (length n.list)) batch
+rule_of x n decision.TellAgain = tell_again x n
+rule_of x n (decision.PassOn committed have) = pass_on x n committed have
+rule_of x n (decision.Show request key at) = show n request at
+rule_of x n decision.Resend = resend x n
+rule_of x n (decision.Refuse request why) = refused n request (refusal_as why)
+rule_of x n (decision.Drop why) = dropped_for n (reason_as why)
+
+-- a read is of the key that was asked for, at a number from the floor to what is committed
+abbrev pub IsReadOf : Machine → Input → Decision → Type 0
+IsReadOf n (input.Get request key at) (decision.Show same other s) =
+    (other ≡ key) × (n.floor ≤ s) × (s ≤ n.committed)
+IsReadOf n input (decision.Show same other s) = ⊥
+IsReadOf n input _ = Unit {0}
+
+-- the machine's answer is the rule that the decision names
+pub record Decides (x : ℕ) (n : Machine) (input : Input) (decision : Decision) : Type 0 where
+  pub rule : answer_to x n input ≡ rule_of x n decision
+  pub read : IsReadOf n input decision
+
+-- the rule whose store's part was done, with this batch where one was appended
+abbrev pub done_of : ℕ → Machine → List Edit → Done → Answer (List Edit)
+done_of x n batch (done.Accepted request) = accept x n request batch
+done_of x n batch done.Appended = append x n (suc (length n.list)) batch
+done_of x n batch (done.Told committed have) = pass_on x n committed have
+
+-- a number is left for a batch that is taken
+abbrev pub HasRoomFor : ℕ → Decision → Type 0
+HasRoomFor count (decision.Accept request batch) = count < MAX_NUMBER
+HasRoomFor count (decision.Append batch) = count < MAX_NUMBER
+HasRoomFor count _ = Unit {0}
+
+-- .. or that was taken
+abbrev pub HasRoom : ℕ → Done → Type 0
+HasRoom count (done.Accepted request) = count < MAX_NUMBER
+HasRoom count done.Appended = count < MAX_NUMBER
+HasRoom count (done.Told committed have) = Unit {0}
+
+-- what a node knows is what the machine of an answer has, and these requests have its replies
+pub record Follows (new : Core) (answer : Answer (List Edit)) (due : List Waiting) : Type 0 where
+  pub is : Is new answer.node
+  pub replied : answer.replies ≡ replies_of due
+
+-- a frame to a node, as the model has it, where it is one between nodes
+abbrev pub frame_as : ℕ → Frame → Option (model_frame.Frame (List Edit))
+frame_as to (frame.Forward epoch from number batch) =
+    Some (model_frame.Forward to epoch from number batch)
+frame_as to (frame.Ack epoch from committed have) =
+    Some (model_frame.Ack to epoch from committed have)
+frame_as to _ = None
+
+-- what is sent is these frames of the model, one by one
+abbrev pub AreFrames : List Sent → List (model_frame.Frame (List Edit)) → Type 0
+AreFrames sent frames = map (λ it. frame_as it.to it.frame) sent ≡ map Some frames

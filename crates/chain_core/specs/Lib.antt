@@ -1,0 +1,4 @@
+pub mod States
+pub mod Queues
+pub mod Decisions
+pub mod Steps

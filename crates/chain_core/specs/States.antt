@@ -1,0 +1,59 @@
+-- The numbers of a node, without its batches, and the machine of the chain's model that has them.
+use Rattle.std.specs.Prelude.{◌≡◌, ◌≤◌, ◌<◌, ℕ, List, [], ◌∷◌, length, map, true}
+use Rattle.kv_types.specs.declared.edit.Edit.{Edit}
+use Rattle.chain_model.specs.Node as model
+use Rattle.chain_model.specs.Requests.{Reply, Committed}
+use Rattle.chain_core.specs.declared.waiting.Waiting.{Waiting}
+use Rattle.chain_core.specs.declared.state.AtRest.{AtRest}
+
+-- the machine of a node that takes batches of edits
+abbrev pub Machine : Type 0
+Machine = model.Node (List Edit)
+
+-- what a node knows besides its batches
+pub record Core : Type 0 where
+  pub id : ℕ
+  pub epoch : ℕ
+  pub ids : List ℕ
+  pub count : ℕ
+  pub committed : ℕ
+  pub floor : ℕ
+  pub kept : ℕ
+  pub successor_has : ℕ
+  pub snapshots : List ℕ
+  pub pending : List Waiting
+
+-- requests as the model has them
+abbrev pub waiting : List Waiting → List (ℕ × ℕ)
+waiting pending = map (λ it. (it.number, it.request)) pending
+
+-- a running machine has these numbers
+pub record Is (core : Core) (n : Machine) : Type 0 where
+  pub epoch : n.epoch ≡ core.epoch
+  pub ids : n.ids ≡ core.ids
+  pub count : length n.list ≡ core.count
+  pub committed : n.committed ≡ core.committed
+  pub floor : n.floor ≡ core.floor
+  pub kept : n.kept ≡ core.kept
+  pub successor_has : n.successor_has ≡ core.successor_has
+  pub snapshots : n.snapshots ≡ core.snapshots
+  pub pending : n.pending ≡ waiting core.pending
+  pub running : n.running ≡ true
+
+-- a machine that rests has these numbers, which outlive its stop
+pub record IsAtRest (rest : AtRest) (n : Machine) : Type 0 where
+  pub epoch : n.epoch ≡ rest.epoch
+  pub ids : n.ids ≡ rest.config
+  pub count : length n.list ≡ rest.count
+  pub floor : n.floor ≡ rest.floor
+  pub kept : n.kept ≡ rest.kept
+
+-- the numbers waited for rise, each above the first and at most the second number given
+abbrev pub IsInOrder : (above most : ℕ) → List Waiting → Type 0
+IsInOrder above most [] = Unit {0}
+IsInOrder above most (it ∷ rest) =
+    (above < it.number) × (it.number ≤ most) × IsInOrder it.number most rest
+
+-- each request is told that its batch is committed
+abbrev pub replies_of : List Waiting → List (Reply (List Edit))
+replies_of due = map (λ it. Committed it.request it.number) due

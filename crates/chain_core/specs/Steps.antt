@@ -1,0 +1,52 @@
+-- What a step leaves and sends once the store's part is done. (The words of `laws`.)
+use Rattle.std.specs.Prelude.{◌≡◌, ℕ, suc, ◌+◌, List, [], ◌∷◌, ◌++◌, length, Some, None}
+use Rattle.std.specs.Prelude.{if◌then◌else◌, nat_lt}
+use Rattle.kv_types.specs.declared.edit.Edit.{Edit}
+use Rattle.chain_model.specs.Configuration.{is_tail}
+use Rattle.chain_model.specs.Frames.{Frame}
+use Rattle.chain_model.specs.Lists.{place}
+use Rattle.chain_model.specs.Node.{Answer}
+use Rattle.chain_model.specs.Rules.{ack, forward, forwards}
+use Rattle.chain_core.specs.declared.done.Done.{Done}
+use Rattle.chain_core.specs.declared.done.Done.TheVariants as done
+use Rattle.chain_core.specs.States.{Machine}
+use Rattle.chain_core.specs.Decisions.{done_of}
+
+-- its batches afterwards
+abbrev pub list_after : Machine → List Edit → Done → List (List Edit)
+list_after n batch (done.Accepted request) = n.list ++ batch ∷ []
+list_after n batch done.Appended = n.list ++ batch ∷ []
+list_after n batch (done.Told committed have) = n.list
+
+-- what it sends, by what the new machine has
+abbrev pub frames_after : ℕ → Machine → Done → Machine → List (Frame (List Edit))
+frames_after x old (done.Accepted request) new = forward x new (suc (length old.list))
+frames_after x old done.Appended new =
+    forward x new (suc (length old.list)) ++ (if is_tail new.ids x then ack x new else [])
+frames_after x old (done.Told committed have) new =
+    if nat_lt old.committed committed then ack x new else []
+
+-- what outlives a stop is as before, with the batch, where there is one; and what is sent
+pub record Leaves (x : ℕ) (n : Machine) (batch : List Edit) (d : Done) (a : Answer (List Edit))
+    : Type 0 where
+  pub list : a.node.list ≡ list_after n batch d
+  pub epoch : a.node.epoch ≡ n.epoch
+  pub ids : a.node.ids ≡ n.ids
+  pub floor : a.node.floor ≡ n.floor
+  pub kept : a.node.kept ≡ n.kept
+  pub frames : a.frames ≡ frames_after x n d a.node
+  pub dropped : a.dropped ≡ None
+
+abbrev pub StepsLeave : Type 0
+StepsLeave = (x : ℕ) (n : Machine) (batch : List Edit) (d : Done) →
+    Leaves x n batch d (done_of x n batch d)
+
+-- a batch that is taken stands at the next place
+abbrev pub StandsLast : Type 0
+StandsLast = (list : List (List Edit)) (batch : List Edit) →
+    place (list ++ batch ∷ []) (suc (length list)) ≡ Some batch
+
+-- of the batches that are sent again the last comes last
+abbrev pub OneByOne : Type 0
+OneByOne = (x : ℕ) (n : Machine) (k m : ℕ) →
+    forwards x n k (suc m) ≡ forwards x n k m ++ forward x n (suc (k + m))

@@ -1,0 +1,16 @@
+/// Why what came to a node was dropped. It changed nothing.
+#[derive(Clone, Copy, Debug, PartialEq, Eq)]
+pub enum DropReason {
+    NotRunning = 1,
+    Running,
+    Removed,
+    OtherEpoch,
+    NotPredecessor,
+    NotSuccessor,
+    OtherNumber,
+    BadAck,
+    OldNotice,
+    BadNotice,
+    NotForNodes,
+    Unreadable,
+}

@@ -1,0 +1,24 @@
+//! The rules of a step of a node: what is decided of an input, and what a node knows after it.
+#![tactic(auto)]
+
+mod deciding;
+mod decision;
+mod done;
+mod drop_reason;
+mod error;
+mod input;
+pub mod laws;
+mod queue;
+mod sending;
+mod state;
+mod waiting;
+
+pub use deciding::decide;
+pub use decision::Decision;
+pub use done::Done;
+pub use drop_reason::DropReason;
+pub use error::CoreError;
+pub use input::Input;
+pub use sending::Sent;
+pub use state::{AtRest, CoreState};
+pub use waiting::Waiting;

@@ -1,0 +1,36 @@
+ghost use Rattle.std.specs.Prelude.{◌≡◌, ◌≤◌, ◌+◌, ◌++◌, length};
+ghost use Rattle.std.specs.Vec.{vec_len, vec_capacity};
+ghost use Rattle.chain_core.specs.Queues.{front, behind};
+
+use crate::Waiting;
+use kv_types::Number;
+use std::collections::VecDeque;
+
+// How many requests at the front have numbers up to this one.
+pub(crate) fn count_due(pending: &VecDeque<Waiting>, upto: Number) -> usize
+    ensures { result ≡ length (front upto pending.now.items) }
+{
+    let mut count = 0;
+    while let Some(it) = pending.get(count) {
+        if it.number > upto {
+            return count;
+        }
+        count += 1;
+    }
+    count
+}
+
+// Moves the requests at the front with numbers up to this one behind those in `due`.
+pub(crate) fn move_due(pending: &mut VecDeque<Waiting>, due: &mut Vec<Waiting>, upto: Number)
+    requires { vec_len due.old + length (front upto pending.old.items) ≤ vec_capacity due.old }
+    ensures due { due.new.items ≡ due.old.items ++ front upto pending.old.items }
+    ensures pending { pending.new.items ≡ behind upto pending.old.items }
+{
+    while let Some(&first) = pending.front() {
+        if first.number > upto {
+            return;
+        }
+        pending.pop_front();
+        due.push_reserved(first);
+    }
+}

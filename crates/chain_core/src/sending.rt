@@ -1,0 +1,74 @@
+ghost use Rattle.std.specs.Prelude.{◌≡◌, ◌<◌, ◌≤◌, ◌+◌, ◌-◌, Some, IsSome};
+ghost use Rattle.std.specs.Prelude.{option_to_list};
+ghost use Rattle.chain_model.specs.Configuration.{successor};
+ghost use Rattle.chain_model.specs.Lists.{place};
+ghost use Rattle.chain_model.specs.Rules.{ack, forward, forwards};
+ghost use Rattle.chain_core.specs.States.{Machine, Is};
+ghost use Rattle.chain_core.specs.Decisions.{AreFrames};
+
+use crate::CoreState;
+use configurations::NodeId;
+use kv_types::{Batch, Number};
+use link_messages::Frame;
+use std::ops::Range;
+
+/// The most batches that one tick sends again.
+const MAX_RESENT: u64 = 16;
+
+/// A frame for a node.
+#[derive(Debug, Drop)]
+pub struct Sent {
+    pub to: NodeId,
+    pub frame: Frame,
+}
+
+impl CoreState {
+    /// What is committed and what it has, for its predecessor.
+    pub fn ack(&self) -> Option<Sent>
+        ensures { (n : Machine) → Is self.now n →
+            AreFrames (option_to_list result) (ack self.now.id n) }
+    {
+        let to = self.predecessor()?;
+        let frame = Frame::Ack {
+            epoch: self.epoch(),
+            from: self.id(),
+            committed: self.committed(),
+            have: self.count(),
+        };
+        Some(Sent { to, frame })
+    }
+
+    /// A batch that it has, for its successor.
+    pub fn forward(&self, number: Number, batch: Batch) -> Option<Sent>
+        ensures { (n : Machine) → Is self.now n → place n.list number ≡ Some batch →
+            AreFrames (option_to_list result) (forward self.now.id n number) }
+    {
+        let to = self.successor()?;
+        let frame = Frame::Forward {
+            epoch: self.epoch(),
+            from: self.id(),
+            number,
+            batch,
+        };
+        Some(Sent { to, frame })
+    }
+
+    /// The numbers of the batches that a tick sends again.
+    pub fn resends(&self) -> Range<u64>
+        ensures from { result.start ≡ self.now.successor_has + 1 }
+        ensures limit { result.end ≤ result.start + 16 }
+        ensures there { result.start < result.end → result.end ≤ self.now.count + 1 }
+        ensures to { result.start < result.end →
+            IsSome (successor self.now.ids self.now.id) }
+        ensures all { (n : Machine) → Is self.now n →
+            forwards self.now.id n n.successor_has 16
+            ≡ forwards self.now.id n n.successor_has (result.end - result.start) }
+    {
+        let has = self.successor_has().get();
+        if self.successor().is_none() {
+            return has + 1..has + 1;
+        }
+        let more = self.count().get().saturating_sub(has).min(MAX_RESENT);
+        has + 1..has + 1 + more
+    }
+}

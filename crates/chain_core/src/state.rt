@@ -1,0 +1,299 @@
+ghost use Rattle.std.specs.Prelude.{◌≡◌, ◌<◌, suc, List, length, max, not};
+ghost use Rattle.std.specs.Prelude.{if◌then◌else◌};
+ghost use Rattle.std.specs.Prelude.{IfOk, OnErr};
+ghost use Rattle.kv_types.specs.declared.bounds.TheConstants.{MAX_NUMBER};
+ghost use Rattle.kv_types.specs.declared.edit.Edit.{Edit};
+ghost use Rattle.chain_model.specs.Configuration.{has, is_head, is_tail, predecessor, successor};
+ghost use Rattle.chain_model.specs.Node.{created, started};
+ghost use Rattle.chain_model.specs.Rules.{accept, append, pass_on};
+ghost use Rattle.chain_core.specs.States.{Machine, Is, IsAtRest};
+ghost use Rattle.chain_core.specs.Decisions.{Follows, HasRoom, done_of};
+
+use crate::queue::{count_due, move_due};
+use crate::{CoreError, Done, Waiting};
+use configurations::{Config, Epoch, NodeId};
+use kv_types::Number;
+use std::alloc::Global;
+use std::collections::VecDeque;
+use std::marker::Model;
+
+/// What a node knows besides its batches: its numbers, its configuration, and who waits.
+#[derive(Debug, Drop)]
+pub struct CoreState {
+    id: NodeId,
+    epoch: Epoch,
+    config: Config,
+    count: Number,
+    committed: Number,
+    floor: Number,
+    kept: Number,
+    successor_has: Number,
+    snapshots: Vec<Number>,
+    pending: VecDeque<Waiting>,
+}
+
+impl Model for CoreState {
+    ghost use Rattle.chain_core.specs.States.{Core, IsInOrder};
+
+    ghost Value = { Core };
+
+    ghost view = { λ state. record {
+      id = state.id;
+      epoch = state.epoch;
+      ids = state.config;
+      count = state.count;
+      committed = state.committed;
+      floor = state.floor;
+      kept = state.kept;
+      successor_has = state.successor_has;
+      snapshots = state.snapshots.items;
+      pending = state.pending.items;
+    } };
+
+    ghost invariant = { λ state. IsInOrder 0 state.count state.pending.items };
+}
+
+/// What outlives a stop of a node, besides its batches.
+#[derive(Debug, Drop)]
+pub struct AtRest {
+    pub id: NodeId,
+    pub epoch: Epoch,
+    pub config: Config,
+    pub count: Number,
+    pub floor: Number,
+    pub kept: Number,
+}
+
+fn is_head(config: &Config, id: NodeId) -> bool
+    ensures { result ≡ is_head config.now id }
+{
+    config.head() == id
+}
+
+fn is_tail(config: &Config, id: NodeId) -> bool
+    ensures { result ≡ is_tail config.now id }
+{
+    config.tail() == id
+}
+
+fn greater(a: Number, b: Number) -> Number
+    ensures { result ≡ max a b }
+{
+    if a < b { b } else { a }
+}
+
+impl CoreState {
+    /// A node as it is created, with configuration 0.
+    pub fn created(alloc: Global, id: NodeId, config: Config) -> CoreState
+        ensures id { result.id ≡ id }
+        ensures is { Is result (created config) }
+    {
+        CoreState {
+            id,
+            epoch: Epoch::FIRST,
+            config,
+            count: Number::ZERO,
+            committed: Number::ZERO,
+            floor: Number::ZERO,
+            kept: Number::ZERO,
+            successor_has: Number::ZERO,
+            snapshots: Vec::new(alloc),
+            pending: VecDeque::new(alloc),
+        }
+    }
+
+    /// A node as it starts from what outlived its stop.
+    pub fn started(alloc: Global, rest: AtRest) -> CoreState
+        ensures id { result.id ≡ rest.id }
+        ensures is { (n : Machine) → IsAtRest rest n → Is result (started rest.id n) }
+    {
+        let committed = if is_tail(&rest.config, rest.id) {
+            rest.count
+        } else {
+            rest.floor
+        };
+        CoreState {
+            id: rest.id,
+            epoch: rest.epoch,
+            config: rest.config,
+            count: rest.count,
+            committed,
+            floor: rest.floor,
+            kept: rest.kept,
+            successor_has: committed,
+            snapshots: Vec::new(alloc),
+            pending: VecDeque::new(alloc),
+        }
+    }
+
+    pub fn id(&self) -> NodeId
+        ensures { result ≡ self.now.id }
+    {
+        self.id
+    }
+
+    pub fn epoch(&self) -> Epoch
+        ensures { result ≡ self.now.epoch }
+    {
+        self.epoch
+    }
+
+    pub fn config(&self) -> &Config
+        ensures { result.now ≡ self.now.ids }
+    {
+        &self.config
+    }
+
+    /// How many batches the node has.
+    pub fn count(&self) -> Number
+        ensures { result ≡ self.now.count }
+    {
+        self.count
+    }
+
+    /// How many of them it knows to be committed.
+    pub fn committed(&self) -> Number
+        ensures { result ≡ self.now.committed }
+    {
+        self.committed
+    }
+
+    /// The least number that it can be read at.
+    pub fn floor(&self) -> Number
+        ensures { result ≡ self.now.floor }
+    {
+        self.floor
+    }
+
+    /// So many of its first batches it cannot send again.
+    pub fn kept(&self) -> Number
+        ensures { result ≡ self.now.kept }
+    {
+        self.kept
+    }
+
+    /// So many batches it knows its successor to have.
+    pub fn successor_has(&self) -> Number
+        ensures { result ≡ self.now.successor_has }
+    {
+        self.successor_has
+    }
+
+    /// The node before it in its configuration.
+    pub fn predecessor(&self) -> Option<NodeId>
+        ensures { result ≡ predecessor self.now.ids self.now.id }
+    {
+        self.config.before(self.id)
+    }
+
+    /// The node after it in its configuration.
+    pub fn successor(&self) -> Option<NodeId>
+        ensures { result ≡ successor self.now.ids self.now.id }
+    {
+        self.config.after(self.id)
+    }
+
+    // What is committed once it has so many batches: at a tail, all.
+    fn committed_with(&self, number: Number) -> Number
+        ensures { result ≡ (if is_tail self.now.ids self.now.id then number
+            else self.now.committed) }
+    {
+        if is_tail(&self.config, self.id) {
+            number
+        } else {
+            self.committed
+        }
+    }
+
+    // Whether its configuration does not have it.
+    pub(crate) fn is_removed(&self) -> bool
+        ensures { result ≡ not (has self.now.ids self.now.id) }
+    {
+        !self.config.has(self.id)
+    }
+
+    pub(crate) fn is_head(&self) -> bool
+        ensures { result ≡ is_head self.now.ids self.now.id }
+    {
+        is_head(&self.config, self.id)
+    }
+
+    /// Whether it is the last node of its configuration.
+    pub fn is_tail(&self) -> bool
+        ensures { result ≡ is_tail self.now.ids self.now.id }
+    {
+        is_tail(&self.config, self.id)
+    }
+
+    // The head has one more batch, for which a request waits. A tail commits it.
+    fn accept(&mut self, alloc: Global, request: Number) -> Result<Vec<Waiting>, CoreError>
+        requires { self.old.count < MAX_NUMBER }
+        ensures after { (n : Machine) (batch : List Edit) → Is self.old n →
+            IfOk result (λ due.
+            Follows self.new (accept self.old.id n request batch) due.items) }
+        ensures same { self.new.id ≡ self.old.id }
+        ensures memory { OnErr result (self.new ≡ self.old) }
+    {
+        let number = self.count.next().unwrap();
+        let committed = self.committed_with(number);
+        let mut due = Vec::new(alloc);
+        due.reserve(count_due(&self.pending, committed) + 1)?;
+        self.pending.push_back(Waiting { number, request })?;
+        self.count = number;
+        self.committed = committed;
+        move_due(&mut self.pending, &mut due, committed);
+        Ok(due)
+    }
+
+    // The node has one more batch of its predecessor. A tail commits it.
+    fn append(&mut self)
+        requires { self.old.count < MAX_NUMBER }
+        ensures after { (n : Machine) (batch : List Edit) → Is self.old n →
+            Is self.new (append self.old.id n (suc (length n.list)) batch).node }
+        ensures same { self.new.id ≡ self.old.id }
+    {
+        let number = self.count.next().unwrap();
+        self.committed = self.committed_with(number);
+        self.count = number;
+    }
+
+    // What the successor told is taken.
+    fn pass_on(
+        &mut self,
+        alloc: Global,
+        committed: Number,
+        have: Number,
+    ) -> Result<Vec<Waiting>, CoreError>
+        ensures after { (n : Machine) → Is self.old n → IfOk result (λ due.
+            Follows self.new (pass_on self.old.id n committed have) due.items) }
+        ensures same { self.new.id ≡ self.old.id }
+        ensures memory { OnErr result (self.new ≡ self.old) }
+    {
+        let committed = greater(self.committed, committed);
+        let mut due = Vec::new(alloc);
+        due.reserve(count_due(&self.pending, committed))?;
+        self.committed = committed;
+        self.successor_has = greater(self.successor_has, have);
+        move_due(&mut self.pending, &mut due, committed);
+        Ok(due)
+    }
+
+    /// What a node knows after the store's part is done, and the requests whose batches are now
+    /// committed, in order of number.
+    pub fn after(&mut self, alloc: Global, done: Done) -> Result<Vec<Waiting>, CoreError>
+        requires { HasRoom self.old.count done }
+        ensures after { (n : Machine) (batch : List Edit) → Is self.old n →
+            IfOk result (λ due. Follows self.new (done_of self.old.id n batch done) due.items) }
+        ensures same { self.new.id ≡ self.old.id }
+        ensures memory { OnErr result (self.new ≡ self.old) }
+    {
+        match done {
+            Done::Accepted { request } => self.accept(alloc, request),
+            Done::Appended => {
+                self.append();
+                Ok(Vec::new(alloc))
+            }
+            Done::Told { committed, have } => self.pass_on(alloc, committed, have),
+        }
+    }
+}
