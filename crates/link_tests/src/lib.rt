@@ -1,4 +1,4 @@
-//! Tests of configurations and frames, of what no clause says: examples, and calls that succeed.
+//! Tests of configurations, frames and the rules of a step: examples, and calls that succeed.
 #![tactic(auto)]
 
 #[cfg(test)]
@@ -7,3 +7,5 @@ mod bytes;
 mod lists;
 #[cfg(test)]
 mod round_trips;
+#[cfg(test)]
+mod steps;
