@@ -10,12 +10,16 @@ fn value_of(alloc: Global, bytes: &[u8]) -> Result<Value, KvError> {
     Value::new(bytes.to_vec(alloc)?)
 }
 
+fn put_of(alloc: Global, key: &[u8], value: &[u8]) -> Result<Edit, KvError> {
+    let value = value_of(alloc, value)?;
+    Ok(Edit::Put(key_of(alloc, key)?, value))
+}
+
 /// A put, or a deletion where there is no value.
 fn edit_of(alloc: Global, key: &[u8], value: Option<&[u8]>) -> Result<Edit, KvError> {
-    let key = key_of(alloc, key)?;
     match value {
-        Some(bytes) => Ok(Edit::Put(key, value_of(alloc, bytes)?)),
-        None => Ok(Edit::Delete(key)),
+        Some(bytes) => put_of(alloc, key, bytes),
+        None => Ok(Edit::Delete(key_of(alloc, key)?)),
     }
 }
 
@@ -36,6 +40,16 @@ fn is_edit(batch: &Batch, key: &[u8], value: Option<&[u8]>) -> bool {
     }
 }
 
+/// How a batch of one edit of the key `a` is spelled.
+fn spelled(alloc: Global, value: Option<&[u8]>) -> Result<Vec<u8>, KvError> {
+    Ok(batch_of(alloc, &[(b"a", value)])?.to_bytes(alloc)?)
+}
+
+/// Whether these bytes spell one edit of the key `a`.
+fn spells(alloc: Global, bytes: &[u8], value: Option<&[u8]>) -> Result<bool, KvError> {
+    Ok(is_edit(&Batch::from_bytes(alloc, bytes)?, b"a", value))
+}
+
 #[test]
 fn one_edit_is_spelled_so(rt: HostRuntime) -> Result<(), Fail> {
     let alloc = rt.alloc();
@@ -43,11 +57,8 @@ fn one_edit_is_spelled_so(rt: HostRuntime) -> Result<(), Fail> {
     let delete: &[u8] = &[0, 1, 2, 0, 1, 0x61];
     let one: &[u8] = b"1";
     for (value, want) in [(Some(one), put), (None, delete)] {
-        let batch = batch_of(alloc, &[(b"a", value)])?;
-        let bytes = batch.to_bytes(alloc)?;
-        assert_eq!(rt; bytes.as_slice(), want);
-        let again = Batch::from_bytes(alloc, want)?;
-        assert!(rt; is_edit(&again, b"a", value));
+        assert_eq!(rt; spelled(alloc, value)?.as_slice(), want);
+        assert!(rt; spells(alloc, want, value)?);
     }
     Ok(())
 }
@@ -56,22 +67,24 @@ fn refusal_of(alloc: Global, bytes: &[u8]) -> Option<KvError> {
     Batch::from_bytes(alloc, bytes).err()
 }
 
+/// What spells no batch.
+static NO_BATCHES: [&[u8]; 10] = [
+    &[],
+    &[0],
+    &[0, 0],
+    &[0, 1],
+    &[0, 1, 0, 0, 0],
+    &[0, 1, 3, 0, 0],
+    &[0, 1, 2, 0, 1],
+    &[0, 1, 1, 0, 0],
+    &[0, 2, 2, 0, 0],
+    &[0, 1, 2, 0, 0, 0],
+];
+
 #[test]
 fn bytes_that_spell_no_batch(rt: HostRuntime) {
     let alloc = rt.alloc();
-    let table: [&[u8]; 10] = [
-        &[],
-        &[0],
-        &[0, 0],
-        &[0, 1],
-        &[0, 1, 0, 0, 0],
-        &[0, 1, 3, 0, 0],
-        &[0, 1, 2, 0, 1],
-        &[0, 1, 1, 0, 0],
-        &[0, 2, 2, 0, 0],
-        &[0, 1, 2, 0, 0, 0],
-    ];
-    for bytes in table {
+    for bytes in &NO_BATCHES {
         assert_eq!(rt;
             refusal_of(alloc, bytes),
             Some(KvError::BadBytes),
@@ -165,11 +178,15 @@ fn spelled_len(alloc: Global, batch: &Batch) -> Result<usize, KvError> {
     Ok(again.to_bytes(alloc)?.len())
 }
 
+/// The length of the spelling of such a batch, if it may be one.
+fn long_batch_len(alloc: Global, last: usize) -> Result<usize, KvError> {
+    spelled_len(alloc, &long_batch(alloc, last)?)
+}
+
 #[test]
 fn batches_at_their_limit_of_bytes(rt: HostRuntime) -> Result<(), Fail> {
     let alloc = rt.alloc();
-    let longest = long_batch(alloc, 16358)?;
-    assert_eq!(rt; spelled_len(alloc, &longest)?, 65536);
+    assert_eq!(rt; long_batch_len(alloc, 16358)?, 65536);
     assert_eq!(rt; long_batch(alloc, 16359).err(), Some(KvError::BatchTooLong));
     Ok(())
 }
@@ -277,69 +294,111 @@ fn the_last_edit_decides(rt: HostRuntime) -> Result<(), Fail> {
     Ok(())
 }
 
+/// Whether the first key is below the second, is less, and is equal.
+fn compared(alloc: Global, a: &[u8], b: &[u8]) -> Result<(bool, bool, bool), KvError> {
+    let (first, second) = (key_of(alloc, a)?, key_of(alloc, b)?);
+    Ok((first.is_below(&second), first < second, first == second))
+}
+
+/// Two keys, and whether the first is below the second.
+static KEYS: [(&[u8], &[u8], bool); 6] = [
+    (b"", b"", false),
+    (b"", b"\x00", true),
+    (b"a", b"ab", true),
+    (b"ab", b"b", true),
+    (b"b", b"ab", false),
+    (b"\x7f", b"\x80", true),
+];
+
 #[test]
 fn keys_compare_by_their_bytes(rt: HostRuntime) -> Result<(), Fail> {
     let alloc = rt.alloc();
-    let table: [(&[u8], &[u8], bool); 6] = [
-        (b"", b"", false),
-        (b"", b"\x00", true),
-        (b"a", b"ab", true),
-        (b"ab", b"b", true),
-        (b"b", b"ab", false),
-        (b"\x7f", b"\x80", true),
-    ];
-    for (a, b, is_below) in table {
-        let (first, second) = (key_of(alloc, a)?, key_of(alloc, b)?);
-        assert_eq!(rt; first.is_below(&second), is_below, "{a:?} {b:?}");
-        assert_eq!(rt; first < second, is_below, "{a:?} {b:?}");
-        assert_eq!(rt; first == second, a == b, "{a:?} {b:?}");
+    for (a, b, is_below) in &KEYS {
+        let want = (*is_below, *is_below, a == b);
+        assert_eq!(rt; compared(alloc, a, b)?, want, "{a:?} {b:?}");
     }
     Ok(())
 }
 
+/// The range from `b` to `d`.
+fn bounded(alloc: Global, is_backward: bool, limit: u32) -> Result<Range, KvError> {
+    let to = key_of(alloc, b"d")?;
+    Range::new(key_of(alloc, b"b")?, Some(to), is_backward, limit)
+}
+
+/// The range from `b` on.
+fn open(alloc: Global) -> Result<Range, KvError> {
+    Range::new(key_of(alloc, b"b")?, None, false, 1)
+}
+
+/// Whether the key is in the first of these, and in the second.
+fn in_ranges(alloc: Global, key: &[u8]) -> Result<(bool, bool), KvError> {
+    let key = key_of(alloc, key)?;
+    let is_in_bounded = bounded(alloc, false, 1)?.contains(&key);
+    Ok((is_in_bounded, open(alloc)?.contains(&key)))
+}
+
+/// A key, whether it is in the first range, and in the second.
+static IN_RANGES: [(&[u8], bool, bool); 5] = [
+    (b"a", false, false),
+    (b"b", true, true),
+    (b"cc", true, true),
+    (b"d", false, true),
+    (b"e", false, true),
+];
+
 #[test]
 fn a_range_ends_before_its_bound(rt: HostRuntime) -> Result<(), Fail> {
     let alloc = rt.alloc();
-    let to = key_of(alloc, b"d")?;
-    let bounded = Range::new(key_of(alloc, b"b")?, Some(to), false, 1)?;
-    let open = Range::new(key_of(alloc, b"b")?, None, false, 1)?;
-    let table: [(&[u8], bool, bool); 5] = [
-        (b"a", false, false),
-        (b"b", true, true),
-        (b"cc", true, true),
-        (b"d", false, true),
-        (b"e", false, true),
-    ];
-    for (bytes, in_bounded, in_open) in table {
-        let key = key_of(alloc, bytes)?;
-        assert_eq!(rt; bounded.contains(&key), in_bounded, "{bytes:?}");
-        assert_eq!(rt; open.contains(&key), in_open, "{bytes:?}");
+    for (bytes, in_bounded, in_open) in &IN_RANGES {
+        let found = in_ranges(alloc, bytes)?;
+        assert_eq!(rt; found, (*in_bounded, *in_open), "{bytes:?}");
     }
     Ok(())
+}
+
+fn is_from(range: &Range, key: &[u8]) -> bool {
+    range.from().as_bytes() == key
+}
+
+fn is_to(range: &Range, key: &[u8]) -> bool {
+    range.to().map(|key| key.as_bytes()) == Some(key)
 }
 
 #[test]
 fn a_range_gives_what_it_was_made_of(rt: HostRuntime) -> Result<(), Fail> {
     let alloc = rt.alloc();
-    let to = key_of(alloc, b"d")?;
-    let range = Range::new(key_of(alloc, b"b")?, Some(to), true, 2)?.clone()?;
-    assert_eq!(rt; range.from().as_bytes(), b"b".as_slice());
-    assert_eq!(rt; range.to().map(|key| key.as_bytes()), Some(b"d".as_slice()));
+    let range = bounded(alloc, true, 2)?.clone()?;
+    assert!(rt; is_from(&range, b"b"));
+    assert!(rt; is_to(&range, b"d"));
     assert_eq!(rt; (range.is_backward(), range.limit()), (true, 2));
     Ok(())
+}
+
+/// Whether a copy of a batch of one edit has this edit.
+fn is_copied(alloc: Global) -> Result<bool, KvError> {
+    let batch = batch_of(alloc, &[(b"a", Some(b"1"))])?.clone()?;
+    Ok(is_edit(&batch, b"a", Some(b"1")))
+}
+
+fn row_of(alloc: Global, key: &[u8], value: &[u8]) -> Result<Row, KvError> {
+    let value = value_of(alloc, value)?;
+    let key = key_of(alloc, key)?;
+    Ok(Row { key, value })
+}
+
+/// A page of a copy of this row.
+fn page_of(alloc: Global, row: &Row) -> Result<Page, KvError> {
+    Ok(Page::new(vec![in alloc; row.clone()?]?, true))
 }
 
 #[test]
 fn copies_are_made(rt: HostRuntime) -> Result<(), Fail> {
     let alloc = rt.alloc();
-    let batch = batch_of(alloc, &[(b"a", Some(b"1"))])?.clone()?;
-    assert!(rt; is_edit(&batch, b"a", Some(b"1")));
-    let row = Row {
-        key: key_of(alloc, b"a")?,
-        value: value_of(alloc, b"1")?,
-    };
+    assert!(rt; is_copied(alloc)?);
+    let row = row_of(alloc, b"a", b"1")?;
     assert_eq!(rt; row.size(), 6);
-    let page = Page::new(vec![in alloc; row.clone()?]?, true);
+    let page = page_of(alloc, &row)?;
     assert_eq!(rt; (page.rows().len(), page.has_more()), (1, true));
     Ok(())
 }

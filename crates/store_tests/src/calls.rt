@@ -3,7 +3,7 @@ ghost use Rattle.std.specs.Prelude.{None};
 ghost use Rattle.disk.specs.State.{Absent};
 
 use disk::{Disk, DiskError, MemDisk};
-use record_log::Log;
+use record_log::{Log, LogError};
 use std::alloc::Global;
 use std::test::Fail;
 
@@ -90,19 +90,44 @@ impl Disk for NotingDisk {
     }
 }
 
+// The calls of a log, without what they promise.
+fn create(alloc: Global, disk: &mut NotingDisk) -> Result<Log, LogError> {
+    Log::create(alloc, disk, 3)
+}
+
+fn append(
+    alloc: Global,
+    disk: &mut NotingDisk,
+    log: &mut Log,
+    bytes: &[u8],
+) -> Result<(), LogError> {
+    log.append(alloc, disk, bytes)
+}
+
+fn open(alloc: Global, disk: &mut NotingDisk) -> Result<Log, LogError> {
+    Log::open(alloc, disk, 3, 0)
+}
+
+// Whether the first call is a sync, and no other is a write.
+fn syncs_and_reads(calls: &[Called]) -> bool {
+    match calls {
+        [Called::Sync, behind @ ..] => !behind.contains(&Called::Write),
+        _ => false,
+    }
+}
+
 #[test]
 fn a_log_makes_its_calls_in_their_order(rt: HostRuntime) -> Result<(), Fail> {
-    let mut disk = NotingDisk::new(rt.alloc());
-    let mut log = Log::create(rt.alloc(), &mut disk, 3)?;
+    let alloc = rt.alloc();
+    let mut disk = NotingDisk::new(alloc);
+    let mut log = create(alloc, &mut disk)?;
     assert_eq!(rt; disk.taken(), [Called::Write, Called::Sync].as_slice());
-    log.append(rt.alloc(), &mut disk, b"one")?;
     let appended = [Called::Write, Called::Sync, Called::Write, Called::Sync];
-    assert_eq!(rt; disk.taken(), appended.as_slice());
-    log.append(rt.alloc(), &mut disk, b"")?;
-    assert_eq!(rt; disk.taken(), appended.as_slice());
-    let _opened = Log::open(rt.alloc(), &mut disk, 3, 0)?;
-    let calls = disk.taken();
-    assert!(rt; calls.first() == Some(&Called::Sync));
-    assert!(rt; !calls[1..].contains(&Called::Write));
+    for bytes in [b"one".as_slice(), b""] {
+        append(alloc, &mut disk, &mut log, bytes)?;
+        assert_eq!(rt; disk.taken(), appended.as_slice());
+    }
+    let _opened = open(alloc, &mut disk)?;
+    assert!(rt; syncs_and_reads(disk.taken()));
     Ok(())
 }

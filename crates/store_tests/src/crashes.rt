@@ -149,18 +149,30 @@ static ROWS: [Row; 14] = [
     ),
 ];
 
+// Whether this is the content after these acts and a crash.
+fn leaves(alloc: Global, acts: &[Act], junk: Junk, want: Option<&[u8]>) -> Result<bool, Fail> {
+    Ok(left(alloc, acts, junk)?.as_deref() == want)
+}
+
+// The same, with these bytes in the loose places.
+fn leaves_by(alloc: Global, acts: &[Act], junk: &[u8], want: Option<&[u8]>) -> Result<bool, Fail> {
+    leaves(alloc, acts, junk_of(alloc, junk)?, want)
+}
+
 #[test]
 fn outcomes_of_a_crash(rt: HostRuntime) -> Result<(), Fail> {
     let alloc = rt.alloc();
-    for (acts, old, new, torn) in ROWS {
-        let by_old = left(alloc, acts, Junk::Old)?;
-        assert_eq!(rt; by_old.as_deref(), old, "old after {acts:?}");
-        let by_new = left(alloc, acts, Junk::New)?;
-        assert_eq!(rt; by_new.as_deref(), new, "new after {acts:?}");
-        let no_junk = left(alloc, acts, junk_of(alloc, &[])?)?;
-        assert_eq!(rt; no_junk.as_deref(), new, "no junk after {acts:?}");
-        let by_junk = left(alloc, acts, junk_of(alloc, &[1, 2, 3])?)?;
-        assert_eq!(rt; by_junk.as_deref(), torn, "junk after {acts:?}");
+    for (acts, old, new, torn) in &ROWS {
+        assert!(rt; leaves(alloc, acts, Junk::Old, *old)?, "old after {acts:?}");
+        assert!(rt; leaves(alloc, acts, Junk::New, *new)?, "new after {acts:?}");
+        assert!(rt;
+            leaves_by(alloc, acts, &[], *new)?,
+            "no junk after {acts:?}"
+        );
+        assert!(rt;
+            leaves_by(alloc, acts, &[1, 2, 3], *torn)?,
+            "junk after {acts:?}"
+        );
     }
     Ok(())
 }
@@ -175,15 +187,20 @@ const NEXT: &[u8] = &[
     0, 0, 0, 0x11, 0, 0, 0, 0, 0, 0, 0, 2, 0, 1, 1, 0, 1, 0x61, 0, 1, 0x32, 0,
 ];
 
+// Its record, a closed gate, and junk in place of the next.
+fn stopped(alloc: Global) -> Result<Vec<u8>, AllocError> {
+    let mut want = LOG[..22].to_vec(alloc)?;
+    want.push(0)?;
+    want.extend_from_slice(&[1; 22])?;
+    Ok(want)
+}
+
 #[test]
 fn a_log_that_stops_in_an_append(rt: HostRuntime) -> Result<(), Fail> {
     let alloc = rt.alloc();
     let acts = [Act::Write(0, LOG), Act::Sync, Act::Write(23, NEXT)];
-    let found = left(alloc, &acts, junk_of(alloc, &[1])?)?;
-    let mut want = LOG[..22].to_vec(alloc)?;
-    want.push(0)?;
-    want.extend_from_slice(&[1; 22])?;
-    assert_eq!(rt; found.as_deref(), Some(want.as_slice()));
+    let want = stopped(alloc)?;
+    assert!(rt; leaves_by(alloc, &acts, &[1], Some(want.as_slice()))?);
     Ok(())
 }
 
@@ -197,19 +214,27 @@ fn three_files(alloc: Global) -> Result<MemDisk, DiskError> {
     Ok(disk)
 }
 
+// The calls of a disk, without what they promise.
+fn files(disk: &mut MemDisk) -> Result<Vec<u64>, DiskError> {
+    disk.files()
+}
+
+fn crash(disk: &mut MemDisk, junk: Junk) {
+    disk.crash(junk);
+}
+
+// The files and what they are then, by the junk 6, 7.
+static BEGUN: [(u64, &[u8]); 3] = [(2, &[6, 7, 6]), (5, b"five"), (9, &[6, 7, 6, 7, 6])];
+
 #[test]
 fn each_file_begins_with_the_first_junk(rt: HostRuntime) -> Result<(), Fail> {
     let alloc = rt.alloc();
     let mut disk = three_files(alloc)?;
-    assert_eq!(rt; disk.files()?.as_slice(), [2, 5, 9].as_slice());
-    disk.crash(junk_of(alloc, &[6, 7])?);
-    for (file, want) in [
-        (2, [6, 7, 6].as_slice()),
-        (5, b"five"),
-        (9, &[6, 7, 6, 7, 6]),
-    ] {
-        let found = content(alloc, &mut disk, file)?;
-        assert_eq!(rt; found.as_deref(), Some(want), "in {file}");
+    assert_eq!(rt; files(&mut disk)?.as_slice(), [2, 5, 9].as_slice());
+    crash(&mut disk, junk_of(alloc, &[6, 7])?);
+    for (file, want) in &BEGUN {
+        let found = content(alloc, &mut disk, *file)?;
+        assert_eq!(rt; found.as_deref(), Some(*want), "in {file}");
     }
     Ok(())
 }
@@ -217,24 +242,28 @@ fn each_file_begins_with_the_first_junk(rt: HostRuntime) -> Result<(), Fail> {
 #[test]
 fn old_leaves_what_was_synced(rt: HostRuntime) -> Result<(), Fail> {
     let mut disk = three_files(rt.alloc())?;
-    disk.remove(5)?;
-    assert_eq!(rt; disk.files()?.as_slice(), [2, 9].as_slice());
+    attempt(&mut disk, Try::Remove(5))?;
+    assert_eq!(rt; files(&mut disk)?.as_slice(), [2, 9].as_slice());
     disk.arm(Fault::Stop(1, Junk::New));
-    disk.crash(Junk::Old);
-    assert_eq!(rt; disk.files()?.as_slice(), [5].as_slice());
+    crash(&mut disk, Junk::Old);
+    assert_eq!(rt; files(&mut disk)?.as_slice(), [5].as_slice());
     Ok(())
+}
+
+// A file of a disk and of its clone, after it was written and the clone stopped.
+fn left_of_both(alloc: Global) -> Result<(Vec<u8>, Vec<u8>), Fail> {
+    let mut disk = three_files(alloc)?;
+    disk.write_at(5, 1, b"XYZW")?;
+    let mut copy = disk.clone()?;
+    crash(&mut disk, Junk::New);
+    crash(&mut copy, Junk::Old);
+    let written = content(alloc, &mut disk, 5)?.ok_or("gone")?;
+    Ok((written, content(alloc, &mut copy, 5)?.ok_or("gone")?))
 }
 
 #[test]
 fn a_clone_goes_its_own_way(rt: HostRuntime) -> Result<(), Fail> {
-    let alloc = rt.alloc();
-    let mut disk = three_files(alloc)?;
-    disk.write_at(5, 1, b"XYZW")?;
-    let mut copy = disk.clone()?;
-    disk.crash(Junk::New);
-    copy.crash(Junk::Old);
-    let written = content(alloc, &mut disk, 5)?.ok_or("gone")?;
-    let synced = content(alloc, &mut copy, 5)?.ok_or("gone")?;
+    let (written, synced) = left_of_both(rt.alloc())?;
     assert_eq!(rt; written.as_slice(), b"fXYZW".as_slice());
     assert_eq!(rt; synced.as_slice(), b"five".as_slice());
     Ok(())
@@ -263,43 +292,50 @@ fn attempt(disk: &mut MemDisk, call: Try) -> Result<(), DiskError> {
     }
 }
 
+// Why a call is refused. A want of memory changes nothing, so the call can be made again.
+fn refusal_of(disk: &mut MemDisk, call: Try) -> Option<DiskError> {
+    match attempt(disk, call) {
+        Err(DiskError::Memory) => attempt(disk, call).err(),
+        answer => answer.err(),
+    }
+}
+
+const MISSING: Option<DiskError> = Some(DiskError::NoFile);
+
+const SHORT: Option<DiskError> = Some(DiskError::Short);
+
+const FAILED: Option<DiskError> = Some(DiskError::Failed);
+
+// Calls, one after another, and why each is refused.
+static CALLS: [(Try, Option<DiskError>); 20] = [
+    (Try::Length(1), MISSING),
+    (Try::Length(5), None),
+    (Try::Read(1, 0, 0), MISSING),
+    (Try::Read(5, 4, 0), None),
+    (Try::Read(5, 3, 2), SHORT),
+    (Try::Read(5, 5, 0), SHORT),
+    (Try::Write(1, 1), MISSING),
+    (Try::Write(5, 5), SHORT),
+    (Try::Write(5, 4), None),
+    (Try::Write(5, (1 << 63) - 2), SHORT),
+    (Try::Write(5, (1 << 63) - 1), FAILED),
+    (Try::Write(1, u64::MAX), FAILED),
+    (Try::Cut(1, 0), MISSING),
+    (Try::Cut(5, 6), SHORT),
+    (Try::Cut(5, 5), None),
+    (Try::Sync(1), MISSING),
+    (Try::Remove(1), MISSING),
+    (Try::Remove(5), None),
+    (Try::Remove(5), MISSING),
+    (Try::Write(1, 0), None),
+];
+
 #[test]
 fn refusals(rt: HostRuntime) -> Result<(), Fail> {
     let mut disk = three_files(rt.alloc())?;
-    let missing = Some(DiskError::NoFile);
-    let short = Some(DiskError::Short);
-    let failed = Some(DiskError::Failed);
-    for (row, (call, want)) in [
-        (Try::Length(1), missing),
-        (Try::Length(5), None),
-        (Try::Read(1, 0, 0), missing),
-        (Try::Read(5, 4, 0), None),
-        (Try::Read(5, 3, 2), short),
-        (Try::Read(5, 5, 0), short),
-        (Try::Write(1, 1), missing),
-        (Try::Write(5, 5), short),
-        (Try::Write(5, 4), None),
-        (Try::Write(5, (1 << 63) - 2), short),
-        (Try::Write(5, (1 << 63) - 1), failed),
-        (Try::Write(1, u64::MAX), failed),
-        (Try::Cut(1, 0), missing),
-        (Try::Cut(5, 6), short),
-        (Try::Cut(5, 5), None),
-        (Try::Sync(1), missing),
-        (Try::Remove(1), missing),
-        (Try::Remove(5), None),
-        (Try::Remove(5), missing),
-        (Try::Write(1, 0), None),
-    ]
-    .into_iter()
-    .enumerate()
-    {
-        let mut answer = attempt(&mut disk, call).err();
-        if answer == Some(DiskError::Memory) {
-            answer = attempt(&mut disk, call).err();
-        }
-        assert_eq!(rt; answer, want, "in row {row}");
+    for (row, (call, want)) in CALLS.into_iter().enumerate() {
+        assert_eq!(rt; refusal_of(&mut disk, call), want, "in row {row}");
     }
-    assert_eq!(rt; disk.files()?.as_slice(), [1, 2, 9].as_slice());
+    assert_eq!(rt; files(&mut disk)?.as_slice(), [1, 2, 9].as_slice());
     Ok(())
 }

@@ -1,6 +1,6 @@
 use disk::{Crash, Disk, DiskError, Junk, JunkBytes, MemDisk};
 use record_log::{Log, LogError};
-use std::alloc::Global;
+use std::alloc::{AllocError, Global};
 use std::test::Fail;
 
 const FILE: u64 = 3;
@@ -37,7 +37,7 @@ fn content(alloc: Global, disk: &mut MemDisk) -> Result<Vec<u8>, DiskError> {
 fn log_of(alloc: Global, disk: &mut MemDisk, records: &[&[u8]]) -> Result<Log, LogError> {
     let mut log = Log::create(alloc, disk, FILE)?;
     for one in records {
-        log.append(alloc, disk, one)?;
+        append(alloc, disk, &mut log, one)?;
     }
     Ok(log)
 }
@@ -52,6 +52,23 @@ fn disk_with(alloc: Global, file: Option<&[u8]>) -> Result<MemDisk, DiskError> {
     Ok(disk)
 }
 
+// The calls of a log and a disk, without what they promise.
+fn open(alloc: Global, disk: &mut MemDisk, start: u64) -> Result<Log, LogError> {
+    Log::open(alloc, disk, FILE, start)
+}
+
+fn append(alloc: Global, disk: &mut MemDisk, log: &mut Log, bytes: &[u8]) -> Result<(), LogError> {
+    log.append(alloc, disk, bytes)
+}
+
+fn crash(disk: &mut MemDisk, junk: Junk) {
+    disk.crash(junk);
+}
+
+fn junk_of(alloc: Global, bytes: &[u8]) -> Result<Junk, AllocError> {
+    Ok(Junk::Bytes(JunkBytes::new(bytes.to_vec(alloc)?)))
+}
+
 // Whether the log has these records and no others.
 fn has(alloc: Global, disk: &mut MemDisk, log: &Log, want: &[&[u8]]) -> Result<bool, LogError> {
     let mut same = log.len() == want.len();
@@ -62,30 +79,33 @@ fn has(alloc: Global, disk: &mut MemDisk, log: &Log, want: &[&[u8]]) -> Result<b
     Ok(same)
 }
 
+// Whether the log that is opened has these records and no others.
+fn opens(alloc: Global, disk: &mut MemDisk, want: &[&[u8]]) -> Result<bool, LogError> {
+    let log = open(alloc, disk, 0)?;
+    has(alloc, disk, &log, want)
+}
+
+// Records, and the bytes of their log.
+static LOGS: [(&[&[u8]], &[u8]); 5] = [
+    (&[], &[0]),
+    (&[FIRST], LOG),
+    (&[FIRST, SECOND], BOTH),
+    (&[b""], &[1, 0, 0, 0, 0, 0]),
+    (
+        &[b"", b"ab"],
+        &[1, 0, 0, 0, 0, 1, 0, 0, 0, 2, b'a', b'b', 0],
+    ),
+];
+
 #[test]
 fn bytes_of_a_log(rt: HostRuntime) -> Result<(), Fail> {
     let alloc = rt.alloc();
-    let rows: [(&[&[u8]], &[u8]); 5] = [
-        (&[], &[0]),
-        (&[FIRST], LOG),
-        (&[FIRST, SECOND], BOTH),
-        (&[b""], &[1, 0, 0, 0, 0, 0]),
-        (
-            &[b"", b"ab"],
-            &[1, 0, 0, 0, 0, 1, 0, 0, 0, 2, b'a', b'b', 0],
-        ),
-    ];
-    for (records, want) in rows {
+    for (records, want) in &LOGS {
         let mut disk = MemDisk::new(alloc);
         let log = log_of(alloc, &mut disk, records)?;
         assert!(rt; has(alloc, &mut disk, &log, records)?, "{records:?}");
-        let again = Log::open(alloc, &mut disk, FILE, 0)?;
-        assert!(rt;
-            has(alloc, &mut disk, &again, records)?,
-            "{records:?} opened"
-        );
-        let bytes = content(alloc, &mut disk)?;
-        assert_eq!(rt; bytes.as_slice(), want);
+        assert!(rt; opens(alloc, &mut disk, records)?, "{records:?} opened");
+        assert_eq!(rt; content(alloc, &mut disk)?.as_slice(), *want);
     }
     Ok(())
 }
@@ -98,18 +118,22 @@ fn on_the_way(alloc: Global) -> Result<MemDisk, LogError> {
     Ok(disk)
 }
 
+// The log of the first, and junk in place of the next.
+fn stopped(alloc: Global) -> Result<Vec<u8>, AllocError> {
+    let mut want = LOG[..22].to_vec(alloc)?;
+    want.push(0)?;
+    want.extend_from_slice(&[1; 22])?;
+    Ok(want)
+}
+
 #[test]
 fn a_stop_before_the_first_sync(rt: HostRuntime) -> Result<(), Fail> {
     let alloc = rt.alloc();
     let mut disk = on_the_way(alloc)?;
-    disk.crash(Junk::Bytes(JunkBytes::new([1].to_vec(alloc)?)));
-    let mut want = LOG[..22].to_vec(alloc)?;
-    want.push(0)?;
-    want.extend_from_slice(&[1; 22])?;
+    crash(&mut disk, junk_of(alloc, &[1])?);
     let found = content(alloc, &mut disk)?;
-    assert_eq!(rt; found.as_slice(), want.as_slice());
-    let log = Log::open(alloc, &mut disk, FILE, 0)?;
-    assert_eq!(rt; log.len(), 1);
+    assert_eq!(rt; found.as_slice(), stopped(alloc)?.as_slice());
+    assert_eq!(rt; open(alloc, &mut disk, 0)?.len(), 1);
     Ok(())
 }
 
@@ -118,10 +142,16 @@ fn stopped_at_the_gate(alloc: Global, junk: Junk) -> Result<(MemDisk, Log), LogE
     let mut disk = on_the_way(alloc)?;
     disk.sync(FILE)?;
     disk.write_at(FILE, 22, &[1])?;
-    disk.crash(junk);
-    let mut log = Log::open(alloc, &mut disk, FILE, 0)?;
-    log.append(alloc, &mut disk, b"last")?;
+    crash(&mut disk, junk);
+    let mut log = open(alloc, &mut disk, 0)?;
+    append(alloc, &mut disk, &mut log, b"last")?;
     Ok((disk, log))
+}
+
+// Whether that log has these records and no others.
+fn has_after_a_stop(alloc: Global, junk: Junk, want: &[&[u8]]) -> Result<bool, LogError> {
+    let (mut disk, log) = stopped_at_the_gate(alloc, junk)?;
+    has(alloc, &mut disk, &log, want)
 }
 
 #[test]
@@ -129,14 +159,12 @@ fn a_stop_before_the_last_sync(rt: HostRuntime) -> Result<(), Fail> {
     let alloc = rt.alloc();
     let without: &[&[u8]] = &[FIRST, b"last"];
     let with: &[&[u8]] = &[FIRST, SECOND, b"last"];
-    let (mut disk, log) = stopped_at_the_gate(alloc, Junk::Old)?;
-    assert!(rt; has(alloc, &mut disk, &log, without)?, "old");
-    let (mut disk, log) = stopped_at_the_gate(alloc, Junk::New)?;
-    assert!(rt; has(alloc, &mut disk, &log, with)?, "new");
-    for (gate, want) in [(0, without), (1, with), (2, without), (255, without)] {
-        let junk = Junk::Bytes(JunkBytes::new([gate].to_vec(alloc)?));
-        let (mut disk, log) = stopped_at_the_gate(alloc, junk)?;
-        assert!(rt; has(alloc, &mut disk, &log, want)?, "gate {gate}");
+    assert!(rt; has_after_a_stop(alloc, Junk::Old, without)?, "old");
+    assert!(rt; has_after_a_stop(alloc, Junk::New, with)?, "new");
+    for gate in [0, 1, 2, 255] {
+        let want = if gate == 1 { with } else { without };
+        let junk = junk_of(alloc, &[gate])?;
+        assert!(rt; has_after_a_stop(alloc, junk, want)?, "gate {gate}");
     }
     Ok(())
 }
@@ -186,17 +214,25 @@ fn refusal(answer: Result<(), LogError>) -> Result<Option<LogError>, LogError> {
     }
 }
 
+// Why such a file is not opened, and how many records its log has.
+fn opening(
+    alloc: Global,
+    file: Option<&[u8]>,
+    start: u64,
+) -> Result<(Option<LogError>, usize), LogError> {
+    let mut disk = disk_with(alloc, file)?;
+    match open(alloc, &mut disk, start) {
+        Ok(log) => Ok((None, log.len())),
+        Err(e) => Ok((refusal(Err(e))?, 0)),
+    }
+}
+
 #[test]
 fn what_is_opened(rt: HostRuntime) -> Result<(), Fail> {
     let alloc = rt.alloc();
-    for (file, start, want, count) in OPENINGS {
-        let mut disk = disk_with(alloc, file)?;
-        let (answer, found) = match Log::open(alloc, &mut disk, FILE, start) {
-            Ok(log) => (Ok(()), log.len()),
-            Err(e) => (Err(e), 0),
-        };
-        assert_eq!(rt; refusal(answer)?, want, "{file:?} from {start}");
-        assert_eq!(rt; found, count, "{file:?} from {start}");
+    for (file, start, want, count) in &OPENINGS {
+        let found = opening(alloc, *file, *start)?;
+        assert_eq!(rt; found, (*want, *count), "{file:?} from {start}");
     }
     Ok(())
 }
@@ -204,29 +240,31 @@ fn what_is_opened(rt: HostRuntime) -> Result<(), Fail> {
 // The file after an append of one byte.
 fn appended(alloc: Global, file: &[u8], start: u64) -> Result<Vec<u8>, LogError> {
     let mut disk = disk_with(alloc, Some(file))?;
-    let mut log = Log::open(alloc, &mut disk, FILE, start)?;
-    log.append(alloc, &mut disk, b"z")?;
+    let mut log = open(alloc, &mut disk, start)?;
+    append(alloc, &mut disk, &mut log, b"z")?;
     Ok(content(alloc, &mut disk)?)
 }
+
+// A file, where its log begins, and the file after an append of one byte.
+static APPENDS: [(&[u8], u64, &[u8]); 4] = [
+    (&[0], 0, &[1, 0, 0, 0, 1, b'z', 0]),
+    // Behind the closed gate the file has more.
+    (&[0, 9, 9], 0, &[1, 0, 0, 0, 1, b'z', 0]),
+    (
+        &[7, 9, 9, 9, 9, 9, 9, 9, 8],
+        0,
+        &[1, 0, 0, 0, 1, b'z', 0, 9, 8],
+    ),
+    // The log begins behind other bytes.
+    (&[9, 1, 0], 2, &[9, 1, 1, 0, 0, 0, 1, b'z', 0]),
+];
 
 #[test]
 fn an_append_writes_its_own_bytes(rt: HostRuntime) -> Result<(), Fail> {
     let alloc = rt.alloc();
-    let rows: [(&[u8], u64, &[u8]); 4] = [
-        (&[0], 0, &[1, 0, 0, 0, 1, b'z', 0]),
-        // Behind the closed gate the file has more.
-        (&[0, 9, 9], 0, &[1, 0, 0, 0, 1, b'z', 0]),
-        (
-            &[7, 9, 9, 9, 9, 9, 9, 9, 8],
-            0,
-            &[1, 0, 0, 0, 1, b'z', 0, 9, 8],
-        ),
-        // The log begins behind other bytes.
-        (&[9, 1, 0], 2, &[9, 1, 1, 0, 0, 0, 1, b'z', 0]),
-    ];
-    for (file, start, want) in rows {
-        let found = appended(alloc, file, start)?;
-        assert_eq!(rt; found.as_slice(), want, "{file:?} from {start}");
+    for (file, start, want) in &APPENDS {
+        let found = appended(alloc, file, *start)?;
+        assert_eq!(rt; found.as_slice(), *want, "{file:?} from {start}");
     }
     Ok(())
 }
@@ -237,9 +275,9 @@ fn sized(alloc: Global, len: usize) -> Result<(Option<LogError>, usize, usize), 
     let mut disk = MemDisk::new(alloc);
     let mut log = log_of(alloc, &mut disk, &[b"one"])?;
     let bytes = vec![in alloc; 7u8; len]?;
-    let why = refusal(log.append(alloc, &mut disk, &bytes))?;
-    log.append(alloc, &mut disk, b"last")?;
-    let again = Log::open(alloc, &mut disk, FILE, 0)?;
+    let why = refusal(append(alloc, &mut disk, &mut log, &bytes))?;
+    append(alloc, &mut disk, &mut log, b"last")?;
+    let again = open(alloc, &mut disk, 0)?;
     Ok((why, log.len(), again.len()))
 }
 
@@ -263,6 +301,14 @@ fn failed(alloc: Global, disk: &mut MemDisk) -> Result<Log, LogError> {
     Ok(log)
 }
 
+// Why the log's first record is not given, where it has one record.
+fn record_refusal(alloc: Global, disk: &mut MemDisk, log: &Log) -> Option<LogError> {
+    if log.len() != 1 {
+        return None;
+    }
+    log.record(alloc, disk, 0).err()
+}
+
 #[test]
 fn a_failure_stays_until_the_log_is_opened(rt: HostRuntime) -> Result<(), Fail> {
     let alloc = rt.alloc();
@@ -273,16 +319,13 @@ fn a_failure_stays_until_the_log_is_opened(rt: HostRuntime) -> Result<(), Fail> 
         (b"two", LogError::Failed),
         (b"six", LogError::Failed),
     ] {
-        let answer = log.append(alloc, &mut disk, bytes);
+        let answer = append(alloc, &mut disk, &mut log, bytes);
         assert_eq!(rt; refusal(answer)?, Some(want));
     }
-    if log.len() == 1 {
-        let answer = log.record(alloc, &mut disk, 0).err();
-        assert_eq!(rt; answer, Some(LogError::Failed));
-    }
-    disk.crash(Junk::Old);
-    let again = Log::open(alloc, &mut disk, FILE, 0)?;
-    assert!(rt; has(alloc, &mut disk, &again, &[b"one"])?);
+    let answer = record_refusal(alloc, &mut disk, &log);
+    assert_eq!(rt; answer, Some(LogError::Failed));
+    crash(&mut disk, Junk::Old);
+    assert!(rt; opens(alloc, &mut disk, &[b"one"])?);
     Ok(())
 }
 
