@@ -1,7 +1,7 @@
 -- The events of a script's statements, and failures of its run.
 use Rattle.std.proofs.Common.{◌≡◌, ℕ, List, [], ◌∷◌, ◌++◌, Bool, true, false, arith, Option, None}
 use Rattle.std.proofs.Common.{Some}
-use Rattle.std.specs.Prelude.{All, IfSome}
+use Rattle.std.specs.Prelude.{All, IfSome, Result, Ok, Err, OnOk}
 use Rattle.std.proofs.lemmas.Bool.Decides.{nat_tests}
 use Rattle.std.proofs.lemmas.List.Elements.{All-nil, All-cons, All-head, All-tail}
 use Rattle.std.specs.Prelude.{◌==◌, if◌then◌else◌}
@@ -47,3 +47,8 @@ late (Some t) Unreadable e = absurd e
 late (Some t) (Script f) e = absurd e
 late (Some t) Output e = tt
 late (Some t) Memory e = tt
+
+-- what follows from a thing holds where there is a value, if the thing does
+pub on_ok_map : {T E P Q : Type 0} (r : Result T E) → (P → Q) → OnOk r P → OnOk r Q
+on_ok_map (Ok x) f p = f p
+on_ok_map (Err e) f p = p

@@ -1,5 +1,7 @@
 ghost use Rattle.std.specs.Prelude.{◌≡◌, ◌≢◌, ◌++◌, All, IfOk, IfErr, IfSome, OnOk};
+ghost use Rattle.std.specs.Io.KnownBytes.{Appends};
 ghost use Rattle.program.specs.Scripts.{lines_of, IsScript, Names};
+ghost use Rattle.program.specs.Text.{event_lines, run_text};
 ghost use Rattle.program.specs.Runs.{event_of, events_of, IsRunOf, IsRunOfText, IsFailureOf};
 ghost use Rattle.program.specs.Runs.{IsOfReading, IsOfRun, alone};
 ghost use Rattle.program.specs.declared.failure.Failure.TheVariants.{Output};
@@ -10,7 +12,7 @@ use crate::text::{event_places, print_run};
 use configurations::{Config, ConfigError, Configs, NodeId};
 use disk::Fault;
 use kv_types::Limits;
-use lab::Event;
+use lab::{Event, Lines};
 use std::alloc::{AllocError, Global};
 use std::io::{self, ErrorKind, Read, Write};
 
@@ -46,6 +48,24 @@ fn alone(alloc: Global, node: NodeId) -> Result<Configs, ConfigError>
     Configs::new(configs)
 }
 
+/// Prints a run. It fails only where the output takes no more.
+fn print<W: Write>(
+    places: &[u32],
+    script: &Script,
+    steps: &[Lines],
+    out: &mut W,
+) -> Result<(), Failure>
+    requires { places.now ≡ event_lines script.now.statements.items }
+    ensures text { OnOk result (Appends (W.contents out.old) (W.contents out.new)
+        (run_text script.now.statements.items steps.now)) }
+    ensures cause { IfErr result (λ failure. failure ≡ Output) }
+{
+    match print_run(places, &script.statements, steps, out) {
+        Ok(()) => Ok(()),
+        Err(_) => Err(Failure::Output),
+    }
+}
+
 /// Runs a script at its node, and writes what happened.
 fn run_script<W: Write>(alloc: Global, script: &Script, out: &mut W) -> Result<(), Failure>
     requires { All (λ it. Names script.now.node it.meaning) script.now.statements.items }
@@ -63,10 +83,7 @@ fn run_script<W: Write>(alloc: Global, script: &Script, out: &mut W) -> Result<(
     };
     let limits = Limits::default();
     let report = lab::run(alloc, &configs, &events, &limits)?;
-    let Ok(()) = print_run(&places, &script.statements, &report.steps, out) else {
-        return Err(Failure::Output);
-    };
-    Ok(())
+    print(&places, script, &report.steps, out)
 }
 
 fn all_of<R: Read>(alloc: Global, input: &mut R) -> io::Result<Vec<u8>>

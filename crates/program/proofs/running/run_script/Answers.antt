@@ -1,4 +1,4 @@
-use Rattle.program.proofs.Wholes.{names_nodes}
+use Rattle.program.proofs.Wholes.{names_nodes, on_ok_map}
 use Rattle.program.proofs.running.run_script.Goals as goal
 
 pub run-requires-clause-alone : goal.run-requires-clause-alone
@@ -15,7 +15,7 @@ run-requires-clause-named g c =
     (names_nodes c.args.script.now.node c.args.script.now.statements.items c.requires)
 
 pub returns-clause-run : goal.returns-clause-run
-returns-clause-run g c = record {
+returns-clause-run g c = on_ok_map c.print.result (λ wrote. record {
   report = c.in_ok-report.report;
   ran = rw (
     c.deref-3.ensures.value,
@@ -29,5 +29,5 @@ returns-clause-run g c = record {
     c.deref.ensures.value,
     c.in-Ok.ensures,
   ) at c.in_ok-report.ensures.history;
-  wrote = rw (c.deref-5.ensures.value, c.deref-6.ensures.value) at c.in-Ok-print_run.ensures;
-}
+  wrote = rw c.deref-5.ensures.value at wrote;
+}) c.print.ensures.text
