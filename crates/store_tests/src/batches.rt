@@ -283,14 +283,16 @@ fn found(alloc: Global, key: &[u8]) -> Result<Option<Vec<u8>>, KvError> {
     }
 }
 
+fn is_found(alloc: Global, key: &[u8], want: Option<&[u8]>) -> Result<bool, KvError> {
+    Ok(found(alloc, key)?.as_deref() == want)
+}
+
 #[test]
 fn the_last_edit_decides(rt: HostRuntime) -> Result<(), Fail> {
     let alloc = rt.alloc();
-    let two: &[u8] = b"2";
-    for (key, want) in [(b"a", Some(two)), (b"b", None), (b"c", None)] {
-        let value = found(alloc, key)?;
-        assert_eq!(rt; value.as_deref(), want);
-    }
+    assert!(rt; is_found(alloc, b"a", Some(b"2"))?);
+    assert!(rt; is_found(alloc, b"b", None)?);
+    assert!(rt; is_found(alloc, b"c", None)?);
     Ok(())
 }
 
@@ -357,21 +359,17 @@ fn a_range_ends_before_its_bound(rt: HostRuntime) -> Result<(), Fail> {
     Ok(())
 }
 
-fn is_from(range: &Range, key: &[u8]) -> bool {
-    range.from().as_bytes() == key
-}
-
-fn is_to(range: &Range, key: &[u8]) -> bool {
-    range.to().map(|key| key.as_bytes()) == Some(key)
+/// Whether a copy begins there and ends there, whether it goes backward, and its limit.
+fn copied_range(alloc: Global) -> Result<(bool, bool, bool, u32), KvError> {
+    let range = bounded(alloc, true, 2)?.clone()?;
+    let is_from = range.from().as_bytes() == b"b".as_slice();
+    let is_to = range.to().map(|key| key.as_bytes()) == Some(b"d".as_slice());
+    Ok((is_from, is_to, range.is_backward(), range.limit()))
 }
 
 #[test]
 fn a_range_gives_what_it_was_made_of(rt: HostRuntime) -> Result<(), Fail> {
-    let alloc = rt.alloc();
-    let range = bounded(alloc, true, 2)?.clone()?;
-    assert!(rt; is_from(&range, b"b"));
-    assert!(rt; is_to(&range, b"d"));
-    assert_eq!(rt; (range.is_backward(), range.limit()), (true, 2));
+    assert_eq!(rt; copied_range(rt.alloc())?, (true, true, true, 2));
     Ok(())
 }
 
@@ -387,18 +385,17 @@ fn row_of(alloc: Global, key: &[u8], value: &[u8]) -> Result<Row, KvError> {
     Ok(Row { key, value })
 }
 
-/// A page of a copy of this row.
-fn page_of(alloc: Global, row: &Row) -> Result<Page, KvError> {
-    Ok(Page::new(vec![in alloc; row.clone()?]?, true))
+/// A row's size, and of a page of its copy how many rows it has, and whether there are more.
+fn copied_row(alloc: Global) -> Result<(usize, usize, bool), KvError> {
+    let row = row_of(alloc, b"a", b"1")?;
+    let page = Page::new(vec![in alloc; row.clone()?]?, true);
+    Ok((row.size(), page.rows().len(), page.has_more()))
 }
 
 #[test]
 fn copies_are_made(rt: HostRuntime) -> Result<(), Fail> {
     let alloc = rt.alloc();
     assert!(rt; is_copied(alloc)?);
-    let row = row_of(alloc, b"a", b"1")?;
-    assert_eq!(rt; row.size(), 6);
-    let page = page_of(alloc, &row)?;
-    assert_eq!(rt; (page.rows().len(), page.has_more()), (1, true));
+    assert_eq!(rt; copied_row(alloc)?, (6, 1, true));
     Ok(())
 }

@@ -226,15 +226,22 @@ fn crash(disk: &mut MemDisk, junk: Junk) {
 // The files and what they are then, by the junk 6, 7.
 static BEGUN: [(u64, &[u8]); 3] = [(2, &[6, 7, 6]), (5, b"five"), (9, &[6, 7, 6, 7, 6])];
 
+// Whether the file is this then.
+fn begins(alloc: Global, file: u64, want: &[u8]) -> Result<bool, DiskError> {
+    let mut disk = three_files(alloc)?;
+    crash(&mut disk, junk_of(alloc, &[6, 7])?);
+    Ok(content(alloc, &mut disk, file)?.as_deref() == Some(want))
+}
+
 #[test]
 fn each_file_begins_with_the_first_junk(rt: HostRuntime) -> Result<(), Fail> {
     let alloc = rt.alloc();
-    let mut disk = three_files(alloc)?;
-    assert_eq!(rt; files(&mut disk)?.as_slice(), [2, 5, 9].as_slice());
-    crash(&mut disk, junk_of(alloc, &[6, 7])?);
+    assert_eq!(rt;
+        files(&mut three_files(alloc)?)?.as_slice(),
+        [2, 5, 9].as_slice()
+    );
     for (file, want) in &BEGUN {
-        let found = content(alloc, &mut disk, *file)?;
-        assert_eq!(rt; found.as_deref(), Some(*want), "in {file}");
+        assert!(rt; begins(alloc, *file, want)?, "in {file}");
     }
     Ok(())
 }
@@ -330,12 +337,20 @@ static CALLS: [(Try, Option<DiskError>); 20] = [
     (Try::Write(1, 0), None),
 ];
 
+// The first row that is answered otherwise.
+fn first_wrong(disk: &mut MemDisk) -> Option<usize> {
+    for (row, (call, want)) in CALLS.iter().enumerate() {
+        if refusal_of(disk, *call) != *want {
+            return Some(row);
+        }
+    }
+    None
+}
+
 #[test]
 fn refusals(rt: HostRuntime) -> Result<(), Fail> {
     let mut disk = three_files(rt.alloc())?;
-    for (row, (call, want)) in CALLS.into_iter().enumerate() {
-        assert_eq!(rt; refusal_of(&mut disk, call), want, "in row {row}");
-    }
+    assert_eq!(rt; first_wrong(&mut disk), None);
     assert_eq!(rt; files(&mut disk)?.as_slice(), [1, 2, 9].as_slice());
     Ok(())
 }

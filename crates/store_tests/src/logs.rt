@@ -97,15 +97,22 @@ static LOGS: [(&[&[u8]], &[u8]); 5] = [
     ),
 ];
 
+// Whether such a log has its records, also when it is opened, and its bytes.
+fn logged(alloc: Global, records: &[&[u8]]) -> Result<(bool, Vec<u8>), LogError> {
+    let mut disk = MemDisk::new(alloc);
+    let log = log_of(alloc, &mut disk, records)?;
+    let has_them = has(alloc, &mut disk, &log, records)?;
+    let is_opened = opens(alloc, &mut disk, records)?;
+    Ok((has_them && is_opened, content(alloc, &mut disk)?))
+}
+
 #[test]
 fn bytes_of_a_log(rt: HostRuntime) -> Result<(), Fail> {
     let alloc = rt.alloc();
     for (records, want) in &LOGS {
-        let mut disk = MemDisk::new(alloc);
-        let log = log_of(alloc, &mut disk, records)?;
-        assert!(rt; has(alloc, &mut disk, &log, records)?, "{records:?}");
-        assert!(rt; opens(alloc, &mut disk, records)?, "{records:?} opened");
-        assert_eq!(rt; content(alloc, &mut disk)?.as_slice(), *want);
+        let (has_them, bytes) = logged(alloc, records)?;
+        assert!(rt; has_them, "{records:?}");
+        assert_eq!(rt; bytes.as_slice(), *want);
     }
     Ok(())
 }
@@ -126,14 +133,20 @@ fn stopped(alloc: Global) -> Result<Vec<u8>, AllocError> {
     Ok(want)
 }
 
-#[test]
-fn a_stop_before_the_first_sync(rt: HostRuntime) -> Result<(), Fail> {
-    let alloc = rt.alloc();
+// What a stop then leaves, and how many records that log has.
+fn left_on_the_way(alloc: Global) -> Result<(Vec<u8>, usize), LogError> {
     let mut disk = on_the_way(alloc)?;
     crash(&mut disk, junk_of(alloc, &[1])?);
     let found = content(alloc, &mut disk)?;
+    Ok((found, open(alloc, &mut disk, 0)?.len()))
+}
+
+#[test]
+fn a_stop_before_the_first_sync(rt: HostRuntime) -> Result<(), Fail> {
+    let alloc = rt.alloc();
+    let (found, count) = left_on_the_way(alloc)?;
     assert_eq!(rt; found.as_slice(), stopped(alloc)?.as_slice());
-    assert_eq!(rt; open(alloc, &mut disk, 0)?.len(), 1);
+    assert_eq!(rt; count, 1);
     Ok(())
 }
 
