@@ -3,6 +3,8 @@ use configurations::{Config, ConfigError, Configs, Epoch, NodeId};
 use std::alloc::Global;
 use std::test::Fail;
 
+const SIXTEEN: &[u16] = &[2, 3, 4, 5, 6, 7, 8, 9, 10, 11, 12, 13, 14, 15, 16, 17];
+
 const SEVENTEEN: &[u16] = &[1, 2, 3, 4, 5, 6, 7, 8, 9, 10, 11, 12, 13, 14, 15, 16, 17];
 
 /// The fault of a list of ids, if it has one. Want of memory is no answer.
@@ -23,39 +25,43 @@ fn fault_of_list(alloc: Global, lists: &[&[u16]]) -> Result<Option<ConfigError>,
     Ok(Configs::new(configs).err())
 }
 
+/// Lists of ids, and the fault of each.
+static IDS: [(&[u16], Option<ConfigError>); 8] = [
+    (&[1], None),
+    (&[3, 65535, 1], None),
+    (SIXTEEN, None),
+    (&[], Some(ConfigError::Empty)),
+    (&[1, 2, 1], Some(ConfigError::Repeated)),
+    (&[0, 0], Some(ConfigError::Repeated)),
+    (SEVENTEEN, Some(ConfigError::TooMany)),
+    (&[1, 0], Some(ConfigError::BadId)),
+];
+
 #[test]
 fn ids(rt: HostRuntime) -> Result<(), Fail> {
-    let table: &[(&[u16], Option<ConfigError>)] = &[
-        (&[1], None),
-        (&[3, 65535, 1], None),
-        (&SEVENTEEN[1..], None),
-        (&[], Some(ConfigError::Empty)),
-        (&[1, 2, 1], Some(ConfigError::Repeated)),
-        (&[0, 0], Some(ConfigError::Repeated)),
-        (SEVENTEEN, Some(ConfigError::TooMany)),
-        (&[1, 0], Some(ConfigError::BadId)),
-    ];
-    for (ids, want) in table {
+    for (ids, want) in &IDS {
         assert_eq!(rt; fault_of(rt.alloc(), ids)?, *want, "{ids:?}");
     }
     Ok(())
 }
 
+/// Lists of configurations, and the fault of each.
+static LISTS: [(&[&[u16]], Option<ConfigError>); 7] = [
+    (&[&[1]], None),
+    (&[&[1, 2, 3], &[1, 3], &[3]], None),
+    (&[], Some(ConfigError::Empty)),
+    (&[&[1, 2], &[1, 2]], Some(ConfigError::NotSmaller)),
+    (&[&[1, 2, 3], &[3, 1]], Some(ConfigError::NotInOrder)),
+    (&[&[1, 2], &[3]], Some(ConfigError::NotInOrder)),
+    (
+        &[&[1, 2, 3], &[3, 1], &[3, 1]],
+        Some(ConfigError::NotSmaller),
+    ),
+];
+
 #[test]
 fn lists(rt: HostRuntime) -> Result<(), Fail> {
-    let table: &[(&[&[u16]], Option<ConfigError>)] = &[
-        (&[&[1]], None),
-        (&[&[1, 2, 3], &[1, 3], &[3]], None),
-        (&[], Some(ConfigError::Empty)),
-        (&[&[1, 2], &[1, 2]], Some(ConfigError::NotSmaller)),
-        (&[&[1, 2, 3], &[3, 1]], Some(ConfigError::NotInOrder)),
-        (&[&[1, 2], &[3]], Some(ConfigError::NotInOrder)),
-        (
-            &[&[1, 2, 3], &[3, 1], &[3, 1]],
-            Some(ConfigError::NotSmaller),
-        ),
-    ];
-    for (lists, want) in table {
+    for (lists, want) in &LISTS {
         assert_eq!(rt; fault_of_list(rt.alloc(), lists)?, *want, "{lists:?}");
     }
     Ok(())
@@ -77,27 +83,42 @@ fn numbers_of_faults(rt: HostRuntime) {
     }
 }
 
+// The configuration 5, 2, 9.
+fn config(alloc: Global) -> Result<Config, ConfigError> {
+    Config::new(alloc, [5, 2, 9].to_vec(alloc)?)
+}
+
+/// Which nodes stand before and after this one, and whether it is there.
+fn about(alloc: Global, id: u16) -> Result<(Option<u16>, Option<u16>, bool), ConfigError> {
+    let config = config(alloc)?;
+    let id = NodeId::new(id).ok_or(ConfigError::BadId)?;
+    let before = config.before(id).map(|id| id.get());
+    let after = config.after(id).map(|id| id.get());
+    Ok((before, after, config.has(id)))
+}
+
+/// Its head, its tail and how long a copy is.
+fn ends(alloc: Global) -> Result<(u16, u16, usize), ConfigError> {
+    let config = config(alloc)?;
+    let len = config.clone()?.ids().len();
+    Ok((config.head().get(), config.tail().get(), len))
+}
+
+/// A node, those before and after it, and whether it is there.
+static NEIGHBOURS: [(u16, Option<u16>, Option<u16>, bool); 4] = [
+    (5, None, Some(2), true),
+    (2, Some(5), Some(9), true),
+    (9, Some(2), None, true),
+    (7, None, None, false),
+];
+
 #[test]
 fn neighbours(rt: HostRuntime) -> Result<(), Fail> {
-    let ids = [5, 2, 9].to_vec(rt.alloc())?;
-    let config = Config::new(rt.alloc(), ids)?;
-    let table = [
-        (5, None, Some(2)),
-        (2, Some(5), Some(9)),
-        (9, Some(2), None),
-        (7, None, None),
-    ];
-    for (id, before, after) in table {
-        let Some(id) = NodeId::new(id) else {
-            return Err(Fail::new("no id"));
-        };
-        assert_eq!(rt; config.before(id).map(|id| id.get()), before);
-        assert_eq!(rt; config.after(id).map(|id| id.get()), after);
-        assert_eq!(rt; config.has(id), before.is_some() || after.is_some());
+    let alloc = rt.alloc();
+    for (id, before, after, is_there) in NEIGHBOURS {
+        assert_eq!(rt; about(alloc, id)?, (before, after, is_there), "{id}");
     }
-    assert_eq!(rt; config.head().get(), 5);
-    assert_eq!(rt; config.tail().get(), 9);
-    assert_eq!(rt; config.clone()?.ids().len(), 3);
+    assert_eq!(rt; ends(alloc)?, (5, 9, 3));
     Ok(())
 }
 

@@ -47,10 +47,9 @@ fn batch(alloc: Global) -> Result<Batch, CoreError> {
 }
 
 fn origin(epoch: u32, from: u16) -> Result<(Epoch, NodeId), CoreError> {
-    match (Epoch::new(epoch), NodeId::new(from)) {
-        (Some(epoch), Some(from)) => Ok((epoch, from)),
-        _ => Err(CoreError::Memory),
-    }
+    let epoch = Epoch::new(epoch).ok_or(CoreError::Memory)?;
+    let from = NodeId::new(from).ok_or(CoreError::Memory)?;
+    Ok((epoch, from))
 }
 
 fn forward(alloc: Global, epoch: u32, from: u16, n: u64) -> Result<Input, CoreError> {
