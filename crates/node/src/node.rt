@@ -207,6 +207,7 @@ impl<D: Disk + Drop> Node<D> {
         output_of(alloc, &self.core, &self.engine.batches, 1..1, grows, &due)
     }
 
+    // What was decided is done.
     fn perform(&mut self, alloc: Global, decision: Decision) -> Result<Output, Stop>
         requires may { MayStep self.old }
         requires room { HasRoomFor self.old.core.count decision }

@@ -9,7 +9,8 @@ use Rattle.node.proofs.telling.forward_at.Goals as goal
 -- the batch of this number is sent
 pub returns : goal.returns
 returns c = λ n is list.
-    let number = made_of c.new.result _ c.args.number c.unwrap.result c.new.ensures c.unwrap.ensures in
+    let number = made_of c.new.result _ c.args.number c.unwrap.result c.new.ensures
+    c.unwrap.ensures in
     let within : c.args.number ≤ length c.args.batches.now =
     omega (arith, c.requires.there.1, c.requires.count) in
     let there = stands_at n.list c.args.batches.now c.args.number c.in_ok-batch.batch

@@ -39,7 +39,8 @@ returns-clause-created g c = λ honest empty.
     ∙ c.create-2.ensures.others log.file honest1 back in
     record {
       id = sure_of_id s3 c.append.new.self c.args.id c.args.config.now
-          c.in_ok-record.ensures.id c.in_ok-record.ensures.config (told.file ∙ is.in_file) (told.start ∙ is.from) named;
+          c.in_ok-record.ensures.id c.in_ok-record.ensures.config (told.file ∙ is.in_file)
+          (told.start ∙ is.from) named;
       at = c.in_ok-log.ensures.at;
       log = holds_in s1 s3 log [] kept
           (c.in_ok-log.ensures.created honest (absent_ends _ empty.batches));

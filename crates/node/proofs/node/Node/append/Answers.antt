@@ -42,15 +42,16 @@ returns-clause-ends g c = λ x n input r.
       length-append n.list (batch ∷ []),
     ) in
     let told : Bool → List (Frame (List Edit)) = λ acks. if acks then ack x a.node else [] in
+    let acks = c.is_tail-acks.result in
     let sent : ℕ → List (Frame (List Edit)) = λ y.
-    forwards y a.node (last - 1) (last + 1 - last) ++ (if c.is_tail-acks.result then ack y a.node else [])
-    in
-    let tail : c.is_tail-acks.result ≡ is_tail a.node.ids x =
-    c.is_tail-acks.ensures ∙ ap (λ ids. is_tail ids c.take.new.self.core.id) (sym follows.runs.core.ids)
+    forwards y a.node (last - 1) (last + 1 - last) ++ (if acks then ack y a.node else []) in
+    let id = c.take.new.self.core.id in
+    let tail : acks ≡ is_tail a.node.ids x = c.is_tail-acks.ensures
+    ∙ ap (λ ids. is_tail ids id) (sym follows.runs.core.ids)
     ∙ ap (is_tail a.node.ids) follows.runs.id in
-    let both = ap (λ f. f ++ told c.is_tail-acks.result)
+    let both = ap (λ f. f ++ told acks)
     (one_sent x a.node (length n.list) last (last + 1) number (omega arith))
-    ∙ ap (λ acks. forward x a.node (suc (length n.list)) ++ told acks) tail in
+    ∙ ap (λ b. forward x a.node (suc (length n.list)) ++ told b) tail in
     let Batches = List (List Edit) in
     let list = sym {A = Batches} follows.runs.store.batches ∙ sym c.deref.ensures.value in
     ends_rule g.D.Disk.is_honest g.D.Disk.state c.take.new.self x n input batch done.Appended a

@@ -11,17 +11,20 @@ use Rattle.node.proofs.node.Node.perform.Goals as goal
 pub returns-in-Accept-clause-ends : goal.returns-in-Accept-clause-ends
 returns-in-Accept-clause-ends g c = λ x n input r read.
     ends_as g.D.Disk.is_honest g.D.Disk.state c.accept.new.self x n input c.args.decision
-    (decision.Accept c.in-Accept.request c.in-Accept.batch) c.accept.result c.in-Accept.is (c.accept.ensures.ends x n input r)
+    (decision.Accept c.in-Accept.request c.in-Accept.batch) c.accept.result c.in-Accept.is
+    (c.accept.ensures.ends x n input r)
 
 pub returns-in-Append-clause-ends : goal.returns-in-Append-clause-ends
 returns-in-Append-clause-ends g c = λ x n input r read.
     ends_as g.D.Disk.is_honest g.D.Disk.state c.append.new.self x n input c.args.decision
-    (decision.Append c.in-Append.batch) c.append.result c.in-Append.is (c.append.ensures.ends x n input r)
+    (decision.Append c.in-Append.batch) c.append.result c.in-Append.is
+    (c.append.ensures.ends x n input r)
 
 pub returns-in-PassOn-clause-ends : goal.returns-in-PassOn-clause-ends
 returns-in-PassOn-clause-ends g c = λ x n input r read.
     ends_as g.D.Disk.is_honest g.D.Disk.state c.pass_on.new.self x n input c.args.decision
-    (decision.PassOn c.in-PassOn.committed c.in-PassOn.have) c.pass_on.result c.in-PassOn.is (c.pass_on.ensures.ends x n input r)
+    (decision.PassOn c.in-PassOn.committed c.in-PassOn.have) c.pass_on.result c.in-PassOn.is
+    (c.pass_on.ensures.ends x n input r)
 
 -- what changes nothing is told by the node's numbers and batches
 pub returns-in-TellAgain-clause-ends : goal.returns-in-TellAgain-clause-ends
