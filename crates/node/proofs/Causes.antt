@@ -1,6 +1,6 @@
 -- Causes of a stop, by what the layers below tell.
 use Rattle.std.proofs.Common.{◌≡◌, ◌⊎◌, ℕ, ◌≤◌, List, length, Result, Ok, Err, inl, inr, ap, arith}
-use Rattle.std.specs.Prelude.{IfErr, OnErr, IsErrOf}
+use Rattle.std.specs.Prelude.{IfErr, OnErr, OnOk, IsErrOf}
 use Rattle.record_log.specs.declared.error.LogError.{LogError}
 use Rattle.record_log.specs.declared.error.LogError.TheVariants as log
 use Rattle.record_log.specs.declared.log.Log.{Log}
@@ -45,3 +45,8 @@ met limit log.Failed old new one tells fits works (inr own) = absurd (works tell
 pub on_err : {T E P : Type 0} (result : Result T E) → P → OnErr result P
 on_err (Ok x) p = tt
 on_err (Err e) p = p
+
+-- .. and of an answer
+pub on_ok : {T E P : Type 0} (result : Result T E) → P → OnOk result P
+on_ok (Ok x) p = p
+on_ok (Err e) p = tt

@@ -1,7 +1,8 @@
+pub mod Identities
 pub mod Records
 pub mod Causes
 pub mod Stores
 pub mod Opens
 pub mod Blank
-pub mod Alone
+pub mod Outputs
 pub mod Running

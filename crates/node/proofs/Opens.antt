@@ -1,24 +1,27 @@
 -- What an opened disk had.
-use Rattle.std.proofs.Common.{◌≡◌, ℕ, suc, List, [], ◌∷◌, take, drop, Option, Some, None}
+use Rattle.std.proofs.Common.{◌≡◌, ℕ, suc, ◌<◌, List, [], ◌∷◌, take, drop, Option, Some, None}
 use Rattle.std.proofs.Common.{Result, Ok, Err, refl, sym, ap, subst, ◌∙◌, arith}
-use Rattle.std.specs.Prelude.{All, IfOk}
+use Rattle.std.specs.Prelude.{All, IfOk, slice_get}
 use Rattle.std.specs.Int.{w16, to_be_bytes, from_be_bytes}
 use Rattle.std.proofs.lemmas.Nat.{from_be_bytes-to_be_bytes_2}
 use Rattle.std.proofs.lemmas.List.{append-nil}
-use Rattle.std.proofs.lemmas.List.Elements.{All-head, All-tail}
+use Rattle.std.proofs.lemmas.List.Elements.{All-head, All-tail, All-weaker}
 use Rattle.kv_types.specs.declared.edit.Edit.{Edit}
 use Rattle.kv_types.specs.Spelling.{IsBatch, spelling}
 use Rattle.kv_types.proofs.Batches.{spellings_differ}
 use Rattle.disk.specs.State.{State, Slot, Contents, seen, IsSame}
 use Rattle.record_log.specs.declared.log.Log.{Log}
-use Rattle.record_log.specs.Stands.{Holds, HasRecords, IsAt, Opens}
+use Rattle.record_log.specs.Stands.{Holds, HasRecords, IsAt, Opens, count_of}
 use Rattle.record_log.proofs.Fronts.{one_reading}
 use Rattle.node.specs.declared.stop.Stop.{Stop}
 use Rattle.chain_model.specs.Configuration.{IsId}
+use Rattle.configurations.specs.Configs.{IsConfig}
+use Rattle.node.specs.declared.layout.Identity.{Identity}
+use Rattle.node.proofs.Identities.{one_spelling}
 use Rattle.node.specs.Layout.{identity_file, identity_record, identity_records}
 use Rattle.node.specs.Layout.{batch_record, records_from}
 use Rattle.node.specs.Files.{IsLog, HasId, IsSureId}
-use Rattle.node.proofs.Stores.{holds_in, sure_of_id}
+use Rattle.node.proofs.Stores.{holds_in, sure_of_id, only_one}
 
 -- what a file has it has where it is the same
 pub has_in : (old new : State) (file : ℕ) (records : List (List ℕ)) → new file ≡ old file →
@@ -31,20 +34,24 @@ stands_once : (bytes : Option (List ℕ)) (a b : List (List ℕ)) → IsLog byte
 stands_once None a b s t = absurd s
 stands_once (Some it) a b s t = one_reading it a b s t
 
-one_id : (a b : ℕ) → IsId a → IsId b →
-    identity_record a (a ∷ []) ≡ identity_record b (b ∷ []) → a ≡ b
-one_id a b is_a is_b same =
-    let heads : to_be_bytes w16 a ≡ to_be_bytes w16 b = ap (take 2) same in
-    sym (from_be_bytes-to_be_bytes_2 a (omega (arith, is_a.1))) ∙ ap (from_be_bytes w16) heads
-    ∙ from_be_bytes-to_be_bytes_2 b (omega (arith, is_b.1))
+-- a record is that of one node and configuration at most
+one_identity : (x y : ℕ) (xs ys : List ℕ) → IsId x → IsId y → IsConfig xs → IsConfig ys →
+    identity_record x xs ≡ identity_record y ys → (x ≡ y) × (xs ≡ ys)
+one_identity x y xs ys is_x is_y of_x of_y same =
+    let heads : to_be_bytes w16 x ≡ to_be_bytes w16 y = ap (take 2) same in
+    let id = sym (from_be_bytes-to_be_bytes_2 x (omega (arith, is_x.1)))
+    ∙ ap (from_be_bytes w16) heads ∙ from_be_bytes-to_be_bytes_2 y (omega (arith, is_y.1)) in
+    let below = All-weaker IsId (λ id. id < 65536) (λ id is. omega (arith, is.1)) xs of_x.each in
+    (id, one_spelling xs ys below of_y.each (ap (drop 3) same))
 
--- what a disk has stands for one node at most
-pub same_id : (left : Contents) (a b : ℕ) → HasId left a → HasId left b → a ≡ b
-same_id left a b s t =
-    let records : identity_records a ≡ identity_records b =
-    stands_once (left identity_file) (identity_records a) (identity_records b) s.identity
+-- what a disk has stands for one node and configuration at most
+pub same_identity : (left : Contents) (x y : ℕ) (xs ys : List ℕ) → HasId left x xs →
+    HasId left y ys → (x ≡ y) × (xs ≡ ys)
+same_identity left x y xs ys s t =
+    let records : identity_records x xs ≡ identity_records y ys =
+    stands_once (left identity_file) (identity_records x xs) (identity_records y ys) s.identity
     t.identity in
-    one_id a b s.id t.id cc
+    one_identity x y xs ys s.id t.id s.config t.config cc
 
 -- records are those of one list of batches at most
 pub same_batches : (number : ℕ) (a b : List (List Edit)) → All IsBatch a → All IsBatch b →
@@ -65,23 +72,35 @@ same_batches number (x ∷ a) (y ∷ b) each_a each_b same =
     cc
 
 -- the node that the only record of an opened log names
-pub found_id : (result : Result ℕ Stop) (s0 s1 s2 s3 : State) (log : Log) → IsSame s0 s1 →
-    IsSame s2 s3 → IsAt identity_file 0 log → (o : Opens s1 identity_file 0 s2 log) →
-    IfOk result IsId → IfOk result (λ id. o.records ≡ identity_records id) →
-    IfOk result (IsSureId s0 s3)
-found_id (Ok x) s0 s1 s2 s3 log same_before same_after at o id records =
+pub found_id : (result : Result Identity Stop) (s0 s1 s2 s3 : State) (log : Log) →
+    IsSame s0 s1 → IsSame s2 s3 → IsAt identity_file 0 log →
+    (o : Opens s1 identity_file 0 s2 log) → IfOk result (λ it. IsId it.id × IsConfig it.config) →
+    IfOk result (λ it. o.records ≡ identity_records it.id it.config) →
+    IfOk result (λ it. IsSureId s0 s3 it.id it.config)
+found_id (Ok it) s0 s1 s2 s3 log same_before same_after at o is records =
     let stood : IsLog (seen (s0 identity_file)) o.records =
     subst (λ (slot : Slot). IsLog (seen slot) o.records) (same_before identity_file)
     o.stood in
     let holds : Holds s3 log o.records =
     holds_in s2 s3 log o.records (same_after log.file) o.holds in
-    let named : Holds s3 log (identity_records x) =
+    let named : Holds s3 log (identity_records it.id it.config) =
     subst (λ (r : List (List ℕ)). Holds s3 log r) records holds in
     record {
       had = record {
-        id = id;
+        id = is.0;
+        config = is.1;
         identity = subst (IsLog (seen (s0 identity_file))) records stood;
       };
-      sure = sure_of_id s3 log x id at.in_file at.from named;
+      sure = sure_of_id s3 log it.id it.config is.0 is.1 at.in_file at.from named;
     }
-found_id (Err e) s0 s1 s2 s3 log same_before same_after at o id records = tt
+found_id (Err e) s0 s1 s2 s3 log same_before same_after at o is records = tt
+
+-- what the only record of a log names
+pub named_by : (disk : State) (log : Log) (records : List (List ℕ)) (one : List ℕ)
+    (result : Result Identity Stop) → Holds disk log records → count_of log ≡ 1 →
+    slice_get records 0 ≡ Some one →
+    IfOk result (λ it. one ≡ identity_record it.id it.config) →
+    IfOk result (λ it. records ≡ identity_records it.id it.config)
+named_by disk log records one (Ok it) h size got is =
+    only_one disk log records one h size got ∙ ap (λ (r : List ℕ). r ∷ []) is
+named_by disk log records one (Err e) h size got is = tt

@@ -1,97 +1,234 @@
--- A running node after a step and after a start, and what its disk leaves.
-use Rattle.std.proofs.Common.{◌≡◌, ℕ, suc, ◌-◌, ◌^◌, List, [], ◌∷◌, ◌++◌}
-use Rattle.std.proofs.Common.{length, refl, sym, ap, subst, ◌∙◌, inl}
-use Rattle.std.proofs.Common.{length-append, arith}
-use Rattle.std.proofs.lemmas.Bool.{cond-true}
+-- A running node after its store's part and after a start, and what its disk leaves.
+use Rattle.std.proofs.Common.{◌≡◌, ℕ, List, [], ◌∷◌, ◌++◌, length, true, inl, inr}
+use Rattle.std.proofs.Common.{map, None, refl, sym, ap, subst, ◌∙◌}
+use Rattle.std.specs.Prelude.{Result, Ok, Err, IfOk, IfErr}
 use Rattle.kv_types.specs.declared.edit.Edit.{Edit}
-use Rattle.chain_model.specs.Configuration.{is_tail}
-use Rattle.chain_model.specs.Node.{Answer, created, started}
-use Rattle.chain_model.specs.Rules.{submit}
 use Rattle.disk.specs.State.{State, contents}
+use Rattle.chain_model.specs.Node.{Answer, created, started}
+use Rattle.chain_core.specs.declared.done.Done.{Done}
+use Rattle.chain_core.specs.declared.done.Done.TheVariants as done
+use Rattle.chain_core.specs.declared.input.Input.{Input}
+use Rattle.chain_core.specs.declared.waiting.Waiting.{Waiting}
+use Rattle.chain_core.specs.States.{Machine, Core, Is, waiting}
+use Rattle.chain_core.specs.Decisions as core
+use Rattle.chain_core.specs.declared.decision.Decision.{Decision}
+use Rattle.chain_core.specs.Decisions.{done_of, rule_of}
+use Rattle.chain_core.specs.Steps.{Leaves, StepsLeave, list_after, frames_after}
+use Rattle.chain_model.specs.Frames.{Frame}
 use Rattle.node.specs.declared.node.Node.{Node}
-use Rattle.node.specs.declared.input.Input.TheVariants.{Submit}
-use Rattle.node.specs.declared.output.Reply.TheVariants as reply
-use Rattle.node.specs.Files.{HasBatches, IsStore}
+use Rattle.node.specs.declared.output.Output.{Output}
+use Rattle.node.specs.declared.stop.Stop.{Stop}
+use Rattle.node.specs.declared.stop.Stop.TheVariants as stop
+use Rattle.node.specs.declared.layout.Identity.{Identity}
+use Rattle.node.specs.Stores.{IsOpened}
+use Rattle.node.specs.Files.{HasBatches, IsStore, KeepsOneOf}
 use Rattle.node.specs.Starts.{IsStarted}
-use Rattle.node.specs.Steps.{Machine, IsAlone, Runs, AlwaysRests, StopsAs, Answers}
-use Rattle.node.specs.Steps.{replies_of}
-use Rattle.node.proofs.Alone.{tail_alone, takes_alone}
+use Rattle.node.specs.Steps.{IsFirst, Runs, AlwaysRests, StopsAs, Answers}
+use Rattle.node.specs.Stops.{IsOfMachine}
+use Rattle.node.proofs.Outputs.{tells_rule}
+use Rattle.node.specs.Outputs.{Says, Tells, told_to, Follows, Ends, HasAppended}
 use Rattle.node.proofs.Stores.{kept}
 
--- a running node whose store has the batch is the machine that took it
-module _ {D : Type 0} (is_honest : D → Type 0) (state : D → State) (old new : Node D) (x : ℕ)
-    (n : Machine) (i : ℕ) (batch : List Edit) where
-  pub took : Runs is_honest state old x n → is_honest new.disk →
-      IsStore (state new.disk) new.engine x (n.list ++ batch ∷ []) →
-      (length n.list ≡ 2 ^ 63 - 1 → ⊥) →
-      (number : ℕ) → number ≡ length new.engine.batches.items →
-      Answers is_honest state new x (Submit i batch) (submit x n i batch)
-      (reply.Committed i number ∷ [])
-  took r honest store apart number is =
-      let t = takes_alone x n i batch r.alone apart r.pending in
-      let size : length (n.list ++ batch ∷ []) ≡ suc (length n.list) =
-      omega (arith, length-append n.list (batch ∷ [])) in
-      let numbered : number ≡ suc (length n.list) = is ∙ ap length store.batches ∙ size in
-      record {
-        runs = record {
-          honest = honest;
-          store = subst (λ (l : List (List Edit)). IsStore (state new.disk) new.engine x l)
-              (sym t.list) store;
-          alone = t.alone;
-          committed = t.committed ∙ sym size ∙ ap length (sym t.list);
-          snapshots = t.snapshots ∙ r.snapshots;
-          pending = t.pending;
-          running = t.running ∙ r.running;
-        };
-        replied = ap (λ (k : ℕ). reply.Committed i k ∷ []) numbered
-            ∙ ap (replies_of (Submit i batch)) (sym t.replies);
-        sent = t.frames;
-        taken = t.dropped;
-      }
+-- a machine with these numbers and batches
+abbrev pub machine_with : Core → List (List Edit) → Machine
+machine_with core batches = record {
+  list = batches;
+  epoch = core.epoch;
+  ids = core.ids;
+  committed = core.committed;
+  floor = core.floor;
+  kept = core.kept;
+  successor_has = core.successor_has;
+  snapshots = core.snapshots;
+  pending = waiting core.pending;
+  running = true;
+}
 
-module _ {D : Type 0} (is_honest : D → Type 0) (state : D → State) (node : Node D) (x : ℕ)
-    (n : Machine) (r : Runs is_honest state node x n) where
-  -- whatever a crash leaves of its disk stands for it
-  pub rests : AlwaysRests (state node.disk) x n
-  rests left leaves = record {
-    batches = kept (state node.disk) node.engine x n.list r.store left leaves;
-    alone = r.alone;
-  }
-
-  pub stops_before : (a : Answer (List Edit)) → StopsAs (state node.disk) x n a
-  stops_before a left leaves = inl (rests left leaves)
-
--- a store that was opened runs as the machine that was started
-pub runs_started : {D : Type 0} (is_honest : D → Type 0) (state : D → State) (node : Node D)
-    (x : ℕ) (n : Machine) → is_honest node.disk →
-    IsStore (state node.disk) node.engine x n.list → IsAlone x n →
-    Runs is_honest state node x (started x n)
-runs_started is_honest state node x n honest store alone = record {
-  honest = honest;
-  store = store;
-  alone = record {
-    ids = alone.ids;
-    epoch = alone.epoch;
-    floor = alone.floor;
-    kept = alone.kept;
-  };
-  committed = cond-true (is_tail n.ids x) (length n.list) n.floor (tail_alone x n alone);
+pub has_numbers : (core : Core) (batches : List (List Edit)) → core.count ≡ length batches →
+    Is core (machine_with core batches)
+has_numbers core batches count = record {
+  epoch = refl;
+  ids = refl;
+  count = sym count;
+  committed = refl;
+  floor = refl;
+  kept = refl;
+  successor_has = refl;
   snapshots = refl;
   pending = refl;
   running = refl;
 }
 
--- .. and as a node that its disk stood for
-pub starts : {D : Type 0} (is_honest : D → Type 0) (state : D → State) (old : D) (node : Node D)
-    (x : ℕ) (list : List (List Edit)) → HasBatches (contents (state old)) x list →
-    is_honest node.disk → IsStore (state node.disk) node.engine x list →
-    IsStarted is_honest state old node
-starts is_honest state old node x list had honest store =
-    let n : Machine = record (created (x ∷ [])) { list = list } in
-    let alone : IsAlone x n = record { ids = refl; epoch = refl; floor = refl; kept = refl } in
-    record {
-      x = x;
-      n = n;
-      stood = record { batches = had; alone = alone };
-      runs = runs_started is_honest state node x n honest store alone;
+-- what is counted after the store's part was done
+pub counted : (law : StepsLeave) (old new : Core) (batches after : List (List Edit))
+    (batch : List Edit) (d : Done) (due : List Waiting) →
+    core.Follows new (done_of old.id (machine_with old batches) batch d) due →
+    list_after (machine_with old batches) batch d ≡ after → new.count ≡ length after
+counted law old new batches after batch d due follows list =
+    let n = machine_with old batches in
+    sym follows.is.count ∙ ap length (law old.id n batch d).list ∙ ap length list
+
+-- .. and after a word of the successor
+pub told_counts : (law : StepsLeave) (old new : Core) (batches : List (List Edit))
+    (committed have : ℕ) (due : List Waiting) → old.count ≡ length batches →
+    ((n : Machine) (batch : List Edit) → Is old n →
+    core.Follows new (done_of old.id n batch (done.Told committed have)) due) →
+    new.count ≡ length batches
+told_counts law old new batches committed have due count after =
+    counted law old new batches batches [] (done.Told committed have) due
+    (after (machine_with old batches) [] (has_numbers old batches count)) refl
+
+pub appended_list : (n : Machine) (batch : List Edit) (d : Done) → HasAppended d →
+    list_after n batch d ≡ n.list ++ batch ∷ []
+appended_list n batch (done.Accepted request) has = refl
+appended_list n batch done.Appended has = refl
+appended_list n batch (done.Told committed have) has = absurd has
+
+-- a step leaves the first configuration, the floor and the kept number
+pub still_first : (x : ℕ) (n : Machine) (batch : List Edit) (d : Done) (a : Answer (List Edit)) →
+    Leaves x n batch d a → IsFirst n → IsFirst a.node
+still_first x n batch d a leaves first = record {
+  epoch = leaves.epoch ∙ first.epoch;
+  floor = leaves.floor ∙ first.floor;
+  kept = leaves.kept ∙ first.kept;
+}
+
+-- while a batch is appended, the disk stands for the machine before or after
+pub stops_between : (disk : State) (x : ℕ) (n : Machine) (batch : List Edit) (d : Done)
+    (a : Answer (List Edit)) → Leaves x n batch d a → HasAppended d → IsFirst n →
+    KeepsOneOf disk x n.ids n.list (n.list ++ batch ∷ []) → StopsAs disk x n a
+stops_between disk x n batch d a leaves has first one_of left now =
+    let list : a.node.list ≡ n.list ++ batch ∷ [] = leaves.list ∙ appended_list n batch d has in
+    elim (one_of left now) [
+      | inl old ↦ inl (record { batches = old; first = first })
+      | inr new ↦ inr (record {
+        batches = subst (λ (l : List (List Edit)). HasBatches left x a.node.ids l) (sym list)
+            (subst (λ (ids : List ℕ). HasBatches left x ids (n.list ++ batch ∷ []))
+            (sym leaves.ids) new);
+        first = still_first x n batch d a leaves first;
+      })
+    ]
+
+module _ {D : Type 0} (is_honest : D → Type 0) (state : D → State) where
+  -- whatever a crash leaves of its disk stands for it
+  pub rests : (node : Node D) (x : ℕ) (n : Machine) → Runs is_honest state node x n →
+      AlwaysRests (state node.disk) x n
+  rests node x n r left leaves = record {
+    batches = kept (state node.disk) node.engine x n.ids n.list r.store left leaves;
+    first = r.first;
+  }
+
+  pub stops_before : (node : Node D) (x : ℕ) (n : Machine) (a : Answer (List Edit)) →
+      Runs is_honest state node x n → StopsAs (state node.disk) x n a
+  stops_before node x n a r left leaves = inl (rests node x n r left leaves)
+
+  pub stops_after : (node : Node D) (x : ℕ) (n : Machine) (a : Answer (List Edit)) →
+      Runs is_honest state node x a.node → StopsAs (state node.disk) x n a
+  stops_after node x n a r left leaves = inr (rests node x a.node r left leaves)
+
+  -- a node that did its store's part runs as the machine after the rule
+  pub goes_on : (node : Node D) (x : ℕ) (n : Machine) (batch : List Edit) (d : Done)
+      (a : Answer (List Edit)) → Leaves x n batch d a → IsFirst n → is_honest node.disk →
+      IsStore (state node.disk) node.engine x n.ids (list_after n batch d) → Is node.core a.node →
+      node.core.id ≡ x → Runs is_honest state node x a.node
+  goes_on node x n batch d a leaves first honest store is id = record {
+    honest = honest;
+    store = subst (λ (l : List (List Edit)). IsStore (state node.disk) node.engine x a.node.ids l)
+        (sym leaves.list)
+        (subst (λ (ids : List ℕ).
+        IsStore (state node.disk) node.engine x ids (list_after n batch d))
+        (sym leaves.ids) store);
+    core = is;
+    id = id;
+    first = still_first x n batch d a leaves first;
+  }
+
+  -- what it then tells is the machine's answer, and for want of memory it stops
+  pub ends : (node : Node D) (x : ℕ) (n : Machine) (input : Input) (a : Answer (List Edit))
+      (result : Result Output Stop) → Runs is_honest state node x a.node →
+      IfOk result (Tells input a) → IfErr result (λ e. e ≡ stop.Memory) →
+      Ends is_honest state node x n a (Answers is_honest state node x input a) result
+  ends node x n input a (Ok output) r tells memory = record {
+    done = record {
+      runs = r;
+      dropped = tells.dropped;
+      frames = tells.frames;
+      replied = tells.replied;
+    };
+    stopped = tt;
+  }
+  ends node x n input a (Err e) r tells memory = record {
+    done = inr memory;
+    stopped = (r.honest, stops_after node x n a r);
+  }
+
+  -- the rule is that of the decision
+  pub ends_as : (node : Node D) (x : ℕ) (n : Machine) (input : Input) (decision known : Decision)
+      (result : Result Output Stop) → decision ≡ known →
+      Ends is_honest state node x n (rule_of x n known)
+      (Answers is_honest state node x input (rule_of x n known)) result →
+      Ends is_honest state node x n (rule_of x n decision)
+      (Answers is_honest state node x input (rule_of x n decision)) result
+  ends_as node x n input decision known result is done =
+      subst (λ (d : Decision). Ends is_honest state node x n (rule_of x n d)
+      (Answers is_honest state node x input (rule_of x n d)) result) (sym is) done
+
+  -- .. and so it is after the store's part
+  pub ends_rule : (node : Node D) (x : ℕ) (n : Machine) (input : Input) (batch : List Edit)
+      (d : Done) (a : Answer (List Edit)) (due told : List Waiting)
+      (sent : ℕ → List (Frame (List Edit))) (result : Result Output Stop) →
+      Leaves x n batch d a → Follows is_honest state node x a due → told ≡ due →
+      sent x ≡ frames_after x n d a.node →
+      IfOk result (Says None (sent node.core.id) (map told_to told)) →
+      IfErr result (λ e. e ≡ stop.Memory) →
+      Ends is_honest state node x n a (Answers is_honest state node x input a) result
+  ends_rule node x n input batch d a due told sent result leaves follows same frames says memory =
+      let by_x = subst (λ (y : ℕ). IfOk result (Says None (sent y) (map told_to told)))
+      follows.runs.id says in
+      let of_due = subst (λ (l : List Waiting). IfOk result (Says None (sent x) (map told_to l)))
+      same by_x in
+      ends node x n input a result follows.runs
+      (tells_rule x n input batch d a due (sent x) result leaves follows.replied frames of_due)
+      memory
+
+  -- a call that stops
+  pub ends_stopped : {T : Type 0} (node : Node D) (x : ℕ) (n : Machine) (a : Answer (List Edit))
+      (IsDone : T → Type 0) (result : Result T Stop) (e : Stop) → result ≡ Err e →
+      IsOfMachine e → is_honest node.disk → StopsAs (state node.disk) x n a →
+      Ends is_honest state node x n a IsDone result
+  ends_stopped node x n a IsDone result e is machine honest stops =
+      rw is (record { done = machine; stopped = (honest, stops) })
+
+  -- what was opened runs as the machine that was started
+  module _ (node : Node D) (identity : Identity) (count : ℕ)
+      (is : (n : Machine) → IsFirst n → n.ids ≡ identity.config → length n.list ≡ count →
+      Is node.core (started identity.id n)) where
+    pub runs_opened : (x : ℕ) (n : Machine) → is_honest node.disk →
+        IsOpened (state node.disk) identity node.engine x n.ids n.list → IsFirst n →
+        node.core.id ≡ identity.id → count ≡ length node.engine.batches.items →
+        Runs is_honest state node x (started x n)
+    runs_opened x n honest opened first id size = record {
+      honest = honest;
+      store = opened.store;
+      core = subst (λ (y : ℕ). Is node.core (started y n)) opened.id
+          (is n first (sym opened.config) (sym (size ∙ ap length opened.store.batches)));
+      id = id ∙ opened.id;
+      first = record { epoch = first.epoch; floor = first.floor; kept = first.kept };
     }
+
+    -- .. and as a node that its disk stood for
+    pub starts : (old : D) (list : List (List Edit)) →
+        HasBatches (contents (state old)) identity.id identity.config list →
+        is_honest node.disk →
+        IsOpened (state node.disk) identity node.engine identity.id identity.config list →
+        node.core.id ≡ identity.id → count ≡ length node.engine.batches.items →
+        IsStarted is_honest state old node
+    starts old list had honest opened id size =
+        let n : Machine = record (created identity.config) { list = list } in
+        let first : IsFirst n = record { epoch = refl; floor = refl; kept = refl } in
+        record {
+          x = identity.id;
+          n = n;
+          stood = record { batches = had; first = first };
+          runs = runs_opened identity.id n honest opened first id size;
+        }

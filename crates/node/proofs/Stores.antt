@@ -1,6 +1,8 @@
 -- What the disk of a store leaves.
-use Rattle.std.proofs.Common.{◌≡◌, ℕ, ◌+◌, List, [], ◌∷◌, ◌++◌, length, drop, Option, Some, None}
+use Rattle.std.proofs.Common.{◌≡◌, ℕ, ◌+◌, ◌≤◌, ◌<◌, List, [], ◌∷◌, ◌++◌, length, drop, Option}
+use Rattle.std.proofs.Common.{Some, None}
 use Rattle.std.proofs.Common.{inl, inr, refl, sym, ap, subst, ◌∙◌, arith}
+use Rattle.std.proofs.Common.{length-append}
 use Rattle.std.specs.Prelude.{IsSomeAnd, slice_get, ◌⊎◌, ◌≢◌}
 use Rattle.std.proofs.lemmas.List.Elements.{All-push}
 use Rattle.kv_types.specs.declared.edit.Edit.{Edit}
@@ -14,6 +16,8 @@ use Rattle.record_log.specs.Push.{LeavesAt}
 use Rattle.record_log.specs.Stands.{Holds, IsAt, IsOldOrNew, count_of}
 use Rattle.node.specs.declared.engine.Engine.{Engine}
 use Rattle.chain_model.specs.Configuration.{IsId}
+use Rattle.configurations.specs.Configs.{IsConfig}
+use Rattle.kv_types.specs.declared.bounds.TheConstants.{MAX_NUMBER}
 use Rattle.node.specs.Layout.{identity_file, identity_records, batches_file}
 use Rattle.node.specs.Layout.{batch_record, records_from}
 use Rattle.node.specs.Files.{IsLog, HasId, HasBatches, IsSureOfId, IsStore, KeepsOneOf}
@@ -40,29 +44,37 @@ stands_left disk file bytes records sure stands =
     let P : Option (List ℕ) → Type 0 = λ left. IsLog left records in
     subst (λ (slot : Slot). Only P slot) (sym sure) (sure_only P bytes stands)
 
-pub id_left : (disk : State) (x : ℕ) → IsSureOfId disk x →
-    (left : Contents) → MayLeave disk left → HasId left x
-id_left disk x s left leaves = record {
+pub id_left : (disk : State) (x : ℕ) (ids : List ℕ) → IsSureOfId disk x ids →
+    (left : Contents) → MayLeave disk left → HasId left x ids
+id_left disk x ids s left leaves = record {
   id = s.id;
-  identity = stands_left disk identity_file s.bytes (identity_records x) s.sure s.identity
+  config = s.config;
+  identity = stands_left disk identity_file s.bytes (identity_records x ids) s.sure s.identity
       (left identity_file) (leaves identity_file);
 }
 
 -- the identity file is that of the node where a log of it holds its record
-pub sure_of_id : (disk : State) (log : Log) (x : ℕ) → IsId x → log.file ≡ identity_file →
-    log.start ≡ 0 → Holds disk log (identity_records x) → IsSureOfId disk x
-sure_of_id disk log x id file start h = record {
+pub sure_of_id : (disk : State) (log : Log) (x : ℕ) (ids : List ℕ) → IsId x → IsConfig ids →
+    log.file ≡ identity_file → log.start ≡ 0 → Holds disk log (identity_records x ids) →
+    IsSureOfId disk x ids
+sure_of_id disk log x ids id config file start h = record {
   id = id;
+  config = config;
   bytes = h.bytes;
   sure = sym (ap disk file) ∙ h.sure;
-  identity = subst (λ (s : ℕ). StandsFor (drop s h.bytes) (identity_records x)) start h.stands;
+  identity = subst (λ (s : ℕ). StandsFor (drop s h.bytes) (identity_records x ids)) start h.stands;
 }
 
 -- .. and where it is the same file
-pub id_in : (old new : State) (x : ℕ) → new identity_file ≡ old identity_file →
-    IsSureOfId old x → IsSureOfId new x
-id_in old new x same s =
-    record { id = s.id; bytes = s.bytes; sure = same ∙ s.sure; identity = s.identity }
+pub id_in : (old new : State) (x : ℕ) (ids : List ℕ) → new identity_file ≡ old identity_file →
+    IsSureOfId old x ids → IsSureOfId new x ids
+id_in old new x ids same s = record {
+  id = s.id;
+  config = s.config;
+  bytes = s.bytes;
+  sure = same ∙ s.sure;
+  identity = s.identity;
+}
 
 -- the only record of a log
 pub only_one : (disk : State) (log : Log) (records : List (List ℕ)) (one : List ℕ) →
@@ -76,8 +88,8 @@ only_one disk log (first ∷ second ∷ others) one h size got =
     absurd (omega (arith, size, ap length h.ends, length-ends 0 (first ∷ second ∷ others)))
 
 -- An open store, and one batch more.
-module _ (old : State) (engine : Engine) (x : ℕ) (list : List (List Edit))
-    (s : IsStore old engine x list) where
+module _ (old : State) (engine : Engine) (x : ℕ) (ids : List ℕ) (list : List (List Edit))
+    (s : IsStore old engine x ids list) where
   log_left : (left : Contents) → MayLeave old left →
       IsLog (left batches_file) (records_from 1 list)
   log_left left leaves =
@@ -90,11 +102,12 @@ module _ (old : State) (engine : Engine) (x : ℕ) (list : List (List Edit))
       (leaves batches_file)
 
   -- a crash leaves the batches
-  pub kept : (left : Contents) → MayLeave old left → HasBatches left x list
+  pub kept : (left : Contents) → MayLeave old left → HasBatches left x ids list
   kept left leaves = record {
-    id = id_left old x s.id left leaves;
+    id = id_left old x ids s.id left leaves;
     batches = log_left left leaves;
     each = s.each;
+    few = s.few;
   }
 
   -- the identity file is another than that of the log
@@ -102,7 +115,7 @@ module _ (old : State) (engine : Engine) (x : ℕ) (list : List (List Edit))
   apart same = absurd (omega (arith, same, s.at.in_file))
 
   module _ (batch : List Edit) (is_batch : IsBatch batch) where
-    pub unchanged : KeepsOneOf old x list (list ++ batch ∷ [])
+    pub unchanged : KeepsOneOf old x ids list (list ++ batch ∷ [])
     unchanged left leaves = inl (kept left leaves)
 
     pub next_record : (number : ℕ) → number ≡ length engine.batches.items + 1 →
@@ -111,24 +124,33 @@ module _ (old : State) (engine : Engine) (x : ℕ) (list : List (List Edit))
         let same : number ≡ 1 + length list = omega (arith, is, ap length s.batches) in
         ap (λ (n : ℕ). batch_record n batch) same
 
-    module _ (one : List ℕ) (is : one ≡ batch_record (1 + length list) batch) where
+    module _ (one : List ℕ) (is : one ≡ batch_record (1 + length list) batch)
+        (room : length engine.batches.items < MAX_NUMBER) where
+      few_more : length (list ++ batch ∷ []) ≤ MAX_NUMBER
+      few_more = omega (arith, length-append list (batch ∷ []), ap length s.batches, room)
+
       one_more : records_from 1 list ++ one ∷ [] ≡ records_from 1 (list ++ batch ∷ [])
       one_more =
           ap (λ (r : List ℕ). records_from 1 list ++ r ∷ []) is
           ∙ sym (records_from-push 1 list batch)
 
-      one_of : (left : Contents) → HasId left x →
+      one_of : (left : Contents) → HasId left x ids →
           IsSomeAnd (left batches_file) (IsOldOrNew 0 (records_from 1 list) one) →
-          HasBatches left x list ⊎ HasBatches left x (list ++ batch ∷ [])
+          HasBatches left x ids list ⊎ HasBatches left x ids (list ++ batch ∷ [])
       one_of left id either = split (left batches_file) refl either
         where
           split : (bytes : Option (List ℕ)) → left batches_file ≡ bytes →
               IsSomeAnd bytes (IsOldOrNew 0 (records_from 1 list) one) →
-              HasBatches left x list ⊎ HasBatches left x (list ++ batch ∷ [])
+              HasBatches left x ids list ⊎ HasBatches left x ids (list ++ batch ∷ [])
           split None same none = absurd none
           split (Some it) same (inl stands) =
               let P : Option (List ℕ) → Type 0 = λ o. IsLog o (records_from 1 list) in
-              inl (record { id = id; batches = subst P (sym same) stands; each = s.each })
+              inl (record {
+                id = id;
+                batches = subst P (sym same) stands;
+                each = s.each;
+                few = s.few;
+              })
           split (Some it) same (inr stands) =
               let more : List (List ℕ) = records_from 1 (list ++ batch ∷ []) in
               let whole : StandsFor it more =
@@ -138,37 +160,38 @@ module _ (old : State) (engine : Engine) (x : ℕ) (list : List (List Edit))
                 id = id;
                 batches = subst P (sym same) whole;
                 each = All-push IsBatch list batch s.each is_batch;
+                few = few_more;
               })
 
       -- a crash while a record is appended leaves the batches, with one more or without
       pub crashed : (new : State) →
           ((other : ℕ) → other ≢ engine.log.file → new other ≡ old other) →
           LeavesAt new engine.log.file (IsOldOrNew engine.log.start (records_from 1 list) one) →
-          KeepsOneOf new x list (list ++ batch ∷ [])
+          KeepsOneOf new x ids list (list ++ batch ∷ [])
       crashed new others leaves left now =
-          let id : IsSureOfId new x = id_in old new x (others identity_file apart) s.id in
+          let id : IsSureOfId new x ids = id_in old new x ids (others identity_file apart) s.id in
           let P : ℕ → List ℕ → Type 0 = λ start. IsOldOrNew start (records_from 1 list) one in
           let at_log : IsSomeAnd (left engine.log.file) (P engine.log.start) =
           leaves (left engine.log.file) (now engine.log.file) in
           let at_file : IsSomeAnd (left batches_file) (P engine.log.start) =
           subst (λ (f : ℕ). IsSomeAnd (left f) (P engine.log.start)) s.at.in_file at_log in
-          one_of left (id_left new x id left now)
+          one_of left (id_left new x ids id left now)
           (subst (λ (k : ℕ). IsSomeAnd (left batches_file) (P k)) s.at.from at_file)
 
       -- the store with the batch in its log
       pub appended : (new : State) (after : Engine) →
           ((other : ℕ) → other ≢ engine.log.file → new other ≡ old other) →
-          IsAt batches_file 0 after.log → after.id ≡ engine.id →
+          IsAt batches_file 0 after.log →
           after.batches.items ≡ engine.batches.items ++ batch ∷ [] →
           Holds new after.log (records_from 1 list ++ one ∷ []) →
-          IsStore new after x (list ++ batch ∷ [])
-      appended new after others at id_is batches_are holds = record {
-        is = id_is ∙ s.is;
-        id = id_in old new x (others identity_file apart) s.id;
+          IsStore new after x ids (list ++ batch ∷ [])
+      appended new after others at batches_are holds = record {
+        id = id_in old new x ids (others identity_file apart) s.id;
         at = at;
         log = subst (λ (r : List (List ℕ)). Holds new after.log r) one_more holds;
         batches = batches_are ∙ ap (λ (l : List (List Edit)). l ++ batch ∷ []) s.batches;
         each = All-push IsBatch list batch s.each is_batch;
+        few = few_more;
       }
 
 -- a read gives what a crash may leave

@@ -17,9 +17,9 @@ abbrev pub identity_record : ℕ → List ℕ → List ℕ
 identity_record id ids =
     to_be_bytes w16 id ++ (length ids ∷ flat_map (λ other. to_be_bytes w16 other) ids)
 
--- the records of the identity file of a node that is alone in its configuration
-abbrev pub identity_records : ℕ → List (List ℕ)
-identity_records id = identity_record id (id ∷ []) ∷ []
+-- the records of the identity file
+abbrev pub identity_records : ℕ → List ℕ → List (List ℕ)
+identity_records id ids = identity_record id ids ∷ []
 
 -- the record of a batch: its number and its spelling
 abbrev pub batch_record : ℕ → List Edit → List ℕ

@@ -6,7 +6,8 @@ use Rattle.node.specs.declared.node.Node.{Node}
 use Rattle.node.specs.declared.stop.Stop.{Stop}
 use Rattle.node.specs.declared.stop.Stop.TheVariants as stop
 use Rattle.node.specs.Files.{IsBlank, IsDamaged}
-use Rattle.node.specs.Steps.{Machine, Rests, Runs, disk_of}
+use Rattle.chain_core.specs.States.{Machine}
+use Rattle.node.specs.Steps.{Rests, Runs, disk_of}
 use Rattle.node.specs.Stops.{KeepsDisk}
 
 -- a node that was started runs as a node that its disk stood for

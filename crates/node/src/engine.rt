@@ -1,6 +1,7 @@
-ghost use Rattle.std.specs.Prelude.{◌≡◌, ◌≢◌, ◌⊎◌, ℕ, ◌+◌, ◌<◌, List, [], ◌∷◌, ◌++◌};
-ghost use Rattle.std.specs.Prelude.{length, slice_get, All, Some, MatchOption};
+ghost use Rattle.std.specs.Prelude.{◌≡◌, ◌≢◌, ℕ, ◌+◌, ◌<◌, [], ◌∷◌, ◌++◌};
+ghost use Rattle.std.specs.Prelude.{◌≤◌, List, length, slice_get, All, Some, MatchOption};
 ghost use Rattle.std.specs.Prelude.{IfOk, IfErr, OnOk, MatchResult};
+ghost use Rattle.kv_types.specs.declared.bounds.TheConstants.{MAX_NUMBER};
 ghost use Rattle.kv_types.specs.declared.edit.Edit.{Edit};
 ghost use Rattle.kv_types.specs.Spelling.{IsBatch};
 ghost use Rattle.disk.specs.State.{Leaves, contents, IsSame};
@@ -10,22 +11,23 @@ ghost use Rattle.node.specs.Files.{KeepsOneOf, KeepsOthers, LeavesNoMore};
 ghost use Rattle.node.specs.Layout.{identity_file, identity_records, batches_file};
 ghost use Rattle.node.specs.Layout.{batch_record, records_from};
 ghost use Rattle.chain_model.specs.Configuration.{IsId};
+ghost use Rattle.configurations.specs.Configs.{IsConfig};
+ghost use Rattle.node.specs.Stores.{IsOpened, Works};
 ghost use Rattle.node.specs.Stops.{KeepsDisk, TellsDisk, IsOfMachine, TellsBlank};
 
 use crate::Stop;
 use crate::layout::{
-    BATCHES_FILE, IDENTITY_FILE, batch_of, batch_record, identity_of, identity_record,
+    BATCHES_FILE, IDENTITY_FILE, Identity, batch_of, batch_record, identity_of, identity_record,
 };
-use configurations::NodeId;
+use configurations::{Config, NodeId};
 use disk::{Disk, DiskError};
-use kv_types::Batch;
+use kv_types::{Batch, Number};
 use record_log::Log;
 use std::alloc::Global;
 
 /// The store of a node: its batches in a log, and in memory. The disk is lent to it at each call.
 #[derive(Debug, Drop)]
 pub struct Engine {
-    pub id: NodeId,
     pub log: Log,
     pub batches: Vec<Batch>,
 }
@@ -57,12 +59,16 @@ fn batches_in<D: Disk>(alloc: Global, disk: &mut D, log: &Log) -> Result<Vec<Bat
         Holds (D.state disk.old) log.now records →
         IfOk result (λ batches.
         (records ≡ records_from 1 batches.items) × All IsBatch batches.items) }
+    ensures few { IfOk result (λ batches. length batches.items ≤ MAX_NUMBER) }
     ensures damaged { (list : List (List Edit)) → D.is_honest disk.old →
         Holds (D.state disk.old) log.now (records_from 1 list) → All IsBatch list →
-        IfErr result IsOfMachine }
+        length list ≤ MAX_NUMBER → IfErr result IsOfMachine }
     ensures created { IfErr result (λ e. e ≢ Stop.NotCreated) }
     ensures same { D.is_honest disk.old → IsSame (D.state disk.old) (D.state disk.new) }
 {
+    if Number::new(log.len() as u64).is_none() {
+        return Err(Stop::Damaged);
+    }
     let mut batches = Vec::new(alloc);
     for index in 0..log.len() {
         batches.push(batch_at(alloc, disk, log, index)?)?;
@@ -71,15 +77,15 @@ fn batches_in<D: Disk>(alloc: Global, disk: &mut D, log: &Log) -> Result<Vec<Bat
 }
 
 /// The node that a log's only record names.
-fn id_in<D: Disk>(alloc: Global, disk: &mut D, log: &Log) -> Result<NodeId, Stop>
+fn identity_in<D: Disk>(alloc: Global, disk: &mut D, log: &Log) -> Result<Identity, Stop>
     requires { HasFailed log.now → ⊥ }
     ensures keeps { KeepsDisk D.is_honest D.failures disk.old disk.new (TellsDisk result) }
     ensures found { (records : List (List ℕ)) → D.is_honest disk.old →
         Holds (D.state disk.old) log.now records →
-        IfOk result (λ id. records ≡ identity_records id) }
-    ensures id { IfOk result IsId }
-    ensures named { (x : ℕ) → D.is_honest disk.old → IsId x →
-        Holds (D.state disk.old) log.now (identity_records x) →
+        IfOk result (λ it. records ≡ identity_records it.id it.config) }
+    ensures is { IfOk result (λ it. IsId it.id × IsConfig it.config) }
+    ensures named { (x : ℕ) (ids : List ℕ) → D.is_honest disk.old → IsId x → IsConfig ids →
+        Holds (D.state disk.old) log.now (identity_records x ids) →
         IfErr result IsOfMachine }
     ensures blank { (records : List (List ℕ)) → D.is_honest disk.old →
         Holds (D.state disk.old) log.now records →
@@ -93,10 +99,7 @@ fn id_in<D: Disk>(alloc: Global, disk: &mut D, log: &Log) -> Result<NodeId, Stop
         return Err(Stop::Damaged);
     }
     let record = log.record(alloc, disk, 0)?;
-    match identity_of(&record) {
-        Some(id) => Ok(id),
-        None => Err(Stop::Damaged),
-    }
+    identity_of(alloc, &record)
 }
 
 /// How many bytes the identity file has: none where it is absent.
@@ -115,12 +118,12 @@ fn identity_length<D: Disk>(disk: &mut D) -> Result<u64, Stop>
 }
 
 /// The node whose identity is on the disk.
-fn identity_on<D: Disk>(alloc: Global, disk: &mut D) -> Result<NodeId, Stop>
+fn identity_on<D: Disk>(alloc: Global, disk: &mut D) -> Result<Identity, Stop>
     ensures keeps { KeepsDisk D.is_honest D.failures disk.old disk.new (TellsDisk result) }
     ensures found { D.is_honest disk.old →
-        IfOk result (IsSureId (D.state disk.old) (D.state disk.new)) }
-    ensures opened { (x : ℕ) → D.is_honest disk.old → HasId (contents (D.state disk.old)) x →
-        IfErr result IsOfMachine }
+        IfOk result (λ it. IsSureId (D.state disk.old) (D.state disk.new) it.id it.config) }
+    ensures opened { (x : ℕ) (ids : List ℕ) → D.is_honest disk.old →
+        HasId (contents (D.state disk.old)) x ids → IfErr result IsOfMachine }
     ensures blank { D.is_honest disk.old →
         IfErr result (λ e. TellsBlank e (IsBlank (contents (D.state disk.old)))) }
     ensures crash { D.is_honest disk.old → (left : _) →
@@ -133,63 +136,73 @@ fn identity_on<D: Disk>(alloc: Global, disk: &mut D) -> Result<NodeId, Stop>
         return Err(Stop::NotCreated);
     }
     let identity = Log::open(alloc, disk, IDENTITY_FILE, 0)?;
-    id_in(alloc, disk, &identity)
+    identity_in(alloc, disk, &identity)
 }
 
 impl Engine {
     /// Makes the files of a node that has no batches.
-    pub fn create<D: Disk>(alloc: Global, disk: &mut D, id: NodeId) -> Result<Engine, Stop>
+    pub fn create<D: Disk>(
+        alloc: Global,
+        disk: &mut D,
+        id: NodeId,
+        config: &Config,
+    ) -> Result<Engine, Stop>
         ensures keeps { KeepsDisk D.is_honest D.failures disk.old disk.new (TellsDisk result) }
         ensures created { D.is_honest disk.old → IsEmpty (D.state disk.old) →
-            MatchResult result (λ engine. IsStore (D.state disk.new) engine id []) IsOfMachine }
+            MatchResult result (λ engine. IsStore (D.state disk.new) engine id config.now [])
+            IsOfMachine }
         ensures works { IfOk result (λ engine. HasFailed engine.log → ⊥) }
+        ensures none { IfOk result (λ engine. engine.batches.items ≡ []) }
         ensures others { D.is_honest disk.old → KeepsOthers (D.state disk.old) (D.state disk.new) }
     {
         let log = Log::create(alloc, disk, BATCHES_FILE)?;
         let mut identity = Log::create(alloc, disk, IDENTITY_FILE)?;
-        let record = identity_record(alloc, id)?;
+        let record = identity_record(alloc, id, config)?;
         identity.append(alloc, disk, &record)?;
         let batches = Vec::new(alloc);
-        Ok(Engine { id, log, batches })
+        Ok(Engine { log, batches })
     }
 
-    /// The store that the disk has.
-    pub fn open<D: Disk>(alloc: Global, disk: &mut D) -> Result<Engine, Stop>
+    /// The node and the store that the disk has.
+    pub fn open<D: Disk>(alloc: Global, disk: &mut D) -> Result<(Identity, Engine), Stop>
         ensures keeps { KeepsDisk D.is_honest D.failures disk.old disk.new (TellsDisk result) }
-        ensures opened { (x : ℕ) (list : List (List Edit)) → D.is_honest disk.old →
-            HasBatches (contents (D.state disk.old)) x list →
-            MatchResult result (λ engine. IsStore (D.state disk.new) engine x list) IsOfMachine }
-        ensures found { D.is_honest disk.old → IfOk result (λ engine. (x : ℕ) ×
-            (list : List (List Edit)) × HasBatches (contents (D.state disk.old)) x list) }
+        ensures opened { (x : ℕ) (ids : List ℕ) (list : List (List Edit)) → D.is_honest disk.old →
+            HasBatches (contents (D.state disk.old)) x ids list →
+            MatchResult result (λ it. IsOpened (D.state disk.new) it.0 it.1 x ids list)
+            IsOfMachine }
+        ensures found { D.is_honest disk.old → IfOk result (λ it. (list : List (List Edit)) ×
+            HasBatches (contents (D.state disk.old)) it.0.id it.0.config list) }
         ensures blank { D.is_honest disk.old →
             IfErr result (λ e. TellsBlank e (IsBlank (contents (D.state disk.old)))) }
-        ensures works { IfOk result (λ engine. HasFailed engine.log → ⊥) }
+        ensures works { IfOk result (λ it. Works it.1) }
         ensures crash { D.is_honest disk.old → LeavesNoMore (D.state disk.old) (D.state disk.new) }
         ensures others { D.is_honest disk.old → KeepsOthers (D.state disk.old) (D.state disk.new) }
     {
-        let id = identity_on(alloc, disk)?;
+        let identity = identity_on(alloc, disk)?;
         let log = Log::open(alloc, disk, BATCHES_FILE, 0)?;
         let batches = batches_in(alloc, disk, &log)?;
-        Ok(Engine { id, log, batches })
+        Ok((identity, Engine { log, batches }))
     }
 
     /// Adds a batch. Four device calls.
     pub fn append<D: Disk>(&mut self, alloc: Global, disk: &mut D, batch: Batch) -> Result<(), Stop>
-        requires { HasFailed self.old.log → ⊥ }
+        requires works { HasFailed self.old.log → ⊥ }
+        requires room { length self.old.batches.items < MAX_NUMBER }
         ensures keeps { KeepsDisk D.is_honest D.failures disk.old disk.new (TellsDisk result) }
-        ensures appended { (x : ℕ) (list : List (List Edit)) → D.is_honest disk.old →
-            IsStore (D.state disk.old) self.old x list →
+        ensures appended { (x : ℕ) (ids : List ℕ) (list : List (List Edit)) →
+            D.is_honest disk.old → IsStore (D.state disk.old) self.old x ids list →
             MatchResult result
-            (λ _. IsStore (D.state disk.new) self.new x (list ++ batch ∷ [])) IsOfMachine }
+            (λ _. IsStore (D.state disk.new) self.new x ids (list ++ batch ∷ [])) IsOfMachine }
 
         // A crash now, whatever the answer, leaves the old batches, with the new one or without.
-        ensures crash { (x : ℕ) (list : List (List Edit)) → D.is_honest disk.old →
-            IsStore (D.state disk.old) self.old x list →
-            KeepsOneOf (D.state disk.new) x list (list ++ batch ∷ []) }
-        ensures others { (x : ℕ) (list : List (List Edit)) → D.is_honest disk.old →
-            IsStore (D.state disk.old) self.old x list →
+        ensures crash { (x : ℕ) (ids : List ℕ) (list : List (List Edit)) →
+            D.is_honest disk.old → IsStore (D.state disk.old) self.old x ids list →
+            KeepsOneOf (D.state disk.new) x ids list (list ++ batch ∷ []) }
+        ensures others { (x : ℕ) (ids : List ℕ) (list : List (List Edit)) →
+            D.is_honest disk.old → IsStore (D.state disk.old) self.old x ids list →
             KeepsOthers (D.state disk.old) (D.state disk.new) }
-        ensures works { OnOk result (HasFailed self.new.log → ⊥) }
+        ensures works { OnOk result ((HasFailed self.new.log → ⊥)
+            × (self.new.batches.items ≡ self.old.batches.items ++ batch ∷ [])) }
     {
         let number = self.batches.len() as u64 + 1;
         let record = batch_record(alloc, number, &batch)?;

@@ -1,12 +1,15 @@
-ghost use Rattle.std.specs.Prelude.{◌≡◌, ◌⊎◌, ℕ, [], ◌∷◌, List};
-ghost use Rattle.std.specs.Prelude.{IfOk, IfErr, IfSome, IsNone, IsErrOf};
+ghost use Rattle.std.specs.Prelude.{◌≡◌, ◌⊎◌, ℕ, [], ◌∷◌, List, ◌++◌};
+ghost use Rattle.std.specs.Prelude.{IfOk, IfErr, IfSome, IsSome, IsErrOf, All, ◌<◌};
+ghost use Rattle.std.specs.List.{flat_map};
+ghost use Rattle.std.specs.Int.{w16, to_be_bytes};
 ghost use Rattle.kv_types.specs.declared.edit.Edit.{Edit};
 ghost use Rattle.kv_types.specs.Spelling.{IsBatch};
 ghost use Rattle.chain_model.specs.Configuration.{IsId};
+ghost use Rattle.configurations.specs.Configs.{IsConfig};
 ghost use Rattle.node.specs.Layout.{identity_record, batch_record};
 
 use crate::Stop;
-use configurations::NodeId;
+use configurations::{Config, NodeId};
 use kv_types::{Batch, KvError};
 use std::alloc::{AllocError, Global};
 
@@ -16,34 +19,68 @@ pub const IDENTITY_FILE: u64 = 1;
 /// The file of the node's batches.
 pub const BATCHES_FILE: u64 = 3;
 
-/// The record of a node that is alone in its configuration.
-pub fn identity_record(alloc: Global, id: NodeId) -> Result<Vec<u8>, AllocError>
-    ensures spelled { IfOk result (λ bytes. bytes.items ≡ identity_record id (id ∷ [])) }
+/// What a node keeps besides its batches.
+#[derive(Debug, Drop)]
+pub struct Identity {
+    pub id: NodeId,
+    pub config: Config,
+}
+
+/// The record of a node's id and configuration.
+pub fn identity_record(alloc: Global, id: NodeId, config: &Config) -> Result<Vec<u8>, AllocError>
+    ensures spelled { IfOk result (λ bytes. bytes.items ≡ identity_record id config.now) }
     ensures id { IsId id }
+    ensures config { IsConfig config.now }
 {
-    let id = id.get().to_be_bytes();
+    let ids = config.ids();
     let mut out = Vec::new(alloc);
-    out.extend_from_slice(&id)?;
-    out.push(1)?;
-    out.extend_from_slice(&id)?;
+    out.extend_from_slice(&id.get().to_be_bytes())?;
+    out.push(ids.len() as u8)?;
+    for other in ids {
+        out.extend_from_slice(&other.get().to_be_bytes())?;
+    }
     Ok(out)
 }
 
-/// The node whose record this is.
-pub fn identity_of(bytes: &[u8]) -> Option<NodeId>
-    ensures found { IfSome result (λ id. IsId id × (bytes.now ≡ identity_record id (id ∷ []))) }
-    ensures none { IsNone result → (id : ℕ) → IsId id →
-        bytes.now ≡ identity_record id (id ∷ []) → ⊥ }
+// The ids that stand one behind another, where no byte is left over.
+fn ids_in(alloc: Global, bytes: &[u8]) -> Result<Option<Vec<u16>>, AllocError>
+    ensures found { IfOk result (λ found. IfSome found
+        (λ ids. bytes.now ≡ flat_map (λ id. to_be_bytes w16 id) ids.items)) }
+    ensures each { IfOk result (λ found. IfSome found (λ ids. All (λ id. id < 65536) ids.items)) }
+    ensures some { (ids : List ℕ) → bytes.now ≡ flat_map (λ id. to_be_bytes w16 id) ids →
+        IfOk result IsSome }
 {
-    let [a, b, 1, c, d] = bytes else {
-        return None;
-    };
-    if a != c || b != d {
-        return None;
+    let mut ids = Vec::new(alloc);
+    let mut rest = bytes;
+    while let [high, low, after @ ..] = rest {
+        ids.push(u16::from_be_bytes([*high, *low]))?;
+        rest = after;
     }
-    let id = NodeId::new(u16::from_be_bytes([*a, *b]))?;
-    let _id = id.get();
-    Some(id)
+    Ok(if rest.is_empty() { Some(ids) } else { None })
+}
+
+/// The id and configuration whose record this is.
+pub fn identity_of(alloc: Global, bytes: &[u8]) -> Result<Identity, Stop>
+    ensures found { IfOk result (λ it. bytes.now ≡ identity_record it.id it.config) }
+    ensures is { IfOk result (λ it. IsId it.id × IsConfig it.config) }
+    ensures damaged { IsErrOf result Stop.Damaged → (id : ℕ) (ids : List ℕ) → IsId id →
+        IsConfig ids → bytes.now ≡ identity_record id ids → ⊥ }
+    ensures only { IfErr result (λ e. (e ≡ Stop.Damaged) ⊎ (e ≡ Stop.Memory)) }
+{
+    let [high, low, count, rest @ ..] = bytes else {
+        return Err(Stop::Damaged);
+    };
+    let Some(id) = NodeId::new(u16::from_be_bytes([*high, *low])) else {
+        return Err(Stop::Damaged);
+    };
+    let Some(ids) = ids_in(alloc, rest)? else {
+        return Err(Stop::Damaged);
+    };
+    if ids.len() != *count as usize {
+        return Err(Stop::Damaged);
+    }
+    let config = Config::new(alloc, ids)?;
+    Ok(Identity { id, config })
 }
 
 pub fn batch_record(alloc: Global, number: u64, batch: &Batch) -> Result<Vec<u8>, AllocError>

@@ -2,13 +2,13 @@
 #![tactic(auto)]
 
 mod engine;
-mod input;
 mod layout;
 mod node;
 mod output;
 mod stop;
+mod telling;
 
-pub use input::Input;
+pub use chain_core::{DropReason, Input, Sent};
 pub use node::Node;
 pub use output::{Output, Reply};
 pub use stop::Stop;

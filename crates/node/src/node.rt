@@ -1,48 +1,58 @@
-ghost use Rattle.std.specs.Prelude.{◌≡◌, ℕ, [], ◌∷◌, length, replicate};
-ghost use Rattle.std.specs.Prelude.{OnOk, OnErr, IfOk, MatchResult};
+ghost use Rattle.std.specs.Prelude.{◌≡◌, ℕ, length, replicate};
+ghost use Rattle.std.specs.Prelude.{◌<◌, ◌≤◌, suc, OnOk, OnErr, IfOk, IfErr, MatchResult};
+ghost use Rattle.kv_types.specs.declared.bounds.TheConstants.{MAX_NUMBER};
 ghost use Rattle.disk.specs.State.{contents};
 ghost use Rattle.chain_model.specs.Node.{created, started};
+ghost use Rattle.chain_model.specs.Rules.{accept, append, pass_on};
 ghost use Rattle.node.specs.Files.{IsEmpty, KeepsOthers, LeavesNoMore};
 ghost use Rattle.node.specs.Starts.{IsStarted, Declines, KeepsTaken, disk_behind};
-ghost use Rattle.node.specs.Steps.{Machine, Runs, AlwaysRests, Answers, StopsAs, MayStep};
-ghost use Rattle.node.specs.Steps.{answer_to, disk_of, read_reply};
+ghost use Rattle.chain_core.specs.States.{Machine, Is};
+ghost use Rattle.chain_core.specs.Decisions.{answer_to, done_of, rule_of};
+ghost use Rattle.chain_core.specs.Decisions.{HasRoomFor, IsReadOf};
+ghost use Rattle.node.specs.Steps.{Runs, AlwaysRests, Answers, StopsAs, MayStep, disk_of};
+ghost use Rattle.node.specs.Steps.{IsFirst};
+ghost use Rattle.node.specs.Outputs.{Ends, Follows, HasAppended};
 ghost use Rattle.node.specs.Stops.{KeepsDisk, TellsDisk, IsOfMachine};
 
 use crate::engine::Engine;
-use crate::{Input, Output, Reply, Stop};
-use configurations::{Config, NodeId};
+use crate::layout::Identity;
+use crate::telling::{drop_for, output_of, refuse, resend, show, tell_again};
+use crate::{Output, Stop};
+use chain_core::laws::steps_leave;
+use chain_core::{AtRest, CoreState, Decision, Done, Input, Waiting, decide};
+use configurations::{Config, Epoch, NodeId};
 use disk::Disk;
-use kv_types::bounds::MAX_NUMBER;
-use kv_types::{Batch, Key, Limits, value_at};
-use link_messages::Refusal;
-use std::alloc::{AllocError, Global};
+use kv_types::{Batch, Limits, Number};
+use std::alloc::Global;
 
 /// A running node of a chain, and its disk.
 #[derive(Debug, Drop)]
 pub struct Node<D: Disk + Drop> {
     disk: D,
     engine: Engine,
+    core: CoreState,
     limits: Limits,
 }
 
-// What the key has at a number, or at the greatest where none is given.
-fn read(batches: &[Batch], request: u64, key: &Key, at: Option<u64>) -> Result<Reply, AllocError>
-    ensures { IfOk result (λ reply. reply ≡ read_reply batches.now request key.now at) }
+// What a node knows as it starts with so many batches.
+fn core_of(alloc: Global, identity: Identity, count: usize) -> CoreState
+    requires { count ≤ MAX_NUMBER }
+    ensures id { result.id ≡ identity.id }
+    ensures count { result.count ≡ count }
+    ensures is { (n : Machine) → IsFirst n → n.ids ≡ identity.config → length n.list ≡ count →
+        Is result (started identity.id n) }
 {
-    let number = at.unwrap_or(batches.len() as u64);
-    if number > batches.len() as u64 {
-        let refusal = Refusal::NotCommitted;
-        return Ok(Reply::Refused { request, refusal });
-    }
-    let value = match value_at(&batches[..number as usize], key) {
-        Some(value) => Some(value.clone()?),
-        None => None,
-    };
-    Ok(Reply::Value {
-        request,
-        number,
-        value,
-    })
+    CoreState::started(
+        alloc,
+        AtRest {
+            id: identity.id,
+            epoch: Epoch::FIRST,
+            config: identity.config,
+            count: Number::new(count as u64).unwrap(),
+            floor: Number::ZERO,
+            kept: Number::ZERO,
+        },
+    )
 }
 
 impl<D: Disk + Drop> Node<D> {
@@ -55,7 +65,6 @@ impl<D: Disk + Drop> Node<D> {
         config: &Config,
         limits: &Limits,
     ) -> Result<Node<D>, (Stop, D)>
-        requires { config.now ≡ id ∷ [] }
         ensures keeps { KeepsTaken D.is_honest D.failures disk result }
         ensures created { D.is_honest disk → IsEmpty (D.state disk) →
             MatchResult result (λ node. Runs D.is_honest D.state node id (created config.now))
@@ -64,10 +73,14 @@ impl<D: Disk + Drop> Node<D> {
             KeepsOthers (D.state disk) (D.state (disk_behind result)) }
         ensures works { IfOk result MayStep }
     {
-        match Engine::create(alloc, &mut disk, id) {
+        let Ok(known) = config.clone() else {
+            return Err((Stop::Memory, disk));
+        };
+        match Engine::create(alloc, &mut disk, id, config) {
             Ok(engine) => Ok(Node {
                 disk,
                 engine,
+                core: CoreState::created(alloc, id, known),
                 limits: *limits,
             }),
             Err(stop) => Err((stop, disk)),
@@ -91,8 +104,9 @@ impl<D: Disk + Drop> Node<D> {
         ensures works { IfOk result MayStep }
     {
         match Engine::open(alloc, &mut disk) {
-            Ok(engine) => Ok(Node {
+            Ok((identity, engine)) => Ok(Node {
                 disk,
+                core: core_of(alloc, identity, engine.batches.len()),
                 engine,
                 limits: *limits,
             }),
@@ -100,51 +114,124 @@ impl<D: Disk + Drop> Node<D> {
         }
     }
 
-    // Takes a batch: the only node of a chain is its head, and commits what it has.
-    fn submit(&mut self, alloc: Global, request: u64, batch: Batch) -> Result<Reply, Stop>
-        requires { MayStep self.old }
+    // A batch is appended, and the node knows of it.
+    fn take(&mut self, alloc: Global, batch: Batch, done: Done) -> Result<Vec<Waiting>, Stop>
+        requires may { MayStep self.old }
+        requires room { self.old.core.count < MAX_NUMBER }
+        requires done { HasAppended done }
         ensures keeps { KeepsDisk D.is_honest D.failures (disk_of self.old) (disk_of self.new)
             (TellsDisk result) }
-        ensures answered { (x : ℕ) (n : Machine) → Runs D.is_honest D.state self.old x n →
-            let input = Input.Submit request batch in
-            MatchResult result (λ reply. Answers D.is_honest D.state self.new x input
-            (answer_to x n input) (reply ∷ [])) IsOfMachine }
-        ensures stopped { (x : ℕ) (n : Machine) → Runs D.is_honest D.state self.old x n →
-            OnErr result (D.is_honest (disk_of self.new)
-            × StopsAs (D.state (disk_of self.new)) x n
-            (answer_to x n (Input.Submit request batch))) }
+        ensures ends { (x : ℕ) (n : Machine) → Runs D.is_honest D.state self.old x n →
+            Ends D.is_honest D.state self.new x n (done_of x n batch done)
+            (λ due. Follows D.is_honest D.state self.new x (done_of x n batch done) due.items)
+            result }
         ensures others { (x : ℕ) (n : Machine) → Runs D.is_honest D.state self.old x n →
             KeepsOthers (D.state (disk_of self.old)) (D.state (disk_of self.new)) }
-        ensures works { OnOk result (MayStep self.new) }
+        ensures works { OnOk result (MayStep self.new × (1 ≤ self.new.core.count)) }
     {
-        if self.engine.batches.len() as u64 == MAX_NUMBER {
-            let refusal = Refusal::Exhausted;
-            return Ok(Reply::Refused { request, refusal });
-        }
+        steps_leave();
         self.engine.append(alloc, &mut self.disk, batch)?;
-        let number = self.engine.batches.len() as u64;
-        Ok(Reply::Committed { request, number })
+        Ok(self.core.after(alloc, done)?)
     }
 
-    fn reply_to(&mut self, alloc: Global, input: Input) -> Result<Reply, Stop>
-        requires { MayStep self.old }
+    // The head takes a batch: it is on the disk before it is forwarded or acknowledged.
+    fn accept(&mut self, alloc: Global, request: Number, batch: Batch) -> Result<Output, Stop>
+        requires may { MayStep self.old }
+        requires room { self.old.core.count < MAX_NUMBER }
         ensures keeps { KeepsDisk D.is_honest D.failures (disk_of self.old) (disk_of self.new)
             (TellsDisk result) }
-        ensures answered { (x : ℕ) (n : Machine) → Runs D.is_honest D.state self.old x n →
-            MatchResult result (λ reply. Answers D.is_honest D.state self.new x input
-            (answer_to x n input) (reply ∷ [])) IsOfMachine }
-        ensures stopped { (x : ℕ) (n : Machine) → Runs D.is_honest D.state self.old x n →
-            OnErr result (D.is_honest (disk_of self.new)
-            × StopsAs (D.state (disk_of self.new)) x n (answer_to x n input)) }
+        ensures ends { (x : ℕ) (n : Machine) (input : Input) →
+            Runs D.is_honest D.state self.old x n →
+            Ends D.is_honest D.state self.new x n (accept x n request batch)
+            (Answers D.is_honest D.state self.new x input (accept x n request batch)) result }
         ensures others { (x : ℕ) (n : Machine) → Runs D.is_honest D.state self.old x n →
             KeepsOthers (D.state (disk_of self.old)) (D.state (disk_of self.new)) }
         ensures works { OnOk result (MayStep self.new) }
     {
-        match input {
-            Input::Submit { request, batch } => self.submit(alloc, request, batch),
-            Input::Get { request, key, at } => {
-                Ok(read(&self.engine.batches, request, &key, at)?)
+        steps_leave();
+        let due = self.take(alloc, batch, Done::Accepted { request })?;
+        let last = self.core.count().get();
+        output_of(
+            alloc,
+            &self.core,
+            &self.engine.batches,
+            last..last + 1,
+            false,
+            &due,
+        )
+    }
+
+    // The next batch of the predecessor is taken. A tail commits it, and acknowledges it.
+    fn append(&mut self, alloc: Global, batch: Batch) -> Result<Output, Stop>
+        requires may { MayStep self.old }
+        requires room { self.old.core.count < MAX_NUMBER }
+        ensures keeps { KeepsDisk D.is_honest D.failures (disk_of self.old) (disk_of self.new)
+            (TellsDisk result) }
+        ensures ends { (x : ℕ) (n : Machine) (input : Input) →
+            Runs D.is_honest D.state self.old x n →
+            Ends D.is_honest D.state self.new x n (append x n (suc (length n.list)) batch)
+            (Answers D.is_honest D.state self.new x input
+            (append x n (suc (length n.list)) batch)) result }
+        ensures others { (x : ℕ) (n : Machine) → Runs D.is_honest D.state self.old x n →
+            KeepsOthers (D.state (disk_of self.old)) (D.state (disk_of self.new)) }
+        ensures works { OnOk result (MayStep self.new) }
+    {
+        steps_leave();
+        let due = self.take(alloc, batch, Done::Appended)?;
+        let last = self.core.count().get();
+        let acks = self.core.is_tail();
+        output_of(
+            alloc,
+            &self.core,
+            &self.engine.batches,
+            last..last + 1,
+            acks,
+            &due,
+        )
+    }
+
+    // What the successor tells is taken, and passed on where more is committed.
+    fn pass_on(&mut self, alloc: Global, committed: Number, have: Number) -> Result<Output, Stop>
+        requires { MayStep self.old }
+        ensures disk { disk_of self.new ≡ disk_of self.old }
+        ensures ends { (x : ℕ) (n : Machine) (input : Input) →
+            Runs D.is_honest D.state self.old x n →
+            Ends D.is_honest D.state self.new x n (pass_on x n committed have)
+            (Answers D.is_honest D.state self.new x input (pass_on x n committed have)) result }
+        ensures memory { IfErr result (λ e. e ≡ Stop.Memory) }
+        ensures works { OnOk result (MayStep self.new) }
+    {
+        steps_leave();
+        let grows = committed > self.core.committed();
+        let due = self.core.after(alloc, Done::Told { committed, have })?;
+        output_of(alloc, &self.core, &self.engine.batches, 1..1, grows, &due)
+    }
+
+    // What was decided is done.
+    fn perform(&mut self, alloc: Global, decision: Decision) -> Result<Output, Stop>
+        requires may { MayStep self.old }
+        requires room { HasRoomFor self.old.core.count decision }
+        ensures keeps { KeepsDisk D.is_honest D.failures (disk_of self.old) (disk_of self.new)
+            (TellsDisk result) }
+        ensures ends { (x : ℕ) (n : Machine) (input : Input) →
+            Runs D.is_honest D.state self.old x n → IsReadOf n input decision →
+            Ends D.is_honest D.state self.new x n (rule_of x n decision)
+            (Answers D.is_honest D.state self.new x input (rule_of x n decision)) result }
+        ensures others { (x : ℕ) (n : Machine) → Runs D.is_honest D.state self.old x n →
+            KeepsOthers (D.state (disk_of self.old)) (D.state (disk_of self.new)) }
+        ensures works { OnOk result (MayStep self.new) }
+    {
+        match decision {
+            Decision::Accept { request, batch } => self.accept(alloc, request, batch),
+            Decision::Append { batch } => self.append(alloc, batch),
+            Decision::TellAgain => tell_again(alloc, &self.core),
+            Decision::PassOn { committed, have } => self.pass_on(alloc, committed, have),
+            Decision::Show { request, key, at } => {
+                show(alloc, &self.engine.batches, request, &key, at)
             }
+            Decision::Resend => resend(alloc, &self.core, &self.engine.batches),
+            Decision::Refuse { request, refusal } => refuse(alloc, request, refusal),
+            Decision::Drop(reason) => Ok(drop_for(alloc, reason)),
         }
     }
 
@@ -156,7 +243,7 @@ impl<D: Disk + Drop> Node<D> {
             (TellsDisk result) }
         ensures answered { (x : ℕ) (n : Machine) → Runs D.is_honest D.state self.old x n →
             MatchResult result (λ output. Answers D.is_honest D.state self.new x input
-            (answer_to x n input) output.replies.items) IsOfMachine }
+            (answer_to x n input) output) IsOfMachine }
         ensures stopped { (x : ℕ) (n : Machine) → Runs D.is_honest D.state self.old x n →
             OnErr result (D.is_honest (disk_of self.new)
             × StopsAs (D.state (disk_of self.new)) x n (answer_to x n input)) }
@@ -164,57 +251,55 @@ impl<D: Disk + Drop> Node<D> {
             KeepsOthers (D.state (disk_of self.old)) (D.state (disk_of self.new)) }
         ensures works { OnOk result (MayStep self.new) }
     {
-        let mut replies = Vec::new(alloc);
-        replies.reserve(1)?;
-        replies.push_reserved(self.reply_to(alloc, input)?);
-        Ok(Output { replies })
+        let decision = decide(&self.core, input);
+        self.perform(alloc, decision)
     }
 
     pub fn id(&self) -> NodeId
         ensures { (x : ℕ) (n : Machine) → Runs D.is_honest D.state self.now x n →
             result ≡ x }
     {
-        self.engine.id
+        self.core.id()
     }
 
     /// The place of its configuration in the master's list.
-    pub fn epoch(&self) -> u32
+    pub fn epoch(&self) -> Epoch
         ensures { (x : ℕ) (n : Machine) → Runs D.is_honest D.state self.now x n →
             result ≡ n.epoch }
     {
-        0
+        self.core.epoch()
     }
 
     /// How many batches the node has.
-    pub fn count(&self) -> u64
+    pub fn count(&self) -> Number
         ensures { (x : ℕ) (n : Machine) → Runs D.is_honest D.state self.now x n →
             result ≡ length n.list }
     {
-        self.engine.batches.len() as u64
+        self.core.count()
     }
 
     /// How many of them are committed.
-    pub fn committed(&self) -> u64
+    pub fn committed(&self) -> Number
         ensures { (x : ℕ) (n : Machine) → Runs D.is_honest D.state self.now x n →
             result ≡ n.committed }
     {
-        self.engine.batches.len() as u64
+        self.core.committed()
     }
 
     /// The least number that it can be read at.
-    pub fn floor(&self) -> u64
+    pub fn floor(&self) -> Number
         ensures { (x : ℕ) (n : Machine) → Runs D.is_honest D.state self.now x n →
             result ≡ n.floor }
     {
-        0
+        self.core.floor()
     }
 
     /// So many of its first batches it has given up.
-    pub fn kept(&self) -> u64
+    pub fn kept(&self) -> Number
         ensures { (x : ℕ) (n : Machine) → Runs D.is_honest D.state self.now x n →
             result ≡ n.kept }
     {
-        0
+        self.core.kept()
     }
 
     /// How many tables each level has.
@@ -233,6 +318,7 @@ impl<D: Disk + Drop> Node<D> {
         let Node {
             disk,
             engine: _engine,
+            core: _core,
             limits: _limits,
         } = self;
         disk

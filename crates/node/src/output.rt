@@ -1,4 +1,5 @@
-use kv_types::Value;
+use chain_core::{DropReason, Sent};
+use kv_types::{Number, Value};
 use link_messages::Refusal;
 
 /// What a client is told of a request.
@@ -6,17 +7,17 @@ use link_messages::Refusal;
 pub enum Reply {
     /// The batch has this number, and is committed.
     Committed {
-        request: u64,
-        number: u64,
+        request: Number,
+        number: Number,
     },
     /// What the key has at this number.
     Value {
-        request: u64,
-        number: u64,
+        request: Number,
+        number: Number,
         value: Option<Value>,
     },
     Refused {
-        request: u64,
+        request: Number,
         refusal: Refusal,
     },
 }
@@ -24,5 +25,10 @@ pub enum Reply {
 /// What a step answers.
 #[derive(Debug, Drop)]
 pub struct Output {
+    /// Why what came was dropped, if it was.
+    pub dropped: Option<DropReason>,
+    /// What is sent to other nodes, in order.
+    pub frames: Vec<Sent>,
+    /// What clients are told, in order.
     pub replies: Vec<Reply>,
 }

@@ -1,26 +1,66 @@
-// What a client is told, from a node's creation on. The lines and the replies are a script's: the
-// node is created at line 1, and a request has its line's number.
-use crate::running::{Line, Running, batch_of, created, started};
+// What a node sends and replies, from its creation on. The lines and what is printed are a
+// script's: the node is created at line 1, and a request has its line's number.
+use crate::running::{Line, Running, batch_of, created_in, number, started};
+use configurations::{Epoch, NodeId};
 use disk::{Crash, Junk, JunkBytes};
-use kv_types::{Key, KvError, Value};
-use node::{Input, Output, Reply};
+use kv_types::{Key, KvError, Number, Value};
+use link_messages::Frame;
+use node::{Input, Output, Reply, Sent};
 use std::alloc::{AllocError, Global};
 use std::test::Fail;
 
-fn input_of(alloc: Global, request: u64, line: &Line) -> Result<Option<Input>, KvError> {
+const A1: &[(&'static str, Option<&'static str>)] = &[("a", Some("1"))];
+
+fn get_of(alloc: Global, request: Number, text: &str, at: Option<u64>) -> Result<Input, KvError> {
+    let key = Key::new(text.as_bytes().to_vec(alloc)?)?;
+    let at = at.map(number);
+    Ok(Input::Get { request, key, at })
+}
+
+fn submit_of(
+    alloc: Global,
+    request: Number,
+    changes: &[(&'static str, Option<&'static str>)],
+) -> Result<Input, KvError> {
+    let batch = batch_of(alloc, changes)?;
+    Ok(Input::Submit { request, batch })
+}
+
+/// The epoch and the sender of a frame.
+fn sender(epoch: u32, from: u16) -> Option<(Epoch, NodeId)> {
+    Some((Epoch::new(epoch)?, NodeId::new(from)?))
+}
+
+fn forward_of(alloc: Global, epoch: u32, from: u16, at: u64) -> Result<Option<Input>, KvError> {
+    let Some((epoch, from)) = sender(epoch, from) else {
+        return Ok(None);
+    };
+    let batch = batch_of(alloc, A1)?;
+    Ok(Some(Input::Forward {
+        epoch,
+        from,
+        number: number(at),
+        batch,
+    }))
+}
+
+fn ack_of(epoch: u32, from: u16, committed: u64, have: u64) -> Option<Input> {
+    let (epoch, from) = sender(epoch, from)?;
+    Some(Input::Ack {
+        epoch,
+        from,
+        committed: number(committed),
+        have: number(have),
+    })
+}
+
+fn input_of(alloc: Global, request: Number, line: &Line) -> Result<Option<Input>, KvError> {
     match line {
-        Line::Submit(changes) => {
-            let batch = batch_of(alloc, *changes)?;
-            Ok(Some(Input::Submit { request, batch }))
-        }
-        Line::Get(text, at) => {
-            let key = Key::new(text.as_bytes().to_vec(alloc)?)?;
-            Ok(Some(Input::Get {
-                request,
-                key,
-                at: *at,
-            }))
-        }
+        Line::Submit(changes) => Ok(Some(submit_of(alloc, request, *changes)?)),
+        Line::Get(text, at) => Ok(Some(get_of(alloc, request, *text, *at)?)),
+        Line::Forward(epoch, from, at) => forward_of(alloc, *epoch, *from, *at),
+        Line::Ack(epoch, from, committed, have) => Ok(ack_of(*epoch, *from, *committed, *have)),
+        Line::Tick => Ok(Some(Input::Tick)),
         Line::Restart(_) => Ok(None),
     }
 }
@@ -29,29 +69,78 @@ fn value_text(alloc: Global, value: &Value) -> Result<String, AllocError> {
     String::from_utf8_lossy(alloc, value.as_bytes())
 }
 
-fn text_of(alloc: Global, output: &Output) -> Result<String, AllocError> {
-    match output.replies.as_slice() {
-        [Reply::Committed { request, number }] => {
+fn frame_text(alloc: Global, sent: &Sent) -> Result<String, AllocError> {
+    let to = sent.to.get();
+    match &sent.frame {
+        Frame::Forward {
+            epoch,
+            from,
+            number,
+            ..
+        } => {
+            let (epoch, from, number) = (epoch.get(), from.get(), number.get());
+            format!(in alloc; "{from}>{to} forward {epoch} {number}")
+        }
+        Frame::Ack {
+            epoch,
+            from,
+            committed,
+            have,
+        } => {
+            let (epoch, from) = (epoch.get(), from.get());
+            let (committed, have) = (committed.get(), have.get());
+            format!(in alloc; "{from}>{to} ack {epoch} {committed} {have}")
+        }
+        _ => format!(in alloc; "another frame"),
+    }
+}
+
+fn reply_text(alloc: Global, reply: &Reply) -> Result<String, AllocError> {
+    match reply {
+        Reply::Committed { request, number } => {
+            let (request, number) = (request.get(), number.get());
             format!(in alloc; "{request}: committed {number}")
         }
-        [Reply::Refused { request, refusal }] => {
+        Reply::Refused { request, refusal } => {
+            let request = request.get();
             format!(in alloc; "{request}: refused {} {refusal:?}", *refusal as u8)
         }
-        [
-            Reply::Value {
-                request,
-                number,
-                value,
-            },
-        ] => match value {
-            Some(value) => {
-                let text = value_text(alloc, value)?;
-                format!(in alloc; "{request}: value {text} at {number}")
+        Reply::Value {
+            request,
+            number,
+            value,
+        } => {
+            let (request, number) = (request.get(), number.get());
+            match value {
+                Some(value) => {
+                    let text = value_text(alloc, value)?;
+                    format!(in alloc; "{request}: value {text} at {number}")
+                }
+                None => format!(in alloc; "{request}: none at {number}"),
             }
-            None => format!(in alloc; "{request}: none at {number}"),
-        },
-        _ => format!(in alloc; "not one reply"),
+        }
     }
+}
+
+fn add(text: &mut String, part: &str) -> Result<(), AllocError> {
+    if !text.is_empty() {
+        text.push_str(" / ")?;
+    }
+    text.push_str(part)
+}
+
+fn text_of(alloc: Global, output: &Output) -> Result<String, AllocError> {
+    let mut text = String::new(alloc);
+    if let Some(reason) = output.dropped {
+        add(&mut text, &format!(in alloc; "dropped {reason:?}")?)?;
+    }
+    for sent in &output.frames {
+        add(&mut text, &frame_text(alloc, sent)?)?;
+    }
+    for reply in &output.replies {
+        add(&mut text, &reply_text(alloc, reply)?)?;
+    }
+    Ok(text)
 }
 
 /// The machine stops and starts, and the node is started.
@@ -72,24 +161,29 @@ fn stepped(alloc: Global, running: Running, input: Input) -> Result<(Running, St
 fn done(
     alloc: Global,
     running: Running,
-    number: u64,
+    request: u64,
     line: &Line,
 ) -> Result<(Running, String), Fail> {
-    if let Some(input) = input_of(alloc, number, line)? {
+    if let Some(input) = input_of(alloc, number(request), line)? {
         return stepped(alloc, running, input);
     }
     let Line::Restart(junk) = line else {
         return Ok((running, String::new(alloc)));
     };
     let running = restarted(alloc, running, *junk)?;
-    let (count, committed) = (running.node.count(), running.node.committed());
-    let text = format!(in alloc; "{number}: count {count} committed {committed}")?;
+    let (count, committed) = (running.node.count().get(), running.node.committed().get());
+    let text = format!(in alloc; "{request}: count {count} committed {committed}")?;
     Ok((running, text))
 }
 
-/// What is printed for each line.
-fn printed(alloc: Global, lines: &[(u64, Line, &'static str)]) -> Result<Vec<String>, Fail> {
-    let mut running = created(alloc)?;
+/// What is printed for each line of a node with this configuration.
+fn printed(
+    alloc: Global,
+    id: u16,
+    ids: &[u16],
+    lines: &[(u64, Line, &'static str)],
+) -> Result<Vec<String>, Fail> {
+    let mut running = created_in(alloc, id, ids)?;
     let mut texts = Vec::new(alloc);
     for (number, line, _want) in lines {
         let (next, text) = done(alloc, running, *number, line)?;
@@ -98,8 +192,6 @@ fn printed(alloc: Global, lines: &[(u64, Line, &'static str)]) -> Result<Vec<Str
     }
     Ok(texts)
 }
-
-const A1: &[(&'static str, Option<&'static str>)] = &[("a", Some("1"))];
 
 const A2: &[(&'static str, Option<&'static str>)] = &[("a", Some("2"))];
 
@@ -152,11 +244,124 @@ fn what_is_printed(rt: HostRuntime) -> Result<(), Fail> {
         ],
     ];
     for course in courses {
-        let texts = printed(alloc, course)?;
+        let texts = printed(alloc, 1, &[1], course)?;
         assert_eq!(rt; texts.len(), course.len());
-        for ((number, _line, want), text) in course.iter().zip(&texts) {
-            assert_eq!(rt; text.as_str(), *want, "line {number}");
+        for ((line, _, want), text) in course.iter().zip(&texts) {
+            assert_eq!(rt; text.as_str(), *want, "line {line}");
         }
+    }
+    Ok(())
+}
+
+// Lines of one node of the configuration 1 2 3.
+const HEAD: &[(u64, Line, &'static str)] = &[
+    (2, Line::Submit(A1), "1>2 forward 0 1"),
+    (3, Line::Submit(A2), "1>2 forward 0 2"),
+    (4, Line::Ack(0, 2, 0, 1), ""),
+    (5, Line::Tick, "1>2 forward 0 2"),
+    (6, Line::Ack(0, 3, 1, 1), "dropped NotSuccessor"),
+    (7, Line::Ack(1, 2, 1, 1), "dropped OtherEpoch"),
+    (8, Line::Ack(0, 2, 2, 1), "dropped BadAck"),
+    (9, Line::Ack(0, 2, 1, 3), "dropped BadAck"),
+    (10, Line::Get("a", Some(1)), "10: refused 4 NotCommitted"),
+    (11, Line::Ack(0, 2, 2, 2), "2: committed 1 / 3: committed 2"),
+    (12, Line::Ack(0, 2, 2, 2), ""),
+    (13, Line::Get("a", None), "13: value 2 at 2"),
+    (14, Line::Get("a", Some(1)), "14: value 1 at 1"),
+    (15, Line::Forward(0, 2, 3), "dropped NotPredecessor"),
+    (16, Line::Tick, ""),
+];
+
+const MIDDLE: &[(u64, Line, &'static str)] = &[
+    (2, Line::Forward(0, 1, 1), "2>3 forward 0 1"),
+    (
+        3,
+        Line::Forward(0, 1, 1),
+        "dropped OtherNumber / 2>1 ack 0 0 1",
+    ),
+    (
+        4,
+        Line::Forward(0, 1, 3),
+        "dropped OtherNumber / 2>1 ack 0 0 1",
+    ),
+    (5, Line::Forward(0, 3, 2), "dropped NotPredecessor"),
+    (6, Line::Forward(1, 1, 2), "dropped OtherEpoch"),
+    (7, Line::Ack(0, 1, 1, 1), "dropped NotSuccessor"),
+    (8, Line::Ack(0, 3, 1, 1), "2>1 ack 0 1 1"),
+    (9, Line::Ack(0, 3, 1, 1), ""),
+    (10, Line::Submit(A1), "10: refused 2 NotHead"),
+    (11, Line::Get("a", None), "11: value 1 at 1"),
+    (12, Line::Tick, "2>1 ack 0 1 1"),
+    // It knows its configuration again, and of no commitment.
+    (13, Line::Restart(&[]), "13: count 1 committed 0"),
+    (14, Line::Tick, "2>3 forward 0 1 / 2>1 ack 0 0 1"),
+    (15, Line::Forward(0, 1, 2), "2>3 forward 0 2"),
+    (16, Line::Get("a", Some(1)), "16: refused 4 NotCommitted"),
+    (17, Line::Ack(0, 3, 2, 2), "2>1 ack 0 2 2"),
+];
+
+const TAIL: &[(u64, Line, &'static str)] = &[
+    (2, Line::Forward(0, 2, 1), "3>2 ack 0 1 1"),
+    (
+        3,
+        Line::Forward(0, 2, 1),
+        "dropped OtherNumber / 3>2 ack 0 1 1",
+    ),
+    (4, Line::Ack(0, 2, 1, 1), "dropped NotSuccessor"),
+    (5, Line::Get("a", None), "5: value 1 at 1"),
+    (6, Line::Submit(A1), "6: refused 2 NotHead"),
+    (7, Line::Restart(&[1]), "7: count 1 committed 1"),
+    (8, Line::Tick, "3>2 ack 0 1 1"),
+];
+
+// Node 4 is not in it.
+const REMOVED: &[(u64, Line, &'static str)] = &[
+    (2, Line::Submit(A1), "2: refused 7 Removed"),
+    (3, Line::Get("a", None), "3: refused 7 Removed"),
+    (4, Line::Forward(0, 3, 1), "dropped Removed"),
+    (5, Line::Ack(0, 3, 0, 0), "dropped Removed"),
+    (6, Line::Tick, "dropped Removed"),
+    (7, Line::Restart(&[]), "7: count 0 committed 0"),
+    (8, Line::Tick, "dropped Removed"),
+];
+
+#[test]
+fn nodes_of_three(rt: HostRuntime) -> Result<(), Fail> {
+    let alloc = rt.alloc();
+    for (id, course) in [(1, HEAD), (2, MIDDLE), (3, TAIL), (4, REMOVED)] {
+        let texts = printed(alloc, id, &[1, 2, 3], course)?;
+        assert_eq!(rt; texts.len(), course.len());
+        for ((line, _, want), text) in course.iter().zip(&texts) {
+            assert_eq!(rt; text.as_str(), *want, "node {id} line {line}");
+        }
+    }
+    Ok(())
+}
+
+/// What a tick sends of a head that took so many batches.
+fn resent(alloc: Global, batches: u64) -> Result<Vec<String>, Fail> {
+    let mut running = created_in(alloc, 1, &[1, 2])?;
+    for _ in 0..batches {
+        let (next, _text) = done(alloc, running, 2, &Line::Submit(A1))?;
+        running = next;
+    }
+    let output = running.node.step(alloc, Input::Tick)?;
+    let mut texts = Vec::new(alloc);
+    for sent in &output.frames {
+        texts.push(frame_text(alloc, sent)?)?;
+    }
+    Ok(texts)
+}
+
+#[test]
+fn a_tick_sends_16(rt: HostRuntime) -> Result<(), Fail> {
+    let texts = resent(rt.alloc(), 18)?;
+    assert_eq!(rt; texts.len(), 16);
+    for (text, want) in [
+        (texts.first(), "1>2 forward 0 1"),
+        (texts.last(), "1>2 forward 0 16"),
+    ] {
+        assert!(rt; text.is_some_and(|text| text.as_str() == want), "{want}");
     }
     Ok(())
 }

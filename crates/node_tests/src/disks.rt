@@ -1,5 +1,5 @@
 // Which disks are started, and what stands on them.
-use crate::running::{Running, batch_of, created, started};
+use crate::running::{Running, batch_of, created, created_in, number, started};
 use disk::{Disk, DiskError, MemDisk};
 use node::{Input, Stop};
 use std::alloc::Global;
@@ -7,6 +7,9 @@ use std::test::Fail;
 
 // Node 1: an open gate, the length, the id, one id, that id, and a closed gate.
 const NODE_1: &[u8] = &[1, 0, 0, 0, 5, 0, 1, 1, 0, 1, 0];
+
+// Node 2 of the configuration 1 2 3.
+const NODE_2: &[u8] = &[1, 0, 0, 0, 9, 0, 2, 3, 0, 1, 0, 2, 0, 3, 0];
 
 // Batch 1 is a=1: an open gate, the length, the number, the batch, and a closed gate.
 const BATCH_1: &[u8] = &[
@@ -36,7 +39,7 @@ fn disk_of(
 /// Why the disk is not started, or else how many batches the node has. Want of memory is no answer.
 fn answer(alloc: Global, disk: MemDisk) -> Result<(Option<Stop>, u64), Stop> {
     match started(alloc, disk) {
-        Ok(running) => Ok((None, running.node.count())),
+        Ok(running) => Ok((None, running.node.count().get())),
         Err(Stop::Memory) => Err(Stop::Memory),
         Err(stop) => Ok((Some(stop), 0)),
     }
@@ -60,7 +63,7 @@ fn identity_files(rt: HostRuntime) -> Result<(), Fail> {
     let two_records = &[
         1, 0, 0, 0, 5, 0, 1, 1, 0, 1, 1, 0, 0, 0, 5, 0, 1, 1, 0, 1, 0,
     ];
-    let table: [(Option<&[u8]>, Option<Stop>); 10] = [
+    let table: [(Option<&[u8]>, Option<Stop>); 15] = [
         (None, blank),
         (Some(&[]), blank),
         (Some(&[0]), blank),
@@ -68,10 +71,16 @@ fn identity_files(rt: HostRuntime) -> Result<(), Fail> {
         // It ends before its last gate, and in its record.
         (Some(&NODE_1[..10]), damaged),
         (Some(&NODE_1[..7]), damaged),
-        // Id 0, another id, two ids, two records.
-        (Some(&[1, 0, 0, 0, 5, 0, 0, 1, 0, 0, 0]), damaged),
-        (Some(&[1, 0, 0, 0, 5, 0, 1, 1, 0, 2, 0]), damaged),
-        (Some(&[1, 0, 0, 0, 7, 0, 1, 2, 0, 1, 0, 2, 0]), damaged),
+        // It is in another configuration, or in none.
+        (Some(NODE_2), None),
+        (Some(&[1, 0, 0, 0, 5, 0, 1, 1, 0, 2, 0]), None),
+        // Id 0 as its own and among the ids, an id twice, no id, too few, half an id, two records.
+        (Some(&[1, 0, 0, 0, 5, 0, 0, 1, 0, 1, 0]), damaged),
+        (Some(&[1, 0, 0, 0, 5, 0, 1, 1, 0, 0, 0]), damaged),
+        (Some(&[1, 0, 0, 0, 7, 0, 1, 2, 0, 1, 0, 1, 0]), damaged),
+        (Some(&[1, 0, 0, 0, 3, 0, 1, 0, 0]), damaged),
+        (Some(&[1, 0, 0, 0, 5, 0, 1, 2, 0, 1, 0]), damaged),
+        (Some(&[1, 0, 0, 0, 6, 0, 1, 1, 0, 1, 0, 0]), damaged),
         (Some(two_records), damaged),
     ];
     for (identity, want) in table {
@@ -138,7 +147,7 @@ fn files_of_batches(rt: HostRuntime) -> Result<(), Fail> {
 fn disk_behind(alloc: Global, running: Running) -> Result<MemDisk, Fail> {
     let mut node = running.node;
     let batch = batch_of(alloc, &[("a", Some("1"))])?;
-    let request = 1;
+    let request = number(1);
     let _output = node.step(alloc, Input::Submit { request, batch })?;
     Ok(node.into_disk())
 }
@@ -151,5 +160,8 @@ fn what_stands_on_the_disk(rt: HostRuntime) -> Result<(), Fail> {
         let bytes = bytes_of(alloc, &mut disk, file)?;
         assert_eq!(rt; bytes.as_slice(), want, "file {file}");
     }
+    let mut disk = created_in(alloc, 2, &[1, 2, 3])?.node.into_disk();
+    let bytes = bytes_of(alloc, &mut disk, 1)?;
+    assert_eq!(rt; bytes.as_slice(), NODE_2);
     Ok(())
 }

@@ -6,9 +6,9 @@ use std::test::Fail;
 #[test]
 fn a_new_node(rt: HostRuntime) -> Result<(), Fail> {
     let node = created(rt.alloc())?.node;
-    assert_eq!(rt; (node.id().get(), node.epoch()), (1, 0));
-    assert_eq!(rt; (node.count(), node.committed()), (0, 0));
-    assert_eq!(rt; (node.floor(), node.kept()), (0, 0));
+    assert_eq!(rt; (node.id().get(), node.epoch().get()), (1, 0));
+    assert_eq!(rt; (node.count().get(), node.committed().get()), (0, 0));
+    assert_eq!(rt; (node.floor().get(), node.kept().get()), (0, 0));
     assert_eq!(rt; node.tables(), [0; 7]);
     Ok(())
 }

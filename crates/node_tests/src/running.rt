@@ -1,9 +1,9 @@
 // A running node, as the tests drive it.
-use configurations::Config;
-use disk::{Crash, Junk, JunkBytes, MemDisk};
-use kv_types::{Batch, Edit, Key, KvError, Limits, Value};
-use node::{Input, Node, Output, Reply, Stop};
-use std::alloc::{AllocError, Global};
+use configurations::{Config, NodeId};
+use disk::MemDisk;
+use kv_types::{Batch, Edit, Key, KvError, Limits, Number, Value};
+use node::{Node, Stop};
+use std::alloc::Global;
 use std::marker::Model;
 
 /// A node that no step has stopped. Nothing else is known of it.
@@ -25,10 +25,15 @@ impl Model for Running {
 /// A put of one key, or its deletion where there is no value.
 pub type Change = (&'static str, Option<&'static str>);
 
-/// What is asked of a node, or done to it.
+/// What comes to a node, or is done to it.
 pub enum Line {
     Submit(&'static [Change]),
     Get(&'static str, Option<u64>),
+    /// A batch that has this epoch, sender and number.
+    Forward(u32, u16, u64),
+    /// An acknowledgement of this epoch and sender: what is committed, and what it has.
+    Ack(u32, u16, u64, u64),
+    Tick,
     /// The machine stops, with these bytes in the loose places, and the node is started again.
     Restart(&'static [u8]),
 }
@@ -49,16 +54,24 @@ pub fn batch_of(alloc: Global, changes: &[Change]) -> Result<Batch, KvError> {
     Batch::new(edits)
 }
 
-/// Node 1, created on an empty disk.
-pub fn created(alloc: Global) -> Result<Running, Stop> {
-    let Ok(config) = Config::new(alloc, [1].to_vec(alloc)?) else {
+pub fn number(value: u64) -> Number {
+    Number::new(value).unwrap_or(Number::ZERO)
+}
+
+/// A node with this configuration, created on an empty disk.
+pub fn created_in(alloc: Global, id: u16, ids: &[u16]) -> Result<Running, Stop> {
+    let (Ok(config), Some(id)) = (Config::new(alloc, ids.to_vec(alloc)?), NodeId::new(id)) else {
         return Err(Stop::Memory);
     };
-    let disk = MemDisk::new(alloc);
-    match Node::create(alloc, disk, config.head(), &config, &Limits::default()) {
+    match Node::create(alloc, MemDisk::new(alloc), id, &config, &Limits::default()) {
         Ok(node) => Ok(Running { node }),
         Err((stop, _disk)) => Err(stop),
     }
+}
+
+/// Node 1, alone in its configuration, created on an empty disk.
+pub fn created(alloc: Global) -> Result<Running, Stop> {
+    created_in(alloc, 1, &[1])
 }
 
 /// The node that the disk has.

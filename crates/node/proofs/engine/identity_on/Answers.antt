@@ -11,14 +11,14 @@ use Rattle.node.proofs.Opens.{has_in, found_id}
 use Rattle.node.proofs.engine.identity_on.Goals as goal
 
 pub returns-in_err-identity-clause-opened : goal.returns-in_err-identity-clause-opened
-returns-in_err-identity-clause-opened g c = λ x honest had.
+returns-in_err-identity-clause-opened g c = λ x ids honest had.
     let result = c.from_residual-in_err-identity.result in
     let p = err_from_is_err_and result c.from_residual-in_err-identity.ensures.1 in
     let s0 = g.D.Disk.state c.args.disk.now in
     let s1 = g.D.Disk.state c.identity_length.new.disk in
     let same = c.identity_length.ensures.same honest identity_file in
     let honest1 = c.identity_length.ensures.keeps.honest.1 honest in
-    let records = identity_records x in
+    let records = identity_records x ids in
     let stood = has_in s0 s1 identity_file records same had.identity in
     let why = c.in_err-identity.ensures.opened records honest1 stood in
     rw (p.1, p.2) (of_machine c.in_err-identity.field-0.0 why)
@@ -41,12 +41,12 @@ returns-clause-found g c = λ honest.
     let honest1 = c.identity_length.ensures.keeps.honest.1 honest in
     let o = c.in_ok-identity.ensures.told honest1 in
     let honest2 = c.open.ensures.keeps.honest.1 honest1 in
-    found_id c.id_in.result (g.D.Disk.state c.args.disk.now)
+    found_id c.identity_in.result (g.D.Disk.state c.args.disk.now)
     (g.D.Disk.state c.identity_length.new.disk) (g.D.Disk.state c.open.new.disk)
-    (g.D.Disk.state c.id_in.new.disk) c.in_ok-identity.identity
-    (c.identity_length.ensures.same honest) (c.id_in.ensures.same honest2)
-    c.in_ok-identity.ensures.at o c.id_in.ensures.id
-    (c.id_in.ensures.found o.records honest2 o.holds)
+    (g.D.Disk.state c.identity_in.new.disk) c.in_ok-identity.identity
+    (c.identity_length.ensures.same honest) (c.identity_in.ensures.same honest2)
+    c.in_ok-identity.ensures.at o c.identity_in.ensures.is
+    (c.identity_in.ensures.found o.records honest2 o.holds)
 
 pub returns-clause-blank : goal.returns-clause-blank
 returns-clause-blank g c = λ honest.
@@ -58,5 +58,18 @@ returns-clause-blank g c = λ honest.
     (c.in_ok-identity_length.ensures.length honest) in
     let stood = subst (λ (slot : Slot). IsSomeAnd (seen slot) (λ it. StandsFor it o.records))
     (c.identity_length.ensures.same honest identity_file) o.stood in
-    let told = c.id_in.ensures.blank o.records honest2 o.holds in
-    blank_read c.id_in.result bytes o.records has stood told
+    let told = c.identity_in.ensures.blank o.records honest2 o.holds in
+    blank_read c.identity_in.result bytes o.records has stood told
+
+-- the log that was opened holds the node's record
+pub returns-clause-opened : goal.returns-clause-opened
+returns-clause-opened g c = λ x ids honest had.
+    let s0 = g.D.Disk.state c.args.disk.now in
+    let s1 = g.D.Disk.state c.identity_length.new.disk in
+    let same = c.identity_length.ensures.same honest identity_file in
+    let honest1 = c.identity_length.ensures.keeps.honest.1 honest in
+    let honest2 = c.open.ensures.keeps.honest.1 honest1 in
+    let records = identity_records x ids in
+    let stood = has_in s0 s1 identity_file records same had.identity in
+    let holds = c.in_ok-identity.ensures.opened records honest1 stood in
+    c.identity_in.ensures.named x ids honest2 had.id had.config holds

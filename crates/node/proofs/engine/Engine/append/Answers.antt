@@ -11,18 +11,18 @@ use Rattle.node.proofs.engine.Engine.append.Goals as goal
 
 -- nothing was written
 pub returns-in_err-record-clause-crash : goal.returns-in_err-record-clause-crash
-returns-in_err-record-clause-crash g c = λ x list honest s.
+returns-in_err-record-clause-crash g c = λ x ids list honest s.
     let is_batch = subst IsBatch c.batch.view_is c.batch.invariant in
-    unchanged (g.D.Disk.state c.args.disk.now) c.args.self.now x list s c.args.batch is_batch
+    unchanged (g.D.Disk.state c.args.disk.now) c.args.self.now x ids list s c.args.batch is_batch
 
 pub returns-in_err-reserve-clause-crash : goal.returns-in_err-reserve-clause-crash
-returns-in_err-reserve-clause-crash g c = λ x list honest s.
+returns-in_err-reserve-clause-crash g c = λ x ids list honest s.
     let is_batch = subst IsBatch c.batch.view_is c.batch.invariant in
-    unchanged (g.D.Disk.state c.args.disk.now) c.args.self.now x list s c.args.batch is_batch
+    unchanged (g.D.Disk.state c.args.disk.now) c.args.self.now x ids list s c.args.batch is_batch
 
 -- the log works and takes the record, so it tells of the machine alone
 pub returns-in_err-append-clause-appended : goal.returns-in_err-append-clause-appended
-returns-in_err-append-clause-appended g c = λ x list honest s.
+returns-in_err-append-clause-appended g c = λ x ids list honest s.
     let result = c.from_residual-in_err-append.result in
     let p = err_from_is_err_and result c.from_residual-in_err-append.ensures.1 in
     let is_batch = subst IsBatch c.batch.view_is c.batch.invariant in
@@ -31,43 +31,43 @@ returns-in_err-append-clause-appended g c = λ x list honest s.
     let fits : length c.deref.result.now ≤ 16777216 = omega (arith, ap length one, short) in
     let why = c.in_err-append.ensures.appended (records_from 1 list) honest s.log in
     rw (p.1, p.2) (met 16777216 c.in_err-append.field-0.0 c.args.self.now.log
-    c.append.new.self c.deref.result.now c.in_err-append.ensures.told.1 fits c.requires why)
+    c.append.new.self c.deref.result.now c.in_err-append.ensures.told.1 fits c.requires.works why)
 
 -- whether the log answered or not, a crash leaves what its file may be left as
 pub returns-in_err-append-clause-crash : goal.returns-in_err-append-clause-crash
-returns-in_err-append-clause-crash g c = λ x list honest s.
+returns-in_err-append-clause-crash g c = λ x ids list honest s.
     let old = g.D.Disk.state c.args.disk.now in
     let is_batch = subst IsBatch c.batch.view_is c.batch.invariant in
-    let number = next_record old c.args.self.now x list s c.args.batch is_batch
+    let number = next_record old c.args.self.now x ids list s c.args.batch is_batch
     (c.len.result + 1) (omega (arith, c.len.ensures)) in
-    crashed old c.args.self.now x list s c.args.batch is_batch c.deref.result.now
-    (c.deref.ensures.value ∙ c.in_ok-record.ensures ∙ number)
+    crashed old c.args.self.now x ids list s c.args.batch is_batch c.deref.result.now
+    (c.deref.ensures.value ∙ c.in_ok-record.ensures ∙ number) c.requires.room
     (g.D.Disk.state c.append.new.disk) (λ other. c.append.ensures.others other honest)
     (c.append.ensures.crash (records_from 1 list) honest s.log)
 
 pub returns-clause-crash : goal.returns-clause-crash
-returns-clause-crash g c = λ x list honest s.
+returns-clause-crash g c = λ x ids list honest s.
     let old = g.D.Disk.state c.args.disk.now in
     let is_batch = subst IsBatch c.batch.view_is c.batch.invariant in
-    let number = next_record old c.args.self.now x list s c.args.batch is_batch
+    let number = next_record old c.args.self.now x ids list s c.args.batch is_batch
     (c.len.result + 1) (omega (arith, c.len.ensures)) in
-    crashed old c.args.self.now x list s c.args.batch is_batch c.deref.result.now
-    (c.deref.ensures.value ∙ c.in_ok-record.ensures ∙ number)
+    crashed old c.args.self.now x ids list s c.args.batch is_batch c.deref.result.now
+    (c.deref.ensures.value ∙ c.in_ok-record.ensures ∙ number) c.requires.room
     (g.D.Disk.state c.append.new.disk) (λ other. c.append.ensures.others other honest)
     (c.append.ensures.crash (records_from 1 list) honest s.log)
 
 -- the record is in the log, and the batch in memory
 pub returns-clause-appended : goal.returns-clause-appended
-returns-clause-appended g c = λ x list honest s.
+returns-clause-appended g c = λ x ids list honest s.
     let old = g.D.Disk.state c.args.disk.now in
     let self = c.args.self.now in
     let batch = c.args.batch in
     let log = c.append.new.self in
     let is_batch = subst IsBatch c.batch.view_is c.batch.invariant in
-    let number = next_record old self x list s batch is_batch (c.len.result + 1)
+    let number = next_record old self x ids list s batch is_batch (c.len.result + 1)
     (omega (arith, c.len.ensures)) in
     let told = c.in_ok-append.ensures.told in
-    let after : Engine = record { id = self.id; log = log; batches = c.push_reserved.new.self } in
+    let after : Engine = record { log = log; batches = c.push_reserved.new.self } in
     let at : IsAt batches_file 0 log = record {
       in_file = told.0.file ∙ s.at.in_file;
       from = told.0.start ∙ s.at.from;
@@ -75,7 +75,7 @@ returns-clause-appended g c = λ x list honest s.
     } in
     let batches : c.push_reserved.new.self.items ≡ self.batches.items ++ batch ∷ [] =
     rw (c.push_reserved.ensures.items, c.reserve.ensures.items) refl in
-    appended old self x list s batch is_batch c.deref.result.now
-    (c.deref.ensures.value ∙ c.in_ok-record.ensures ∙ number)
+    appended old self x ids list s batch is_batch c.deref.result.now
+    (c.deref.ensures.value ∙ c.in_ok-record.ensures ∙ number) c.requires.room
     (g.D.Disk.state c.append.new.disk) after (λ other. c.append.ensures.others other honest)
-    at refl batches (c.in_ok-append.ensures.appended (records_from 1 list) honest s.log)
+    at batches (c.in_ok-append.ensures.appended (records_from 1 list) honest s.log)

@@ -1,11 +1,14 @@
-use Rattle.std.proofs.Common.{◌≡◌, [], ◌∷◌, refl, subst, ◌∙◌, arith, sym}
+use Rattle.std.proofs.Common.{◌≡◌, ◌≤◌, [], ◌∷◌, ap, length, subst, ◌∙◌, arith, sym}
 use Rattle.std.specs.Prelude.{IsNone}
+use Rattle.std.proofs.lemmas.Result.{err_from_is_err_and}
 use Rattle.std.proofs.lemmas.List.Elements.{All-nil}
 use Rattle.kv_types.specs.Spelling.{IsBatch}
 use Rattle.disk.specs.State.{Slot, seen}
 use Rattle.record_log.specs.Stands.{Holds}
 use Rattle.record_log.proofs.Creates.{absent_ends}
 use Rattle.node.specs.Layout.{identity_file, identity_record, identity_records, batches_file}
+use Rattle.node.proofs.Causes.{met}
+use Rattle.node.proofs.Identities.{identity_fits}
 use Rattle.node.proofs.Stores.{holds_in, sure_of_id}
 use Rattle.node.proofs.engine.Engine.create.Goals as goal
 
@@ -25,9 +28,9 @@ returns-clause-created g c = λ honest empty.
     let new = c.in_ok-identity.ensures.created honest1 (absent_ends _ none) in
     let held = c.in_ok-append.ensures.appended [] honest2 new in
     let told = c.in_ok-append.ensures.told.0 in
-    let one : c.deref.result.now ≡ identity_record c.args.id (c.args.id ∷ []) =
+    let one : c.deref.result.now ≡ identity_record c.args.id c.args.config.now =
     c.deref.ensures.value ∙ c.in_ok-record.ensures.spelled in
-    let named : Holds s3 c.append.new.self (identity_records c.args.id) =
+    let named : Holds s3 c.append.new.self (identity_records c.args.id c.args.config.now) =
     subst (λ r. Holds s3 c.append.new.self (r ∷ [])) one held in
     let identity = c.in_ok-identity.identity in
     let other : log.file ≡ identity.file → ⊥ = λ e. omega (arith, e, in_log, is.in_file) in
@@ -35,12 +38,32 @@ returns-clause-created g c = λ honest empty.
     let kept : s3 log.file ≡ s1 log.file = c.append.ensures.others log.file honest2 other
     ∙ c.create-2.ensures.others log.file honest1 back in
     record {
-      is = refl;
-      id = sure_of_id s3 c.append.new.self c.args.id c.in_ok-record.ensures.id
-          (told.file ∙ is.in_file) (told.start ∙ is.from) named;
+      id = sure_of_id s3 c.append.new.self c.args.id c.args.config.now
+          c.in_ok-record.ensures.id c.in_ok-record.ensures.config (told.file ∙ is.in_file)
+          (told.start ∙ is.from) named;
       at = c.in_ok-log.ensures.at;
       log = holds_in s1 s3 log [] kept
           (c.in_ok-log.ensures.created honest (absent_ends _ empty.batches));
       batches = c.new-batches.ensures.items;
       each = All-nil IsBatch;
+      few = omega arith;
     }
+
+-- the log works and takes the record, so it tells of the machine alone
+pub returns-in_err-append-clause-created : goal.returns-in_err-append-clause-created
+returns-in_err-append-clause-created g c = λ honest empty.
+    let honest1 = c.create.ensures.keeps.honest.1 honest in
+    let honest2 = c.create-2.ensures.keeps.honest.1 honest1 in
+    let result = c.from_residual-in_err-append.result in
+    let p = err_from_is_err_and result c.from_residual-in_err-append.ensures.1 in
+    let apart : identity_file ≡ batches_file → ⊥ = λ e. omega (arith, e) in
+    let none = subst (λ (slot : Slot). IsNone (seen slot))
+    (sym (c.create.ensures.others identity_file honest apart)) empty.identity in
+    let new = c.in_ok-identity.ensures.created honest1 (absent_ends _ none) in
+    let one = c.deref.ensures.value ∙ c.in_ok-record.ensures.spelled in
+    let short = identity_fits c.args.id c.args.config.now c.in_ok-record.ensures.config in
+    let fits : length c.deref.result.now ≤ 16777216 = omega (arith, ap length one, short) in
+    let why = c.in_err-append.ensures.appended [] honest2 new in
+    rw (p.1, p.2) (met 16777216 c.in_err-append.field-0.0 c.in_ok-identity.identity
+    c.append.new.self c.deref.result.now c.in_err-append.ensures.told.1 fits
+    c.in_ok-identity.ensures.at.works why)

@@ -1,13 +1,13 @@
-use Rattle.std.proofs.Common.{◌≡◌, ℕ, sym, subst, ◌∙◌, arith}
+use Rattle.std.proofs.Common.{◌≡◌, ℕ, List, sym, subst, ◌∙◌, arith}
 use Rattle.node.specs.Layout.{identity_file, batches_file, records_from}
 use Rattle.node.specs.Files.{IsSureOfId}
-use Rattle.node.proofs.Opens.{has_in, same_id, same_batches}
+use Rattle.node.proofs.Opens.{has_in, same_identity, same_batches}
 use Rattle.node.proofs.Stores.{holds_in, id_in}
 use Rattle.node.proofs.engine.Engine.open.Goals as goal
 
 -- the disk had one node and one list, and they are those that were read
 pub returns-clause-opened : goal.returns-clause-opened
-returns-clause-opened g c = λ x list honest had.
+returns-clause-opened g c = λ x ids list honest had.
     let honest1 = c.identity_on.ensures.keeps.honest.1 honest in
     let honest2 = c.open.ensures.keeps.honest.1 honest1 in
     let s0 = g.D.Disk.state c.args.disk.now in
@@ -15,8 +15,9 @@ returns-clause-opened g c = λ x list honest had.
     let s2 = g.D.Disk.state c.open.new.disk in
     let s3 = g.D.Disk.state c.batches_in.new.disk in
     let records = records_from 1 list in
-    let found = c.in_ok-id.ensures.found honest in
-    let same = same_id _ c.in_ok-id.id x found.had had.id in
+    let found = c.in_ok-identity.ensures.found honest in
+    let it = c.in_ok-identity.identity in
+    let same = same_identity _ it.id x it.config ids found.had had.id in
     let apart : identity_file ≡ batches_file → ⊥ = λ e. omega (arith, e) in
     let back : batches_file ≡ identity_file → ⊥ = λ e. omega (arith, e) in
     let there = c.identity_on.ensures.others batches_file honest back in
@@ -26,11 +27,17 @@ returns-clause-opened g c = λ x list honest had.
     let after = c.batches_in.ensures.same honest2 in
     let kept = after identity_file ∙ c.open.ensures.others identity_file honest1 apart in
     let list' = c.in_ok-batches.batches.items in
+    let sure = id_in s1 s3 it.id it.config kept found.sure in
     record {
-      is = same;
-      id = subst (λ (y : ℕ). IsSureOfId s3 y) same (id_in s1 s3 c.in_ok-id.id kept found.sure);
-      at = c.in_ok-log.ensures.at;
-      log = holds_in s2 s3 c.in_ok-log.log records (after c.in_ok-log.log.file) holds;
-      batches = sym (same_batches 1 list list' had.each read.1 read.0);
-      each = had.each;
+      id = same.0;
+      config = same.1;
+      store = record {
+        id = subst (λ (y : ℕ). IsSureOfId s3 y ids) same.0
+            (subst (λ (ys : List ℕ). IsSureOfId s3 it.id ys) same.1 sure);
+        at = c.in_ok-log.ensures.at;
+        log = holds_in s2 s3 c.in_ok-log.log records (after c.in_ok-log.log.file) holds;
+        batches = sym (same_batches 1 list list' had.each read.1 read.0);
+        each = had.each;
+        few = had.few;
+      };
     }

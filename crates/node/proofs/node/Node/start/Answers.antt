@@ -1,6 +1,7 @@
+use Rattle.std.proofs.Common.{arith}
 use Rattle.disk.specs.State.{contents}
 use Rattle.node.specs.declared.node.Node.{Node}
-use Rattle.node.proofs.Running.{runs_started, starts}
+use Rattle.node.proofs.Running.{runs_opened, starts}
 use Rattle.node.proofs.Stores.{as_read}
 use Rattle.node.proofs.node.Node.start.Goals as goal
 
@@ -9,17 +10,22 @@ pub returns-in-Ok-clause-started : goal.returns-in-Ok-clause-started
 returns-in-Ok-clause-started g c = λ x n honest rests.
     let s0 = g.D.Disk.state c.args.disk in
     let read = rests (contents s0) (as_read s0) in
-    let node : Node g.row.D.Denot =
-    record { disk = c.open.new.disk; engine = c.in-Ok.engine; limits = c.args.limits.now } in
-    let store = c.in-Ok.ensures.opened x n.list honest read.batches in
-    runs_started g.D.Disk.is_honest g.D.Disk.state node x n
-    (c.open.ensures.keeps.honest.1 honest) store read.alone
+    let opened = c.in-Ok.ensures.opened x n.ids n.list honest read.batches in
+    let node : Node g.row.D.Denot = record {
+      disk = c.open.new.disk;
+      engine = c.in-Ok.engine;
+      core = c.core_of.result;
+      limits = c.args.limits.now;
+    } in
+    runs_opened g.D.Disk.is_honest g.D.Disk.state node c.in-Ok.identity c.len.result
+    c.core_of.ensures.is x n (c.open.ensures.keeps.honest.1 honest) opened read.first
+    c.core_of.ensures.id (omega (arith, c.len.ensures))
 
 pub returns-in-Err-clause-started : goal.returns-in-Err-clause-started
 returns-in-Err-clause-started g c = λ x n honest rests.
     let s0 = g.D.Disk.state c.args.disk in
     let read = rests (contents s0) (as_read s0) in (
-      c.in-Err.ensures.opened x n.list honest read.batches,
+      c.in-Err.ensures.opened x n.ids n.list honest read.batches,
       λ left leaves. rests left (c.in-Err.ensures.crash honest left leaves),
     )
 
@@ -27,8 +33,14 @@ returns-in-Err-clause-started g c = λ x n honest rests.
 pub returns-in-Ok-clause-told : goal.returns-in-Ok-clause-told
 returns-in-Ok-clause-told g c = λ honest.
     let found = c.in-Ok.ensures.found honest in
-    let node : Node g.row.D.Denot =
-    record { disk = c.open.new.disk; engine = c.in-Ok.engine; limits = c.args.limits.now } in
-    let store = c.in-Ok.ensures.opened found.0 found.1 honest found.2 in
-    starts g.D.Disk.is_honest g.D.Disk.state c.args.disk node found.0 found.1 found.2
-    (c.open.ensures.keeps.honest.1 honest) store
+    let it = c.in-Ok.identity in
+    let opened = c.in-Ok.ensures.opened it.id it.config found.0 honest found.1 in
+    let node : Node g.row.D.Denot = record {
+      disk = c.open.new.disk;
+      engine = c.in-Ok.engine;
+      core = c.core_of.result;
+      limits = c.args.limits.now;
+    } in
+    starts g.D.Disk.is_honest g.D.Disk.state node it c.len.result c.core_of.ensures.is c.args.disk
+    found.0 found.1 (c.open.ensures.keeps.honest.1 honest) opened c.core_of.ensures.id
+    (omega (arith, c.len.ensures))

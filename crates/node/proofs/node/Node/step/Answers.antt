@@ -1,19 +1,27 @@
-use Rattle.std.proofs.lemmas.Result.{err_from_is_err_and}
-use Rattle.node.proofs.Running.{stops_before}
-use Rattle.node.proofs.Causes.{on_err}
-use Rattle.node.specs.Steps.{answer_to}
+use Rattle.std.proofs.Common.{ℕ, List, sym, subst}
+use Rattle.std.specs.Prelude.{MatchResult, OnErr}
+use Rattle.chain_model.specs.Node.{Answer}
+use Rattle.kv_types.specs.declared.edit.Edit.{Edit}
+use Rattle.chain_core.specs.Decisions.{Decides}
+use Rattle.node.specs.Steps.{Answers, StopsAs}
+use Rattle.node.specs.Stops.{IsOfMachine}
 use Rattle.node.proofs.node.Node.step.Goals as goal
 
--- a step that finds no memory changes nothing
-pub returns-in_err-reserve-clause-stopped : goal.returns-in_err-reserve-clause-stopped
-returns-in_err-reserve-clause-stopped g c = λ x n r.
-    let a = answer_to x n c.args.input in
-    let stops = stops_before g.D.Disk.is_honest g.D.Disk.state c.args.self.now x n r a in
-    on_err c.from_residual.result (r.honest, stops)
+-- the rule that was decided is the machine's answer
+pub returns-clause-answered : goal.returns-clause-answered
+returns-clause-answered g c = λ x n r.
+    let node = c.perform.new.self in
+    let decides = subst (λ (y : ℕ). Decides y n c.args.input c.decide-decision.result) r.id
+    (c.decide-decision.ensures.decides n r.core) in
+    subst (λ (a : Answer (List Edit)). MatchResult c.perform.result
+    (Answers g.D.Disk.is_honest g.D.Disk.state node x c.args.input a) IsOfMachine)
+    (sym decides.rule) (c.perform.ensures.ends x n c.args.input r decides.read).done
 
--- it stops as `reply_to` does
-pub returns-in_err-reply_to-clause-answered : goal.returns-in_err-reply_to-clause-answered
-returns-in_err-reply_to-clause-answered g c = λ x n r.
-    let result = c.from_residual-in_err-reply_to.result in
-    let p = err_from_is_err_and result c.from_residual-in_err-reply_to.ensures.1 in
-    rw (p.1, p.2) (c.in_err-reply_to.ensures.answered x n r)
+pub returns-clause-stopped : goal.returns-clause-stopped
+returns-clause-stopped g c = λ x n r.
+    let node = c.perform.new.self in
+    let decides = subst (λ (y : ℕ). Decides y n c.args.input c.decide-decision.result) r.id
+    (c.decide-decision.ensures.decides n r.core) in
+    subst (λ (a : Answer (List Edit)). OnErr c.perform.result (g.D.Disk.is_honest node.disk
+    × StopsAs (g.D.Disk.state node.disk) x n a))
+    (sym decides.rule) (c.perform.ensures.ends x n c.args.input r decides.read).stopped

@@ -1,12 +1,12 @@
-use Rattle.std.proofs.Common.{◌≡◌, Err, [], ◌∷◌, ap, ◌∙◌, refl, sym, arith, Some}
+use Rattle.std.proofs.Common.{◌≡◌, Err, ◌∷◌, [], ap, ◌∙◌, sym, arith, Some}
 use Rattle.std.specs.Prelude.{slice_get}
 use Rattle.std.proofs.lemmas.Result.{err_from_is_err_and}
 use Rattle.record_log.specs.Stands.{count_of}
 use Rattle.node.specs.Layout.{identity_record, identity_records}
 use Rattle.node.proofs.Blank.{none_held}
-use Rattle.node.proofs.Causes.{working_log}
-use Rattle.node.proofs.Stores.{only_one}
-use Rattle.node.proofs.engine.id_in.Goals as goal
+use Rattle.node.proofs.Causes.{working_log, undamaged}
+use Rattle.node.proofs.Opens.{named_by}
+use Rattle.node.proofs.engine.identity_in.Goals as goal
 
 -- there is no record
 pub returns-then-len-eq0-clause-blank : goal.returns-then-len-eq0-clause-blank
@@ -16,29 +16,29 @@ returns-then-len-eq0-clause-blank g c = λ records honest h.
 
 -- the log works, so it tells of the machine alone
 pub returns-in_err-record-clause-named : goal.returns-in_err-record-clause-named
-returns-in_err-record-clause-named g c = λ x honest id h.
+returns-in_err-record-clause-named g c = λ x ids honest id config h.
     let p = err_from_is_err_and c.from_residual.result c.from_residual.ensures.1 in
-    let why = c.in_err-record.ensures.given (identity_records x) honest h in
+    let why = c.in_err-record.ensures.given (identity_records x ids) honest h in
     let failed = c.in_err-record.ensures.failed.0 in
     rw (p.1, p.2) (working_log c.in_err-record.field-0.0 why
     (λ e. c.requires (failed (ap (λ d. Err d) e))))
 
 -- the only record is that of the node
-pub returns-in-Some-clause-found : goal.returns-in-Some-clause-found
-returns-in-Some-clause-found g c = λ records honest h.
+pub returns-clause-found : goal.returns-clause-found
+returns-clause-found g c = λ records honest h.
     let log = c.args.log.now in
     let one : count_of log ≡ 1 =
     omega (arith, c.len.ensures, c.len-2.ensures, c.if-len-eq0.false, c.if-len-gt1.false) in
-    let bytes = c.in_ok-record.record.items in
     let got = c.in_ok-record.ensures.given records honest h in
-    only_one (g.D.Disk.state c.args.disk.now) log records bytes h one got
-    ∙ ap (λ r. r ∷ []) (sym c.deref.ensures.value ∙ c.in-Some.ensures.found.1)
+    named_by (g.D.Disk.state c.args.disk.now) log records c.deref.result.now c.identity_of.result h
+    one (got ∙ ap (λ r. Some r) (sym c.deref.ensures.value)) c.identity_of.ensures.found
 
 -- a record of a node is read as one
 pub returns-clause-named : goal.returns-clause-named
-returns-clause-named g c = λ x honest id h.
-    let one = identity_record x (x ∷ []) in
+returns-clause-named g c = λ x ids honest id config h.
+    let one = identity_record x ids in
     let got : slice_get (one ∷ []) 0 ≡ Some c.in_ok-record.record.items =
     c.in_ok-record.ensures.given (one ∷ []) honest h in
     let same : one ≡ c.in_ok-record.record.items = cc in
-    absurd (c.in-None.ensures.none refl x id (c.deref.ensures.value ∙ sym same))
+    undamaged c.identity_of.result c.identity_of.ensures.only (λ damaged.
+    c.identity_of.ensures.damaged damaged x ids id config (c.deref.ensures.value ∙ sym same))

@@ -1,0 +1,107 @@
+-- What a step sends and replies.
+use Rattle.std.proofs.Common.{◌≡◌, ℕ, zero, suc, ◌+◌, ◌-◌, ◌<◌, ◌≤◌, List, [], ◌∷◌, ◌++◌, length}
+use Rattle.std.proofs.Common.{map, Option, Some, None, Result, Ok, Err, get_or, refl, sym, ap}
+use Rattle.std.proofs.Common.{subst, ◌∙◌, arith}
+use Rattle.std.specs.Prelude.{SomeIff, IfOk, option_map, nat_lt}
+use Rattle.std.specs.Ordering.{is_gt, nat_cmp}
+use Rattle.std.proofs.lemmas.Bool.Decides.{nat_tests}
+use Rattle.std.proofs.lemmas.List.{map-append, append-nil}
+use Rattle.kv_types.specs.declared.edit.Edit.{Edit}
+use Rattle.chain_model.specs.Frames.{Frame}
+use Rattle.chain_model.specs.Lists.{place}
+use Rattle.chain_model.specs.Node.{Answer}
+use Rattle.chain_model.specs.Rules.{forward, forwards, show}
+use Rattle.chain_core.specs.declared.done.Done.{Done}
+use Rattle.chain_core.specs.declared.input.Input.{Input}
+use Rattle.chain_core.specs.declared.input.Input.TheVariants as asked
+use Rattle.chain_core.specs.declared.decision.Decision.TheVariants as decision
+use Rattle.chain_core.specs.declared.sending.Sent.{Sent}
+use Rattle.chain_core.specs.declared.waiting.Waiting.{Waiting}
+use Rattle.chain_core.specs.States.{Machine}
+use Rattle.chain_core.specs.States as core
+use Rattle.chain_core.specs.Decisions.{AreFrames, IsReadOf, frame_as}
+use Rattle.chain_core.specs.Steps.{Leaves, frames_after}
+use Rattle.node.specs.declared.output.Output.{Output}
+use Rattle.node.specs.declared.stop.Stop.{Stop}
+use Rattle.node.specs.Outputs.{Says, Tells, told_to}
+use Rattle.node.specs.Steps.{reason_of, replies_of}
+
+-- frames one behind another
+pub both_sent : (a b : List Sent) (f g : List (Frame (List Edit))) → AreFrames a f →
+    AreFrames b g → AreFrames (a ++ b) (f ++ g)
+both_sent a b f g of_a of_b =
+    let as_model : Sent → Option (Frame (List Edit)) = λ it. frame_as it.to it.frame in
+    let some : Frame (List Edit) → Option (Frame (List Edit)) = λ it. Some it in
+    map-append as_model a b ∙ ap (λ l. l ++ map as_model b) of_a
+    ∙ ap (λ l. map some f ++ l) of_b ∙ sym (map-append some f g)
+
+at_next : (list : List (List Edit)) (i : ℕ) (d : List Edit) → i < length list →
+    place list (suc i) ≡ Some (get_or list i d)
+at_next [] i d within = absurd (omega (arith, within))
+at_next (first ∷ list) zero d within = refl
+at_next (first ∷ list) (suc i) d within = at_next list i d (omega (arith, within))
+
+-- the batch of a number stands one place before it
+pub stands_at : (list batches : List (List Edit)) (k : ℕ) (batch found : List Edit) → 1 ≤ k →
+    k ≤ length batches → list ≡ batches → found ≡ get_or batches (k - 1) found → batch ≡ found →
+    place list k ≡ Some batch
+stands_at list batches k batch found some within same got copy =
+    let number : k ≡ suc (k - 1) = omega (arith, some) in
+    let there = at_next batches (k - 1) found (omega (arith, some, within)) in
+    ap (λ l. place l k) same ∙ ap (λ i. place batches i) number ∙ there
+    ∙ ap (λ b. Some b) (sym got ∙ sym copy)
+
+-- the number that was made
+pub made_of : (o : Option ℕ) (P : Type 0) (value number : ℕ) → SomeIff o P value →
+    o ≡ Some number → number ≡ value
+made_of None P value number made some = absurd cc
+made_of (Some it) P value number made some =
+    let same : it ≡ number = cc in
+    sym same ∙ made.1
+
+-- requests that are due are told what the machine replies
+pub replies_due : (input : Input) (due : List Waiting) →
+    map told_to due ≡ replies_of input (core.replies_of due)
+replies_due input [] = refl
+replies_due input (it ∷ due) = ap (λ l. told_to it ∷ l) (replies_due input due)
+
+-- one batch is sent
+pub one_sent : (x : ℕ) (n : Machine) (k first behind : ℕ) → first ≡ suc k → behind ≡ first + 1 →
+    forwards x n (first - 1) (behind - first) ≡ forward x n (suc k)
+one_sent x n k first behind is size =
+    let before : first - 1 ≡ k = omega (arith, is) in
+    let one : behind - first ≡ 1 = omega (arith, size) in
+    ap (λ i. forwards x n i (behind - first)) before ∙ ap (forwards x n k) one
+    ∙ append-nil (forward x n (suc k))
+
+-- what is said after the store's part is what the rule tells
+pub tells_rule : (x : ℕ) (n : Machine) (input : Input) (batch : List Edit) (d : Done)
+    (a : Answer (List Edit)) (due : List Waiting) (sent : List (Frame (List Edit)))
+    (result : Result Output Stop) → Leaves x n batch d a → a.replies ≡ core.replies_of due →
+    sent ≡ frames_after x n d a.node → IfOk result (Says None sent (map told_to due)) →
+    IfOk result (Tells input a)
+tells_rule x n input batch d a due sent (Ok output) leaves replied frames says = record {
+  dropped = says.dropped ∙ ap (option_map reason_of) (sym leaves.dropped);
+  frames = subst (λ (f : List (Frame (List Edit))). AreFrames output.frames.items f)
+      (frames ∙ sym leaves.frames) says.frames;
+  replied = says.replied ∙ replies_due input due ∙ ap (replies_of input) (sym replied);
+}
+tells_rule x n input batch d a due sent (Err e) leaves replied frames says = tt
+
+-- greater, as code compares and as the rule tests
+pub greater : (a b : ℕ) → is_gt (nat_cmp a b) ≡ nat_lt b a
+greater a b = grind (arith, nat_tests)
+
+-- what a read shows is shown for whatever asked for it
+pub tells_read : (n : Machine) (input : Input) (request at : ℕ) (key : List ℕ)
+    (result : Result Output Stop) → IsReadOf n input (decision.Show request key at) →
+    ((number : Option ℕ) →
+    IfOk result (Tells (asked.Get request key number) (show n request at))) →
+    IfOk result (Tells input (show n request at))
+tells_read n (asked.Get other asked_key number) request at key result read tells =
+    subst (λ (k : List ℕ). IfOk result (Tells (asked.Get request k number) (show n request at)))
+    read.0 (tells number)
+tells_read n (asked.Submit other batch) request at key result read tells = absurd read
+tells_read n (asked.Forward epoch from number batch) request at key result read tells = absurd read
+tells_read n (asked.Ack epoch from committed have) request at key result read tells = absurd read
+tells_read n asked.Tick request at key result read tells = absurd read

@@ -1,0 +1,74 @@
+use Rattle.std.proofs.Common.{Ok, ℕ, subst, sym, ◌∙◌}
+use Rattle.std.specs.Prelude.{IfOk}
+use Rattle.chain_model.specs.Rules.{tell_again, resend, show}
+use Rattle.chain_core.specs.Decisions.{IsReadOf, rule_of}
+use Rattle.chain_core.specs.declared.decision.Decision.TheVariants as decision
+use Rattle.node.specs.Outputs.{Tells}
+use Rattle.node.proofs.Running.{ends, ends_as}
+use Rattle.node.proofs.Outputs.{tells_read}
+use Rattle.node.proofs.node.Node.perform.Goals as goal
+
+pub returns-in-Accept-clause-ends : goal.returns-in-Accept-clause-ends
+returns-in-Accept-clause-ends g c = λ x n input r read.
+    ends_as g.D.Disk.is_honest g.D.Disk.state c.accept.new.self x n input c.args.decision
+    (decision.Accept c.in-Accept.request c.in-Accept.batch) c.accept.result c.in-Accept.is
+    (c.accept.ensures.ends x n input r)
+
+pub returns-in-Append-clause-ends : goal.returns-in-Append-clause-ends
+returns-in-Append-clause-ends g c = λ x n input r read.
+    ends_as g.D.Disk.is_honest g.D.Disk.state c.append.new.self x n input c.args.decision
+    (decision.Append c.in-Append.batch) c.append.result c.in-Append.is
+    (c.append.ensures.ends x n input r)
+
+pub returns-in-PassOn-clause-ends : goal.returns-in-PassOn-clause-ends
+returns-in-PassOn-clause-ends g c = λ x n input r read.
+    ends_as g.D.Disk.is_honest g.D.Disk.state c.pass_on.new.self x n input c.args.decision
+    (decision.PassOn c.in-PassOn.committed c.in-PassOn.have) c.pass_on.result c.in-PassOn.is
+    (c.pass_on.ensures.ends x n input r)
+
+-- what changes nothing is told by the node's numbers and batches
+pub returns-in-TellAgain-clause-ends : goal.returns-in-TellAgain-clause-ends
+returns-in-TellAgain-clause-ends g c = λ x n input r read.
+    let tells = subst (λ (y : ℕ). IfOk c.tell_again.result (Tells input (tell_again y n))) r.id
+    (c.tell_again.ensures.tells n input r.core) in
+    ends_as g.D.Disk.is_honest g.D.Disk.state c.args.self.now x n input c.args.decision
+    decision.TellAgain c.tell_again.result c.in-TellAgain.is
+    (ends g.D.Disk.is_honest g.D.Disk.state c.args.self.now x n input (tell_again x n)
+    c.tell_again.result r tells c.tell_again.ensures.memory)
+
+pub returns-in-Show-clause-ends : goal.returns-in-Show-clause-ends
+returns-in-Show-clause-ends g c = λ x n input r read.
+    let it = c.in-Show in
+    let shown = decision.Show it.request it.key it.at in
+    let list = sym r.store.batches ∙ sym c.deref.ensures.value in
+    let of_read = subst (λ d. IsReadOf n input d) it.is read in
+    let tells = tells_read n input it.request it.at it.key c.show.result of_read
+    (λ number. c.show.ensures.tells n number list) in
+    ends_as g.D.Disk.is_honest g.D.Disk.state c.args.self.now x n input c.args.decision shown
+    c.show.result it.is (ends g.D.Disk.is_honest g.D.Disk.state c.args.self.now x n input
+    (show n it.request it.at) c.show.result r tells c.show.ensures.memory)
+
+pub returns-in-Resend-clause-ends : goal.returns-in-Resend-clause-ends
+returns-in-Resend-clause-ends g c = λ x n input r read.
+    let list = sym r.store.batches ∙ sym c.deref-in-Resend.ensures.value in
+    let tells = subst (λ (y : ℕ). IfOk c.resend.result (Tells input (resend y n))) r.id
+    (c.resend.ensures.tells n input r.core list) in
+    ends_as g.D.Disk.is_honest g.D.Disk.state c.args.self.now x n input c.args.decision
+    decision.Resend c.resend.result c.in-Resend.is
+    (ends g.D.Disk.is_honest g.D.Disk.state c.args.self.now x n input (resend x n)
+    c.resend.result r tells c.resend.ensures.memory)
+
+pub returns-in-Refuse-clause-ends : goal.returns-in-Refuse-clause-ends
+returns-in-Refuse-clause-ends g c = λ x n input r read.
+    let known = decision.Refuse c.in-Refuse.request c.in-Refuse.refusal in
+    ends_as g.D.Disk.is_honest g.D.Disk.state c.args.self.now x n input c.args.decision known
+    c.refuse.result c.in-Refuse.is (ends g.D.Disk.is_honest g.D.Disk.state c.args.self.now x n
+    input (rule_of x n known) c.refuse.result r (c.refuse.ensures.tells n input)
+    c.refuse.ensures.memory)
+
+pub returns-in-Drop-clause-ends : goal.returns-in-Drop-clause-ends
+returns-in-Drop-clause-ends g c = λ x n input r read.
+    let known = decision.Drop c.in-Drop.reason in
+    ends_as g.D.Disk.is_honest g.D.Disk.state c.args.self.now x n input c.args.decision known
+    (Ok c.drop_for.result) c.in-Drop.is (ends g.D.Disk.is_honest g.D.Disk.state c.args.self.now x n
+    input (rule_of x n known) (Ok c.drop_for.result) r (c.drop_for.ensures n input) tt)

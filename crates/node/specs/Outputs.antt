@@ -1,0 +1,56 @@
+-- What private functions promise one another of what a step answers.
+use Rattle.std.specs.Prelude.{◌≡◌, ℕ, List, option_map, Option, Result, MatchResult, OnErr}
+use Rattle.kv_types.specs.declared.edit.Edit.{Edit}
+use Rattle.disk.specs.State.{State}
+use Rattle.chain_model.specs.Frames.{Frame}
+use Rattle.chain_model.specs.Node.{Answer}
+use Rattle.chain_core.specs.declared.drop_reason.DropReason.{DropReason}
+use Rattle.chain_core.specs.declared.done.Done.{Done}
+use Rattle.chain_core.specs.declared.done.Done.TheVariants as done
+use Rattle.chain_core.specs.declared.input.Input.{Input}
+use Rattle.chain_core.specs.declared.waiting.Waiting.{Waiting}
+use Rattle.chain_core.specs.States.{Machine}
+use Rattle.chain_core.specs.States as core
+use Rattle.chain_core.specs.Decisions.{AreFrames}
+use Rattle.node.specs.declared.node.Node.{Node}
+use Rattle.node.specs.declared.output.Output.{Output}
+use Rattle.node.specs.declared.output.Reply.{Reply}
+use Rattle.node.specs.declared.output.Reply.TheVariants as reply
+use Rattle.node.specs.declared.stop.Stop.{Stop}
+use Rattle.node.specs.Steps.{Runs, StopsAs, disk_of, reason_of, replies_of}
+use Rattle.node.specs.Stops.{IsOfMachine}
+
+-- a request is told that its batch is committed
+abbrev pub told_to : Waiting → Reply
+told_to it = reply.Committed it.request it.number
+
+-- an output drops, sends and replies this
+pub record Says (dropped_for : Option DropReason) (sent : List (Frame (List Edit)))
+    (told : List Reply) (output : Output) : Type 0 where
+  pub dropped : output.dropped ≡ dropped_for
+  pub frames : AreFrames output.frames.items sent
+  pub replied : output.replies.items ≡ told
+
+-- .. what the machine does in this answer to an input
+abbrev pub Tells : Input → Answer (List Edit) → Output → Type 0
+Tells input a = Says (option_map reason_of a.dropped) a.frames (replies_of input a.replies)
+
+-- a batch was appended
+abbrev pub HasAppended : Done → Type 0
+HasAppended (done.Accepted request) = Unit {0}
+HasAppended done.Appended = Unit {0}
+HasAppended (done.Told committed have) = ⊥
+
+-- a node that did its store's part is the machine of the rule, and these requests are due
+pub record Follows {D : Type 0} (is_honest : D → Type 0) (state : D → State) (new : Node D) (x : ℕ)
+    (a : Answer (List Edit)) (due : List Waiting) : Type 0 where
+  pub runs : Runs is_honest state new x a.node
+  pub replied : a.replies ≡ core.replies_of due
+
+-- a call that takes machine n to this answer is done, or it ends in a stop, and the disk stands for
+-- the machine before or after the answer
+pub record Ends {D T : Type 0} (is_honest : D → Type 0) (state : D → State) (new : Node D) (x : ℕ)
+    (n : Machine) (a : Answer (List Edit)) (IsDone : T → Type 0) (result : Result T Stop) : Type 0
+  where
+    pub done : MatchResult result IsDone IsOfMachine
+    pub stopped : OnErr result (is_honest (disk_of new) × StopsAs (state (disk_of new)) x n a)
