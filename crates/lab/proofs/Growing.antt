@@ -1,15 +1,21 @@
 -- One event more.
-use Rattle.std.proofs.Common.{◌≡◌, ℕ, suc, ◌+◌, List, [], ◌∷◌, ◌++◌, length, refl, sym, ap, ap₂}
+use Rattle.std.proofs.Common.{◌≡◌, ℕ, suc, ◌+◌, List, [], ◌∷◌, ◌++◌, length, map, refl, sym, ap, ap₂}
 use Rattle.std.proofs.Common.{subst, ◌∙◌, length-append, arith}
+use Rattle.std.specs.Prelude.{All}
+use Rattle.std.specs.List.{AllZip}
+use Rattle.std.proofs.lemmas.Slice.Zip.{AllZip-long}
 use Rattle.kv_types.specs.declared.edit.Edit.{Edit}
-use Rattle.chain_model.specs.Configuration.{Configurations}
-use Rattle.chain_model.specs.World.{World, run, happens, outcome}
+use Rattle.chain_model.specs.Configuration.{Configurations, at_epoch}
+use Rattle.chain_model.specs.World.{World, run, reached, beginning, happens, outcome}
 use Rattle.lab.specs.declared.event.Event.{Event}
-use Rattle.lab.specs.declared.member.Member.{Member}
+use Rattle.lab.specs.declared.event.What.{What}
+use Rattle.lab.specs.declared.posted.Posted.{Posted}
 use Rattle.lab.specs.declared.report.Line.{Line}
+use Rattle.lab.specs.declared.seat.Seat.{Seat}
 use Rattle.lab.specs.Events.{modelled, lines_of}
-use Rattle.lab.specs.Members.{Choice, Is, Happened}
-use Rattle.lab.specs.Runs.{modelled_from, told_from, Ran}
+use Rattle.lab.specs.Members.{Choice}
+use Rattle.lab.specs.Runs.{modelled_from, told_from}
+use Rattle.lab.specs.Worlds.{IsKept, IsSeated, HasMade, frames_told, frames_of_step}
 
 -- one event more at the end
 module _ (cs : Configurations) (e : Event) (ch : Choice) where
@@ -26,39 +32,91 @@ module _ (cs : Configurations) (e : Event) (ch : Choice) where
 
   pub told_from-push : (i k : ℕ) (es : List Event) (chs : List Choice) (w : World (List Edit)) →
       length chs ≡ length es → k ≡ i + length es →
-      told_from cs i (es ++ e ∷ []) (chs ++ ch ∷ []) w ≡ told_from cs i es chs w ++ lines_of k
-      e.what ch.cause (outcome (run cs (modelled_from i es chs) w) cs
-      (modelled k e.what ch.went)) ∷ []
+      let u = run cs (modelled_from i es chs) w in
+      told_from cs i (es ++ e ∷ []) (chs ++ ch ∷ []) w ≡ told_from cs i es chs w ++ lines_of
+      (length u.frames) e.what ch.cause (outcome u cs (modelled k e.what ch.went)) ∷ []
   told_from-push i k [] [] w same at = ap
-      (λ (j : ℕ). lines_of j e.what ch.cause (outcome w cs (modelled j e.what ch.went)) ∷ [])
-      (omega arith)
+      (λ (j : ℕ). lines_of (length w.frames) e.what ch.cause
+      (outcome w cs (modelled j e.what ch.went)) ∷ []) (omega arith)
   told_from-push i k [] (c ∷ chs) w same at = absurd (omega arith)
   told_from-push i k (f ∷ es) [] w same at = absurd (omega arith)
   told_from-push i k (f ∷ es) (c ∷ chs) w same at =
-      ap (λ (l : List (List Line)). lines_of i f.what c.cause
+      ap (λ (l : List (List Line)). lines_of (length w.frames) f.what c.cause
       (outcome w cs (modelled i f.what c.went)) ∷ l)
       (told_from-push (suc i) k es chs (happens cs w (modelled i f.what c.went)) (omega arith)
       (omega arith))
 
--- what happened at the next place makes the run one event longer
-pub ran_more : (cs : Configurations) (w : World (List Edit)) (x k : ℕ) (es : List Event)
-    (member after : Member) (steps : List (List Line)) (event : Event) (lines : List Line)
-    → (ran : Ran cs w x es member steps) → k ≡ length es + 1 →
-    Happened cs (run cs (modelled_from 1 es ran.choices) w) k x event.what after lines
-    → Ran cs w x (es ++ event ∷ []) after (steps ++ lines ∷ [])
-ran_more cs w x k es member after steps event lines ran at happened =
-    let ch = happened.choice in
-    let place : k ≡ 1 + length es = omega (arith, at) in
-    record {
-      choices = ran.choices ++ ch ∷ [];
-      one_each = omega (
-        arith,
-        length-append ran.choices (ch ∷ []),
-        length-append es (event ∷ []),
-        ran.one_each,
-      );
-      is = subst (λ (v : World (List Edit)). Is after x (v.nodes x))
-          (sym (run-push cs event ch 1 k es ran.choices w ran.one_each place)) happened.is;
-      told = ap₂ (λ (a : List (List Line)) (b : List Line). a ++ b ∷ []) ran.told happened.told
-          ∙ sym (told_from-push cs event ch 1 k es ran.choices w ran.one_each place);
-    }
+-- each event has its lines
+pub length-told_from : (cs : Configurations) (i : ℕ) (es : List Event) (chs : List Choice)
+    (w : World (List Edit)) → length chs ≡ length es →
+    length (told_from cs i es chs w) ≡ length es
+length-told_from cs i [] chs w same = refl
+length-told_from cs i (e ∷ es) [] w same = absurd (omega arith)
+length-told_from cs i (e ∷ es) (ch ∷ chs) w same =
+    ap suc (length-told_from cs (suc i) es chs (happens cs w (modelled i e.what ch.went))
+    (omega arith))
+
+-- so many frames more are told of
+pub frames_told-push : (steps : List (List Line)) (lines : List Line) →
+    frames_told (steps ++ lines ∷ []) ≡ frames_told steps + frames_of_step lines
+frames_told-push [] lines = omega arith
+frames_told-push (step ∷ steps) lines = omega (arith, frames_told-push steps lines)
+
+-- what the event in place i makes of a world, and its lines
+pub record Next (cs : Configurations) (w : World (List Edit)) (i : ℕ) (what : What)
+    (choice : Choice) (seats : List Seat) (posted : List Posted) (lines : List Line) : Type 0 where
+  pub told : lines ≡ lines_of (length w.frames) what choice.cause
+      (outcome w cs (modelled i what choice.went))
+  pub counted : frames_of_step lines ≡ length (outcome w cs (modelled i what choice.went)).frames
+  pub frames : AllZip IsKept posted (happens cs w (modelled i what choice.went)).frames
+  pub nodes : map (λ seat. seat.id) seats ≡ at_epoch cs 0
+  pub each : All (IsSeated (happens cs w (modelled i what choice.went))) seats
+
+module _ (cs : Configurations) (events : List Event) (steps : List (List Line))
+    (seats : List Seat) (posted : List Posted) (made : HasMade seats posted cs events steps) where
+  -- the world of the model so far
+  abbrev pub so_far : World (List Edit)
+  so_far = reached cs (modelled_from 1 events made.choices)
+
+  -- there are as many steps as events
+  pub length-steps : length steps ≡ length events
+  length-steps = ap length made.told
+      ∙ length-told_from cs 1 events made.choices (beginning cs) made.one_each
+
+  -- what comes next is one event more
+  pub grown : (i : ℕ) (event : Event) (choice : Choice) (now : List Seat) (more : List Posted)
+      (lines : List Line) → i ≡ length events + 1 →
+      Next cs so_far i event.what choice now more lines →
+      HasMade now more cs (events ++ event ∷ []) (steps ++ lines ∷ [])
+  grown i event choice now more lines at next =
+      let place : i ≡ 1 + length events = omega (arith, at) in
+      let here = run-push cs event choice 1 i events made.choices (beginning cs) made.one_each
+      place in
+      record {
+        lawful = made.lawful;
+        choices = made.choices ++ choice ∷ [];
+        one_each = omega (
+          arith,
+          length-append made.choices (choice ∷ []),
+          length-append events (event ∷ []),
+          made.one_each,
+        );
+        told = ap₂ (λ (a : List (List Line)) (b : List Line). a ++ b ∷ []) made.told next.told
+            ∙ sym (told_from-push cs event choice 1 i events made.choices (beginning cs)
+            made.one_each place);
+        frames = subst (λ (v : World (List Edit)). AllZip IsKept more v.frames) (sym here)
+            next.frames;
+        sent = omega (
+          arith,
+          frames_told-push steps lines,
+          made.sent,
+          next.counted,
+          AllZip-long IsKept posted so_far.frames made.frames,
+          AllZip-long IsKept more
+              (happens cs so_far (modelled i event.what choice.went)).frames next.frames,
+          length-append so_far.frames
+              (outcome so_far cs (modelled i event.what choice.went)).frames,
+        );
+        nodes = next.nodes;
+        each = subst (λ (v : World (List Edit)). All (IsSeated v) now) (sym here) next.each;
+      }

@@ -1,145 +1,286 @@
--- What happened at a node is an event of the model's world.
-use Rattle.std.proofs.Common.{◌≡◌, ◌⊎◌, ℕ, List, [], ◌∷◌, ◌++◌, Option, Some, None, Bool, true}
-use Rattle.std.proofs.Common.{false, cond, ◌==◌, inl, inr, refl, sym, ap, subst, ◌∙◌, eq-eqb}
+-- What happened at a node is an event of the model's world, and its lines are told so.
+use Rattle.std.proofs.Common.{◌≡◌, ℕ, suc, ◌+◌, List, [], ◌∷◌, ◌++◌, length, map, Option, Some}
+use Rattle.std.proofs.Common.{None, true, false, cond, inl, inr, refl, sym, ap, ap₂, subst, ◌∙◌}
+use Rattle.std.proofs.Common.{arith, option_map}
+use Rattle.std.proofs.lemmas.List.{map-append}
 use Rattle.std.proofs.lemmas.Bool.{cond-true, cond-false}
 use Rattle.kv_types.specs.declared.edit.Edit.{Edit}
 use Rattle.chain_model.specs.Configuration.{Configurations}
-use Rattle.chain_model.specs.Node.{Answer, refused, dropped_for, silent, started, stopped}
-use Rattle.chain_model.specs.Refusal as refusal
-use Rattle.chain_model.specs.DropReason as reason
-use Rattle.chain_model.specs.World.{World, Outcome, Went, Answered, StoppedBefore, StoppedAfter}
-use Rattle.chain_model.specs.World.{outcome, happens, after, answers, stops, as_it_went, if_running}
+use Rattle.chain_model.specs.DropReason as model_reason
+use Rattle.chain_model.specs.Frames as model_frame
+use Rattle.chain_model.specs.Frames.{Frame as ModelFrame, addressee}
 use Rattle.chain_model.specs.Requests as request
+use Rattle.chain_model.specs.Node.{Answer, dropped_for, stopped}
+use Rattle.chain_model.specs.World.{World, Outcome, Went, Answered, StoppedBefore, StoppedAfter}
+use Rattle.chain_model.specs.World.{outcome, answers, stops, as_it_went}
+use Rattle.link_messages.specs.declared.frame.Frame.{Frame}
+use Rattle.link_messages.specs.declared.frame.Frame.TheVariants as frame
+use Rattle.chain_core.specs.declared.input.Input.{Input}
+use Rattle.chain_core.specs.declared.input.Input.TheVariants as input
+use Rattle.chain_core.specs.declared.sending.Sent.{Sent}
+use Rattle.chain_core.specs.Decisions.{AreFrames, answer_to, frame_as}
+use Rattle.chain_core.specs.States.{Machine}
+use Rattle.node.specs.declared.output.Output.{Output}
+use Rattle.node.specs.declared.output.Reply.{Reply}
 use Rattle.node.specs.declared.stop.Stop.{Stop as Cause}
 use Rattle.node.specs.declared.stop.Stop.TheVariants.{Disk}
-use Rattle.node.specs.declared.input.Input.{Input}
-use Rattle.node.specs.declared.input.Input.TheVariants as input
-use Rattle.node.specs.declared.output.Reply.TheVariants as reply
-use Rattle.link_messages.specs.declared.refusal.Refusal.TheVariants as refused_as
-use Rattle.node.specs.Steps.{Machine, answer_to}
-use Rattle.disk.specs.declared.junk.Junk.{Junk}
+use Rattle.node.specs.Steps.{reason_of, replies_of, told_as}
+use Rattle.lab.specs.declared.coming.Did.{Did}
+use Rattle.lab.specs.declared.coming.Did.TheVariants as did
 use Rattle.lab.specs.declared.event.What.{What}
-use Rattle.lab.specs.declared.event.What.TheVariants.{Submit, Get, Start, Stop}
 use Rattle.lab.specs.declared.member.Member.{Member}
 use Rattle.lab.specs.declared.report.Line.{Line}
-use Rattle.lab.specs.declared.report.Line.TheVariants.{Replied, Stopped}
-use Rattle.lab.specs.Events.{modelled, lines_of, drop_lines, reply_lines}
-use Rattle.lab.specs.Members.{Is, Choice, Asked, Replies, Ends, WasAsked, WasStarted, Starts, Fails}
-use Rattle.lab.specs.Members.{RunsOn, WasStopped, Stops, RestsOn, Happened}
+use Rattle.lab.specs.declared.report.Line.TheVariants as line
+use Rattle.lab.specs.Events.{modelled, lines_of, drop_lines, start_lines, frame_line, frame_lines}
+use Rattle.lab.specs.Events.{reply_line, reply_lines, cause_told}
+use Rattle.lab.specs.Members.{Is, Choice}
+use Rattle.lab.specs.Comings.{at_rest, IsAnswer, IsDrop, Told}
+use Rattle.lab.specs.Comings.{WasGiven, Answers, Ends, Rests}
+use Rattle.lab.specs.Comings.{sent_by, sent_as, sent_lines}
+use Rattle.lab.specs.Comings.{dropped_lines, did_lines}
+use Rattle.lab.specs.Worlds.{frames_of_step}
 
--- an event that came to node x leaves it so
-node_after : (w : World (List Edit)) (o : Outcome (List Edit)) (x : ℕ) (n : Machine) →
-    o.came_to ≡ Some (x, n) → (after w o).nodes x ≡ n
-node_after w o x n came =
-    let same : (x == x) ≡ true = eq-eqb x x refl in
-    rw came (cond-true (x == x) n (w.nodes x) same)
+-- ---- lines
 
--- an outcome that leaves node x as the member is, with these lines
-module _ (cs : Configurations) (w : World (List Edit)) (i x : ℕ) (what : What) (member : Member)
-    (lines : List Line) where
-  pub as_chosen : (choice : Choice) (o : Outcome (List Edit)) (n : Machine) →
-      outcome w cs (modelled i what choice.went) ≡ o →
-      o.came_to ≡ Some (x, n) → Is member x n → lines ≡ lines_of i what choice.cause o →
-      Happened cs w i x what member lines
-  as_chosen choice o n is_o came is told = record {
-    choice = choice;
-    is = subst (λ (m : Machine). Is member x m)
-        (sym (node_after w (outcome w cs (modelled i what choice.went)) x n
-        (ap (λ (p : Outcome (List Edit)). p.came_to) is_o ∙ came))) is;
-    told = told ∙ ap (λ (p : Outcome (List Edit)). lines_of i what choice.cause p) (sym is_o);
-  }
+-- a frame that is sent is told as the model's
+told_so : (p to : ℕ) (it : Frame) (f : ModelFrame (List Edit)) → frame_as to it ≡ Some f →
+    sent_as p to it ≡ frame_line p f
+told_so p to (frame.Forward epoch from number batch) f is =
+    subst (λ (o : Option (ModelFrame (List Edit))). IsTold o) is refl
+  where
+    IsTold : Option (ModelFrame (List Edit)) → Type 0
+    IsTold None = Unit {0}
+    IsTold (Some g) = line.Forwarded p from to epoch number ≡ frame_line p g
+told_so p to (frame.Ack epoch from committed have) f is =
+    subst (λ (o : Option (ModelFrame (List Edit))). IsTold o) is refl
+  where
+    IsTold : Option (ModelFrame (List Edit)) → Type 0
+    IsTold None = Unit {0}
+    IsTold (Some g) = line.Acknowledged p from to epoch committed have ≡ frame_line p g
+told_so p to (frame.Notice epoch config) f is = absurd (cc)
+told_so p to (frame.Submit request batch) f is = absurd (cc)
+told_so p to (frame.Get request at key) f is = absurd (cc)
+told_so p to (frame.Rows request at range) f is = absurd (cc)
+told_so p to (frame.Open request at) f is = absurd (cc)
+told_so p to (frame.Close request number) f is = absurd (cc)
+told_so p to (frame.Committed request number) f is = absurd (cc)
+told_so p to (frame.Value request number value) f is = absurd (cc)
+told_so p to (frame.RowsAre request number page) f is = absurd (cc)
+told_so p to (frame.Opened request number) f is = absurd (cc)
+told_so p to (frame.Refused request why) f is = absurd (cc)
+told_so p to (frame.Closed request number) f is = absurd (cc)
 
-abbrev chosen : Went → Cause → Choice
+-- .. and so are all of them
+sent_so : (n : ℕ) (sent : List Sent) (frames : List (ModelFrame (List Edit))) →
+    AreFrames sent frames → sent_lines n sent ≡ frame_lines n frames
+sent_so n [] [] are = refl
+sent_so n [] (f ∷ frames) are = absurd (cc)
+sent_so n (s ∷ sent) [] are = absurd (cc)
+sent_so n (s ∷ sent) (f ∷ frames) are =
+    let first : frame_as s.to s.frame ≡ Some f = cc in
+    let more : map (λ (it : Sent). frame_as it.to it.frame) sent ≡ map Some frames = cc in
+    ap₂ (λ (l : Line) (ls : List Line). l ∷ ls) (told_so (suc n) s.to s.frame f first)
+    (sent_so (suc n) sent frames more)
+
+drops_so : (why : Option model_reason.DropReason) →
+    dropped_lines (option_map reason_of why) ≡ drop_lines why
+drops_so None = refl
+drops_so (Some why) = refl
+
+-- how many frames lines tell of
+counts_both : (a b : List Line) → frames_of_step (a ++ b) ≡ frames_of_step a + frames_of_step b
+counts_both [] b = omega arith
+counts_both (x ∷ a) b = omega (arith, counts_both a b)
+
+counts_drop : (why : Option model_reason.DropReason) → frames_of_step (drop_lines why) ≡ 0
+counts_drop None = refl
+counts_drop (Some why) = refl
+
+counts_frames : (n : ℕ) (frames : List (ModelFrame (List Edit))) →
+    frames_of_step (frame_lines n frames) ≡ length frames
+counts_frames n [] = refl
+counts_frames n (model_frame.Forward to epoch from number batch ∷ frames) =
+    omega (arith, counts_frames (suc n) frames)
+counts_frames n (model_frame.Ack to epoch from committed have ∷ frames) =
+    omega (arith, counts_frames (suc n) frames)
+
+counts_replies : (replies : List Reply) →
+    frames_of_step (map (λ reply. line.Replied reply) replies) ≡ 0
+counts_replies [] = refl
+counts_replies (reply ∷ replies) = omega (arith, counts_replies replies)
+
+-- ---- outcomes
+
+-- an event's outcome, told so: the node that it came to, and the member of the lab that this is now
+pub record IsOutcome (cs : Configurations) (w : World (List Edit)) (i x : ℕ) (what : What)
+    (member : Member) (does : Did) : Type 0 where
+  pub choice : Choice
+  pub node : Machine
+  pub came : (outcome w cs (modelled i what choice.went)).came_to ≡ Some (x, node)
+  pub is : Is member x node
+  pub frames : AreFrames (sent_by does) (outcome w cs (modelled i what choice.went)).frames
+  pub told : (n : ℕ) → did_lines x n does
+      ≡ lines_of n what choice.cause (outcome w cs (modelled i what choice.went))
+  pub counted : (n : ℕ) → frames_of_step (did_lines x n does)
+      ≡ length (outcome w cs (modelled i what choice.went)).frames
+
+-- what a node's doing is at an outcome
+pub record Tells (x : ℕ) (what : What) (cause : Cause) (does : Did) (o : Outcome (List Edit))
+    : Type 0 where
+  pub frames : AreFrames (sent_by does) o.frames
+  pub told : (n : ℕ) → did_lines x n does ≡ lines_of n what cause o
+  pub counted : (n : ℕ) → frames_of_step (did_lines x n does) ≡ length o.frames
+
+abbrev pub chosen : Went → Cause → Choice
 chosen went cause = record { went = went; cause = cause }
 
--- a request, as the model has it and as the node has it
+module _ (cs : Configurations) (w : World (List Edit)) (i x : ℕ) (what : What) (member : Member)
+    (does : Did) where
+  -- with this choice the outcome is this one
+  pub as_chosen : (choice : Choice) (o : Outcome (List Edit)) (n : Machine) →
+      outcome w cs (modelled i what choice.went) ≡ o → o.came_to ≡ Some (x, n) → Is member x n →
+      Tells x what choice.cause does o → IsOutcome cs w i x what member does
+  as_chosen choice o n is_o came is tells =
+      let same = sym is_o in
+      let all = subst (λ (p : Outcome (List Edit)). Tells x what choice.cause does p) same tells in
+      record {
+        choice = choice;
+        node = n;
+        came = ap (λ (p : Outcome (List Edit)). p.came_to) is_o ∙ came;
+        is = is;
+        frames = all.frames;
+        told = all.told;
+        counted = all.counted;
+      }
+
+-- ---- answers and stops
+
+-- the lines of an answer, by what they tell of
+abbrev answered_lines : ℕ → Answer (List Edit) → List Reply → List Line
+answered_lines n a replies =
+    drop_lines a.dropped
+    ++ (frame_lines n a.frames ++ map (λ reply. line.Replied reply) replies)
+
+counts_answer : (n : ℕ) (a : Answer (List Edit)) (replies : List Reply) →
+    frames_of_step (answered_lines n a replies) ≡ length a.frames
+counts_answer n a replies =
+    let told = map (λ reply. line.Replied reply) replies in
+    omega (
+      arith,
+      counts_both (drop_lines a.dropped) (frame_lines n a.frames ++ told),
+      counts_both (frame_lines n a.frames) told,
+      counts_drop a.dropped,
+      counts_frames n a.frames,
+      counts_replies replies,
+    )
+
+-- an input's answer is told as the model's
+module _ (x : ℕ) (what : What) (inp : Input) (cause : Cause) (a : Answer (List Edit))
+    (output : Output) (is : IsAnswer inp a output) where
+  answer_lines : (n : ℕ) → did_lines x n (did.Answered output)
+      ≡ answered_lines n a (replies_of inp a.replies)
+  answer_lines n =
+      ap₂ (λ (d f : List Line). d ++ (f ++ map (λ reply. line.Replied reply) output.replies.items))
+      (ap dropped_lines is.dropped ∙ drops_so a.dropped)
+      (sent_so n output.frames.items a.frames is.frames)
+      ∙ ap (λ (rs : List Reply). answered_lines n a rs) is.replied
+
+  answer_tells : (start_lines what (answers x a) ≡ []) →
+      (reply_lines what a.replies ≡ map (λ reply. line.Replied reply) (replies_of inp a.replies)) →
+      Tells x what cause (did.Answered output) (answers x a)
+  answer_tells starts replies = record {
+    frames = is.frames;
+    told = λ n. answer_lines n
+        ∙ ap₂ (λ (s r : List Line). drop_lines a.dropped ++ (s ++ (frame_lines n a.frames ++ r)))
+        (sym starts) (sym replies);
+    counted = λ n. ap frames_of_step (answer_lines n)
+        ∙ counts_answer n a (replies_of inp a.replies);
+  }
+
+-- a stop is told with its cause
+pub stop_tells : (x : ℕ) (what : What) (cause : Cause) (told : Option Cause) (n : Machine) →
+    cause_told what cause ≡ told → Tells x what cause (did.Stopped told) (stops x n)
+stop_tells x what cause told n is = record {
+  frames = refl;
+  told = λ m. ap (λ (c : Option Cause). line.Stopped x c ∷ []) (sym is);
+  counted = λ m. refl;
+}
+
+-- a drop is told with its reason
+pub drop_tells : (x : ℕ) (what : What) (cause : Cause) (n : Machine) (why : model_reason.DropReason)
+    (output : Output) → IsDrop (reason_of why) output →
+    start_lines what (answers x (dropped_for n why)) ≡ [] →
+    Tells x what cause (did.Answered output) (answers x (dropped_for n why))
+drop_tells x what cause n why output is starts =
+    answer_tells x what input.Tick cause (dropped_for n why) output (record {
+      dropped = is.dropped;
+      frames = ap (map (λ (it : Sent). frame_as it.to it.frame)) is.frames;
+      replied = is.replied;
+    }) starts refl
+
+-- ---- inputs
+
+-- what a read shows is told in one way
+shows_so : (inp : Input) (what : What) (replies : List (request.Reply (List Edit))) →
+    ((r : request.Reply (List Edit)) → reply_line what r
+    ≡ map (λ reply. line.Replied reply) (told_as inp r)) →
+    reply_lines what replies ≡ map (λ reply. line.Replied reply) (replies_of inp replies)
+shows_so inp what [] each = refl
+shows_so inp what (r ∷ replies) each =
+    ap₂ (λ (a b : List Line). a ++ b) (each r) (shows_so inp what replies each)
+    ∙ sym (map-append (λ reply. line.Replied reply) (told_as inp r) (replies_of inp replies))
+
+-- an input comes, as the model has it
 module _ (cs : Configurations) (w : World (List Edit)) (i x : ℕ) (what : What) (inp : Input)
-    (member : Member) (lines : List Line)
-    (at : (went : Went) →
-    outcome w cs (modelled i what went) ≡ if_running w x (λ n. answer_to x n inp)
-    (λ n. refused n i refusal.NotRunning) went)
-    (says : (cause : Cause) (o : Outcome (List Edit)) →
-    lines_of i what cause o ≡ cond o.stopped (Stopped x (Some cause) ∷ [])
-    (drop_lines o.dropped ++ ([] ++ reply_lines (Some inp) o.replies)))
-    (says_no : reply_lines (Some inp) (request.Refused i refusal.NotRunning ∷ []) ≡ Replied
-    (reply.Refused i refused_as.NotRunning) ∷ []) where
-  n : Machine
-  n = w.nodes x
-
-  a : Answer (List Edit)
-  a = answer_to x (w.nodes x) inp
-
-  runs : (went : Went) → (w.nodes x).running ≡ true →
-      outcome w cs (modelled i what went) ≡ as_it_went x (w.nodes x) (answer_to x (w.nodes x) inp)
-      went
+    (member : Member) (does : Did)
+    (at : (went : Went) → outcome w cs (modelled i what went)
+    ≡ cond (w.nodes x).running (as_it_went x (w.nodes x) (answer_to x (w.nodes x) inp) went)
+    (answers x (at_rest (w.nodes x) inp)))
+    (causes : (cause : Cause) → cause_told what cause ≡ Some cause)
+    (starts : (o : Outcome (List Edit)) → start_lines what o ≡ [])
+    (replies : (r : request.Reply (List Edit)) → reply_line what r
+    ≡ map (λ reply. line.Replied reply) (told_as inp r)) where
+  runs : (went : Went) → (w.nodes x).running ≡ true → outcome w cs (modelled i what went)
+      ≡ as_it_went x (w.nodes x) (answer_to x (w.nodes x) inp) went
   runs went up = at went ∙ cond-true _ _ _ up
 
-  rests : (went : Went) → (w.nodes x).running ≡ false →
-      outcome w cs (modelled i what went) ≡ answers x (refused (w.nodes x) i refusal.NotRunning)
+  rests : (went : Went) → (w.nodes x).running ≡ false → outcome w cs (modelled i what went)
+      ≡ answers x (at_rest (w.nodes x) inp)
   rests went off = at went ∙ cond-false _ _ _ off
 
-  ran : (w.nodes x).running ≡ true → Asked x (w.nodes x) inp member lines →
-      Happened cs w i x what member lines
-  ran up (Replies is dropped told) =
-      as_chosen cs w i x what member lines (chosen Answered Disk)
+  -- the node answers so
+  tells : (a : Answer (List Edit)) → (told : Told does (IsAnswer inp a)) →
+      Tells x what Disk does (answers x a)
+  tells a told = subst (λ (d : Did). Tells x what Disk d (answers x a)) (sym told.1)
+      (answer_tells x what inp Disk a told.0 told.2 (starts (answers x a))
+      (shows_so inp what a.replies replies))
+
+  ends : (cause : Cause) (n : Machine) → does ≡ did.Stopped (Some cause) →
+      Tells x what cause does (stops x n)
+  ends cause n is = subst (λ (d : Did). Tells x what cause d (stops x n)) (sym is)
+      (stop_tells x what cause (Some cause) n (causes cause))
+
+  pub given : WasGiven x (w.nodes x) inp member does → IsOutcome cs w i x what member does
+  given (Answers up is told) =
+      as_chosen cs w i x what member does (chosen Answered Disk)
       (answers x (answer_to x (w.nodes x) inp)) (answer_to x (w.nodes x) inp).node
-      (runs Answered up) refl is
-      (told ∙ sym (says Disk (answers x (answer_to x (w.nodes x) inp))
-      ∙ ap (λ (d : Option reason.DropReason). drop_lines d ++
-      ([] ++ reply_lines (Some inp) (answer_to x (w.nodes x) inp).replies)) dropped))
-  ran up (Ends cause (inl before) told) =
-      as_chosen cs w i x what member lines (chosen StoppedBefore cause) (stops x (w.nodes x))
-      (stopped (w.nodes x)) (runs StoppedBefore up) refl before
-      (told ∙ sym (says cause (stops x (w.nodes x))))
-  ran up (Ends cause (inr behind) told) =
-      as_chosen cs w i x what member lines (chosen StoppedAfter cause)
+      (runs Answered up) refl is (tells (answer_to x (w.nodes x) inp) told)
+  given (Ends up cause (inl before) told) =
+      as_chosen cs w i x what member does (chosen StoppedBefore cause) (stops x (w.nodes x))
+      (stopped (w.nodes x)) (runs StoppedBefore up) refl before (ends cause (w.nodes x) told)
+  given (Ends up cause (inr behind) told) =
+      as_chosen cs w i x what member does (chosen StoppedAfter cause)
       (stops x (answer_to x (w.nodes x) inp).node) (stopped (answer_to x (w.nodes x) inp).node)
-      (runs StoppedAfter up) refl behind
-      (told ∙ sym (says cause (stops x (answer_to x (w.nodes x) inp).node)))
-
-  pub request_happened : WasAsked x (w.nodes x) i inp member lines →
-      Happened cs w i x what member lines
-  request_happened (inl was) = ran was.0 was.1
-  request_happened (inr was) =
-      as_chosen cs w i x what member lines (chosen Answered Disk)
-      (answers x (refused (w.nodes x) i refusal.NotRunning)) (w.nodes x) (rests Answered was.0)
-      refl was.1
-      (was.2 ∙ sym (says Disk (answers x (refused (w.nodes x) i refusal.NotRunning)) ∙ says_no))
-
-module _ (cs : Configurations) (w : World (List Edit)) (i x : ℕ) (member : Member)
-    (lines : List Line) where
-  pub submit_happened : (batch : List Edit) →
-      WasAsked x (w.nodes x) i (input.Submit i batch) member lines →
-      Happened cs w i x (Submit x batch) member lines
-  submit_happened batch was = request_happened cs w i x (Submit x batch) (input.Submit i batch)
-      member lines (λ went. refl) (λ cause o. refl) refl was
-
-  pub get_happened : (key : List ℕ) (at : Option ℕ) →
-      WasAsked x (w.nodes x) i (input.Get i key at) member lines →
-      Happened cs w i x (Get x key at) member lines
-  get_happened key at was = request_happened cs w i x (Get x key at) (input.Get i key at) member
-      lines (λ went. refl) (λ cause o. refl) refl was
-
-  pub start_happened : WasStarted x (w.nodes x) member lines →
-      Happened cs w i x (Start x) member lines
-  start_happened (Starts off is told) =
-      as_chosen cs w i x (Start x) member lines (chosen Answered Disk)
-      (answers x (silent (started x (w.nodes x)))) (started x (w.nodes x))
-      (cond-false _ _ _ off) refl is told
-  start_happened (Fails off cause is told) =
-      as_chosen cs w i x (Start x) member lines (chosen StoppedBefore cause) (stops x (w.nodes x))
-      (stopped (w.nodes x)) (cond-false _ _ _ off) refl is told
-  start_happened (RunsOn up is told) =
-      as_chosen cs w i x (Start x) member lines (chosen Answered Disk)
-      (answers x (dropped_for (w.nodes x) reason.Running)) (w.nodes x) (cond-true _ _ _ up)
-      refl is told
-
-  pub stop_happened : (junk : Junk) → WasStopped x (w.nodes x) member lines →
-      Happened cs w i x (Stop x junk) member lines
-  stop_happened junk (Stops up is told) =
-      as_chosen cs w i x (Stop x junk) member lines (chosen Answered Disk) (stops x (w.nodes x))
-      (stopped (w.nodes x)) (cond-true _ _ _ up) refl is told
-  stop_happened junk (RestsOn off is told) =
-      as_chosen cs w i x (Stop x junk) member lines (chosen Answered Disk)
-      (answers x (dropped_for (w.nodes x) reason.NotRunning)) (w.nodes x)
-      (cond-false _ _ _ off) refl is told
+      (runs StoppedAfter up) refl behind (ends cause (answer_to x (w.nodes x) inp).node told)
+  given (Rests off is told) =
+      as_chosen cs w i x what member does (chosen Answered Disk)
+      (answers x (at_rest (w.nodes x) inp)) (at_rest (w.nodes x) inp).node
+      (rests Answered off) refl (subst (λ (n : Machine). Is member x n) (sym (rests_same inp)) is)
+      (tells (at_rest (w.nodes x) inp) told)
+    where
+      rests_same : (inp : Input) → (at_rest (w.nodes x) inp).node ≡ w.nodes x
+      rests_same (input.Submit request batch) = refl
+      rests_same (input.Get request key at) = refl
+      rests_same (input.Forward epoch from number batch) = refl
+      rests_same (input.Ack epoch from committed have) = refl
+      rests_same input.Tick = refl

@@ -1,30 +1,26 @@
 -- From the model's one list of batches to what the lines of a report say.
-use Rattle.std.proofs.Common.{◌≡◌, ◌≢◌, ℕ, suc, ◌+◌, ◌≤◌, List, [], ◌∷◌, ◌++◌, length, map, take}
-use Rattle.std.proofs.Common.{Option, Some, None, Bool, true, false, refl, sym, ap, ap₂, subst, ◌∙◌}
-use Rattle.std.proofs.Common.{arith}
-use Rattle.std.specs.Prelude.{All}
+use Rattle.std.proofs.Common.{◌≡◌, ℕ, suc, List, [], ◌∷◌, ◌++◌, length, Option, Some, None}
+use Rattle.std.proofs.Common.{refl, ap, arith}
 use Rattle.std.specs.List.{AllZip, AllByRecursion, flat_map}
 use Rattle.std.proofs.lemmas.Bool.{cond_both}
 use Rattle.std.proofs.lemmas.List.Elements.{All-from_recursion}
 use Rattle.kv_types.specs.declared.edit.Edit.{Edit}
 use Rattle.kv_types.specs.Maps.{map_of}
-use Rattle.chain_model.specs.Lists.{place}
 use Rattle.chain_model.specs.Configuration.{Configurations}
 use Rattle.chain_model.specs.DropReason as reason
-use Rattle.chain_model.specs.Headline.{Agrees, numbered, handed_in, batches}
+use Rattle.chain_model.specs.Frames.{Frame, Forward, Ack}
+use Rattle.chain_model.specs.Headline.{Agrees, numbered, handed_in}
 use Rattle.chain_model.specs.Requests.{Reply, Committed, Shows, Opened, Closed, Refused}
 use Rattle.chain_model.specs.World.{Event as ModelEvent, World, Outcome, outcome, outcomes, happens}
 use Rattle.node.specs.declared.stop.Stop.{Stop as Cause}
-use Rattle.node.specs.declared.input.Input.{Input}
-use Rattle.node.specs.declared.input.Input.TheVariants as input
-use Rattle.node.specs.Steps.{Machine, replies_of}
+use Rattle.chain_core.specs.States.{Machine}
 use Rattle.lab.specs.declared.event.Event.{Event}
 use Rattle.lab.specs.declared.event.What.{What}
-use Rattle.lab.specs.declared.event.What.TheVariants.{Submit, Get, Start, Stop}
+use Rattle.lab.specs.declared.event.What.TheVariants.{Submit, Get, Deliver, Tick, Start, Stop}
 use Rattle.lab.specs.declared.report.Line.{Line}
-use Rattle.lab.specs.declared.report.Line.TheVariants.{Replied, Stopped}
-use Rattle.lab.specs.Events.{modelled, lines_of, drop_line, drop_lines, if_started, start_lines}
-use Rattle.lab.specs.Events.{reply_lines, cause_told, node_in, input_of}
+use Rattle.lab.specs.declared.report.Line.TheVariants.{Stopped}
+use Rattle.lab.specs.Events.{modelled, lines_of, lines_at, lines_if, drop_lines, if_started}
+use Rattle.lab.specs.Events.{start_lines, frame_lines, reply_line, reply_lines, cause_told}
 use Rattle.lab.specs.Members.{Choice}
 use Rattle.lab.specs.Runs.{modelled_from, told_from}
 use Rattle.lab.specs.History.{Placed, LineSpeaksOf, StepSpeaksOf, handed_from}
@@ -46,8 +42,12 @@ numbered_same i (event ∷ events) (ch ∷ chs) = one event.what (numbered_same 
         = ap (λ (l : List (ModelEvent (List Edit))). modelled i (Submit x batch) ch.went ∷ l) later
     one (Get x key at) later
         = ap (λ (l : List (ModelEvent (List Edit))). modelled i (Get x key at) ch.went ∷ l) later
-    one (Start x) later =
-        ap (λ (l : List (ModelEvent (List Edit))). modelled i (Start x) ch.went ∷ l) later
+    one (Deliver p) later
+        = ap (λ (l : List (ModelEvent (List Edit))). modelled i (Deliver p) ch.went ∷ l) later
+    one (Tick x) later
+        = ap (λ (l : List (ModelEvent (List Edit))). modelled i (Tick x) ch.went ∷ l) later
+    one (Start x) later
+        = ap (λ (l : List (ModelEvent (List Edit))). modelled i (Start x) ch.went ∷ l) later
     one (Stop x junk) later
         = ap (λ (l : List (ModelEvent (List Edit))). modelled i (Stop x junk) ch.went ∷ l) later
 
@@ -65,6 +65,8 @@ handed_same i (event ∷ events) (ch ∷ chs) same = one event.what
         (record { what = what; fault = event.fault } ∷ events)
     one (Submit x batch) later = ap (λ (l : List Placed). (i, batch) ∷ l) later
     one (Get x key at) later = later
+    one (Deliver p) later = later
+    one (Tick x) later = later
     one (Start x) later = later
     one (Stop x junk) later = later
 
@@ -91,81 +93,78 @@ module _ (B : List Placed) (what : What) where
   abbrev Each : List Line → Type 0
   Each lines = AllByRecursion (LineSpeaksOf B what) lines
 
-  drops : (why : reason.DropReason) → Each (drop_line why)
-  drops reason.NotRunning = (tt, tt)
-  drops reason.Running = (tt, tt)
-  drops reason.Removed = tt
-  drops reason.OtherEpoch = tt
-  drops reason.NotPredecessor = tt
-  drops reason.NotSuccessor = tt
-  drops reason.OtherNumber = tt
-  drops reason.BadAck = tt
-  drops reason.OldNotice = tt
-  drops reason.BadNotice = tt
-  drops reason.NotForNodes = tt
-  drops reason.Unreadable = tt
-
   dropped : (why : Option reason.DropReason) → Each (drop_lines why)
   dropped None = tt
-  dropped (Some why) = drops why
+  dropped (Some why) = (tt, tt)
 
   if_start : (why : Option reason.DropReason) (at : Option (ℕ × Machine)) → Each (if_started why at)
   if_start None None = tt
   if_start None (Some at) = (tt, tt)
   if_start (Some why) at = tt
 
+  sent : (n : ℕ) (frames : List (Frame (List Edit))) → Each (frame_lines n frames)
+  sent n [] = tt
+  sent n (Forward to epoch from number batch ∷ frames) = (tt, sent (suc n) frames)
+  sent n (Ack to epoch from committed have ∷ frames) = (tt, sent (suc n) frames)
+
 starts : (B : List Placed) (what : What) (o : Outcome (List Edit)) →
     Each B what (start_lines what o)
 starts B (Submit x batch) o = tt
 starts B (Get x key at) o = tt
+starts B (Deliver p) o = tt
+starts B (Tick x) o = tt
 starts B (Start x) o = if_start B (Start x) o.dropped o.came_to
 starts B (Stop x junk) o = tt
 
--- the replies to a request speak of B where the model's do
-submitted : (B : List Placed) (x i : ℕ) (batch : List Edit) (replies : List (Reply (List Edit))) →
-    AllByRecursion (Agrees B) replies
-    → Each B (Submit x batch) (reply_lines (Some (input.Submit i batch)) replies)
-submitted B x i batch [] agree = tt
-submitted B x i batch (Committed r n ∷ replies) agree =
-    (agree.0, submitted B x i batch replies agree.1)
-submitted B x i batch (Shows r s l ∷ replies) agree = submitted B x i batch replies agree.1
-submitted B x i batch (Opened r s ∷ replies) agree = submitted B x i batch replies agree.1
-submitted B x i batch (Closed r s ∷ replies) agree = submitted B x i batch replies agree.1
-submitted B x i batch (Refused r why ∷ replies) agree = (tt, submitted B x i batch replies agree.1)
+-- a read's reply speaks of B where the model's does
+shown : (B : List Placed) (what : What) (i s : ℕ) (l : List (List Edit)) →
+    Agrees B (Shows i s l) → Each B what (reply_line what (Shows i s l))
+shown B (Submit x batch) i s l agrees = tt
+shown B (Get x key at) i s l agrees =
+    ((agrees.0, ap (λ (m : List (List Edit)). map_of m key) agrees.1), tt)
+shown B (Deliver p) i s l agrees = tt
+shown B (Tick x) i s l agrees = tt
+shown B (Start x) i s l agrees = tt
+shown B (Stop x junk) i s l agrees = tt
 
-asked : (B : List Placed) (x i : ℕ) (key : List ℕ) (at : Option ℕ)
-    (replies : List (Reply (List Edit))) → AllByRecursion (Agrees B) replies
-    → Each B (Get x key at) (reply_lines (Some (input.Get i key at)) replies)
-asked B x i key at [] agree = tt
-asked B x i key at (Committed r n ∷ replies) agree = (agree.0, asked B x i key at replies agree.1)
-asked B x i key at (Shows r s l ∷ replies) agree = (
-  (agree.0.0, ap (λ (m : List (List Edit)). map_of m key) agree.0.1),
-  asked B x i key at replies
-      agree.1,
-)
-asked B x i key at (Opened r s ∷ replies) agree = asked B x i key at replies agree.1
-asked B x i key at (Closed r s ∷ replies) agree = asked B x i key at replies agree.1
-asked B x i key at (Refused r why ∷ replies) agree = (tt, asked B x i key at replies agree.1)
+-- a reply speaks of B where the model's does
+speaks : (B : List Placed) (what : What) (r : Reply (List Edit)) → Agrees B r →
+    Each B what (reply_line what r)
+speaks B what (Committed i n) agrees = (agrees, tt)
+speaks B what (Shows i s l) agrees = shown B what i s l agrees
+speaks B what (Opened i s) agrees = tt
+speaks B what (Closed i s) agrees = tt
+speaks B what (Refused i why) agrees = (tt, tt)
 
-replied : (B : List Placed) (i : ℕ) (what : What) (replies : List (Reply (List Edit))) →
-    AllByRecursion (Agrees B) replies → Each B what (reply_lines (input_of i what) replies)
-replied B i (Submit x batch) replies agree = submitted B x i batch replies agree
-replied B i (Get x key at) replies agree = asked B x i key at replies agree
-replied B i (Start x) replies agree = tt
-replied B i (Stop x junk) replies agree = tt
+replied : (B : List Placed) (what : What) (replies : List (Reply (List Edit))) →
+    AllByRecursion (Agrees B) replies → Each B what (reply_lines what replies)
+replied B what [] agree = tt
+replied B what (r ∷ replies) agree =
+    both (LineSpeaksOf B what) (reply_line what r) (reply_lines what replies)
+    (speaks B what r agree.0) (replied B what replies agree.1)
 
--- the lines of an event speak of B where the replies of its outcome do
-lines_speak : (B : List Placed) (i : ℕ) (what : What) (cause : Cause) (o : Outcome (List Edit)) →
-    AllByRecursion (Agrees B) o.replies → Each B what (lines_of i what cause o)
-lines_speak B i what cause o agree =
-    cond_both o.stopped (Stopped (node_in what) (cause_told what cause) ∷ [])
-    (drop_lines o.dropped ++ (start_lines what o ++ reply_lines (input_of i what) o.replies))
-    (Each B what)
-    (λ stops. (tt, tt))
-    (λ goes_on. both (LineSpeaksOf B what) (drop_lines o.dropped)
-    (start_lines what o ++ reply_lines (input_of i what) o.replies) (dropped B what o.dropped)
-    (both (LineSpeaksOf B what) (start_lines what o) (reply_lines (input_of i what) o.replies)
-    (starts B what o) (replied B i what o.replies agree)))
+-- the lines of an event at a node speak of B where the replies of its outcome do
+lines_speak_at : (B : List Placed) (x n : ℕ) (what : What) (cause : Cause)
+    (o : Outcome (List Edit)) → AllByRecursion (Agrees B) o.replies →
+    Each B what (lines_at x n what cause o)
+lines_speak_at B x n what cause o agree =
+    let Of = LineSpeaksOf B what in
+    let replies = reply_lines what o.replies in
+    cond_both o.stopped (Stopped x (cause_told what cause) ∷ [])
+    (drop_lines o.dropped ++ (start_lines what o ++ (frame_lines n o.frames ++ replies)))
+    (Each B what) (λ stops. (tt, tt))
+    (λ goes_on. both Of (drop_lines o.dropped)
+    (start_lines what o ++ (frame_lines n o.frames ++ replies)) (dropped B what o.dropped)
+    (both Of (start_lines what o) (frame_lines n o.frames ++ replies) (starts B what o)
+    (both Of (frame_lines n o.frames) replies (sent B what n o.frames)
+    (replied B what o.replies agree))))
+
+-- .. and so do those of one that came to none
+lines_speak : (B : List Placed) (at : Option (ℕ × Machine)) (n : ℕ) (what : What) (cause : Cause)
+    (o : Outcome (List Edit)) → AllByRecursion (Agrees B) o.replies →
+    Each B what (lines_if at n what cause o)
+lines_speak B None n what cause o agree = (tt, tt)
+lines_speak B (Some at) n what cause o agree = lines_speak_at B at.0 n what cause o agree
 
 -- .. and so do those of all events
 pub all_speak : (B : List Placed) (cs : Configurations) (i : ℕ) (events : List Event)
@@ -178,10 +177,12 @@ all_speak B cs i (event ∷ events) [] w same agree = absurd (omega arith)
 all_speak B cs i (event ∷ events) (ch ∷ chs) w same agree =
     let e = modelled i event.what ch.went in
     let o = outcome w cs e in
+    let n = length w.frames in
     let later = flat_map (λ (p : Outcome (List Edit)). p.replies)
     (outcomes cs (modelled_from (suc i) events chs) (happens cs w e)) in (
-      All-from_recursion (LineSpeaksOf B event.what) (lines_of i event.what ch.cause o)
-          (lines_speak B i event.what ch.cause o (front (Agrees B) o.replies later agree)),
+      All-from_recursion (LineSpeaksOf B event.what) (lines_of n event.what ch.cause o)
+          (lines_speak B o.came_to n event.what ch.cause o
+          (front (Agrees B) o.replies later agree)),
       all_speak B cs (suc i) events chs (happens cs w e) (omega arith)
           (back (Agrees B) o.replies later agree),
     )

@@ -1,5 +1,13 @@
 mod Rests
+mod Posting
+mod Reading
+mod Places
 mod Happenings
+mod Arrivals
+mod Seating
 mod Growing
+mod Addressees
+mod Stepping
+mod Nodes
 mod Histories
 mod Reports

@@ -1,5 +1,5 @@
 -- What a disk that crashed stands for.
-use Rattle.std.proofs.Common.{◌≡◌, ◌⊎◌, ℕ, List, inl, inr, refl, sym, subst, false}
+use Rattle.std.proofs.Common.{◌≡◌, ◌⊎◌, ℕ, List, inl, inr, sym, subst}
 use Rattle.kv_types.specs.declared.edit.Edit.{Edit}
 use Rattle.disk.specs.declared.junk.Junk.{Junk}
 use Rattle.disk.specs.State.{Slot, State, Contents, contents, IsSure, MayLeave}
@@ -7,19 +7,14 @@ use Rattle.disk.specs.Crashes.{Crashes}
 use Rattle.disk.proofs.Steps.{sure_left}
 use Rattle.disk.proofs.Outcomes.{crashed_is_sure}
 use Rattle.chain_model.specs.Node.{Answer, stopped}
-use Rattle.node.specs.Steps.{Machine, Rests, AlwaysRests, StopsAs}
+use Rattle.chain_core.specs.States.{Machine}
+use Rattle.node.specs.Steps.{Rests, AlwaysRests, StopsAs}
 
 -- what outlives a stop is what a disk stands for
 rests_stopped : (left : Contents) (x : ℕ) (n : Machine) → Rests left x n → Rests left x (stopped n)
 rests_stopped left x n r = record {
   batches = r.batches;
-  alone = record {
-    ids = r.alone.ids;
-    epoch = r.alone.epoch;
-    floor = r.alone.floor;
-    kept =
-        r.alone.kept;
-  };
+  first = record { epoch = r.first.epoch; floor = r.first.floor; kept = r.first.kept };
 }
 
 -- a disk that is sure stands for what it reads as

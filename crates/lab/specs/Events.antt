@@ -1,66 +1,58 @@
 -- Events as the chain's model has them, and the lines that tell what they did.
-use Rattle.std.specs.Prelude.{◌≡◌, ℕ, suc, List, [], ◌∷◌, ◌++◌, length, map, Option, Some, None}
-use Rattle.std.specs.Prelude.{Bool, true, false, if◌then◌else◌, All}
+use Rattle.std.specs.Prelude.{◌≡◌, ℕ, suc, List, [], ◌∷◌, ◌++◌, length, Option, Some, None}
+use Rattle.std.specs.Prelude.{IfSome, true, if◌then◌else◌, All}
 use Rattle.std.specs.List.{flat_map}
 use Rattle.kv_types.specs.declared.edit.Edit.{Edit}
+use Rattle.kv_types.specs.Maps.{map_of}
 use Rattle.chain_model.specs.Configuration.{Configurations, has, at_epoch}
 use Rattle.chain_model.specs.DropReason as model_reason
-use Rattle.chain_model.specs.Node as model_node
+use Rattle.chain_model.specs.Frames as model_frame
 use Rattle.chain_model.specs.Requests as model_request
 use Rattle.chain_model.specs.World as model
+use Rattle.chain_core.specs.States.{Machine}
 use Rattle.node.specs.declared.stop.Stop.{Stop as Cause}
-use Rattle.node.specs.declared.input.Input.{Input}
-use Rattle.node.specs.declared.input.Input.TheVariants as input
-use Rattle.node.specs.Steps.{Machine, replies_of}
+use Rattle.node.specs.declared.output.Reply.TheVariants as reply
+use Rattle.node.specs.Steps.{reason_of, refusal_of}
 use Rattle.lab.specs.declared.event.Event.{Event}
 use Rattle.lab.specs.declared.event.What.{What}
-use Rattle.lab.specs.declared.event.What.TheVariants.{Submit, Get, Start, Stop}
-use Rattle.lab.specs.declared.report.DropReason.TheVariants as reason
+use Rattle.lab.specs.declared.event.What.TheVariants.{Submit, Get, Deliver, Tick, Start, Stop}
 use Rattle.lab.specs.declared.report.Line.{Line}
-use Rattle.lab.specs.declared.report.Line.TheVariants.{Replied, Dropped, Started, Stopped}
+use Rattle.lab.specs.declared.report.Line.TheVariants as line
 
--- the node that an event is for
-abbrev pub node_in : What → ℕ
-node_in (Submit node batch) = node
-node_in (Get node key at) = node
-node_in (Start node) = node
-node_in (Stop node junk) = node
+-- the node that an event names; a frame goes to its addressee
+abbrev pub node_in : What → Option ℕ
+node_in (Submit node batch) = Some node
+node_in (Get node key at) = Some node
+node_in (Deliver place) = None
+node_in (Tick node) = Some node
+node_in (Start node) = Some node
+node_in (Stop node junk) = Some node
 
--- there is one configuration, of one node
-abbrev pub IsOneNode : Configurations → Type 0
-IsOneNode cs = (x : ℕ) × (cs ≡ (x ∷ []) ∷ [])
+-- an event names a node of configuration 0
+abbrev pub NamesNode : Configurations → What → Type 0
+NamesNode cs what = IfSome (node_in what) (λ x. has (at_epoch cs 0) x ≡ true)
 
--- every event names a node of configuration 0
+-- .. and so does each of these, if it names one
 abbrev pub NamesNodes : Configurations → List Event → Type 0
-NamesNodes cs events = All (λ event. has (at_epoch cs 0) (node_in event.what) ≡ true) events
+NamesNodes cs events = All (λ event. NamesNode cs event.what) events
 
 -- the event in place i, as the model has it, where the step went so
 abbrev pub modelled : ℕ → What → model.Went → model.Event (List Edit)
 modelled i (Submit node batch) went = model.Ask node i (model_request.Submit batch) went
 modelled i (Get node key at) went = model.Ask node i (model_request.Read at) went
+modelled i (Deliver place) went = model.Deliver place went
+modelled i (Tick node) went = model.Tick node went
 modelled i (Start node) went = model.Start node went
 modelled i (Stop node junk) went = model.Stop node
 
--- what an event in place i lets come to the node, if it is a request
-abbrev pub input_of : ℕ → What → Option Input
-input_of i (Submit node batch) = Some (input.Submit i batch)
-input_of i (Get node key at) = Some (input.Get i key at)
-input_of i (Start node) = None
-input_of i (Stop node junk) = None
-
--- the drop reasons that come up yet
-abbrev pub drop_line : model_reason.DropReason → List Line
-drop_line model_reason.NotRunning = Dropped reason.NotRunning ∷ []
-drop_line model_reason.Running = Dropped reason.Running ∷ []
-drop_line _ = []
-
+-- a drop is told with its reason
 abbrev pub drop_lines : Option model_reason.DropReason → List Line
 drop_lines None = []
-drop_lines (Some why) = drop_line why
+drop_lines (Some why) = line.Dropped (reason_of why) ∷ []
 
 -- a node that was started tells its numbers
 abbrev pub start_line : ℕ → Machine → Line
-start_line x n = Started x n.epoch (length n.list) n.committed
+start_line x n = line.Started x n.epoch (length n.list) n.committed
 
 abbrev pub if_started : Option model_reason.DropReason → Option (ℕ × Machine) → List Line
 if_started None None = []
@@ -68,24 +60,70 @@ if_started None (Some at) = start_line at.0 at.1 ∷ []
 if_started (Some why) at = []
 
 abbrev pub start_lines : What → model.Outcome (List Edit) → List Line
+start_lines (Start node) o = if_started o.dropped o.came_to
 start_lines (Submit node batch) o = []
 start_lines (Get node key at) o = []
-start_lines (Start node) o = if_started o.dropped o.came_to
+start_lines (Deliver place) o = []
+start_lines (Tick node) o = []
 start_lines (Stop node junk) o = []
 
-abbrev pub reply_lines : Option Input → List (model_request.Reply (List Edit)) → List Line
-reply_lines None replies = []
-reply_lines (Some request) replies = map (λ reply. Replied reply) (replies_of request replies)
+-- a frame that is sent is told with its place among all, from 1
+abbrev pub frame_line : ℕ → model_frame.Frame (List Edit) → Line
+frame_line place (model_frame.Forward to epoch from number batch) =
+    line.Forwarded place from to epoch number
+frame_line place (model_frame.Ack to epoch from committed have) =
+    line.Acknowledged place from to epoch committed have
+
+-- the frames that are sent after so many others
+abbrev pub frame_lines : ℕ → List (model_frame.Frame (List Edit)) → List Line
+frame_lines sent [] = []
+frame_lines sent (frame ∷ frames) = frame_line (suc sent) frame ∷ frame_lines (suc sent) frames
+
+-- a read is told what its key has in the map of the batches that it shows
+abbrev pub value_lines : What → ℕ → ℕ → List (List Edit) → List Line
+value_lines (Get node key at) i s batches =
+    line.Replied (reply.Value i s (map_of batches key)) ∷ []
+value_lines (Submit node batch) i s batches = []
+value_lines (Deliver place) i s batches = []
+value_lines (Tick node) i s batches = []
+value_lines (Start node) i s batches = []
+value_lines (Stop node junk) i s batches = []
+
+abbrev pub reply_line : What → model_request.Reply (List Edit) → List Line
+reply_line what (model_request.Committed i k) = line.Replied (reply.Committed i k) ∷ []
+reply_line what (model_request.Shows i s batches) = value_lines what i s batches
+reply_line what (model_request.Opened i s) = []
+reply_line what (model_request.Closed i s) = []
+reply_line what (model_request.Refused i why) =
+    line.Replied (reply.Refused i (refusal_of why)) ∷ []
+
+abbrev pub reply_lines : What → List (model_request.Reply (List Edit)) → List Line
+reply_lines what replies = flat_map (reply_line what) replies
 
 -- a node that stops by itself tells the cause
 abbrev pub cause_told : What → Cause → Option Cause
+cause_told (Stop node junk) cause = None
 cause_told (Submit node batch) cause = Some cause
 cause_told (Get node key at) cause = Some cause
+cause_told (Deliver place) cause = Some cause
+cause_told (Tick node) cause = Some cause
 cause_told (Start node) cause = Some cause
-cause_told (Stop node junk) cause = None
 
--- the lines that tell what the event in place i did, and of a node that stopped by itself why
+-- the lines of an event that came to node x: why it was dropped, then a start, then frames, then
+-- replies
+abbrev pub lines_at : ℕ → ℕ → What → Cause → model.Outcome (List Edit) → List Line
+lines_at x sent what cause o =
+    if o.stopped then line.Stopped x (cause_told what cause) ∷ []
+    else drop_lines o.dropped ++ (start_lines what o
+    ++ (frame_lines sent o.frames ++ reply_lines what o.replies))
+
+-- the lines of an event, after so many frames
+abbrev pub lines_if : Option (ℕ × Machine) → ℕ → What → Cause → model.Outcome (List Edit)
+    → List Line
+lines_if None sent what cause o = line.Nothing ∷ []
+lines_if (Some at) sent what cause o = lines_at at.0 sent what cause o
+
+-- the lines that tell what an event did after so many frames, and of a node that stopped by itself
+-- why
 abbrev pub lines_of : ℕ → What → Cause → model.Outcome (List Edit) → List Line
-lines_of i what cause o =
-    if o.stopped then Stopped (node_in what) (cause_told what cause) ∷ []
-    else drop_lines o.dropped ++ (start_lines what o ++ reply_lines (input_of i what) o.replies)
+lines_of sent what cause o = lines_if o.came_to sent what cause o

@@ -13,9 +13,9 @@ use Rattle.node.specs.declared.output.Reply.{Reply}
 use Rattle.node.specs.declared.output.Reply.TheVariants.{Committed, Value, Refused}
 use Rattle.lab.specs.declared.event.Event.{Event}
 use Rattle.lab.specs.declared.event.What.{What}
-use Rattle.lab.specs.declared.event.What.TheVariants.{Submit, Get, Start, Stop}
+use Rattle.lab.specs.declared.event.What.TheVariants.{Submit, Get, Deliver, Tick, Start, Stop}
 use Rattle.lab.specs.declared.report.Line.{Line}
-use Rattle.lab.specs.declared.report.Line.TheVariants.{Replied, Dropped, Started, Stopped}
+use Rattle.lab.specs.declared.report.Line.TheVariants as line
 use Rattle.lab.specs.declared.report.NodeReport.{NodeReport}
 use Rattle.lab.specs.declared.report.Report.{Report}
 use Rattle.lab.specs.Members.{state}
@@ -28,6 +28,8 @@ Placed = ℕ × List Edit
 abbrev pub with_batch : ℕ → What → List Placed → List Placed
 with_batch i (Submit node batch) later = (i, batch) ∷ later
 with_batch i (Get node key at) later = later
+with_batch i (Deliver place) later = later
+with_batch i (Tick node) later = later
 with_batch i (Start node) later = later
 with_batch i (Stop node junk) later = later
 
@@ -40,6 +42,8 @@ abbrev pub ShowsOf : List Placed → What → ℕ → Option (List ℕ) → Type
 ShowsOf B (Get node key at) s value =
     (s ≤ length B) × (value ≡ map_of (take s (batches B)) key)
 ShowsOf B (Submit node batch) s value = ⊥
+ShowsOf B (Deliver place) s value = ⊥
+ShowsOf B (Tick node) s value = ⊥
 ShowsOf B (Start node) s value = ⊥
 ShowsOf B (Stop node junk) s value = ⊥
 
@@ -50,10 +54,13 @@ SpeaksOf B what (Value i s value) = ShowsOf B what s value
 SpeaksOf B what (Refused i refusal) = Unit {0}
 
 abbrev pub LineSpeaksOf : List Placed → What → Line → Type 0
-LineSpeaksOf B what (Replied reply) = SpeaksOf B what reply
-LineSpeaksOf B what (Dropped reason) = Unit {0}
-LineSpeaksOf B what (Started node epoch count committed) = Unit {0}
-LineSpeaksOf B what (Stopped node cause) = Unit {0}
+LineSpeaksOf B what (line.Replied reply) = SpeaksOf B what reply
+LineSpeaksOf B what line.Nothing = Unit {0}
+LineSpeaksOf B what (line.Dropped reason) = Unit {0}
+LineSpeaksOf B what (line.Started node epoch count committed) = Unit {0}
+LineSpeaksOf B what (line.Forwarded place from to epoch number) = Unit {0}
+LineSpeaksOf B what (line.Acknowledged place from to epoch committed have) = Unit {0}
+LineSpeaksOf B what (line.Stopped node cause) = Unit {0}
 
 -- each line of an event speaks of B
 abbrev pub StepSpeaksOf : List Placed → Event → List Line → Type 0
@@ -62,7 +69,8 @@ StepSpeaksOf B event lines = All (LineSpeaksOf B event.what) lines
 -- whatever a crash leaves of the node's disk stands for a list that begins with B
 abbrev pub HasAll : List Placed → NodeReport → Type 0
 HasAll B node = (left : Contents) → MayLeave (state node.disk) left →
-    (list : List (List Edit)) × HasBatches left node.id list × Begins (batches B) list
+    (ids : List ℕ) × (list : List (List Edit)) × HasBatches left node.id ids list
+    × Begins (batches B) list
 
 -- There is one list B ..
 pub record OneHistory (cs : Configurations) (events : List Event) (report : Report) : Type 0 where

@@ -1,4 +1,6 @@
 pub mod Events
 pub mod Members
+pub mod Comings
 pub mod Runs
 pub mod History
+pub mod Worlds

@@ -4,15 +4,15 @@ use Rattle.std.specs.Prelude.{false, All, replicate}
 use Rattle.kv_types.specs.declared.edit.Edit.{Edit}
 use Rattle.chain_model.specs.Configuration.{Configurations, at_epoch}
 use Rattle.chain_model.specs.World as model
-use Rattle.node.specs.Steps.{Machine, AlwaysRests}
+use Rattle.chain_core.specs.States.{Machine}
+use Rattle.node.specs.Steps.{AlwaysRests}
 use Rattle.lab.specs.declared.event.Event.{Event}
 use Rattle.lab.specs.declared.report.Line.{Line}
 use Rattle.lab.specs.declared.report.Numbers.{Numbers}
 use Rattle.lab.specs.declared.report.NodeReport.{NodeReport}
 use Rattle.lab.specs.declared.report.Report.{Report}
-use Rattle.lab.specs.declared.member.Member.{Member}
 use Rattle.lab.specs.Events.{modelled, lines_of}
-use Rattle.lab.specs.Members.{Choice, Is, state}
+use Rattle.lab.specs.Members.{Choice, state}
 
 -- the events from place i on, as the model has them, by what was chosen in each
 abbrev pub modelled_from : ℕ → List Event → List Choice → List (model.Event (List Edit))
@@ -28,16 +28,8 @@ told_from cs i [] choices w = []
 told_from cs i (event ∷ events) [] w = []
 told_from cs i (event ∷ events) (choice ∷ choices) w =
     let e = modelled i event.what choice.went in
-    lines_of i event.what choice.cause (model.outcome w cs e)
+    lines_of (length w.frames) event.what choice.cause (model.outcome w cs e)
     ∷ told_from cs (suc i) events choices (model.happens cs w e)
-
--- the events of a list made of node x what the model says, and these are their lines
-pub record Ran (cs : Configurations) (w : model.World (List Edit)) (x : ℕ) (events : List Event)
-    (member : Member) (steps : List (List Line)) : Type 0 where
-  pub choices : List Choice
-  pub one_each : length choices ≡ length events
-  pub is : Is member x ((model.run cs (modelled_from 1 events choices) w).nodes x)
-  pub told : steps ≡ told_from cs 1 events choices w
 
 -- a machine's numbers; it has no tables yet
 pub record AreOf (n : Machine) (numbers : Numbers) : Type 0 where

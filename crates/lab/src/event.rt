@@ -1,9 +1,9 @@
 ghost use Rattle.std.specs.Prelude.{◌≡◌, ◌↔◌, IfOk, IsTrue};
-ghost use Rattle.lab.specs.Events.{node_in, NamesNodes};
+ghost use Rattle.lab.specs.Events.{node_in, NamesNode, NamesNodes};
 
 use configurations::{Configs, NodeId};
 use disk::{Fault, Junk};
-use kv_types::{Batch, Key};
+use kv_types::{Batch, Key, Number};
 use std::alloc::AllocError;
 
 /// One step of one node. A request has the number of its event's place, from 1.
@@ -24,7 +24,16 @@ pub enum What {
     Get {
         node: NodeId,
         key: Key,
-        at: Option<u64>,
+        at: Option<Number>,
+    },
+    /// The frame in this place, from 1 among all that were ever sent, goes to its addressee. It may
+    /// have gone there before, and may go there again.
+    Deliver {
+        place: u64,
+    },
+    /// A turn to send again what the successor is not known to have.
+    Tick {
+        node: NodeId,
     },
     Start {
         node: NodeId,
@@ -37,15 +46,17 @@ pub enum What {
 }
 
 impl What {
-    /// The node that the event is for.
-    pub fn node(&self) -> NodeId
+    /// The node that the event names; a frame goes to its addressee.
+    pub fn node(&self) -> Option<NodeId>
         ensures { result ≡ node_in self.now }
     {
         match self {
             What::Submit { node, .. }
             | What::Get { node, .. }
+            | What::Tick { node }
             | What::Start { node }
-            | What::Stop { node, .. } => *node,
+            | What::Stop { node, .. } => Some(*node),
+            What::Deliver { .. } => None,
         }
     }
 
@@ -62,6 +73,8 @@ impl What {
                 key: key.clone()?,
                 at: *at,
             },
+            What::Deliver { place } => What::Deliver { place: *place },
+            What::Tick { node } => What::Tick { node: *node },
             What::Start { node } => What::Start { node: *node },
             What::Stop { node, junk } => What::Stop {
                 node: *node,
@@ -71,10 +84,19 @@ impl What {
     }
 }
 
-/// Whether each event is for a node of the first configuration, as `run` requires.
+/// Whether an event names a node of the first configuration, if it names one.
+pub fn names_node(configs: &Configs, what: &What) -> bool
+    ensures { IsTrue result ↔ NamesNode configs.now what.now }
+{
+    match what.node() {
+        Some(node) => configs.first().has(node),
+        None => true,
+    }
+}
+
+/// Whether each of the events does, as `run` requires.
 pub fn names_nodes(configs: &Configs, events: &[Event]) -> bool
     ensures { IsTrue result ↔ NamesNodes configs.now events.now }
 {
-    let config = configs.first();
-    events.iter().all(|event| config.has(event.what.node()))
+    events.iter().all(|event| names_node(configs, &event.what))
 }

@@ -1,21 +1,15 @@
-ghost use Rattle.std.specs.Prelude.{◌≡◌, ◌⊎◌, ℕ, List, [], ◌∷◌, map, IfOk, true, false};
+ghost use Rattle.std.specs.Prelude.{◌≡◌, ◌⊎◌, ℕ, List, IfOk};
 ghost use Rattle.kv_types.specs.declared.edit.Edit.{Edit};
-ghost use Rattle.chain_model.specs.Configuration.{Configurations};
-ghost use Rattle.chain_model.specs.World.{World};
-ghost use Rattle.lab.specs.Events.{node_in};
 ghost use Rattle.chain_model.specs.Node.{Answer, stopped};
-ghost use Rattle.node.specs.Steps.{Machine, Runs, MayStep, StopsAs, disk_of};
-ghost use Rattle.lab.specs.Members.{Is, Works, HasCrashed, Asked, WasAsked, WasStarted};
-ghost use Rattle.lab.specs.Members.{WasStopped, Happened};
-ghost use Rattle.lab.specs.Members.{is_honest, state};
+ghost use Rattle.chain_core.specs.States.{Machine};
+ghost use Rattle.node.specs.Steps.{Runs, MayStep, StopsAs, disk_of};
+ghost use Rattle.lab.specs.Members.{Is, Works, HasCrashed, is_honest, state};
+ghost use Rattle.lab.specs.Comings.{WasGiven, WasStarted, WasStopped, Happened};
 
-use crate::report::{DropReason, Line, Lines};
-use crate::{LabError, What};
-use configurations::NodeId;
+use crate::coming::{Coming, Did, dropped, unheard};
 use disk::{Crash, Junk, MemDisk};
 use kv_types::Limits;
-use link_messages::Refusal;
-use node::{Input, Node, Output, Reply, Stop};
+use node::{DropReason, Input, Node};
 use std::alloc::{AllocError, Global};
 
 /// A node of the lab: it runs, or its disk is what is left of it.
@@ -38,182 +32,122 @@ fn ended(node: Node<MemDisk>) -> Member
     Member::Resting(disk)
 }
 
-// The lines of an event that does one thing.
-fn one_line(alloc: Global, line: Line) -> Result<Lines, AllocError>
-    ensures { IfOk result (λ lines. lines ≡ line ∷ []) }
-{
-    let mut lines = Vec::new(alloc);
-    lines.push(line)?;
-    Ok(Lines::new(lines))
-}
-
-// The lines of a step that answered.
-fn replied(alloc: Global, output: Output) -> Result<Lines, AllocError>
-    ensures { IfOk result (λ lines.
-        lines ≡ map (λ reply. Line.Replied reply) output.replies.items) }
-{
-    let lines = output
-        .replies
-        .into_iter()
-        .map(|reply| Line::Replied(reply))
-        .collect(alloc)?;
-    Ok(Lines::new(lines))
-}
-
-// A request comes to a running node.
-fn asked(
-    alloc: Global,
-    mut node: Node<MemDisk>,
-    id: NodeId,
-    input: Input,
-) -> Result<(Member, Lines), LabError>
+// An input comes to a running node.
+fn handled(alloc: Global, mut node: Node<MemDisk>, input: Input) -> (Member, Did)
     requires { MayStep node }
-    ensures asked { (n : Machine) → Runs is_honest state node id n →
-        IfOk result (λ it. Asked id n input it.0 it.1) }
-    ensures works { IfOk result (λ it. Works it.0) }
+    ensures given { (x : ℕ) (n : Machine) → Runs is_honest state node x n →
+        WasGiven x n input result.0 result.1 }
+    ensures works { Works result.0 }
 {
     match node.step(alloc, input) {
-        Ok(output) => {
-            let lines = replied(alloc, output)?;
-            Ok((Member::Running(node), lines))
-        }
-        Err(stop) => {
-            let cause = Some(stop);
-            let lines = one_line(alloc, Line::Stopped { node: id, cause })?;
-            Ok((ended(node), lines))
-        }
+        Ok(output) => (Member::Running(node), Did::Answered(output)),
+        Err(stop) => (ended(node), Did::Stopped(Some(stop))),
     }
 }
 
-// A request comes to a node that does not run.
-fn refused(alloc: Global, request: u64) -> Result<Lines, AllocError>
-    ensures { IfOk result
-        (λ lines. lines ≡ Line.Replied (Reply.Refused request Refusal.NotRunning) ∷ []) }
-{
-    let refusal = Refusal::NotRunning;
-    one_line(alloc, Line::Replied(Reply::Refused { request, refusal }))
-}
-
 impl Member {
-    // A request comes.
-    fn ask(
-        self,
-        alloc: Global,
-        id: NodeId,
-        request: u64,
-        input: Input,
-    ) -> Result<(Member, Lines), LabError>
+    // An input comes.
+    fn give(self, alloc: Global, input: Input) -> Result<(Member, Did), AllocError>
         requires { Works self }
-        ensures asked { (n : Machine) → Is self id n →
-            IfOk result (λ it. WasAsked id n request input it.0 it.1) }
+        ensures given { (x : ℕ) (n : Machine) → Is self x n →
+            IfOk result (λ it. WasGiven x n input it.0 it.1) }
         ensures same { (disk : _) → self ≡ Member.Resting disk →
             IfOk result (λ it. it.0 ≡ self) }
         ensures works { IfOk result (λ it. Works it.0) }
     {
         match self {
-            Member::Running(node) => asked(alloc, node, id, input),
+            Member::Running(node) => Ok(handled(alloc, node, input)),
             Member::Resting(disk) => {
-                let lines = refused(alloc, request)?;
-                Ok((Member::Resting(disk), lines))
+                let output = unheard(alloc, &input)?;
+                Ok((Member::Resting(disk), Did::Answered(output)))
             }
         }
     }
 
     // The machine starts again.
-    fn start(self, alloc: Global, id: NodeId, limits: &Limits) -> Result<(Member, Lines), LabError>
+    fn start(self, alloc: Global, limits: &Limits) -> (Member, Did)
         requires { Works self }
-        ensures started { (n : Machine) → Is self id n →
-            IfOk result (λ it. WasStarted id n it.0 it.1) }
-        ensures same { (node : _) → self ≡ Member.Running node →
-            IfOk result (λ it. it.0 ≡ self) }
-        ensures works { IfOk result (λ it. Works it.0) }
+        ensures started { (x : ℕ) (n : Machine) → Is self x n →
+            WasStarted x n result.0 result.1 }
+        ensures same { (node : _) → self ≡ Member.Running node → result.0 ≡ self }
+        ensures works { Works result.0 }
     {
         let disk = match self {
             Member::Running(node) => {
-                let lines = one_line(alloc, Line::Dropped(DropReason::Running))?;
-                return Ok((Member::Running(node), lines));
+                let output = dropped(alloc, DropReason::Running);
+                return (Member::Running(node), Did::Answered(output));
             }
             Member::Resting(disk) => disk,
         };
         match Node::start(alloc, disk, limits) {
             Ok(node) => {
-                let line = Line::Started {
-                    node: id,
+                let did = Did::Started {
                     epoch: node.epoch(),
                     count: node.count(),
                     committed: node.committed(),
                 };
-                let lines = one_line(alloc, line)?;
-                Ok((Member::Running(node), lines))
+                (Member::Running(node), did)
             }
             Err((stop, mut disk)) => {
                 disk.crash(Junk::Old);
-                let cause = Some(stop);
-                let lines = one_line(alloc, Line::Stopped { node: id, cause })?;
-                Ok((Member::Resting(disk), lines))
+                (Member::Resting(disk), Did::Stopped(Some(stop)))
             }
         }
     }
 
     // The machine stops, and its disk crashes.
-    fn stop(self, alloc: Global, id: NodeId, junk: Junk) -> Result<(Member, Lines), LabError>
+    fn stop(self, alloc: Global, junk: Junk) -> (Member, Did)
         ensures crashes { (node : _) → self ≡ Member.Running node →
-            IfOk result (λ it. HasCrashed junk node it.0) }
-        ensures stopped { (n : Machine) → Is self id n →
-            IfOk result (λ it. WasStopped id n it.0 it.1) }
-        ensures same { (disk : _) → self ≡ Member.Resting disk →
-            IfOk result (λ it. it.0 ≡ self) }
-        ensures works { IfOk result (λ it. Works it.0) }
+            HasCrashed junk node result.0 }
+        ensures stopped { (x : ℕ) (n : Machine) → Is self x n →
+            WasStopped x n result.0 result.1 }
+        ensures same { (disk : _) → self ≡ Member.Resting disk → result.0 ≡ self }
+        ensures works { Works result.0 }
     {
         match self {
             Member::Running(node) => {
                 let mut disk = node.into_disk();
                 disk.crash(junk);
-                let lines = one_line(
-                    alloc,
-                    Line::Stopped {
-                        node: id,
-                        cause: None,
-                    },
-                )?;
-                Ok((Member::Resting(disk), lines))
+                (Member::Resting(disk), Did::Stopped(None))
             }
             Member::Resting(disk) => {
-                let lines = one_line(alloc, Line::Dropped(DropReason::NotRunning))?;
-                Ok((Member::Resting(disk), lines))
+                let output = dropped(alloc, DropReason::NotRunning);
+                (Member::Resting(disk), Did::Answered(output))
             }
         }
     }
 
-    /// What an event in a place, from 1, makes of node `id`, and its lines.
+    // What is no frame between nodes comes.
+    fn drop_for(self, alloc: Global, why: DropReason) -> (Member, Did)
+        requires { Works self }
+        ensures same { result.0 ≡ self }
+    {
+        let why = match &self {
+            Member::Running(_) => why,
+            Member::Resting(_) => DropReason::NotRunning,
+        };
+        (self, Did::Answered(dropped(alloc, why)))
+    }
+
+    /// What comes makes of the node this, and it does this.
     pub fn take(
         self,
         alloc: Global,
-        id: NodeId,
-        place: u64,
-        what: &What,
+        coming: Coming,
         limits: &Limits,
-    ) -> Result<(Member, Lines), LabError>
+    ) -> Result<(Member, Did), AllocError>
         requires { Works self }
-        ensures happened { (cs : Configurations) (w : World (List Edit)) → node_in what.now ≡ id →
-            Is self id (w.nodes id) →
-            IfOk result (λ it. Happened cs w place id what.now it.0 it.1) }
-        ensures crashes { (x : ℕ) (junk : _) (node : _) → what.now ≡ What.Stop x junk →
+        ensures happened { (x : ℕ) (n : Machine) → Is self x n →
+            IfOk result (λ it. Happened x n coming it.0 it.1) }
+        ensures crashes { (junk : _) (node : _) → coming ≡ Coming.Stop junk →
             self ≡ Member.Running node → IfOk result (λ it. HasCrashed junk node it.0) }
         ensures works { IfOk result (λ it. Works it.0) }
     {
-        let request = place;
-        match what {
-            What::Submit { batch, .. } => {
-                let batch = batch.clone()?;
-                self.ask(alloc, id, place, Input::Submit { request, batch })
-            }
-            What::Get { key, at, .. } => {
-                let (key, at) = (key.clone()?, *at);
-                self.ask(alloc, id, place, Input::Get { request, key, at })
-            }
-            What::Start { .. } => self.start(alloc, id, limits),
-            What::Stop { junk, .. } => self.stop(alloc, id, junk.clone()?),
+        match coming {
+            Coming::Given(input) => self.give(alloc, input),
+            Coming::Faulty(why) => Ok(self.drop_for(alloc, why)),
+            Coming::Start => Ok(self.start(alloc, limits)),
+            Coming::Stop(junk) => Ok(self.stop(alloc, junk)),
         }
     }
 }

@@ -1,28 +1,41 @@
 ghost use Rattle.std.specs.Prelude.{◌≡◌};
 
-use configurations::NodeId;
+use configurations::{Epoch, NodeId};
 use disk::MemDisk;
-use node::{Reply, Stop};
+use kv_types::Number;
+use node::{DropReason, Reply, Stop};
 use std::marker::Model;
-
-/// Why what came to a node was dropped. It changed nothing.
-#[derive(Clone, Copy, Debug, PartialEq, Eq)]
-pub enum DropReason {
-    NotRunning = 1,
-    Running,
-}
 
 /// One line of what an event did.
 #[derive(Debug, Drop)]
 pub enum Line {
-    Replied(Reply),
+    /// No frame has the place.
+    Nothing,
     Dropped(DropReason),
     Started {
         node: NodeId,
-        epoch: u32,
-        count: u64,
-        committed: u64,
+        epoch: Epoch,
+        count: Number,
+        committed: Number,
     },
+    /// A batch was sent on. The frame has this place, from 1, among all that were ever sent.
+    Forwarded {
+        place: u64,
+        from: NodeId,
+        to: NodeId,
+        epoch: Epoch,
+        number: Number,
+    },
+    /// A node told its predecessor what it knows to be committed, and how many batches it has.
+    Acknowledged {
+        place: u64,
+        from: NodeId,
+        to: NodeId,
+        epoch: Epoch,
+        committed: Number,
+        have: Number,
+    },
+    Replied(Reply),
     /// The node stopped: for the event's sake, or by itself and then for this cause.
     Stopped {
         node: NodeId,
@@ -62,11 +75,11 @@ impl Lines {
 /// The numbers of a running node.
 #[derive(Clone, Copy, Debug)]
 pub struct Numbers {
-    pub epoch: u32,
-    pub count: u64,
-    pub committed: u64,
-    pub floor: u64,
-    pub kept: u64,
+    pub epoch: Epoch,
+    pub count: Number,
+    pub committed: Number,
+    pub floor: Number,
+    pub kept: Number,
     /// How many tables each level has.
     pub tables: [u64; 7],
 }

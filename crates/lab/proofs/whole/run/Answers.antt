@@ -1,39 +1,37 @@
-use Rattle.std.proofs.Common.{List, [], ◌∷◌, ◌++◌, ap, ◌∙◌}
-use Rattle.lab.specs.declared.report.NodeReport.{NodeReport}
-use Rattle.lab.specs.declared.report.Report.{Report}
-use Rattle.lab.specs.Runs.{modelled_from}
-use Rattle.lab.proofs.Reports.{runs_alone, of_head, one_of}
+use Rattle.std.proofs.Common.{List, ◌∷◌, [], ◌++◌, take, sym, ap, subst, ◌∙◌}
+use Rattle.std.proofs.lemmas.List.{take_more, take_all}
+use Rattle.lab.specs.declared.event.Event.{Event}
+use Rattle.lab.specs.Events.{NamesNode}
+use Rattle.lab.specs.Worlds.{HasRun}
 use Rattle.lab.proofs.whole.run.Goals as goal
+
+-- one event more
+pub loop-event-preserved : goal.loop-event-preserved
+loop-event-preserved c =
+    let cs = c.args.configs.now in
+    let events = c.args.events.now in
+    let i = c.loop-event.event-index in
+    let event = c.event-item.result in
+    let was = c.loop-event.invariant in
+    let names = subst (λ (e : Event). NamesNode cs e.what) (sym c.event-item.is)
+    (c.requires.named i event c.loop-event-test.true) in
+    let ran = c.in_ok-step.ensures.ran cs (take i events) was.0 was.1 names in
+    let more = ap (λ (e : Event). take i events ++ e ∷ []) c.event-item.is
+    ∙ sym (take_more events i event c.loop-event-test.true) in (
+      was.0 ++ ran.0 ∷ [],
+      subst (λ (es : List Event). HasRun c.step.new.self cs es (was.0 ++ ran.0 ∷ [])) more ran.1,
+    )
 
 pub returns-clause-run : goal.returns-clause-run
 returns-clause-run c =
-    let nodes = c.in_ok-push.ensures.items
-    ∙ ap (λ (l : List NodeReport). l ++ c.left_of.result ∷ []) c.new-nodes.ensures.items in
-    let report : Report = record { steps = c.in_ok-member-2.steps; nodes = c.push.new.self } in
-    runs_alone c.args.configs.now c.first-config.result.now c.head-id.result c.args.events.now
-    c.in_ok-member.member c.in_ok-member-2.member report c.left_of.result
-    c.requires.alone c.first-config.ensures.first c.head-id.ensures c.requires.named
-    c.in_ok-member.ensures.is
-    c.in_ok-member-2.ensures c.left_of.ensures.left c.left_of.ensures.id nodes
+    let was = c.loop-event.invariant in
+    let run = subst (λ (es : List Event). HasRun c.loop-event.world c.args.configs.now es was.0)
+    (take_all c.loop-event.event-index c.args.events.now c.loop-event-test.false) was.1 in
+    c.finish.ensures.run c.args.configs.now c.args.events.now was.0 run
 
--- the theorem of the model, at this run
 pub returns-clause-history : goal.returns-clause-history
 returns-clause-history c =
-    let nodes = c.in_ok-push.ensures.items
-    ∙ ap (λ (l : List NodeReport). l ++ c.left_of.result ∷ []) c.new-nodes.ensures.items in
-    let report : Report = record { steps = c.in_ok-member-2.steps; nodes = c.push.new.self } in
-    let is = runs_alone c.args.configs.now c.first-config.result.now c.head-id.result
-    c.args.events.now c.in_ok-member.member c.in_ok-member-2.member report c.left_of.result
-    c.requires.alone c.first-config.ensures.first c.head-id.ensures c.requires.named
-    c.in_ok-member.ensures.is
-    c.in_ok-member-2.ensures c.left_of.ensures.left c.left_of.ensures.id nodes in
-    let es = modelled_from 1 c.args.events.now is.choices in
-    one_of c.args.configs.now c.args.events.now report is
-    (c.one_history.ensures c.args.configs.now es c.first-config.ensures.lawful)
-    (c.made_of_outcomes.ensures c.args.configs.now es)
-
--- the only node is the head
-pub created_node-requires : goal.created_node-requires
-created_node-requires c =
-    (of_head c.args.configs.now c.first-config.result.now c.head-id.result c.requires.alone
-    c.first-config.ensures.first c.head-id.ensures).1
+    let was = c.loop-event.invariant in
+    let run = subst (λ (es : List Event). HasRun c.loop-event.world c.args.configs.now es was.0)
+    (take_all c.loop-event.event-index c.args.events.now c.loop-event-test.false) was.1 in
+    c.finish.ensures.history c.args.configs.now c.args.events.now was.0 run

@@ -1,0 +1,158 @@
+-- Frames are to nodes of configuration 0, and what is sent is kept as a frame in range.
+use Rattle.std.proofs.Common.{◌≡◌, ℕ, zero, suc, ◌≤◌, List, [], ◌∷◌, ◌++◌, length, map}
+use Rattle.std.proofs.Common.{Option, Some, None, true, refl, sym, ap, subst, ◌∙◌, arith}
+use Rattle.std.proofs.Common.{inl, inr}
+use Rattle.std.specs.List.{AllZip, AllByRecursion}
+use Rattle.std.proofs.lemmas.Bool.{false≢true, cases_lt}
+use Rattle.std.proofs.lemmas.List.Elements.{All-weaker, recursion_from_All}
+use Rattle.kv_types.specs.declared.edit.Edit.{Edit}
+use Rattle.chain_model.specs.Configuration.{Configurations, Lawful, has, at_epoch}
+use Rattle.chain_model.specs.Frames as model_frame
+use Rattle.chain_model.specs.Frames.{Frame as ModelFrame, addressee, epoch_of}
+use Rattle.chain_model.specs.InOrder.{InOrder, TellsTrue}
+use Rattle.chain_model.specs.Lists.{place}
+use Rattle.chain_model.specs.World.{Event as ModelEvent, reached, node_of}
+use Rattle.chain_model.proofs.Configuration.{chain_of, has_part, later_part}
+use Rattle.chain_model.proofs.Lists.{every_place}
+use Rattle.link_messages.specs.declared.frame.Frame.{Frame}
+use Rattle.link_messages.specs.declared.frame.Frame.TheVariants as frame
+use Rattle.link_messages.specs.Spelling.{HasBounds}
+use Rattle.chain_core.specs.declared.sending.Sent.{Sent}
+use Rattle.chain_core.specs.Decisions.{AreFrames, frame_as}
+use Rattle.lab.specs.declared.posted.Posted.{Posted}
+use Rattle.lab.specs.Worlds.{IsKept, IsPosted}
+use Rattle.lab.proofs.Places.{place_zero}
+
+-- ---- addressees
+
+-- behind the list of configurations there is none
+at_epoch-past : (cs : Configurations) (e : ℕ) → length cs ≤ e → at_epoch cs e ≡ []
+at_epoch-past [] e past = refl
+at_epoch-past (c ∷ cs) zero past = absurd (omega arith)
+at_epoch-past (c ∷ cs) (suc e) past = at_epoch-past cs e (omega arith)
+
+-- what a configuration has, the first one has
+pub has_first : (cs : Configurations) (e x : ℕ) → Lawful cs → has (at_epoch cs e) x ≡ true →
+    has (at_epoch cs 0) x ≡ true
+has_first cs e x lawful is = elim (cases_lt e (length cs)) [
+  | inl within ↦ has_part (at_epoch cs e) (at_epoch cs 0) x
+      (later_part cs 0 e (chain_of cs lawful) (omega arith) within) is
+  | inr past ↦ absurd (false≢true
+      (subst (λ (c : List ℕ). has c x ≡ true) (at_epoch-past cs e past) is))
+]
+
+-- a frame to node x has this addressee
+same_addressee : (x : ℕ) (it : Frame) (f : ModelFrame (List Edit)) → frame_as x it ≡ Some f →
+    addressee f ≡ x
+same_addressee x (frame.Forward epoch from number batch) f is =
+    subst (λ (o : Option (ModelFrame (List Edit))). IsTo o) is refl
+  where
+    IsTo : Option (ModelFrame (List Edit)) → Type 0
+    IsTo None = Unit {0}
+    IsTo (Some g) = addressee g ≡ x
+same_addressee x (frame.Ack epoch from committed have) f is =
+    subst (λ (o : Option (ModelFrame (List Edit))). IsTo o) is refl
+  where
+    IsTo : Option (ModelFrame (List Edit)) → Type 0
+    IsTo None = Unit {0}
+    IsTo (Some g) = addressee g ≡ x
+same_addressee x (frame.Notice epoch config) f is = absurd (cc)
+same_addressee x (frame.Submit request batch) f is = absurd (cc)
+same_addressee x (frame.Get request at key) f is = absurd (cc)
+same_addressee x (frame.Rows request at range) f is = absurd (cc)
+same_addressee x (frame.Open request at) f is = absurd (cc)
+same_addressee x (frame.Close request number) f is = absurd (cc)
+same_addressee x (frame.Committed request number) f is = absurd (cc)
+same_addressee x (frame.Value request number value) f is = absurd (cc)
+same_addressee x (frame.RowsAre request number page) f is = absurd (cc)
+same_addressee x (frame.Opened request number) f is = absurd (cc)
+same_addressee x (frame.Refused request why) f is = absurd (cc)
+same_addressee x (frame.Closed request number) f is = absurd (cc)
+
+-- the addressee of a frame that was sent is of configuration 0
+pub addressed : (cs : Configurations) (es : List (ModelEvent (List Edit))) → Lawful cs →
+    InOrder cs es → (p x : ℕ) (it : Frame) (f : ModelFrame (List Edit)) →
+    place (reached cs es).frames p ≡ Some f → frame_as x it ≡ Some f →
+    has (at_epoch cs 0) x ≡ true
+addressed cs es lawful order p x it f there is =
+    let each = recursion_from_All (λ g. has (at_epoch cs (epoch_of g)) (addressee g) ≡ true)
+    (reached cs es).frames order.addressed in
+    subst (λ (y : ℕ). has (at_epoch cs 0) y ≡ true) (same_addressee x it f is)
+    (has_first cs (epoch_of f) (addressee f) lawful
+    (every_place (λ g. has (at_epoch cs (epoch_of g)) (addressee g) ≡ true)
+    (reached cs es).frames p f there each))
+
+-- ---- ranges
+
+-- a Forward's number is that of a batch
+abbrev pub IsNumbered : ModelFrame (List Edit) → Type 0
+IsNumbered (model_frame.Forward to epoch from number batch) = 1 ≤ number
+IsNumbered (model_frame.Ack to epoch from committed have) = Unit {0}
+
+-- .. since it is the place of one
+numbered : (cs : Configurations) (lists : ℕ → List (List Edit)) (f : ModelFrame (List Edit)) →
+    TellsTrue cs lists f → IsNumbered f
+numbered cs lists (model_frame.Forward to epoch from zero batch) tells =
+    absurd (no_batch (sym (place_zero (lists from)) ∙ tells from (inl refl)))
+  where
+    no_batch : None ≡ Some batch → ⊥
+    no_batch e = cc
+numbered cs lists (model_frame.Forward to epoch from (suc number) batch) tells = omega arith
+numbered cs lists (model_frame.Ack to epoch from committed have) tells = tt
+
+pub all_numbered : (cs : Configurations) (es : List (ModelEvent (List Edit))) → InOrder cs es →
+    AllByRecursion IsNumbered (reached cs es).frames
+all_numbered cs es order =
+    recursion_from_All IsNumbered (reached cs es).frames
+    (All-weaker (TellsTrue cs (λ z. (node_of cs es z).list)) IsNumbered
+    (numbered cs (λ z. (node_of cs es z).list)) (reached cs es).frames order.forwards)
+
+-- of a joined list, each of the second
+pub back : {A : Type 0} (P : A → Type 0) (xs ys : List A) → AllByRecursion P (xs ++ ys) →
+    AllByRecursion P ys
+back P [] ys all = all
+back P (x ∷ xs) ys all = back P xs ys all.1
+
+-- such a frame has its bounds
+bounds : (to : ℕ) (it : Frame) (f : ModelFrame (List Edit)) → frame_as to it ≡ Some f →
+    IsNumbered f → HasBounds it
+bounds to (frame.Forward epoch from number batch) f is numbered =
+    subst (λ (o : Option (ModelFrame (List Edit))). IsIn o) (sym is) numbered
+  where
+    IsIn : Option (ModelFrame (List Edit)) → Type 0
+    IsIn None = Unit {0}
+    IsIn (Some g) = IsNumbered g
+bounds to (frame.Ack epoch from committed have) f is numbered = tt
+bounds to (frame.Notice epoch config) f is numbered = tt
+bounds to (frame.Submit request batch) f is numbered = tt
+bounds to (frame.Get request at key) f is numbered = tt
+bounds to (frame.Rows request at range) f is numbered = tt
+bounds to (frame.Open request at) f is numbered = tt
+bounds to (frame.Close request number) f is numbered = tt
+bounds to (frame.Committed request number) f is numbered = tt
+bounds to (frame.Value request number value) f is numbered = tt
+bounds to (frame.RowsAre request number page) f is numbered = absurd (cc)
+bounds to (frame.Opened request number) f is numbered = tt
+bounds to (frame.Refused request why) f is numbered = tt
+bounds to (frame.Closed request number) f is numbered = tt
+
+-- what is sent is kept
+pub kept_all : (more : List Posted) (sent : List Sent) (frames : List (ModelFrame (List Edit))) →
+    AllZip IsPosted more sent → AreFrames sent frames → AllByRecursion IsNumbered frames →
+    AllZip IsKept more frames
+kept_all [] [] [] posted are numbered = tt
+kept_all [] [] (f ∷ frames) posted are numbered = absurd (cc)
+kept_all [] (s ∷ sent) frames posted are numbered = absurd posted
+kept_all (p ∷ more) [] frames posted are numbered = absurd posted
+kept_all (p ∷ more) (s ∷ sent) [] posted are numbered = absurd (cc)
+kept_all (p ∷ more) (s ∷ sent) (f ∷ frames) posted are numbered =
+    let first : frame_as s.to s.frame ≡ Some f = cc in
+    let others : map (λ (it : Sent). frame_as it.to it.frame) sent ≡ map Some frames = cc in (
+      record {
+        it = s.frame;
+        same = ap (λ (to : ℕ). frame_as to s.frame) posted.0.to ∙ first;
+        lawful = posted.0.lawful (bounds s.to s.frame f first numbered.0);
+        bytes = posted.0.bytes;
+      },
+      kept_all more sent frames posted.1 others numbered.1,
+    )

@@ -1,0 +1,178 @@
+-- What an event brought to a node, by the kind of event.
+use Rattle.std.proofs.Common.{◌≡◌, ℕ, List, map, Option, Some, None, refl, sym}
+use Rattle.std.proofs.Common.{ap, subst, ◌∙◌}
+use Rattle.std.proofs.lemmas.Bool.{cond-true, cond-false}
+use Rattle.kv_types.specs.declared.edit.Edit.{Edit}
+use Rattle.disk.specs.declared.junk.Junk.{Junk}
+use Rattle.chain_model.specs.Configuration.{Configurations}
+use Rattle.chain_model.specs.Lists.{place}
+use Rattle.chain_model.specs.DropReason as model_reason
+use Rattle.chain_model.specs.Frames.{Frame as ModelFrame}
+use Rattle.chain_model.specs.Requests as request
+use Rattle.chain_model.specs.Node.{dropped_for, silent, started, stopped}
+use Rattle.chain_model.specs.World.{World, Went, Answered, StoppedBefore, outcome, answers}
+use Rattle.chain_model.specs.World.{stops, delivered, nothing}
+use Rattle.link_messages.specs.declared.frame.Frame.{Frame}
+use Rattle.link_messages.specs.declared.frame.Frame.TheVariants as frame
+use Rattle.chain_core.specs.declared.input.Input.{Input}
+use Rattle.chain_core.specs.declared.input.Input.TheVariants as input
+use Rattle.chain_core.specs.Decisions.{frame_as}
+use Rattle.node.specs.declared.stop.Stop.TheVariants.{Disk}
+use Rattle.node.specs.Steps.{told_as}
+use Rattle.lab.specs.declared.coming.Coming.{Coming}
+use Rattle.lab.specs.declared.coming.Did.{Did}
+use Rattle.lab.specs.declared.event.What.{What}
+use Rattle.lab.specs.declared.event.What.TheVariants.{Submit, Get, Deliver, Tick, Start, Stop}
+use Rattle.lab.specs.declared.member.Member.{Member}
+use Rattle.lab.specs.declared.report.Line.TheVariants as line
+use Rattle.lab.specs.Events.{modelled, reply_line}
+use Rattle.lab.specs.Comings.{Brings, BringsNothing, coming_of}
+use Rattle.lab.specs.Comings.{WasStarted, Starts, Fails, RunsOn, WasStopped, Stops, RestsOn}
+use Rattle.lab.specs.Comings.{Happened}
+use Rattle.lab.proofs.Happenings.{IsOutcome, Tells, chosen, as_chosen, given, stop_tells}
+use Rattle.lab.proofs.Happenings.{drop_tells}
+
+-- each kind tells of replies as the node does
+abbrev RepliesSo : What → Input → Type 0
+RepliesSo what inp = (r : request.Reply (List Edit)) → reply_line what r
+    ≡ map (λ reply. line.Replied reply) (told_as inp r)
+
+submit_replies : (x i : ℕ) (batch : List Edit) → RepliesSo (Submit x batch) (input.Submit i batch)
+submit_replies x i batch (request.Committed j k) = refl
+submit_replies x i batch (request.Shows j s l) = refl
+submit_replies x i batch (request.Opened j s) = refl
+submit_replies x i batch (request.Closed j s) = refl
+submit_replies x i batch (request.Refused j why) = refl
+
+get_replies : (x i : ℕ) (key : List ℕ) (at : Option ℕ) →
+    RepliesSo (Get x key at) (input.Get i key at)
+get_replies x i key at (request.Committed j k) = refl
+get_replies x i key at (request.Shows j s l) = refl
+get_replies x i key at (request.Opened j s) = refl
+get_replies x i key at (request.Closed j s) = refl
+get_replies x i key at (request.Refused j why) = refl
+
+forward_replies : (p epoch from number : ℕ) (batch : List Edit) →
+    RepliesSo (Deliver p) (input.Forward epoch from number batch)
+forward_replies p epoch from number batch (request.Committed j k) = refl
+forward_replies p epoch from number batch (request.Shows j s l) = refl
+forward_replies p epoch from number batch (request.Opened j s) = refl
+forward_replies p epoch from number batch (request.Closed j s) = refl
+forward_replies p epoch from number batch (request.Refused j why) = refl
+
+ack_replies : (p epoch from committed have : ℕ) →
+    RepliesSo (Deliver p) (input.Ack epoch from committed have)
+ack_replies p epoch from committed have (request.Committed j k) = refl
+ack_replies p epoch from committed have (request.Shows j s l) = refl
+ack_replies p epoch from committed have (request.Opened j s) = refl
+ack_replies p epoch from committed have (request.Closed j s) = refl
+ack_replies p epoch from committed have (request.Refused j why) = refl
+
+tick_replies : (x : ℕ) → RepliesSo (Tick x) input.Tick
+tick_replies x (request.Committed j k) = refl
+tick_replies x (request.Shows j s l) = refl
+tick_replies x (request.Opened j s) = refl
+tick_replies x (request.Closed j s) = refl
+tick_replies x (request.Refused j why) = refl
+
+module _ (cs : Configurations) (w : World (List Edit)) (i x : ℕ) (member : Member) (does : Did)
+  where
+    -- a frame in a place is delivered to its addressee
+    to_addressee : (p : ℕ) (it : Frame) (f : ModelFrame (List Edit)) (went : Went) →
+        place w.frames p ≡ Some f → frame_as x it ≡ Some f →
+        outcome w cs (modelled i (Deliver p) went) ≡ delivered w (frame_as x it) went
+    to_addressee p it f went there same =
+        ap (λ (o : Option (ModelFrame (List Edit))). delivered w o went) (there ∙ sym same)
+
+    deliver : (p : ℕ) (it : Frame) (f : ModelFrame (List Edit)) → place w.frames p ≡ Some f →
+        frame_as x it ≡ Some f → Happened x (w.nodes x) (coming_of it) member does →
+        IsOutcome cs w i x (Deliver p) member does
+    deliver p (frame.Forward epoch from number batch) f there same was =
+        given cs w i x (Deliver p) (input.Forward epoch from number batch) member does
+        (λ went. to_addressee p (frame.Forward epoch from number batch) f went there same)
+        (λ cause. refl) (λ o. refl) (forward_replies p epoch from number batch) was
+    deliver p (frame.Ack epoch from committed have) f there same was =
+        given cs w i x (Deliver p) (input.Ack epoch from committed have) member does
+        (λ went. to_addressee p (frame.Ack epoch from committed have) f went there same)
+        (λ cause. refl) (λ o. refl) (ack_replies p epoch from committed have) was
+    deliver p (frame.Notice epoch config) f there same was = absurd (cc)
+    deliver p (frame.Submit request batch) f there same was = absurd (cc)
+    deliver p (frame.Get request at key) f there same was = absurd (cc)
+    deliver p (frame.Rows request at range) f there same was = absurd (cc)
+    deliver p (frame.Open request at) f there same was = absurd (cc)
+    deliver p (frame.Close request number) f there same was = absurd (cc)
+    deliver p (frame.Committed request number) f there same was = absurd (cc)
+    deliver p (frame.Value request number value) f there same was = absurd (cc)
+    deliver p (frame.RowsAre request number page) f there same was = absurd (cc)
+    deliver p (frame.Opened request number) f there same was = absurd (cc)
+    deliver p (frame.Refused request why) f there same was = absurd (cc)
+    deliver p (frame.Closed request number) f there same was = absurd (cc)
+
+    start : WasStarted x (w.nodes x) member does → IsOutcome cs w i x (Start x) member does
+    start (Starts off is told) =
+        let o = answers x (silent (started x (w.nodes x))) in
+        as_chosen cs w i x (Start x) member does (chosen Answered Disk) o
+        (started x (w.nodes x)) (cond-false _ _ _ off) refl is
+        (subst (λ (d : Did). Tells x (Start x) Disk d o) (sym told)
+        (record { frames = refl; told = λ n. refl; counted = λ n. refl }))
+    start (Fails off cause is told) =
+        as_chosen cs w i x (Start x) member does (chosen StoppedBefore cause) (stops x (w.nodes x))
+        (stopped (w.nodes x)) (cond-false _ _ _ off) refl is
+        (subst (λ (d : Did). Tells x (Start x) cause d (stops x (w.nodes x))) (sym told)
+        (stop_tells x (Start x) cause (Some cause) (w.nodes x) refl))
+    start (RunsOn up is told) =
+        let o = answers x (dropped_for (w.nodes x) model_reason.Running) in
+        as_chosen cs w i x (Start x) member does (chosen Answered Disk) o (w.nodes x)
+        (cond-true _ _ _ up) refl is
+        (subst (λ (d : Did). Tells x (Start x) Disk d o) (sym told.1)
+        (drop_tells x (Start x) Disk (w.nodes x) model_reason.Running told.0 told.2 refl))
+
+    stop : (junk : Junk) → WasStopped x (w.nodes x) member does →
+        IsOutcome cs w i x (Stop x junk) member does
+    stop junk (Stops up is told) =
+        as_chosen cs w i x (Stop x junk) member does (chosen Answered Disk) (stops x (w.nodes x))
+        (stopped (w.nodes x)) (cond-true _ _ _ up) refl is
+        (subst (λ (d : Did). Tells x (Stop x junk) Disk d (stops x (w.nodes x))) (sym told)
+        (stop_tells x (Stop x junk) Disk None (w.nodes x) refl))
+    stop junk (RestsOn off is told) =
+        let o = answers x (dropped_for (w.nodes x) model_reason.NotRunning) in
+        as_chosen cs w i x (Stop x junk) member does (chosen Answered Disk) o (w.nodes x)
+        (cond-false _ _ _ off) refl is
+        (subst (λ (d : Did). Tells x (Stop x junk) Disk d o) (sym told.1)
+        (drop_tells x (Stop x junk) Disk (w.nodes x) model_reason.NotRunning told.0 told.2 refl))
+
+    -- what an event brought and made of a node is the event's outcome
+    pub happened : (what : What) (comes : Coming) → Brings w.frames i what x comes →
+        Happened x (w.nodes x) comes member does → IsOutcome cs w i x what member does
+    happened (Submit node batch) comes brings was =
+        subst (λ (y : ℕ). IsOutcome cs w i x (Submit y batch) member does) brings.0
+        (given cs w i x (Submit x batch) (input.Submit i batch) member does (λ went. refl)
+        (λ cause. refl) (λ o. refl) (submit_replies x i batch)
+        (subst (λ (k : Coming). Happened x (w.nodes x) k member does) brings.1 was))
+    happened (Get node key at) comes brings was =
+        subst (λ (y : ℕ). IsOutcome cs w i x (Get y key at) member does) brings.0
+        (given cs w i x (Get x key at) (input.Get i key at) member does (λ went. refl)
+        (λ cause. refl) (λ o. refl) (get_replies x i key at)
+        (subst (λ (k : Coming). Happened x (w.nodes x) k member does) brings.1 was))
+    happened (Deliver p) comes brings was =
+        deliver p brings.it brings.frame brings.there brings.same
+        (subst (λ (k : Coming). Happened x (w.nodes x) k member does) brings.is was)
+    happened (Tick node) comes brings was =
+        subst (λ (y : ℕ). IsOutcome cs w i x (Tick y) member does) brings.0
+        (given cs w i x (Tick x) input.Tick member does (λ went. refl)
+        (λ cause. refl) (λ o. refl) (tick_replies x)
+        (subst (λ (k : Coming). Happened x (w.nodes x) k member does) brings.1 was))
+    happened (Start node) comes brings was =
+        subst (λ (y : ℕ). IsOutcome cs w i x (Start y) member does) brings.0
+        (start (subst (λ (k : Coming). Happened x (w.nodes x) k member does) brings.1 was))
+    happened (Stop node junk) comes brings was =
+        subst (λ (y : ℕ). IsOutcome cs w i x (Stop y junk) member does) brings.0
+        (stop junk (subst (λ (k : Coming). Happened x (w.nodes x) k member does) brings.1 was))
+
+-- an event without a frame does nothing
+pub nothing_done : (cs : Configurations) (w : World (List Edit)) (i : ℕ) (what : What)
+    (went : Went) → BringsNothing w.frames what →
+    outcome w cs (modelled i what went) ≡ nothing
+nothing_done cs w i what went brings =
+    ap (λ (e : What). outcome w cs (modelled i e went)) brings.1
+    ∙ ap (λ (o : Option (ModelFrame (List Edit))). delivered w o went) brings.2

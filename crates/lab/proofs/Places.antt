@@ -1,0 +1,71 @@
+-- Frames by their places.
+use Rattle.std.proofs.Common.{◌≡◌, ℕ, zero, suc, ◌<◌, ◌≤◌, List, [], ◌∷◌, length}
+use Rattle.std.proofs.Common.{Some, None, refl, sym, ap, subst, ◌∙◌}
+use Rattle.std.specs.List.{AllZip, HoldsAt}
+use Rattle.std.proofs.lemmas.Option.{slice_get_past, slice_get-get_or}
+use Rattle.kv_types.specs.declared.edit.Edit.{Edit}
+use Rattle.chain_model.specs.Lists.{place}
+use Rattle.chain_model.specs.Frames.{Frame as ModelFrame}
+use Rattle.chain_model.proofs.Lists.{place-slice_get}
+use Rattle.lab.specs.declared.posted.Posted.{Posted}
+use Rattle.lab.specs.Worlds.{IsKept}
+
+-- there is no place 0
+pub place_zero : {A : Type 0} (l : List A) → place l 0 ≡ None
+place_zero [] = refl
+place_zero (x ∷ l) = refl
+
+-- what an index behind the end has, and what one within it has
+pub place_past : {A : Type 0} (l : List A) (p i : ℕ) → p ≡ suc i → length l ≤ i → place l p ≡ None
+place_past l p i at past =
+    ap (place l) at ∙ place-slice_get l i ∙ slice_get_past l i past
+
+pub place_at : {A : Type 0} (l : List A) (p i : ℕ) (x : A) → p ≡ suc i → i < length l →
+    HoldsAt (λ y. x ≡ y) l i → place l p ≡ Some x
+place_at l p i x at within is =
+    ap (place l) at ∙ place-slice_get l i ∙ slice_get-get_or l i x within
+    ∙ ap (λ y. Some y) (sym (is x))
+
+-- where nothing is kept the model has no frame
+pub none_kept : (posted : List Posted) (frames : List (ModelFrame (List Edit))) (p : ℕ) →
+    AllZip IsKept posted frames → place posted p ≡ None → place frames p ≡ None
+none_kept [] [] p each none = refl
+none_kept [] (f ∷ frames) p each none = absurd each
+none_kept (x ∷ posted) [] p each none = absurd each
+none_kept (x ∷ posted) (f ∷ frames) zero each none = refl
+none_kept (x ∷ posted) (f ∷ frames) (suc zero) each none = absurd (some_none none)
+  where
+    some_none : Some x ≡ None → ⊥
+    some_none e = cc
+none_kept (x ∷ posted) (f ∷ frames) (suc (suc p)) each none =
+    none_kept posted frames (suc p) each.1 none
+
+-- a frame of the model that is kept so
+pub record Has (frames : List (ModelFrame (List Edit))) (p : ℕ) (posted : Posted) : Type 0 where
+  pub frame : ModelFrame (List Edit)
+  pub there : place frames p ≡ Some frame
+  pub kept : IsKept posted frame
+
+-- what is kept in a place is a frame of the model in that place
+pub some_kept : (posted : List Posted) (frames : List (ModelFrame (List Edit))) (p : ℕ)
+    (x : Posted) → AllZip IsKept posted frames → place posted p ≡ Some x → Has frames p x
+some_kept [] frames p x each is = absurd (none_some is)
+  where
+    none_some : None ≡ Some x → ⊥
+    none_some e = cc
+some_kept (y ∷ posted) [] p x each is = absurd each
+some_kept (y ∷ posted) (f ∷ frames) zero x each is = absurd (none_some is)
+  where
+    none_some : None ≡ Some x → ⊥
+    none_some e = cc
+some_kept (y ∷ posted) (f ∷ frames) (suc zero) x each is = record {
+  frame = f;
+  there = refl;
+  kept = subst (λ (z : Posted). IsKept z f) (same is) each.0;
+}
+  where
+    same : Some y ≡ Some x → y ≡ x
+    same e = cc
+some_kept (y ∷ posted) (f ∷ frames) (suc (suc p)) x each is =
+    let later = some_kept posted frames (suc p) x each.1 is in
+    record { frame = later.frame; there = later.there; kept = later.kept }

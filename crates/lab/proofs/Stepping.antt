@@ -1,0 +1,183 @@
+-- A step of the lab's world is a step of the model's.
+use Rattle.std.proofs.Common.{◌≡◌, ℕ, ◌+◌, List, [], ◌∷◌, ◌++◌, length, get_or, slice_set, true}
+use Rattle.std.proofs.Common.{sym, ap, subst, ◌∙◌, arith, append-nil}
+use Rattle.std.proofs.Math.Seq.{map-set_same}
+use Rattle.std.specs.Prelude.{All, Option, Some, None, MatchOption}
+use Rattle.std.proofs.lemmas.Option.{MatchOption-at_none, MatchOption-at_some}
+use Rattle.std.specs.List.{AllZip, AllByRecursion}
+use Rattle.std.proofs.lemmas.List.Elements.{recursion_from_All, All-from_recursion}
+use Rattle.std.proofs.lemmas.Slice.Zip.{AllZip-long}
+use Rattle.kv_types.specs.declared.edit.Edit.{Edit}
+use Rattle.chain_model.specs.Configuration.{Configurations, Lawful, AllDifferent, has}
+use Rattle.chain_model.specs.Configuration.{at_epoch}
+use Rattle.chain_model.specs.Frames.{Frame as ModelFrame}
+use Rattle.chain_model.specs.InOrder.{InOrder}
+use Rattle.chain_model.specs.World.{Event as ModelEvent, World, Outcome, Answered, reached, beginning}
+use Rattle.chain_model.specs.World.{outcome, happens, after, nothing}
+use Rattle.node.specs.declared.stop.Stop.TheVariants.{Disk}
+use Rattle.lab.specs.declared.coming.Arrival.{Arrival}
+use Rattle.lab.specs.declared.coming.Coming.{Coming}
+use Rattle.lab.specs.declared.event.Event.{Event}
+use Rattle.lab.specs.declared.event.What.{What}
+use Rattle.lab.specs.declared.event.What.TheVariants.{Submit, Get, Deliver, Tick, Start, Stop}
+use Rattle.lab.specs.declared.posted.Posted.{Posted}
+use Rattle.lab.specs.declared.report.Line.{Line}
+use Rattle.lab.specs.declared.report.Line.TheVariants.{Nothing}
+use Rattle.lab.specs.declared.seat.Seat.{Seat}
+use Rattle.lab.specs.declared.world.World.{World as LabWorld}
+use Rattle.lab.specs.Events.{modelled, lines_of, NamesNode}
+use Rattle.lab.specs.Members.{Is, Choice}
+use Rattle.lab.specs.Comings.{Brings, BringsNothing, sent_by}
+use Rattle.lab.specs.Runs.{modelled_from}
+use Rattle.lab.specs.Worlds.{IsKept, IsSeated, HasNoSeat, WasTold, HasMade, HasRun}
+use Rattle.lab.specs.Worlds.{frames_of_step}
+use Rattle.lab.proofs.Posting.{zip_both}
+use Rattle.lab.proofs.Arrivals.{happened, nothing_done}
+use Rattle.lab.proofs.Seating.{ids_of, seated, has_one}
+use Rattle.lab.proofs.Growing.{length-steps, grown, run-push}
+use Rattle.lab.proofs.Addressees.{IsNumbered, addressed, all_numbered, back, kept_all}
+
+-- what an event brings, by the frames that are kept
+abbrev pub Brought : List Posted → ℕ → What → Option Arrival → Type 0
+Brought posted i what found = (frames : List (ModelFrame (List Edit))) →
+    AllZip IsKept posted frames → MatchOption found (BringsNothing frames what)
+    (λ it. Brings frames i what it.to it.coming)
+
+-- an event's place is one more than there are steps
+pub place_of : (world : LabWorld) (cs : Configurations) (events : List Event)
+    (steps : List (List Line)) → HasRun world cs events steps → (n i : ℕ) →
+    n ≡ world.steps.len → i ≡ n + 1 → i ≡ length events + 1
+place_of world cs events steps run n i long at =
+    omega (
+      arith,
+      at,
+      long,
+      world.steps.ok.0,
+      ap length run.kept,
+      length-steps cs events steps world.seats.items world.frames.items run.made,
+    )
+
+-- in every run frames are in order
+abbrev pub AlwaysInOrder : Type 0
+AlwaysInOrder = (cs : Configurations) (es : List (ModelEvent (List Edit))) → Lawful cs →
+    InOrder cs es
+
+module _ (in_order : AlwaysInOrder) (cs : Configurations) (events : List Event)
+    (steps : List (List Line)) (seats : List Seat) (posted : List Posted)
+    (made : HasMade seats posted cs events steps) (i : ℕ) (at : i ≡ length events + 1)
+    (event : Event) where
+  -- the world of the model so far
+  abbrev pub w : World (List Edit)
+  w = reached cs (modelled_from 1 events made.choices)
+
+  -- what the event sends is numbered
+  sent_numbered : (choice : Choice) →
+      AllByRecursion IsNumbered (outcome w cs (modelled i event.what choice.went)).frames
+  sent_numbered choice =
+      let more = modelled_from 1 (events ++ event ∷ []) (made.choices ++ choice ∷ []) in
+      let here = run-push cs event choice 1 i events made.choices (beginning cs) made.one_each
+      (omega (arith, at)) in
+      back IsNumbered w.frames (outcome w cs (modelled i event.what choice.went)).frames
+      (subst (λ (v : World (List Edit)). AllByRecursion IsNumbered v.frames) here
+      (all_numbered cs more (in_order cs more made.lawful)))
+
+  -- the node that an event is for has a seat
+  has_its_seat : (x : ℕ) (comes : Coming) → NamesNode cs event.what →
+      Brings w.frames i event.what x comes → HasNoSeat seats x → ⊥
+  has_its_seat x comes names brings none = has_one seats x
+      (subst (λ (c : List ℕ). has c x ≡ true) (sym made.nodes) (has_it event.what names brings))
+      none
+    where
+      has_it : (what : What) → NamesNode cs what → Brings w.frames i what x comes →
+          has (at_epoch cs 0) x ≡ true
+      has_it (Submit node batch) names brings =
+          subst (λ (y : ℕ). has (at_epoch cs 0) y ≡ true) (sym brings.0) names
+      has_it (Get node key at) names brings =
+          subst (λ (y : ℕ). has (at_epoch cs 0) y ≡ true) (sym brings.0) names
+      has_it (Deliver p) names brings =
+          let es = modelled_from 1 events made.choices in
+          addressed cs es made.lawful (in_order cs es made.lawful) p x brings.it brings.frame
+          brings.there brings.same
+      has_it (Tick node) names brings =
+          subst (λ (y : ℕ). has (at_epoch cs 0) y ≡ true) (sym brings.0) names
+      has_it (Start node) names brings =
+          subst (λ (y : ℕ). has (at_epoch cs 0) y ≡ true) (sym brings.0) names
+      has_it (Stop node junk) names brings =
+          subst (λ (y : ℕ). has (at_epoch cs 0) y ≡ true) (sym brings.0) names
+
+  -- what came was told
+  told_next : (x : ℕ) (comes : Coming) (lines : List Line) (now : List Seat)
+      (more : List Posted) → Brings w.frames i event.what x comes →
+      WasTold seats posted x comes lines now more →
+      HasMade now more cs (events ++ event ∷ []) (steps ++ lines ∷ [])
+  told_next x comes lines now more brings t =
+      let seat = t.handed.seat in
+      let all = recursion_from_All (IsSeated w) seats made.each in
+      let old = get_or seats t.index seat in
+      let was : old.id ≡ x = t.at.id seat in
+      let before : Is old.member x (w.nodes x) =
+      subst (λ (y : ℕ). Is old.member y (w.nodes y)) was
+      (made.each t.index seat t.at.within) in
+      let out = happened cs w i x seat.member t.does event.what comes brings
+      (t.handed.happened x (w.nodes x) before) in
+      let o = outcome w cs (modelled i event.what out.choice.went) in
+      let id : seat.id ≡ x = t.handed.id ∙ was in
+      let long = AllZip-long IsKept posted w.frames made.frames in
+      grown cs events steps seats posted made i event out.choice now more lines at (record {
+        told = t.told ∙ out.told (length posted)
+            ∙ ap (λ n. lines_of n event.what out.choice.cause o) (sym long);
+        counted = ap frames_of_step t.told ∙ out.counted (length posted);
+        frames = subst (λ (l : List Posted). AllZip IsKept l (w.frames ++ o.frames))
+            (sym t.kept.whole)
+            (zip_both IsKept posted t.kept.more w.frames o.frames made.frames
+            (kept_all t.kept.more (sent_by t.does) o.frames t.kept.each out.frames
+            (sent_numbered out.choice)));
+        nodes = ap ids_of t.handed.whole
+            ∙ map-set_same (λ (s : Seat). s.id) seats t.index seat seat t.handed.id ∙ made.nodes;
+        each = subst (λ (l : List Seat). All (IsSeated (happens cs w
+            (modelled i event.what out.choice.went))) l) (sym t.handed.whole)
+            (All-from_recursion (IsSeated (after w o)) (slice_set seats t.index seat)
+            (seated w o x out.node out.came seats t.index seat t.at.within
+            (subst (λ (c : List ℕ). AllDifferent c) (sym made.nodes) made.lawful.different)
+            was id (subst (λ (y : ℕ). Is seat.member x out.node) (sym id) out.is) all));
+      })
+
+  -- no frame has the place
+  nothing_next : BringsNothing w.frames event.what →
+      HasMade seats posted cs (events ++ event ∷ []) (steps ++ (Nothing ∷ []) ∷ [])
+  nothing_next brings =
+      let choice : Choice = record { went = Answered; cause = Disk } in
+      let none = nothing_done cs w i event.what Answered brings in
+      let same : after w nothing ≡ happens cs w (modelled i event.what Answered) =
+      ap (after w) (sym none) in
+      grown cs events steps seats posted made i event choice seats posted (Nothing ∷ []) at
+      (record {
+        told = ap (lines_of (length w.frames) event.what Disk) (sym none);
+        counted = ap (λ (o : Outcome (List Edit)). length o.frames) (sym none);
+        frames = subst (λ (v : World (List Edit)). AllZip IsKept posted v.frames) same
+            (subst (λ (l : List (ModelFrame (List Edit))). AllZip IsKept posted l)
+            (sym (append-nil w.frames)) made.frames);
+        nodes = made.nodes;
+        each = subst (λ (v : World (List Edit)). All (IsSeated v) seats) same made.each;
+      })
+
+  -- the same, by what an event was found to bring
+  module _ (found : Option Arrival) (brought : Brought posted i event.what found) where
+    pub nothing_after : found ≡ None →
+        HasMade seats posted cs (events ++ event ∷ []) (steps ++ (Nothing ∷ []) ∷ [])
+    nothing_after is = nothing_next (MatchOption-at_none (BringsNothing w.frames event.what)
+        (λ it. Brings w.frames i event.what it.to it.coming) is (brought w.frames made.frames))
+
+    module _ (it : Arrival) (is : found ≡ Some it) where
+      brings : Brings w.frames i event.what it.to it.coming
+      brings = MatchOption-at_some (BringsNothing w.frames event.what)
+          (λ it. Brings w.frames i event.what it.to it.coming) it is
+          (brought w.frames made.frames)
+
+      pub seat_after : NamesNode cs event.what → HasNoSeat seats it.to → ⊥
+      seat_after names none = has_its_seat it.to it.coming names brings none
+
+      pub told_after : (lines : List Line) (now : List Seat) (more : List Posted) →
+          WasTold seats posted it.to it.coming lines now more →
+          HasMade now more cs (events ++ event ∷ []) (steps ++ lines ∷ [])
+      told_after lines now more t = told_next it.to it.coming lines now more brings t

@@ -1,0 +1,8 @@
+use Rattle.std.proofs.lemmas.Result.{on_ok_weaker}
+use Rattle.lab.proofs.world.World.step.Goals as goal
+
+pub returns-clause-ran : goal.returns-clause-ran
+returns-clause-ran c = λ cs events steps run names.
+    on_ok_weaker c.happen-happened.result
+    (λ ran. (ran.0, record { kept = ran.1.kept; made = ran.1.made }))
+    (c.happen-happened.ensures cs events steps run names)

@@ -1,0 +1,182 @@
+-- What comes to a node of the lab, and what the node then does.
+use Rattle.std.specs.Prelude.{◌≡◌, ◌⊎◌, ℕ, List, [], ◌∷◌, ◌++◌, length, map, option_map, Option}
+use Rattle.std.specs.Prelude.{Some, None, suc, true, false}
+use Rattle.kv_types.specs.declared.edit.Edit.{Edit}
+use Rattle.chain_model.specs.Lists.{place}
+use Rattle.chain_model.specs.DropReason as model_reason
+use Rattle.chain_model.specs.Frames as model_frame
+use Rattle.chain_model.specs.Refusal as model_refusal
+use Rattle.chain_model.specs.Node.{Answer, dropped_for, refused, started, stopped}
+use Rattle.link_messages.specs.declared.frame.Frame.{Frame}
+use Rattle.link_messages.specs.declared.frame.Frame.TheVariants as frame
+use Rattle.link_messages.specs.declared.refusal.Refusal.TheVariants as refusal
+use Rattle.chain_core.specs.declared.drop_reason.DropReason.{DropReason}
+use Rattle.chain_core.specs.declared.drop_reason.DropReason.TheVariants as reason
+use Rattle.chain_core.specs.declared.input.Input.{Input}
+use Rattle.chain_core.specs.declared.input.Input.TheVariants as input
+use Rattle.chain_core.specs.declared.sending.Sent.{Sent}
+use Rattle.chain_core.specs.Decisions.{AreFrames, answer_to, frame_as}
+use Rattle.chain_core.specs.States.{Machine}
+use Rattle.node.specs.declared.output.Output.{Output}
+use Rattle.node.specs.declared.output.Reply.TheVariants as reply
+use Rattle.node.specs.declared.stop.Stop.{Stop as Cause}
+use Rattle.node.specs.Steps.{reason_of, replies_of}
+use Rattle.lab.specs.declared.coming.Coming.{Coming}
+use Rattle.lab.specs.declared.coming.Coming.TheVariants as coming
+use Rattle.lab.specs.declared.coming.Did.{Did}
+use Rattle.lab.specs.declared.coming.Did.TheVariants as did
+use Rattle.lab.specs.declared.event.What.{What}
+use Rattle.lab.specs.declared.event.What.TheVariants.{Submit, Get, Deliver, Tick, Start, Stop}
+use Rattle.lab.specs.declared.member.Member.{Member}
+use Rattle.lab.specs.declared.posted.Posted.{Posted}
+use Rattle.lab.specs.declared.report.Line.{Line}
+use Rattle.lab.specs.declared.report.Line.TheVariants as line
+use Rattle.lab.specs.Members.{Is}
+
+-- ---- what comes
+
+-- what a frame is to the node that it is for
+abbrev pub coming_of : Frame → Coming
+coming_of (frame.Forward epoch from number batch) =
+    coming.Given (input.Forward epoch from number batch)
+coming_of (frame.Ack epoch from committed have) =
+    coming.Given (input.Ack epoch from committed have)
+coming_of _ = coming.Faulty reason.NotForNodes
+
+-- no list of frames has anything in this place, the first being 1
+abbrev pub IsNowhere : {A : Type 0} → List A → ℕ → Type 0
+IsNowhere frames p = place frames p ≡ None
+
+-- .. or it has this
+abbrev pub IsPostedAt : List Posted → ℕ → Posted → Type 0
+IsPostedAt frames p posted = place frames p ≡ Some posted
+
+-- a frame of the world in this place is for node x, and is this to it
+pub record IsDelivered (frames : List (model_frame.Frame (List Edit))) (p x : ℕ) (comes : Coming)
+    : Type 0 where
+  pub frame : model_frame.Frame (List Edit)
+  pub there : place frames p ≡ Some frame
+  pub it : Frame
+  pub same : frame_as x it ≡ Some frame
+  pub is : comes ≡ coming_of it
+
+-- the event in place i lets this come to node x, after these frames
+abbrev pub Brings : List (model_frame.Frame (List Edit)) → ℕ → What → ℕ → Coming → Type 0
+Brings frames i (Submit node batch) x comes =
+    (x ≡ node) × (comes ≡ coming.Given (input.Submit i batch))
+Brings frames i (Get node key at) x comes =
+    (x ≡ node) × (comes ≡ coming.Given (input.Get i key at))
+Brings frames i (Deliver p) x comes = IsDelivered frames p x comes
+Brings frames i (Tick node) x comes = (x ≡ node) × (comes ≡ coming.Given input.Tick)
+Brings frames i (Start node) x comes = (x ≡ node) × (comes ≡ coming.Start)
+Brings frames i (Stop node junk) x comes = (x ≡ node) × (comes ≡ coming.Stop junk)
+
+-- the event is a delivery, and no frame has its place
+abbrev pub BringsNothing : List (model_frame.Frame (List Edit)) → What → Type 0
+BringsNothing frames what = (p : ℕ) × (what ≡ Deliver p) × IsNowhere frames p
+
+-- ---- what a node answers
+
+-- the answer of a node that does not run: a client is refused, all else is dropped
+abbrev pub at_rest : Machine → Input → Answer (List Edit)
+at_rest n (input.Submit i batch) = refused n i model_refusal.NotRunning
+at_rest n (input.Get i key at) = refused n i model_refusal.NotRunning
+at_rest n (input.Forward epoch from number batch) = dropped_for n model_reason.NotRunning
+at_rest n (input.Ack epoch from committed have) = dropped_for n model_reason.NotRunning
+at_rest n input.Tick = dropped_for n model_reason.NotRunning
+
+-- what is told to have been dropped, sent and replied is what this answer of the machine has
+pub record IsAnswer (inp : Input) (a : Answer (List Edit)) (output : Output) : Type 0 where
+  pub dropped : output.dropped ≡ option_map reason_of a.dropped
+  pub frames : AreFrames output.frames.items a.frames
+  pub replied : output.replies.items ≡ replies_of inp a.replies
+
+-- what came was dropped, and nothing else done
+pub record IsDrop (why : DropReason) (output : Output) : Type 0 where
+  pub dropped : output.dropped ≡ Some why
+  pub frames : output.frames.items ≡ []
+  pub replied : output.replies.items ≡ []
+
+-- request i was refused as the node does not run, and nothing else done
+pub record IsRefusal (i : ℕ) (output : Output) : Type 0 where
+  pub dropped : output.dropped ≡ None
+  pub frames : output.frames.items ≡ []
+  pub replied : output.replies.items ≡ reply.Refused i refusal.NotRunning ∷ []
+
+-- the node answered, and such is the output
+abbrev pub Told : Did → (Output → Type 0) → Type 0
+Told does Is = (output : Output) × (does ≡ did.Answered output) × Is output
+
+-- ---- what a node does, being n before, and which member of the lab it is then
+
+-- an input came: the node ran and answered; or it stopped by itself, as before the step or as after
+-- it; or it does not run
+pub data WasGiven (x : ℕ) (n : Machine) (inp : Input) (member : Member) (does : Did) : Type 0 where
+  Answers : n.running ≡ true → Is member x (answer_to x n inp).node
+      → Told does (IsAnswer inp (answer_to x n inp)) → WasGiven x n inp member does
+  Ends : n.running ≡ true → (cause : Cause)
+      → Is member x (stopped n) ⊎ Is member x (stopped (answer_to x n inp).node)
+      → does ≡ did.Stopped (Some cause) → WasGiven x n inp member does
+  Rests : n.running ≡ false → Is member x n → Told does (IsAnswer inp (at_rest n inp))
+      → WasGiven x n inp member does
+
+-- a node was started: it runs as the machine that was started, or could not; or it ran
+pub data WasStarted (x : ℕ) (n : Machine) (member : Member) (does : Did) : Type 0 where
+  Starts : n.running ≡ false → Is member x (started x n)
+      → does ≡ did.Started n.epoch (length n.list) (started x n).committed
+      → WasStarted x n member does
+  Fails : n.running ≡ false → (cause : Cause) → Is member x (stopped n)
+      → does ≡ did.Stopped (Some cause) → WasStarted x n member does
+  RunsOn : n.running ≡ true → Is member x n → Told does (IsDrop reason.Running)
+      → WasStarted x n member does
+
+-- a node was stopped: it rests, or rested
+pub data WasStopped (x : ℕ) (n : Machine) (member : Member) (does : Did) : Type 0 where
+  Stops : n.running ≡ true → Is member x (stopped n) → does ≡ did.Stopped None
+      → WasStopped x n member does
+  RestsOn : n.running ≡ false → Is member x n → Told does (IsDrop reason.NotRunning)
+      → WasStopped x n member does
+
+-- what came made this of node x, which was n. (No frame that a node sent is faulty.)
+abbrev pub Happened : ℕ → Machine → Coming → Member → Did → Type 0
+Happened x n (coming.Given inp) member does = WasGiven x n inp member does
+Happened x n (coming.Faulty why) member does = Unit {0}
+Happened x n coming.Start member does = WasStarted x n member does
+Happened x n (coming.Stop junk) member does = WasStopped x n member does
+
+-- ---- what is told of it
+
+-- the frames that a node sent
+abbrev pub sent_by : Did → List Sent
+sent_by (did.Answered output) = output.frames.items
+sent_by (did.Started epoch count committed) = []
+sent_by (did.Stopped cause) = []
+
+-- a frame that was sent is told with its place among all, from 1. (Nodes send only these two.)
+abbrev pub sent_as : ℕ → ℕ → Frame → Line
+sent_as p to (frame.Forward epoch from number batch) = line.Forwarded p from to epoch number
+sent_as p to (frame.Ack epoch from committed have) =
+    line.Acknowledged p from to epoch committed have
+sent_as p to _ = line.Dropped reason.NotForNodes
+
+abbrev pub sent_line : ℕ → Sent → Line
+sent_line p sent = sent_as p sent.to sent.frame
+
+-- the frames that are sent after so many others
+abbrev pub sent_lines : ℕ → List Sent → List Line
+sent_lines before [] = []
+sent_lines before (sent ∷ more) = sent_line (suc before) sent ∷ sent_lines (suc before) more
+
+abbrev pub dropped_lines : Option DropReason → List Line
+dropped_lines None = []
+dropped_lines (Some why) = line.Dropped why ∷ []
+
+-- the lines of what node x did, after so many frames
+abbrev pub did_lines : ℕ → ℕ → Did → List Line
+did_lines x before (did.Answered output) =
+    dropped_lines output.dropped
+    ++ (sent_lines before output.frames.items
+    ++ map (λ reply. line.Replied reply) output.replies.items)
+did_lines x before (did.Started epoch count committed) =
+    line.Started x epoch count committed ∷ []
+did_lines x before (did.Stopped cause) = line.Stopped x cause ∷ []
