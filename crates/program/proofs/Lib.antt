@@ -5,9 +5,12 @@ pub mod Places
 pub mod FirstLine
 pub mod FaultWords
 pub mod Placing
+pub mod Ids
 pub mod Going
 pub mod Escape
 pub mod Printed
+pub mod Leaving
+pub mod Flowing
 pub mod Wholes
 pub mod OneText
 pub mod ReadBack

@@ -6,7 +6,7 @@ use Rattle.std.specs.Fmt.{decimal}
 use Rattle.std.proofs.lemmas.Fmt.{decimal_injective}
 use Rattle.disk.specs.declared.junk.Junk.{Junk}
 use Rattle.disk.specs.declared.junk.Junk.TheVariants.{Old, New, Bytes}
-use Rattle.std.specs.Prelude.{All}
+use Rattle.std.specs.Prelude.{All, ◌==◌}
 use Rattle.std.specs.Char.{digit_char}
 use Rattle.std.specs.List.{flat_map}
 use Rattle.std.proofs.lemmas.Bool.{cases_Bool}
@@ -20,7 +20,7 @@ use Rattle.program.specs.Statements.{edit_text, hex_text, IsJunk, IsSpelled}
 use Rattle.program.specs.Words.{AreBytes}
 use Rattle.program.specs.Statements.{AreBytesIn, AreBytesOf, CanBeSaid}
 use Rattle.lab.specs.declared.event.What.{What}
-use Rattle.lab.specs.declared.event.What.TheVariants.{Submit, Get, Start, Stop}
+use Rattle.lab.specs.declared.event.What.TheVariants.{Submit, Get, Deliver, Tick, Start, Stop}
 
 abbrev head : List ℕ → ℕ
 head [] = 0
@@ -227,6 +227,8 @@ one_junk (Bytes a) (Bytes b) word la lb p q = rw (one_hex a b la lb (sym p.1 ∙
 abbrev name_of : What → List ℕ
 name_of (Submit node edits) = codes "submit"
 name_of (Get node key at) = codes "get"
+name_of (Deliver place) = codes "deliver"
+name_of (Tick node) = codes "tick"
 name_of (Start node) = codes "start"
 name_of (Stop node junk) = codes "stop"
 
@@ -235,6 +237,8 @@ named : (what : What) (words : List (List ℕ)) → IsSpelled what words
 named (Submit node edits) words e = ap first_word e
 named (Get node key None) words e = ap first_word e
 named (Get node key (Some at)) words e = ap first_word e
+named (Deliver place) words e = ap first_word e
+named (Tick node) words e = ap first_word e
 named (Start node) words e = ap first_word e
 named (Stop node junk) words (inl p) = ap first_word p.1
 named (Stop node junk) words (inr p) = ap first_word p.2
@@ -286,9 +290,13 @@ one_stop m n j k words la lb (inr p) (inr q) =
       one_junk j k q.0 la.1 lb.1 (rw same at p.1) q.1,
     ) refl
 
-apart : (a b : What) (words : List (List ℕ)) (n : ℕ) → IsSpelled a words → IsSpelled b words
-    → at n (name_of a) ≡ at n (name_of b)
-apart a b words n e f = ap (λ w. at n w) (sym (named a words e) ∙ named b words f)
+-- the third letters of names all differ
+apart : (a b : What) (words : List (List ℕ)) → IsSpelled a words → IsSpelled b words
+    → at 2 (name_of a) ≡ at 2 (name_of b)
+apart a b words e f = ap (λ w. at 2 w) (sym (named a words e) ∙ named b words f)
+
+clash : {A : Type 0} (a b : ℕ) → a ≡ b → (a == b) ≡ false → A
+clash a b same differ = absurd (grind (arith, nat_tests))
 
 pub one_event : (a b : What) (words : List (List ℕ)) → CanBeSaid a → CanBeSaid b
     → IsSpelled a words → IsSpelled b words → a ≡ b
@@ -298,44 +306,71 @@ one_event (Submit m es) (Submit n fs) words la lb e f =
       one_number m n la.0 lb.0 (ap (λ w. first_word (words_behind w)) both),
       one_list es fs la.1 lb.1 (ap (λ w. words_behind (words_behind w)) both),
     ) refl
-one_event (Submit m es) (Get n k o) words la lb e f =
-    let x : 115 ≡ 103 = apart (Submit m es) (Get n k o) words 0 e f in
-    absurd (omega (arith, x))
+one_event (Submit m es) (Get n l p) words la lb e f =
+    clash 98 116 (apart (Submit m es) (Get n l p) words e f) refl
+one_event (Submit m es) (Deliver n) words la lb e f =
+    clash 98 108 (apart (Submit m es) (Deliver n) words e f) refl
+one_event (Submit m es) (Tick n) words la lb e f =
+    clash 98 99 (apart (Submit m es) (Tick n) words e f) refl
 one_event (Submit m es) (Start n) words la lb e f =
-    let x : 117 ≡ 116 = apart (Submit m es) (Start n) words 1 e f in
-    absurd (omega (arith, x))
+    clash 98 97 (apart (Submit m es) (Start n) words e f) refl
 one_event (Submit m es) (Stop n j) words la lb e f =
-    let x : 117 ≡ 116 = apart (Submit m es) (Stop n j) words 1 e f in
-    absurd (omega (arith, x))
+    clash 98 111 (apart (Submit m es) (Stop n j) words e f) refl
 one_event (Get m k o) (Submit n fs) words la lb e f =
-    let x : 103 ≡ 115 = apart (Get m k o) (Submit n fs) words 0 e f in
-    absurd (omega (arith, x))
+    clash 116 98 (apart (Get m k o) (Submit n fs) words e f) refl
 one_event (Get m k o) (Get n l p) words la lb e f = one_get m n k l o p words la lb e f
+one_event (Get m k o) (Deliver n) words la lb e f =
+    clash 116 108 (apart (Get m k o) (Deliver n) words e f) refl
+one_event (Get m k o) (Tick n) words la lb e f =
+    clash 116 99 (apart (Get m k o) (Tick n) words e f) refl
 one_event (Get m k o) (Start n) words la lb e f =
-    let x : 103 ≡ 115 = apart (Get m k o) (Start n) words 0 e f in
-    absurd (omega (arith, x))
+    clash 116 97 (apart (Get m k o) (Start n) words e f) refl
 one_event (Get m k o) (Stop n j) words la lb e f =
-    let x : 103 ≡ 115 = apart (Get m k o) (Stop n j) words 0 e f in
-    absurd (omega (arith, x))
+    clash 116 111 (apart (Get m k o) (Stop n j) words e f) refl
+one_event (Deliver m) (Submit n fs) words la lb e f =
+    clash 108 98 (apart (Deliver m) (Submit n fs) words e f) refl
+one_event (Deliver m) (Get n l p) words la lb e f =
+    clash 108 116 (apart (Deliver m) (Get n l p) words e f) refl
+one_event (Deliver m) (Deliver n) words la lb e f =
+    rw (one_number m n la lb (ap (λ w. first_word (words_behind w)) (sym e ∙ f))) refl
+one_event (Deliver m) (Tick n) words la lb e f =
+    clash 108 99 (apart (Deliver m) (Tick n) words e f) refl
+one_event (Deliver m) (Start n) words la lb e f =
+    clash 108 97 (apart (Deliver m) (Start n) words e f) refl
+one_event (Deliver m) (Stop n j) words la lb e f =
+    clash 108 111 (apart (Deliver m) (Stop n j) words e f) refl
+one_event (Tick m) (Submit n fs) words la lb e f =
+    clash 99 98 (apart (Tick m) (Submit n fs) words e f) refl
+one_event (Tick m) (Get n l p) words la lb e f =
+    clash 99 116 (apart (Tick m) (Get n l p) words e f) refl
+one_event (Tick m) (Deliver n) words la lb e f =
+    clash 99 108 (apart (Tick m) (Deliver n) words e f) refl
+one_event (Tick m) (Tick n) words la lb e f =
+    rw (one_number m n la lb (ap (λ w. first_word (words_behind w)) (sym e ∙ f))) refl
+one_event (Tick m) (Start n) words la lb e f =
+    clash 99 97 (apart (Tick m) (Start n) words e f) refl
+one_event (Tick m) (Stop n j) words la lb e f =
+    clash 99 111 (apart (Tick m) (Stop n j) words e f) refl
 one_event (Start m) (Submit n fs) words la lb e f =
-    let x : 116 ≡ 117 = apart (Start m) (Submit n fs) words 1 e f in
-    absurd (omega (arith, x))
-one_event (Start m) (Get n k o) words la lb e f =
-    let x : 115 ≡ 103 = apart (Start m) (Get n k o) words 0 e f in
-    absurd (omega (arith, x))
+    clash 97 98 (apart (Start m) (Submit n fs) words e f) refl
+one_event (Start m) (Get n l p) words la lb e f =
+    clash 97 116 (apart (Start m) (Get n l p) words e f) refl
+one_event (Start m) (Deliver n) words la lb e f =
+    clash 97 108 (apart (Start m) (Deliver n) words e f) refl
+one_event (Start m) (Tick n) words la lb e f =
+    clash 97 99 (apart (Start m) (Tick n) words e f) refl
 one_event (Start m) (Start n) words la lb e f =
-    let node = ap (λ w. first_word (words_behind w)) (sym e ∙ f) in
-    rw (one_number m n la lb node) refl
+    rw (one_number m n la lb (ap (λ w. first_word (words_behind w)) (sym e ∙ f))) refl
 one_event (Start m) (Stop n j) words la lb e f =
-    let x : 97 ≡ 111 = apart (Start m) (Stop n j) words 2 e f in
-    absurd (omega (arith, x))
+    clash 97 111 (apart (Start m) (Stop n j) words e f) refl
 one_event (Stop m i) (Submit n fs) words la lb e f =
-    let x : 116 ≡ 117 = apart (Stop m i) (Submit n fs) words 1 e f in
-    absurd (omega (arith, x))
-one_event (Stop m i) (Get n k o) words la lb e f =
-    let x : 115 ≡ 103 = apart (Stop m i) (Get n k o) words 0 e f in
-    absurd (omega (arith, x))
+    clash 111 98 (apart (Stop m i) (Submit n fs) words e f) refl
+one_event (Stop m i) (Get n l p) words la lb e f =
+    clash 111 116 (apart (Stop m i) (Get n l p) words e f) refl
+one_event (Stop m i) (Deliver n) words la lb e f =
+    clash 111 108 (apart (Stop m i) (Deliver n) words e f) refl
+one_event (Stop m i) (Tick n) words la lb e f =
+    clash 111 99 (apart (Stop m i) (Tick n) words e f) refl
 one_event (Stop m i) (Start n) words la lb e f =
-    let x : 111 ≡ 97 = apart (Stop m i) (Start n) words 2 e f in
-    absurd (omega (arith, x))
+    clash 111 97 (apart (Stop m i) (Start n) words e f) refl
 one_event (Stop m i) (Stop n j) words la lb e f = one_stop m n i j words la lb e f

@@ -62,3 +62,15 @@ pub all_texts : (p : List ℕ → Bool) (ws : List (Bor (List ℕ)))
     → list_all p (map (λ w. w.now) ws) ≡ list_all (λ w. p w.now) ws
 all_texts p [] = refl
 all_texts p (w ∷ ws) = rw (all_texts p ws) refl
+
+-- the only word
+pub only_word : (words : List (Bor (List ℕ))) (d : Bor (List ℕ)) (w : List ℕ)
+    → length words ≡ 1 → (get_or words 0 d).now ≡ w → map (λ w. w.now) words ≡ w ∷ []
+only_word [] d w one e = absurd (omega (arith, one))
+only_word (v ∷ []) d w one e = rw e refl
+only_word (v ∷ u ∷ ws) d w one e = absurd (omega (arith, one))
+
+-- no word
+pub no_word : (words : List (Bor (List ℕ))) → length words ≡ 0 → map (λ w. w.now) words ≡ []
+no_word [] none = refl
+no_word (w ∷ ws) none = absurd (omega (arith, none))

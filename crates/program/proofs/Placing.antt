@@ -1,78 +1,116 @@
 -- Where a statement stands, and the node that it names.
-use Rattle.std.proofs.Common.{◌≡◌, ◌<◌, ◌^◌, ℕ, List, [], ◌∷◌, drop, refl, ◌∙◌, codes, Some, None}
-use Rattle.std.proofs.Common.{Ok, Err, inl, inr, false, arith}
-use Rattle.std.proofs.lemmas.Bool.Decides.{nat_tests}
+use Rattle.std.proofs.Common.{◌≡◌, ◌<◌, ◌^◌, ℕ, List, [], ◌∷◌, refl, sym, ◌∙◌, codes, Option}
+use Rattle.std.proofs.Common.{is_none, Some, None, Ok, Err, inl, inr, true, false, arith, map}
+use Rattle.std.proofs.lemmas.Bool.{cases_Bool}
+use Rattle.std.proofs.lemmas.Grind.{common_steps}
+use Rattle.std.specs.Str.Parse.{digits_value}
 use Rattle.std.specs.Fmt.{decimal}
 use Rattle.std.proofs.lemmas.Fmt.{digits_value-decimal}
+use Rattle.chain_model.specs.Configuration.{has}
+use Rattle.configurations.specs.Configs.{IsConfig}
 use Rattle.lab.specs.declared.event.What.{What}
-use Rattle.lab.specs.declared.event.What.TheVariants.{Submit, Get, Start, Stop}
-use Rattle.lab.specs.Events.{node_in}
+use Rattle.lab.specs.declared.event.What.TheVariants.{Submit, Get, Deliver, Tick, Start, Stop}
+use Rattle.lab.specs.Events.{node_in, NamesNode}
 use Rattle.program.specs.declared.script.error.ScriptError.{ScriptError}
 use Rattle.program.specs.declared.script.statement.Before.{Before}
 use Rattle.program.specs.declared.script.statement.Item.TheVariants.{Config}
 use Rattle.program.specs.declared.script.statement.Meaning.{Meaning}
+use Rattle.program.specs.declared.script.statement.Meaning.TheVariants.{Event, Flow}
 use Rattle.program.specs.Words.{has_fault, before_fault}
 use Rattle.program.specs.Statements.{CanBeSaid, IsSpelled, fault_of_words}
 use Rattle.program.specs.Meanings.{meaning_of}
-use Rattle.program.specs.Scripts.{CanBeNode}
-use Rattle.program.specs.Faults.{node_fault, place_fault, statement_fault, config_fault}
+use Rattle.program.specs.Faults.{node_named, node_fault, statement_fault, config_fault, numbers_of}
 use Rattle.program.specs.Reading.{Places, ReadsWords}
 use Rattle.program.proofs.Numbers.{own}
+use Rattle.program.proofs.ReadBack.{event_read}
 
--- the second word of a statement is its node
-at_second : (before : Before) (words : List (List ℕ)) (name : List ℕ) (n : ℕ)
-    (rest : List (List ℕ)) → n < 2 ^ 64 → words ≡ name ∷ decimal n ∷ rest
-    → place_fault before (drop 1 words) ≡ node_fault before.node n
-at_second before words name n rest small e = rw (e, digits_value-decimal own n small) refl
+pub number_back : (n : ℕ) → n < 2 ^ 63 → digits_value 10 (decimal n) ≡ n
+number_back n small = digits_value-decimal own n (omega (arith, small))
 
-place_of : (before : Before) (words : List (List ℕ)) (what : What) → node_in what < 2 ^ 64
-    → IsSpelled what words
-    → place_fault before (drop 1 words) ≡ node_fault before.node (node_in what)
-place_of before words (Submit n batch) small e = at_second before words _ n _ small e
-place_of before words (Get n key None) small e = at_second before words _ n _ small e
-place_of before words (Get n key (Some at)) small e = at_second before words _ n _ small e
-place_of before words (Stop n junk) small (inl e) = at_second before words _ n _ small e.1
-place_of before words (Stop n junk) small (inr e) = at_second before words _ n _ small e.2
-place_of before words (Start n) small e = at_second before words _ n _ small e
+-- the node that the words of an event name is that of the event
+pub names : (what : What) (words : List (List ℕ)) → CanBeSaid what → IsSpelled what words
+    → node_named words ≡ node_in what
+names (Submit n batch) words said e = rw (e, number_back n said.0) refl
+names (Get n key None) words said e = rw (e, number_back n said.0) refl
+names (Get n key (Some at)) words said e = rw (e, number_back n said.0) refl
+names (Deliver place) words said e = rw e refl
+names (Tick n) words said e = rw (e, number_back n said) refl
+names (Start n) words said e = rw (e, number_back n said) refl
+names (Stop n junk) words said (inl e) = rw (e.1, number_back n said.0) refl
+names (Stop n junk) words said (inr e) = rw (e.2, number_back n said.0) refl
 
 -- the fault of a statement that is spelled and bears no fault is that of its place
 pub is_of_place : (before : Before) (name : List ℕ) (args cut : List (List ℕ)) (what : What)
-    → cut ≡ args → cut ≡ before_fault args → false ≡ has_fault args
-    → node_in what < 2 ^ 64 → fault_of_words (name ∷ cut) ≡ None → IsSpelled what (name ∷ cut)
-    → statement_fault before name args ≡ node_fault before.node (node_in what)
-is_of_place before name args cut what whole before_it none small good spelled =
-    rw (← before_it, good, ← none) (place_of before (name ∷ args) what small (rw whole at spelled))
+    → cut ≡ args → cut ≡ before_fault args → false ≡ has_fault args → CanBeSaid what
+    → fault_of_words (name ∷ cut) ≡ None → IsSpelled what (name ∷ cut)
+    → statement_fault before name args ≡ node_fault before.config (node_in what)
+is_of_place before name args cut what whole before_it none said good spelled =
+    rw (← before_it, good, ← none, names what (name ∷ args) said (rw whole at spelled)) refl
+
+-- a node that a statement may name is one of a configuration
+pub stands : (config : Option (List ℕ)) (n : ℕ) → node_fault config (Some n) ≡ None →
+    (ids : List ℕ) × (config ≡ Some ids) × (has ids n ≡ true)
+stands None n e = grind (arith, common_steps)
+stands (Some ids) n e = elim (cases_Bool (has ids n)) [
+  | inl t ↦ (ids, refl, t)
+  | inr f ↦ grind (arith, common_steps)
+]
 
 -- a statement that stands in its place, and one that does not
 pub is_placed : (before : Before) (name : List ℕ) (args cut : List (List ℕ)) (what : What)
-    (meaning : Meaning) (id : ℕ) → cut ≡ args → cut ≡ before_fault args → false ≡ has_fault args
-    → node_in what < 2 ^ 64 → fault_of_words (name ∷ cut) ≡ None → CanBeSaid what
-    → IsSpelled what (name ∷ cut) → before.node ≡ Some id → node_in what ≡ id
-    → node_fault (Some id) id ≡ None → meaning ≡ meaning_of what
+    (meaning : Meaning) (node : ℕ) → cut ≡ args → cut ≡ before_fault args
+    → false ≡ has_fault args → fault_of_words (name ∷ cut) ≡ None → CanBeSaid what
+    → IsSpelled what (name ∷ cut) → node_in what ≡ Some node
+    → node_fault before.config (Some node) ≡ None → meaning ≡ meaning_of what
     → Places before name args (Ok meaning)
-is_placed before name args cut what meaning id whole before_it none small good said spelled node
-    same free is = (
-      is_of_place before name args cut what whole before_it none small good spelled
-          ∙ rw (node, same) free,
-      (what, said, rw whole at spelled, rw same node, is),
+is_placed before name args cut what meaning node whole before_it none good said spelled at free is =
+    let found = stands before.config node free in
+    let named : NamesNode (found.0 ∷ []) what = rw at found.2 in (
+      is_of_place before name args cut what whole before_it none said good spelled
+          ∙ rw at free,
+      (found.0, found.1, inr (what, said, rw whole at spelled, named, is)),
     )
 
 pub is_misplaced : (before : Before) (name : List ℕ) (args cut : List (List ℕ)) (what : What)
-    (e : ScriptError) → cut ≡ args → cut ≡ before_fault args → false ≡ has_fault args
-    → node_in what < 2 ^ 64 → fault_of_words (name ∷ cut) ≡ None → IsSpelled what (name ∷ cut)
-    → node_fault before.node (node_in what) ≡ Some e
+    (node : ℕ) (e : ScriptError) → cut ≡ args → cut ≡ before_fault args
+    → false ≡ has_fault args → CanBeSaid what → fault_of_words (name ∷ cut) ≡ None
+    → IsSpelled what (name ∷ cut) → node_in what ≡ Some node
+    → node_fault before.config (Some node) ≡ Some e
     → Places before name args (Err e)
-is_misplaced before name args cut what e whole before_it none small good spelled fault =
-    λ _. is_of_place before name args cut what whole before_it none small good spelled ∙ fault
+is_misplaced before name args cut what node e whole before_it none said good spelled at fault =
+    λ _. is_of_place before name args cut what whole before_it none said good spelled ∙ rw at fault
 
--- the node of the configuration is its own
-pub own_node : (id : ℕ) → node_fault (Some id) id ≡ None
-own_node id = grind (arith, nat_tests)
+pub is_config : (before : Before) (words args : List (List ℕ)) (ids : List ℕ)
+    → words ≡ codes "config" ∷ args → args ≡ map decimal ids → IsConfig ids
+    → numbers_of args ≡ ids → before.config ≡ None → config_fault before args ≡ None
+    → ReadsWords before words (Ok (Config ids))
+is_config before words args ids e a is numbers free good =
+    (rw (e, good) refl, (rw (e, a) refl, is, free), rw (e, numbers) refl)
 
-pub is_config : (before : Before) (words args : List (List ℕ)) (n : ℕ) → n < 2 ^ 64
-    → words ≡ codes "config" ∷ args → args ≡ decimal n ∷ [] → CanBeNode n → before.node ≡ None
-    → config_fault before args ≡ None
-    → ReadsWords before words (Ok (Config n))
-is_config before words args n small e a can free good =
-    let value = digits_value-decimal own n small in
-    (rw (e, good) refl, (rw (e, a) refl, can, free), rw (e, a, value) refl)
+-- there is a configuration
+some_config : (config : Option (List ℕ)) → is_none config ≡ false →
+    (ids : List ℕ) × (config ≡ Some ids)
+some_config None e = grind (arith, common_steps)
+some_config (Some ids) e = (ids, refl)
+
+pub delivers : (before : Before) (args cut : List (List ℕ)) (place : ℕ) → cut ≡ args
+    → cut ≡ before_fault args → false ≡ has_fault args → place < 2 ^ 63
+    → cut ≡ decimal place ∷ [] → is_none before.config ≡ false
+    → Places before (codes "deliver") args (Ok (Event (Deliver place)))
+delivers before args cut place whole before_it none small is some =
+    let found = some_config before.config some in
+    let spelled : IsSpelled (Deliver place) (codes "deliver" ∷ cut) = rw is refl in
+    let good = event_read (Deliver place) (codes "deliver" ∷ cut) small spelled in
+    let names_none : node_fault before.config None ≡ None = rw found.1 refl in (
+      is_of_place before (codes "deliver") args cut (Deliver place) whole before_it none small good
+          spelled ∙ names_none,
+      (found.0, found.1, inr (Deliver place, small, rw whole at spelled, tt, refl)),
+    )
+
+pub flows : (before : Before) (args cut : List (List ℕ)) → cut ≡ args → cut ≡ before_fault args
+    → false ≡ has_fault args → cut ≡ [] → is_none before.config ≡ false
+    → Places before (codes "flow") args (Ok Flow)
+flows before args cut whole before_it none is some =
+    let found = some_config before.config some in
+    let empty : args ≡ [] = sym whole ∙ is in
+    (rw (empty, found.1) refl, (found.0, found.1, inl (refl, rw empty refl)))

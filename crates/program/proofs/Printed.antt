@@ -4,15 +4,15 @@ use Rattle.std.proofs.Common.{ap, ◌∙◌, append_assoc, add-one, suc, get_or,
 use Rattle.std.proofs.Math.Seq.{drop-cons}
 use Rattle.std.specs.Io.KnownBytes.{Appends}
 use Rattle.lab.specs.declared.report.Line.{Line}
-use Rattle.program.specs.declared.script.statement.Statement.{Statement}
-use Rattle.program.specs.Text.{statements_text, statement_text, steps_behind}
+use Rattle.program.specs.declared.turn.Turn.{Turn}
+use Rattle.program.specs.Text.{turns_text, turn_text}
 
 -- text was written, and with the text of what is left it is all
-pub record HasPrinted (old new : Option (List ℕ)) (events : List ℕ) (statements : List Statement)
+pub record HasPrinted (old new : Option (List ℕ)) (events : List ℕ) (turns : List Turn)
     (steps : List (List Line)) (all : List ℕ) : Type 0 where
   pub text : List ℕ
   pub wrote : Appends old new text
-  pub whole : text ++ statements_text events statements steps ≡ all
+  pub whole : text ++ turns_text events turns steps ≡ all
 
 -- what two writes appended, one after the other
 pub appends_more : (old mid new : Option (List ℕ)) (a b : List ℕ) → Appends old mid a
@@ -22,18 +22,17 @@ appends_more (Some xs) None new a b p q = absurd p
 appends_more (Some xs) (Some ys) None a b p q = absurd q
 appends_more (Some xs) (Some ys) (Some zs) a b p q = rw (q, p, append_assoc) refl
 
--- the next statement is printed
-pub prints_more : (old mid new : Option (List ℕ)) (events : List ℕ) (statements : List Statement)
-    (i : ℕ) (d it : Statement) (steps left : List (List Line)) (all : List ℕ)
-    → i < length statements → it ≡ get_or statements i d
-    → HasPrinted old mid events (drop i statements) steps all
-    → Appends mid new (statement_text events it.line it.meaning steps)
-    → left ≡ steps_behind it.meaning steps → HasPrinted old new events (drop
-    (i + 1) statements) left all
-prints_more old mid new events statements i d it steps left all within at before wrote behind =
-    let parts : drop i statements ≡ it ∷ drop (suc i) statements = drop-cons statements i d within
-    ∙ ap (λ x. x ∷ drop (suc i) statements) (sym at) in
-    let text = statement_text events it.line it.meaning steps in
+-- the next turn is printed
+pub prints_more : (old mid new : Option (List ℕ)) (events : List ℕ) (turns : List Turn)
+    (i : ℕ) (d it : Turn) (steps left : List (List Line)) (all : List ℕ)
+    → i < length turns → it ≡ get_or turns i d
+    → HasPrinted old mid events (drop i turns) steps all
+    → Appends mid new (turn_text events it steps)
+    → left ≡ drop it.events steps → HasPrinted old new events (drop (i + 1) turns) left all
+prints_more old mid new events turns i d it steps left all within at before wrote behind =
+    let parts : drop i turns ≡ it ∷ drop (suc i) turns = drop-cons turns i d within
+    ∙ ap (λ x. x ∷ drop (suc i) turns) (sym at) in
+    let text = turn_text events it steps in
     record {
       text = before.text ++ text;
       wrote = appends_more old mid new before.text text before.wrote wrote;

@@ -1,44 +1,39 @@
 -- A script has no fault, where its lines are neither too long nor too many.
-use Rattle.std.proofs.Common.{◌≡◌, ◌≢◌, ◌+◌, ◌/◌, ◌<◌, ◌≤◌, ◌^◌, ℕ, suc, List, [], ◌∷◌, ◌++◌, codes}
-use Rattle.std.proofs.Common.{refl, sym, ap, ◌∙◌, inl, inr, arith, true, false, Bool, map, length}
+use Rattle.std.proofs.Common.{◌≡◌, ◌+◌, ◌/◌, ◌<◌, ◌≤◌, ℕ, suc, List, [], ◌∷◌, ◌++◌, codes}
+use Rattle.std.proofs.Common.{refl, sym, ◌∙◌, inl, inr, arith, true, false, Bool, map, length}
 use Rattle.std.proofs.Common.{drop, Option, Some, None, append-nil}
-use Rattle.std.specs.Prelude.{All, ◌==◌, nat_lt, nat_le}
+use Rattle.std.specs.Prelude.{All, IfSome, ◌==◌, nat_lt}
 use Rattle.std.specs.Str.{bytes_eq}
-use Rattle.std.specs.Str.Parse.{digits_value}
-use Rattle.std.specs.Char.{digit_char}
 use Rattle.std.specs.Fmt.{decimal}
-use Rattle.std.specs.List.{slice_split, onto_first}
+use Rattle.std.specs.List.{onto_first}
 use Rattle.std.proofs.lemmas.Bool.{cases_Bool}
 use Rattle.std.proofs.lemmas.Bool.Decides.{nat_tests}
-use Rattle.std.proofs.lemmas.Fmt.{digits_value-decimal}
-use Rattle.std.proofs.lemmas.Grind.{common_steps}
 use Rattle.std.proofs.lemmas.List.Elements.{All-head, All-tail}
 use Rattle.disk.specs.declared.junk.Junk.{Junk}
 use Rattle.disk.specs.declared.junk.Junk.TheVariants.{Old, New, Bytes}
 use Rattle.kv_types.specs.declared.edit.Edit.{Edit}
 use Rattle.kv_types.specs.declared.edit.Edit.TheVariants.{Put, Delete}
 use Rattle.lab.specs.declared.event.What.{What}
-use Rattle.lab.specs.declared.event.What.TheVariants.{Submit, Get, Start, Stop}
-use Rattle.lab.specs.Events.{node_in}
+use Rattle.lab.specs.declared.event.What.TheVariants.{Submit, Get, Deliver, Tick, Start, Stop}
+use Rattle.lab.specs.Events.{node_in, NamesNode}
+use Rattle.chain_model.specs.Configuration.{has}
+use Rattle.configurations.specs.Configs.{IsConfig}
+use Rattle.program.specs.declared.script.statement.Meaning.{Meaning}
 use Rattle.program.specs.declared.script.statement.Before.{Before}
 use Rattle.program.specs.declared.script.statement.Statement.{Statement}
-use Rattle.program.specs.Words.{AreBytes, is_plain, byte_text, bytes_text, is_number}
+use Rattle.program.specs.Words.{AreBytes, is_plain, bytes_text}
 use Rattle.program.specs.Words.{begins_fault, has_fault, before_fault}
 use Rattle.program.specs.Statements.{AreBytesIn, AreBytesOf, CanBeSaid, edit_text, hex_text, IsJunk}
-use Rattle.program.specs.Statements.{IsSpelled, fault_of_words}
-use Rattle.program.specs.Scripts.{words_of, is_skipped, AreStatements, CanBeNode, IsScript}
+use Rattle.program.specs.Statements.{IsSpelled}
+use Rattle.program.specs.Scripts.{words_of, is_skipped, AreStatements, IsStatement, IsScript}
 use Rattle.program.specs.Faults.{statement_fault, words_fault, line_fault, after_words, after_line}
-use Rattle.program.specs.Faults.{script_fault, start}
-use Rattle.program.proofs.Numbers.{own}
+use Rattle.program.specs.Faults.{script_fault, start, node_fault}
 use Rattle.program.proofs.FaultWords.{all_before}
-use Rattle.program.proofs.Placing.{is_of_place, own_node}
+use Rattle.program.proofs.Placing.{is_of_place}
+use Rattle.program.proofs.Ids.{number_begins, ids_read, config_is}
 use Rattle.program.proofs.ReadBack.{number_read, event_read}
 
 -- ---- no word of an event begins a fault
-
-number_begins : (w : List ℕ) → is_number w ≡ true → begins_fault w ≡ false
-number_begins [] is = refl
-number_begins (b ∷ bs) is = grind (arith, nat_tests)
 
 text_begins : (k xs : List ℕ) → AreBytes k → begins_fault (bytes_text k ++ xs) ≡ false
 text_begins [] xs all = refl
@@ -86,6 +81,10 @@ no_fault (Get node key (Some at)) words said e =
       text_alone key said.1,
       number_begins (decimal at) (number_read at said.2),
     ) refl
+no_fault (Deliver place) words said e =
+    rw (e, number_begins (decimal place) (number_read place said)) refl
+no_fault (Tick node) words said e =
+    rw (e, number_begins (decimal node) (number_read node said)) refl
 no_fault (Start node) words said e =
     rw (e, number_begins (decimal node) (number_read node said)) refl
 no_fault (Stop node junk) words said (inl e) =
@@ -119,57 +118,69 @@ not_skipped (b ∷ bs) c e letter = elim (cases_Bool (b == 32)) [
       grind (arith, nat_tests)
 ]
 
--- ---- a line that spells an event for the node has no fault
+-- ---- a line that is a statement has no fault
 
-abbrev behind_node : ℕ → Bool → Before
-behind_node node begun = record { node = Some node; begun = begun }
-
-node_fits : (what : What) → CanBeSaid what → node_in what < 2 ^ 64
-node_fits (Submit node edits) said = omega (arith, said.0)
-node_fits (Get node key None) said = omega (arith, said.0)
-node_fits (Get node key (Some at)) said = omega (arith, said.0)
-node_fits (Start node) said = omega (arith, said)
-node_fits (Stop node junk) said = omega (arith, said.0)
+abbrev behind_ids : List ℕ → Bool → Before
+behind_ids ids begun = record { config = Some ids; begun = begun }
 
 -- what is to be said of the words of such a line
-pub record IsPassed (node : ℕ) (begun : Bool) (words : List (List ℕ)) : Type 0 where
-  pub good : words_fault (behind_node node begun) words ≡ None
-  pub after : after_words (behind_node node begun) words ≡ behind_node node true
+pub record IsPassed (ids : List ℕ) (begun : Bool) (words : List (List ℕ)) : Type 0 where
+  pub good : words_fault (behind_ids ids begun) words ≡ None
+  pub after : after_words (behind_ids ids begun) words ≡ behind_ids ids true
   pub letter : 97 ≤ first_byte words
 
-good_statement : (node : ℕ) (begun : Bool) (what : What) (name : List ℕ) (args : List (List ℕ)) →
-    CanBeSaid what → IsSpelled what (name ∷ args) → node_in what ≡ node →
-    statement_fault (behind_node node begun) name args ≡ None
-good_statement node begun what name args said spelled is =
-    let none = sym (no_fault what (name ∷ args) said spelled) in
-    is_of_place (behind_node node begun) name args args what refl (all_before args none) none
-    (node_fits what said) (event_read what (name ∷ args) said spelled) spelled
-    ∙ rw is (own_node node)
+free : (ids : List ℕ) (node : Option ℕ) → IfSome node (λ x. has ids x ≡ true) →
+    node_fault (Some ids) node ≡ None
+free ids None is = refl
+free ids (Some x) is = rw is refl
 
-passes : (node : ℕ) (begun : Bool) (what : What) (words : List (List ℕ)) (name : List ℕ)
+good_statement : (ids : List ℕ) (begun : Bool) (what : What) (name : List ℕ)
+    (args : List (List ℕ)) → CanBeSaid what → IsSpelled what (name ∷ args) →
+    NamesNode (ids ∷ []) what → statement_fault (behind_ids ids begun) name args ≡ None
+good_statement ids begun what name args said spelled named =
+    let none = sym (no_fault what (name ∷ args) said spelled) in
+    is_of_place (behind_ids ids begun) name args args what refl (all_before args none) none
+    said (event_read what (name ∷ args) said spelled) spelled
+    ∙ free ids (node_in what) named
+
+passes : (ids : List ℕ) (begun : Bool) (what : What) (words : List (List ℕ)) (name : List ℕ)
     (args : List (List ℕ)) → words ≡ name ∷ args → bytes_eq name (codes "config") ≡ false →
-    97 ≤ first_byte (name ∷ args) → CanBeSaid what → IsSpelled what words → node_in what ≡ node →
-    IsPassed node begun words
-passes node begun what words name args e other letter said spelled is = record {
-  good = rw (e, other) (good_statement node begun what name args said (rw e at spelled) is);
+    97 ≤ first_byte (name ∷ args) → CanBeSaid what → IsSpelled what words →
+    NamesNode (ids ∷ []) what → IsPassed ids begun words
+passes ids begun what words name args e other letter said spelled named = record {
+  good = rw (e, other) (good_statement ids begun what name args said (rw e at spelled) named);
   after = rw (e, other) refl;
   letter = rw e letter;
 }
 
-event_passes : (node : ℕ) (begun : Bool) (what : What) (words : List (List ℕ)) → CanBeSaid what →
-    IsSpelled what words → node_in what ≡ node → IsPassed node begun words
-event_passes node begun (Submit n edits) words said e is =
-    passes node begun (Submit n edits) words _ _ e refl (omega arith) said e is
-event_passes node begun (Get n key None) words said e is =
-    passes node begun (Get n key None) words _ _ e refl (omega arith) said e is
-event_passes node begun (Get n key (Some at)) words said e is =
-    passes node begun (Get n key (Some at)) words _ _ e refl (omega arith) said e is
-event_passes node begun (Start n) words said e is =
-    passes node begun (Start n) words _ _ e refl (omega arith) said e is
-event_passes node begun (Stop n junk) words said (inl e) is =
-    passes node begun (Stop n junk) words _ _ e.1 refl (omega arith) said (inl e) is
-event_passes node begun (Stop n junk) words said (inr e) is =
-    passes node begun (Stop n junk) words _ _ e.2 refl (omega arith) said (inr e) is
+event_passes : (ids : List ℕ) (begun : Bool) (what : What) (words : List (List ℕ)) →
+    CanBeSaid what → IsSpelled what words → NamesNode (ids ∷ []) what → IsPassed ids begun words
+event_passes ids begun (Submit n edits) words said e is =
+    passes ids begun (Submit n edits) words _ _ e refl (omega arith) said e is
+event_passes ids begun (Get n key None) words said e is =
+    passes ids begun (Get n key None) words _ _ e refl (omega arith) said e is
+event_passes ids begun (Get n key (Some at)) words said e is =
+    passes ids begun (Get n key (Some at)) words _ _ e refl (omega arith) said e is
+event_passes ids begun (Deliver place) words said e is =
+    passes ids begun (Deliver place) words _ _ e refl (omega arith) said e is
+event_passes ids begun (Tick n) words said e is =
+    passes ids begun (Tick n) words _ _ e refl (omega arith) said e is
+event_passes ids begun (Start n) words said e is =
+    passes ids begun (Start n) words _ _ e refl (omega arith) said e is
+event_passes ids begun (Stop n junk) words said (inl e) is =
+    passes ids begun (Stop n junk) words _ _ e.1 refl (omega arith) said (inl e) is
+event_passes ids begun (Stop n junk) words said (inr e) is =
+    passes ids begun (Stop n junk) words _ _ e.2 refl (omega arith) said (inr e) is
+
+statement_passes : (ids : List ℕ) (begun : Bool) (words : List (List ℕ)) (meaning : Meaning) →
+    IsStatement ids words meaning → IsPassed ids begun words
+statement_passes ids begun words meaning (inl is) = record {
+  good = rw is.1 refl;
+  after = rw is.1 refl;
+  letter = rw is.1 (omega arith);
+}
+statement_passes ids begun words meaning (inr (what, said, spelled, named, same)) =
+    event_passes ids begun what words said spelled named
 
 -- ---- line by line
 
@@ -203,62 +214,56 @@ stated before after n line lines short few letter good later rest =
 abbrev AreShort : List (List ℕ) → Type 0
 AreShort lines = All (λ line. length line ≤ 262144) lines
 
-statements_read : (node : ℕ) (begun : Bool) (n : ℕ) (lines : List (List ℕ))
+statements_read : (ids : List ℕ) (begun : Bool) (n : ℕ) (lines : List (List ℕ))
     (statements : List Statement) → AreShort lines → n + length lines ≤ 100001 →
-    AreStatements node n lines statements →
-    script_fault (behind_node node begun) n lines ≡ None
-statements_read node begun n [] statements short few are = refl
-statements_read node begun n (line ∷ lines) statements short few (inl more) =
-    skipped (behind_node node begun) n line lines
+    AreStatements ids n lines statements →
+    script_fault (behind_ids ids begun) n lines ≡ None
+statements_read ids begun n [] statements short few are = refl
+statements_read ids begun n (line ∷ lines) statements short few (inl more) =
+    skipped (behind_ids ids begun) n line lines
     (All-head (λ l. length l ≤ 262144) line lines short) (omega (arith, few)) more.0
-    (statements_read node begun (suc n) lines statements
+    (statements_read ids begun (suc n) lines statements
     (All-tail (λ l. length l ≤ 262144) line lines short) (omega (arith, few)) more.1)
-statements_read node begun n (line ∷ lines) statements short few
-    (inr (what, rest, said, spelled, is, same, more)) =
-    let p = event_passes node begun what (words_of line) said spelled is in
-    stated (behind_node node begun) (behind_node node true) n line lines
+statements_read ids begun n (line ∷ lines) statements short few
+    (inr (meaning, rest, is, same, more)) =
+    let p = statement_passes ids begun (words_of line) meaning is in
+    stated (behind_ids ids begun) (behind_ids ids true) n line lines
     (All-head (λ l. length l ≤ 262144) line lines short) (omega (arith, few)) p.letter p.good
     p.after
-    (statements_read node true (suc n) lines rest
+    (statements_read ids true (suc n) lines rest
     (All-tail (λ l. length l ≤ 262144) line lines short) (omega (arith, few)) more)
 
 -- the configuration stands first
-node_value : (node : ℕ) → CanBeNode node → (is_number (decimal node) ≡ true)
-    × (digits_value 10 (decimal node) ≡ node)
-node_value node can =
-    let small : node < 2 ^ 63 = omega (arith, can.greatest) in
-    (number_read node small, digits_value-decimal own node (omega (arith, small)))
-
-config_good : (node : ℕ) (words : List (List ℕ)) → CanBeNode node →
-    words ≡ codes "config" ∷ decimal node ∷ [] →
-    (words_fault start words ≡ None) × (after_words start words ≡ behind_node node false)
-config_good node words can e =
-    let value = node_value node can in
-    let least : nat_le 1 node ≡ true = grind (arith, nat_tests, can.least) in
-    let greatest : nat_le node 65535 ≡ true = grind (arith, nat_tests, can.greatest) in (
-      rw (e, number_begins (decimal node) value.0, value.0, value.1, least, greatest) refl,
-      rw (e, value.1) refl,
+config_good : (ids : List ℕ) (words : List (List ℕ)) → IsConfig ids →
+    words ≡ codes "config" ∷ map decimal ids →
+    (words_fault start words ≡ None) × (after_words start words ≡ behind_ids ids false)
+config_good ids words is e =
+    let r = ids_read ids is.each in
+    let before : map decimal ids ≡ before_fault (map decimal ids) =
+    all_before (map decimal ids) (sym r.none) in (
+      rw (e, ← before, r.numbers, r.none, r.back, config_is ids is) refl,
+      rw (e, r.back) refl,
     )
 
-lines_read : (n : ℕ) (lines : List (List ℕ)) (node : ℕ) (statements : List Statement) →
-    AreShort lines → n + length lines ≤ 100001 → IsScript n lines node statements →
+lines_read : (n : ℕ) (lines : List (List ℕ)) (ids : List ℕ) (statements : List Statement) →
+    AreShort lines → n + length lines ≤ 100001 → IsScript n lines ids statements →
     script_fault start n lines ≡ None
-lines_read n [] node statements short few is = absurd is
-lines_read n (line ∷ lines) node statements short few (inl more) =
+lines_read n [] ids statements short few is = absurd is
+lines_read n (line ∷ lines) ids statements short few (inl more) =
     skipped start n line lines (All-head (λ l. length l ≤ 262144) line lines short)
     (omega (arith, few)) more.0
-    (lines_read (suc n) lines node statements
+    (lines_read (suc n) lines ids statements
     (All-tail (λ l. length l ≤ 262144) line lines short) (omega (arith, few)) more.1)
-lines_read n (line ∷ lines) node statements short few (inr (e, can, more)) =
-    let good = config_good node (words_of line) can e in
-    stated start (behind_node node false) n line lines
+lines_read n (line ∷ lines) ids statements short few (inr (e, is, more)) =
+    let good = config_good ids (words_of line) is e in
+    stated start (behind_ids ids false) n line lines
     (All-head (λ l. length l ≤ 262144) line lines short) (omega (arith, few))
     (rw e (omega arith)) good.0 good.1
-    (statements_read node false (suc n) lines statements
+    (statements_read ids false (suc n) lines statements
     (All-tail (λ l. length l ≤ 262144) line lines short) (omega (arith, few)) more)
 
-pub script_read : (lines : List (List ℕ)) (node : ℕ) (statements : List Statement) →
-    AreShort lines → length lines ≤ 100000 → IsScript 1 lines node statements →
+pub script_read : (lines : List (List ℕ)) (ids : List ℕ) (statements : List Statement) →
+    AreShort lines → length lines ≤ 100000 → IsScript 1 lines ids statements →
     script_fault start 1 lines ≡ None
-script_read lines node statements short few is =
-    lines_read 1 lines node statements short (omega (arith, few)) is
+script_read lines ids statements short few is =
+    lines_read 1 lines ids statements short (omega (arith, few)) is

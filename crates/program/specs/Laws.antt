@@ -28,6 +28,6 @@ EventsAreRead = (what : What) (words : List (List ℕ)) → CanBeSaid what → I
 
 -- a script has no fault, where its lines are neither too long nor too many
 abbrev pub ScriptsAreRead : Type 0
-ScriptsAreRead = (lines : List (List ℕ)) (node : ℕ) (statements : List Statement)
+ScriptsAreRead = (lines : List (List ℕ)) (ids : List ℕ) (statements : List Statement)
     → All (λ line. length line ≤ 262144) lines → length lines ≤ 100000
-    → IsScript 1 lines node statements → script_fault start 1 lines ≡ None
+    → IsScript 1 lines ids statements → script_fault start 1 lines ≡ None

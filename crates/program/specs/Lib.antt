@@ -5,6 +5,7 @@ pub mod Scripts
 pub mod Faults
 pub mod Edits
 pub mod Reading
+pub mod Courses
 pub mod Text
 pub mod Runs
 pub mod Laws

@@ -10,7 +10,7 @@ use Rattle.kv_types.specs.declared.error.KvError.TheVariants.{KeyTooLong, ValueT
 use Rattle.kv_types.specs.declared.error.KvError.TheVariants.{TooManyEdits, BatchTooLong}
 use Rattle.kv_types.specs.Spelling.{spelling}
 use Rattle.lab.specs.declared.event.What.{What}
-use Rattle.lab.specs.declared.event.What.TheVariants.{Submit, Get, Start, Stop}
+use Rattle.lab.specs.declared.event.What.TheVariants.{Submit, Get, Deliver, Tick, Start, Stop}
 use Rattle.program.specs.declared.script.statement.Meaning.{Meaning}
 use Rattle.program.specs.declared.script.statement.Meaning.TheVariants.{Event, Invalid}
 
@@ -41,6 +41,8 @@ size_error edits =
 abbrev pub error_of : What → Option KvError
 error_of (Submit node edits) = option_or (edits_error edits) (size_error edits)
 error_of (Get node key at) = key_error key
+error_of (Deliver place) = None
+error_of (Tick node) = None
 error_of (Start node) = None
 error_of (Stop node junk) = None
 

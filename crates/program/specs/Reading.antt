@@ -1,22 +1,21 @@
 -- What the parts of the script's reader promise.
-use Rattle.std.specs.Prelude.{◌≡◌, ◌≢◌, ◌≤◌, ℕ, true, List, [], ◌∷◌, ◌++◌, codes}
+use Rattle.std.specs.Prelude.{◌≡◌, ◌≢◌, ◌≤◌, ℕ, true, List, [], ◌∷◌, ◌++◌, map, codes}
 use Rattle.std.specs.Prelude.{Some, None, Result, Ok, Err}
 use Rattle.std.specs.Fmt.{decimal}
 use Rattle.lab.specs.declared.event.What.{What}
 use Rattle.lab.specs.declared.event.What.TheVariants as what
-use Rattle.lab.specs.Events.{node_in}
+use Rattle.configurations.specs.Configs.{IsConfig}
 use Rattle.program.specs.declared.script.error.ScriptError.{ScriptError}
 use Rattle.program.specs.declared.script.error.ScriptError.TheVariants.{OutOfMemory}
 use Rattle.program.specs.declared.script.asked.Asked.{Asked}
-use Rattle.program.specs.declared.script.asked.Asked.TheVariants.{Submit, Get, Stop, Start}
+use Rattle.program.specs.declared.script.asked.Asked.TheVariants.{Submit, Get, Tick, Stop, Start}
 use Rattle.program.specs.declared.script.statement.Before.{Before}
 use Rattle.program.specs.declared.script.statement.Item.{Item}
 use Rattle.program.specs.declared.script.statement.Item.TheVariants.{Skipped, Config, Asks}
 use Rattle.program.specs.declared.script.statement.Meaning.{Meaning}
 use Rattle.program.specs.declared.script.statement.Statement.{Statement}
 use Rattle.program.specs.Statements.{CanBeSaid, IsSpelled, fault_of_words}
-use Rattle.program.specs.Meanings.{meaning_of}
-use Rattle.program.specs.Scripts.{CanBeNode, is_skipped, words_of, statement}
+use Rattle.program.specs.Scripts.{IsStatement, is_skipped, words_of, statement}
 use Rattle.program.specs.Faults.{statement_fault, words_fault, after_words, line_fault}
 use Rattle.program.specs.Faults.{after_line, numbered_fault}
 
@@ -25,6 +24,7 @@ abbrev pub what_of : Asked → What
 what_of (Submit node changes) = what.Submit node changes
 what_of (Get node key at) = what.Get node key at
 what_of (Stop node junk) = what.Stop node junk
+what_of (Tick node) = what.Tick node
 what_of (Start node) = what.Start node
 
 -- a reader gives the statement that is spelled, or the least fault, unless memory runs out
@@ -36,11 +36,10 @@ Reads words (Err e) = (e ≢ OutOfMemory) → fault_of_words words ≡ Some e
 -- the words say so, behind such lines
 abbrev pub IsItemOfWords : Before → List (List ℕ) → Item → Type 0
 IsItemOfWords before words Skipped = ⊥
-IsItemOfWords before words (Config node) =
-    (words ≡ codes "config" ∷ decimal node ∷ []) × CanBeNode node × (before.node ≡ None)
+IsItemOfWords before words (Config ids) =
+    (words ≡ codes "config" ∷ map decimal ids) × IsConfig ids × (before.config ≡ None)
 IsItemOfWords before words (Asks meaning) =
-    (what : What) × CanBeSaid what × IsSpelled what words × (before.node ≡ Some (node_in what))
-    × (meaning ≡ meaning_of what)
+    (ids : List ℕ) × (before.config ≡ Some ids) × IsStatement ids words meaning
 
 -- the line says so
 abbrev pub IsItem : Before → List ℕ → Item → Type 0
@@ -50,20 +49,19 @@ IsItem before line item = IsItemOfWords before (words_of line) item
 -- what an item leaves for the lines behind it
 abbrev pub after_item : Before → Item → Before
 after_item before Skipped = before
-after_item before (Config node) = record { node = Some node; begun = before.begun }
-after_item before (Asks meaning) = record { node = before.node; begun = true }
+after_item before (Config ids) = record { config = Some ids; begun = before.begun }
+after_item before (Asks meaning) = record { config = before.config; begun = true }
 
 abbrev pub statements_of : ℕ → Item → List Statement
 statements_of n Skipped = []
-statements_of n (Config node) = []
+statements_of n (Config ids) = []
 statements_of n (Asks meaning) = statement n meaning ∷ []
 
--- a statement that may stand here, for this node
+-- a statement that may stand here
 abbrev pub Places : Before → List ℕ → List (List ℕ) → Result Meaning ScriptError → Type 0
 Places before name args (Ok meaning) =
     (statement_fault before name args ≡ None)
-    × ((what : What) × CanBeSaid what × IsSpelled what (name ∷ args)
-    × (before.node ≡ Some (node_in what)) × (meaning ≡ meaning_of what))
+    × ((ids : List ℕ) × (before.config ≡ Some ids) × IsStatement ids (name ∷ args) meaning)
 Places before name args (Err e) = (e ≢ OutOfMemory) → statement_fault before name args ≡ Some e
 
 abbrev pub ReadsWords : Before → List (List ℕ) → Result Item ScriptError → Type 0

@@ -1,9 +1,7 @@
 -- A whole run: from the bytes of a script to the bytes that are printed, and how it can end.
 use Rattle.std.specs.Prelude.{◌≡◌, ◌≢◌, ◌⊎◌, ℕ, List, [], ◌∷◌, ◌++◌, codes, Option, Some, IfSome}
 use Rattle.std.specs.Fmt.{decimal}
-use Rattle.std.specs.List.{flat_map}
 use Rattle.std.specs.Io.KnownBytes.{Appends}
-use Rattle.disk.specs.declared.fault.Fault.TheVariants as fault
 use Rattle.lab.specs.declared.event.Event as lab
 use Rattle.lab.specs.declared.report.Report.{Report}
 use Rattle.lab.specs.Runs.{IsRun}
@@ -12,40 +10,36 @@ use Rattle.program.specs.declared.failure.Failure.{Failure}
 use Rattle.program.specs.declared.failure.Failure.TheVariants.{Unreadable, Script, Output}
 use Rattle.program.specs.declared.failure.Failure.TheVariants.{Memory}
 use Rattle.program.specs.declared.script.error.ScriptError.TheVariants.{OutOfMemory}
-use Rattle.program.specs.declared.script.statement.Meaning.{Meaning}
-use Rattle.program.specs.declared.script.statement.Meaning.TheVariants.{Event, Invalid}
 use Rattle.program.specs.declared.script.statement.Statement.{Statement}
+use Rattle.program.specs.declared.turn.Turn.{Turn}
+use Rattle.program.specs.Courses.{IsCourse}
 use Rattle.program.specs.Scripts.{lines_of, IsScript}
 use Rattle.program.specs.Faults.{script_fault, start}
 use Rattle.program.specs.Text.{run_text, fault_text}
 
-abbrev pub event_of : Meaning → List lab.Event
-event_of (Event what) = record { what = what; fault = fault.None } ∷ []
-event_of (Invalid e) = []
+-- the statements were run at the nodes of the configuration, and all that came of them is of one
+-- history
+pub record HasRunAll (ids : List ℕ) (statements : List Statement) (turns : List Turn)
+    (report : Report) : Type 0 where
+  pub events : List lab.Event
+  pub course : IsCourse 0 [] statements turns events report.steps.items
+  pub ran : IsRun (ids ∷ []) events report
+  pub history : OneHistory (ids ∷ []) events report
 
--- the events of the statements, in order
-abbrev pub events_of : List Statement → List lab.Event
-events_of statements = flat_map (λ it. event_of it.meaning) statements
-
--- one configuration, of one node
-abbrev pub alone : ℕ → List (List ℕ)
-alone node = (node ∷ []) ∷ []
-
--- the statements' events were run at the node, all that came of them is of one history, and the
--- text of exactly that run was written
-pub record IsRunOf (node : ℕ) (statements : List Statement) (old new : Option (List ℕ)) : Type 0
+-- .. and the text of exactly that run was written
+pub record IsRunOf (ids : List ℕ) (statements : List Statement) (old new : Option (List ℕ)) : Type 0
   where
+    pub turns : List Turn
     pub report : Report
-    pub ran : IsRun (alone node) (events_of statements) report
-    pub history : OneHistory (alone node) (events_of statements) report
-    pub wrote : Appends old new (run_text statements report.steps.items)
+    pub run : HasRunAll ids statements turns report
+    pub wrote : Appends old new (run_text turns report.steps.items)
 
 -- what was read, where that is known, is a script, and the text of its run was written
 pub record IsRunOfText (text : Option (List ℕ)) (old new : Option (List ℕ)) : Type 0 where
-  pub node : ℕ
+  pub ids : List ℕ
   pub statements : List Statement
-  pub spelled : IfSome text (λ t. IsScript 1 (lines_of t) node statements)
-  pub run : IsRunOf node statements old new
+  pub spelled : IfSome text (λ t. IsScript 1 (lines_of t) ids statements)
+  pub run : IsRunOf ids statements old new
 
 -- why a run ended early
 abbrev pub failure_text : Failure → List ℕ

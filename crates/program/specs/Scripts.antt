@@ -1,13 +1,14 @@
--- A whole script: lines that are skipped, one configuration, and statements for its node.
+-- A whole script: lines that are skipped, one configuration, and statements for its nodes.
 use Rattle.std.specs.Prelude.{◌≡◌, ◌⊎◌, ℕ, suc, Bool, true, ◌==◌, if◌then◌else◌, List, [], ◌∷◌}
-use Rattle.std.specs.Prelude.{◌≤◌, codes}
+use Rattle.std.specs.Prelude.{map, codes}
 use Rattle.std.specs.Fmt.{decimal}
 use Rattle.std.specs.List.{slice_split, onto_first}
 use Rattle.lab.specs.declared.event.What.{What}
-use Rattle.lab.specs.Events.{node_in}
+use Rattle.configurations.specs.Configs.{IsConfig}
+use Rattle.lab.specs.Events.{NamesNode}
 use Rattle.program.specs.declared.script.statement.Statement.{Statement}
 use Rattle.program.specs.declared.script.statement.Meaning.{Meaning}
-use Rattle.program.specs.declared.script.statement.Meaning.TheVariants.{Event, Invalid}
+use Rattle.program.specs.declared.script.statement.Meaning.TheVariants.{Event, Invalid, Flow}
 use Rattle.program.specs.Statements.{CanBeSaid, IsSpelled}
 use Rattle.program.specs.Meanings.{meaning_of}
 
@@ -28,32 +29,32 @@ is_skipped (b ∷ bs) = b == 35
 abbrev pub statement : ℕ → Meaning → Statement
 statement n meaning = record { line = n; meaning = meaning }
 
--- lines behind a configuration of one node, the first with number n: each is skipped, or spells a
--- statement for that node
-abbrev pub AreStatements : ℕ → ℕ → List (List ℕ) → List Statement → Type 0
-AreStatements node n [] statements = statements ≡ []
-AreStatements node n (line ∷ lines) statements =
-    ((is_skipped line ≡ true) × AreStatements node (suc n) lines statements)
-    ⊎ ((what : What) × (rest : List Statement)
-    × CanBeSaid what × IsSpelled what (words_of line) × (node_in what ≡ node)
-    × (statements ≡ statement n (meaning_of what) ∷ rest)
-    × AreStatements node (suc n) lines rest)
+-- words say what a statement comes to, at nodes of this configuration
+abbrev pub IsStatement : List ℕ → List (List ℕ) → Meaning → Type 0
+IsStatement ids words meaning =
+    ((meaning ≡ Flow) × (words ≡ codes "flow" ∷ []))
+    ⊎ ((what : What) × CanBeSaid what × IsSpelled what words × NamesNode (ids ∷ []) what
+    × (meaning ≡ meaning_of what))
 
--- a number that a node may have
-pub record CanBeNode (node : ℕ) : Type 0 where
-  pub least : 1 ≤ node
-  pub greatest : node ≤ 65535
+-- lines behind a configuration, the first with number n: each is skipped, or is a statement
+abbrev pub AreStatements : List ℕ → ℕ → List (List ℕ) → List Statement → Type 0
+AreStatements ids n [] statements = statements ≡ []
+AreStatements ids n (line ∷ lines) statements =
+    ((is_skipped line ≡ true) × AreStatements ids (suc n) lines statements)
+    ⊎ ((meaning : Meaning) × (rest : List Statement) × IsStatement ids (words_of line) meaning
+    × (statements ≡ statement n meaning ∷ rest) × AreStatements ids (suc n) lines rest)
 
 -- lines that are a script, the first with number n: skipped ones, then a configuration, then what
 -- may stand behind it
-abbrev pub IsScript : ℕ → List (List ℕ) → ℕ → List Statement → Type 0
-IsScript n [] node statements = ⊥
-IsScript n (line ∷ lines) node statements =
-    ((is_skipped line ≡ true) × IsScript (suc n) lines node statements)
-    ⊎ ((words_of line ≡ codes "config" ∷ decimal node ∷ []) × CanBeNode node
-    × AreStatements node (suc n) lines statements)
+abbrev pub IsScript : ℕ → List (List ℕ) → List ℕ → List Statement → Type 0
+IsScript n [] ids statements = ⊥
+IsScript n (line ∷ lines) ids statements =
+    ((is_skipped line ≡ true) × IsScript (suc n) lines ids statements)
+    ⊎ ((words_of line ≡ codes "config" ∷ map decimal ids) × IsConfig ids
+    × AreStatements ids (suc n) lines statements)
 
--- an event names the node
-abbrev pub Names : ℕ → Meaning → Type 0
-Names node (Event what) = node_in what ≡ node
-Names node (Invalid e) = Unit {0}
+-- an event names a node of the configuration, if it names one
+abbrev pub Names : List ℕ → Meaning → Type 0
+Names ids (Event what) = NamesNode (ids ∷ []) what
+Names ids (Invalid e) = Unit {0}
+Names ids Flow = Unit {0}

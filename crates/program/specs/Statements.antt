@@ -12,7 +12,7 @@ use Rattle.kv_types.specs.declared.edit.Edit.TheVariants.{Put, Delete}
 use Rattle.disk.specs.declared.junk.Junk.{Junk}
 use Rattle.disk.specs.declared.junk.Junk.TheVariants.{Old, New, Bytes}
 use Rattle.lab.specs.declared.event.What.{What}
-use Rattle.lab.specs.declared.event.What.TheVariants.{Submit, Get, Start, Stop}
+use Rattle.lab.specs.declared.event.What.TheVariants.{Submit, Get, Deliver, Tick, Start, Stop}
 use Rattle.program.specs.declared.script.error.ScriptError.{ScriptError}
 use Rattle.program.specs.declared.script.error.ScriptError.TheVariants.{UnknownStatement}
 use Rattle.program.specs.declared.script.error.ScriptError.TheVariants.{WrongNumberOfWords}
@@ -50,6 +50,8 @@ abbrev pub CanBeSaid : What → Type 0
 CanBeSaid (Submit node edits) = (node < 2 ^ 63) × All AreBytesIn edits
 CanBeSaid (Get node key None) = (node < 2 ^ 63) × AreBytes key
 CanBeSaid (Get node key (Some at)) = (node < 2 ^ 63) × AreBytes key × (at < 2 ^ 63)
+CanBeSaid (Deliver place) = place < 2 ^ 63
+CanBeSaid (Tick node) = node < 2 ^ 63
 CanBeSaid (Start node) = node < 2 ^ 63
 CanBeSaid (Stop node junk) = (node < 2 ^ 63) × AreBytesOf junk
 
@@ -63,6 +65,8 @@ IsSpelled (Get node key (Some at)) words =
 IsSpelled (Stop node junk) words =
     ((junk ≡ Old) × (words ≡ codes "stop" ∷ decimal node ∷ []))
     ⊎ ((word : List ℕ) × IsJunk junk word × (words ≡ codes "stop" ∷ decimal node ∷ word ∷ []))
+IsSpelled (Deliver place) words = words ≡ codes "deliver" ∷ decimal place ∷ []
+IsSpelled (Tick node) words = words ≡ codes "tick" ∷ decimal node ∷ []
 IsSpelled (Start node) words = words ≡ codes "start" ∷ decimal node ∷ []
 
 -- what stands in a word's place
@@ -86,12 +90,16 @@ stop_shape n =
     if n == 1 then Some (number ∷ [])
     else if n == 2 then Some (number ∷ junk ∷ []) else None
 
+abbrev pub none_shape : ℕ → Option (List Kind)
+none_shape n = if n == 0 then Some [] else None
+
 -- the kinds of the words behind a statement's name, if there may be so many
 abbrev pub shape : List ℕ → List (List ℕ) → Option (List Kind)
 shape name args =
     if bytes_eq name (codes "submit") then submit_shape args else
     if bytes_eq name (codes "get") then get_shape (length args) else
     if bytes_eq name (codes "stop") then stop_shape (length args) else
+    if bytes_eq name (codes "flow") then none_shape (length args) else
     if length args == 1 then Some (number ∷ []) else None
 
 -- a word that begins with - is a deletion, any other is cut at its first =
@@ -135,7 +143,8 @@ fault_of_places places =
 abbrev pub is_name : List ℕ → Bool
 is_name w =
     bytes_eq w (codes "submit") || bytes_eq w (codes "get") || bytes_eq w (codes "stop")
-    || bytes_eq w (codes "start")
+    || bytes_eq w (codes "start") || bytes_eq w (codes "deliver") || bytes_eq w (codes "flow")
+    || bytes_eq w (codes "tick")
 
 -- the least fault of the words of a statement, as far as they are words
 abbrev pub fault_of_words : List (List ℕ) → Option ScriptError

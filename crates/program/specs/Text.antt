@@ -1,6 +1,6 @@
 -- The text of a run: what is printed for each line of a report, and for each invalid statement.
-use Rattle.std.specs.Prelude.{ℕ, ◌-◌, List, [], ◌∷◌, ◌++◌, codes, drop, slice_get}
-use Rattle.std.specs.Prelude.{Some, None}
+use Rattle.std.specs.Prelude.{ℕ, ◌-◌, List, [], ◌∷◌, ◌++◌, codes, take, drop, replicate, slice_get}
+use Rattle.std.specs.Prelude.{Option, Some, None}
 use Rattle.std.specs.Fmt.{decimal}
 use Rattle.std.specs.List.{flat_map}
 use Rattle.std.specs.Option.{option_map_or}
@@ -12,13 +12,13 @@ use Rattle.node.specs.declared.output.Reply.{Reply}
 use Rattle.node.specs.declared.output.Reply.TheVariants.{Committed, Value, Refused}
 use Rattle.node.specs.declared.stop.Stop.{Stop}
 use Rattle.node.specs.declared.stop.Stop.TheVariants as stop
-use Rattle.lab.specs.declared.report.DropReason.{DropReason}
-use Rattle.lab.specs.declared.report.DropReason.TheVariants as reason
+use Rattle.chain_core.specs.declared.drop_reason.DropReason.{DropReason}
+use Rattle.chain_core.specs.declared.drop_reason.DropReason.TheVariants as reason
 use Rattle.lab.specs.declared.report.Line.{Line}
-use Rattle.lab.specs.declared.report.Line.TheVariants.{Replied, Dropped, Started, Stopped}
-use Rattle.program.specs.declared.script.statement.Meaning.{Meaning}
-use Rattle.program.specs.declared.script.statement.Meaning.TheVariants.{Event, Invalid}
-use Rattle.program.specs.declared.script.statement.Statement.{Statement}
+use Rattle.lab.specs.declared.report.Line.TheVariants as line
+use Rattle.program.specs.declared.turn.Turn.{Turn}
+use Rattle.program.specs.declared.turn.Remark.{Remark}
+use Rattle.program.specs.declared.turn.Remark.TheVariants as remark
 use Rattle.program.specs.declared.script.error.ScriptError.{ScriptError}
 use Rattle.program.specs.declared.script.error.ScriptError.TheVariants as fault
 use Rattle.program.specs.Words.{bytes_text}
@@ -48,6 +48,16 @@ error_text kv.BadLimit = codes "8 BadLimit"
 abbrev pub reason_text : DropReason → List ℕ
 reason_text reason.NotRunning = codes "NotRunning"
 reason_text reason.Running = codes "Running"
+reason_text reason.Removed = codes "Removed"
+reason_text reason.OtherEpoch = codes "OtherEpoch"
+reason_text reason.NotPredecessor = codes "NotPredecessor"
+reason_text reason.NotSuccessor = codes "NotSuccessor"
+reason_text reason.OtherNumber = codes "OtherNumber"
+reason_text reason.BadAck = codes "BadAck"
+reason_text reason.OldNotice = codes "OldNotice"
+reason_text reason.BadNotice = codes "BadNotice"
+reason_text reason.NotForNodes = codes "NotForNodes"
+reason_text reason.Unreadable = codes "Unreadable"
 
 abbrev pub cause_text : Stop → List ℕ
 cause_text stop.Disk = codes "disk"
@@ -67,25 +77,41 @@ started_text node epoch count committed =
     codes "node " ++ (decimal node ++ (codes " started epoch " ++ (decimal epoch
     ++ (codes " count " ++ (decimal count ++ (codes " committed " ++ decimal committed))))))
 
+-- a frame: its place among all, the nodes that it goes between, and the sender's epoch
+abbrev pub frame_text : ℕ → ℕ → ℕ → List ℕ → ℕ → List ℕ
+frame_text place from to kind epoch =
+    codes "#" ++ (decimal place ++ (codes " " ++ (decimal from ++ (codes ">" ++ (decimal to
+    ++ (codes " " ++ (kind ++ (codes " " ++ decimal epoch))))))))
+
+abbrev pub forwarded_text : ℕ → ℕ → ℕ → ℕ → ℕ → List ℕ
+forwarded_text place from to epoch number =
+    frame_text place from to (codes "forward") epoch ++ (codes " " ++ decimal number)
+
+abbrev pub acknowledged_text : ℕ → ℕ → ℕ → ℕ → ℕ → ℕ → List ℕ
+acknowledged_text place from to epoch committed have =
+    frame_text place from to (codes "ack") epoch
+    ++ (codes " " ++ (decimal committed ++ (codes " " ++ decimal have)))
+
 abbrev pub line_text : Line → List ℕ
-line_text (Replied reply) = reply_text reply
-line_text (Dropped reason) = codes "dropped " ++ reason_text reason
-line_text (Started node epoch count committed) = started_text node epoch count committed
-line_text (Stopped node None) = codes "node " ++ (decimal node ++ codes " stopped")
-line_text (Stopped node (Some cause)) =
+line_text line.Nothing = codes "nothing"
+line_text (line.Dropped reason) = codes "dropped " ++ reason_text reason
+line_text (line.Started node epoch count committed) = started_text node epoch count committed
+line_text (line.Forwarded place from to epoch number) =
+    forwarded_text place from to epoch number
+line_text (line.Acknowledged place from to epoch committed have) =
+    acknowledged_text place from to epoch committed have
+line_text (line.Replied reply) = reply_text reply
+line_text (line.Stopped node None) = codes "node " ++ (decimal node ++ codes " stopped")
+line_text (line.Stopped node (Some cause)) =
     codes "node " ++ (decimal node ++ (codes " stopped: " ++ cause_text cause))
 
 -- a line of output: a number of a line of the script, and what is said of it
 abbrev pub numbered : ℕ → List ℕ → List ℕ
 numbered n text = decimal n ++ (codes ": " ++ (text ++ 10 ∷ []))
 
-abbrev pub line_of_event : ℕ → Meaning → List ℕ
-line_of_event n (Event what) = n ∷ []
-line_of_event n (Invalid e) = []
-
 -- the lines of the script where the events stand, in order
-abbrev pub event_lines : List Statement → List ℕ
-event_lines statements = flat_map (λ it. line_of_event it.line it.meaning) statements
+abbrev pub event_lines : List Turn → List ℕ
+event_lines turns = flat_map (λ turn. replicate turn.events turn.line) turns
 
 -- the line of a request, which has the number of its event, from 1; one of no event stands here
 abbrev pub line_of_request : List ℕ → ℕ → ℕ → ℕ
@@ -99,34 +125,40 @@ request_of (Refused request refusal) = request
 
 -- a reply is told at its request's line, all else here
 abbrev pub line_told_at : List ℕ → ℕ → Line → ℕ
-line_told_at events here (Replied reply) = line_of_request events here (request_of reply)
-line_told_at events here (Dropped reason) = here
-line_told_at events here (Started node epoch count committed) = here
-line_told_at events here (Stopped node cause) = here
+line_told_at events here (line.Replied reply) = line_of_request events here (request_of reply)
+line_told_at events here line.Nothing = here
+line_told_at events here (line.Dropped reason) = here
+line_told_at events here (line.Started node epoch count committed) = here
+line_told_at events here (line.Forwarded place from to epoch number) = here
+line_told_at events here (line.Acknowledged place from to epoch committed have) = here
+line_told_at events here (line.Stopped node cause) = here
 
 abbrev pub told_text : List ℕ → ℕ → Line → List ℕ
 told_text events here line = numbered (line_told_at events here line) (line_text line)
 
--- what is printed at a statement: of an event the lines of its step, of any other its error
-abbrev pub statement_text : List ℕ → ℕ → Meaning → List (List Line) → List ℕ
-statement_text events here (Invalid e) steps = numbered here (codes "invalid " ++ error_text e)
-statement_text events here (Event what) [] = []
-statement_text events here (Event what) (step ∷ steps) = flat_map (told_text events here) step
+abbrev pub step_text : List ℕ → ℕ → List Line → List ℕ
+step_text events here step = flat_map (told_text events here) step
 
--- the steps of the statements behind it
-abbrev pub steps_behind : Meaning → List (List Line) → List (List Line)
-steps_behind (Invalid e) steps = steps
-steps_behind (Event what) steps = drop 1 steps
+-- what is said of a statement besides
+abbrev pub remark_text : ℕ → Option Remark → List ℕ
+remark_text here None = []
+remark_text here (Some (remark.Invalid e)) = numbered here (codes "invalid " ++ error_text e)
+remark_text here (Some remark.Busy) = numbered here (codes "busy")
 
-abbrev pub statements_text : List ℕ → List Statement → List (List Line) → List ℕ
-statements_text events [] steps = []
-statements_text events (it ∷ statements) steps =
-    statement_text events it.line it.meaning steps
-    ++ statements_text events statements (steps_behind it.meaning steps)
+-- what is printed at a statement: the lines of its steps, then what is said of it
+abbrev pub turn_text : List ℕ → Turn → List (List Line) → List ℕ
+turn_text events turn steps =
+    flat_map (step_text events turn.line) (take turn.events steps)
+    ++ remark_text turn.line turn.remark
 
--- the text of a run of statements of which each event had a step
-abbrev pub run_text : List Statement → List (List Line) → List ℕ
-run_text statements steps = statements_text (event_lines statements) statements steps
+abbrev pub turns_text : List ℕ → List Turn → List (List Line) → List ℕ
+turns_text events [] steps = []
+turns_text events (turn ∷ turns) steps =
+    turn_text events turn steps ++ turns_text events turns (drop turn.events steps)
+
+-- the text of a run of statements, each event of which had a step
+abbrev pub run_text : List Turn → List (List Line) → List ℕ
+run_text turns steps = turns_text (event_lines turns) turns steps
 
 -- the text of what is wrong with a script's line
 abbrev pub fault_text : ScriptError → List ℕ

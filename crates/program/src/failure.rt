@@ -5,7 +5,7 @@ ghost use Rattle.program.specs.declared.failure.Failure.TheVariants.{Memory};
 use crate::script::Fault;
 use crate::text::FaultText;
 use lab::LabError;
-use std::alloc::AllocError;
+use std::alloc::{AllocError, AllocFailed};
 use std::fmt;
 
 /// Why a run ended early. With `Output`, a beginning of its text may have been written.
@@ -37,6 +37,14 @@ impl From<AllocError> for Failure {
     ghost from_gives = { λ _ e. e ≡ Memory };
 
     fn from(_e: AllocError) -> Failure {
+        Failure::Memory
+    }
+}
+
+impl<T: Drop> From<AllocFailed<T>> for Failure {
+    ghost from_gives = { λ _ e. e ≡ Memory };
+
+    fn from(_e: AllocFailed<T>) -> Failure {
         Failure::Memory
     }
 }

@@ -1,12 +1,14 @@
-//! What the program does: it reads a script, runs it at a node, and prints what happens.
+//! What the program does: it reads a script, runs it at a chain's nodes, and prints what happens.
 #![tactic(auto)]
 
 mod command;
+mod course;
 mod failure;
 mod running;
 mod script;
 mod serving;
 mod text;
+mod turn;
 
 pub use failure::Failure;
 pub use script::laws::{scripts_are_read, spellings_differ};

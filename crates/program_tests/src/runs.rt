@@ -50,6 +50,74 @@ const RUNS: &[(&str, &str)] = &[
         "2: invalid 3 NoEdits\n3: committed 1\n4: value 1 at 1\n",
     ),
     ("config 1", ""),
+    // Down the chain and back, with a frame that comes twice.
+    (
+        "config 1 2 3\nsubmit 1 a=1\ndeliver 1\ndeliver 1\ndeliver 2\ndeliver 4\ndeliver 5\n",
+        "2: #1 1>2 forward 0 1\n3: #2 2>3 forward 0 1\n4: dropped OtherNumber\n\
+         4: #3 2>1 ack 0 0 1\n5: #4 3>2 ack 0 1 1\n6: #5 2>1 ack 0 1 1\n2: committed 1\n",
+    ),
+    // A frame that overtakes another, a tick that sends again, an older acknowledgement.
+    (
+        "config 1 2\nsubmit 1 a=1\nsubmit 1 b=2\ndeliver 2\ntick 1\ndeliver 4\ndeliver 5\n\
+         deliver 7\ndeliver 6\nget 1 b\n",
+        "2: #1 1>2 forward 0 1\n3: #2 1>2 forward 0 2\n4: dropped OtherNumber\n\
+         4: #3 2>1 ack 0 0 0\n5: #4 1>2 forward 0 1\n5: #5 1>2 forward 0 2\n\
+         6: #6 2>1 ack 0 1 1\n7: #7 2>1 ack 0 2 2\n2: committed 1\n3: committed 2\n\
+         10: value 2 at 2\n",
+    ),
+    // Reads below what is committed, at any node; only the head takes batches.
+    (
+        "config 1 2 3\nsubmit 1 a=1\nflow\nsubmit 1 a=2\ndeliver 5\nget 2 a 2\nget 2 a\n\
+         submit 2 b=1\n",
+        "2: #1 1>2 forward 0 1\n3: #2 2>3 forward 0 1\n3: #3 3>2 ack 0 1 1\n\
+         3: #4 2>1 ack 0 1 1\n2: committed 1\n4: #5 1>2 forward 0 2\n5: #6 2>3 forward 0 2\n\
+         6: refused 4 NotCommitted\n7: value 1 at 1\n8: refused 2 NotHead\n",
+    ),
+    // A node that stops between receiving and acknowledging.
+    (
+        "config 1 2 3\nsubmit 1 a=1\ndeliver 1\nstop 2\nstart 2\ntick 2\nflow\nget 1 a\n",
+        "2: #1 1>2 forward 0 1\n3: #2 2>3 forward 0 1\n4: node 2 stopped\n\
+         5: node 2 started epoch 0 count 1 committed 0\n6: #3 2>3 forward 0 1\n\
+         6: #4 2>1 ack 0 0 1\n7: #5 3>2 ack 0 1 1\n7: dropped OtherNumber\n\
+         7: #6 3>2 ack 0 1 1\n7: #7 2>1 ack 0 1 1\n2: committed 1\n8: value 1 at 1\n",
+    ),
+    // A node that does not run drops what comes, and refuses its clients.
+    (
+        "config 1 2\nsubmit 1 a=1\nstop 2\ndeliver 1\ntick 2\nstop 2\nget 2 a\nsubmit 2 a=2\n\
+         start 1\n",
+        "2: #1 1>2 forward 0 1\n3: node 2 stopped\n4: dropped NotRunning\n\
+         5: dropped NotRunning\n6: dropped NotRunning\n7: refused 1 NotRunning\n\
+         8: refused 1 NotRunning\n9: dropped Running\n",
+    ),
+    // A place that no frame has yet is not delivered by this: the flow delivers it later.
+    (
+        "config 1 2\ndeliver 0\ndeliver 1\nsubmit 1 a=1\nflow\nflow\ndeliver 3\n",
+        "2: nothing\n3: nothing\n4: #1 1>2 forward 0 1\n5: #2 2>1 ack 0 1 1\n4: committed 1\n\
+         7: nothing\n",
+    ),
+    // A frame that was dropped counts as delivered.
+    (
+        "config 1 2\nsubmit 1 a=1\nstop 2\ndeliver 1\nstart 2\nflow\ntick 1\nflow\n",
+        "2: #1 1>2 forward 0 1\n3: node 2 stopped\n4: dropped NotRunning\n\
+         5: node 2 started epoch 0 count 0 committed 0\n7: #2 1>2 forward 0 1\n\
+         8: #3 2>1 ack 0 1 1\n2: committed 1\n",
+    ),
+    // The second example of docs/SCRIPT.md.
+    (
+        "config 1 2 3\nsubmit 1 a=1\ndeliver 1\ndeliver 1\nflow\nget 2 a\n",
+        "2: #1 1>2 forward 0 1\n3: #2 2>3 forward 0 1\n4: dropped OtherNumber\n\
+         4: #3 2>1 ack 0 0 1\n5: #4 3>2 ack 0 1 1\n5: #5 2>1 ack 0 1 1\n2: committed 1\n\
+         6: value 1 at 1\n",
+    ),
+    // The order of a configuration is that of its line.
+    (
+        "config 9 4\nsubmit 9 a=1\nflow\nget 4 a\n",
+        "2: #1 9>4 forward 0 1\n3: #2 4>9 ack 0 1 1\n2: committed 1\n4: value 1 at 1\n",
+    ),
+    (
+        "config 1 2 3 4 5 6 7 8 9 10 11 12 13 14 15 16\nget 16 a\n",
+        "2: none at 0\n",
+    ),
     // The example of docs/SCRIPT.md.
     (
         "config 1\n# One batch: the last edit of a key wins.\nsubmit 1 a=1 b=%20x%20 -b\nget 1 a\n\

@@ -1,9 +1,10 @@
-ghost use Rattle.std.specs.Prelude.{◌≡◌, ◌++◌, ◌∷◌, [], map, OnOk};
+ghost use Rattle.std.specs.Prelude.{◌≡◌, ◌++◌, ◌∷◌, [], map, Some, OnOk};
 ghost use Rattle.lab.specs.Events.{node_in};
 ghost use Rattle.program.specs.Reading.{what_of};
 ghost use Rattle.program.specs.Edits.{edit_of};
 
 use disk::Junk;
+use kv_types::Number;
 use std::alloc::{AllocError, Global};
 use std::marker::Model;
 
@@ -85,7 +86,8 @@ impl Changes {
 #[derive(Debug, Drop)]
 pub enum Asked {
     Submit(u64, Changes),
-    Get(u64, Bytes, Option<u64>),
+    Get(u64, Bytes, Option<Number>),
+    Tick(u64),
     Stop(u64, Junk),
     Start(u64),
 }
@@ -93,11 +95,12 @@ pub enum Asked {
 impl Asked {
     /// The node that it names.
     pub fn node(&self) -> u64
-        ensures { result ≡ node_in (what_of self.now) }
+        ensures { node_in (what_of self.now) ≡ Some result }
     {
         match self {
             Asked::Submit(node, _) => *node,
             Asked::Get(node, _, _) => *node,
+            Asked::Tick(node) => *node,
             Asked::Stop(node, _) => *node,
             Asked::Start(node) => *node,
         }

@@ -83,7 +83,7 @@ fn submit(alloc: Global, node: NodeId, changes: Changes) -> Result<Meaning, Allo
 
 /// What comes of a statement that names this node.
 pub fn meaning(alloc: Global, node: NodeId, asked: Asked) -> Result<Meaning, AllocError>
-    requires { node_in (what_of asked) ≡ node }
+    requires { node_in (what_of asked) ≡ Some node }
     ensures { IfOk result (λ meaning. meaning ≡ meaning_of (what_of asked)) }
 {
     match asked {
@@ -92,6 +92,7 @@ pub fn meaning(alloc: Global, node: NodeId, asked: Asked) -> Result<Meaning, All
             Ok(key) => Ok(Meaning::Event(What::Get { node, key, at })),
             Err(e) => Ok(Meaning::Invalid(e)),
         },
+        Asked::Tick(_) => Ok(Meaning::Event(What::Tick { node })),
         Asked::Stop(_, junk) => Ok(Meaning::Event(What::Stop { node, junk })),
         Asked::Start(_) => Ok(Meaning::Event(What::Start { node })),
     }

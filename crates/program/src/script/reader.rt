@@ -1,13 +1,15 @@
-ghost use Rattle.std.specs.Prelude.{◌≡◌, ◌≢◌, ◌++◌, ◌∷◌, [], map, codes, true, false, Some, None};
+ghost use Rattle.std.specs.Prelude.{◌≡◌, ◌≢◌, ◌⊎◌, ◌++◌, ◌∷◌, [], map, codes, true, false, Some, None};
 ghost use Rattle.std.specs.Prelude.{IfOk, OnOk, MatchResult, MatchOption, All};
 ghost use Rattle.std.specs.Fmt.{decimal};
 ghost use Rattle.std.specs.List.{list_all};
+ghost use Rattle.std.specs.Str.{bytes_eq};
+ghost use Rattle.configurations.specs.Configs.{IsConfig};
 ghost use Rattle.program.specs.declared.script.error.ScriptError.TheVariants.{OutOfMemory};
+ghost use Rattle.program.specs.declared.script.error.ScriptError.TheVariants.{BadConfiguration};
 ghost use Rattle.program.specs.Words.{is_number};
-ghost use Rattle.program.specs.Scripts.{lines_of, is_skipped, CanBeNode, IsScript, Names};
-ghost use Rattle.program.specs.Faults.{is_one_id, config_fault, script_fault, start};
+ghost use Rattle.program.specs.Scripts.{lines_of, is_skipped, IsScript, Names};
+ghost use Rattle.program.specs.Faults.{is_config, numbers_of, config_fault, script_fault, start};
 ghost use Rattle.program.specs.Reading.{ReadsLine, ReadsWords, Places, Takes};
-ghost use Rattle.program.specs.Reading.{statements_of};
 
 use super::error::ScriptError;
 use super::fault::split_fault;
@@ -16,7 +18,8 @@ use super::meaning::meaning;
 use super::statement::{Before, Item, Meaning, Statement};
 use super::statements::asked_of;
 use super::word::number;
-use configurations::NodeId;
+use configurations::{Config, ConfigError};
+use lab::What;
 use std::alloc::{AllocError, Global};
 
 /// The most bytes of a line, without its line feed.
@@ -34,66 +37,136 @@ fn skips(line: &[u8]) -> bool
     }
 }
 
-fn are_numbers(words: &[&[u8]]) -> bool
-    ensures { result ≡ list_all is_number (map (λ w. w.now) words.now) }
+// The numbers that words spell.
+fn numbers(alloc: Global, words: &[&[u8]]) -> Result<Option<Vec<u64>>, AllocError>
+    ensures { IfOk result (λ found.
+        MatchOption found (list_all is_number (map (λ w. w.now) words.now) ≡ false)
+        (λ ns. (list_all is_number (map (λ w. w.now) words.now) ≡ true)
+        × (map (λ w. w.now) words.now ≡ map decimal ns.items)
+        × (numbers_of (map (λ w. w.now) words.now) ≡ ns.items))) }
 {
+    let mut numbers = Vec::new(alloc);
     for word in words {
-        if number(word).is_none() {
-            return false;
-        }
+        let Some(n) = number(word) else {
+            return Ok(None);
+        };
+        numbers.push(n)?;
     }
-    true
+    Ok(Some(numbers))
 }
 
-fn one_id(words: &[&[u8]]) -> Option<NodeId>
-    ensures { MatchOption result (is_one_id (map (λ w. w.now) words.now) ≡ false)
-        (λ id. (is_one_id (map (λ w. w.now) words.now) ≡ true)
-        × CanBeNode id × (map (λ w. w.now) words.now ≡ decimal id ∷ [])) }
+// The ids that numbers may be.
+fn ids_of(alloc: Global, numbers: &[u64]) -> Result<Option<Vec<u16>>, AllocError>
+    ensures { IfOk result (λ found. MatchOption found (is_config numbers.now ≡ false)
+        (λ ids. ids.items ≡ numbers.now)) }
 {
-    let [word] = words else {
-        return None;
-    };
-    match number(word) {
-        Some(node) if node <= 65535 => NodeId::new(node as u16),
-        _ => None,
+    let mut ids = Vec::new(alloc);
+    for &number in numbers {
+        let Ok(id) = u16::try_from(number) else {
+            return Ok(None);
+        };
+        ids.push(id)?;
+    }
+    Ok(Some(ids))
+}
+
+// What is wrong with a script's ids.
+fn config_error(error: ConfigError) -> ScriptError
+    ensures { (result ≡ OutOfMemory) ⊎ ((result ≡ BadConfiguration) × (error ≢ ConfigError.Memory)) }
+{
+    match error {
+        ConfigError::Memory => ScriptError::OutOfMemory,
+        _ => ScriptError::BadConfiguration,
     }
 }
 
-/// The node of the one configuration.
-fn config(before: Before, args: &[&[u8]]) -> Result<NodeId, ScriptError>
+// The configuration of the nodes of these numbers.
+fn config_of(alloc: Global, numbers: &[u64]) -> Result<Config, ScriptError>
     ensures { MatchResult result
-        (λ node. (config_fault before (map (λ w. w.now) args.now) ≡ None)
-        × (map (λ w. w.now) args.now ≡ decimal node ∷ []) × CanBeNode node
-        × (before.node ≡ None))
-        (λ e. config_fault before (map (λ w. w.now) args.now) ≡ Some e) }
+        (λ config. (config ≡ numbers.now) × IsConfig config × (is_config numbers.now ≡ true))
+        (λ e. e ≢ OutOfMemory → (e ≡ BadConfiguration) × (is_config numbers.now ≡ false)) }
 {
-    let (ids, has_fault) = split_fault(args);
-    if !are_numbers(ids) {
-        return Err(ScriptError::BadNumber);
+    let Some(ids) = ids_of(alloc, numbers)? else {
+        return Err(ScriptError::BadConfiguration);
+    };
+    match Config::new(alloc, ids) {
+        Ok(config) => Ok(config),
+        Err(error) => Err(config_error(error)),
     }
+}
+
+// The one configuration.
+fn config(alloc: Global, before: &Before, args: &[&[u8]]) -> Result<Config, ScriptError>
+    ensures { MatchResult result
+        (λ config. (config_fault before.now (map (λ w. w.now) args.now) ≡ None)
+        × (map (λ w. w.now) args.now ≡ map decimal config) × IsConfig config
+        × (numbers_of (map (λ w. w.now) args.now) ≡ config) × (before.now.config ≡ None))
+        (λ e. e ≢ OutOfMemory →
+        config_fault before.now (map (λ w. w.now) args.now) ≡ Some e) }
+{
+    let (words, has_fault) = split_fault(args);
+    let Some(numbers) = numbers(alloc, words)? else {
+        return Err(ScriptError::BadNumber);
+    };
     if has_fault {
         return Err(ScriptError::BadFault);
     }
     if before.begun {
         return Err(ScriptError::OutOfPlace);
     }
-    if before.node.is_some() {
+    if before.config.is_some() {
         return Err(ScriptError::BadConfiguration);
     }
-    match one_id(args) {
-        None => Err(ScriptError::BadConfiguration),
-        Some(node) => Ok(node),
-    }
+    config_of(alloc, &numbers)
 }
 
-/// What a statement comes to, if it may stand here.
+// A frame's delivery, if it may stand here.
+fn deliver(before: &Before, args: &[&[u8]]) -> Result<Meaning, ScriptError>
+    ensures { Places before.now (codes "deliver") (map (λ w. w.now) args.now) result }
+{
+    let (words, has_fault) = split_fault(args);
+    let [word] = words else {
+        return Err(ScriptError::WrongNumberOfWords);
+    };
+    let Some(place) = number(word) else {
+        return Err(ScriptError::BadNumber);
+    };
+    if has_fault {
+        return Err(ScriptError::BadFault);
+    }
+    if before.config.is_none() {
+        return Err(ScriptError::OutOfPlace);
+    }
+    Ok(Meaning::Event(What::Deliver { place }))
+}
+
+// A flow, if it may stand here.
+fn flow(before: &Before, args: &[&[u8]]) -> Result<Meaning, ScriptError>
+    ensures { Places before.now (codes "flow") (map (λ w. w.now) args.now) result }
+{
+    let (words, has_fault) = split_fault(args);
+    if !words.is_empty() {
+        return Err(ScriptError::WrongNumberOfWords);
+    }
+    if has_fault {
+        return Err(ScriptError::BadFault);
+    }
+    if before.config.is_none() {
+        return Err(ScriptError::OutOfPlace);
+    }
+    Ok(Meaning::Flow)
+}
+
+/// What a statement that names a node comes to, if it may stand here.
 fn placed(
     alloc: Global,
-    before: Before,
+    before: &Before,
     name: &[u8],
     args: &[&[u8]],
 ) -> Result<Meaning, ScriptError>
-    ensures { Places before name.now (map (λ w. w.now) args.now) result }
+    requires deliver { bytes_eq name.now (codes "deliver") ≡ false }
+    requires flow { bytes_eq name.now (codes "flow") ≡ false }
+    ensures { Places before.now name.now (map (λ w. w.now) args.now) result }
 {
     let (words, has_fault) = split_fault(args);
     let asked = asked_of(alloc, name, words)?;
@@ -104,21 +177,39 @@ fn placed(
     Ok(meaning(alloc, node, asked)?)
 }
 
-fn item_of_words(alloc: Global, before: Before, words: &[&[u8]]) -> Result<Item, ScriptError>
-    ensures { ReadsWords before (map (λ w. w.now) words.now) result }
+/// What a statement comes to, if it may stand here.
+fn statement(
+    alloc: Global,
+    before: &Before,
+    name: &[u8],
+    args: &[&[u8]],
+) -> Result<Meaning, ScriptError>
+    ensures { Places before.now name.now (map (λ w. w.now) args.now) result }
+{
+    if name == b"deliver".as_slice() {
+        deliver(before, args)
+    } else if name == b"flow".as_slice() {
+        flow(before, args)
+    } else {
+        placed(alloc, before, name, args)
+    }
+}
+
+fn item_of_words(alloc: Global, before: &Before, words: &[&[u8]]) -> Result<Item, ScriptError>
+    ensures { ReadsWords before.now (map (λ w. w.now) words.now) result }
 {
     let [name, args @ ..] = words else {
         return Err(ScriptError::UnknownStatement);
     };
     if *name == b"config".as_slice() {
-        return Ok(Item::Config(config(before, args)?));
+        return Ok(Item::Config(config(alloc, before, args)?));
     }
-    Ok(Item::Asks(placed(alloc, before, name, args)?))
+    Ok(Item::Asks(statement(alloc, before, name, args)?))
 }
 
 /// What a line says, behind what stands before it.
-fn item_of(alloc: Global, before: Before, line: &[u8]) -> Result<Item, ScriptError>
-    ensures { ReadsLine before line.now result }
+fn item_of(alloc: Global, before: &Before, line: &[u8]) -> Result<Item, ScriptError>
+    ensures { ReadsLine before.now line.now result }
 {
     if line.len() > LINE {
         return Err(ScriptError::LineTooLong);
@@ -130,10 +221,10 @@ fn item_of(alloc: Global, before: Before, line: &[u8]) -> Result<Item, ScriptErr
     item_of_words(alloc, before, &words)
 }
 
-/// A script: the node of its configuration, and its statements in order.
+/// A script: its configuration, and its statements in order.
 #[derive(Debug, Drop)]
 pub struct Script {
-    pub node: NodeId,
+    pub config: Config,
     pub statements: Vec<Statement>,
 }
 
@@ -142,16 +233,6 @@ pub struct Script {
 pub struct Fault {
     pub line: u32,
     pub error: ScriptError,
-}
-
-fn add(statements: &mut Vec<Statement>, line: u32, item: Item) -> Result<(), AllocError>
-    ensures { OnOk result
-        (statements.new.items ≡ statements.old.items ++ statements_of line item) }
-{
-    if let Item::Asks(meaning) = item {
-        statements.push(Statement { line, meaning })?;
-    }
-    Ok(())
 }
 
 /// Adds what line `number` says, and answers what then stands before the next line.
@@ -164,28 +245,26 @@ fn take_line(
 ) -> Result<Before, ScriptError>
     ensures { Takes before number line.now statements.old.items statements.new.items result }
 {
-    let item = item_of(alloc, before, line)?;
+    let item = item_of(alloc, &before, line)?;
     if number > LINES {
         return Err(ScriptError::TooManyLines);
     }
-    let after = before.after(&item);
-    add(statements, number, item)?;
-    Ok(after)
+    Ok(before.take(statements, number, item)?)
 }
 
 /// The script that a text spells. Only for want of memory it may be refused with another error than
 /// the least of its first faulty line.
 pub fn read_script(alloc: Global, text: &[u8]) -> Result<Script, Fault>
     ensures found { IfOk result (λ script.
-        IsScript 1 (lines_of text.now) script.node script.statements.items) }
+        IsScript 1 (lines_of text.now) script.config script.statements.items) }
     ensures fault { MatchResult result (λ _. script_fault start 1 (lines_of text.now) ≡ None)
         (λ f. f.error ≢ OutOfMemory →
         script_fault start 1 (lines_of text.now) ≡ Some (f.line, f.error)) }
     ensures node { IfOk result (λ script.
-        All (λ it. Names script.node it.meaning) script.statements.items) }
+        All (λ it. Names script.config it.meaning) script.statements.items) }
 {
     let mut before = Before {
-        node: None,
+        config: None,
         begun: false,
     };
     let mut statements = Vec::new(alloc);
@@ -200,11 +279,11 @@ pub fn read_script(alloc: Global, text: &[u8]) -> Result<Script, Fault>
         }
         number += 1;
     }
-    match before.node {
-        None => Err(Fault {
+    let Some(config) = before.into_config() else {
+        return Err(Fault {
             line: number,
             error: ScriptError::BadConfiguration,
-        }),
-        Some(node) => Ok(Script { node, statements }),
-    }
+        });
+    };
+    Ok(Script { config, statements })
 }

@@ -1,14 +1,23 @@
+ghost use Rattle.std.specs.Prelude.{◌≡◌, ◌++◌, true, false, Some, None, IfOk, MatchOption, MatchResult};
+ghost use Rattle.chain_model.specs.Configuration.{has};
+ghost use Rattle.program.specs.Faults.{node_fault};
+ghost use Rattle.program.specs.Reading.{after_item, statements_of};
+
 use super::error::ScriptError;
-use configurations::NodeId;
+use configurations::{Config, NodeId};
 use kv_types::KvError;
 use lab::What;
+use std::alloc::AllocError;
 
-/// What a statement comes to: something that happens at the node, or a key, value or batch that
-/// there can't be.
+/// What a statement comes to.
 #[derive(Debug, Drop)]
 pub enum Meaning {
+    /// Something that happens at a node.
     Event(What),
+    /// A key, value or batch that there can't be.
     Invalid(KvError),
+    /// Every frame that no statement has delivered yet is delivered.
+    Flow,
 }
 
 /// A statement, and the number of the line where it stands, from 1.
@@ -22,48 +31,76 @@ pub struct Statement {
 #[derive(Debug, Drop)]
 pub enum Item {
     Skipped,
-    Config(NodeId),
+    Config(Config),
     Asks(Meaning),
 }
 
-/// What stands before a line: the configuration's node, and whether a statement.
-#[derive(Clone, Copy)]
+/// What stands before a line: the configuration, and whether a statement.
+#[derive(Debug, Drop)]
 pub struct Before {
-    pub node: Option<NodeId>,
+    pub config: Option<Config>,
     pub begun: bool,
 }
 
-impl Before {
-    ghost use Rattle.std.specs.Prelude.{◌≡◌, Some, MatchResult};
-    ghost use Rattle.program.specs.Faults.{node_fault};
-    ghost use Rattle.program.specs.Reading.{after_item};
+// The node of this number, if it is one of these.
+fn id_in(ids: &[NodeId], node: u64) -> Option<NodeId>
+    ensures { MatchOption result (has ids.now node ≡ false)
+        (λ id. (id ≡ node) × (has ids.now node ≡ true)) }
+{
+    match ids {
+        [first, ..] if first.get() as u64 == node => Some(*first),
+        [_, later @ ..] => id_in(later, node),
+        [] => None,
+    }
+}
 
-    /// What stands before the line after this one.
-    pub fn after(&self, item: &Item) -> Before
-        ensures { result ≡ after_item self.now item.now }
+impl Before {
+    /// What stands before the line after this one, and the statement that was added.
+    pub fn take(
+        self,
+        statements: &mut Vec<Statement>,
+        line: u32,
+        item: Item,
+    ) -> Result<Before, AllocError>
+        ensures after { IfOk result (λ after. after ≡ after_item self item) }
+        ensures added { IfOk result (λ _.
+            statements.new.items ≡ statements.old.items ++ statements_of line item) }
     {
         match item {
-            Item::Skipped => *self,
-            Item::Config(node) => Before {
-                node: Some(*node),
+            Item::Skipped => Ok(self),
+            Item::Config(config) => Ok(Before {
+                config: Some(config),
                 begun: self.begun,
-            },
-            Item::Asks(_) => Before {
-                node: self.node,
-                begun: true,
-            },
+            }),
+            Item::Asks(meaning) => {
+                statements.push(Statement { line, meaning })?;
+                Ok(Before {
+                    config: self.config,
+                    begun: true,
+                })
+            }
         }
     }
 
-    /// The node that a statement may name here.
-    pub fn place(self, node: u64) -> Result<NodeId, ScriptError>
-        ensures { MatchResult result (λ id. (self.node ≡ Some id) × (node ≡ id))
-            (λ e. node_fault self.node node ≡ Some e) }
+    /// The configuration, if there is one.
+    pub fn into_config(self) -> Option<Config>
+        ensures { result ≡ self.config }
     {
-        match self.node {
-            None => Err(ScriptError::OutOfPlace),
-            Some(id) if id.get() as u64 == node => Ok(id),
-            Some(_) => Err(ScriptError::UnknownNode),
+        self.config
+    }
+
+    /// The node that a statement may name here.
+    pub fn place(&self, node: u64) -> Result<NodeId, ScriptError>
+        ensures { MatchResult result
+            (λ id. (id ≡ node) × (node_fault self.now.config (Some node) ≡ None))
+            (λ e. node_fault self.now.config (Some node) ≡ Some e) }
+    {
+        let Some(config) = &self.config else {
+            return Err(ScriptError::OutOfPlace);
+        };
+        match id_in(config.ids(), node) {
+            Some(id) => Ok(id),
+            None => Err(ScriptError::UnknownNode),
         }
     }
 }

@@ -1,5 +1,6 @@
 ghost use Rattle.std.specs.Prelude.{◌≡◌, ◌∷◌, ◌<◌, nat_lt, length, true, false, map, codes};
 ghost use Rattle.std.specs.Prelude.{MatchOption, IfOk};
+ghost use Rattle.std.specs.Str.{bytes_eq};
 ghost use Rattle.program.specs.Statements.{are_pairs, hex_text, is_junk, AreBytesOf, IsJunk};
 ghost use Rattle.program.specs.Words.{AreBytes};
 ghost use Rattle.program.specs.Reading.{Reads};
@@ -7,7 +8,7 @@ ghost use Rattle.program.specs.Reading.{Reads};
 use super::asked::{Asked, Bytes};
 use super::edit::changes_of;
 use super::error::ScriptError;
-use super::word::{bytes_of, hex_digit, number};
+use super::word::{bytes_of, hex_digit, number, numbered};
 use disk::{Junk, JunkBytes};
 use std::alloc::{AllocError, Global};
 
@@ -24,7 +25,7 @@ fn get(alloc: Global, args: &[&[u8]]) -> Result<Asked, ScriptError>
     };
     let at = match at {
         None => None,
-        Some(at) => match number(at) {
+        Some(at) => match numbered(at) {
             None => return Err(ScriptError::BadNumber),
             at => at,
         },
@@ -32,6 +33,18 @@ fn get(alloc: Global, args: &[&[u8]]) -> Result<Asked, ScriptError>
     match bytes_of(alloc, key)? {
         None => Err(ScriptError::BadBytes),
         Some(key) => Ok(Asked::Get(node, Bytes::new(key), at)),
+    }
+}
+
+fn tick(args: &[&[u8]]) -> Result<Asked, ScriptError>
+    ensures { Reads (codes "tick" ∷ map (λ w. w.now) args.now) result }
+{
+    match args {
+        [node] => match number(node) {
+            None => Err(ScriptError::BadNumber),
+            Some(node) => Ok(Asked::Tick(node)),
+        },
+        _ => Err(ScriptError::WrongNumberOfWords),
     }
 }
 
@@ -116,8 +129,10 @@ fn stop(alloc: Global, args: &[&[u8]]) -> Result<Asked, ScriptError>
     Ok(Asked::Stop(node, junk))
 }
 
-/// What the words behind a statement's name ask for, or their least fault.
+/// What the words behind the name of a statement that names a node ask for, or their least fault.
 pub fn asked_of(alloc: Global, name: &[u8], args: &[&[u8]]) -> Result<Asked, ScriptError>
+    requires deliver { bytes_eq name.now (codes "deliver") ≡ false }
+    requires flow { bytes_eq name.now (codes "flow") ≡ false }
     ensures { Reads (name.now ∷ map (λ w. w.now) args.now) result }
 {
     if name == b"submit".as_slice() {
@@ -128,6 +143,8 @@ pub fn asked_of(alloc: Global, name: &[u8], args: &[&[u8]]) -> Result<Asked, Scr
         stop(alloc, args)
     } else if name == b"start".as_slice() {
         start(args)
+    } else if name == b"tick".as_slice() {
+        tick(args)
     } else {
         Err(ScriptError::UnknownStatement)
     }

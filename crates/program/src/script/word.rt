@@ -4,6 +4,7 @@ ghost use Rattle.std.specs.Str.Parse.{digits_value};
 ghost use Rattle.program.specs.Words.{AreBytes, is_plain, byte_text, bytes_text, are_bytes};
 ghost use Rattle.program.specs.Words.{is_byte_string, is_number, is_hex, hex_value};
 
+use kv_types::Number;
 use std::alloc::{AllocError, Global};
 
 /// The greatest number that a script may name.
@@ -24,6 +25,14 @@ pub fn number(word: &[u8]) -> Option<u64>
         Ok(number) if number <= GREATEST => Some(number),
         _ => None,
     }
+}
+
+/// .. as that of a batch.
+pub fn numbered(word: &[u8]) -> Option<Number>
+    ensures { MatchOption result (is_number word.now ≡ false) (λ n. (is_number word.now ≡ true)
+        × (n < 2 ^ 63) × (word.now ≡ decimal n) × (digits_value 10 word.now ≡ n)) }
+{
+    Number::new(number(word)?)
 }
 
 fn is_itself(byte: u8) -> bool

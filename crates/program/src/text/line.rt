@@ -1,5 +1,5 @@
 ghost use Rattle.std.specs.Prelude.{Some};
-ghost use Rattle.program.specs.Text.{reply_text, started_text, line_text};
+ghost use Rattle.program.specs.Text.{reply_text, started_text, frame_text, line_text};
 
 use super::names::{CauseText, ReasonText, RefusalText};
 use super::spelled::Spelled;
@@ -15,18 +15,24 @@ impl fmt::Display for ReplyText<'_> {
 
     fn fmt<W: fmt::Write>(&self, f: &mut fmt::Formatter<W>) -> fmt::Result {
         match self.0 {
-            Reply::Committed { number, .. } => write!(f, "committed {number}"),
+            Reply::Committed { number, .. } => {
+                let number = number.get();
+                write!(f, "committed {number}")
+            }
             Reply::Value {
                 number,
                 value: None,
                 ..
-            } => write!(f, "none at {number}"),
+            } => {
+                let number = number.get();
+                write!(f, "none at {number}")
+            }
             Reply::Value {
                 number,
                 value: Some(value),
                 ..
             } => {
-                let value = Spelled(value.as_bytes());
+                let (value, number) = (Spelled(value.as_bytes()), number.get());
                 write!(f, "value {value} at {number}")
             }
             Reply::Refused { refusal, .. } => {
@@ -58,6 +64,25 @@ impl fmt::Display for StartedText {
     }
 }
 
+#[derive(Clone, Copy)]
+struct FrameText<'a> {
+    place: u64,
+    from: u16,
+    to: u16,
+    kind: &'a str,
+    epoch: u32,
+}
+
+impl fmt::Display for FrameText<'_> {
+    ghost output = { λ it. Some (frame_text it.place it.from it.to it.kind.now it.epoch) };
+
+    fn fmt<W: fmt::Write>(&self, f: &mut fmt::Formatter<W>) -> fmt::Result {
+        let (place, from, to) = (self.place, self.from, self.to);
+        let (kind, epoch) = (self.kind, self.epoch);
+        write!(f, "#{place} {from}>{to} {kind} {epoch}")
+    }
+}
+
 /// A line of a report, as it is printed.
 #[derive(Clone, Copy)]
 pub struct LineText<'a>(pub &'a Line);
@@ -67,6 +92,7 @@ impl fmt::Display for LineText<'_> {
 
     fn fmt<W: fmt::Write>(&self, f: &mut fmt::Formatter<W>) -> fmt::Result {
         match self.0 {
+            Line::Nothing => write!(f, "nothing"),
             Line::Replied(reply) => {
                 let reply = ReplyText(reply);
                 write!(f, "{reply}")
@@ -83,11 +109,46 @@ impl fmt::Display for LineText<'_> {
             } => {
                 let text = StartedText {
                     node: node.get(),
-                    epoch: *epoch,
-                    count: *count,
-                    committed: *committed,
+                    epoch: epoch.get(),
+                    count: count.get(),
+                    committed: committed.get(),
                 };
                 write!(f, "{text}")
+            }
+            Line::Forwarded {
+                place,
+                from,
+                to,
+                epoch,
+                number,
+            } => {
+                let frame = FrameText {
+                    place: *place,
+                    from: from.get(),
+                    to: to.get(),
+                    kind: "forward",
+                    epoch: epoch.get(),
+                };
+                let number = number.get();
+                write!(f, "{frame} {number}")
+            }
+            Line::Acknowledged {
+                place,
+                from,
+                to,
+                epoch,
+                committed,
+                have,
+            } => {
+                let frame = FrameText {
+                    place: *place,
+                    from: from.get(),
+                    to: to.get(),
+                    kind: "ack",
+                    epoch: epoch.get(),
+                };
+                let (committed, have) = (committed.get(), have.get());
+                write!(f, "{frame} {committed} {have}")
             }
             Line::Stopped { node, cause: None } => {
                 let node = node.get();

@@ -4,9 +4,8 @@ ghost use Rattle.program.specs.Text.{fault_text};
 
 use crate::script::ScriptError;
 use kv_types::KvError;
-use lab::DropReason;
 use link_messages::Refusal;
-use node::Stop;
+use node::{DropReason, Stop};
 use std::fmt;
 
 /// A refusal, by its number and name.
@@ -61,6 +60,16 @@ impl fmt::Display for ReasonText {
         match self.0 {
             DropReason::NotRunning => write!(f, "NotRunning"),
             DropReason::Running => write!(f, "Running"),
+            DropReason::Removed => write!(f, "Removed"),
+            DropReason::OtherEpoch => write!(f, "OtherEpoch"),
+            DropReason::NotPredecessor => write!(f, "NotPredecessor"),
+            DropReason::NotSuccessor => write!(f, "NotSuccessor"),
+            DropReason::OtherNumber => write!(f, "OtherNumber"),
+            DropReason::BadAck => write!(f, "BadAck"),
+            DropReason::OldNotice => write!(f, "OldNotice"),
+            DropReason::BadNotice => write!(f, "BadNotice"),
+            DropReason::NotForNodes => write!(f, "NotForNodes"),
+            DropReason::Unreadable => write!(f, "Unreadable"),
         }
     }
 }

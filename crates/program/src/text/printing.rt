@@ -1,36 +1,33 @@
-ghost use Rattle.std.specs.Prelude.{◌≡◌, ◌++◌, codes, OnOk, IfOk};
+ghost use Rattle.std.specs.Prelude.{◌≡◌, ◌++◌, drop, replicate, OnOk, IfOk};
 ghost use Rattle.std.specs.List.{flat_map};
 ghost use Rattle.std.specs.Io.KnownBytes.{Appends};
-ghost use Rattle.program.specs.Text.{error_text, event_lines, line_of_event, line_of_request};
-ghost use Rattle.program.specs.Text.{line_told_at, numbered, told_text, statement_text};
-ghost use Rattle.program.specs.Text.{steps_behind, run_text, statements_text, request_of};
+ghost use Rattle.program.specs.Text.{event_lines, line_of_request, line_told_at, told_text};
+ghost use Rattle.program.specs.Text.{step_text, remark_text, turn_text, run_text, request_of};
 
 use super::line::LineText;
 use super::names::ErrorText;
-use crate::script::{Meaning, Statement};
-use kv_types::KvError;
+use crate::turn::{Remark, Turn};
 use lab::{Line, Lines};
 use node::Reply;
 use std::alloc::{AllocError, Global};
 use std::io::{self, Write};
 
 /// The lines of the script where the events stand.
-pub fn event_places(alloc: Global, statements: &[Statement]) -> Result<Vec<u32>, AllocError>
-    ensures { IfOk result (λ events. events.items ≡ event_lines statements.now) }
+pub fn event_places(alloc: Global, turns: &[Turn]) -> Result<Vec<u32>, AllocError>
+    ensures { IfOk result (λ events. events.items ≡ event_lines turns.now) }
 {
     let mut events = Vec::new(alloc);
-    for statement in statements {
-        add_place(&mut events, statement)?;
+    for turn in turns {
+        add_places(&mut events, turn.line, turn.events)?;
     }
     Ok(events)
 }
 
-fn add_place(events: &mut Vec<u32>, statement: &Statement) -> Result<(), AllocError>
-    ensures { OnOk result (events.new.items ≡
-        events.old.items ++ line_of_event statement.now.line statement.now.meaning) }
+fn add_places(events: &mut Vec<u32>, line: u32, count: usize) -> Result<(), AllocError>
+    ensures { OnOk result (events.new.items ≡ events.old.items ++ replicate count line) }
 {
-    if let Meaning::Event(_) = &statement.meaning {
-        events.push(statement.line)?;
+    for _ in 0..count {
+        events.push(line)?;
     }
     Ok(())
 }
@@ -39,9 +36,9 @@ fn request(reply: &Reply) -> u64
     ensures { result ≡ request_of reply.now }
 {
     match reply {
-        Reply::Committed { request, .. } => *request,
-        Reply::Value { request, .. } => *request,
-        Reply::Refused { request, .. } => *request,
+        Reply::Committed { request, .. } => request.get(),
+        Reply::Value { request, .. } => request.get(),
+        Reply::Refused { request, .. } => request.get(),
     }
 }
 
@@ -75,17 +72,9 @@ fn print_line<W: Write>(events: &[u32], here: u32, line: &Line, out: &mut W) -> 
     writeln!(out, "{number}: {text}")
 }
 
-fn print_error<W: Write>(here: u32, error: KvError, out: &mut W) -> io::Result<()>
-    ensures { OnOk result (Appends (W.contents out.old) (W.contents out.new)
-        (numbered here (codes "invalid " ++ error_text error))) }
-{
-    let text = ErrorText(error);
-    writeln!(out, "{here}: invalid {text}")
-}
-
 fn print_step<W: Write>(events: &[u32], here: u32, step: &[Line], out: &mut W) -> io::Result<()>
     ensures { OnOk result (Appends (W.contents out.old) (W.contents out.new)
-        (flat_map (told_text events.now here) step.now)) }
+        (step_text events.now here step.now)) }
 {
     for line in step {
         print_line(events, here, line, out)?;
@@ -93,49 +82,61 @@ fn print_step<W: Write>(events: &[u32], here: u32, step: &[Line], out: &mut W) -
     Ok(())
 }
 
-/// Prints what there is to say at a statement, and answers the steps of those behind it.
-fn print_statement<'a, W: Write>(
+fn print_steps<W: Write>(events: &[u32], here: u32, steps: &[Lines], out: &mut W) -> io::Result<()>
+    ensures { OnOk result (Appends (W.contents out.old) (W.contents out.new)
+        (flat_map (step_text events.now here) steps.now)) }
+{
+    for step in steps {
+        print_step(events, here, step.as_slice(), out)?;
+    }
+    Ok(())
+}
+
+fn print_remark<W: Write>(here: u32, remark: Option<Remark>, out: &mut W) -> io::Result<()>
+    ensures { OnOk result (Appends (W.contents out.old) (W.contents out.new)
+        (remark_text here remark)) }
+{
+    match remark {
+        None => Ok(()),
+        Some(Remark::Invalid(error)) => {
+            let text = ErrorText(error);
+            writeln!(out, "{here}: invalid {text}")
+        }
+        Some(Remark::Busy) => writeln!(out, "{here}: busy"),
+    }
+}
+
+/// Prints a statement's turn, and answers the steps of those behind it.
+fn print_turn<'a, W: Write>(
     events: &[u32],
-    statement: &Statement,
+    turn: &Turn,
     steps: &'a [Lines],
     out: &mut W,
 ) -> io::Result<&'a [Lines]>
     ensures text { OnOk result (Appends (W.contents out.old) (W.contents out.new)
-        (statement_text events.now statement.now.line statement.now.meaning steps.now)) }
-    ensures behind { IfOk result (λ left.
-        left.now ≡ steps_behind statement.now.meaning steps.now) }
+        (turn_text events.now turn.now steps.now)) }
+    ensures behind { IfOk result (λ left. left.now ≡ drop turn.now.events steps.now) }
 {
-    let here = statement.line;
-    match &statement.meaning {
-        Meaning::Invalid(error) => {
-            print_error(here, *error, out)?;
-            Ok(steps)
-        }
-        Meaning::Event(_) => {
-            let [step, behind @ ..] = steps else {
-                return Ok(steps);
-            };
-            print_step(events, here, step.as_slice(), out)?;
-            Ok(behind)
-        }
-    }
+    let (own, behind) = steps.split_at(turn.events.min(steps.len()));
+    print_steps(events, turn.line, own, out)?;
+    print_remark(turn.line, turn.remark, out)?;
+    Ok(behind)
 }
 
-/// Prints the run of a script's statements, of which each event had a step. `places` are the lines
-/// of the events.
+/// Prints the run of statements, one turn after another. `places` are the lines of the events.
 pub fn print_run<W: Write>(
     places: &[u32],
-    statements: &[Statement],
+    turns: &[Turn],
     steps: &[Lines],
     out: &mut W,
 ) -> io::Result<()>
-    requires { places.now ≡ event_lines statements.now }
+    requires { places.now ≡ event_lines turns.now }
     ensures { OnOk result (Appends (W.contents out.old) (W.contents out.new)
-        (run_text statements.now steps.now)) }
+        (run_text turns.now steps.now)) }
 {
     let mut left = steps;
-    for statement in statements {
-        left = print_statement(places, statement, left, out)?;
+    for turn in turns {
+        left = print_turn(places, turn, left, out)?;
     }
     out.flush()
 }

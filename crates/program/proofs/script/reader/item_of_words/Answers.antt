@@ -6,6 +6,6 @@ use Rattle.program.proofs.script.reader.item_of_words.Goals as goal
 pub returns-then-eq : goal.returns-then-eq
 returns-then-eq c =
     let e = c.in_ok-config.ensures in let ws = c.args.words.now in
-    is_config c.args.before (map (λ w. w.now) ws) (map (λ w. w.now) (take (length ws - 1)
-    (drop 1 ws))) c.in_ok-config.field-0 (search rules)
-    (named_word ws (codes "config") c.in-len1-up.len_at_least (search rules)) e.1 e.2 e.3 e.0
+    is_config c.args.before.now (map (λ w. w.now) ws) (map (λ w. w.now) (take (length ws - 1)
+    (drop 1 ws))) c.in_ok-config.field-0
+    (named_word ws (codes "config") c.in-len1-up.len_at_least (search rules)) e.1 e.2 e.3 e.4 e.0

@@ -1,4 +1,4 @@
-use Rattle.std.proofs.Common.{arith, append-nil, refl, ◌∙◌, []}
+use Rattle.std.proofs.Common.{arith, append-nil, refl, sym, ◌∙◌, []}
 use Rattle.program.specs.Scripts.{lines_of, IsScript}
 use Rattle.program.proofs.Going.{takes_on, keeps_fault, all_name}
 use Rattle.program.proofs.script.reader.read_script.Goals as goal
@@ -10,27 +10,27 @@ loop-line-preserved c =
     let lines = lines_of c.next.new.self.0.now in let old = c.loop-line.statements.items in
     let taken = rw c.in-Ok.is at c.take_line.ensures in
     record {
-      found = takes_on before c.in-Ok.after n line lines old _ (λ node rest. IsScript 1
-          (lines_of c.args.text.now) node rest) taken
-          (λ node rest h. c.loop-line.invariant.found node rest (rw c.in-Some.ensures.steps h));
+      found = takes_on before c.in-Ok.after n line lines old _ (λ ids rest. IsScript 1
+          (lines_of c.args.text.now) ids rest) taken
+          (λ ids rest h. c.loop-line.invariant.found ids rest (rw c.in-Some.ensures.steps h));
       fault = keeps_fault before c.in-Ok.after n line lines old _ taken
           ∙ rw c.in-Some.ensures.steps at c.loop-line.invariant.fault;
       few = omega (arith, taken.1);
     }
 
-pub returns-in-Some-node-clause-found : goal.returns-in-Some-node-clause-found
-returns-in-Some-node-clause-found c =
+pub returns-clause-found : goal.returns-clause-found
+returns-clause-found c =
     rw (← append-nil c.loop-line.statements.items)
-    (c.loop-line.invariant.found c.in-Some-node.node [] (rw (
+    (c.loop-line.invariant.found c.in-Some-into_config.config [] (rw (
       c.in-None.ensures.steps.0,
-      c.in-Some-node.is,
+      sym c.into_config.ensures ∙ c.in-Some-into_config.is,
     ) (refl, refl)))
 
-pub returns-in-Some-node-clause-node : goal.returns-in-Some-node-clause-node
-returns-in-Some-node-clause-node c =
-    all_name 1 (lines_of c.args.text.now) c.in-Some-node.node c.loop-line.statements.items
+pub returns-clause-node : goal.returns-clause-node
+returns-clause-node c =
+    all_name 1 (lines_of c.args.text.now) c.in-Some-into_config.config c.loop-line.statements.items
     (rw (← append-nil c.loop-line.statements.items)
-    (c.loop-line.invariant.found c.in-Some-node.node [] (rw (
+    (c.loop-line.invariant.found c.in-Some-into_config.config [] (rw (
       c.in-None.ensures.steps.0,
-      c.in-Some-node.is,
+      sym c.into_config.ensures ∙ c.in-Some-into_config.is,
     ) (refl, refl))))

@@ -9,9 +9,9 @@ use Rattle.program.proofs.script.reader.read_script.Given as goal
 -- whole
 abbrev pub invariant-loop-line : goal.invariant-loop-line
 invariant-loop-line l = record {
-  found : (node : ℕ) (rest : List Statement) → IsRest l.before.node l.number
-      (lines_of l.line-iterator.0.now) node rest
-      → IsScript 1 (lines_of l.fn.text) node (l.statements.items ++ rest);
+  found : (ids : List ℕ) (rest : List Statement) → IsRest l.before.config l.number
+      (lines_of l.line-iterator.0.now) ids rest
+      → IsScript 1 (lines_of l.fn.text) ids (l.statements.items ++ rest);
   fault : script_fault l.before l.number (lines_of l.line-iterator.0.now) ≡ script_fault start 1
       (lines_of l.fn.text);
   few : l.number ≤ 100001;

@@ -1,0 +1,20 @@
+use Rattle.std.proofs.Common.{◌∙◌, subst, List, ℕ}
+use Rattle.configurations.specs.Configs.{IsConfig}
+use Rattle.program.proofs.Ids.{config_is, no_config_of}
+use Rattle.program.proofs.script.reader.config_of.Goals as goal
+
+pub returns-in-Ok : goal.returns-in-Ok
+returns-in-Ok c =
+    let same = rw c.in-Some.is at c.in_ok-ids.ensures in
+    let made = c.in-Ok.ensures.made in (
+      made.0 ∙ same,
+      made.1,
+      config_is c.args.numbers.now
+          (subst (λ (ids : List ℕ). IsConfig ids) (made.0 ∙ same) made.1),
+    )
+
+pub returns-in-Err : goal.returns-in-Err
+returns-in-Err c =
+    let same = rw c.in-Some.is at c.in_ok-ids.ensures in
+    no_config_of c.in-Some.ids.items c.args.numbers.now c.in-Err.error c.config_error.result same
+    c.in-Err.ensures.refused c.config_error.ensures

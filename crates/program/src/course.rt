@@ -1,0 +1,162 @@
+ghost use Rattle.std.specs.Prelude.{◌≡◌, ℕ, List, [], ◌∷◌, ◌++◌, length, map, take, drop};
+ghost use Rattle.std.specs.Prelude.{OnOk, IfOk, ◌+◌, ◌-◌};
+ghost use Rattle.chain_model.specs.Configuration.{Configurations};
+ghost use Rattle.chain_model.specs.Node.{without};
+ghost use Rattle.lab.specs.declared.event.Event.{Event as LabEvent};
+ghost use Rattle.lab.specs.declared.report.Line.{Line};
+ghost use Rattle.lab.specs.Events.{NamesNode};
+ghost use Rattle.lab.specs.Worlds.{HasRun, frames_told, frames_of_step};
+ghost use Rattle.program.specs.Courses.{event, events_of, left_by, left_by_event, places_after};
+ghost use Rattle.program.specs.Courses.{IsTurn, IsCourse, most};
+ghost use Rattle.program.specs.Scripts.{Names};
+
+use crate::script::{Meaning, Statement};
+use crate::turn::{Remark, Turn};
+use configurations::Configs;
+use disk::Fault;
+use kv_types::Limits;
+use lab::{Event, LabError, What, World};
+use std::alloc::{AllocError, Global};
+use std::collections::VecDeque;
+
+/// The most frames that one flow delivers.
+const MOST: usize = 10000;
+
+/// A run of statements so far: the world, and the places of the frames that no statement has
+/// delivered yet.
+#[derive(Drop)]
+pub struct Course {
+    pub world: World,
+    pub left: VecDeque<u64>,
+}
+
+// The places of the frames that were sent between.
+fn add_places(left: &mut VecDeque<u64>, before: u64, now: u64) -> Result<(), AllocError>
+    ensures { OnOk result
+        (left.new.items ≡ left.old.items ++ places_after before (now - before)) }
+{
+    for sent in before..now {
+        left.push_back(sent + 1)?;
+    }
+    Ok(())
+}
+
+// A place that is there is left out.
+fn take_out(left: &mut VecDeque<u64>, place: u64)
+    ensures { left.new.items ≡ without place left.old.items }
+{
+    for index in 0..left.len() {
+        if left[index] == place {
+            left.remove(index);
+            return;
+        }
+    }
+}
+
+impl Course {
+    pub fn new(alloc: Global, configs: &Configs, limits: &Limits) -> Result<Course, LabError>
+        ensures run { IfOk result (λ course. HasRun course.world configs.now [] []) }
+        ensures left { IfOk result (λ course. course.left.items ≡ []) }
+    {
+        Ok(Course {
+            world: World::new(alloc, configs, limits)?,
+            left: VecDeque::new(alloc),
+        })
+    }
+
+    // An event happens, and the frames that it sends are left to be delivered.
+    fn give(&mut self, alloc: Global, what: What) -> Result<(), LabError>
+        ensures { (cs : Configurations) (events : List LabEvent) (steps : List (List Line)) →
+            HasRun self.old.world cs events steps → NamesNode cs what →
+            OnOk result ((lines : List Line)
+            × HasRun self.new.world cs (events ++ event what ∷ []) (steps ++ lines ∷ [])
+            × (self.new.left.items ≡ self.old.left.items
+            ++ places_after (frames_told steps) (frames_of_step lines))) }
+    {
+        let before = self.world.sent();
+        let fault = Fault::None;
+        self.world.step(alloc, &Event { what, fault })?;
+        add_places(&mut self.left, before, self.world.sent())?;
+        Ok(())
+    }
+
+    // A statement's event happens. A frame that it delivers is no longer left.
+    fn event(&mut self, alloc: Global, what: &What) -> Result<(), LabError>
+        ensures { (cs : Configurations) (events : List LabEvent) (steps : List (List Line)) →
+            HasRun self.old.world cs events steps → NamesNode cs what.now →
+            OnOk result ((lines : List Line)
+            × HasRun self.new.world cs (events ++ event what.now ∷ []) (steps ++ lines ∷ [])
+            × (self.new.left.items ≡ left_by_event what.now (self.old.left.items
+            ++ places_after (frames_told steps) (frames_of_step lines)))) }
+    {
+        self.give(alloc, what.clone()?)?;
+        if let What::Deliver { place } = what {
+            take_out(&mut self.left, *place);
+        }
+        Ok(())
+    }
+
+    // The frames that are left are delivered, up to the bound. It answers how many.
+    fn flow(&mut self, alloc: Global) -> Result<usize, LabError>
+        ensures { (cs : Configurations) (events : List LabEvent) (steps : List (List Line)) →
+            HasRun self.old.world cs events steps →
+            IfOk result (λ count. (own : List (List Line))
+            × HasRun self.new.world cs (events ++ events_of Meaning.Flow (self.old.left.items
+            ++ places_after (frames_told steps) (frames_told own))) (steps ++ own)
+            × (count ≡ length own) × (count ≡ length (events_of Meaning.Flow (self.old.left.items
+            ++ places_after (frames_told steps) (frames_told own))))
+            × (self.new.left.items ≡ drop most (self.old.left.items
+            ++ places_after (frames_told steps) (frames_told own)))) }
+    {
+        let mut count = 0;
+        while count < MOST {
+            let Some(place) = self.left.pop_front() else {
+                return Ok(count);
+            };
+            self.give(alloc, What::Deliver { place })?;
+            count += 1;
+        }
+        Ok(count)
+    }
+
+    /// Runs a statement.
+    pub fn take(&mut self, alloc: Global, statement: &Statement) -> Result<Turn, LabError>
+        ensures { (ids : List ℕ) (events : List LabEvent) (steps : List (List Line)) →
+            HasRun self.old.world (ids ∷ []) events steps → Names ids statement.now.meaning →
+            IfOk result (λ turn. (own : List LabEvent) × (lines : List (List Line))
+            × IsTurn (frames_told steps) self.old.left.items statement.now turn own lines
+            × HasRun self.new.world (ids ∷ []) (events ++ own) (steps ++ lines)
+            × (self.new.left.items ≡ left_by statement.now.meaning (self.old.left.items
+            ++ places_after (frames_told steps) (frames_told lines)))) }
+    {
+        let line = statement.line;
+        match &statement.meaning {
+            Meaning::Event(what) => {
+                self.event(alloc, what)?;
+                Ok(Turn {
+                    line,
+                    events: 1,
+                    remark: None,
+                })
+            }
+            Meaning::Invalid(error) => Ok(Turn {
+                line,
+                events: 0,
+                remark: Some(Remark::Invalid(*error)),
+            }),
+            Meaning::Flow => {
+                let events = self.flow(alloc)?;
+                let remark = if self.left.is_empty() {
+                    None
+                } else {
+                    Some(Remark::Busy)
+                };
+                Ok(Turn {
+                    line,
+                    events,
+                    remark,
+                })
+            }
+        }
+    }
+}
