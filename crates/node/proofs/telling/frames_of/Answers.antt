@@ -32,7 +32,9 @@ returns c = λ n is list.
     let x = c.args.core.now.id in
     let k = c.args.numbers.start - 1 in
     let numbers = c.args.numbers in
-    let all : c.loop-number.number - numbers.start ≡ numbers.end - numbers.start = omega (arith, c.loop-number-test.false, c.loop-number.invariant.reached) in
+    let at = c.loop-number in
+    let all : at.number - numbers.start ≡ numbers.end - numbers.start =
+    omega (arith, c.loop-number-test.false, at.invariant.reached) in
     let passed = subst (λ m. AreFrames c.loop-number.frames.items (forwards x n k m)) all
     (c.loop-number.invariant.sent n is list) in
     rw c.in_ok-push_some-2.ensures (both_sent _ _ _ _ passed (c.ack_where.ensures n is))
