@@ -1,17 +1,15 @@
 -- A script has no fault, where its lines are neither too long nor too many.
-use Rattle.std.proofs.Common.{◌≡◌, ◌≢◌, ◌+◌, ◌/◌, ◌<◌, ◌≤◌, ◌^◌, ℕ, suc, List, [], ◌∷◌, ◌++◌, codes}
-use Rattle.std.proofs.Common.{refl, sym, ap, ◌∙◌, inl, inr, arith, true, false, Bool, map, length}
-use Rattle.std.proofs.Common.{drop, Option, Some, None, append-nil}
+use Rattle.std.proofs.Common.{◌≡◌, ◌+◌, ◌/◌, ◌<◌, ◌≤◌, ◌^◌, ℕ, suc, List, [], ◌∷◌, ◌++◌, codes}
+use Rattle.std.proofs.Common.{refl, sym, ◌∙◌, inl, inr, arith, true, false, Bool, map, length}
+use Rattle.std.proofs.Common.{drop, Some, None, append-nil}
 use Rattle.std.specs.Prelude.{All, ◌==◌, nat_lt, nat_le}
 use Rattle.std.specs.Str.{bytes_eq}
 use Rattle.std.specs.Str.Parse.{digits_value}
-use Rattle.std.specs.Char.{digit_char}
 use Rattle.std.specs.Fmt.{decimal}
-use Rattle.std.specs.List.{slice_split, onto_first}
+use Rattle.std.specs.List.{onto_first}
 use Rattle.std.proofs.lemmas.Bool.{cases_Bool}
 use Rattle.std.proofs.lemmas.Bool.Decides.{nat_tests}
 use Rattle.std.proofs.lemmas.Fmt.{digits_value-decimal}
-use Rattle.std.proofs.lemmas.Grind.{common_steps}
 use Rattle.std.proofs.lemmas.List.Elements.{All-head, All-tail}
 use Rattle.disk.specs.declared.junk.Junk.{Junk}
 use Rattle.disk.specs.declared.junk.Junk.TheVariants.{Old, New, Bytes}
@@ -22,10 +20,10 @@ use Rattle.lab.specs.declared.event.What.TheVariants.{Submit, Get, Start, Stop}
 use Rattle.lab.specs.Events.{node_in}
 use Rattle.program.specs.declared.script.statement.Before.{Before}
 use Rattle.program.specs.declared.script.statement.Statement.{Statement}
-use Rattle.program.specs.Words.{AreBytes, is_plain, byte_text, bytes_text, is_number}
-use Rattle.program.specs.Words.{begins_fault, has_fault, before_fault}
+use Rattle.program.specs.Words.{AreBytes, is_plain, bytes_text, is_number}
+use Rattle.program.specs.Words.{begins_fault, has_fault}
 use Rattle.program.specs.Statements.{AreBytesIn, AreBytesOf, CanBeSaid, edit_text, hex_text, IsJunk}
-use Rattle.program.specs.Statements.{IsSpelled, fault_of_words}
+use Rattle.program.specs.Statements.{IsSpelled}
 use Rattle.program.specs.Scripts.{words_of, is_skipped, AreStatements, CanBeNode, IsScript}
 use Rattle.program.specs.Faults.{statement_fault, words_fault, line_fault, after_words, after_line}
 use Rattle.program.specs.Faults.{script_fault, start}
