@@ -93,19 +93,22 @@ fn bytes_that_spell_no_batch(rt: HostRuntime) {
     }
 }
 
+/// Refusals and their numbers.
+static REFUSALS: [(KvError, u8); 8] = [
+    (KvError::KeyTooLong, 1),
+    (KvError::ValueTooLong, 2),
+    (KvError::NoEdits, 3),
+    (KvError::TooManyEdits, 4),
+    (KvError::BatchTooLong, 5),
+    (KvError::BadBytes, 6),
+    (KvError::Memory, 7),
+    (KvError::BadLimit, 8),
+];
+
 #[test]
 fn refusals_have_their_numbers(rt: HostRuntime) {
-    for (refusal, number) in [
-        (KvError::KeyTooLong, 1),
-        (KvError::ValueTooLong, 2),
-        (KvError::NoEdits, 3),
-        (KvError::TooManyEdits, 4),
-        (KvError::BatchTooLong, 5),
-        (KvError::BadBytes, 6),
-        (KvError::Memory, 7),
-        (KvError::BadLimit, 8),
-    ] {
-        assert_eq!(rt; refusal as u8, number, "{refusal:?}");
+    for (refusal, number) in &REFUSALS {
+        assert_eq!(rt; *refusal as u8, *number, "{refusal:?}");
     }
 }
 
@@ -123,18 +126,28 @@ fn value_refusal(alloc: Global, len: usize) -> Option<KvError> {
     Value::new(bytes).err()
 }
 
+/// The length of a key, and the refusal.
+static KEY_LENGTHS: [(usize, Option<KvError>); 3] = [
+    (0, None),
+    (1024, None),
+    (1025, Some(KvError::KeyTooLong)),
+];
+
+/// The length of a value, and the refusal.
+static VALUE_LENGTHS: [(usize, Option<KvError>); 3] = [
+    (0, None),
+    (16384, None),
+    (16385, Some(KvError::ValueTooLong)),
+];
+
 #[test]
 fn keys_and_values_at_their_limits(rt: HostRuntime) {
     let alloc = rt.alloc();
-    for (len, want) in [(0, None), (1024, None), (1025, Some(KvError::KeyTooLong))] {
-        assert_eq!(rt; key_refusal(alloc, len), want, "{len}");
+    for (len, want) in &KEY_LENGTHS {
+        assert_eq!(rt; key_refusal(alloc, *len), *want, "{len}");
     }
-    for (len, want) in [
-        (0, None),
-        (16384, None),
-        (16385, Some(KvError::ValueTooLong)),
-    ] {
-        assert_eq!(rt; value_refusal(alloc, len), want, "{len}");
+    for (len, want) in &VALUE_LENGTHS {
+        assert_eq!(rt; value_refusal(alloc, *len), *want, "{len}");
     }
 }
 
@@ -147,16 +160,19 @@ fn count_refusal(alloc: Global, count: usize) -> Result<Option<KvError>, KvError
     Ok(Batch::new(edits).err())
 }
 
+/// How many edits there are, and the refusal.
+static COUNTS: [(usize, Option<KvError>); 4] = [
+    (0, Some(KvError::NoEdits)),
+    (1, None),
+    (256, None),
+    (257, Some(KvError::TooManyEdits)),
+];
+
 #[test]
 fn batches_at_their_limit_of_edits(rt: HostRuntime) -> Result<(), Fail> {
     let alloc = rt.alloc();
-    for (count, want) in [
-        (0, Some(KvError::NoEdits)),
-        (1, None),
-        (256, None),
-        (257, Some(KvError::TooManyEdits)),
-    ] {
-        assert_eq!(rt; count_refusal(alloc, count)?, want, "{count}");
+    for (count, want) in &COUNTS {
+        assert_eq!(rt; count_refusal(alloc, *count)?, *want, "{count}");
     }
     Ok(())
 }
@@ -196,42 +212,52 @@ fn range_refusal(alloc: Global, limit: u32) -> Result<Option<KvError>, KvError> 
     Ok(Range::new(from, None, false, limit).err())
 }
 
+const BAD_LIMIT: Option<KvError> = Some(KvError::BadLimit);
+
+/// How many rows are asked for, and the refusal.
+static LIMITS: [(u32, Option<KvError>); 5] = [
+    (0, BAD_LIMIT),
+    (1, None),
+    (1024, None),
+    (1025, BAD_LIMIT),
+    (u32::MAX, BAD_LIMIT),
+];
+
 #[test]
 fn ranges_at_their_limit(rt: HostRuntime) -> Result<(), Fail> {
     let alloc = rt.alloc();
-    let bad = Some(KvError::BadLimit);
-    for (limit, want) in [
-        (0, bad),
-        (1, None),
-        (1024, None),
-        (1025, bad),
-        (u32::MAX, bad),
-    ] {
-        assert_eq!(rt; range_refusal(alloc, limit)?, want, "{limit}");
+    for (limit, want) in &LIMITS {
+        assert_eq!(rt; range_refusal(alloc, *limit)?, *want, "{limit}");
     }
     Ok(())
 }
 
+const GIB: u64 = 1 << 30;
+
+const TIB: u64 = 1 << 40;
+
+/// Limits, and whether they are in range.
+static ENDS: [(u64, u64, u64, u64, u64, bool); 11] = [
+    (16, 0, 64, 64, 1, true),
+    (GIB, 64, GIB, TIB, 65536, true),
+    (15, 0, 64, 64, 1, false),
+    (GIB + 1, 0, 64, 64, 1, false),
+    (16, 65, 64, 64, 1, false),
+    (16, 0, 63, 64, 1, false),
+    (16, 0, GIB + 1, 64, 1, false),
+    (16, 0, 64, 63, 1, false),
+    (16, 0, 64, TIB + 1, 1, false),
+    (16, 0, 64, 64, 0, false),
+    (16, 0, 64, 64, 65537, false),
+];
+
 #[test]
 fn limits_at_their_ends(rt: HostRuntime) {
-    let (gib, tib) = (1 << 30, 1 << 40);
-    for (log, l0, table, level, cache, is_taken) in [
-        (16, 0, 64, 64, 1, true),
-        (gib, 64, gib, tib, 65536, true),
-        (15, 0, 64, 64, 1, false),
-        (gib + 1, 0, 64, 64, 1, false),
-        (16, 65, 64, 64, 1, false),
-        (16, 0, 63, 64, 1, false),
-        (16, 0, gib + 1, 64, 1, false),
-        (16, 0, 64, 63, 1, false),
-        (16, 0, 64, tib + 1, 1, false),
-        (16, 0, 64, 64, 0, false),
-        (16, 0, 64, 64, 65537, false),
-    ] {
-        let limits = Limits::new(log, l0, table, level, cache);
+    for (log, l0, table, level, cache, is_taken) in &ENDS {
+        let limits = Limits::new(*log, *l0, *table, *level, *cache);
         assert_eq!(rt;
             limits.is_ok(),
-            is_taken,
+            *is_taken,
             "{log} {l0} {table} {level} {cache}"
         );
     }
@@ -247,20 +273,24 @@ fn default_limits(rt: HostRuntime) {
     );
 }
 
+const GREATEST: u64 = (1 << 63) - 1;
+
+/// A value, whether it is a number, and whether a number follows it.
+static NUMBERS: [(u64, bool, bool); 4] = [
+    (0, true, true),
+    (GREATEST - 1, true, true),
+    (GREATEST, true, false),
+    (GREATEST + 1, false, false),
+];
+
 #[test]
 fn numbers_up_to_the_greatest(rt: HostRuntime) {
-    let greatest = (1 << 63) - 1;
-    for (value, is_taken, has_next) in [
-        (0, true, true),
-        (greatest - 1, true, true),
-        (greatest, true, false),
-        (greatest + 1, false, false),
-    ] {
-        let number = Number::new(value);
-        assert_eq!(rt; number.is_some(), is_taken, "{value}");
+    for (value, is_taken, has_next) in &NUMBERS {
+        let number = Number::new(*value);
+        assert_eq!(rt; number.is_some(), *is_taken, "{value}");
         assert_eq!(rt;
             number.and_then(|n| n.next()).is_some(),
-            has_next,
+            *has_next,
             "{value}"
         );
     }

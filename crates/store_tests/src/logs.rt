@@ -294,15 +294,18 @@ fn sized(alloc: Global, len: usize) -> Result<(Option<LogError>, usize, usize), 
     Ok((why, log.len(), again.len()))
 }
 
+// The length of a record, and what comes of it.
+static SIZES: [(usize, (Option<LogError>, usize, usize)); 3] = [
+    (0, (None, 3, 3)),
+    (16_777_216, (None, 3, 3)),
+    (16_777_217, (Some(LogError::TooLong), 2, 2)),
+];
+
 #[test]
 fn sizes_at_their_edges(rt: HostRuntime) -> Result<(), Fail> {
-    for (len, want) in [
-        (0, (None, 3, 3)),
-        (16_777_216, (None, 3, 3)),
-        (16_777_217, (Some(LogError::TooLong), 2, 2)),
-    ] {
-        let found = sized(rt.alloc(), len)?;
-        assert_eq!(rt; found, want, "{len}");
+    for (len, want) in &SIZES {
+        let found = sized(rt.alloc(), *len)?;
+        assert_eq!(rt; found, *want, "{len}");
     }
     Ok(())
 }
@@ -342,20 +345,23 @@ fn a_failure_stays_until_the_log_is_opened(rt: HostRuntime) -> Result<(), Fail> 
     Ok(())
 }
 
+// Refusals and their texts.
+static TEXTS: [(LogError, &str); 4] = [
+    (LogError::Disk(DiskError::Failed), "disk: the device failed"),
+    (
+        LogError::TooLong,
+        "a record is longer than 16,777,216 bytes",
+    ),
+    (LogError::Memory, "out of memory"),
+    (LogError::Failed, "the log has to be opened again"),
+];
+
 #[test]
 fn texts_of_refusals(rt: HostRuntime) -> Result<(), Fail> {
     let alloc = rt.alloc();
-    for (e, want) in [
-        (LogError::Disk(DiskError::Failed), "disk: the device failed"),
-        (
-            LogError::TooLong,
-            "a record is longer than 16,777,216 bytes",
-        ),
-        (LogError::Memory, "out of memory"),
-        (LogError::Failed, "the log has to be opened again"),
-    ] {
+    for (e, want) in &TEXTS {
         let text = format!(in alloc; "{e}")?;
-        assert_eq!(rt; text.as_str(), want);
+        assert_eq!(rt; text.as_str(), *want);
     }
     Ok(())
 }
