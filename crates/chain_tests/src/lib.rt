@@ -2,4 +2,8 @@
 #![tactic(auto)]
 
 #[cfg(test)]
-mod runs;
+mod courses;
+#[cfg(test)]
+mod one_node;
+#[cfg(test)]
+mod three_nodes;

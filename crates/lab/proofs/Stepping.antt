@@ -12,7 +12,8 @@ use Rattle.chain_model.specs.Configuration.{Configurations, Lawful, AllDifferent
 use Rattle.chain_model.specs.Configuration.{at_epoch}
 use Rattle.chain_model.specs.Frames.{Frame as ModelFrame}
 use Rattle.chain_model.specs.InOrder.{InOrder}
-use Rattle.chain_model.specs.World.{Event as ModelEvent, World, Outcome, Answered, reached, beginning}
+use Rattle.chain_model.specs.World.{Event as ModelEvent, World, Outcome, Answered, reached}
+use Rattle.chain_model.specs.World.{beginning}
 use Rattle.chain_model.specs.World.{outcome, happens, after, nothing}
 use Rattle.node.specs.declared.stop.Stop.TheVariants.{Disk}
 use Rattle.lab.specs.declared.coming.Arrival.{Arrival}

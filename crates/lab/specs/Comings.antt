@@ -137,10 +137,18 @@ pub data WasStopped (x : ℕ) (n : Machine) (member : Member) (does : Did) : Typ
   RestsOn : n.running ≡ false → Is member x n → Told does (IsDrop reason.NotRunning)
       → WasStopped x n member does
 
--- what came made this of node x, which was n. (No frame that a node sent is faulty.)
+-- what is no frame between nodes is dropped, for this reason if the node runs
+pub data WasFaulty (x : ℕ) (n : Machine) (why : DropReason) (member : Member) (does : Did) : Type 0
+  where
+    Drops : n.running ≡ true → Is member x n → Told does (IsDrop why)
+        → WasFaulty x n why member does
+    DropsResting : n.running ≡ false → Is member x n → Told does (IsDrop reason.NotRunning)
+        → WasFaulty x n why member does
+
+-- what came made this of node x, which was n
 abbrev pub Happened : ℕ → Machine → Coming → Member → Did → Type 0
 Happened x n (coming.Given inp) member does = WasGiven x n inp member does
-Happened x n (coming.Faulty why) member does = Unit {0}
+Happened x n (coming.Faulty why) member does = WasFaulty x n why member does
 Happened x n coming.Start member does = WasStarted x n member does
 Happened x n (coming.Stop junk) member does = WasStopped x n member does
 

@@ -4,7 +4,7 @@ ghost use Rattle.chain_model.specs.Node.{Answer, stopped};
 ghost use Rattle.chain_core.specs.States.{Machine};
 ghost use Rattle.node.specs.Steps.{Runs, MayStep, StopsAs, disk_of};
 ghost use Rattle.lab.specs.Members.{Is, Works, HasCrashed, is_honest, state};
-ghost use Rattle.lab.specs.Comings.{WasGiven, WasStarted, WasStopped, Happened};
+ghost use Rattle.lab.specs.Comings.{WasGiven, WasFaulty, WasStarted, WasStopped, Happened};
 
 use crate::coming::{Coming, Did, dropped, unheard};
 use disk::{Crash, Junk, MemDisk};
@@ -120,13 +120,20 @@ impl Member {
     // What is no frame between nodes comes.
     fn drop_for(self, alloc: Global, why: DropReason) -> (Member, Did)
         requires { Works self }
+        ensures faulty { (x : ℕ) (n : Machine) → Is self x n →
+            WasFaulty x n why result.0 result.1 }
         ensures same { result.0 ≡ self }
     {
-        let why = match &self {
-            Member::Running(_) => why,
-            Member::Resting(_) => DropReason::NotRunning,
-        };
-        (self, Did::Answered(dropped(alloc, why)))
+        match self {
+            Member::Running(node) => {
+                let output = dropped(alloc, why);
+                (Member::Running(node), Did::Answered(output))
+            }
+            Member::Resting(disk) => {
+                let output = dropped(alloc, DropReason::NotRunning);
+                (Member::Resting(disk), Did::Answered(output))
+            }
+        }
     }
 
     /// What comes makes of the node this, and it does this.

@@ -46,7 +46,7 @@ fn read(alloc: Global, bytes: &[u8]) -> Result<Option<Frame>, LabError>
     }
 }
 
-// What bytes are to the node that they are for. What is kept was spelled by `write`, and so is read.
+// What bytes are to the node that they are for. What is kept was spelled by `write`, so it is read.
 fn coming(found: Option<Frame>) -> Coming
     ensures { (it : _) → found ≡ Some it → result ≡ coming_of it }
 {

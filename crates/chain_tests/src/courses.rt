@@ -1,0 +1,241 @@
+// Runs as they are written down: events in, and what each of them shows out.
+use configurations::{Config, ConfigError, Configs, NodeId};
+use disk::{Fault, Junk, JunkBytes};
+use kv_types::{Batch, Edit, Key, KvError, Limits, Number, Value};
+use lab::{Event, LabError, Line, Report, What, World, names_nodes, run};
+use node::Reply;
+use std::alloc::{AllocError, Global};
+use std::test::Fail;
+
+/// An event. Batches and reads are of the key `a`.
+#[derive(Clone, Copy)]
+pub enum Step {
+    /// Puts a value to the key, or deletes it, in order.
+    Submit(u16, &'static [Option<&'static str>]),
+    Get(u16, Option<u64>),
+    Deliver(u64),
+    Tick(u16),
+    Start(u16),
+    /// The junk is bytes.
+    Stop(u16, &'static [u8]),
+}
+
+pub const ONE: &[Option<&'static str>] = &[Some("1")];
+
+pub const TWO: &[Option<&'static str>] = &[Some("2")];
+
+fn id(id: u16) -> Result<NodeId, KvError> {
+    NodeId::new(id).ok_or(KvError::BadBytes)
+}
+
+fn number(n: u64) -> Number {
+    Number::new(n).unwrap_or(Number::ZERO)
+}
+
+fn key(alloc: Global) -> Result<Key, KvError> {
+    Key::new(b"a".to_vec(alloc)?)
+}
+
+fn edit(alloc: Global, value: Option<&str>) -> Result<Edit, KvError> {
+    match value {
+        None => Ok(Edit::Delete(key(alloc)?)),
+        Some(text) => {
+            let value = Value::new(text.as_bytes().to_vec(alloc)?)?;
+            Ok(Edit::Put(key(alloc)?, value))
+        }
+    }
+}
+
+fn batch(alloc: Global, values: &[Option<&'static str>]) -> Result<Batch, KvError> {
+    let mut edits = Vec::new(alloc);
+    for value in values {
+        edits.push(edit(alloc, *value)?)?;
+    }
+    Batch::new(edits)
+}
+
+fn what(alloc: Global, step: &Step) -> Result<What, KvError> {
+    Ok(match step {
+        Step::Submit(node, values) => What::Submit {
+            node: id(*node)?,
+            batch: batch(alloc, values)?,
+        },
+        Step::Get(node, at) => What::Get {
+            node: id(*node)?,
+            key: key(alloc)?,
+            at: at.map(number),
+        },
+        Step::Deliver(place) => What::Deliver { place: *place },
+        Step::Tick(node) => What::Tick { node: id(*node)? },
+        Step::Start(node) => What::Start { node: id(*node)? },
+        Step::Stop(node, junk) => What::Stop {
+            node: id(*node)?,
+            junk: Junk::Bytes(JunkBytes::new(junk.to_vec(alloc)?)),
+        },
+    })
+}
+
+fn event(alloc: Global, step: &Step) -> Result<Event, KvError> {
+    let what = what(alloc, step)?;
+    let fault = Fault::None;
+    Ok(Event { what, fault })
+}
+
+fn events_of(alloc: Global, steps: &[Step]) -> Result<Vec<Event>, KvError> {
+    let mut events = Vec::new(alloc);
+    for step in steps {
+        events.push(event(alloc, step)?)?;
+    }
+    Ok(events)
+}
+
+// The list of one configuration, of these nodes.
+fn configs(alloc: Global, ids: &[u16]) -> Result<Configs, ConfigError> {
+    let mut configs = Vec::new(alloc);
+    configs.push(Config::new(alloc, ids.to_vec(alloc)?)?)?;
+    Configs::new(configs)
+}
+
+/// The report of these events in a chain of these nodes, whom they name.
+pub fn report_of(alloc: Global, ids: &[u16], steps: &[Step]) -> Result<Option<Report>, Fail> {
+    let configs = configs(alloc, ids)?;
+    let events = events_of(alloc, steps)?;
+    if !names_nodes(&configs, &events) {
+        return Ok(None);
+    }
+    Ok(Some(run(alloc, &configs, &events, &Limits::default())?))
+}
+
+fn stepped(alloc: Global, world: &mut World, events: &[Event]) -> Result<(), LabError> {
+    for event in events {
+        world.step(alloc, event)?;
+    }
+    Ok(())
+}
+
+/// How many frames a chain of these nodes has sent after these events, and how many steps it tells
+/// of.
+pub fn sent_after(alloc: Global, ids: &[u16], steps: &[Step]) -> Result<(u64, usize), Fail> {
+    let configs = configs(alloc, ids)?;
+    let events = events_of(alloc, steps)?;
+    let mut world = World::new(alloc, &configs, &Limits::default())?;
+    stepped(alloc, &mut world, &events)?;
+    let sent = world.sent();
+    Ok((sent, world.finish(alloc)?.steps.len()))
+}
+
+fn value_text(alloc: Global, value: &Value) -> Result<String, AllocError> {
+    String::from_utf8_lossy(alloc, value.as_bytes())
+}
+
+fn reply_text(alloc: Global, reply: &Reply) -> Result<String, AllocError> {
+    match reply {
+        Reply::Committed { request, number } => {
+            let (request, number) = (request.get(), number.get());
+            format!(in alloc; "{request}: committed {number}")
+        }
+        Reply::Refused { request, refusal } => {
+            let request = request.get();
+            format!(in alloc; "{request}: refused {} {refusal:?}", *refusal as u8)
+        }
+        Reply::Value {
+            request,
+            number,
+            value,
+        } => {
+            let (request, number) = (request.get(), number.get());
+            match value {
+                Some(value) => {
+                    let text = value_text(alloc, value)?;
+                    format!(in alloc; "{request}: value {text} at {number}")
+                }
+                None => format!(in alloc; "{request}: none at {number}"),
+            }
+        }
+    }
+}
+
+fn line_text(alloc: Global, line: &Line) -> Result<String, AllocError> {
+    match line {
+        Line::Nothing => format!(in alloc; "nothing"),
+        Line::Dropped(reason) => format!(in alloc; "dropped {reason:?}"),
+        Line::Replied(reply) => reply_text(alloc, reply),
+        Line::Started {
+            node,
+            epoch,
+            count,
+            committed,
+        } => {
+            let (node, epoch) = (node.get(), epoch.get());
+            let (count, done) = (count.get(), committed.get());
+            format!(in alloc; "node {node} started epoch {epoch} count {count} committed {done}")
+        }
+        Line::Forwarded {
+            place,
+            from,
+            to,
+            epoch,
+            number,
+        } => {
+            let (from, to, epoch, number) = (from.get(), to.get(), epoch.get(), number.get());
+            format!(in alloc; "#{place} {from}>{to} forward {epoch} {number}")
+        }
+        Line::Acknowledged {
+            place,
+            from,
+            to,
+            epoch,
+            committed,
+            have,
+        } => {
+            let (from, to, epoch) = (from.get(), to.get(), epoch.get());
+            let (committed, have) = (committed.get(), have.get());
+            format!(in alloc; "#{place} {from}>{to} ack {epoch} {committed} {have}")
+        }
+        Line::Stopped { node, cause } => {
+            let node = node.get();
+            match cause {
+                Some(cause) => format!(in alloc; "node {node} stopped: {cause}"),
+                None => format!(in alloc; "node {node} stopped"),
+            }
+        }
+    }
+}
+
+fn lines_text(alloc: Global, lines: &[Line]) -> Result<String, AllocError> {
+    let mut text = String::new(alloc);
+    for line in lines {
+        if !text.is_empty() {
+            text.push_str(" / ")?;
+        }
+        text.push_str(&line_text(alloc, line)?)?;
+    }
+    Ok(text)
+}
+
+/// What every event shows, an event a line.
+pub fn shown(alloc: Global, report: &Report) -> Result<String, AllocError> {
+    let mut text = String::new(alloc);
+    for lines in &report.steps {
+        text.push_str(&lines_text(alloc, lines.as_slice())?)?;
+        text.push_str("\n")?;
+    }
+    Ok(text)
+}
+
+/// What a report tells of each node, a node a line.
+pub fn nodes_text(alloc: Global, report: &Report) -> Result<String, AllocError> {
+    let mut text = String::new(alloc);
+    for node in &report.nodes {
+        let id = node.id.get();
+        let line = match &node.running {
+            Some(numbers) => {
+                let (count, committed) = (numbers.count.get(), numbers.committed.get());
+                format!(in alloc; "node {id} count {count} committed {committed}\n")?
+            }
+            None => format!(in alloc; "node {id} stopped\n")?,
+        };
+        text.push_str(&line)?;
+    }
+    Ok(text)
+}

@@ -1,0 +1,191 @@
+// Runs of a chain of nodes 1, 2 and 3: what each event shows, by the rules of a step.
+use crate::courses::{ONE, Step, TWO, nodes_text, report_of, sent_after, shown};
+use std::test::Fail;
+
+const CHAIN: &[u16] = &[1, 2, 3];
+
+#[test]
+fn a_batch_goes_down_the_chain_and_back(rt: HostRuntime) -> Result<(), Fail> {
+    let steps = [
+        Step::Submit(1, ONE),
+        Step::Deliver(1),
+        Step::Deliver(2),
+        Step::Get(2, None),
+        Step::Get(3, None),
+        Step::Deliver(3),
+        Step::Deliver(4),
+        Step::Get(1, None),
+        Step::Submit(2, ONE),
+    ];
+    let report = report_of(rt.alloc(), CHAIN, &steps)?.ok_or("no node")?;
+    assert_eq!(rt;
+        shown(rt.alloc(), &report)?.as_str(),
+        "\
+#1 1>2 forward 0 1
+#2 2>3 forward 0 1
+#3 3>2 ack 0 1 1
+4: none at 0
+5: value 1 at 1
+#4 2>1 ack 0 1 1
+1: committed 1
+8: value 1 at 1
+9: refused 2 NotHead
+"
+    );
+    assert_eq!(rt;
+        nodes_text(rt.alloc(), &report)?.as_str(),
+        "\
+node 1 count 1 committed 1
+node 2 count 1 committed 1
+node 3 count 1 committed 1
+"
+    );
+    Ok(())
+}
+
+// A Forward that comes again is dropped, and the predecessor told again. An old Ack does nothing.
+#[test]
+fn frames_come_again_and_late(rt: HostRuntime) -> Result<(), Fail> {
+    let steps = [
+        Step::Submit(1, ONE),
+        Step::Deliver(1),
+        Step::Deliver(1),
+        Step::Deliver(2),
+        Step::Deliver(4),
+        Step::Deliver(5),
+        Step::Deliver(3),
+        Step::Deliver(5),
+        Step::Deliver(2),
+        Step::Get(1, None),
+    ];
+    let report = report_of(rt.alloc(), CHAIN, &steps)?.ok_or("no node")?;
+    assert_eq!(rt;
+        shown(rt.alloc(), &report)?.as_str(),
+        "\
+#1 1>2 forward 0 1
+#2 2>3 forward 0 1
+dropped OtherNumber / #3 2>1 ack 0 0 1
+#4 3>2 ack 0 1 1
+#5 2>1 ack 0 1 1
+1: committed 1
+
+
+dropped OtherNumber / #6 3>2 ack 0 1 1
+10: value 1 at 1
+"
+    );
+    Ok(())
+}
+
+// A batch that comes before the one it follows is dropped, and sent again at a tick.
+#[test]
+fn a_tick_sends_again(rt: HostRuntime) -> Result<(), Fail> {
+    let steps = [
+        Step::Submit(1, ONE),
+        Step::Submit(1, TWO),
+        Step::Deliver(2),
+        Step::Tick(1),
+        Step::Deliver(4),
+        Step::Deliver(5),
+        Step::Tick(3),
+        Step::Tick(2),
+        Step::Tick(1),
+    ];
+    let report = report_of(rt.alloc(), CHAIN, &steps)?.ok_or("no node")?;
+    assert_eq!(rt;
+        shown(rt.alloc(), &report)?.as_str(),
+        "\
+#1 1>2 forward 0 1
+#2 1>2 forward 0 2
+dropped OtherNumber / #3 2>1 ack 0 0 0
+#4 1>2 forward 0 1 / #5 1>2 forward 0 2
+#6 2>3 forward 0 1
+#7 2>3 forward 0 2
+#8 3>2 ack 0 0 0
+#9 2>3 forward 0 1 / #10 2>3 forward 0 2 / #11 2>1 ack 0 0 2
+#12 1>2 forward 0 1 / #13 1>2 forward 0 2
+"
+    );
+    Ok(())
+}
+
+#[test]
+fn a_node_that_rests_drops_and_refuses(rt: HostRuntime) -> Result<(), Fail> {
+    let steps = [
+        Step::Submit(1, ONE),
+        Step::Stop(2, b""),
+        Step::Deliver(1),
+        Step::Tick(2),
+        Step::Stop(2, b""),
+        Step::Get(2, None),
+        Step::Submit(2, TWO),
+        Step::Start(1),
+        Step::Start(2),
+        Step::Deliver(1),
+        Step::Deliver(2),
+        Step::Stop(2, b"\x01"),
+    ];
+    let report = report_of(rt.alloc(), CHAIN, &steps)?.ok_or("no node")?;
+    assert_eq!(rt;
+        shown(rt.alloc(), &report)?.as_str(),
+        "\
+#1 1>2 forward 0 1
+node 2 stopped
+dropped NotRunning
+dropped NotRunning
+dropped NotRunning
+6: refused 1 NotRunning
+7: refused 1 NotRunning
+dropped Running
+node 2 started epoch 0 count 0 committed 0
+#2 2>3 forward 0 1
+#3 3>2 ack 0 1 1
+node 2 stopped
+"
+    );
+    assert_eq!(rt;
+        nodes_text(rt.alloc(), &report)?.as_str(),
+        "\
+node 1 count 1 committed 0
+node 2 stopped
+node 3 count 1 committed 1
+"
+    );
+    Ok(())
+}
+
+#[test]
+fn a_place_without_a_frame_gives_nothing(rt: HostRuntime) -> Result<(), Fail> {
+    let steps = [
+        Step::Deliver(0),
+        Step::Deliver(1),
+        Step::Submit(1, ONE),
+        Step::Deliver(2),
+        Step::Deliver(u64::MAX),
+        Step::Deliver(1),
+    ];
+    let report = report_of(rt.alloc(), CHAIN, &steps)?.ok_or("no node")?;
+    assert_eq!(rt;
+        shown(rt.alloc(), &report)?.as_str(),
+        "\
+nothing
+nothing
+#1 1>2 forward 0 1
+nothing
+nothing
+#2 2>3 forward 0 1
+"
+    );
+    Ok(())
+}
+
+// An event that names a node which the chain lacks is no step.
+#[test]
+fn a_world_is_stepped(rt: HostRuntime) -> Result<(), Fail> {
+    let none = sent_after(rt.alloc(), CHAIN, &[])?;
+    assert_eq!(rt; none, (0, 0));
+    let steps = [Step::Submit(1, ONE), Step::Tick(4), Step::Tick(1)];
+    assert_eq!(rt; sent_after(rt.alloc(), CHAIN, &steps)?, (2, 2));
+    assert!(rt; report_of(rt.alloc(), CHAIN, &steps)?.is_none());
+    Ok(())
+}
