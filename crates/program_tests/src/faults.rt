@@ -65,10 +65,7 @@ const FAULTS: &[(&str, &str)] = &[
     ("config 1\ntick 1 !fail 1\n", "line 2: bad fault\n"),
     ("deliver 1\nconfig 1\n", "line 1: out of place\n"),
     ("config 1\ndeliver\n", "line 2: wrong number of words\n"),
-    (
-        "config 1\ndeliver 1 2\n",
-        "line 2: wrong number of words\n",
-    ),
+    ("config 1\ndeliver 1 2\n", "line 2: wrong number of words\n"),
     ("config 1\ndeliver x\n", "line 2: bad number\n"),
     ("config 1\ndeliver 1 !stop 1\n", "line 2: bad fault\n"),
     ("flow\nconfig 1\n", "line 1: out of place\n"),
