@@ -19,6 +19,7 @@ SCRIPTS = {
     "a deletion in a batch": "config 1\nsubmit 1 a=1 -a a=2\nget 1 a\n",
     "a stop with junk": "config 1\nsubmit 1 a=1\nstop 1 01\nstart 1\nget 1 a\n",
     "a running node started": "config 1\nstart 1\nstop 1\nget 1 a\n",
+    "a chain of three": "config 1 2 3\nsubmit 1 a=1\ndeliver 1\ndeliver 1\nflow\ntick 2\nflow\nget 2 a\n",
 }
 REFUSED = re.compile(r"(run: memory|line \d+: out of memory)\n")
 
