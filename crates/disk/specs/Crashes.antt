@@ -7,7 +7,7 @@ use Rattle.disk.specs.declared.touch.Touch.{Touch}
 use Rattle.disk.specs.declared.touch.Touch.TheVariants.{Wrote, Cut}
 use Rattle.disk.specs.declared.junk.Junk.{Junk}
 use Rattle.disk.specs.declared.junk.Junk.TheVariants.{Old, New, Bytes}
-use Rattle.disk.specs.State.{Slot, Absent, Fresh, Kept, State, seen}
+use Rattle.disk.specs.State.{Slot, Absent, Fresh, Kept, State, IsSure, seen}
 
 -- a touch loosens the place, as a test
 abbrev pub loosens : Touch → ℕ → ℕ → Bool
@@ -58,6 +58,10 @@ sure (Some bytes) = Kept bytes bytes []
 -- what a crash left is sure
 abbrev pub crashed : Junk → Slot → Slot
 crashed junk slot = sure (left_by junk slot)
+
+-- whatever a crash left is sure
+abbrev pub CrashedIsSure : Type 0
+CrashedIsSure = (junk : Junk) (slot : Slot) → IsSure (crashed junk slot)
 
 -- a crash with this junk, file by file
 abbrev pub Crashes : Junk → State → State → Type 0

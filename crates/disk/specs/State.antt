@@ -71,6 +71,11 @@ contents disk file = seen (disk file)
 abbrev pub MayLeave : State → Contents → Type 0
 MayLeave disk left = (file : ℕ) → Leaves (disk file) (left file)
 
+-- what is sure is left exactly
+abbrev pub SureIsLeft : Type 0
+SureIsLeft = (disk : State) (left : Contents) (file : ℕ) → IsSure (disk file) →
+    MayLeave disk left → left file ≡ seen (disk file)
+
 -- two disks that are the same, file by file
 abbrev pub IsSame : State → State → Type 0
 IsSame old new = (file : ℕ) → new file ≡ old file

@@ -1,10 +1,9 @@
 //! Laws of the model, for every disk. Each function does nothing, and its contract is the law.
-ghost use Rattle.std.specs.Prelude.{◌≡◌, ◌↔◌, ℕ, List, IsTrue};
+ghost use Rattle.std.specs.Prelude.{◌↔◌, ℕ, List, IsTrue};
 ghost use Rattle.disk.specs.declared.touch.Touch.{Touch};
-ghost use Rattle.disk.specs.declared.junk.Junk.{Junk};
-ghost use Rattle.disk.specs.State.{Slot, State, Contents, seen, contents};
-ghost use Rattle.disk.specs.State.{IsSure, IsLoose, MayLeave};
-ghost use Rattle.disk.specs.Crashes.{is_loose, crashed};
+ghost use Rattle.disk.specs.State.{State, contents};
+ghost use Rattle.disk.specs.State.{IsLoose, MayLeave, SureIsLeft};
+ghost use Rattle.disk.specs.Crashes.{CrashedIsSure, is_loose};
 
 /// A disk as it reads is one of the contents that a crash now may leave.
 pub fn reads_may_be_left()
@@ -13,13 +12,12 @@ pub fn reads_may_be_left()
 
 /// What is sure is left exactly.
 pub fn sure_is_left()
-    ensures { (disk : State) (left : Contents) (file : ℕ) → IsSure (disk file) → MayLeave disk left
-        → left file ≡ seen (disk file) }
+    ensures { SureIsLeft }
 {}
 
 /// What a crash left is sure.
 pub fn crashed_is_sure()
-    ensures { (junk : Junk) (slot : Slot) → IsSure (crashed junk slot) }
+    ensures { CrashedIsSure }
 {}
 
 /// A place passes the test exactly if it is loose.

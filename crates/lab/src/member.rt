@@ -7,6 +7,7 @@ ghost use Rattle.lab.specs.Members.{Is, Works, HasCrashed, is_honest, state};
 ghost use Rattle.lab.specs.Comings.{WasGiven, WasFaulty, WasStarted, WasStopped, Happened};
 
 use crate::coming::{Coming, Did, dropped, unheard};
+use disk::laws::{crashed_is_sure, sure_is_left};
 use disk::{Crash, Junk, MemDisk};
 use kv_types::Limits;
 use node::{DropReason, Input, Node};
@@ -27,6 +28,8 @@ fn ended(node: Node<MemDisk>) -> Member
         StopsAs (state (disk_of node)) x n a →
         Is result x (stopped n) ⊎ Is result x (stopped a.node) }
 {
+    sure_is_left();
+    crashed_is_sure();
     let mut disk = node.into_disk();
     disk.crash(Junk::Old);
     Member::Resting(disk)
@@ -72,6 +75,8 @@ impl Member {
         ensures same { (node : _) → self ≡ Member.Running node → result.0 ≡ self }
         ensures works { Works result.0 }
     {
+        sure_is_left();
+        crashed_is_sure();
         let disk = match self {
             Member::Running(node) => {
                 let output = dropped(alloc, DropReason::Running);
@@ -104,6 +109,8 @@ impl Member {
         ensures same { (disk : _) → self ≡ Member.Resting disk → result.0 ≡ self }
         ensures works { Works result.0 }
     {
+        sure_is_left();
+        crashed_is_sure();
         match self {
             Member::Running(node) => {
                 let mut disk = node.into_disk();

@@ -1,4 +1,4 @@
-ghost use Rattle.std.specs.Prelude.{◌≡◌, ℕ, List, [], ◌∷◌, ◌++◌, IfOk, IsErr, OnOk, OnErr};
+ghost use Rattle.std.specs.Prelude.{◌≡◌, ℕ, List, [], ◌∷◌, ◌++◌, IfOk, IsErr, MatchResult, OnOk};
 ghost use Rattle.chain_model.specs.Configuration.{Configurations};
 ghost use Rattle.lab.specs.declared.event.Event.{Event};
 ghost use Rattle.lab.specs.declared.report.Line.{Line};
@@ -109,7 +109,8 @@ fn left_of_all(alloc: Global, seats: Vec<Seat>) -> Result<Vec<NodeReport>, Alloc
 impl World {
     /// Creates the nodes of the first configuration.
     pub fn new(alloc: Global, configs: &Configs, limits: &Limits) -> Result<World, LabError>
-        ensures { IfOk result (λ world. HasRun world configs.now [] []) }
+        ensures ran { IfOk result (λ world. HasRun world configs.now [] []) }
+        ensures goes_on { IfOk result (λ world. HasEnded world → ⊥) }
     {
         Ok(World {
             limits: *limits,
@@ -151,7 +152,7 @@ impl World {
             HasRun self.old cs events steps → NamesNode cs event.now.what →
             OnOk result ((lines : List Line) ×
             HasRun self.new cs (events ++ event.now ∷ []) (steps ++ lines ∷ [])) }
-        ensures ends { OnErr result (HasEnded self.new) }
+        ensures ends { MatchResult result (λ _. HasEnded self.new → ⊥) (λ _. HasEnded self.new) }
         ensures again { HasEnded self.old → IsErr result }
     {
         if self.ended {

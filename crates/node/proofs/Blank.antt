@@ -7,10 +7,9 @@ use Rattle.disk.specs.declared.error.DiskError.TheVariants as disk
 use Rattle.record_log.specs.declared.error.LogError.{LogError}
 use Rattle.record_log.specs.declared.error.LogError.TheVariants as log
 use Rattle.record_log.specs.declared.log.Log.{Log}
-use Rattle.record_log.specs.Grammar.{StandsFor}
+use Rattle.record_log.specs.Grammar.{StandsFor, OneList}
 use Rattle.record_log.specs.Stands as log_stands
 use Rattle.record_log.specs.Stands.{Holds, count_of}
-use Rattle.record_log.proofs.Fronts.{one_reading}
 use Rattle.node.specs.declared.stop.Stop.{Stop}
 use Rattle.node.specs.declared.stop.Stop.TheVariants as stop
 use Rattle.node.specs.Files.{IsLog, IsBlankFile}
@@ -34,31 +33,32 @@ has_bytes None len some is = some is
 has_bytes (Some it) len some is = omega (arith, some, is)
 
 -- bytes that stand for records are blank exactly where there are none
-blank_none : (bytes : Option (List ℕ)) (records : List (List ℕ)) → HasBytes bytes →
-    IsLog bytes records →
-    IsBlankFile bytes → records ≡ []
-blank_none None records has stands blank = absurd has
-blank_none (Some it) records has stands (inl empty) = absurd (omega (arith, has, ap length empty))
-blank_none (Some it) records has stands (inr none) = one_reading it records [] stands none
+blank_none : OneList → (bytes : Option (List ℕ)) (records : List (List ℕ)) → HasBytes bytes →
+    IsLog bytes records → IsBlankFile bytes → records ≡ []
+blank_none law None records has stands blank = absurd has
+blank_none law (Some it) records has stands (inl empty) =
+    absurd (omega (arith, has, ap length empty))
+blank_none law (Some it) records has stands (inr none) = law it records [] stands none
 
 -- an opened log has no record exactly where its file is blank
-blank_holds : (bytes : Option (List ℕ)) (records : List (List ℕ)) (e : Stop) → HasBytes bytes →
-    IsLog bytes records → TellsBlank e (records ≡ []) →
+blank_holds : OneList → (bytes : Option (List ℕ)) (records : List (List ℕ)) (e : Stop) →
+    HasBytes bytes → IsLog bytes records → TellsBlank e (records ≡ []) →
     TellsBlank e (IsBlankFile bytes)
-blank_holds bytes records stop.Disk has stands told = tt
-blank_holds bytes records stop.Damaged has stands told =
-    λ blank. told (blank_none bytes records has stands blank)
-blank_holds bytes records stop.Memory has stands told = tt
-blank_holds None records stop.NotCreated has stands told = absurd has
-blank_holds (Some it) records stop.NotCreated has stands told =
+blank_holds law bytes records stop.Disk has stands told = tt
+blank_holds law bytes records stop.Damaged has stands told =
+    λ blank. told (blank_none law bytes records has stands blank)
+blank_holds law bytes records stop.Memory has stands told = tt
+blank_holds law None records stop.NotCreated has stands told = absurd has
+blank_holds law (Some it) records stop.NotCreated has stands told =
     inr (subst (λ (r : List (List ℕ)). StandsFor it r) told stands)
 
-pub blank_read : {T : Type 0} (result : Result T Stop) (bytes : Option (List ℕ))
+pub blank_read : OneList → {T : Type 0} (result : Result T Stop) (bytes : Option (List ℕ))
     (records : List (List ℕ)) → HasBytes bytes → IsLog bytes records →
     IfErr result (λ e. TellsBlank e (records ≡ [])) →
     IfErr result (λ e. TellsBlank e (IsBlankFile bytes))
-blank_read (Ok x) bytes records has stands told = tt
-blank_read (Err e) bytes records has stands told = blank_holds bytes records e has stands told
+blank_read law (Ok x) bytes records has stands told = tt
+blank_read law (Err e) bytes records has stands told =
+    blank_holds law bytes records e has stands told
 
 -- a file that is not opened as a log is not blank
 pub blank_declined : (bytes : Option (List ℕ)) (e : LogError) → HasBytes bytes →

@@ -7,12 +7,11 @@ use Rattle.std.proofs.lemmas.Nat.{from_be_bytes-to_be_bytes_2}
 use Rattle.std.proofs.lemmas.List.{append-nil}
 use Rattle.std.proofs.lemmas.List.Elements.{All-head, All-tail, All-weaker}
 use Rattle.kv_types.specs.declared.edit.Edit.{Edit}
-use Rattle.kv_types.specs.Spelling.{IsBatch, spelling}
-use Rattle.kv_types.proofs.Batches.{spellings_differ}
+use Rattle.kv_types.specs.Spelling.{IsBatch, SpellingsDiffer, spelling}
 use Rattle.disk.specs.State.{State, Slot, Contents, seen, IsSame}
 use Rattle.record_log.specs.declared.log.Log.{Log}
 use Rattle.record_log.specs.Stands.{Holds, HasRecords, IsAt, Opens, count_of}
-use Rattle.record_log.proofs.Fronts.{one_reading}
+use Rattle.record_log.specs.Grammar.{OneList}
 use Rattle.node.specs.declared.stop.Stop.{Stop}
 use Rattle.chain_model.specs.Configuration.{IsId}
 use Rattle.configurations.specs.Configs.{IsConfig}
@@ -29,10 +28,10 @@ pub has_in : (old new : State) (file : ℕ) (records : List (List ℕ)) → new 
 has_in old new file records same had =
     subst (λ (slot : Slot). IsLog (seen slot) records) (sym same) had
 
-stands_once : (bytes : Option (List ℕ)) (a b : List (List ℕ)) → IsLog bytes a → IsLog bytes b →
-    a ≡ b
-stands_once None a b s t = absurd s
-stands_once (Some it) a b s t = one_reading it a b s t
+stands_once : OneList → (bytes : Option (List ℕ)) (a b : List (List ℕ)) → IsLog bytes a →
+    IsLog bytes b → a ≡ b
+stands_once law None a b s t = absurd s
+stands_once law (Some it) a b s t = law it a b s t
 
 -- a record is that of one node and configuration at most
 one_identity : (x y : ℕ) (xs ys : List ℕ) → IsId x → IsId y → IsConfig xs → IsConfig ys →
@@ -45,30 +44,30 @@ one_identity x y xs ys is_x is_y of_x of_y same =
     (id, one_spelling xs ys below of_y.each (ap (drop 3) same))
 
 -- what a disk has stands for one node and configuration at most
-pub same_identity : (left : Contents) (x y : ℕ) (xs ys : List ℕ) → HasId left x xs →
+pub same_identity : OneList → (left : Contents) (x y : ℕ) (xs ys : List ℕ) → HasId left x xs →
     HasId left y ys → (x ≡ y) × (xs ≡ ys)
-same_identity left x y xs ys s t =
+same_identity law left x y xs ys s t =
     let records : identity_records x xs ≡ identity_records y ys =
-    stands_once (left identity_file) (identity_records x xs) (identity_records y ys) s.identity
+    stands_once law (left identity_file) (identity_records x xs) (identity_records y ys) s.identity
     t.identity in
     one_identity x y xs ys s.id t.id s.config t.config cc
 
 -- records are those of one list of batches at most
-pub same_batches : (number : ℕ) (a b : List (List Edit)) → All IsBatch a → All IsBatch b →
-    records_from number a ≡ records_from number b → a ≡ b
-same_batches number [] [] each_a each_b same = refl
-same_batches number [] (y ∷ b) each_a each_b same = absurd cc
-same_batches number (x ∷ a) [] each_a each_b same = absurd cc
-same_batches number (x ∷ a) (y ∷ b) each_a each_b same =
+pub same_batches : SpellingsDiffer → (number : ℕ) (a b : List (List Edit)) → All IsBatch a →
+    All IsBatch b → records_from number a ≡ records_from number b → a ≡ b
+same_batches law number [] [] each_a each_b same = refl
+same_batches law number [] (y ∷ b) each_a each_b same = absurd cc
+same_batches law number (x ∷ a) [] each_a each_b same = absurd cc
+same_batches law number (x ∷ a) (y ∷ b) each_a each_b same =
     let first : batch_record number x ≡ batch_record number y = cc in
     let others : records_from (suc number) a ≡ records_from (suc number) b = cc in
     let texts : spelling x ≡ spelling y = ap (drop 8) first in
     let is_x = All-head IsBatch x a each_a in
     let is_y = All-head IsBatch y b each_b in
-    let head = (spellings_differ x y [] is_x is_y (append-nil (spelling x) ∙ texts)).0 in
+    let head = (law x y [] is_x is_y (append-nil (spelling x) ∙ texts)).0 in
     let rest_x = All-tail IsBatch x a each_a in
     let rest_y = All-tail IsBatch y b each_b in
-    let tails = same_batches (suc number) a b rest_x rest_y others in
+    let tails = same_batches law (suc number) a b rest_x rest_y others in
     cc
 
 -- the node that the only record of an opened log names

@@ -3,7 +3,7 @@ use Rattle.std.proofs.Common.{◌≡◌, ℕ, List, [], ◌∷◌, ◌++◌, len
 use Rattle.std.proofs.Common.{map, None, refl, sym, ap, subst, ◌∙◌}
 use Rattle.std.specs.Prelude.{Result, Ok, Err, IfOk, IfErr}
 use Rattle.kv_types.specs.declared.edit.Edit.{Edit}
-use Rattle.disk.specs.State.{State, contents}
+use Rattle.disk.specs.State.{State, SureIsLeft, contents}
 use Rattle.chain_model.specs.Node.{Answer, created, started}
 use Rattle.chain_core.specs.declared.done.Done.{Done}
 use Rattle.chain_core.specs.declared.done.Done.TheVariants as done
@@ -111,20 +111,21 @@ stops_between disk x n batch d a leaves has first one_of left now =
 
 module _ {D : Type 0} (is_honest : D → Type 0) (state : D → State) where
   -- whatever a crash leaves of its disk stands for it
-  pub rests : (node : Node D) (x : ℕ) (n : Machine) → Runs is_honest state node x n →
-      AlwaysRests (state node.disk) x n
-  rests node x n r left leaves = record {
-    batches = kept (state node.disk) node.engine x n.ids n.list r.store left leaves;
+  pub rests : SureIsLeft → (node : Node D) (x : ℕ) (n : Machine) →
+      Runs is_honest state node x n → AlwaysRests (state node.disk) x n
+  rests law node x n r left leaves = record {
+    batches = kept law (state node.disk) node.engine x n.ids n.list r.store left leaves;
     first = r.first;
   }
 
-  pub stops_before : (node : Node D) (x : ℕ) (n : Machine) (a : Answer (List Edit)) →
-      Runs is_honest state node x n → StopsAs (state node.disk) x n a
-  stops_before node x n a r left leaves = inl (rests node x n r left leaves)
+  pub stops_before : SureIsLeft → (node : Node D) (x : ℕ) (n : Machine)
+      (a : Answer (List Edit)) → Runs is_honest state node x n → StopsAs (state node.disk) x n a
+  stops_before law node x n a r left leaves = inl (rests law node x n r left leaves)
 
-  pub stops_after : (node : Node D) (x : ℕ) (n : Machine) (a : Answer (List Edit)) →
-      Runs is_honest state node x a.node → StopsAs (state node.disk) x n a
-  stops_after node x n a r left leaves = inr (rests node x a.node r left leaves)
+  pub stops_after : SureIsLeft → (node : Node D) (x : ℕ) (n : Machine)
+      (a : Answer (List Edit)) → Runs is_honest state node x a.node →
+      StopsAs (state node.disk) x n a
+  stops_after law node x n a r left leaves = inr (rests law node x a.node r left leaves)
 
   -- a node that did its store's part runs as the machine after the rule
   pub goes_on : (node : Node D) (x : ℕ) (n : Machine) (batch : List Edit) (d : Done)
@@ -144,11 +145,11 @@ module _ {D : Type 0} (is_honest : D → Type 0) (state : D → State) where
   }
 
   -- what it then tells is the machine's answer, and for want of memory it stops
-  pub ends : (node : Node D) (x : ℕ) (n : Machine) (input : Input) (a : Answer (List Edit))
-      (result : Result Output Stop) → Runs is_honest state node x a.node →
+  pub ends : SureIsLeft → (node : Node D) (x : ℕ) (n : Machine) (input : Input)
+      (a : Answer (List Edit)) (result : Result Output Stop) → Runs is_honest state node x a.node →
       IfOk result (Tells input a) → IfErr result (λ e. e ≡ stop.Memory) →
       Ends is_honest state node x n a (Answers is_honest state node x input a) result
-  ends node x n input a (Ok output) r tells memory = record {
+  ends law node x n input a (Ok output) r tells memory = record {
     done = record {
       runs = r;
       dropped = tells.dropped;
@@ -157,9 +158,9 @@ module _ {D : Type 0} (is_honest : D → Type 0) (state : D → State) where
     };
     stopped = tt;
   }
-  ends node x n input a (Err e) r tells memory = record {
+  ends law node x n input a (Err e) r tells memory = record {
     done = inr memory;
-    stopped = (r.honest, stops_after node x n a r);
+    stopped = (r.honest, stops_after law node x n a r);
   }
 
   -- the rule is that of the decision
@@ -174,20 +175,21 @@ module _ {D : Type 0} (is_honest : D → Type 0) (state : D → State) where
       (Answers is_honest state node x input (rule_of x n d)) result) (sym is) done
 
   -- .. and so it is after the store's part
-  pub ends_rule : (node : Node D) (x : ℕ) (n : Machine) (input : Input) (batch : List Edit)
-      (d : Done) (a : Answer (List Edit)) (due told : List Waiting)
+  pub ends_rule : SureIsLeft → (node : Node D) (x : ℕ) (n : Machine) (input : Input)
+      (batch : List Edit) (d : Done) (a : Answer (List Edit)) (due told : List Waiting)
       (sent : ℕ → List (Frame (List Edit))) (result : Result Output Stop) →
       Leaves x n batch d a → Follows is_honest state node x a due → told ≡ due →
       sent x ≡ frames_after x n d a.node →
       IfOk result (Says None (sent node.core.id) (map told_to told)) →
       IfErr result (λ e. e ≡ stop.Memory) →
       Ends is_honest state node x n a (Answers is_honest state node x input a) result
-  ends_rule node x n input batch d a due told sent result leaves follows same frames says memory =
+  ends_rule law node x n input batch d a due told sent result leaves follows same frames says
+      memory =
       let by_x = subst (λ (y : ℕ). IfOk result (Says None (sent y) (map told_to told)))
       follows.runs.id says in
       let of_due = subst (λ (l : List Waiting). IfOk result (Says None (sent x) (map told_to l)))
       same by_x in
-      ends node x n input a result follows.runs
+      ends law node x n input a result follows.runs
       (tells_rule x n input batch d a due (sent x) result leaves follows.replied frames of_due)
       memory
 

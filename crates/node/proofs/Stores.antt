@@ -3,17 +3,16 @@ use Rattle.std.proofs.Common.{◌≡◌, ℕ, ◌+◌, ◌≤◌, ◌<◌, List,
 use Rattle.std.proofs.Common.{Some, None}
 use Rattle.std.proofs.Common.{inl, inr, refl, sym, ap, subst, ◌∙◌, arith}
 use Rattle.std.proofs.Common.{length-append}
-use Rattle.std.specs.Prelude.{IsSomeAnd, slice_get, ◌⊎◌, ◌≢◌}
+use Rattle.std.specs.Prelude.{IsNone, IsSomeAnd, slice_get, ◌⊎◌, ◌≢◌}
 use Rattle.std.proofs.lemmas.List.Elements.{All-push}
 use Rattle.kv_types.specs.declared.edit.Edit.{Edit}
 use Rattle.kv_types.specs.Spelling.{IsBatch}
 use Rattle.disk.specs.State.{State, Slot, Absent, Fresh, Kept, Contents, Leaves, MayLeave}
-use Rattle.disk.specs.State.{contents, seen}
-use Rattle.disk.proofs.Steps.{Only, sure_only}
+use Rattle.disk.specs.State.{contents, seen, IsSure, SureIsLeft}
 use Rattle.record_log.specs.declared.log.Log.{Log}
 use Rattle.record_log.specs.Grammar.{StandsFor}
 use Rattle.record_log.specs.Push.{LeavesAt}
-use Rattle.record_log.specs.Stands.{Holds, IsAt, IsOldOrNew, count_of}
+use Rattle.record_log.specs.Stands.{Holds, IsAt, IsOldOrNew, EndsInRange, count_of}
 use Rattle.node.specs.declared.engine.Engine.{Engine}
 use Rattle.chain_model.specs.Configuration.{IsId}
 use Rattle.configurations.specs.Configs.{IsConfig}
@@ -22,6 +21,11 @@ use Rattle.node.specs.Layout.{identity_file, identity_records, batches_file}
 use Rattle.node.specs.Layout.{batch_record, records_from}
 use Rattle.node.specs.Files.{IsLog, HasId, HasBatches, IsSureOfId, IsStore, KeepsOneOf}
 use Rattle.node.proofs.Records.{records_from-push, length-ends}
+
+-- a file that is absent ends in range
+pub absent_ends : (bytes : Option (List ℕ)) → IsNone bytes → EndsInRange bytes
+absent_ends None none = tt
+absent_ends (Some it) none = absurd cc
 
 -- a log holds what it held where its file is the same
 pub holds_in : (old new : State) (log : Log) (records : List (List ℕ)) →
@@ -37,20 +41,21 @@ holds_in old new log records same h = record {
 }
 
 -- a file that a crash leaves as it is stands for what it stands for
-stands_left : (disk : State) (file : ℕ) (bytes : List ℕ) (records : List (List ℕ)) →
-    disk file ≡ Kept bytes bytes [] → StandsFor bytes records →
-    (left : Option (List ℕ)) → Leaves (disk file) left → IsLog left records
-stands_left disk file bytes records sure stands =
-    let P : Option (List ℕ) → Type 0 = λ left. IsLog left records in
-    subst (λ (slot : Slot). Only P slot) (sym sure) (sure_only P bytes stands)
+stands_left : SureIsLeft → (disk : State) (file : ℕ) (bytes : List ℕ)
+    (records : List (List ℕ)) → disk file ≡ Kept bytes bytes [] → StandsFor bytes records →
+    (left : Contents) → MayLeave disk left → IsLog (left file) records
+stands_left law disk file bytes records sure stands left leaves =
+    let is_sure = subst (λ (slot : Slot). IsSure slot) (sym sure) (refl, refl) in
+    let same : left file ≡ Some bytes = law disk left file is_sure leaves ∙ ap seen sure in
+    subst (λ (it : Option (List ℕ)). IsLog it records) (sym same) stands
 
-pub id_left : (disk : State) (x : ℕ) (ids : List ℕ) → IsSureOfId disk x ids →
+pub id_left : SureIsLeft → (disk : State) (x : ℕ) (ids : List ℕ) → IsSureOfId disk x ids →
     (left : Contents) → MayLeave disk left → HasId left x ids
-id_left disk x ids s left leaves = record {
+id_left law disk x ids s left leaves = record {
   id = s.id;
   config = s.config;
-  identity = stands_left disk identity_file s.bytes (identity_records x ids) s.sure s.identity
-      (left identity_file) (leaves identity_file);
+  identity = stands_left law disk identity_file s.bytes (identity_records x ids) s.sure s.identity
+      left leaves;
 }
 
 -- the identity file is that of the node where a log of it holds its record
@@ -88,8 +93,8 @@ only_one disk log (first ∷ second ∷ others) one h size got =
     absurd (omega (arith, size, ap length h.ends, length-ends 0 (first ∷ second ∷ others)))
 
 -- An open store, and one batch more.
-module _ (old : State) (engine : Engine) (x : ℕ) (ids : List ℕ) (list : List (List Edit))
-    (s : IsStore old engine x ids list) where
+module _ (law : SureIsLeft) (old : State) (engine : Engine) (x : ℕ) (ids : List ℕ)
+    (list : List (List Edit)) (s : IsStore old engine x ids list) where
   log_left : (left : Contents) → MayLeave old left →
       IsLog (left batches_file) (records_from 1 list)
   log_left left leaves =
@@ -98,13 +103,12 @@ module _ (old : State) (engine : Engine) (x : ℕ) (ids : List ℕ) (list : List
       subst (λ (k : ℕ). StandsFor (drop k s.log.bytes) records) s.at.from s.log.stands in
       let sure : old batches_file ≡ Kept s.log.bytes s.log.bytes [] =
       sym (ap old s.at.in_file) ∙ s.log.sure in
-      stands_left old batches_file s.log.bytes records sure stands (left batches_file)
-      (leaves batches_file)
+      stands_left law old batches_file s.log.bytes records sure stands left leaves
 
   -- a crash leaves the batches
   pub kept : (left : Contents) → MayLeave old left → HasBatches left x ids list
   kept left leaves = record {
-    id = id_left old x ids s.id left leaves;
+    id = id_left law old x ids s.id left leaves;
     batches = log_left left leaves;
     each = s.each;
     few = s.few;
@@ -175,7 +179,7 @@ module _ (old : State) (engine : Engine) (x : ℕ) (ids : List ℕ) (list : List
           leaves (left engine.log.file) (now engine.log.file) in
           let at_file : IsSomeAnd (left batches_file) (P engine.log.start) =
           subst (λ (f : ℕ). IsSomeAnd (left f) (P engine.log.start)) s.at.in_file at_log in
-          one_of left (id_left new x ids id left now)
+          one_of left (id_left law new x ids id left now)
           (subst (λ (k : ℕ). IsSomeAnd (left batches_file) (P k)) s.at.from at_file)
 
       -- the store with the batch in its log

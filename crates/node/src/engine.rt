@@ -20,9 +20,11 @@ use crate::layout::{
     BATCHES_FILE, IDENTITY_FILE, Identity, batch_of, batch_record, identity_of, identity_record,
 };
 use configurations::{Config, NodeId};
+use disk::laws::sure_is_left;
 use disk::{Disk, DiskError};
+use kv_types::laws::spellings_differ;
 use kv_types::{Batch, Number};
-use record_log::Log;
+use record_log::{Log, one_list};
 use std::alloc::Global;
 
 /// The store of a node: its batches in a log, and in memory. The disk is lent to it at each call.
@@ -132,6 +134,7 @@ fn identity_on<D: Disk>(alloc: Global, disk: &mut D) -> Result<Identity, Stop>
     ensures others { (other : ℕ) → D.is_honest disk.old → other ≢ identity_file →
         D.state disk.new other ≡ D.state disk.old other }
 {
+    one_list();
     if identity_length(disk)? == 0 {
         return Err(Stop::NotCreated);
     }
@@ -178,6 +181,8 @@ impl Engine {
         ensures crash { D.is_honest disk.old → LeavesNoMore (D.state disk.old) (D.state disk.new) }
         ensures others { D.is_honest disk.old → KeepsOthers (D.state disk.old) (D.state disk.new) }
     {
+        one_list();
+        spellings_differ();
         let identity = identity_on(alloc, disk)?;
         let log = Log::open(alloc, disk, BATCHES_FILE, 0)?;
         let batches = batches_in(alloc, disk, &log)?;
@@ -204,6 +209,7 @@ impl Engine {
         ensures works { OnOk result ((HasFailed self.new.log → ⊥)
             × (self.new.batches.items ≡ self.old.batches.items ++ batch ∷ [])) }
     {
+        sure_is_left();
         let number = self.batches.len() as u64 + 1;
         let record = batch_record(alloc, number, &batch)?;
         self.batches.reserve(1)?;

@@ -22,6 +22,7 @@ use chain_core::laws::steps_leave;
 use chain_core::{AtRest, CoreState, Decision, Done, Input, Waiting, decide};
 use configurations::{Config, Epoch, NodeId};
 use disk::Disk;
+use disk::laws::sure_is_left;
 use kv_types::{Batch, Limits, Number};
 use std::alloc::Global;
 
@@ -149,6 +150,7 @@ impl<D: Disk + Drop> Node<D> {
         ensures works { OnOk result (MayStep self.new) }
     {
         steps_leave();
+        sure_is_left();
         let due = self.take(alloc, batch, Done::Accepted { request })?;
         let last = self.core.count().get();
         output_of(
@@ -177,6 +179,7 @@ impl<D: Disk + Drop> Node<D> {
         ensures works { OnOk result (MayStep self.new) }
     {
         steps_leave();
+        sure_is_left();
         let due = self.take(alloc, batch, Done::Appended)?;
         let last = self.core.count().get();
         let acks = self.core.is_tail();
@@ -202,6 +205,7 @@ impl<D: Disk + Drop> Node<D> {
         ensures works { OnOk result (MayStep self.new) }
     {
         steps_leave();
+        sure_is_left();
         let grows = committed > self.core.committed();
         let due = self.core.after(alloc, Done::Told { committed, have })?;
         output_of(alloc, &self.core, &self.engine.batches, 1..1, grows, &due)
@@ -221,6 +225,7 @@ impl<D: Disk + Drop> Node<D> {
             KeepsOthers (D.state (disk_of self.old)) (D.state (disk_of self.new)) }
         ensures works { OnOk result (MayStep self.new) }
     {
+        sure_is_left();
         match decision {
             Decision::Accept { request, batch } => self.accept(alloc, request, batch),
             Decision::Append { batch } => self.append(alloc, batch),
@@ -315,6 +320,7 @@ impl<D: Disk + Drop> Node<D> {
         ensures rests { (x : ℕ) (n : Machine) → Runs D.is_honest D.state self x n →
             AlwaysRests (D.state result) x n }
     {
+        sure_is_left();
         let Node {
             disk,
             engine: _engine,

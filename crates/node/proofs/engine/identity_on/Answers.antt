@@ -59,7 +59,7 @@ returns-clause-blank g c = λ honest.
     let stood = subst (λ (slot : Slot). IsSomeAnd (seen slot) (λ it. StandsFor it o.records))
     (c.identity_length.ensures.same honest identity_file) o.stood in
     let told = c.identity_in.ensures.blank o.records honest2 o.holds in
-    blank_read c.identity_in.result bytes o.records has stood told
+    blank_read c.one_list.ensures c.identity_in.result bytes o.records has stood told
 
 -- the log that was opened holds the node's record
 pub returns-clause-opened : goal.returns-clause-opened

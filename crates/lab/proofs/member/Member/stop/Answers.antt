@@ -10,7 +10,8 @@ returns-in-Running-clause-stopped c = λ x n is.
     let r = subst (λ (m : Member). Is m x n) c.in-Running.is is in
     let rests = c.into_disk-disk.ensures.rests x n r in
     Stops r.core.running (
-      rests_on c.args.junk (state c.into_disk-disk.result) (state c.crash.new.self) x n
+      rests_on c.sure_is_left.ensures c.crashed_is_sure.ensures c.args.junk
+          (state c.into_disk-disk.result) (state c.crash.new.self) x n
           (c.crash.ensures.crashes tt) (c.crash.ensures.allowed tt) rests,
       refl,
     ) refl

@@ -5,11 +5,10 @@ use Rattle.std.proofs.lemmas.List.Elements.{All-nil}
 use Rattle.kv_types.specs.Spelling.{IsBatch}
 use Rattle.disk.specs.State.{Slot, seen}
 use Rattle.record_log.specs.Stands.{Holds}
-use Rattle.record_log.proofs.Creates.{absent_ends}
 use Rattle.node.specs.Layout.{identity_file, identity_record, identity_records, batches_file}
 use Rattle.node.proofs.Causes.{met}
 use Rattle.node.proofs.Identities.{identity_fits}
-use Rattle.node.proofs.Stores.{holds_in, sure_of_id}
+use Rattle.node.proofs.Stores.{absent_ends, holds_in, sure_of_id}
 use Rattle.node.proofs.engine.Engine.create.Goals as goal
 
 -- two new logs, and the node's record in one

@@ -17,7 +17,7 @@ returns-clause-opened g c = λ x ids list honest had.
     let records = records_from 1 list in
     let found = c.in_ok-identity.ensures.found honest in
     let it = c.in_ok-identity.identity in
-    let same = same_identity _ it.id x it.config ids found.had had.id in
+    let same = same_identity c.one_list.ensures _ it.id x it.config ids found.had had.id in
     let apart : identity_file ≡ batches_file → ⊥ = λ e. omega (arith, e) in
     let back : batches_file ≡ identity_file → ⊥ = λ e. omega (arith, e) in
     let there = c.identity_on.ensures.others batches_file honest back in
@@ -36,7 +36,7 @@ returns-clause-opened g c = λ x ids list honest had.
             (subst (λ (ys : List ℕ). IsSureOfId s3 it.id ys) same.1 sure);
         at = c.in_ok-log.ensures.at;
         log = holds_in s2 s3 c.in_ok-log.log records (after c.in_ok-log.log.file) holds;
-        batches = sym (same_batches 1 list list' had.each read.1 read.0);
+        batches = sym (same_batches c.spellings_differ.ensures 1 list list' had.each read.1 read.0);
         each = had.each;
         few = had.few;
       };

@@ -23,7 +23,8 @@ returns-in_err-due-clause-ends g c = λ x n input r.
     let node : Node g.row.D.Denot =
     record { disk = old.disk; engine = old.engine; core = c.after.new.self; limits = old.limits } in
     ends_stopped g.D.Disk.is_honest g.D.Disk.state node x n a _ c.from_residual.result
-    p.0 p.1 (inr p.2) r.honest (stops_before g.D.Disk.is_honest g.D.Disk.state old x n a r)
+    p.0 p.1 (inr p.2) r.honest (stops_before g.D.Disk.is_honest g.D.Disk.state
+    c.sure_is_left.ensures old x n a r)
 
 -- as many batches are counted as before
 pub output_of-requires-clause-count : goal.output_of-requires-clause-count
@@ -61,7 +62,8 @@ returns-clause-ends g c = λ x n input r.
     c.gt-grows.ensures ∙ greater c.args.committed c.committed.result
     ∙ ap (λ k. nat_lt k c.args.committed) (c.committed.ensures ∙ sym r.core.committed) in
     let list = sym runs.store.batches ∙ sym c.deref.ensures.value in
-    ends_rule g.D.Disk.is_honest g.D.Disk.state node x n input [] d a due c.deref-2.result.now sent
+    ends_rule g.D.Disk.is_honest g.D.Disk.state c.sure_is_left.ensures node x n input [] d a due
+    c.deref-2.result.now sent
     c.output_of.result leaves (record { runs = runs; replied = follows.replied })
     c.deref-2.ensures.value (ap told grows)
     (c.output_of.ensures.says a.node runs.core list) c.output_of.ensures.memory
