@@ -1,5 +1,5 @@
 -- What is decided of an input, and what is done: the rules of the chain's model by name.
-use Rattle.std.specs.Prelude.{◌≡◌, ◌≤◌, ◌<◌, ℕ, suc, List, [], ◌∷◌, length, map, Option}
+use Rattle.std.specs.Prelude.{◌≡◌, ◌≤◌, ◌<◌, ℕ, suc, List, length, map, Option}
 use Rattle.std.specs.Prelude.{Some, None}
 use Rattle.kv_types.specs.declared.bounds.TheConstants.{MAX_NUMBER}
 use Rattle.kv_types.specs.declared.edit.Edit.{Edit}

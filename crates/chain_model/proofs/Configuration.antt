@@ -3,7 +3,8 @@ use Rattle.std.proofs.Common.{◌≡◌, ◌⊎◌, inl, inr, ⊎_elim, ℕ, zer
 use Rattle.std.proofs.Common.{length, Some, Bool, true, false, ◌==◌, sym, refl, ◌∙◌, subst, arith}
 use Rattle.std.proofs.Common.{eqb-true, eq-eqb, lt-ltb}
 use Rattle.std.specs.Cmp.Derive.{both_true}
-use Rattle.std.proofs.lemmas.Bool.{cond_both, cases_Bool, false≢true, cond-true, cond-false}
+use Rattle.std.proofs.lemmas.Bool.{cond_both, cases_Bool, cases_lt, false≢true, cond-true}
+use Rattle.std.proofs.lemmas.Bool.{cond-false}
 use Rattle.chain_model.specs.Lists.{Part}
 use Rattle.chain_model.specs.Configuration.{AllDifferent, Before, Lawful, Shrinks, at_epoch, has}
 use Rattle.chain_model.specs.Configuration.{is_head, is_part, is_tail, last_of, leaves_out}
@@ -208,6 +209,22 @@ pub later_part : (cs : List (List ℕ)) (e e' : ℕ) → IsChain cs → e ≤ e'
     → Part (at_epoch cs e') (at_epoch cs e)
 later_part [] e e' w h l = absurd w
 later_part (c ∷ cs) e e' w h l = shrinks_part c cs e e' w.2 h l
+
+-- behind the list of configurations there is none
+at_epoch-past : (cs : List (List ℕ)) (e : ℕ) → length cs ≤ e → at_epoch cs e ≡ []
+at_epoch-past [] e past = refl
+at_epoch-past (c ∷ cs) zero past = absurd (omega arith)
+at_epoch-past (c ∷ cs) (suc e) past = at_epoch-past cs e (omega arith)
+
+-- what a configuration has, configuration 0 has
+pub created_has : (cs : List (List ℕ)) (e x : ℕ) → IsChain cs → has (at_epoch cs e) x ≡ true
+    → has (at_epoch cs 0) x ≡ true
+created_has cs e x w is = elim (cases_lt e (length cs)) [
+  | inl within ↦ has_part (at_epoch cs e) (at_epoch cs 0) x
+      (later_part cs 0 e w (omega arith) within) is
+  | inr past ↦ absurd (false≢true
+      (subst (λ c. has c x ≡ true) (at_epoch-past cs e past) is))
+]
 
 -- the order of two nodes that a smaller list keeps
 pub before_back : (d c : List ℕ) (x y : ℕ) → Part d c → AllDifferent c → has d x ≡ true

@@ -20,7 +20,8 @@ use Rattle.chain_model.specs.Freshness.{IsAtMost, ReadsFresh}
 use Rattle.chain_model.specs.KeepsEnough.{KeepsEnough}
 use Rattle.chain_model.proofs.Lists.{begins-length, begins_refl, begins_trans}
 use Rattle.chain_model.proofs.Lists.{every_map, part_more}
-use Rattle.chain_model.proofs.Configuration.{IsChain, before_part, before_tail, last_epoch}
+use Rattle.chain_model.proofs.Configuration.{IsChain, before_part, before_tail, created_has}
+use Rattle.chain_model.proofs.Configuration.{last_epoch}
 use Rattle.chain_model.proofs.Configuration.{later_leaves_out, later_part, tail_has}
 use Rattle.chain_model.proofs.Handed.{handed}
 use Rattle.chain_model.proofs.Invariant.{FrameOk, ReplyOk, WorldOk, lists_of}
@@ -131,6 +132,9 @@ module _ {A : Type 0} (cs : List (List ℕ)) (lawful : IsChain cs) where
         lists = order events;
         addressed = each (λ f. has (at_epoch cs (epoch_of f)) (addressee f) ≡ true)
             (is_addressed cs events lists);
+        created = each (λ f. has (at_epoch cs 0) (addressee f) ≡ true)
+            (λ f ok. created_has cs (epoch_of f) (addressee f) lawful
+            (is_addressed cs events lists f ok));
         forwards = each (TellsTrue cs lists) (tells_true cs events lists);
         acks = each (TellsCommitted cs events) (tells_committed cs events lists);
         stays = λ e l c y k.

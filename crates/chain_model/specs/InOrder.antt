@@ -58,6 +58,8 @@ pub record InOrder {A : Type 0} (cs : Configurations) (events : List (Event A)) 
   -- each frame is to a node of its epoch
   pub addressed : All (λ f. has (at_epoch cs (epoch_of f)) (addressee f) ≡ true)
       (reached cs events).frames
+  -- .. and so to one of configuration 0, which is created
+  pub created : All (λ f. has (at_epoch cs 0) (addressee f) ≡ true) (reached cs events).frames
   pub forwards : All (TellsTrue cs (λ z. (node_of cs events z).list)) (reached cs events).frames
   pub acks : All (TellsCommitted cs events) (reached cs events).frames
   -- a list that an epoch committed begins the list of every node that the epoch keeps

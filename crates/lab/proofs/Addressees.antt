@@ -1,19 +1,16 @@
 -- Frames are to nodes of configuration 0, and what is sent is kept as a frame in range.
-use Rattle.std.proofs.Common.{◌≡◌, ℕ, zero, suc, ◌≤◌, List, [], ◌∷◌, ◌++◌, length, map}
+use Rattle.std.proofs.Common.{◌≡◌, ℕ, zero, suc, ◌≤◌, List, [], ◌∷◌, ◌++◌, map}
 use Rattle.std.proofs.Common.{Option, Some, None, true, refl, sym, ap, subst, ◌∙◌, arith}
-use Rattle.std.proofs.Common.{inl, inr}
+use Rattle.std.proofs.Common.{inl}
 use Rattle.std.specs.List.{AllZip, AllByRecursion}
-use Rattle.std.proofs.lemmas.Bool.{false≢true, cases_lt}
 use Rattle.std.proofs.lemmas.List.Elements.{All-weaker, recursion_from_All}
 use Rattle.kv_types.specs.declared.edit.Edit.{Edit}
-use Rattle.chain_model.specs.Configuration.{Configurations, Lawful, has, at_epoch}
+use Rattle.chain_model.specs.Configuration.{Configurations, has, at_epoch}
 use Rattle.chain_model.specs.Frames as model_frame
-use Rattle.chain_model.specs.Frames.{Frame as ModelFrame, addressee, epoch_of}
+use Rattle.chain_model.specs.Frames.{Frame as ModelFrame, addressee}
 use Rattle.chain_model.specs.InOrder.{InOrder, TellsTrue}
 use Rattle.chain_model.specs.Lists.{place}
 use Rattle.chain_model.specs.World.{Event as ModelEvent, reached, node_of}
-use Rattle.chain_model.proofs.Configuration.{chain_of, has_part, later_part}
-use Rattle.chain_model.proofs.Lists.{every_place}
 use Rattle.link_messages.specs.declared.frame.Frame.{Frame}
 use Rattle.link_messages.specs.declared.frame.Frame.TheVariants as frame
 use Rattle.link_messages.specs.Spelling.{HasBounds}
@@ -21,25 +18,9 @@ use Rattle.chain_core.specs.declared.sending.Sent.{Sent}
 use Rattle.chain_core.specs.Decisions.{AreFrames, frame_as}
 use Rattle.lab.specs.declared.posted.Posted.{Posted}
 use Rattle.lab.specs.Worlds.{IsKept, IsPosted}
-use Rattle.lab.proofs.Places.{place_zero}
+use Rattle.lab.proofs.Places.{place_zero, place_each}
 
 -- ---- addressees
-
--- behind the list of configurations there is none
-at_epoch-past : (cs : Configurations) (e : ℕ) → length cs ≤ e → at_epoch cs e ≡ []
-at_epoch-past [] e past = refl
-at_epoch-past (c ∷ cs) zero past = absurd (omega arith)
-at_epoch-past (c ∷ cs) (suc e) past = at_epoch-past cs e (omega arith)
-
--- what a configuration has, the first one has
-pub has_first : (cs : Configurations) (e x : ℕ) → Lawful cs → has (at_epoch cs e) x ≡ true →
-    has (at_epoch cs 0) x ≡ true
-has_first cs e x lawful is = elim (cases_lt e (length cs)) [
-  | inl within ↦ has_part (at_epoch cs e) (at_epoch cs 0) x
-      (later_part cs 0 e (chain_of cs lawful) (omega arith) within) is
-  | inr past ↦ absurd (false≢true
-      (subst (λ (c : List ℕ). has c x ≡ true) (at_epoch-past cs e past) is))
-]
 
 -- a frame to node x has this addressee
 same_addressee : (x : ℕ) (it : Frame) (f : ModelFrame (List Edit)) → frame_as x it ≡ Some f →
@@ -70,17 +51,16 @@ same_addressee x (frame.Refused request why) f is = absurd (cc)
 same_addressee x (frame.Closed request number) f is = absurd (cc)
 
 -- the addressee of a frame that was sent is of configuration 0
-pub addressed : (cs : Configurations) (es : List (ModelEvent (List Edit))) → Lawful cs →
-    InOrder cs es → (p x : ℕ) (it : Frame) (f : ModelFrame (List Edit)) →
+pub addressed : (cs : Configurations) (es : List (ModelEvent (List Edit))) → InOrder cs es →
+    (p x : ℕ) (it : Frame) (f : ModelFrame (List Edit)) →
     place (reached cs es).frames p ≡ Some f → frame_as x it ≡ Some f →
     has (at_epoch cs 0) x ≡ true
-addressed cs es lawful order p x it f there is =
-    let each = recursion_from_All (λ g. has (at_epoch cs (epoch_of g)) (addressee g) ≡ true)
-    (reached cs es).frames order.addressed in
+addressed cs es order p x it f there is =
+    let IsCreated : ModelFrame (List Edit) → Type 0 =
+    λ g. has (at_epoch cs 0) (addressee g) ≡ true in
+    let each = recursion_from_All IsCreated (reached cs es).frames order.created in
     subst (λ (y : ℕ). has (at_epoch cs 0) y ≡ true) (same_addressee x it f is)
-    (has_first cs (epoch_of f) (addressee f) lawful
-    (every_place (λ g. has (at_epoch cs (epoch_of g)) (addressee g) ≡ true)
-    (reached cs es).frames p f there each))
+    (place_each IsCreated (reached cs es).frames p f each there)
 
 -- ---- ranges
 

@@ -1,12 +1,12 @@
 -- Frames by their places.
 use Rattle.std.proofs.Common.{◌≡◌, ℕ, zero, suc, ◌<◌, ◌≤◌, List, [], ◌∷◌, length}
 use Rattle.std.proofs.Common.{Some, None, refl, sym, ap, subst, ◌∙◌}
-use Rattle.std.specs.List.{AllZip, HoldsAt}
+use Rattle.std.specs.Prelude.{slice_get}
+use Rattle.std.specs.List.{AllZip, AllByRecursion, HoldsAt}
 use Rattle.std.proofs.lemmas.Option.{slice_get_past, slice_get-get_or}
 use Rattle.kv_types.specs.declared.edit.Edit.{Edit}
 use Rattle.chain_model.specs.Lists.{place}
 use Rattle.chain_model.specs.Frames.{Frame as ModelFrame}
-use Rattle.chain_model.proofs.Lists.{place-slice_get}
 use Rattle.lab.specs.declared.posted.Posted.{Posted}
 use Rattle.lab.specs.Worlds.{IsKept}
 
@@ -15,15 +15,29 @@ pub place_zero : {A : Type 0} (l : List A) → place l 0 ≡ None
 place_zero [] = refl
 place_zero (x ∷ l) = refl
 
+-- each other place is that of the index one less
+place_index : {A : Type 0} (l : List A) (i : ℕ) → place l (suc i) ≡ slice_get l i
+place_index [] i = refl
+place_index (x ∷ l) zero = refl
+place_index (x ∷ l) (suc i) = place_index l i
+
+-- what holds of each element holds of what a place has
+pub place_each : {A : Type 0} (P : A → Type 0) (l : List A) (p : ℕ) (x : A) →
+    AllByRecursion P l → place l p ≡ Some x → P x
+place_each P [] p x each is = absurd (cc)
+place_each P (y ∷ l) zero x each is = absurd (cc)
+place_each P (y ∷ l) (suc zero) x each is = let same : y ≡ x = cc in subst P same each.0
+place_each P (y ∷ l) (suc (suc p)) x each is = place_each P l (suc p) x each.1 is
+
 -- what an index behind the end has, and what one within it has
 pub place_past : {A : Type 0} (l : List A) (p i : ℕ) → p ≡ suc i → length l ≤ i → place l p ≡ None
 place_past l p i at past =
-    ap (place l) at ∙ place-slice_get l i ∙ slice_get_past l i past
+    ap (place l) at ∙ place_index l i ∙ slice_get_past l i past
 
 pub place_at : {A : Type 0} (l : List A) (p i : ℕ) (x : A) → p ≡ suc i → i < length l →
     HoldsAt (λ y. x ≡ y) l i → place l p ≡ Some x
 place_at l p i x at within is =
-    ap (place l) at ∙ place-slice_get l i ∙ slice_get-get_or l i x within
+    ap (place l) at ∙ place_index l i ∙ slice_get-get_or l i x within
     ∙ ap (λ y. Some y) (sym (is x))
 
 -- where nothing is kept the model has no frame

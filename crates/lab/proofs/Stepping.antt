@@ -97,7 +97,7 @@ module _ (in_order : AlwaysInOrder) (cs : Configurations) (events : List Event)
           subst (λ (y : ℕ). has (at_epoch cs 0) y ≡ true) (sym brings.0) names
       has_it (Deliver p) names brings =
           let es = modelled_from 1 events made.choices in
-          addressed cs es made.lawful (in_order cs es made.lawful) p x brings.it brings.frame
+          addressed cs es (in_order cs es made.lawful) p x brings.it brings.frame
           brings.there brings.same
       has_it (Tick node) names brings =
           subst (λ (y : ℕ). has (at_epoch cs 0) y ≡ true) (sym brings.0) names
