@@ -30,7 +30,7 @@ has_one seats x is none =
     has_seat seats x is (recursion_from_All (λ (seat : Seat). seat.id ≡ x → ⊥) seats none)
 
 -- a seat's node is among them
-has_at : (seats : List Seat) (k : ℕ) (d : Seat) → k < length seats →
+pub has_at : (seats : List Seat) (k : ℕ) (d : Seat) → k < length seats →
     has (ids_of seats) (get_or seats k d).id ≡ true
 has_at [] k d within = absurd (omega arith)
 has_at (s ∷ seats) zero d within =

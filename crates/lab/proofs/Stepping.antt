@@ -34,7 +34,7 @@ use Rattle.lab.specs.Worlds.{IsKept, IsSeated, HasNoSeat, WasTold, HasMade, HasR
 use Rattle.lab.specs.Worlds.{frames_of_step}
 use Rattle.lab.proofs.Posting.{zip_both}
 use Rattle.lab.proofs.Arrivals.{happened, nothing_done}
-use Rattle.lab.proofs.Seating.{ids_of, seated, has_one}
+use Rattle.lab.proofs.Seating.{ids_of, has_at, has_one, seated}
 use Rattle.lab.proofs.Growing.{length-steps, grown, run-push}
 use Rattle.lab.proofs.Addressees.{IsNumbered, addressed, all_numbered, back, kept_all}
 
@@ -143,6 +143,28 @@ module _ (in_order : AlwaysInOrder) (cs : Configurations) (events : List Event)
             was id (subst (λ (y : ℕ). Is seat.member x out.node) (sym id) out.is) all));
       })
 
+  -- what came to a node was of an event that names one of configuration 0, if it names one
+  told_named : (x : ℕ) (comes : Coming) (lines : List Line) (now : List Seat)
+      (more : List Posted) → Brings w.frames i event.what x comes →
+      WasTold seats posted x comes lines now more → NamesNode cs event.what
+  told_named x comes lines now more brings t = named event.what brings
+    where
+      has_it : (node : ℕ) → x ≡ node → has (at_epoch cs 0) node ≡ true
+      has_it node same =
+          let seat = t.handed.seat in
+          let id = (get_or seats t.index seat).id in
+          subst (λ (y : ℕ). has (at_epoch cs 0) y ≡ true) (t.at.id seat ∙ same)
+          (subst (λ (c : List ℕ). has c id ≡ true) made.nodes
+          (has_at seats t.index seat t.at.within))
+
+      named : (what : What) → Brings w.frames i what x comes → NamesNode cs what
+      named (Submit node batch) brings = has_it node brings.0
+      named (Get node key at) brings = has_it node brings.0
+      named (Deliver p) brings = tt
+      named (Tick node) brings = has_it node brings.0
+      named (Start node) brings = has_it node brings.0
+      named (Stop node junk) brings = has_it node brings.0
+
   -- no frame has the place
   nothing_next : BringsNothing w.frames event.what →
       HasMade seats posted cs (events ++ event ∷ []) (steps ++ (Nothing ∷ []) ∷ [])
@@ -169,6 +191,13 @@ module _ (in_order : AlwaysInOrder) (cs : Configurations) (events : List Event)
     nothing_after is = nothing_next (MatchOption-at_none (BringsNothing w.frames event.what)
         (λ it. Brings w.frames i event.what it.to it.coming) is (brought w.frames made.frames))
 
+    -- .. and such an event names no node
+    pub nothing_named : found ≡ None → NamesNode cs event.what
+    nothing_named is =
+        let brings = MatchOption-at_none (BringsNothing w.frames event.what)
+        (λ it. Brings w.frames i event.what it.to it.coming) is (brought w.frames made.frames) in
+        subst (λ (what : What). NamesNode cs what) (sym brings.1) tt
+
     module _ (it : Arrival) (is : found ≡ Some it) where
       brings : Brings w.frames i event.what it.to it.coming
       brings = MatchOption-at_some (BringsNothing w.frames event.what)
@@ -177,6 +206,10 @@ module _ (in_order : AlwaysInOrder) (cs : Configurations) (events : List Event)
 
       pub seat_after : NamesNode cs event.what → HasNoSeat seats it.to → ⊥
       seat_after names none = has_its_seat it.to it.coming names brings none
+
+      pub named_after : (lines : List Line) (now : List Seat) (more : List Posted) →
+          WasTold seats posted it.to it.coming lines now more → NamesNode cs event.what
+      named_after lines now more t = told_named it.to it.coming lines now more brings t
 
       pub told_after : (lines : List Line) (now : List Seat) (more : List Posted) →
           WasTold seats posted it.to it.coming lines now more →

@@ -1,4 +1,4 @@
-ghost use Rattle.std.specs.Prelude.{◌≡◌, ◌<◌, length, slice_set, IfOk, MatchOption};
+ghost use Rattle.std.specs.Prelude.{◌≡◌, ◌<◌, length, slice_set, IfOk, MatchOption, None};
 ghost use Rattle.lab.specs.Worlds.{IsSeatOf, HasNoSeat, WasHanded, WasTold};
 
 use crate::coming::{Arrival, Coming, Did};
@@ -49,9 +49,11 @@ pub fn give(
     arrival: Arrival,
     limits: &Limits,
 ) -> Result<Option<Lines>, AllocError>
-    ensures { IfOk result (λ told. MatchOption told (HasNoSeat seats.old.items arrival.to)
+    ensures told { IfOk result (λ told. MatchOption told (HasNoSeat seats.old.items arrival.to)
         (λ lines. WasTold seats.old.items posted.old.items arrival.to arrival.coming lines
         seats.new.items posted.new.items)) }
+    ensures nothing { IfOk result (λ told. told ≡ None →
+        (seats.new.items ≡ seats.old.items) × (posted.new.items ≡ posted.old.items)) }
 {
     let Arrival { to, coming } = arrival;
     let Some(index) = seat_of(seats, to) else {

@@ -122,10 +122,13 @@ impl World {
     }
 
     fn happen(&mut self, alloc: Global, event: &Event) -> Result<(), LabError>
-        ensures { (cs : Configurations) (events : List Event) (steps : List (List Line)) →
+        ensures ran { (cs : Configurations) (events : List Event) (steps : List (List Line)) →
             HasRun self.old cs events steps → NamesNode cs event.now.what →
             OnOk result ((lines : List Line) ×
             HasRun self.new cs (events ++ event.now ∷ []) (steps ++ lines ∷ [])) }
+        ensures nothing { (cs : Configurations) (events : List Event) (steps : List (List Line)) →
+            HasRun self.old cs events steps → (NamesNode cs event.now.what → ⊥) →
+            OnOk result (HasRun self.new cs events steps) }
     {
         // No run that memory holds has more events than there are numbers.
         let Some(request) = Number::new(self.steps.len() as u64 + 1) else {
@@ -152,6 +155,9 @@ impl World {
             HasRun self.old cs events steps → NamesNode cs event.now.what →
             OnOk result ((lines : List Line) ×
             HasRun self.new cs (events ++ event.now ∷ []) (steps ++ lines ∷ [])) }
+        ensures nothing { (cs : Configurations) (events : List Event) (steps : List (List Line)) →
+            HasRun self.old cs events steps → (NamesNode cs event.now.what → ⊥) →
+            OnOk result (HasRun self.new cs events steps) }
         ensures ends { MatchResult result (λ _. HasEnded self.new → ⊥) (λ _. HasEnded self.new) }
         ensures again { HasEnded self.old → IsErr result }
     {

@@ -54,7 +54,8 @@ returns-clause-after c = λ n batch is.
     next_of c.next.result _ c.self.inside.count now.count number c.next.ensures
     c.unwrap-number.ensures (ap (λ (v : Core). v.count) same) in
     let all : c.push_back.new.self.items ≡ now.pending ++ asked ∷ [] =
-    c.in_ok-push_back.ensures.items ∙ ap (λ (v : Core). v.pending ++ asked ∷ []) same in
+    ◌∙◌ {A = List Waiting} c.in_ok-push_back.ensures.items
+    (ap (λ (v : Core). v.pending ++ asked ∷ []) same) in
     let out : due ≡ front committed (now.pending ++ asked ∷ []) =
     c.move_due.ensures.due
     ∙ (ap (λ (l : List Waiting). l ++ front committed c.push_back.new.self.items) empty
