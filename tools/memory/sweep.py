@@ -1,10 +1,11 @@
 #!/usr/bin/env python3
-"""sweep.py PROGRAM: runs scripts with each request for memory refused, alone and with all later ones.
+"""sweep.py PROGRAM: runs scripts with each request for memory refused.
 
-Each outcome must be one of three: the script's lines; its lines up to one that ends in
-`stopped: memory` (what follows is a run with a stopped node); or status 1, with `run: memory` or
-`line N: out of memory` on standard error and no line that the script does not print there.
-Builds refuse.c with cc first. Ends with status 1 if an outcome is none of these.
+It is refused alone, and with all later ones. Each outcome must be one of three: the script's
+lines; its lines up to one that ends in `stopped: memory` (what follows is a run with a stopped
+node); or status 1, with `run: memory` or `line N: out of memory` on standard error and no line
+that the script does not print there. Builds refuse.c with cc first. Ends with status 1 if an
+outcome is none of these.
 """
 
 import collections
@@ -19,7 +20,9 @@ SCRIPTS = {
     "a deletion in a batch": "config 1\nsubmit 1 a=1 -a a=2\nget 1 a\n",
     "a stop with junk": "config 1\nsubmit 1 a=1\nstop 1 01\nstart 1\nget 1 a\n",
     "a running node started": "config 1\nstart 1\nstop 1\nget 1 a\n",
-    "a chain of three": "config 1 2 3\nsubmit 1 a=1\ndeliver 1\ndeliver 1\nflow\ntick 2\nflow\nget 2 a\n",
+    "a chain of three": (
+        "config 1 2 3\nsubmit 1 a=1\ndeliver 1\ndeliver 1\nflow\ntick 2\nflow\nget 2 a\n"
+    ),
 }
 REFUSED = re.compile(r"(run: memory|line \d+: out of memory)\n")
 

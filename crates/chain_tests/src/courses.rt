@@ -3,7 +3,7 @@ use configurations::{Config, ConfigError, Configs, NodeId};
 use disk::{Fault, Junk, JunkBytes};
 use kv_types::{Batch, Edit, Key, KvError, Limits, Number, Value};
 use lab::{Event, LabError, Line, Report, What, World, names_nodes, run};
-use node::Reply;
+use node::{Reply, Stop};
 use std::alloc::{AllocError, Global};
 use std::test::Fail;
 
@@ -155,6 +155,14 @@ fn reply_text(alloc: Global, reply: &Reply) -> Result<String, AllocError> {
     }
 }
 
+fn stopped_text(alloc: Global, node: NodeId, cause: Option<Stop>) -> Result<String, AllocError> {
+    let node = node.get();
+    match cause {
+        Some(cause) => format!(in alloc; "node {node} stopped: {cause}"),
+        None => format!(in alloc; "node {node} stopped"),
+    }
+}
+
 fn line_text(alloc: Global, line: &Line) -> Result<String, AllocError> {
     match line {
         Line::Nothing => format!(in alloc; "nothing"),
@@ -192,13 +200,7 @@ fn line_text(alloc: Global, line: &Line) -> Result<String, AllocError> {
             let (committed, have) = (committed.get(), have.get());
             format!(in alloc; "#{place} {from}>{to} ack {epoch} {committed} {have}")
         }
-        Line::Stopped { node, cause } => {
-            let node = node.get();
-            match cause {
-                Some(cause) => format!(in alloc; "node {node} stopped: {cause}"),
-                None => format!(in alloc; "node {node} stopped"),
-            }
-        }
+        Line::Stopped { node, cause } => stopped_text(alloc, *node, *cause),
     }
 }
 

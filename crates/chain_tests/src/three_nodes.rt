@@ -109,23 +109,25 @@ dropped OtherNumber / #3 2>1 ack 0 0 0
     Ok(())
 }
 
+// Node 2 stops, and again, starts, and stops.
+const RESTS: &[Step] = &[
+    Step::Submit(1, ONE),
+    Step::Stop(2, b""),
+    Step::Deliver(1),
+    Step::Tick(2),
+    Step::Stop(2, b""),
+    Step::Get(2, None),
+    Step::Submit(2, TWO),
+    Step::Start(1),
+    Step::Start(2),
+    Step::Deliver(1),
+    Step::Deliver(2),
+    Step::Stop(2, b"\x01"),
+];
+
 #[test]
 fn a_node_that_rests_drops_and_refuses(rt: HostRuntime) -> Result<(), Fail> {
-    let steps = [
-        Step::Submit(1, ONE),
-        Step::Stop(2, b""),
-        Step::Deliver(1),
-        Step::Tick(2),
-        Step::Stop(2, b""),
-        Step::Get(2, None),
-        Step::Submit(2, TWO),
-        Step::Start(1),
-        Step::Start(2),
-        Step::Deliver(1),
-        Step::Deliver(2),
-        Step::Stop(2, b"\x01"),
-    ];
-    let report = report_of(rt.alloc(), CHAIN, &steps)?.ok_or("no node")?;
+    let report = report_of(rt.alloc(), CHAIN, RESTS)?.ok_or("no node")?;
     assert_eq!(rt;
         shown(rt.alloc(), &report)?.as_str(),
         "\

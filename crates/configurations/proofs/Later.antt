@@ -29,7 +29,8 @@ holds_at test [] h e l = absurd (omega (arith, l))
 holds_at test (c ∷ []) h e l = absurd (omega (arith, l))
 holds_at test (c ∷ d ∷ cs) h zero l = (and_parts (test c d) (each_later test (d ∷ cs)) h).0
 holds_at test (c ∷ d ∷ cs) h (suc e) l =
-    holds_at test (d ∷ cs) (and_parts (test c d) (each_later test (d ∷ cs)) h).1 e (omega (arith, l))
+    let behind = (and_parts (test c d) (each_later test (d ∷ cs)) h).1 in
+    holds_at test (d ∷ cs) behind e (omega (arith, l))
 
 -- the test for a part finds the parts, as the chain's model promises
 abbrev pub Decides : Type 0

@@ -1,4 +1,5 @@
-ghost use Rattle.std.specs.Prelude.{◌≡◌, ◌<◌, ◌≤◌, length, nat_lt, IfOk, IfErr, IsTrue, MatchOption};
+ghost use Rattle.std.specs.Prelude.{◌≡◌, ◌<◌, ◌≤◌, length, nat_lt};
+ghost use Rattle.std.specs.Prelude.{IfOk, IfErr, IsTrue, MatchOption};
 ghost use Rattle.chain_model.specs.Configuration.{Lawful, at_epoch, is_part};
 ghost use Rattle.configurations.specs.Checks.{each_later, is_smaller, is_in_order};
 ghost use Rattle.configurations.specs.Refusals.{ListHas, IsLeast};

@@ -224,7 +224,8 @@ pub record ReadsAgain (f : Frame) (rest : List ℕ) : Type 0 where
   pub again : read (fields f ++ rest) ≡ Some (f, rest)
 
 pub frame_again : (f : Frame) (rest : List ℕ) → IsFrame f → ReadsAgain f rest
-unfolding forward_at ack_at notice_at submit_at get_at rows_frame_at open_at close_at committed_at value_at rows_are_at opened_at refused_at closed_at
+unfolding forward_at ack_at notice_at submit_at get_at rows_frame_at open_at close_at
+    committed_at value_at rows_are_at opened_at refused_at closed_at
 frame_again (frame.Forward epoch from number batch) rest is =
     record {
       read = forward_at;

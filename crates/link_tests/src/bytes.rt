@@ -31,74 +31,76 @@ const ACK: [u8; 27] = [
     0, 0, 0, 23, 2, 0, 0, 0, 0, 0, 3, 0, 0, 0, 0, 0, 0, 0, 1, 0, 0, 0, 0, 0, 0, 0, 1,
 ];
 
+/// Bytes, how many frames they have, and the fault that ends them.
+static ANSWERS: [(&[u8], usize, Option<FrameError>); 15] = [
+    (&FORWARD, 1, None),
+    (&ACK, 1, None),
+    // One byte more, and told so.
+    (
+        &[
+            0, 0, 0, 24, 2, 0, 0, 0, 0, 0, 3, 0, 0, 0, 0, 0, 0, 0, 1, 0, 0, 0, 0, 0, 0, 0, 1, 0,
+        ],
+        0,
+        Some(FrameError::Trailing),
+    ),
+    // One byte less, and told so.
+    (
+        &[
+            0, 0, 0, 22, 2, 0, 0, 0, 0, 0, 3, 0, 0, 0, 0, 0, 0, 0, 1, 0, 0, 0, 0, 0, 0, 0,
+        ],
+        0,
+        Some(FrameError::BadField),
+    ),
+    // Epoch 16.
+    (
+        &[
+            0, 0, 0, 23, 2, 0, 0, 0, 16, 0, 3, 0, 0, 0, 0, 0, 0, 0, 1, 0, 0, 0, 0, 0, 0, 0, 1,
+        ],
+        0,
+        Some(FrameError::BadField),
+    ),
+    (&[0, 2, 0, 1], 0, Some(FrameError::TooLong)),
+    (&[0, 2, 0, 0], 0, None),
+    (&[0, 0, 0, 0], 0, Some(FrameError::BadField)),
+    (&[0, 0, 0, 1, 15], 0, Some(FrameError::BadKind)),
+    (&[0, 0, 0, 1, 0], 0, Some(FrameError::BadKind)),
+    // A known kind that needs fields.
+    (&[0, 0, 0, 1, 14], 0, Some(FrameError::BadField)),
+    // An id twice.
+    (
+        &[0, 0, 0, 10, 3, 0, 0, 0, 1, 2, 0, 2, 0, 2],
+        0,
+        Some(FrameError::BadField),
+    ),
+    // No edit.
+    (
+        &[0, 0, 0, 11, 4, 0, 0, 0, 0, 0, 0, 0, 1, 0, 0],
+        0,
+        Some(FrameError::BadField),
+    ),
+    // Neither given nor not.
+    (
+        &[0, 0, 0, 12, 5, 0, 0, 0, 0, 0, 0, 0, 1, 2, 0, 0],
+        0,
+        Some(FrameError::BadField),
+    ),
+    (
+        &[
+            0, 0, 0, 18, 9, 0, 0, 0, 0, 0, 0, 0, 1, 0, 0, 0, 0, 0, 0, 0, 1, 0,
+        ],
+        0,
+        Some(FrameError::Trailing),
+    ),
+];
+
 #[test]
 fn each_answer_whole_and_byte_by_byte(rt: HostRuntime) {
     let alloc = rt.alloc();
-    let table: [(&[u8], usize, Option<FrameError>); 15] = [
-        (&FORWARD, 1, None),
-        (&ACK, 1, None),
-        // One byte more, and told so.
-        (
-            &[
-                0, 0, 0, 24, 2, 0, 0, 0, 0, 0, 3, 0, 0, 0, 0, 0, 0, 0, 1, 0, 0, 0, 0, 0, 0, 0, 1, 0,
-            ],
-            0,
-            Some(FrameError::Trailing),
-        ),
-        // One byte less, and told so.
-        (
-            &[
-                0, 0, 0, 22, 2, 0, 0, 0, 0, 0, 3, 0, 0, 0, 0, 0, 0, 0, 1, 0, 0, 0, 0, 0, 0, 0,
-            ],
-            0,
-            Some(FrameError::BadField),
-        ),
-        // Epoch 16.
-        (
-            &[
-                0, 0, 0, 23, 2, 0, 0, 0, 16, 0, 3, 0, 0, 0, 0, 0, 0, 0, 1, 0, 0, 0, 0, 0, 0, 0, 1,
-            ],
-            0,
-            Some(FrameError::BadField),
-        ),
-        (&[0, 2, 0, 1], 0, Some(FrameError::TooLong)),
-        (&[0, 2, 0, 0], 0, None),
-        (&[0, 0, 0, 0], 0, Some(FrameError::BadField)),
-        (&[0, 0, 0, 1, 15], 0, Some(FrameError::BadKind)),
-        (&[0, 0, 0, 1, 0], 0, Some(FrameError::BadKind)),
-        // A known kind that needs fields.
-        (&[0, 0, 0, 1, 14], 0, Some(FrameError::BadField)),
-        // An id twice.
-        (
-            &[0, 0, 0, 10, 3, 0, 0, 0, 1, 2, 0, 2, 0, 2],
-            0,
-            Some(FrameError::BadField),
-        ),
-        // No edit.
-        (
-            &[0, 0, 0, 11, 4, 0, 0, 0, 0, 0, 0, 0, 1, 0, 0],
-            0,
-            Some(FrameError::BadField),
-        ),
-        // Neither given nor not.
-        (
-            &[0, 0, 0, 12, 5, 0, 0, 0, 0, 0, 0, 0, 1, 2, 0, 0],
-            0,
-            Some(FrameError::BadField),
-        ),
-        (
-            &[
-                0, 0, 0, 18, 9, 0, 0, 0, 0, 0, 0, 0, 1, 0, 0, 0, 0, 0, 0, 0, 1, 0,
-            ],
-            0,
-            Some(FrameError::Trailing),
-        ),
-    ];
-    for (bytes, frames, fault) in table {
+    for (bytes, frames, fault) in &ANSWERS {
         for size in [bytes.len(), 1] {
             assert_eq!(rt;
                 answers_of(alloc, bytes, size),
-                (frames, fault),
+                (*frames, *fault),
                 "{bytes:?} by {size}"
             );
         }

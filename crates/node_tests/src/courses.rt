@@ -205,45 +205,47 @@ const THREE: &[(&'static str, Option<&'static str>)] = &[
     ("a", Some("2")),
 ];
 
+// Lines of the node of the configuration 1.
+const ALONE: [&[(u64, Line, &'static str)]; 5] = [
+    &[
+        (2, Line::Submit(A1), "2: committed 1"),
+        (3, Line::Get("a", None), "3: value 1 at 1"),
+    ],
+    &[
+        (2, Line::Submit(THREE), "2: committed 1"),
+        (3, Line::Get("a", None), "3: value 2 at 1"),
+    ],
+    &[
+        (2, Line::Submit(A1), "2: committed 1"),
+        (4, Line::Restart(&[1]), "4: count 1 committed 1"),
+        (5, Line::Get("a", None), "5: value 1 at 1"),
+    ],
+    &[
+        (2, Line::Get("a", None), "2: none at 0"),
+        (3, Line::Get("a", Some(1)), "3: refused 4 NotCommitted"),
+        (4, Line::Restart(&[]), "4: count 0 committed 0"),
+        (5, Line::Submit(A1), "5: committed 1"),
+        (6, Line::Get("a", Some(1)), "6: value 1 at 1"),
+        (7, Line::Get("a", Some(2)), "7: refused 4 NotCommitted"),
+    ],
+    &[
+        (2, Line::Submit(A1), "2: committed 1"),
+        (3, Line::Submit(A2), "3: committed 2"),
+        (4, Line::Submit(NO_A), "4: committed 3"),
+        (6, Line::Restart(&[0, 1]), "6: count 3 committed 3"),
+        (7, Line::Submit(B1), "7: committed 4"),
+        (8, Line::Get("a", Some(0)), "8: none at 0"),
+        (9, Line::Get("a", Some(1)), "9: value 1 at 1"),
+        (10, Line::Get("a", Some(2)), "10: value 2 at 2"),
+        (11, Line::Get("a", None), "11: none at 4"),
+        (12, Line::Get("b", None), "12: value 1 at 4"),
+    ],
+];
+
 #[test]
 fn what_is_printed(rt: HostRuntime) -> Result<(), Fail> {
     let alloc = rt.alloc();
-    let courses: [&[(u64, Line, &'static str)]; 5] = [
-        &[
-            (2, Line::Submit(A1), "2: committed 1"),
-            (3, Line::Get("a", None), "3: value 1 at 1"),
-        ],
-        &[
-            (2, Line::Submit(THREE), "2: committed 1"),
-            (3, Line::Get("a", None), "3: value 2 at 1"),
-        ],
-        &[
-            (2, Line::Submit(A1), "2: committed 1"),
-            (4, Line::Restart(&[1]), "4: count 1 committed 1"),
-            (5, Line::Get("a", None), "5: value 1 at 1"),
-        ],
-        &[
-            (2, Line::Get("a", None), "2: none at 0"),
-            (3, Line::Get("a", Some(1)), "3: refused 4 NotCommitted"),
-            (4, Line::Restart(&[]), "4: count 0 committed 0"),
-            (5, Line::Submit(A1), "5: committed 1"),
-            (6, Line::Get("a", Some(1)), "6: value 1 at 1"),
-            (7, Line::Get("a", Some(2)), "7: refused 4 NotCommitted"),
-        ],
-        &[
-            (2, Line::Submit(A1), "2: committed 1"),
-            (3, Line::Submit(A2), "3: committed 2"),
-            (4, Line::Submit(NO_A), "4: committed 3"),
-            (6, Line::Restart(&[0, 1]), "6: count 3 committed 3"),
-            (7, Line::Submit(B1), "7: committed 4"),
-            (8, Line::Get("a", Some(0)), "8: none at 0"),
-            (9, Line::Get("a", Some(1)), "9: value 1 at 1"),
-            (10, Line::Get("a", Some(2)), "10: value 2 at 2"),
-            (11, Line::Get("a", None), "11: none at 4"),
-            (12, Line::Get("b", None), "12: value 1 at 4"),
-        ],
-    ];
-    for course in courses {
+    for course in ALONE {
         let texts = printed(alloc, 1, &[1], course)?;
         assert_eq!(rt; texts.len(), course.len());
         for ((line, _, want), text) in course.iter().zip(&texts) {

@@ -1,7 +1,7 @@
 -- What a flow has done so far, and one more statement of a course.
-use Rattle.std.proofs.Common.{◌≡◌, ◌≤◌, ◌<◌, ◌+◌, ◌-◌, ℕ, zero, suc, List, [], ◌∷◌, ◌++◌, length, map}
-use Rattle.std.proofs.Common.{take, drop, refl, sym, ap, ap₂, subst, ◌∙◌, arith, append_assoc}
-use Rattle.std.proofs.Common.{append-nil, length-append, Option, Some, None, get_or}
+use Rattle.std.proofs.Common.{◌≡◌, ◌≤◌, ◌<◌, ◌+◌, ◌-◌, ℕ, zero, suc, List, [], ◌∷◌, ◌++◌}
+use Rattle.std.proofs.Common.{length, map, take, drop, refl, sym, ap, ap₂, subst, ◌∙◌, arith}
+use Rattle.std.proofs.Common.{append_assoc, append-nil, length-append, Option, Some, None, get_or}
 use Rattle.chain_model.specs.Configuration.{Configurations}
 use Rattle.lab.specs.declared.event.Event as lab
 use Rattle.kv_types.specs.declared.error.KvError.{KvError}
@@ -164,7 +164,8 @@ module _ (cs : Configurations) (events : List lab.Event) (steps : List (List Lin
           own = f.own ++ lines ∷ [];
           run = subst (λ (s : List (List Line)). HasRun after cs
               (events ++ map delivery (take (suc count)
-              (all_left old steps (f.own ++ lines ∷ [])))) s) (append_assoc steps f.own (lines ∷ []))
+              (all_left old steps (f.own ++ lines ∷ [])))) s)
+              (append_assoc steps f.own (lines ∷ []))
               (subst (λ (e : List lab.Event). HasRun after cs e ((steps ++ f.own) ++ lines ∷ []))
               happened run);
           each = omega (arith, f.each, length-append f.own (lines ∷ []));

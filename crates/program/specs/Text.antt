@@ -92,6 +92,11 @@ acknowledged_text place from to epoch committed have =
     frame_text place from to (codes "ack") epoch
     ++ (codes " " ++ (decimal committed ++ (codes " " ++ decimal have)))
 
+abbrev pub stopped_text : ℕ → Option Stop → List ℕ
+stopped_text node None = codes "node " ++ (decimal node ++ codes " stopped")
+stopped_text node (Some cause) =
+    codes "node " ++ (decimal node ++ (codes " stopped: " ++ cause_text cause))
+
 abbrev pub line_text : Line → List ℕ
 line_text line.Nothing = codes "nothing"
 line_text (line.Dropped reason) = codes "dropped " ++ reason_text reason
@@ -101,9 +106,7 @@ line_text (line.Forwarded place from to epoch number) =
 line_text (line.Acknowledged place from to epoch committed have) =
     acknowledged_text place from to epoch committed have
 line_text (line.Replied reply) = reply_text reply
-line_text (line.Stopped node None) = codes "node " ++ (decimal node ++ codes " stopped")
-line_text (line.Stopped node (Some cause)) =
-    codes "node " ++ (decimal node ++ (codes " stopped: " ++ cause_text cause))
+line_text (line.Stopped node cause) = stopped_text node cause
 
 -- a line of output: a number of a line of the script, and what is said of it
 abbrev pub numbered : ℕ → List ℕ → List ℕ

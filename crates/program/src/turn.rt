@@ -9,7 +9,8 @@ pub enum Remark {
     Busy,
 }
 
-/// What a statement did: the line where it stands, how many events it had, and what is said besides.
+/// What a statement did: the line where it stands, how many events it had, and what is said
+/// besides.
 #[derive(Clone, Copy, Debug)]
 pub struct Turn {
     pub line: u32,

@@ -63,8 +63,17 @@ fn one_edit_is_spelled_so(rt: HostRuntime) -> Result<(), Fail> {
     Ok(())
 }
 
-fn refusal_of(alloc: Global, bytes: &[u8]) -> Option<KvError> {
-    Batch::from_bytes(alloc, bytes).err()
+/// Why there is no batch, if there is none. Want of memory ends the test.
+fn refusal(answer: Result<Batch, KvError>) -> Result<Option<KvError>, KvError> {
+    match answer {
+        Ok(_) => Ok(None),
+        Err(KvError::Memory) => Err(KvError::Memory),
+        Err(e) => Ok(Some(e)),
+    }
+}
+
+fn refusal_of(alloc: Global, bytes: &[u8]) -> Result<Option<KvError>, KvError> {
+    refusal(Batch::from_bytes(alloc, bytes))
 }
 
 /// What spells no batch.
@@ -82,15 +91,16 @@ static NO_BATCHES: [&[u8]; 10] = [
 ];
 
 #[test]
-fn bytes_that_spell_no_batch(rt: HostRuntime) {
+fn bytes_that_spell_no_batch(rt: HostRuntime) -> Result<(), Fail> {
     let alloc = rt.alloc();
     for bytes in &NO_BATCHES {
         assert_eq!(rt;
-            refusal_of(alloc, bytes),
+            refusal_of(alloc, bytes)?,
             Some(KvError::BadBytes),
             "{bytes:?}"
         );
     }
+    Ok(())
 }
 
 /// Refusals and their numbers.
@@ -112,18 +122,14 @@ fn refusals_have_their_numbers(rt: HostRuntime) {
     }
 }
 
-fn key_refusal(alloc: Global, len: usize) -> Option<KvError> {
-    let Ok(bytes) = vec![in alloc; 107u8; len] else {
-        return Some(KvError::Memory);
-    };
-    Key::new(bytes).err()
+fn key_refusal(alloc: Global, len: usize) -> Result<Option<KvError>, KvError> {
+    let bytes = vec![in alloc; 107u8; len]?;
+    Ok(Key::new(bytes).err())
 }
 
-fn value_refusal(alloc: Global, len: usize) -> Option<KvError> {
-    let Ok(bytes) = vec![in alloc; 118u8; len] else {
-        return Some(KvError::Memory);
-    };
-    Value::new(bytes).err()
+fn value_refusal(alloc: Global, len: usize) -> Result<Option<KvError>, KvError> {
+    let bytes = vec![in alloc; 118u8; len]?;
+    Ok(Value::new(bytes).err())
 }
 
 /// The length of a key, and the refusal.
@@ -141,14 +147,15 @@ static VALUE_LENGTHS: [(usize, Option<KvError>); 3] = [
 ];
 
 #[test]
-fn keys_and_values_at_their_limits(rt: HostRuntime) {
+fn keys_and_values_at_their_limits(rt: HostRuntime) -> Result<(), Fail> {
     let alloc = rt.alloc();
     for (len, want) in &KEY_LENGTHS {
-        assert_eq!(rt; key_refusal(alloc, *len), *want, "{len}");
+        assert_eq!(rt; key_refusal(alloc, *len)?, *want, "{len}");
     }
     for (len, want) in &VALUE_LENGTHS {
-        assert_eq!(rt; value_refusal(alloc, *len), *want, "{len}");
+        assert_eq!(rt; value_refusal(alloc, *len)?, *want, "{len}");
     }
+    Ok(())
 }
 
 /// What a batch of so many deletions is refused with.
@@ -203,7 +210,8 @@ fn long_batch_len(alloc: Global, last: usize) -> Result<usize, KvError> {
 fn batches_at_their_limit_of_bytes(rt: HostRuntime) -> Result<(), Fail> {
     let alloc = rt.alloc();
     assert_eq!(rt; long_batch_len(alloc, 16358)?, 65536);
-    assert_eq!(rt; long_batch(alloc, 16359).err(), Some(KvError::BatchTooLong));
+    let answer = long_batch(alloc, 16359);
+    assert_eq!(rt; refusal(answer)?, Some(KvError::BatchTooLong));
     Ok(())
 }
 

@@ -1,5 +1,5 @@
-ghost use Rattle.std.specs.Prelude.{◌≡◌, ◌≢◌, ◌⊎◌, ◌++◌, ◌∷◌, [], map, codes, true, false, Some, None};
-ghost use Rattle.std.specs.Prelude.{IfOk, OnOk, MatchResult, MatchOption, All};
+ghost use Rattle.std.specs.Prelude.{◌≡◌, ◌≢◌, ◌⊎◌, ◌++◌, ◌∷◌, [], map, codes, true, false};
+ghost use Rattle.std.specs.Prelude.{Some, None, IfOk, OnOk, MatchResult, MatchOption, All};
 ghost use Rattle.std.specs.Fmt.{decimal};
 ghost use Rattle.std.specs.List.{list_all};
 ghost use Rattle.std.specs.Str.{bytes_eq};
@@ -72,7 +72,8 @@ fn ids_of(alloc: Global, numbers: &[u64]) -> Result<Option<Vec<u16>>, AllocError
 
 // What is wrong with a script's ids.
 fn config_error(error: ConfigError) -> ScriptError
-    ensures { (result ≡ OutOfMemory) ⊎ ((result ≡ BadConfiguration) × (error ≢ ConfigError.Memory)) }
+    ensures { (result ≡ OutOfMemory)
+        ⊎ ((result ≡ BadConfiguration) × (error ≢ ConfigError.Memory)) }
 {
     match error {
         ConfigError::Memory => ScriptError::OutOfMemory,

@@ -8,7 +8,7 @@ ghost use Rattle.program.specs.Reading.{Reads};
 use super::asked::{Asked, Bytes};
 use super::edit::changes_of;
 use super::error::ScriptError;
-use super::word::{bytes_of, hex_digit, number, numbered};
+use super::word::{byte_of, bytes_of, number, numbered};
 use disk::{Junk, JunkBytes};
 use std::alloc::{AllocError, Global};
 
@@ -84,10 +84,10 @@ fn pairs_of(alloc: Global, word: &[u8]) -> Result<Option<Vec<u8>>, AllocError>
     let mut bytes = Vec::new(alloc);
     let mut rest = word;
     while let [high, low, after @ ..] = rest {
-        match (hex_digit(*high), hex_digit(*low)) {
-            (Some(high), Some(low)) => bytes.push(high * 16 + low)?,
-            _ => return Ok(None),
-        }
+        let Some(byte) = byte_of(*high, *low) else {
+            return Ok(None);
+        };
+        bytes.push(byte)?;
         rest = after;
     }
     Ok(if rest.is_empty() { Some(bytes) } else { None })

@@ -1,8 +1,10 @@
-ghost use Rattle.std.specs.Prelude.{◌≡◌, ◌^◌, ◌<◌, ◌++◌, true, false, MatchOption, IfOk, length};
+ghost use Rattle.std.specs.Prelude.{◌≡◌, ◌^◌, ◌<◌, ◌++◌, ◌∷◌, [], true, false, length};
+ghost use Rattle.std.specs.Prelude.{MatchOption, IfOk};
 ghost use Rattle.std.specs.Fmt.{decimal};
 ghost use Rattle.std.specs.Str.Parse.{digits_value};
 ghost use Rattle.program.specs.Words.{AreBytes, is_plain, byte_text, bytes_text, are_bytes};
 ghost use Rattle.program.specs.Words.{is_byte_string, is_number, is_hex, hex_value};
+ghost use Rattle.program.specs.Statements.{are_pairs, hex_text};
 
 use kv_types::Number;
 use std::alloc::{AllocError, Global};
@@ -50,6 +52,15 @@ pub fn hex_digit(byte: u8) -> Option<u8>
         b'a'..=b'f' => Some(byte - b'a' + 10),
         _ => None,
     }
+}
+
+/// The byte that two hex digits spell.
+pub fn byte_of(high: u8, low: u8) -> Option<u8>
+    ensures { MatchOption result (are_pairs (high ∷ low ∷ []) ≡ false)
+        (λ b. (are_pairs (high ∷ low ∷ []) ≡ true) × (b < 256)
+        × (high ∷ low ∷ [] ≡ hex_text (b ∷ []))) }
+{
+    Some(hex_digit(high)? * 16 + hex_digit(low)?)
 }
 
 /// The byte that the front of a text spells, and what follows it.

@@ -1,10 +1,13 @@
-ghost use Rattle.std.specs.Prelude.{Some};
-ghost use Rattle.program.specs.Text.{reply_text, started_text, frame_text, line_text};
+ghost use Rattle.std.specs.Prelude.{◌≡◌, Some};
+ghost use Rattle.program.specs.Text.{reply_text, started_text, frame_text, stopped_text};
+ghost use Rattle.program.specs.Text.{line_text};
 
 use super::names::{CauseText, ReasonText, RefusalText};
 use super::spelled::Spelled;
+use configurations::{Epoch, NodeId};
+use kv_types::Number;
 use lab::Line;
-use node::Reply;
+use node::{Reply, Stop};
 use std::fmt;
 
 #[derive(Clone, Copy)]
@@ -51,6 +54,24 @@ struct StartedText {
     committed: u64,
 }
 
+impl StartedText {
+    fn of(node: NodeId, epoch: Epoch, count: Number, committed: Number) -> StartedText
+        ensures { result ≡ record {
+          node = node;
+          epoch = epoch;
+          count = count;
+          committed = committed;
+        } }
+    {
+        StartedText {
+            node: node.get(),
+            epoch: epoch.get(),
+            count: count.get(),
+            committed: committed.get(),
+        }
+    }
+}
+
 impl fmt::Display for StartedText {
     ghost output = { λ it. Some (started_text it.node it.epoch it.count it.committed) };
 
@@ -65,12 +86,46 @@ impl fmt::Display for StartedText {
 }
 
 #[derive(Clone, Copy)]
+struct StoppedText(NodeId, Option<Stop>);
+
+impl fmt::Display for StoppedText {
+    ghost output = { λ it. Some (stopped_text it.0 it.1) };
+
+    fn fmt<W: fmt::Write>(&self, f: &mut fmt::Formatter<W>) -> fmt::Result {
+        let node = self.0.get();
+        match self.1 {
+            None => write!(f, "node {node} stopped"),
+            Some(cause) => {
+                let cause = CauseText(cause);
+                write!(f, "node {node} stopped: {cause}")
+            }
+        }
+    }
+}
+
+// What is told of every frame: its place, whom it goes between, its kind and its sender's epoch.
+#[derive(Clone, Copy)]
 struct FrameText<'a> {
     place: u64,
     from: u16,
     to: u16,
     kind: &'a str,
     epoch: u32,
+}
+
+impl<'a> FrameText<'a> {
+    fn of(place: u64, from: NodeId, to: NodeId, kind: &'a str, epoch: Epoch) -> FrameText<'a>
+        ensures { (result.place ≡ place) × (result.from ≡ from) × (result.to ≡ to)
+            × (result.kind.now ≡ kind.now) × (result.epoch ≡ epoch) }
+    {
+        FrameText {
+            place,
+            from: from.get(),
+            to: to.get(),
+            kind,
+            epoch: epoch.get(),
+        }
+    }
 }
 
 impl fmt::Display for FrameText<'_> {
@@ -93,28 +148,14 @@ impl fmt::Display for LineText<'_> {
     fn fmt<W: fmt::Write>(&self, f: &mut fmt::Formatter<W>) -> fmt::Result {
         match self.0 {
             Line::Nothing => write!(f, "nothing"),
-            Line::Replied(reply) => {
-                let reply = ReplyText(reply);
-                write!(f, "{reply}")
-            }
-            Line::Dropped(reason) => {
-                let reason = ReasonText(*reason);
-                write!(f, "dropped {reason}")
-            }
+            Line::Replied(reply) => write!(f, "{}", ReplyText(reply)),
+            Line::Dropped(reason) => write!(f, "dropped {}", ReasonText(*reason)),
             Line::Started {
                 node,
                 epoch,
                 count,
                 committed,
-            } => {
-                let text = StartedText {
-                    node: node.get(),
-                    epoch: epoch.get(),
-                    count: count.get(),
-                    committed: committed.get(),
-                };
-                write!(f, "{text}")
-            }
+            } => write!(f, "{}", StartedText::of(*node, *epoch, *count, *committed)),
             Line::Forwarded {
                 place,
                 from,
@@ -122,15 +163,8 @@ impl fmt::Display for LineText<'_> {
                 epoch,
                 number,
             } => {
-                let frame = FrameText {
-                    place: *place,
-                    from: from.get(),
-                    to: to.get(),
-                    kind: "forward",
-                    epoch: epoch.get(),
-                };
-                let number = number.get();
-                write!(f, "{frame} {number}")
+                let frame = FrameText::of(*place, *from, *to, "forward", *epoch);
+                write!(f, "{frame} {}", number.get())
             }
             Line::Acknowledged {
                 place,
@@ -140,27 +174,10 @@ impl fmt::Display for LineText<'_> {
                 committed,
                 have,
             } => {
-                let frame = FrameText {
-                    place: *place,
-                    from: from.get(),
-                    to: to.get(),
-                    kind: "ack",
-                    epoch: epoch.get(),
-                };
-                let (committed, have) = (committed.get(), have.get());
-                write!(f, "{frame} {committed} {have}")
+                let frame = FrameText::of(*place, *from, *to, "ack", *epoch);
+                write!(f, "{frame} {} {}", committed.get(), have.get())
             }
-            Line::Stopped { node, cause: None } => {
-                let node = node.get();
-                write!(f, "node {node} stopped")
-            }
-            Line::Stopped {
-                node,
-                cause: Some(cause),
-            } => {
-                let (node, cause) = (node.get(), CauseText(*cause));
-                write!(f, "node {node} stopped: {cause}")
-            }
+            Line::Stopped { node, cause } => write!(f, "{}", StoppedText(*node, *cause)),
         }
     }
 }

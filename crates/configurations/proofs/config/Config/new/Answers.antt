@@ -12,7 +12,8 @@ loop-id-preserved c =
     let taken = ap (λ nodes. nodes ++ c.in-Some.node ∷ []) c.loop-id.invariant.0 in
     let own = ap (λ x. take i ids ++ x ∷ []) c.in-Some.ensures.1 in
     let more = take_more ids i 0 c.loop-id-test.true in
-    let id : IsId (get_or ids i 0) = (c.in-Some.ensures.0, omega (arith, c.type_inv.id-items i)) in (
+    let id : IsId (get_or ids i 0) =
+    (c.in-Some.ensures.0, omega (arith, c.type_inv.id-items i)) in (
       c.in_ok-push.ensures.items ∙ taken ∙ own ∙ sym more,
       All-more IsId ids i 0 c.loop-id-test.true c.loop-id.invariant.1 id,
     )
