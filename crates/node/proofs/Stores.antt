@@ -3,7 +3,7 @@ use Rattle.std.proofs.Common.{◌≡◌, ℕ, ◌+◌, ◌≤◌, ◌<◌, List,
 use Rattle.std.proofs.Common.{Some, None}
 use Rattle.std.proofs.Common.{inl, inr, refl, sym, ap, subst, ◌∙◌, arith}
 use Rattle.std.proofs.Common.{length-append}
-use Rattle.std.specs.Prelude.{IsNone, IsSomeAnd, slice_get, ◌⊎◌, ◌≢◌}
+use Rattle.std.specs.Prelude.{IsSomeAnd, slice_get, ◌⊎◌, ◌≢◌}
 use Rattle.std.proofs.lemmas.List.Elements.{All-push}
 use Rattle.kv_types.specs.declared.edit.Edit.{Edit}
 use Rattle.kv_types.specs.Spelling.{IsBatch}
@@ -12,7 +12,7 @@ use Rattle.disk.specs.State.{contents, seen, IsSure, SureIsLeft}
 use Rattle.record_log.specs.declared.log.Log.{Log}
 use Rattle.record_log.specs.Grammar.{StandsFor}
 use Rattle.record_log.specs.Push.{LeavesAt}
-use Rattle.record_log.specs.Stands.{Holds, IsAt, IsOldOrNew, EndsInRange, count_of}
+use Rattle.record_log.specs.Stands.{Holds, IsAt, IsOldOrNew, count_of}
 use Rattle.node.specs.declared.engine.Engine.{Engine}
 use Rattle.chain_model.specs.Configuration.{IsId}
 use Rattle.configurations.specs.Configs.{IsConfig}
@@ -21,11 +21,6 @@ use Rattle.node.specs.Layout.{identity_file, identity_records, batches_file}
 use Rattle.node.specs.Layout.{batch_record, records_from}
 use Rattle.node.specs.Files.{IsLog, HasId, HasBatches, IsSureOfId, IsStore, KeepsOneOf}
 use Rattle.node.proofs.Records.{records_from-push, length-ends}
-
--- a file that is absent ends in range
-pub absent_ends : (bytes : Option (List ℕ)) → IsNone bytes → EndsInRange bytes
-absent_ends None none = tt
-absent_ends (Some it) none = absurd cc
 
 -- a log holds what it held where its file is the same
 pub holds_in : (old new : State) (log : Log) (records : List (List ℕ)) →

@@ -1,22 +1,23 @@
 -- The files of a node: what their contents stand for, and an open store over them.
 use Rattle.std.specs.Prelude.{◌≡◌, ◌≢◌, ◌⊎◌, ◌≤◌, ℕ, List, [], length, Option, All}
-use Rattle.std.specs.Prelude.{IsNone, IsSomeAnd, MatchOption}
+use Rattle.std.specs.Prelude.{IsSomeAnd, MatchOption}
 use Rattle.kv_types.specs.declared.bounds.TheConstants.{MAX_NUMBER}
 use Rattle.kv_types.specs.declared.edit.Edit.{Edit}
 use Rattle.kv_types.specs.Spelling.{IsBatch}
 use Rattle.disk.specs.State.{State, Contents, MayLeave, contents, seen}
 use Rattle.record_log.specs.Grammar.{StandsFor}
 use Rattle.record_log.specs.Push.{IsSureOf}
-use Rattle.record_log.specs.Stands.{Holds, IsAt}
+use Rattle.record_log.specs.Stands.{EndsInRange, Holds, IsAt}
 use Rattle.node.specs.declared.engine.Engine.{Engine}
 use Rattle.chain_model.specs.Configuration.{IsId}
 use Rattle.configurations.specs.Configs.{IsConfig}
 use Rattle.node.specs.Layout.{identity_file, batches_file, identity_records, records_from}
 
--- no file of a node is there
-pub record IsEmpty (disk : State) : Type 0 where
-  pub identity : IsNone (seen (disk identity_file))
-  pub batches : IsNone (seen (disk batches_file))
+-- what reads give of a node's files ends below place 2^63, as `length` tells of each file that is
+-- there
+pub record AreInRange (disk : State) : Type 0 where
+  pub identity : EndsInRange (seen (disk identity_file))
+  pub batches : EndsInRange (seen (disk batches_file))
 
 -- a file is there, and is a log of these records
 abbrev pub IsLog : Option (List ℕ) → List (List ℕ) → Type 0

@@ -6,7 +6,7 @@ ghost use Rattle.kv_types.specs.declared.edit.Edit.{Edit};
 ghost use Rattle.kv_types.specs.Spelling.{IsBatch};
 ghost use Rattle.disk.specs.State.{Leaves, contents, IsSame};
 ghost use Rattle.record_log.specs.Stands.{Holds, HasFailed, count_of};
-ghost use Rattle.node.specs.Files.{HasBatches, HasId, IsBlank, IsEmpty, IsStore, IsSureId};
+ghost use Rattle.node.specs.Files.{AreInRange, HasBatches, HasId, IsBlank, IsStore, IsSureId};
 ghost use Rattle.node.specs.Files.{KeepsOneOf, KeepsOthers, LeavesNoMore};
 ghost use Rattle.node.specs.Layout.{identity_file, identity_records, batches_file};
 ghost use Rattle.node.specs.Layout.{batch_record, records_from};
@@ -143,7 +143,7 @@ fn identity_on<D: Disk>(alloc: Global, disk: &mut D) -> Result<Identity, Stop>
 }
 
 impl Engine {
-    /// Makes the files of a node that has no batches.
+    /// Makes the files of a node that has no batches, or begins anew those that are there.
     pub fn create<D: Disk>(
         alloc: Global,
         disk: &mut D,
@@ -151,7 +151,7 @@ impl Engine {
         config: &Config,
     ) -> Result<Engine, Stop>
         ensures keeps { KeepsDisk D.is_honest D.failures disk.old disk.new (TellsDisk result) }
-        ensures created { D.is_honest disk.old → IsEmpty (D.state disk.old) →
+        ensures created { D.is_honest disk.old → AreInRange (D.state disk.old) →
             MatchResult result (λ engine. IsStore (D.state disk.new) engine id config.now [])
             IsOfMachine }
         ensures works { IfOk result (λ engine. HasFailed engine.log → ⊥) }

@@ -4,7 +4,7 @@ ghost use Rattle.kv_types.specs.declared.bounds.TheConstants.{MAX_NUMBER};
 ghost use Rattle.disk.specs.State.{contents};
 ghost use Rattle.chain_model.specs.Node.{created, started};
 ghost use Rattle.chain_model.specs.Rules.{accept, append, pass_on};
-ghost use Rattle.node.specs.Files.{IsEmpty, KeepsOthers, LeavesNoMore};
+ghost use Rattle.node.specs.Files.{AreInRange, KeepsOthers, LeavesNoMore};
 ghost use Rattle.node.specs.Starts.{IsStarted, Declines, KeepsTaken, disk_behind};
 ghost use Rattle.chain_core.specs.States.{Machine, Is};
 ghost use Rattle.chain_core.specs.Decisions.{answer_to, done_of, rule_of};
@@ -57,8 +57,8 @@ fn core_of(alloc: Global, identity: Identity, count: usize) -> CoreState
 }
 
 impl<D: Disk + Drop> Node<D> {
-    /// Makes a node's files on a disk that has none, and runs it. A refusal hands the disk back,
-    /// with none, one or both of the files.
+    /// Makes a node's files on a disk, or begins anew those that are there, and runs it. A refusal
+    /// hands the disk back, with none, one or both of them begun.
     pub fn create(
         alloc: Global,
         mut disk: D,
@@ -67,7 +67,7 @@ impl<D: Disk + Drop> Node<D> {
         limits: &Limits,
     ) -> Result<Node<D>, (Stop, D)>
         ensures keeps { KeepsTaken D.is_honest D.failures disk result }
-        ensures created { D.is_honest disk → IsEmpty (D.state disk) →
+        ensures created { D.is_honest disk → AreInRange (D.state disk) →
             MatchResult result (λ node. Runs D.is_honest D.state node id (created config.now))
             (λ refused. IsOfMachine refused.0) }
         ensures others { D.is_honest disk →
@@ -240,8 +240,8 @@ impl<D: Disk + Drop> Node<D> {
         }
     }
 
-    /// Handles an input to its end. A batch is on the disk before it is acknowledged. After a
-    /// `Stop` the node is at its end: its disk is what is left of it.
+    /// Handles an input to its end. A batch is on the disk before it is sent on or acknowledged.
+    /// After a `Stop` the node is at its end: its disk is what is left of it.
     pub fn step(&mut self, alloc: Global, input: Input) -> Result<Output, Stop>
         requires { MayStep self.old }
         ensures keeps { KeepsDisk D.is_honest D.failures (disk_of self.old) (disk_of self.new)
