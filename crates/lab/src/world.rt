@@ -5,6 +5,7 @@ ghost use Rattle.lab.specs.declared.report.Line.{Line};
 ghost use Rattle.lab.specs.Events.{NamesNode};
 ghost use Rattle.chain_core.specs.States.{Machine};
 ghost use Rattle.chain_model.specs.Node.{created};
+ghost use Rattle.node.specs.Steps.{disk_of};
 ghost use Rattle.lab.specs.Members.{Is};
 ghost use Rattle.lab.specs.Runs.{IsRun, IsLeft};
 ghost use Rattle.lab.specs.History.{OneHistory};
@@ -72,6 +73,8 @@ fn created_nodes(alloc: Global, config: &Config, limits: &Limits) -> Result<Vec<
 fn left_of(seat: Seat) -> NodeReport
     ensures left { (n : Machine) → Is seat.member seat.id n → IsLeft n result }
     ensures id { result.id ≡ seat.id }
+    ensures runs { (node : _) → seat.member ≡ Member.Running node → result.disk ≡ disk_of node }
+    ensures rests { (disk : _) → seat.member ≡ Member.Resting disk → result.disk ≡ disk }
 {
     let Seat { id, member } = seat;
     match member {

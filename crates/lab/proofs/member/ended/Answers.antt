@@ -12,7 +12,8 @@ returns-clause-rests c = λ x n a stops.
     let stops' = subst (λ (d : Slots). StopsAs (state d) x n a) (sym c.into_disk-disk.ensures.disk)
     stops in
     elim (rests_as c.sure_is_left.ensures c.crashed_is_sure.ensures Old (state disk)
-    (state c.crash.new.self) x n a (c.crash.ensures.crashes tt) (c.crash.ensures.allowed tt) stops') [
+    (state c.crash.new.self) x n a (c.crash.ensures.crashes tt)
+    (c.crash.ensures.allowed tt) stops') [
       | inl before ↦ inl (before, refl)
       | inr behind ↦ inr (behind, refl)
     ]

@@ -28,6 +28,7 @@ returns-in-Err-clause-started c = λ x n is.
     let left = c.in-Err.ensures.started x n tt r.0 in
     Fails r.1 c.in-Err.stop (
       rests_on c.sure_is_left.ensures c.crashed_is_sure.ensures Old (state c.in-Err.disk)
-          (state c.crash.new.self) x n (c.crash.ensures.crashes tt) (c.crash.ensures.allowed tt) left.1,
+          (state c.crash.new.self) x n (c.crash.ensures.crashes tt)
+          (c.crash.ensures.allowed tt) left.1,
       refl,
     ) refl

@@ -60,7 +60,8 @@ returns-clause-ran c = λ cs events steps run names.
     c.deref.ensures.value c.in_ok-arrival.ensures in
     let told = MatchOption-at_some (HasNoSeat self.seats.items it.to)
     (λ lines. WasTold self.seats.items self.frames.items it.to it.coming lines
-    c.give.new.seats.items c.give.new.posted.items) lines c.in-Some-3.is c.in_ok-lines.ensures.told in (
+    c.give.new.seats.items c.give.new.posted.items) lines c.in-Some-3.is
+    c.in_ok-lines.ensures.told in (
       lines,
       record {
         kept = c.in_ok-push-2.ensures.items

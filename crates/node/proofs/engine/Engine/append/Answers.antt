@@ -13,12 +13,14 @@ use Rattle.node.proofs.engine.Engine.append.Goals as goal
 pub returns-in_err-record-clause-crash : goal.returns-in_err-record-clause-crash
 returns-in_err-record-clause-crash g c = λ x ids list honest s.
     let is_batch = subst IsBatch c.batch.view_is c.batch.invariant in
-    unchanged c.sure_is_left.ensures (g.D.Disk.state c.args.disk.now) c.args.self.now x ids list s c.args.batch is_batch
+    unchanged c.sure_is_left.ensures (g.D.Disk.state c.args.disk.now) c.args.self.now x ids list s
+    c.args.batch is_batch
 
 pub returns-in_err-reserve-clause-crash : goal.returns-in_err-reserve-clause-crash
 returns-in_err-reserve-clause-crash g c = λ x ids list honest s.
     let is_batch = subst IsBatch c.batch.view_is c.batch.invariant in
-    unchanged c.sure_is_left.ensures (g.D.Disk.state c.args.disk.now) c.args.self.now x ids list s c.args.batch is_batch
+    unchanged c.sure_is_left.ensures (g.D.Disk.state c.args.disk.now) c.args.self.now x ids list s
+    c.args.batch is_batch
 
 -- the log works and takes the record, so it tells of the machine alone
 pub returns-in_err-append-clause-appended : goal.returns-in_err-append-clause-appended
@@ -38,10 +40,10 @@ pub returns-in_err-append-clause-crash : goal.returns-in_err-append-clause-crash
 returns-in_err-append-clause-crash g c = λ x ids list honest s.
     let old = g.D.Disk.state c.args.disk.now in
     let is_batch = subst IsBatch c.batch.view_is c.batch.invariant in
-    let number = next_record c.sure_is_left.ensures old c.args.self.now x ids list s c.args.batch is_batch
-    (c.len.result + 1) (omega (arith, c.len.ensures)) in
-    crashed c.sure_is_left.ensures old c.args.self.now x ids list s c.args.batch is_batch c.deref.result.now
-    (c.deref.ensures.value ∙ c.in_ok-record.ensures ∙ number) c.requires.room
+    let number = next_record c.sure_is_left.ensures old c.args.self.now x ids list s c.args.batch
+    is_batch (c.len.result + 1) (omega (arith, c.len.ensures)) in
+    crashed c.sure_is_left.ensures old c.args.self.now x ids list s c.args.batch is_batch
+    c.deref.result.now (c.deref.ensures.value ∙ c.in_ok-record.ensures ∙ number) c.requires.room
     (g.D.Disk.state c.append.new.disk) (λ other. c.append.ensures.others other honest)
     (c.append.ensures.crash (records_from 1 list) honest s.log)
 
@@ -49,10 +51,10 @@ pub returns-clause-crash : goal.returns-clause-crash
 returns-clause-crash g c = λ x ids list honest s.
     let old = g.D.Disk.state c.args.disk.now in
     let is_batch = subst IsBatch c.batch.view_is c.batch.invariant in
-    let number = next_record c.sure_is_left.ensures old c.args.self.now x ids list s c.args.batch is_batch
-    (c.len.result + 1) (omega (arith, c.len.ensures)) in
-    crashed c.sure_is_left.ensures old c.args.self.now x ids list s c.args.batch is_batch c.deref.result.now
-    (c.deref.ensures.value ∙ c.in_ok-record.ensures ∙ number) c.requires.room
+    let number = next_record c.sure_is_left.ensures old c.args.self.now x ids list s c.args.batch
+    is_batch (c.len.result + 1) (omega (arith, c.len.ensures)) in
+    crashed c.sure_is_left.ensures old c.args.self.now x ids list s c.args.batch is_batch
+    c.deref.result.now (c.deref.ensures.value ∙ c.in_ok-record.ensures ∙ number) c.requires.room
     (g.D.Disk.state c.append.new.disk) (λ other. c.append.ensures.others other honest)
     (c.append.ensures.crash (records_from 1 list) honest s.log)
 
@@ -64,8 +66,8 @@ returns-clause-appended g c = λ x ids list honest s.
     let batch = c.args.batch in
     let log = c.append.new.self in
     let is_batch = subst IsBatch c.batch.view_is c.batch.invariant in
-    let number = next_record c.sure_is_left.ensures old self x ids list s batch is_batch (c.len.result + 1)
-    (omega (arith, c.len.ensures)) in
+    let number = next_record c.sure_is_left.ensures old self x ids list s batch is_batch
+    (c.len.result + 1) (omega (arith, c.len.ensures)) in
     let told = c.in_ok-append.ensures.told in
     let after : Engine = record { log = log; batches = c.push_reserved.new.self } in
     let at : IsAt batches_file 0 log = record {

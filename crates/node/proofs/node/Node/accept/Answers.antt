@@ -47,7 +47,7 @@ returns-clause-ends g c = λ x n input r.
     ∙ one_sent x a.node (length n.list) last (last + 1) number (omega arith) in
     let Batches = List (List Edit) in
     let list = sym {A = Batches} follows.runs.store.batches ∙ sym c.deref.ensures.value in
-    ends_rule g.D.Disk.is_honest g.D.Disk.state c.sure_is_left.ensures c.take.new.self x n input batch
-    (done.Accepted c.args.request) a c.in_ok-due.due.items c.deref-2.result.now sent
+    ends_rule g.D.Disk.is_honest g.D.Disk.state c.sure_is_left.ensures c.take.new.self x n input
+    batch (done.Accepted c.args.request) a c.in_ok-due.due.items c.deref-2.result.now sent
     c.output_of.result leaves follows c.deref-2.ensures.value one
     (c.output_of.ensures.says a.node follows.runs.core list) c.output_of.ensures.memory

@@ -54,7 +54,8 @@ returns-clause-ends g c = λ x n input r.
     ∙ ap (λ b. forward x a.node (suc (length n.list)) ++ told b) tail in
     let Batches = List (List Edit) in
     let list = sym {A = Batches} follows.runs.store.batches ∙ sym c.deref.ensures.value in
-    ends_rule g.D.Disk.is_honest g.D.Disk.state c.sure_is_left.ensures c.take.new.self x n input batch done.Appended a
-    c.in_ok-due.due.items c.deref-2.result.now sent c.output_of.result leaves follows
+    ends_rule g.D.Disk.is_honest g.D.Disk.state c.sure_is_left.ensures c.take.new.self x n input
+    batch done.Appended a c.in_ok-due.due.items c.deref-2.result.now sent c.output_of.result
+    leaves follows
     c.deref-2.ensures.value both (c.output_of.ensures.says a.node follows.runs.core list)
     c.output_of.ensures.memory

@@ -33,8 +33,8 @@ returns-in-TellAgain-clause-ends g c = λ x n input r read.
     (c.tell_again.ensures.tells n input r.core) in
     ends_as g.D.Disk.is_honest g.D.Disk.state c.args.self.now x n input c.args.decision
     decision.TellAgain c.tell_again.result c.in-TellAgain.is
-    (ends g.D.Disk.is_honest g.D.Disk.state c.sure_is_left.ensures c.args.self.now x n input (tell_again x n)
-    c.tell_again.result r tells c.tell_again.ensures.memory)
+    (ends g.D.Disk.is_honest g.D.Disk.state c.sure_is_left.ensures c.args.self.now x n input
+    (tell_again x n) c.tell_again.result r tells c.tell_again.ensures.memory)
 
 pub returns-in-Show-clause-ends : goal.returns-in-Show-clause-ends
 returns-in-Show-clause-ends g c = λ x n input r read.
@@ -45,8 +45,9 @@ returns-in-Show-clause-ends g c = λ x n input r read.
     let tells = tells_read n input it.request it.at it.key c.show.result of_read
     (λ number. c.show.ensures.tells n number list) in
     ends_as g.D.Disk.is_honest g.D.Disk.state c.args.self.now x n input c.args.decision shown
-    c.show.result it.is (ends g.D.Disk.is_honest g.D.Disk.state c.sure_is_left.ensures c.args.self.now x n input
-    (show n it.request it.at) c.show.result r tells c.show.ensures.memory)
+    c.show.result it.is (ends g.D.Disk.is_honest g.D.Disk.state
+    c.sure_is_left.ensures c.args.self.now x n input (show n it.request it.at) c.show.result r tells
+    c.show.ensures.memory)
 
 pub returns-in-Resend-clause-ends : goal.returns-in-Resend-clause-ends
 returns-in-Resend-clause-ends g c = λ x n input r read.
@@ -55,20 +56,21 @@ returns-in-Resend-clause-ends g c = λ x n input r read.
     (c.resend.ensures.tells n input r.core list) in
     ends_as g.D.Disk.is_honest g.D.Disk.state c.args.self.now x n input c.args.decision
     decision.Resend c.resend.result c.in-Resend.is
-    (ends g.D.Disk.is_honest g.D.Disk.state c.sure_is_left.ensures c.args.self.now x n input (resend x n)
-    c.resend.result r tells c.resend.ensures.memory)
+    (ends g.D.Disk.is_honest g.D.Disk.state c.sure_is_left.ensures c.args.self.now x n input
+    (resend x n) c.resend.result r tells c.resend.ensures.memory)
 
 pub returns-in-Refuse-clause-ends : goal.returns-in-Refuse-clause-ends
 returns-in-Refuse-clause-ends g c = λ x n input r read.
     let known = decision.Refuse c.in-Refuse.request c.in-Refuse.refusal in
     ends_as g.D.Disk.is_honest g.D.Disk.state c.args.self.now x n input c.args.decision known
-    c.refuse.result c.in-Refuse.is (ends g.D.Disk.is_honest g.D.Disk.state c.sure_is_left.ensures c.args.self.now x n
-    input (rule_of x n known) c.refuse.result r (c.refuse.ensures.tells n input)
-    c.refuse.ensures.memory)
+    c.refuse.result c.in-Refuse.is (ends g.D.Disk.is_honest g.D.Disk.state
+    c.sure_is_left.ensures c.args.self.now x n input (rule_of x n known) c.refuse.result r
+    (c.refuse.ensures.tells n input) c.refuse.ensures.memory)
 
 pub returns-in-Drop-clause-ends : goal.returns-in-Drop-clause-ends
 returns-in-Drop-clause-ends g c = λ x n input r read.
     let known = decision.Drop c.in-Drop.reason in
     ends_as g.D.Disk.is_honest g.D.Disk.state c.args.self.now x n input c.args.decision known
-    (Ok c.drop_for.result) c.in-Drop.is (ends g.D.Disk.is_honest g.D.Disk.state c.sure_is_left.ensures c.args.self.now x n
-    input (rule_of x n known) (Ok c.drop_for.result) r (c.drop_for.ensures n input) tt)
+    (Ok c.drop_for.result) c.in-Drop.is (ends g.D.Disk.is_honest g.D.Disk.state
+    c.sure_is_left.ensures c.args.self.now x n input (rule_of x n known) (Ok c.drop_for.result) r
+    (c.drop_for.ensures n input) tt)
