@@ -1,6 +1,6 @@
 -- Lists that begin one another, places and parts.
 use Rattle.std.proofs.Common.{◌≡◌, inl, inr, ℕ, zero, suc, ◌≤◌, List, [], ◌∷◌, ◌++◌, length, take}
-use Rattle.std.proofs.Common.{Some, None, slice_get, sym, refl, ◌∙◌, ap, subst, arith}
+use Rattle.std.proofs.Common.{Some, None, sym, refl, ◌∙◌, ap, subst, arith}
 use Rattle.std.proofs.Common.{take_at, append_assoc, append-nil, length-append}
 use Rattle.std.proofs.lemmas.List.{take-append-le}
 use Rattle.std.specs.List.{AllByRecursion}
@@ -185,9 +185,3 @@ every_place P [] n x e h = absurd (cc)
 every_place P (y ∷ l) zero x e h = absurd (cc)
 every_place P (y ∷ l) (suc zero) x e h = let same : y ≡ x = cc in subst P same h.0
 every_place P (y ∷ l) (suc (suc n)) x e h = every_place P l (suc n) x e h.1
-
--- what stands at place n + 1 is what a slice gives at index n
-pub place-slice_get : {A : Type 0} (l : List A) (n : ℕ) → place l (suc n) ≡ slice_get l n
-place-slice_get [] n = refl
-place-slice_get (x ∷ l) zero = refl
-place-slice_get (x ∷ l) (suc n) = place-slice_get l n

@@ -58,9 +58,8 @@ pub addressed : (cs : Configurations) (es : List (ModelEvent (List Edit))) → I
 addressed cs es order p x it f there is =
     let IsCreated : ModelFrame (List Edit) → Type 0 =
     λ g. has (at_epoch cs 0) (addressee g) ≡ true in
-    let each = recursion_from_All IsCreated (reached cs es).frames order.created in
     subst (λ (y : ℕ). has (at_epoch cs 0) y ≡ true) (same_addressee x it f is)
-    (place_each IsCreated (reached cs es).frames p f each there)
+    (place_each IsCreated (reached cs es).frames p f order.created there)
 
 -- ---- ranges
 

@@ -1,9 +1,11 @@
 -- Frames by their places.
 use Rattle.std.proofs.Common.{◌≡◌, ℕ, zero, suc, ◌<◌, ◌≤◌, List, [], ◌∷◌, length}
 use Rattle.std.proofs.Common.{Some, None, refl, sym, ap, subst, ◌∙◌}
-use Rattle.std.specs.Prelude.{slice_get}
-use Rattle.std.specs.List.{AllZip, AllByRecursion, HoldsAt}
-use Rattle.std.proofs.lemmas.Option.{slice_get_past, slice_get-get_or}
+use Rattle.std.specs.Prelude.{All, slice_get}
+use Rattle.std.specs.List.{AllZip, HoldsAt}
+use Rattle.std.proofs.lemmas.Option.{slice_get_past, slice_get_within, slice_get-get_or}
+use Rattle.std.proofs.lemmas.Option.{get_or_from_slice_get}
+use Rattle.std.proofs.lemmas.List.Elements.{All-get_or}
 use Rattle.kv_types.specs.declared.edit.Edit.{Edit}
 use Rattle.chain_model.specs.Lists.{place}
 use Rattle.chain_model.specs.Frames.{Frame as ModelFrame}
@@ -22,12 +24,16 @@ place_index (x ∷ l) zero = refl
 place_index (x ∷ l) (suc i) = place_index l i
 
 -- what holds of each element holds of what a place has
-pub place_each : {A : Type 0} (P : A → Type 0) (l : List A) (p : ℕ) (x : A) →
-    AllByRecursion P l → place l p ≡ Some x → P x
-place_each P [] p x each is = absurd (cc)
-place_each P (y ∷ l) zero x each is = absurd (cc)
-place_each P (y ∷ l) (suc zero) x each is = let same : y ≡ x = cc in subst P same each.0
-place_each P (y ∷ l) (suc (suc p)) x each is = place_each P l (suc p) x each.1 is
+pub place_each : {A : Type 0} (P : A → Type 0) (l : List A) (p : ℕ) (x : A) → All P l →
+    place l p ≡ Some x → P x
+place_each P l zero x all is = absurd (none_some (sym (place_zero l) ∙ is))
+  where
+    none_some : None ≡ Some x → ⊥
+    none_some e = cc
+place_each P l (suc i) x all is =
+    let got = sym (place_index l i) ∙ is in
+    subst P (get_or_from_slice_get l i x x got)
+    (All-get_or P l i x (slice_get_within l i x got) all)
 
 -- what an index behind the end has, and what one within it has
 pub place_past : {A : Type 0} (l : List A) (p i : ℕ) → p ≡ suc i → length l ≤ i → place l p ≡ None
