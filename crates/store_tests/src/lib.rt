@@ -8,4 +8,6 @@ mod calls;
 #[cfg(test)]
 mod crashes;
 #[cfg(test)]
+mod filters;
+#[cfg(test)]
 mod logs;

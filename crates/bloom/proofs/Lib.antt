@@ -1,0 +1,3 @@
+mod Setting
+mod Covering
+mod Putting

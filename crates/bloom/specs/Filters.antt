@@ -1,0 +1,52 @@
+-- Filters over keys (Bloom 1970): seven probes a key, made of two hashes (Kirsch and Mitzenmacher
+-- 2006).
+use Rattle.std.specs.Prelude.{◌≡◌, ◌⊎◌, ◌↔◌, ℕ, ◌+◌, ◌*◌, ◌/◌, ◌%◌, ◌<◌, max, List, [], length}
+use Rattle.std.specs.Prelude.{take, drop, get_or, Contains, All}
+use Rattle.std.specs.Int.{w64, from_be_bytes, IsBitSet}
+use Rattle.sha2.specs.Sha256.{sha256}
+
+-- the two hashes of a key: the first eight bytes of its SHA-256, and the next eight
+abbrev pub first_hash : List ℕ → ℕ
+first_hash key = from_be_bytes w64 (take 8 (sha256 key))
+
+abbrev pub second_hash : List ℕ → ℕ
+second_hash key = from_be_bytes w64 (take 8 (drop 8 (sha256 key)))
+
+-- probe i of a key among so many bits
+abbrev pub probe : ℕ → List ℕ → ℕ → ℕ
+probe bits key i = (first_hash key + i * second_hash key) % bits
+
+-- bit p of some bytes is set: bit p mod 8, from the lowest, of byte p / 8
+abbrev pub HasBit : List ℕ → ℕ → Type 0
+HasBit bytes p = IsBitSet (get_or bytes (p / 8) 0) (p % 8)
+
+-- how many bytes a filter of n keys has: ten bits a key in whole bytes, and at least 64 bits
+abbrev pub bytes_for : ℕ → ℕ
+bytes_for n = max 8 ((10 * n + 7) / 8)
+
+-- p is one of the seven probes of a key
+abbrev pub IsProbeOf : ℕ → List ℕ → ℕ → Type 0
+IsProbeOf bits key p = (i : ℕ) × (i < 7) × (p ≡ probe bits key i)
+
+-- .. of one of these keys
+abbrev pub IsProbe : ℕ → List (List ℕ) → ℕ → Type 0
+IsProbe bits keys p = (key : List ℕ) × Contains keys key × IsProbeOf bits key p
+
+-- the filter of these keys: it has their length, and exactly the bits that are their probes
+pub record IsFilter (keys : List (List ℕ)) (filter : List ℕ) : Type 0 where
+  pub len : length filter ≡ bytes_for (length keys)
+  pub exact : (p : ℕ) → p < 8 * length filter →
+      HasBit filter p ↔ IsProbe (8 * length filter) keys p
+
+-- a filter covers a key: all probes of the key are set, or the filter has no bits
+abbrev pub Covers : List ℕ → List ℕ → Type 0
+Covers filter key =
+    (filter ≡ []) ⊎ ((i : ℕ) → i < 7 → HasBit filter (probe (8 * length filter) key i))
+
+abbrev pub CoversAll : List ℕ → List (List ℕ) → Type 0
+CoversAll filter keys = All (λ key. Covers filter key) keys
+
+-- the filter of some keys covers each of them
+abbrev pub FiltersCover : Type 0
+FiltersCover = (keys : List (List ℕ)) (filter : List ℕ) → IsFilter keys filter →
+    CoversAll filter keys

@@ -1,0 +1,13 @@
+//! What holds of the words of contracts. The functions do nothing: their clauses are the laws.
+ghost use Rattle.bloom.specs.Filters.{FiltersCover};
+ghost use Rattle.bloom.specs.Examples.{Examples};
+
+/// The filter of some keys covers each of them.
+pub fn filters_cover()
+    ensures { FiltersCover }
+{}
+
+/// The hashes, probes and filter of the key `abc`, worked out.
+pub fn examples()
+    ensures { Examples }
+{}

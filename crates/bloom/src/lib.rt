@@ -1,0 +1,11 @@
+//! Filters over keys: what was put in is never denied.
+#![tactic(auto)]
+
+mod bits;
+mod error;
+mod filter;
+mod hashes;
+pub mod laws;
+
+pub use error::BloomError;
+pub use filter::{build, may_hold};
