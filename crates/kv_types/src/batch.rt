@@ -2,7 +2,7 @@ ghost use Rattle.std.specs.Prelude.{◌≡◌, ◌<◌, ◌≤◌, ◌⊎◌, �
 ghost use Rattle.std.specs.Prelude.{IfOk, IfErr, Err, IsErrOf, OnOk};
 
 use crate::bounds::{MAX_BATCH, MAX_EDITS};
-use crate::reading::{all_edits_of, edits_of};
+use crate::reading::{all_edits_of, front_edits_of};
 use crate::writing::{put_edits, spelled_len};
 use crate::{Edit, KvError};
 use std::alloc::{AllocError, Global};
@@ -76,7 +76,7 @@ impl Batch {
         ensures only { IfErr result (λ e. (e ≡ KvError.BadBytes) ⊎ (e ≡ KvError.Memory)) }
         ensures exact { Gives (λ x. (x.0, x.1.now)) result (batch_at bytes.now) }
     {
-        let (edits, rest) = edits_of(alloc, bytes)?;
+        let (edits, rest) = front_edits_of(alloc, bytes)?;
         Ok((Batch { edits }, rest))
     }
 
