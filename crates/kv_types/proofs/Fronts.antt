@@ -2,9 +2,9 @@
 use Rattle.std.proofs.Common.{◌≡◌, ℕ, ◌≤◌, ◌<◌, ◌^◌, List, ◌++◌, length, Some, None}
 use Rattle.std.proofs.Common.{ap, subst, ◌∙◌, Result, Ok, Err, IfOk}
 use Rattle.std.specs.Prelude.{IsErrOf}
-use Rattle.kv_types.specs.declared.edit.Edit.{Edit}
 use Rattle.kv_types.specs.declared.error.KvError.{KvError}
 use Rattle.kv_types.specs.declared.error.KvError.TheVariants.{BadBytes}
+use Rattle.kv_types.specs.Content.{BatchContent}
 use Rattle.kv_types.specs.Spelling.{text, spelling, IsBatch}
 use Rattle.kv_types.specs.Reading.{Gives, Fails, text_at, batch_at}
 use Rattle.kv_types.proofs.Fields.{IsBytes, text_takes, text_again}
@@ -34,7 +34,7 @@ text_bad view limit bytes (Err e) lt read is =
     no_text limit bytes lt (subst (λ (k : KvError). Fails k (text_at limit bytes)) same read)
 
 -- where no batch is read, the bytes begin with none
-pub no_batch : (bytes : List ℕ) → batch_at bytes ≡ None → (batch : List Edit) (rest : List ℕ)
+pub no_batch : (bytes : List ℕ) → batch_at bytes ≡ None → (batch : BatchContent) (rest : List ℕ)
     → IsBatch batch → bytes ≡ spelling batch ++ rest → ⊥
 no_batch bytes none batch rest is parts =
     let some : batch_at bytes ≡ Some (batch, rest) =

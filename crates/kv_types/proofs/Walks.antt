@@ -14,6 +14,7 @@ use Rattle.std.proofs.lemmas.Map.Text.{is_eq-slice_cmp}
 use Rattle.std.proofs.lemmas.Slice.Eq.{bytes_eq-Decides}
 use Rattle.kv_types.specs.declared.edit.Edit.{Edit}
 use Rattle.kv_types.specs.declared.row.Row.{Row}
+use Rattle.kv_types.specs.Content.{BatchContent}
 use Rattle.kv_types.specs.Order.{IsBelow}
 use Rattle.kv_types.specs.Maps.{key_of, left_by, joined, last_edit, map_of}
 use Rattle.kv_types.specs.Spans.{Span}
@@ -116,7 +117,7 @@ kept (edit ∷ edits) key =
     kept_step edit key (keys_of edits) (last_edit edits key) (bytes_eq (key_of edit) key)
     (bytes_eq-Decides (key_of edit) key).0 (kept edits key)
 
-has_key : (batches : List (List Edit)) (key value : List ℕ) → map_of batches key ≡ Some value
+has_key : (batches : List BatchContent) (key value : List ℕ) → map_of batches key ≡ Some value
     → Among key (keys_of (joined batches))
 has_key batches key value is =
     by_found (last_edit (joined batches) key) (kept (joined batches) key) is
@@ -221,7 +222,7 @@ parts true None key row is = absurd cc
 parts true (Some value) key row is = let same : made key value ≡ row = cc in
     (refl, sym (ap (λ r. r.key) same), ap (λ r. Some r.value) same)
 
-module _ (batches : List (List Edit)) (range : Span) where
+module _ (batches : List BatchContent) (range : Span) where
   own_key : (key : List ℕ) (row : Row) → row_at batches range key ≡ Some row → row.key ≡ key
   own_key key row is = (parts (is_within range key) (map_of batches key) key row is).1
 

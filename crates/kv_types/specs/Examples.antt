@@ -1,8 +1,8 @@
 -- Small batches, maps and pages, worked out.
 use Rattle.std.specs.Prelude.{◌≡◌, ℕ, List, [], ◌∷◌, ◌++◌, take, true, false, Some, None, codes}
-use Rattle.kv_types.specs.declared.edit.Edit.{Edit}
 use Rattle.kv_types.specs.declared.edit.Edit.TheVariants.{Put, Delete}
 use Rattle.kv_types.specs.declared.row.Row.{Row}
+use Rattle.kv_types.specs.Content.{BatchContent}
 use Rattle.kv_types.specs.Order.{IsBelow}
 use Rattle.kv_types.specs.Spelling.{spelling}
 use Rattle.kv_types.specs.Maps.{map_of}
@@ -10,11 +10,11 @@ use Rattle.kv_types.specs.Spans.{Span}
 use Rattle.kv_types.specs.Pages.{page_of}
 
 -- one batch: a=1 -a a=2
-abbrev pub thrice : List (List Edit)
+abbrev pub thrice : List BatchContent
 thrice = (Put (codes "a") (codes "1") ∷ Delete (codes "a") ∷ Put (codes "a") (codes "2") ∷ []) ∷ []
 
 -- two batches: a=1 b=1 c=1 d=1, then c=2
-abbrev pub letters : List (List Edit)
+abbrev pub letters : List BatchContent
 letters =
     (Put (codes "a") (codes "1") ∷ Put (codes "b") (codes "1") ∷ Put (codes "c") (codes "1") ∷ Put
     (codes "d") (codes "1") ∷ [])

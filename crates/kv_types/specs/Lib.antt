@@ -1,8 +1,10 @@
 pub mod Order
+pub mod Content
 pub mod Spelling
 pub mod Reading
 pub mod Maps
 pub mod Spans
 pub mod Pages
 pub mod Limits
+pub mod Bounds
 pub mod Examples

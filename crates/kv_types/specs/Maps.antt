@@ -6,6 +6,7 @@ use Rattle.std.specs.Option.{option_or, option_flatten}
 use Rattle.std.specs.Str.{bytes_eq}
 use Rattle.kv_types.specs.declared.edit.Edit.{Edit}
 use Rattle.kv_types.specs.declared.edit.Edit.TheVariants.{Put, Delete}
+use Rattle.kv_types.specs.Content.{BatchContent, edits_of}
 
 -- the key that an edit changes
 abbrev pub key_of : Edit → List ℕ
@@ -18,8 +19,8 @@ left_by (Put key value) = Some value
 left_by (Delete key) = None
 
 -- the edits of all batches in order
-abbrev pub joined : List (List Edit) → List Edit
-joined batches = flat_map (λ batch. batch) batches
+abbrev pub joined : List BatchContent → List Edit
+joined batches = flat_map edits_of batches
 
 -- this is the last edit of the key
 pub record IsLastEdit (edits : List Edit) (key : List ℕ) (edit : Edit) : Type 0 where
@@ -30,7 +31,7 @@ pub record IsLastEdit (edits : List Edit) (key : List ℕ) (edit : Edit) : Type 
   pub none_later : All (λ later. key_of later ≢ key) after
 
 -- the batches give the key this value: its last edit puts it
-abbrev pub HasValue : List (List Edit) → List ℕ → List ℕ → Type 0
+abbrev pub HasValue : List BatchContent → List ℕ → List ℕ → Type 0
 HasValue batches key value = IsLastEdit (joined batches) key (Put key value)
 
 -- what the last edit of the key leaves, if the key has an edit
@@ -41,10 +42,10 @@ last_edit (edit ∷ edits) key =
     (if bytes_eq (key_of edit) key then Some (left_by edit) else None)
 
 -- the map of the batches, as a function
-abbrev pub map_of : List (List Edit) → List ℕ → Option (List ℕ)
+abbrev pub map_of : List BatchContent → List ℕ → Option (List ℕ)
 map_of batches key = option_flatten (last_edit (joined batches) key)
 
 -- the function gives exactly the values that the batches give
 abbrev pub MapsAgree : Type 0
-MapsAgree = (batches : List (List Edit)) (key value : List ℕ) →
+MapsAgree = (batches : List BatchContent) (key value : List ℕ) →
     (map_of batches key ≡ Some value) ↔ HasValue batches key value

@@ -9,6 +9,7 @@ use Rattle.std.specs.Cmp.Lexicographic.{slice_cmp}
 use Rattle.kv_types.specs.declared.bounds.TheConstants.{MAX_PAGE, ROW_OVERHEAD}
 use Rattle.kv_types.specs.declared.edit.Edit.{Edit}
 use Rattle.kv_types.specs.declared.row.Row.{Row}
+use Rattle.kv_types.specs.Content.{BatchContent}
 use Rattle.kv_types.specs.Order.{IsBelow}
 use Rattle.kv_types.specs.Maps.{key_of, joined, map_of}
 use Rattle.kv_types.specs.Spans.{Span, Rows}
@@ -79,13 +80,13 @@ is_within range key =
     (λ to. is_lt (slice_cmp nat_cmp key to)) range.to true
 
 -- the row of a key in the range that has a value
-abbrev pub row_at : List (List Edit) → Span → List ℕ → Option Row
+abbrev pub row_at : List BatchContent → Span → List ℕ → Option Row
 row_at batches range key =
     if is_within range key then option_map (λ value. record { key = key; value = value })
     (map_of batches key) else None
 
 -- all rows in the range, in the order of the walk
-abbrev pub walk_of : List (List Edit) → Span → List Row
+abbrev pub walk_of : List BatchContent → Span → List Row
 walk_of batches range =
     let rows = filter_map (row_at batches range) (keys_of (joined batches)) in
     if range.backward then reverse rows else rows
@@ -98,7 +99,7 @@ beginning (suc limit) size (row ∷ rows) =
     if nat_le (row_size row) size then row ∷ beginning limit (size - row_size row) rows else []
 
 -- the page of a range in the map of the batches
-abbrev pub page_of : List (List Edit) → Span → Rows
+abbrev pub page_of : List BatchContent → Span → Rows
 page_of batches range =
     let walk = walk_of batches range in
     let rows = beginning range.limit MAX_PAGE walk in
@@ -106,7 +107,7 @@ page_of batches range =
 
 -- the function gives a page of the map of the batches
 abbrev pub PagesAgree : Type 0
-PagesAgree = (batches : List (List Edit)) (range : Span)
+PagesAgree = (batches : List BatchContent) (range : Span)
     → IsPage (map_of batches) range (page_of batches range)
 
 -- a map has one page in a range

@@ -7,6 +7,7 @@ use Rattle.kv_types.specs.declared.edit.Edit.{Edit}
 use Rattle.kv_types.specs.declared.edit.Edit.TheVariants.{Put, Delete}
 use Rattle.kv_types.specs.declared.error.KvError.{KvError}
 use Rattle.kv_types.specs.declared.error.KvError.TheVariants.{BadBytes, Memory}
+use Rattle.kv_types.specs.Content.{BatchContent}
 
 -- one reading after another
 infixl 10 ◌>>=◌
@@ -59,7 +60,7 @@ edits_at (suc n) bytes = do
   Some (first.0 ∷ others.0, others.1)
 
 -- the edits of a batch, spelled within the limit, and the bytes after them
-unfoldable pub batch_at : List ℕ → Option (List Edit × List ℕ)
+unfoldable pub batch_at : List ℕ → Option (BatchContent × List ℕ)
 batch_at bytes = do
   n ← number_at bytes
   if nat_lt MAX_EDITS n.0 then None else (if nat_lt n.0 1 then None else do
@@ -67,7 +68,7 @@ batch_at bytes = do
     if nat_lt MAX_BATCH (length bytes - length edits.1) then None else Some edits)
 
 -- the edits of a batch, where nothing is behind them
-unfoldable pub batch_of : List ℕ → Option (List Edit)
+unfoldable pub batch_of : List ℕ → Option BatchContent
 batch_of bytes =
     if nat_lt MAX_BATCH (length bytes) then None else do
       edits ← batch_at bytes

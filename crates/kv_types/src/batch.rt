@@ -2,7 +2,7 @@ ghost use Rattle.std.specs.Prelude.{◌≡◌, ◌<◌, ◌≤◌, ◌⊎◌, �
 ghost use Rattle.std.specs.Prelude.{IfOk, IfErr, Err, IsErrOf, OnOk};
 
 use crate::bounds::{MAX_BATCH, MAX_EDITS};
-use crate::reading::{all_edits_of, edits_of};
+use crate::reading::{all_edits_of, front_edits_of};
 use crate::writing::{put_edits, spelled_len};
 use crate::{Edit, KvError};
 use std::alloc::{AllocError, Global};
@@ -15,10 +15,9 @@ pub struct Batch {
 }
 
 impl Model for Batch {
-    ghost use Rattle.std.specs.Prelude.{List};
-    ghost use Rattle.kv_types.specs.declared.edit.Edit.{Edit};
+    ghost use Rattle.kv_types.specs.Content.{BatchContent};
 
-    ghost Value = { List Edit };
+    ghost Value = { BatchContent };
 
     ghost use Rattle.kv_types.specs.Spelling.{IsBatch};
 
@@ -28,12 +27,12 @@ impl Model for Batch {
 }
 
 impl Batch {
-    ghost use Rattle.kv_types.specs.declared.edit.Edit.{Edit};
+    ghost use Rattle.kv_types.specs.Content.{BatchContent, edits_of};
     ghost use Rattle.kv_types.specs.Spelling.{IsBatch, spelling};
     ghost use Rattle.kv_types.specs.Reading.{Gives, batch_at};
 
     pub fn new(edits: Vec<Edit>) -> Result<Batch, KvError>
-        ensures made { IfOk result (λ batch. batch ≡ edits.items) }
+        ensures made { IfOk result (λ batch. edits_of batch ≡ edits.items) }
         ensures none { (result ≡ Err KvError.NoEdits) ↔ (length edits.items ≡ 0) }
         ensures many { (result ≡ Err KvError.TooManyEdits) ↔ (MAX_EDITS < length edits.items) }
         ensures long { (result ≡ Err KvError.BatchTooLong) ↔
@@ -55,7 +54,7 @@ impl Batch {
     }
 
     pub fn edits(&self) -> &[Edit]
-        ensures edits { result.now ≡ self.now }
+        ensures edits { result.now ≡ edits_of self.now }
         ensures batch { IsBatch self.now }
     {
         &self.edits
@@ -72,12 +71,12 @@ impl Batch {
     /// The batch at the front of the bytes, and the bytes behind it.
     pub fn read_from(alloc: Global, bytes: &[u8]) -> Result<(Batch, &[u8]), KvError>
         ensures found { IfOk result (λ x. (bytes.now ≡ spelling x.0 ++ x.1.now) × IsBatch x.0) }
-        ensures bad { IsErrOf result KvError.BadBytes → (batch : List Edit) (rest : List ℕ)
+        ensures bad { IsErrOf result KvError.BadBytes → (batch : BatchContent) (rest : List ℕ)
             → IsBatch batch → bytes.now ≡ spelling batch ++ rest → ⊥ }
         ensures only { IfErr result (λ e. (e ≡ KvError.BadBytes) ⊎ (e ≡ KvError.Memory)) }
         ensures exact { Gives (λ x. (x.0, x.1.now)) result (batch_at bytes.now) }
     {
-        let (edits, rest) = edits_of(alloc, bytes)?;
+        let (edits, rest) = front_edits_of(alloc, bytes)?;
         Ok((Batch { edits }, rest))
     }
 
@@ -94,7 +93,7 @@ impl Batch {
     pub fn from_bytes(alloc: Global, bytes: &[u8]) -> Result<Batch, KvError>
         ensures spelled { IfOk result (λ batch. bytes.now ≡ spelling batch) }
         ensures bad { IsErrOf result KvError.BadBytes →
-            (batch : List Edit) → IsBatch batch → bytes.now ≡ spelling batch → ⊥ }
+            (batch : BatchContent) → IsBatch batch → bytes.now ≡ spelling batch → ⊥ }
         ensures only { IfErr result (λ e. (e ≡ KvError.BadBytes) ⊎ (e ≡ KvError.Memory)) }
     {
         Ok(Batch {

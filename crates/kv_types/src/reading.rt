@@ -78,7 +78,7 @@ fn edits_in(alloc: Global, count: usize, bytes: &[u8]) -> Result<(Vec<Edit>, &[u
 }
 
 #[tactic(auto, unfolding(crate::specs::Reading::batch_at))]
-pub fn edits_of(alloc: Global, bytes: &[u8]) -> Result<(Vec<Edit>, &[u8]), KvError>
+pub fn front_edits_of(alloc: Global, bytes: &[u8]) -> Result<(Vec<Edit>, &[u8]), KvError>
     ensures { Gives (λ x. (x.0.items, x.1.now)) result (batch_at bytes.now) }
 {
     let (count, rest) = u16_at(bytes)?;
@@ -102,7 +102,7 @@ pub fn all_edits_of(alloc: Global, bytes: &[u8]) -> Result<Vec<Edit>, KvError>
     if bytes.len() > MAX_BATCH {
         return Err(KvError::BadBytes);
     }
-    let (edits, rest) = edits_of(alloc, bytes)?;
+    let (edits, rest) = front_edits_of(alloc, bytes)?;
     if !rest.is_empty() {
         return Err(KvError::BadBytes);
     }

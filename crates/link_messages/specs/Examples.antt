@@ -1,14 +1,14 @@
 -- Small frames, spelled out.
-use Rattle.std.specs.Prelude.{◌≡◌, List, [], ◌∷◌, codes}
-use Rattle.kv_types.specs.declared.edit.Edit.{Edit}
+use Rattle.std.specs.Prelude.{◌≡◌, [], ◌∷◌, codes}
 use Rattle.kv_types.specs.declared.edit.Edit.TheVariants.{Put}
+use Rattle.kv_types.specs.Content.{BatchContent}
 use Rattle.kv_types.specs.Spelling as batch
 use Rattle.link_messages.specs.declared.frame.Frame.{Frame}
 use Rattle.link_messages.specs.declared.frame.Frame.TheVariants as frame
 use Rattle.link_messages.specs.Spelling.{spelling}
 
 -- a=1
-abbrev pub one_put : List Edit
+abbrev pub one_put : BatchContent
 one_put = Put (codes "a") (codes "1") ∷ []
 
 -- in epoch 0, node 1 gives batch 1

@@ -107,3 +107,7 @@ OneSplit = (stream rest other : List ℕ) (frames others : List Frame)
 -- each frame keeps the limit
 abbrev pub FramesFit : Type 0
 FramesFit = (f : Frame) → IsFrame f → length (body f) ≤ MAX_FRAME
+
+-- the limit as a number
+abbrev pub FrameBoundIs : Type 0
+FrameBoundIs = MAX_FRAME ≡ 131072

@@ -1,6 +1,6 @@
 //! What holds of the words of contracts. The functions do nothing: their clauses are the laws.
 ghost use Rattle.link_messages.specs.Stream.{OneSpelling, OneAnswer, FaultsStay, OneSplit};
-ghost use Rattle.link_messages.specs.Stream.{FramesFit};
+ghost use Rattle.link_messages.specs.Stream.{FramesFit, FrameBoundIs};
 ghost use Rattle.link_messages.specs.Examples.{Examples};
 
 /// No spelling begins another, no two frames have one spelling, and each keeps the limit.
@@ -19,6 +19,12 @@ pub fn one_answer()
 /// A stream is one list of frames and one rest, however it was cut into pieces.
 pub fn one_split()
     ensures { OneSplit }
+{}
+
+/// The limit of a frame as a number.
+// law: of `MAX_FRAME`
+pub fn frame_bound_is()
+    ensures { FrameBoundIs }
 {}
 
 /// Small frames, spelled out.

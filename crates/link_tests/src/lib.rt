@@ -4,6 +4,8 @@
 #[cfg(test)]
 mod bytes;
 #[cfg(test)]
+mod edges;
+#[cfg(test)]
 mod lists;
 #[cfg(test)]
 mod round_trips;

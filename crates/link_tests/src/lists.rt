@@ -67,6 +67,23 @@ fn lists(rt: HostRuntime) -> Result<(), Fail> {
     Ok(())
 }
 
+/// The fault of a list of configurations, each without the first node of the one before, if it
+/// has one.
+fn fault_of_shrinking(alloc: Global) -> Result<Option<ConfigError>, ConfigError> {
+    let mut configs = Vec::new(alloc);
+    for left_out in 0..16 {
+        let ids = SIXTEEN.get(left_out..).unwrap_or(&[]);
+        configs.push(Config::new(alloc, ids.to_vec(alloc)?)?)?;
+    }
+    Ok(Configs::new(configs).err())
+}
+
+#[test]
+fn sixteen_configurations(rt: HostRuntime) -> Result<(), Fail> {
+    assert_eq!(rt; fault_of_shrinking(rt.alloc())?, None);
+    Ok(())
+}
+
 #[test]
 fn numbers_of_faults(rt: HostRuntime) {
     let faults = [

@@ -7,6 +7,7 @@ use Rattle.disk.specs.State.{State, seen}
 use Rattle.record_log.specs.declared.error.LogError.{LogError}
 use Rattle.record_log.specs.declared.error.LogError.TheVariants as log
 use Rattle.record_log.specs.declared.log.Log.{Log}
+use Rattle.record_log.specs.declared.log.TheConstants.{MAX_RECORD}
 use Rattle.record_log.specs.Grammar.{StandsFor, ends_from, end_of}
 use Rattle.record_log.specs.Push.{IsSureOf}
 
@@ -148,3 +149,7 @@ IsOwn e = (e ≡ log.TooLong) ⊎ (e ≡ log.Failed)
 abbrev pub Answers : {T : Type 0} → ℕ → Result T LogError → Log → Log → List ℕ → Type 0 → Type 0
 Answers limit result old new one untouched =
     IsInPlace old new × Tells limit result old new one × IfErr result (λ e. IsOwn e → untouched)
+
+-- the limit of a record as a number
+abbrev pub RecordBoundIs : Type 0
+RecordBoundIs = MAX_RECORD ≡ 16777216

@@ -1,6 +1,14 @@
+//! What holds of the words of contracts. The functions do nothing: their clauses are the laws.
 ghost use Rattle.record_log.specs.Grammar.{OneList};
+ghost use Rattle.record_log.specs.Stands.{RecordBoundIs};
 
 /// Bytes stand for one list of records at most.
 pub fn one_list()
     ensures { OneList }
+{}
+
+/// The limit of a record as a number.
+// law: of `MAX_RECORD`
+pub fn record_bound_is()
+    ensures { RecordBoundIs }
 {}

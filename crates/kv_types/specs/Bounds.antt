@@ -1,0 +1,16 @@
+-- The bounds of keys, values, batches, pages and numbers, as numbers.
+use Rattle.std.specs.Prelude.{◌≡◌, ◌-◌, ◌^◌}
+use Rattle.kv_types.specs.declared.bounds.TheConstants.{MAX_KEY, MAX_VALUE, MAX_EDITS, MAX_BATCH}
+use Rattle.kv_types.specs.declared.bounds.TheConstants.{MAX_ROWS, MAX_PAGE, ROW_OVERHEAD}
+use Rattle.kv_types.specs.declared.bounds.TheConstants.{MAX_NUMBER}
+
+-- lengths in bytes, but of the edits of a batch and of the rows of a page their number
+pub record BoundsAre : Type 0 where
+  pub key : MAX_KEY ≡ 1024
+  pub value : MAX_VALUE ≡ 16384
+  pub edits : MAX_EDITS ≡ 256
+  pub batch : MAX_BATCH ≡ 65536
+  pub rows : MAX_ROWS ≡ 1024
+  pub page : MAX_PAGE ≡ 98304
+  pub overhead : ROW_OVERHEAD ≡ 4
+  pub number : MAX_NUMBER ≡ 2 ^ 63 - 1
