@@ -57,12 +57,14 @@ pub trait Disk {
         ensures same { is_honest self.old → IsSame (state self.old) (state self.new) };
 
     /// Writes over what is there, and past its end. At place 0 it makes a file that is absent.
-    /// A write that would end past place 2^63 - 1 fails.
+    /// A write that would end past place 2^63 - 1 fails, and leaves a reliable disk as it was.
     fn write_at(&mut self, file: u64, at: u64, bytes: &[u8]) -> Result<(), DiskError>
         ensures keeps { Keeps (is_honest self.old) (is_honest self.new)
             (failures self.old) (failures self.new) result }
         ensures reliable { StaysReliable (is_reliable self.old) (is_reliable self.new)
             (IsErrOf result DiskError.Failed) (EndsOutOfRange at (length bytes.now)) }
+        ensures untouched { is_honest self.old → is_reliable self.old →
+            EndsOutOfRange at (length bytes.now) → IsSame (state self.old) (state self.new) }
         ensures writes { is_honest self.old →
             Writes (state self.old) file at bytes.now result (state self.new) };
 
