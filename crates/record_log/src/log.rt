@@ -110,6 +110,7 @@ impl Log {
         ensures spelled { D.is_honest disk.old →
             OnOk result (IsSureOf (D.state disk.new) file (begun (seen (D.state disk.old file)))) }
         ensures at { IfOk result (IsAt file 0) }
+        ensures empty { IfOk result (λ log. (gate_of log ≡ 0) × (count_of log ≡ 0)) }
         ensures others { (other : ℕ) → D.is_honest disk.old → other ≢ file →
             D.state disk.new other ≡ D.state disk.old other }
     {
