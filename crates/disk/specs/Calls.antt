@@ -33,6 +33,18 @@ pub record Keeps {T : Type 0} (was is : Type 0) (before now : ℕ)
   -- at the last value nothing else is told
   pub last : 2 ^ 64 - 1 ≤ before → IsErrOf result Failed
 
+-- ---- reliable disks
+
+-- A reliable disk fails in a call only for this reason, and is reliable after a call that has not
+-- failed.
+pub record StaysReliable (was is has_failed reason : Type 0) : Type 0 where
+  pub failed : was → has_failed → reason
+  pub after : was → (has_failed → ⊥) → is
+
+-- a write of so many bytes from this place on would end past the greatest place of a file
+abbrev pub EndsOutOfRange : ℕ → ℕ → Type 0
+EndsOutOfRange at len = 2 ^ 63 ≤ at + len
+
 -- ---- the calls that read
 
 -- the refusals of a call that needs a file, and so many bytes of it

@@ -1,5 +1,5 @@
 -- A disk in memory, as a state.
-use Rattle.std.specs.Prelude.{ℕ, List, length, Option, Some, None}
+use Rattle.std.specs.Prelude.{ℕ, ◌-◌, ◌^◌, ◌<◌, List, length, Option, Some, None}
 use Rattle.std.specs.Map.{lookup}
 use Rattle.std.specs.BTreeMap.{is_at}
 use Rattle.std.specs.Ordering.{nat_cmp}
@@ -9,6 +9,10 @@ use Rattle.disk.specs.State.{Slot, Absent, Fresh, Kept, State, AgreesOff}
 pub record Slots : Type 0 where
   pub slots : List (ℕ × Slot)
   pub failures : ℕ
+
+-- a call that fits does not fail: the count of failures is below its last value
+abbrev pub IsReliable : Slots → Type 0
+IsReliable disk = disk.failures < 2 ^ 64 - 1
 
 -- what stands under no number was never there
 abbrev pub slot_found : Option Slot → Slot

@@ -11,6 +11,8 @@ pub trait Crash: Disk {
     fn arm(&mut self, fault: Fault)
         ensures honest { Self.is_honest self.new ↔ Self.is_honest self.old }
         ensures count { Self.failures self.new ≡ Self.failures self.old }
+        ensures reliable { fault ≡ Fault.None →
+            Self.is_reliable self.old → Self.is_reliable self.new }
         ensures same { Self.is_honest self.old →
             IsSame (Self.state self.old) (Self.state self.new) };
 
@@ -18,6 +20,7 @@ pub trait Crash: Disk {
     fn crash(&mut self, junk: Junk)
         ensures honest { Self.is_honest self.new ↔ Self.is_honest self.old }
         ensures count { Self.failures self.new ≡ Self.failures self.old }
+        ensures reliable { Self.is_reliable self.old → Self.is_reliable self.new }
         ensures crashes { Self.is_honest self.old →
             Crashes junk (Self.state self.old) (Self.state self.new) }
         ensures allowed { Self.is_honest self.old →

@@ -6,7 +6,7 @@ ghost use Rattle.std.specs.Ordering.{nat_cmp};
 ghost use Rattle.disk.specs.State.{IsSame, Absent, seen};
 ghost use Rattle.disk.specs.Calls.{Lists, Writes, Cuts, Syncs, Removes};
 ghost use Rattle.disk.specs.Crashes.{Crashes};
-ghost use Rattle.disk.specs.Memory.{state_of};
+ghost use Rattle.disk.specs.Memory.{state_of, IsReliable};
 
 use crate::slot::MemSlot;
 use crate::{Crash, Disk, DiskError, Fault, Junk};
@@ -40,6 +40,7 @@ impl MemDisk {
     pub fn new(alloc: Global) -> MemDisk
         ensures empty { (file : ℕ) → state_of result.slots file ≡ Absent None }
         ensures count { result.failures ≡ 0 }
+        ensures reliable { IsReliable result }
     {
         MemDisk {
             alloc,
@@ -163,7 +164,7 @@ fn cut_in(slots: &mut BTreeMap<u64, MemSlot>, file: u64, len: u64) -> Result<(),
 
 fn sync_in(alloc: Global, slots: &mut BTreeMap<u64, MemSlot>, file: u64) -> Result<(), DiskError>
     ensures syncs { Syncs (state_of slots.old.entries) file result (state_of slots.new.entries) }
-    ensures other { result ≢ Err DiskError.Failed }
+    ensures err { OnErr result (result ≡ Err DiskError.NoFile) }
 {
     let slot = slots.get_mut(&file).ok_or(DiskError::NoFile)?;
     if slot.bytes().is_none() {
@@ -176,7 +177,7 @@ fn sync_in(alloc: Global, slots: &mut BTreeMap<u64, MemSlot>, file: u64) -> Resu
 fn remove_in(slots: &mut BTreeMap<u64, MemSlot>, file: u64) -> Result<(), DiskError>
     ensures removes { Removes (state_of slots.old.entries) file result
         (state_of slots.new.entries) }
-    ensures other { result ≢ Err DiskError.Failed }
+    ensures err { OnErr result (result ≡ Err DiskError.NoFile) }
 {
     let slot = slots.get_mut(&file).ok_or(DiskError::NoFile)?;
     if slot.bytes().is_none() {
@@ -192,6 +193,10 @@ impl Disk for MemDisk {
     ghost state = { λ disk. state_of disk.slots };
 
     ghost failures = { λ disk. disk.failures };
+
+    ghost is_reliable = { IsReliable };
+
+    ghost allocates = { ⊥ };
 
     fn files(&mut self) -> Result<Vec<u64>, DiskError> {
         self.at_work()?;

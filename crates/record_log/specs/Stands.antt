@@ -4,6 +4,7 @@ use Rattle.std.specs.Prelude.{drop, Result, Ok, Err, IfErr, Option, Some, None, 
 use Rattle.std.specs.Prelude.{IsSomeAnd, IsTrue}
 use Rattle.disk.specs.declared.error.DiskError.TheVariants as disk
 use Rattle.disk.specs.State.{State, seen}
+use Rattle.disk.specs.Calls.{EndsOutOfRange}
 use Rattle.record_log.specs.declared.error.LogError.{LogError}
 use Rattle.record_log.specs.declared.error.LogError.TheVariants as log
 use Rattle.record_log.specs.declared.log.Log.{Log}
@@ -22,6 +23,11 @@ start_of log = log.start
 -- the place where its closed gate is
 abbrev pub gate_of : Log → ℕ
 gate_of log = log.start + log.end
+
+-- The record, an open gate and its length before it and a closed gate behind it, would end past the
+-- greatest place of a file.
+abbrev pub HasNoRoom : Log → List ℕ → Type 0
+HasNoRoom log one = EndsOutOfRange (gate_of log) (length one + 6)
 
 -- how many records it has
 abbrev pub count_of : Log → ℕ

@@ -2,12 +2,13 @@ ghost use Rattle.std.specs.Prelude.{◌≡◌, ◌≢◌, ◌↔◌, ◌⊎◌, 
 ghost use Rattle.std.specs.Prelude.{◌∷◌, ◌++◌, length, slice_get, slice_index_or, Some, IfOk};
 ghost use Rattle.std.specs.Prelude.{IfErr, IsErrOf, IsTrue, OnOk, MatchResult};
 ghost use Rattle.disk.specs.State.{seen, IsSame, Leaves};
-ghost use Rattle.record_log.specs.Error.{Keeps};
+ghost use Rattle.disk.specs.Calls.{StaysReliable};
+ghost use Rattle.record_log.specs.Error.{Keeps, TellsFailure};
 ghost use Rattle.record_log.specs.Push.{IsSureOf, LeavesAt, behind_of, pushed};
 ghost use Rattle.record_log.specs.Stands.{Holds, HasRecords, IsAt, IsPart, IsRest, DeclinesBytes};
 ghost use Rattle.record_log.specs.Stands.{OpensOrDeclines, Answers, IsMet, IsOfMachine, IsOwn};
 ghost use Rattle.record_log.specs.Stands.{IsOldOrNew, EndsInRange, begun, file_of, start_of};
-ghost use Rattle.record_log.specs.Stands.{gate_of, count_of, HasFailed};
+ghost use Rattle.record_log.specs.Stands.{gate_of, count_of, HasFailed, HasNoRoom};
 
 use crate::LogError;
 use crate::push::push;
@@ -53,6 +54,8 @@ fn bytes_at<D: Disk>(
 ) -> Result<Vec<u8>, LogError>
     ensures keeps { Keeps (D.is_honest disk.old) (D.is_honest disk.new)
         (D.failures disk.old) (D.failures disk.new) result }
+    ensures reliable { StaysReliable (D.is_reliable disk.old) (D.is_reliable disk.new)
+        (TellsFailure result) ⊥ }
     ensures read { D.is_honest disk.old →
         IfOk result (λ bytes. IsPart (D.state disk.old) file at len bytes.items) }
     ensures refused { D.is_honest disk.old →
@@ -74,6 +77,8 @@ fn synced_from<D: Disk>(
 ) -> Result<Vec<u8>, LogError>
     ensures keeps { Keeps (D.is_honest disk.old) (D.is_honest disk.new)
         (D.failures disk.old) (D.failures disk.new) result }
+    ensures reliable { StaysReliable (D.is_reliable disk.old) (D.is_reliable disk.new)
+        (TellsFailure result) ⊥ }
     ensures read { D.is_honest disk.old →
         IfOk result (λ bytes. IsRest (D.state disk.old) file start (D.state disk.new) bytes.items) }
     ensures refused { D.is_honest disk.old →
@@ -98,11 +103,14 @@ impl Log {
     pub fn create<D: Disk>(alloc: Global, disk: &mut D, file: u64) -> Result<Log, LogError>
         ensures keeps { Keeps (D.is_honest disk.old) (D.is_honest disk.new)
             (D.failures disk.old) (D.failures disk.new) result }
+        ensures reliable { StaysReliable (D.is_reliable disk.old) (D.is_reliable disk.new)
+            (TellsFailure result) ⊥ }
         ensures created { D.is_honest disk.old → EndsInRange (seen (D.state disk.old file)) →
             MatchResult result (λ log. Holds (D.state disk.new) log []) IsOfMachine }
         ensures spelled { D.is_honest disk.old →
             OnOk result (IsSureOf (D.state disk.new) file (begun (seen (D.state disk.old file)))) }
         ensures at { IfOk result (IsAt file 0) }
+        ensures empty { IfOk result (λ log. (gate_of log ≡ 0) × (count_of log ≡ 0)) }
         ensures others { (other : ℕ) → D.is_honest disk.old → other ≢ file →
             D.state disk.new other ≡ D.state disk.old other }
     {
@@ -126,6 +134,8 @@ impl Log {
     ) -> Result<Log, LogError>
         ensures keeps { Keeps (D.is_honest disk.old) (D.is_honest disk.new)
             (D.failures disk.old) (D.failures disk.new) result }
+        ensures reliable { StaysReliable (D.is_reliable disk.old) (D.is_reliable disk.new)
+            (TellsFailure result) ⊥ }
         ensures at { IfOk result (IsAt file start) }
         ensures told { D.is_honest disk.old →
             OpensOrDeclines (D.state disk.old) file start result (D.state disk.new) }
@@ -188,6 +198,8 @@ impl Log {
     ) -> Result<(), LogError>
         ensures keeps { Keeps (D.is_honest disk.old) (D.is_honest disk.new)
             (D.failures disk.old) (D.failures disk.new) result }
+        ensures reliable { StaysReliable (D.is_reliable disk.old) (D.is_reliable disk.new)
+            (TellsFailure result) (HasNoRoom self.old bytes.now) }
         ensures told { Answers MAX_RECORD result self.old self.new bytes.now
             (disk.new ≡ disk.old) }
         ensures appended { (records : List (List ℕ)) → D.is_honest disk.old →
@@ -233,6 +245,8 @@ impl Log {
         requires { index < count_of self.now }
         ensures keeps { Keeps (D.is_honest disk.old) (D.is_honest disk.new)
             (D.failures disk.old) (D.failures disk.new) result }
+        ensures reliable { StaysReliable (D.is_reliable disk.old) (D.is_reliable disk.new)
+            (TellsFailure result) ⊥ }
         ensures failed { IsErrOf result LogError.Failed ↔ HasFailed self.now }
         ensures given { (records : List (List ℕ)) → D.is_honest disk.old →
             Holds (D.state disk.old) self.now records →

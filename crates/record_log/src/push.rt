@@ -1,5 +1,6 @@
 ghost use Rattle.std.specs.Prelude.{◌≡◌, ◌≢◌, ℕ, ◌+◌, ◌<◌, ◌^◌, ◌⊎◌, List, length, OnOk, IfErr};
-ghost use Rattle.disk.specs.Calls.{Keeps};
+ghost use Rattle.std.specs.Prelude.{IsErrOf};
+ghost use Rattle.disk.specs.Calls.{Keeps, StaysReliable, EndsOutOfRange};
 ghost use Rattle.record_log.specs.Push.{pushed, IsOnTheWay, IsSureOf, LeavesAt};
 
 use disk::{Disk, DiskError};
@@ -10,6 +11,8 @@ pub fn push<D: Disk>(disk: &mut D, file: u64, gate: u64, behind: &[u8]) -> Resul
     requires some { 0 < length behind.now }
     ensures keeps { Keeps (D.is_honest disk.old) (D.is_honest disk.new)
         (D.failures disk.old) (D.failures disk.new) result }
+    ensures reliable { StaysReliable (D.is_reliable disk.old) (D.is_reliable disk.new)
+        (IsErrOf result DiskError.Failed) (EndsOutOfRange gate (1 + length behind.now)) }
     ensures done { (bytes : List ℕ) → D.is_honest disk.old →
         IsSureOf (D.state disk.old) file bytes → gate < length bytes →
         OnOk result (IsSureOf (D.state disk.new) file (pushed bytes gate behind.now)

@@ -1,6 +1,7 @@
 // The calls that a log makes of its disk, in their order.
 ghost use Rattle.std.specs.Prelude.{None};
 ghost use Rattle.disk.specs.State.{Absent};
+ghost use Rattle.disk.specs.Memory.{IsReliable};
 
 use disk::{Disk, DiskError, MemDisk};
 use record_log::{Log, LogError};
@@ -53,6 +54,10 @@ impl Disk for NotingDisk {
     ghost state = { λ disk file. Absent None };
 
     ghost failures = { λ disk. disk.disk.failures };
+
+    ghost is_reliable = { λ disk. IsReliable disk.disk };
+
+    ghost allocates = { ⊥ };
 
     fn files(&mut self) -> Result<Vec<u64>, DiskError> {
         note(&mut self.calls, &mut self.count, Called::Other);

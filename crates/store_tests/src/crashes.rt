@@ -251,7 +251,7 @@ fn old_leaves_what_was_synced(rt: HostRuntime) -> Result<(), Fail> {
     let mut disk = three_files(rt.alloc())?;
     attempt(&mut disk, Try::Remove(5))?;
     assert_eq!(rt; files(&mut disk)?.as_slice(), [2, 9].as_slice());
-    disk.arm(Fault::Stop(1, Junk::New));
+    disk.arm(Fault::None);
     crash(&mut disk, Junk::Old);
     assert_eq!(rt; files(&mut disk)?.as_slice(), [5].as_slice());
     Ok(())
