@@ -13,7 +13,8 @@ use Rattle.chain_core.specs.States.{Machine, Core, Is, waiting}
 use Rattle.chain_core.specs.Decisions as core
 use Rattle.chain_core.specs.declared.decision.Decision.{Decision}
 use Rattle.chain_core.specs.Decisions.{done_of, rule_of}
-use Rattle.chain_core.specs.Steps.{Leaves, StepsLeave, list_after, frames_after}
+use Rattle.chain_core.specs.Steps.{Leaves, StepsLeave, list_after, epoch_after, ids_after}
+use Rattle.chain_core.specs.Steps.{floor_after, kept_after, frames_after}
 use Rattle.chain_model.specs.Frames.{Frame}
 use Rattle.node.specs.declared.node.Node.{Node}
 use Rattle.node.specs.declared.output.Output.{Output}
@@ -84,13 +85,35 @@ appended_list n batch (done.Accepted request) has = refl
 appended_list n batch done.Appended has = refl
 appended_list n batch (done.Told committed have) has = absurd has
 
--- a step leaves the first configuration, the floor and the kept number
+-- a step leaves epoch, configuration, floor and kept number
+
+same_epoch : (n : Machine) (d : Done) → epoch_after n d ≡ n.epoch
+same_epoch n (done.Accepted request) = refl
+same_epoch n done.Appended = refl
+same_epoch n (done.Told committed have) = refl
+
+same_ids : (n : Machine) (d : Done) → ids_after n d ≡ n.ids
+same_ids n (done.Accepted request) = refl
+same_ids n done.Appended = refl
+same_ids n (done.Told committed have) = refl
+
+same_floor : (n : Machine) (d : Done) → floor_after n d ≡ n.floor
+same_floor n (done.Accepted request) = refl
+same_floor n done.Appended = refl
+same_floor n (done.Told committed have) = refl
+
+same_kept : (n : Machine) (d : Done) → kept_after n d ≡ n.kept
+same_kept n (done.Accepted request) = refl
+same_kept n done.Appended = refl
+same_kept n (done.Told committed have) = refl
+
+-- so its configuration is still the first, and neither floor nor kept number ever rose
 pub still_first : (x : ℕ) (n : Machine) (batch : List Edit) (d : Done) (a : Answer (List Edit)) →
     Leaves x n batch d a → IsFirst n → IsFirst a.node
 still_first x n batch d a leaves first = record {
-  epoch = leaves.epoch ∙ first.epoch;
-  floor = leaves.floor ∙ first.floor;
-  kept = leaves.kept ∙ first.kept;
+  epoch = leaves.epoch ∙ same_epoch n d ∙ first.epoch;
+  floor = leaves.floor ∙ same_floor n d ∙ first.floor;
+  kept = leaves.kept ∙ same_kept n d ∙ first.kept;
 }
 
 -- while a batch is appended, the disk stands for the machine before or after
@@ -104,7 +127,7 @@ stops_between disk x n batch d a leaves has first one_of left now =
       | inr new ↦ inr (record {
         batches = subst (λ (l : List (List Edit)). HasBatches left x a.node.ids l) (sym list)
             (subst (λ (ids : List ℕ). HasBatches left x ids (n.list ++ batch ∷ []))
-            (sym leaves.ids) new);
+            (sym (leaves.ids ∙ same_ids n d)) new);
         first = still_first x n batch d a leaves first;
       })
     ]
@@ -138,7 +161,7 @@ module _ {D : Type 0} (is_honest : D → Type 0) (state : D → State) where
         (sym leaves.list)
         (subst (λ (ids : List ℕ).
         IsStore (state node.disk) node.engine x ids (list_after n batch d))
-        (sym leaves.ids) store);
+        (sym (leaves.ids ∙ same_ids n d)) store);
     core = is;
     id = id;
     first = still_first x n batch d a leaves first;

@@ -31,15 +31,15 @@ pub output_of-requires-clause-count : goal.output_of-requires-clause-count
 output_of-requires-clause-count g c =
     let old = c.args.self.now in
     let count = told_counts c.steps_leave.ensures old.core c.after.new.self old.engine.batches.items
-    c.args.committed c.args.have c.in_ok-due.due.items c.requires.count c.in_ok-due.ensures.after in
+    c.args.committed c.args.have c.in_ok-due.due.items c.requires.may.count c.in_ok-due.ensures.after in
     count ∙ ap length (sym c.deref.ensures.value)
 
 pub returns-clause-works : goal.returns-clause-works
 returns-clause-works g c =
     let old = c.args.self.now in
     let count = told_counts c.steps_leave.ensures old.core c.after.new.self old.engine.batches.items
-    c.args.committed c.args.have c.in_ok-due.due.items c.requires.count c.in_ok-due.ensures.after in
-    on_ok c.output_of.result (record { works = c.requires.works; count = count })
+    c.args.committed c.args.have c.in_ok-due.due.items c.requires.may.count c.in_ok-due.ensures.after in
+    on_ok c.output_of.result (record { works = c.requires.may.works; count = count })
 
 -- what the successor told is passed on where more is committed
 pub returns-clause-ends : goal.returns-clause-ends
@@ -60,7 +60,7 @@ returns-clause-ends g c = λ x n input r.
     λ y. if c.gt-grows.result then ack y a.node else [] in
     let grows : c.gt-grows.result ≡ nat_lt n.committed c.args.committed =
     c.gt-grows.ensures ∙ greater c.args.committed c.committed.result
-    ∙ ap (λ k. nat_lt k c.args.committed) (c.committed.ensures ∙ sym r.core.committed) in
+    ∙ ap (λ k. nat_lt k c.args.committed) (c.committed.ensures.same ∙ sym r.core.committed) in
     let list = sym runs.store.batches ∙ sym c.deref.ensures.value in
     ends_rule g.D.Disk.is_honest g.D.Disk.state c.sure_is_left.ensures node x n input [] d a due
     c.deref-2.result.now sent
