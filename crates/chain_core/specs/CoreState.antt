@@ -2,6 +2,7 @@
 use Rattle.chain_core.specs.declared.state.CoreState.TheInside.{Inside}
 use Rattle.chain_core.specs.States.{Core}
 
+-- the numbers in the fields of a `CoreState`
 abbrev pub core_value : Inside → Core
 core_value state = record {
   id = state.id;

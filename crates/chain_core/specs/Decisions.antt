@@ -89,15 +89,15 @@ done_of x n batch (done.Accepted request) = accept x n request batch
 done_of x n batch done.Appended = append x n (suc (length n.list)) batch
 done_of x n batch (done.Told committed have) = pass_on x n committed have
 
--- a number is left for a batch that is taken, and a successor has what it takes for committed, but
--- no more than so many batches
+-- what the count allows of a decision: a number is left for a batch, and a successor tells no more
+-- committed than it has, and no more than there is
 abbrev pub HasRoomFor : ℕ → Decision → Type 0
 HasRoomFor count (decision.Accept request batch) = count < MAX_NUMBER
 HasRoomFor count (decision.Append batch) = count < MAX_NUMBER
 HasRoomFor count (decision.PassOn committed have) = (committed ≤ have) × (have ≤ count)
 HasRoomFor count _ = Unit {0}
 
--- .. or that was taken, and so it was
+-- what the count allows of what was done
 abbrev pub HasRoom : ℕ → Done → Type 0
 HasRoom count (done.Accepted request) = count < MAX_NUMBER
 HasRoom count done.Appended = count < MAX_NUMBER

@@ -1,3 +1,4 @@
+//! What a node starts from.
 ghost use Rattle.std.specs.Prelude.{◌≤◌};
 
 use configurations::{Config, Epoch, NodeId};

@@ -212,6 +212,7 @@ impl CoreState {
         ensures after { (n : Machine) (batch : List Edit) → Is self.old n →
             IfOk result (λ due.
             Follows self.new (accept self.old.id n request batch) due.items) }
+        ensures rises { self.old.committed ≤ self.new.committed }
         ensures same { self.new.id ≡ self.old.id }
         ensures memory { OnErr result (self.new ≡ self.old) }
     {
@@ -231,6 +232,7 @@ impl CoreState {
         requires { self.old.count < MAX_NUMBER }
         ensures after { (n : Machine) (batch : List Edit) → Is self.old n →
             Is self.new (append self.old.id n (suc (length n.list)) batch).node }
+        ensures rises { self.old.committed ≤ self.new.committed }
         ensures same { self.new.id ≡ self.old.id }
     {
         let number = self.count.next().unwrap();
@@ -248,6 +250,7 @@ impl CoreState {
         requires { (committed ≤ have) × (have ≤ self.old.count) }
         ensures after { (n : Machine) → Is self.old n → IfOk result (λ due.
             Follows self.new (pass_on self.old.id n committed have) due.items) }
+        ensures rises { self.old.committed ≤ self.new.committed }
         ensures same { self.new.id ≡ self.old.id }
         ensures memory { OnErr result (self.new ≡ self.old) }
     {
@@ -266,6 +269,7 @@ impl CoreState {
         requires { HasRoom self.old.count done }
         ensures after { (n : Machine) (batch : List Edit) → Is self.old n →
             IfOk result (λ due. Follows self.new (done_of self.old.id n batch done) due.items) }
+        ensures rises { self.old.committed ≤ self.new.committed }
         ensures same { self.new.id ≡ self.old.id }
         ensures memory { OnErr result (self.new ≡ self.old) }
     {
