@@ -16,7 +16,8 @@ use Rattle.chain_core.specs.States.{Machine, Core, Is, waiting}
 use Rattle.chain_core.specs.Decisions as core
 use Rattle.chain_core.specs.declared.decision.Decision.{Decision}
 use Rattle.chain_core.specs.Decisions.{done_of, rule_of}
-use Rattle.chain_core.specs.Steps.{Leaves, StepsLeave, StandsLast, list_after, frames_after}
+use Rattle.chain_core.specs.Steps.{Leaves, StepsLeave, StandsLast, list_after, epoch_after}
+use Rattle.chain_core.specs.Steps.{ids_after, floor_after, kept_after, frames_after}
 use Rattle.chain_model.specs.Frames.{Frame}
 use Rattle.node.specs.declared.engine.Engine.{Engine}
 use Rattle.node.specs.declared.node.Node.{Node}
@@ -102,6 +103,26 @@ pub counts_told : StepsLeave → (old new : Core) (committed have : ℕ) (due : 
 counts_told law old new committed have due after =
     counted law old new [] (done.Told committed have) due after ∙ length-replicate old.count []
 
+-- an engine that has one batch more holds what the step leaves
+pub holds_appended : (disk : State) (engine : Engine) (x : ℕ) (n : Machine) (batch : List Edit)
+    (d : Done) → HasAppended d →
+    EngineHolds disk engine x n.epoch n.ids (n.list ++ batch ∷ []) n.floor n.kept →
+    EngineHolds disk engine x (epoch_after n d) (ids_after n d) (list_after n batch d)
+    (floor_after n d) (kept_after n d)
+holds_appended disk engine x n batch (done.Accepted request) has holds = holds
+holds_appended disk engine x n batch done.Appended has holds = holds
+holds_appended disk engine x n batch (done.Told committed have) has holds = absurd has
+
+-- a disk with one batch more represents what the step leaves
+represents_appended : (left : Contents) (x : ℕ) (n : Machine) (batch : List Edit) (d : Done) →
+    HasAppended d →
+    DiskRepresents left x n.epoch n.ids (n.list ++ batch ∷ []) n.floor n.kept →
+    DiskRepresents left x (epoch_after n d) (ids_after n d) (list_after n batch d)
+    (floor_after n d) (kept_after n d)
+represents_appended left x n batch (done.Accepted request) has it = it
+represents_appended left x n batch done.Appended has it = it
+represents_appended left x n batch (done.Told committed have) has it = absurd has
+
 -- what a disk represents, by other names of the same numbers
 represents_as : (left : Contents) (x e d : ℕ) (ids js : List ℕ) (list more : List (List Edit))
     (f g k h : ℕ) → d ≡ e → js ≡ ids → more ≡ list → g ≡ f → h ≡ k →
@@ -116,12 +137,12 @@ pub stops_between : (disk : State) (x : ℕ) (n : Machine) (batch : List Edit) (
     StopsAs disk x n a
 stops_between disk x n batch d a leaves has one_of left now =
     let m = a.node in
-    let more = n.list ++ batch ∷ [] in
-    let list : m.list ≡ more = leaves.list ∙ appended_list n batch d has in
     elim (one_of left now) [
       | inl old ↦ inl old
-      | inr new ↦ inr (represents_as left x n.epoch m.epoch n.ids m.ids more m.list n.floor m.floor
-          n.kept m.kept leaves.epoch leaves.ids list leaves.floor leaves.kept new)
+      | inr new ↦ inr (represents_as left x (epoch_after n d) m.epoch (ids_after n d) m.ids
+          (list_after n batch d) m.list (floor_after n d) m.floor (kept_after n d) m.kept
+          leaves.epoch leaves.ids leaves.list leaves.floor leaves.kept
+          (represents_appended left x n batch d has new))
     ]
 
 -- a copy for the successor is one after a step, which leaves id and configuration
@@ -180,15 +201,16 @@ module _ {D : Type 0} (is_honest : D → Type 0) (state : D → State) where
   -- a node that did its store's part runs as the machine after the rule
   pub goes_on : (node : Node D) (x : ℕ) (n : Machine) (batch : List Edit) (d : Done)
       (a : Answer (List Edit)) → Leaves x n batch d a → is_honest node.disk →
-      EngineHolds (state node.disk) node.engine x n.epoch n.ids (list_after n batch d) n.floor
-      n.kept → Is node.core a.node → node.core.id ≡ x → Runs is_honest state node x a.node
+      EngineHolds (state node.disk) node.engine x (epoch_after n d) (ids_after n d)
+      (list_after n batch d) (floor_after n d) (kept_after n d) → Is node.core a.node →
+      node.core.id ≡ x → Runs is_honest state node x a.node
   goes_on node x n batch d a leaves honest holds is id =
       let m = a.node in
       record {
         honest = honest;
-        store = holds_as (state node.disk) node.engine x n.epoch m.epoch n.ids m.ids
-            (list_after n batch d) m.list n.floor m.floor n.kept m.kept leaves.epoch leaves.ids
-            leaves.list leaves.floor leaves.kept holds;
+        store = holds_as (state node.disk) node.engine x (epoch_after n d) m.epoch (ids_after n d)
+            m.ids (list_after n batch d) m.list (floor_after n d) m.floor (kept_after n d) m.kept
+            leaves.epoch leaves.ids leaves.list leaves.floor leaves.kept holds;
         core = is;
         id = id;
       }

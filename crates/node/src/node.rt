@@ -216,7 +216,8 @@ impl<D: Disk + Drop> Node<D> {
 
     // What the successor tells is taken, and passed on where more is committed.
     fn pass_on(&mut self, alloc: Global, committed: Number, have: Number) -> Result<Output, Stop>
-        requires { MayStep self.old }
+        requires may { MayStep self.old }
+        requires there { (committed ≤ have) × (have ≤ self.old.core.count) }
         ensures disk { disk_of self.new ≡ disk_of self.old }
         ensures ends { (x : ℕ) (n : Machine) (input : Input) →
             Runs D.is_honest D.state self.old x n →

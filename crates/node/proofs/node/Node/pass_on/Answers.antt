@@ -30,7 +30,7 @@ returns-clause-works g c =
     let count = counts_told c.steps_leave.ensures c.args.self.now.core c.after.new.self
     c.args.committed c.args.have c.in_ok-due.due.items c.in_ok-due.ensures.after in
     on_ok c.output_of.result
-    (record { usable = c.requires.usable; count = count ∙ c.requires.count })
+    (record { usable = c.requires.may.usable; count = count ∙ c.requires.may.count })
 
 -- what the successor told is passed on where more is committed
 pub returns-clause-ends : goal.returns-clause-ends
@@ -51,7 +51,7 @@ returns-clause-ends g c = λ x n input r.
     let none : AreFrames c.new.result.items [] = rw c.new.ensures.items refl in
     let grows : c.gt-grows.result ≡ nat_lt n.committed c.args.committed =
     c.gt-grows.ensures ∙ greater c.args.committed c.committed.result
-    ∙ ap (λ k. nat_lt k c.args.committed) (c.committed.ensures ∙ sym r.core.committed) in
+    ∙ ap (λ k. nat_lt k c.args.committed) (c.committed.ensures.same ∙ sym r.core.committed) in
     ends_rule g.D.Disk.is_honest g.D.Disk.state c.sure_is_left.ensures node x n input [] d a due
     c.deref.result.now sent
     c.output_of.result leaves (record { runs = runs; replied = follows.replied })

@@ -1,11 +1,9 @@
-use Rattle.std.proofs.Common.{List, sym, subst, ℕ, inr, ◌∙◌}
+use Rattle.std.proofs.Common.{sym, subst, ℕ, inr, ◌∙◌}
 use Rattle.std.proofs.lemmas.Result.{err_from_is_err_and}
-use Rattle.kv_types.specs.declared.edit.Edit.{Edit}
 use Rattle.chain_core.specs.Decisions as core
 use Rattle.chain_core.specs.Decisions.{done_of}
-use Rattle.node.specs.Engines.{EngineHolds}
 use Rattle.node.specs.Stops.{IsOfMachine}
-use Rattle.node.proofs.Running.{with_engine, with_core, counts_appended, appended_list}
+use Rattle.node.proofs.Running.{with_engine, with_core, counts_appended, holds_appended}
 use Rattle.node.proofs.Running.{stops_between, goes_on, ends_stopped}
 use Rattle.node.proofs.node.Node.take.Goals as goal
 
@@ -58,9 +56,7 @@ returns-clause-ends g c = λ x n r.
     c.after.new.self in
     let follows = subst (λ (y : ℕ). core.Follows node.core (done_of y n batch d)
     c.in_ok-after.field-0.items) r.id (c.in_ok-after.ensures.after n batch r.core) in
-    let holds = subst (λ (l : List (List Edit)).
-    EngineHolds (g.D.Disk.state node.disk) node.engine x n.epoch n.ids l n.floor n.kept)
-    (sym (appended_list n batch d c.requires.done))
+    let holds = holds_appended (g.D.Disk.state node.disk) node.engine x n batch d c.requires.done
     (c.in_ok-append.ensures.appended x n.epoch n.ids n.list n.floor n.kept r.honest r.store) in
     let runs = goes_on g.D.Disk.is_honest g.D.Disk.state node x n batch d a leaves
     (c.append.ensures.keeps.honest.1 r.honest) holds follows.is
