@@ -44,6 +44,7 @@ fn core_of(alloc: Global, identity: Identity, engine: &Engine) -> CoreState
     requires { IsUsable engine.now }
     ensures id { result.id ≡ identity.id }
     ensures count { result.count ≡ engine_count engine.now }
+    ensures kept { result.kept ≡ engine_kept engine.now }
     ensures is { (n : Machine) → HasNumbersOf engine.now n → n.ids ≡ identity.config →
         Is result (started identity.id n) }
 {
@@ -69,6 +70,7 @@ fn resent<D: Disk>(
 ) -> Result<Vec<Sent>, Stop>
     requires usable { IsUsable engine.now }
     requires count { core.now.count ≡ engine_count engine.now }
+    requires kept { core.now.kept ≡ engine_kept engine.now }
     ensures keeps { KeepsDisk D.is_honest D.failures disk.old disk.new (TellsDisk result) }
     ensures sent { (x : ℕ) (n : Machine) → Is core.now n → D.is_honest disk.old →
         EngineHolds (D.state disk.old) engine.now x n.epoch n.ids n.list n.floor n.kept →
