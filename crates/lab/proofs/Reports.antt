@@ -43,9 +43,12 @@ one_of cs events report is one made =
       stands = All-weaker (λ node. IsLeft (node_of cs es node.id) node)
           (λ node. has (last_of cs) node.id ≡ true → HasAll one.B node)
           (λ node left last. λ after now. (
+            (node_of cs es node.id).epoch,
             (node_of cs es node.id).ids,
             (node_of cs es node.id).list,
-            (left.disk after now).batches,
+            (node_of cs es node.id).floor,
+            (node_of cs es node.id).kept,
+            left.disk after now,
             begins node.id last,
           )) report.nodes.items is.left;
     }

@@ -8,7 +8,7 @@ use Rattle.disk.specs.State.{Contents, MayLeave}
 use Rattle.chain_model.specs.Lists.{Begins, Part, place}
 use Rattle.chain_model.specs.Configuration.{Configurations, has, last_of}
 use Rattle.chain_model.specs.Headline.{batches}
-use Rattle.node.specs.Files.{HasBatches}
+use Rattle.node.specs.Files.{DiskRepresents}
 use Rattle.node.specs.declared.output.Reply.{Reply}
 use Rattle.node.specs.declared.output.Reply.TheVariants.{Committed, Value, Refused}
 use Rattle.lab.specs.declared.event.Event.{Event}
@@ -66,11 +66,11 @@ LineSpeaksOf B what (line.Stopped node cause) = Unit {0}
 abbrev pub StepSpeaksOf : List Placed → Event → List Line → Type 0
 StepSpeaksOf B event lines = All (LineSpeaksOf B event.what) lines
 
--- whatever a crash leaves of the node's disk stands for a list that begins with B
+-- whatever a crash leaves of the node's disk represents the node with a list that begins with B
 abbrev pub HasAll : List Placed → NodeReport → Type 0
 HasAll B node = (left : Contents) → MayLeave (state node.disk) left →
-    (ids : List ℕ) × (list : List (List Edit)) × HasBatches left node.id ids list
-    × Begins (batches B) list
+    (epoch : ℕ) × (ids : List ℕ) × (list : List (List Edit)) × (floor : ℕ) × (kept : ℕ)
+    × DiskRepresents left node.id epoch ids list floor kept × Begins (batches B) list
 
 -- There is one list B ..
 pub record OneHistory (cs : Configurations) (events : List Event) (report : Report) : Type 0 where
