@@ -103,6 +103,19 @@ pub counts_told : StepsLeave → (old new : Core) (committed have : ℕ) (due : 
 counts_told law old new committed have due after =
     counted law old new [] (done.Told committed have) due after ∙ length-replicate old.count []
 
+same_kept : (n : Machine) (d : Done) → kept_after n d ≡ n.kept
+same_kept n (done.Accepted request) = refl
+same_kept n done.Appended = refl
+same_kept n (done.Told committed have) = refl
+
+-- no batch was given up
+pub keeps_kept : StepsLeave → (old new : Core) (d : Done) (due : List Waiting) →
+    ((n : Machine) (batch : List Edit) → Is old n →
+    core.Follows new (done_of old.id n batch d) due) → new.kept ≡ old.kept
+keeps_kept law old new d due after =
+    let n = machine_with old in
+    sym (after n [] (has_numbers old)).is.kept ∙ (law old.id n [] d).kept ∙ same_kept n d
+
 -- an engine that has one batch more holds what the step leaves
 pub holds_appended : (disk : State) (engine : Engine) (x : ℕ) (n : Machine) (batch : List Edit)
     (d : Done) → HasAppended d →

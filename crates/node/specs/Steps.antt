@@ -23,7 +23,7 @@ use Rattle.node.specs.declared.output.Output.{Output}
 use Rattle.node.specs.declared.output.Reply.{Reply}
 use Rattle.node.specs.declared.output.Reply.TheVariants as reply
 use Rattle.node.specs.Files.{DiskRepresents}
-use Rattle.node.specs.Engines.{EngineHolds, IsUsable, engine_count}
+use Rattle.node.specs.Engines.{EngineHolds, IsUsable, engine_count, engine_kept}
 
 -- what a disk has represents node x with this machine's configuration, batches and numbers
 abbrev pub Rests : Contents → ℕ → Machine → Type 0
@@ -50,10 +50,11 @@ pub record Runs {D : Type 0} (is_honest : D → Type 0) (state : D → State) (n
   pub core : Is node.core n
   pub id : node.core.id ≡ x
 
--- its engine is usable, and its numbers count the engine's batches, so a step may follow
+-- its engine is usable and has the numbers that the node knows, so a step may follow
 pub record MayStep {D : Type 0} (node : Node D) : Type 0 where
   pub usable : IsUsable node.engine
   pub count : node.core.count ≡ engine_count node.engine
+  pub kept : node.core.kept ≡ engine_kept node.engine
 
 abbrev pub refusal_of : model_refusal.Refusal → Refusal
 refusal_of model_refusal.NotRunning = refusal.NotRunning

@@ -174,7 +174,8 @@ impl Engine {
             MatchResult result
             (λ engine. EngineHolds (D.state disk.new) engine id 0 config.now [] 0 0) IsOfMachine }
         ensures usable { IfOk result IsUsable }
-        ensures none { IfOk result (λ engine. engine_count engine ≡ 0) }
+        ensures none { IfOk result
+            (λ engine. (engine_count engine ≡ 0) × (engine_kept engine ≡ 0)) }
         ensures others { D.is_honest disk.old → KeepsOthers (D.state disk.old) (D.state disk.new) }
     {
         length_of(disk, BATCHES_FILE)?;
@@ -266,7 +267,8 @@ impl Engine {
             EngineHolds (D.state disk.old) self.old x epoch ids list floor kept →
             KeepsOthers (D.state disk.old) (D.state disk.new) }
         ensures usable { OnOk result (IsUsable self.new
-            × (engine_count self.new ≡ engine_count self.old + 1)) }
+            × (engine_count self.new ≡ engine_count self.old + 1)
+            × (engine_kept self.new ≡ engine_kept self.old)) }
     {
         sure_is_left();
         let number = self.batches.len() as u64 + 1;

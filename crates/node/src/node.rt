@@ -47,6 +47,7 @@ fn core_of(alloc: Global, identity: Identity, engine: &Engine) -> CoreState
     requires { IsUsable engine.now }
     ensures id { result.id ≡ identity.id }
     ensures count { result.count ≡ engine_count engine.now }
+    ensures kept { result.kept ≡ engine_kept engine.now }
     ensures is { (n : Machine) → HasNumbersOf engine.now n → n.ids ≡ identity.config →
         Is result (started identity.id n) }
 {
@@ -72,6 +73,7 @@ fn resent<D: Disk>(
 ) -> Result<Vec<Sent>, Stop>
     requires usable { IsUsable engine.now }
     requires count { core.now.count ≡ engine_count engine.now }
+    requires kept { core.now.kept ≡ engine_kept engine.now }
     ensures keeps { KeepsDisk D.is_honest D.failures disk.old disk.new (TellsDisk result) }
     ensures reliable { StaysReliable (D.is_reliable disk.old) (D.is_reliable disk.new)
         (TellsDisk result) ⊥ }

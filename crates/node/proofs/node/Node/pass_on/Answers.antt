@@ -9,7 +9,7 @@ use Rattle.chain_core.specs.Decisions as core
 use Rattle.chain_core.specs.Decisions.{AreFrames, done_of}
 use Rattle.node.proofs.Outputs.{greater}
 use Rattle.node.proofs.Running.{ends_rule, ends_stopped, stops_before, goes_on}
-use Rattle.node.proofs.Running.{with_core, counts_told}
+use Rattle.node.proofs.Running.{with_core, counts_told, keeps_kept}
 use Rattle.node.proofs.Causes.{on_ok}
 use Rattle.node.proofs.node.Node.pass_on.Goals as goal
 
@@ -24,13 +24,18 @@ returns-in_err-due-clause-ends g c = λ x n input r.
     p.0 p.1 (inr p.2) r.honest (stops_before g.D.Disk.is_honest g.D.Disk.state
     c.sure_is_left.ensures old x n a r)
 
--- as many batches are counted as before
+-- as many batches are counted as before, and none was given up
 pub returns-clause-works : goal.returns-clause-works
 returns-clause-works g c =
-    let count = counts_told c.steps_leave.ensures c.args.self.now.core c.after.new.self
-    c.args.committed c.args.have c.in_ok-due.due.items c.in_ok-due.ensures.after in
+    let may = c.requires.may in
+    let old = c.args.self.now.core in
+    let due = c.in_ok-due.due.items in
+    let count = counts_told c.steps_leave.ensures old c.after.new.self c.args.committed c.args.have
+    due c.in_ok-due.ensures.after in
+    let kept = keeps_kept c.steps_leave.ensures old c.after.new.self
+    (done.Told c.args.committed c.args.have) due c.in_ok-due.ensures.after in
     on_ok c.output_of.result
-    (record { usable = c.requires.may.usable; count = count ∙ c.requires.may.count })
+    (record { usable = may.usable; count = count ∙ may.count; kept = kept ∙ may.kept })
 
 -- what the successor told is passed on where more is committed
 pub returns-clause-ends : goal.returns-clause-ends

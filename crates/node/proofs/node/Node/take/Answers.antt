@@ -3,7 +3,8 @@ use Rattle.std.proofs.lemmas.Result.{err_from_is_err_and}
 use Rattle.chain_core.specs.Decisions as core
 use Rattle.chain_core.specs.Decisions.{done_of}
 use Rattle.node.specs.Stops.{IsOfMachine}
-use Rattle.node.proofs.Running.{with_engine, with_core, counts_appended, holds_appended}
+use Rattle.node.proofs.Running.{with_engine, with_core, counts_appended, keeps_kept}
+use Rattle.node.proofs.Running.{holds_appended}
 use Rattle.node.proofs.Running.{stops_between, goes_on, ends_stopped}
 use Rattle.node.proofs.node.Node.take.Goals as goal
 
@@ -67,10 +68,18 @@ pub returns-clause-others : goal.returns-clause-others
 returns-clause-others g c = λ x n r.
     c.append.ensures.others x n.epoch n.ids n.list n.floor n.kept r.honest r.store
 
--- one batch more is counted
+-- one batch more is counted, and none was given up
 pub returns-clause-works : goal.returns-clause-works
 returns-clause-works g c =
     let usable = c.in_ok-append.ensures.usable in
-    let count = counts_appended c.steps_leave.ensures c.args.self.now.core c.after.new.self
-    c.args.done c.in_ok-after.field-0.items c.requires.done c.in_ok-after.ensures.after in
-    record { usable = usable.0; count = rw (usable.1, ← c.requires.may.count) count }
+    let old = c.args.self.now.core in
+    let due = c.in_ok-after.field-0.items in
+    let count = counts_appended c.steps_leave.ensures old c.after.new.self c.args.done due
+    c.requires.done c.in_ok-after.ensures.after in
+    let kept = keeps_kept c.steps_leave.ensures old c.after.new.self c.args.done due
+    c.in_ok-after.ensures.after in
+    record {
+      usable = usable.0;
+      count = rw (usable.1, ← c.requires.may.count) count;
+      kept = kept ∙ c.requires.may.kept ∙ sym usable.2;
+    }
