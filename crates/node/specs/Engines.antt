@@ -1,10 +1,12 @@
 -- An open engine over a node's files: its numbers, and what it holds.
-use Rattle.std.specs.Prelude.{◌≡◌, ℕ, ◌≤◌, List, length, All}
+use Rattle.std.specs.Prelude.{◌≡◌, ℕ, ◌+◌, ◌≤◌, List, length, All}
 use Rattle.kv_types.specs.declared.bounds.TheConstants.{MAX_NUMBER}
 use Rattle.kv_types.specs.declared.edit.Edit.{Edit}
 use Rattle.kv_types.specs.Spelling.{IsBatch}
 use Rattle.disk.specs.State.{State}
-use Rattle.record_log.specs.Stands.{HasFailed, Holds, IsAt}
+use Rattle.disk.specs.Calls.{EndsOutOfRange}
+use Rattle.record_log.specs.declared.log.TheConstants.{MAX_RECORD}
+use Rattle.record_log.specs.Stands.{HasFailed, Holds, IsAt, gate_of}
 use Rattle.chain_core.specs.States.{Machine}
 use Rattle.node.specs.declared.engine.Engine.{Engine}
 use Rattle.node.specs.declared.layout.Identity.{Identity}
@@ -33,6 +35,10 @@ pub record IsUsable (engine : Engine) : Type 0 where
   pub kept : engine_kept engine ≤ engine_floor engine
   pub floor : engine_floor engine ≤ engine_count engine
   pub few : engine_count engine ≤ MAX_NUMBER
+
+-- one more record of the greatest length would end past the greatest place of a file
+abbrev pub IsNearlyFull : Engine → Type 0
+IsNearlyFull engine = EndsOutOfRange (gate_of engine.log) (MAX_RECORD + 6)
 
 -- an open engine holds what the disk represents: it is there, and a crash leaves it
 pub record EngineHolds (disk : State) (engine : Engine) (x epoch : ℕ) (ids : List ℕ)

@@ -17,6 +17,7 @@ use Rattle.chain_core.specs.declared.input.Input.{Input}
 use Rattle.chain_core.specs.declared.input.Input.TheVariants as input
 use Rattle.chain_core.specs.States.{Machine, Is}
 use Rattle.chain_core.specs.Decisions.{AreFrames}
+use Rattle.node.specs.declared.engine.Engine.{Engine}
 use Rattle.node.specs.declared.node.Node.{Node}
 use Rattle.node.specs.declared.output.Output.{Output}
 use Rattle.node.specs.declared.output.Reply.{Reply}
@@ -35,6 +36,10 @@ AlwaysRests disk x n = (left : Contents) → MayLeave disk left → Rests left x
 -- the disk that a node owns
 abbrev pub disk_of : {D : Type 0} → Node D → D
 disk_of node = node.disk
+
+-- the engine over it
+abbrev pub engine_of : {D : Type 0} → Node D → Engine
+engine_of node = node.engine
 
 -- a running node is node x, running as this machine: it has its numbers, and its batches are on
 -- its disk

@@ -6,6 +6,7 @@ ghost use Rattle.kv_types.specs.declared.edit.Edit.{Edit};
 ghost use Rattle.kv_types.specs.Spelling.{IsBatch};
 ghost use Rattle.kv_types.specs.Maps.{map_of};
 ghost use Rattle.disk.specs.State.{Leaves, contents, IsSame};
+ghost use Rattle.disk.specs.Calls.{StaysReliable};
 ghost use Rattle.record_log.specs.Stands.{EndsInRange, Holds, HasFailed, count_of};
 ghost use Rattle.chain_model.specs.Configuration.{IsId};
 ghost use Rattle.chain_model.specs.Lists.{place};
@@ -15,6 +16,7 @@ ghost use Rattle.node.specs.Files.{KeepsOneOf, KeepsOthers, LeavesNoMore};
 ghost use Rattle.node.specs.Layout.{identity_file, identity_records};
 ghost use Rattle.node.specs.Layout.{batch_record, records_from};
 ghost use Rattle.node.specs.Engines.{EngineHolds, IsOpened, IsUsable};
+ghost use Rattle.node.specs.Engines.{IsNearlyFull};
 ghost use Rattle.node.specs.Engines.{engine_count, engine_epoch, engine_floor, engine_kept};
 ghost use Rattle.node.specs.Stops.{KeepsDisk, TellsDisk, IsOfMachine, TellsBlank};
 
@@ -42,6 +44,8 @@ fn batch_at<D: Disk>(alloc: Global, disk: &mut D, log: &Log, index: usize) -> Re
     requires works { HasFailed log.now → ⊥ }
     requires within { index < count_of log.now }
     ensures keeps { KeepsDisk D.is_honest D.failures disk.old disk.new (TellsDisk result) }
+    ensures reliable { StaysReliable (D.is_reliable disk.old) (D.is_reliable disk.new)
+        (TellsDisk result) ⊥ }
     ensures each { IfOk result IsBatch }
     ensures found { (records : List (List ℕ)) → D.is_honest disk.old →
         Holds (D.state disk.old) log.now records →
@@ -60,6 +64,8 @@ fn batch_at<D: Disk>(alloc: Global, disk: &mut D, log: &Log, index: usize) -> Re
 fn batches_in<D: Disk>(alloc: Global, disk: &mut D, log: &Log) -> Result<Vec<Batch>, Stop>
     requires { HasFailed log.now → ⊥ }
     ensures keeps { KeepsDisk D.is_honest D.failures disk.old disk.new (TellsDisk result) }
+    ensures reliable { StaysReliable (D.is_reliable disk.old) (D.is_reliable disk.new)
+        (TellsDisk result) ⊥ }
     ensures found { (records : List (List ℕ)) → D.is_honest disk.old →
         Holds (D.state disk.old) log.now records →
         IfOk result (λ batches.
@@ -85,6 +91,8 @@ fn batches_in<D: Disk>(alloc: Global, disk: &mut D, log: &Log) -> Result<Vec<Bat
 fn identity_in<D: Disk>(alloc: Global, disk: &mut D, log: &Log) -> Result<Identity, Stop>
     requires { HasFailed log.now → ⊥ }
     ensures keeps { KeepsDisk D.is_honest D.failures disk.old disk.new (TellsDisk result) }
+    ensures reliable { StaysReliable (D.is_reliable disk.old) (D.is_reliable disk.new)
+        (TellsDisk result) ⊥ }
     ensures found { (records : List (List ℕ)) → D.is_honest disk.old →
         Holds (D.state disk.old) log.now records →
         IfOk result (λ it. records ≡ identity_records it.id it.config) }
@@ -110,6 +118,8 @@ fn identity_in<D: Disk>(alloc: Global, disk: &mut D, log: &Log) -> Result<Identi
 /// How many bytes a file has: none where it is absent.
 fn length_of<D: Disk>(disk: &mut D, file: u64) -> Result<u64, Stop>
     ensures keeps { KeepsDisk D.is_honest D.failures disk.old disk.new (TellsDisk result) }
+    ensures reliable { StaysReliable (D.is_reliable disk.old) (D.is_reliable disk.new)
+        (TellsDisk result) ⊥ }
     ensures length { D.is_honest disk.old →
         IfOk result (λ len. MatchOption (contents (D.state disk.old) file)
         (len ≡ 0) (λ bytes. len ≡ length bytes)) }
@@ -127,6 +137,8 @@ fn length_of<D: Disk>(disk: &mut D, file: u64) -> Result<u64, Stop>
 /// The node whose identity is on the disk.
 fn identity_on<D: Disk>(alloc: Global, disk: &mut D) -> Result<Identity, Stop>
     ensures keeps { KeepsDisk D.is_honest D.failures disk.old disk.new (TellsDisk result) }
+    ensures reliable { StaysReliable (D.is_reliable disk.old) (D.is_reliable disk.new)
+        (TellsDisk result) ⊥ }
     ensures found { D.is_honest disk.old →
         IfOk result (λ it. IsSureId (D.state disk.old) (D.state disk.new) it.id it.config) }
     ensures opened { (x : ℕ) (ids : List ℕ) → D.is_honest disk.old →
@@ -156,6 +168,8 @@ impl Engine {
         config: &Config,
     ) -> Result<Engine, Stop>
         ensures keeps { KeepsDisk D.is_honest D.failures disk.old disk.new (TellsDisk result) }
+        ensures reliable { StaysReliable (D.is_reliable disk.old) (D.is_reliable disk.new)
+            (TellsDisk result) ⊥ }
         ensures created { D.is_honest disk.old →
             MatchResult result
             (λ engine. EngineHolds (D.state disk.new) engine id 0 config.now [] 0 0) IsOfMachine }
@@ -177,6 +191,8 @@ impl Engine {
     /// The node and the store that the disk has.
     pub fn open<D: Disk>(alloc: Global, disk: &mut D) -> Result<(Identity, Engine), Stop>
         ensures keeps { KeepsDisk D.is_honest D.failures disk.old disk.new (TellsDisk result) }
+        ensures reliable { StaysReliable (D.is_reliable disk.old) (D.is_reliable disk.new)
+            (TellsDisk result) ⊥ }
         ensures opened { (x epoch : ℕ) (ids : List ℕ) (list : List (List Edit)) (floor kept : ℕ) →
             D.is_honest disk.old →
             DiskRepresents (contents (D.state disk.old)) x epoch ids list floor kept →
@@ -233,6 +249,8 @@ impl Engine {
         requires usable { IsUsable self.old }
         requires room { engine_count self.old < MAX_NUMBER }
         ensures keeps { KeepsDisk D.is_honest D.failures disk.old disk.new (TellsDisk result) }
+        ensures reliable { StaysReliable (D.is_reliable disk.old) (D.is_reliable disk.new)
+            (TellsDisk result) (IsNearlyFull self.old) }
         ensures appended { (x epoch : ℕ) (ids : List ℕ) (list : List (List Edit))
             (floor kept : ℕ) → D.is_honest disk.old →
             EngineHolds (D.state disk.old) self.old x epoch ids list floor kept →
@@ -266,6 +284,8 @@ impl Engine {
         requires usable { IsUsable self.now }
         requires there { (engine_kept self.now < number) × (number ≤ engine_count self.now) }
         ensures keeps { KeepsDisk D.is_honest D.failures disk.old disk.new (TellsDisk result) }
+        ensures reliable { StaysReliable (D.is_reliable disk.old) (D.is_reliable disk.new)
+            (TellsDisk result) ⊥ }
         ensures found { (x epoch : ℕ) (ids : List ℕ) (list : List (List Edit)) (floor kept : ℕ) →
             D.is_honest disk.old →
             EngineHolds (D.state disk.old) self.now x epoch ids list floor kept →
@@ -282,6 +302,8 @@ impl Engine {
     /// What the key has in the map of so many first batches.
     pub fn get<D: Disk>(&self, disk: &mut D, at: Number, key: &Key) -> Result<Option<Value>, Stop>
         ensures keeps { KeepsDisk D.is_honest D.failures disk.old disk.new (TellsDisk result) }
+        ensures reliable { StaysReliable (D.is_reliable disk.old) (D.is_reliable disk.new)
+            (TellsDisk result) ⊥ }
         ensures found { (x epoch : ℕ) (ids : List ℕ) (list : List (List Edit)) (floor kept : ℕ) →
             D.is_honest disk.old →
             EngineHolds (D.state disk.old) self.now x epoch ids list floor kept → floor ≤ at →

@@ -1,10 +1,12 @@
 ghost use Rattle.std.specs.Prelude.{◌≡◌, ℕ, ◌+◌, ◌-◌, length, replicate};
-ghost use Rattle.std.specs.Prelude.{◌<◌, ◌≤◌, suc, OnOk, OnErr, IfOk, IfErr, MatchResult};
+ghost use Rattle.std.specs.Prelude.{◌<◌, ◌≤◌, suc, OnOk, OnErr, IfOk, IfErr, MatchResult, IsErrAnd};
 ghost use Rattle.kv_types.specs.declared.bounds.TheConstants.{MAX_NUMBER};
 ghost use Rattle.disk.specs.State.{contents};
+ghost use Rattle.disk.specs.Calls.{StaysReliable};
 ghost use Rattle.chain_model.specs.Node.{created, started};
 ghost use Rattle.chain_model.specs.Rules.{accept, append, forwards, pass_on, resend, show};
 ghost use Rattle.node.specs.Engines.{EngineHolds, HasNumbersOf, IsUsable};
+ghost use Rattle.node.specs.Engines.{IsNearlyFull};
 ghost use Rattle.node.specs.Engines.{engine_count, engine_kept};
 ghost use Rattle.node.specs.Files.{KeepsOthers, LeavesNoMore};
 ghost use Rattle.node.specs.Starts.{IsStarted, Declines, KeepsTaken, disk_behind};
@@ -12,7 +14,8 @@ ghost use Rattle.chain_core.specs.States.{Machine, Is};
 ghost use Rattle.chain_core.specs.Decisions.{answer_to, done_of, rule_of};
 ghost use Rattle.chain_core.specs.Decisions.{AreFrames, HasRoomFor, IsReadOf};
 ghost use Rattle.chain_core.specs.declared.decision.Decision.{Decision};
-ghost use Rattle.node.specs.Steps.{Runs, AlwaysRests, Answers, StopsAs, MayStep, disk_of};
+ghost use Rattle.node.specs.Steps.{Runs, AlwaysRests, Answers, StopsAs, MayStep};
+ghost use Rattle.node.specs.Steps.{disk_of, engine_of};
 ghost use Rattle.node.specs.Outputs.{Ends, Follows, HasAppended};
 ghost use Rattle.node.specs.Stops.{KeepsDisk, TellsDisk, IsOfMachine};
 
@@ -72,6 +75,8 @@ fn resent<D: Disk>(
     requires count { core.now.count ≡ engine_count engine.now }
     requires kept { core.now.kept ≡ engine_kept engine.now }
     ensures keeps { KeepsDisk D.is_honest D.failures disk.old disk.new (TellsDisk result) }
+    ensures reliable { StaysReliable (D.is_reliable disk.old) (D.is_reliable disk.new)
+        (TellsDisk result) ⊥ }
     ensures sent { (x : ℕ) (n : Machine) → Is core.now n → D.is_honest disk.old →
         EngineHolds (D.state disk.old) engine.now x n.epoch n.ids n.list n.floor n.kept →
         MatchResult result (λ sent. AreFrames sent.items
@@ -103,6 +108,9 @@ impl<D: Disk + Drop> Node<D> {
         limits: &Limits,
     ) -> Result<Node<D>, (Stop, D)>
         ensures keeps { KeepsTaken D.is_honest D.failures disk result }
+        ensures reliable { StaysReliable (D.is_reliable disk)
+            (D.is_reliable (disk_behind result))
+            (IsErrAnd result (λ refused. refused.0 ≡ Stop.Disk)) ⊥ }
         ensures created { D.is_honest disk →
             MatchResult result (λ node. Runs D.is_honest D.state node id (created config.now))
             (λ refused. IsOfMachine refused.0) }
@@ -127,6 +135,9 @@ impl<D: Disk + Drop> Node<D> {
     /// Runs the node that the disk has. A refusal hands the disk back.
     pub fn start(alloc: Global, mut disk: D, limits: &Limits) -> Result<Node<D>, (Stop, D)>
         ensures keeps { KeepsTaken D.is_honest D.failures disk result }
+        ensures reliable { StaysReliable (D.is_reliable disk)
+            (D.is_reliable (disk_behind result))
+            (IsErrAnd result (λ refused. refused.0 ≡ Stop.Disk)) ⊥ }
         ensures started { (x : ℕ) (n : Machine) → D.is_honest disk →
             AlwaysRests (D.state disk) x n →
             MatchResult result (λ node. Runs D.is_honest D.state node x (started x n))
@@ -158,6 +169,9 @@ impl<D: Disk + Drop> Node<D> {
         requires done { HasAppended done }
         ensures keeps { KeepsDisk D.is_honest D.failures (disk_of self.old) (disk_of self.new)
             (TellsDisk result) }
+        ensures reliable { StaysReliable (D.is_reliable (disk_of self.old))
+            (D.is_reliable (disk_of self.new)) (TellsDisk result)
+            (IsNearlyFull (engine_of self.old)) }
         ensures ends { (x : ℕ) (n : Machine) → Runs D.is_honest D.state self.old x n →
             Ends D.is_honest D.state self.new x n (done_of x n batch done)
             (λ due. Follows D.is_honest D.state self.new x (done_of x n batch done) due.items)
@@ -177,6 +191,9 @@ impl<D: Disk + Drop> Node<D> {
         requires room { self.old.core.count < MAX_NUMBER }
         ensures keeps { KeepsDisk D.is_honest D.failures (disk_of self.old) (disk_of self.new)
             (TellsDisk result) }
+        ensures reliable { StaysReliable (D.is_reliable (disk_of self.old))
+            (D.is_reliable (disk_of self.new)) (TellsDisk result)
+            (IsNearlyFull (engine_of self.old)) }
         ensures ends { (x : ℕ) (n : Machine) (input : Input) →
             Runs D.is_honest D.state self.old x n →
             Ends D.is_honest D.state self.new x n (accept x n request batch)
@@ -199,6 +216,9 @@ impl<D: Disk + Drop> Node<D> {
         requires room { self.old.core.count < MAX_NUMBER }
         ensures keeps { KeepsDisk D.is_honest D.failures (disk_of self.old) (disk_of self.new)
             (TellsDisk result) }
+        ensures reliable { StaysReliable (D.is_reliable (disk_of self.old))
+            (D.is_reliable (disk_of self.new)) (TellsDisk result)
+            (IsNearlyFull (engine_of self.old)) }
         ensures ends { (x : ℕ) (n : Machine) (input : Input) →
             Runs D.is_honest D.state self.old x n →
             Ends D.is_honest D.state self.new x n (append x n (suc (length n.list)) batch)
@@ -240,6 +260,9 @@ impl<D: Disk + Drop> Node<D> {
         requires { MayStep self.old }
         ensures keeps { KeepsDisk D.is_honest D.failures (disk_of self.old) (disk_of self.new)
             (TellsDisk result) }
+        ensures reliable { StaysReliable (D.is_reliable (disk_of self.old))
+            (D.is_reliable (disk_of self.new)) (TellsDisk result)
+            (IsNearlyFull (engine_of self.old)) }
         ensures ends { (x : ℕ) (n : Machine) (input : Input) →
             Runs D.is_honest D.state self.old x n →
             Ends D.is_honest D.state self.new x n (resend x n)
@@ -258,6 +281,9 @@ impl<D: Disk + Drop> Node<D> {
         requires { MayStep self.old }
         ensures keeps { KeepsDisk D.is_honest D.failures (disk_of self.old) (disk_of self.new)
             (TellsDisk result) }
+        ensures reliable { StaysReliable (D.is_reliable (disk_of self.old))
+            (D.is_reliable (disk_of self.new)) (TellsDisk result)
+            (IsNearlyFull (engine_of self.old)) }
         ensures ends { (x : ℕ) (n : Machine) (input : Input) →
             Runs D.is_honest D.state self.old x n →
             IsReadOf n input (Decision.Show request key at) →
@@ -278,6 +304,9 @@ impl<D: Disk + Drop> Node<D> {
         requires room { HasRoomFor self.old.core.count decision }
         ensures keeps { KeepsDisk D.is_honest D.failures (disk_of self.old) (disk_of self.new)
             (TellsDisk result) }
+        ensures reliable { StaysReliable (D.is_reliable (disk_of self.old))
+            (D.is_reliable (disk_of self.new)) (TellsDisk result)
+            (IsNearlyFull (engine_of self.old)) }
         ensures ends { (x : ℕ) (n : Machine) (input : Input) →
             Runs D.is_honest D.state self.old x n → IsReadOf n input decision →
             Ends D.is_honest D.state self.new x n (rule_of x n decision)
@@ -305,6 +334,9 @@ impl<D: Disk + Drop> Node<D> {
         requires { MayStep self.old }
         ensures keeps { KeepsDisk D.is_honest D.failures (disk_of self.old) (disk_of self.new)
             (TellsDisk result) }
+        ensures reliable { StaysReliable (D.is_reliable (disk_of self.old))
+            (D.is_reliable (disk_of self.new)) (TellsDisk result)
+            (IsNearlyFull (engine_of self.old)) }
         ensures answered { (x : ℕ) (n : Machine) → Runs D.is_honest D.state self.old x n →
             MatchResult result (λ output. Answers D.is_honest D.state self.new x input
             (answer_to x n input) output) IsOfMachine }

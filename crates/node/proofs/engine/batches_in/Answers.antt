@@ -17,6 +17,7 @@ loop-index-preserved g c =
     let pushed = c.in_ok-push.ensures.items in
     record {
       honest = search rules;
+      reliable = search rules;
       count = search rules;
       same = search rules;
       size = search rules;

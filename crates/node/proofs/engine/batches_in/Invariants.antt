@@ -10,6 +10,7 @@ use Rattle.node.proofs.engine.batches_in.Given as goal
 abbrev pub invariant-loop-index : goal.invariant-loop-index
 invariant-loop-index g l = record {
   honest : g.D.Disk.is_honest l.disk ↔ g.D.Disk.is_honest l.fn.disk;
+  reliable : g.D.Disk.is_reliable l.fn.disk → g.D.Disk.is_reliable l.disk;
   count : g.D.Disk.failures l.disk ≡ g.D.Disk.failures l.fn.disk;
   same : g.D.Disk.is_honest l.fn.disk → IsSame (g.D.Disk.state l.fn.disk) (g.D.Disk.state l.disk);
   size : length l.batches.items ≡ l.index;

@@ -44,6 +44,7 @@ loop-number-preserved g c =
     record {
       reached = search rules;
       honest = search rules;
+      reliable = search rules;
       count = search rules;
       holds = λ y n honest s.
           c.batch.ensures.holds y n.epoch n.ids n.list n.floor n.kept (was.honest.1 honest)

@@ -11,6 +11,7 @@ abbrev pub invariant-loop-number : goal.invariant-loop-number
 invariant-loop-number g l = record {
   reached : l.number ≤ max l.initial.number l.number-end;
   honest : g.D.Disk.is_honest l.disk ↔ g.D.Disk.is_honest l.fn.disk;
+  reliable : g.D.Disk.is_reliable l.fn.disk → g.D.Disk.is_reliable l.disk;
   count : g.D.Disk.failures l.disk ≡ g.D.Disk.failures l.fn.disk;
   holds : (x : ℕ) (n : Machine) → g.D.Disk.is_honest l.fn.disk →
       EngineHolds (g.D.Disk.state l.fn.disk) l.engine x n.epoch n.ids n.list n.floor n.kept →
