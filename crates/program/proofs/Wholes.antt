@@ -1,20 +1,79 @@
--- Failures of a run.
-use Rattle.std.proofs.Common.{List, ℕ, Option, None, Some}
-use Rattle.std.specs.Prelude.{IfSome, Result, Ok, Err, OnOk}
+-- How a whole run ends.
+use Rattle.std.proofs.Common.{◌≡◌, ℕ, List, Option, None, Some, refl}
+use Rattle.std.specs.Prelude.{Result, Ok, Err, OnOk, IfErr, IfSome}
 use Rattle.program.specs.declared.failure.Failure.{Failure}
 use Rattle.program.specs.declared.failure.Failure.TheVariants.{Unreadable, Script, Output}
-use Rattle.program.specs.declared.failure.Failure.TheVariants.{Memory}
-use Rattle.program.specs.Runs.{IsFailureOf, IsOfRun}
-
-pub late : (text : Option (List ℕ)) (failure : Failure) → IsOfRun failure
-    → IfSome text (λ t. IsFailureOf t failure)
-late None failure e = tt
-late (Some t) Unreadable e = absurd e
-late (Some t) (Script f) e = absurd e
-late (Some t) Output e = tt
-late (Some t) Memory e = tt
+use Rattle.program.specs.declared.failure.Failure.TheVariants as failure
+use Rattle.program.specs.declared.run_error.RunError.{RunError}
+use Rattle.program.specs.declared.run_error.RunError.TheVariants.{Write, Memory}
+use Rattle.program.specs.declared.script.statement.Statement.{Statement}
+use Rattle.program.specs.Scripts.{lines_of, IsScript}
+use Rattle.program.specs.Faults.{script_fault, start}
+use Rattle.program.specs.Failures.{failure_of, IsFailureOf, IsOfReading}
+use Rattle.program.specs.Runs.{IsRunOf, IsRunOfText, AppendsPart, HasFailed}
 
 -- what follows from a thing holds where there is a value, if the thing does
 pub on_ok_map : {T E P Q : Type 0} (r : Result T E) → (P → Q) → OnOk r P → OnOk r Q
 on_ok_map (Ok x) f p = f p
 on_ok_map (Err e) f p = p
+
+-- an error of the output is no want of memory
+pub only_write : {T : Type 0} (P : Type 0) (r : Result T RunError) → IfErr r (λ e. e ≡ Write)
+    → IfErr r (λ e. e ≡ Memory → P)
+only_write P (Ok x) is = tt
+only_write P (Err Write) is = λ h. absurd (cc)
+only_write P (Err Memory) is = absurd (cc)
+
+-- what holds also holds of an error
+pub also_err : {T E : Type 0} (P : Type 0) (Q : E → Type 0) (r : Result T E) → P
+    → IfErr r (λ e. Q e → P)
+also_err P Q (Ok x) p = tt
+also_err P Q (Err e) p = λ _. p
+
+-- nothing is said of what was read
+any_text : (text : Option (List ℕ)) → IfSome text (λ t. Unit {0})
+any_text None = tt
+any_text (Some t) = tt
+
+-- a run that ended early
+pub failed_run : (text old new : Option (List ℕ)) (ids : List ℕ) (statements : List Statement)
+    (e : RunError) → IfSome text (λ t. IsScript 1 (lines_of t) ids statements)
+    → IfSome text (λ t. script_fault start 1 (lines_of t) ≡ None) → (e ≡ Memory → new ≡ old)
+    → (e ≡ Write → IsRunOf ids statements (AppendsPart old new))
+    → HasFailed text old new (failure_of e)
+failed_run text old new ids statements Write spelled fault untouched part = record {
+  cause = any_text text;
+  untouched = λ other. absurd (other refl);
+  part = λ _. record {
+    ids = ids;
+    statements = statements;
+    spelled = spelled;
+    fault = fault;
+    run = part refl;
+  };
+}
+failed_run text old new ids statements Memory spelled fault untouched part = record {
+  cause = any_text text;
+  untouched = λ _. untouched refl;
+  part = λ h. absurd (cc);
+}
+
+-- a script that was not read
+pub failed_reading : (text out : Option (List ℕ)) (f : Failure) → IsOfReading f
+    → IfSome text (λ t. IsFailureOf t f) → HasFailed text out out f
+failed_reading text out Unreadable is cause = record {
+  cause = cause;
+  untouched = λ _. refl;
+  part = λ h. absurd (cc);
+}
+failed_reading text out (Script fault) is cause = record {
+  cause = cause;
+  untouched = λ _. refl;
+  part = λ h. absurd (cc);
+}
+failed_reading text out Output is cause = absurd is
+failed_reading text out failure.Memory is cause = record {
+  cause = cause;
+  untouched = λ _. refl;
+  part = λ h. absurd (cc);
+}
