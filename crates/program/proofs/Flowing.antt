@@ -14,6 +14,7 @@ use Rattle.lab.specs.Runs.{IsRun}
 use Rattle.lab.specs.History.{OneHistory}
 use Rattle.lab.specs.Worlds.{HasRun, frames_told, frames_of_step}
 use Rattle.std.proofs.Math.Seq.{drop-cons}
+use Rattle.program.specs.declared.script.setup.Setup.{Setup}
 use Rattle.program.specs.declared.script.statement.Statement.{Statement}
 use Rattle.program.specs.declared.script.statement.Meaning.TheVariants.{Event, Invalid, Flow}
 use Rattle.program.specs.declared.turn.Turn.{Turn}
@@ -248,18 +249,18 @@ flowed_most world cs events steps old left count f reached =
 -- ---- a course
 
 -- statements ran so far, and with those that are left make the whole
-pub record Goes (world : World) (ids : List ℕ) (left : List ℕ) (behind all : List Statement)
+pub record Goes (world : World) (cs : Configurations) (left : List ℕ) (behind all : List Statement)
     (turns : List Turn) : Type 0 where
   pub events : List lab.Event
   pub steps : List (List Line)
-  pub run : HasRun world (ids ∷ []) events steps
+  pub run : HasRun world cs events steps
   pub whole : (ts : List Turn) (es : List lab.Event) (ss : List (List Line)) →
       IsCourse (frames_told steps) left behind ts es ss →
       IsCourse 0 [] all (turns ++ ts) (events ++ es) (steps ++ ss)
 
-pub goes_nowhere : (world : World) (ids : List ℕ) (left : List ℕ) (all : List Statement) →
-    HasRun world (ids ∷ []) [] [] → left ≡ [] → Goes world ids left all all []
-goes_nowhere world ids left all run none = record {
+pub goes_nowhere : (world : World) (cs : Configurations) (left : List ℕ) (all : List Statement) →
+    HasRun world cs [] [] → left ≡ [] → Goes world cs left all all []
+goes_nowhere world cs left all run none = record {
   events = [];
   steps = [];
   run = run;
@@ -267,14 +268,14 @@ goes_nowhere world ids left all run none = record {
 }
 
 -- one statement more
-pub goes_on : (world after : World) (ids : List ℕ) (left next : List ℕ) (it : Statement)
+pub goes_on : (world after : World) (cs : Configurations) (left next : List ℕ) (it : Statement)
     (behind all : List Statement) (turns : List Turn) (turn : Turn)
-    (g : Goes world ids left (it ∷ behind) all turns) (own : List lab.Event)
+    (g : Goes world cs left (it ∷ behind) all turns) (own : List lab.Event)
     (lines : List (List Line)) → IsTurn (frames_told g.steps) left it turn own lines →
-    HasRun after (ids ∷ []) (g.events ++ own) (g.steps ++ lines) →
+    HasRun after cs (g.events ++ own) (g.steps ++ lines) →
     next ≡ left_by it.meaning (left ++ places_after (frames_told g.steps) (frames_told lines)) →
-    Goes after ids next behind all (turns ++ turn ∷ [])
-goes_on world after ids left next it behind all turns turn g own lines is run left_is = record {
+    Goes after cs next behind all (turns ++ turn ∷ [])
+goes_on world after cs left next it behind all turns turn g own lines is run left_is = record {
   events = g.events ++ own;
   steps = g.steps ++ lines;
   run = run;
@@ -351,18 +352,18 @@ emptied [] ys e f = sym e
 emptied (x ∷ xs) ys e f = absurd (omega (arith, ap length e, ap length f))
 
 -- the next statement of all
-pub goes_next : (world after : World) (ids : List ℕ) (left next : List ℕ) (all : List Statement)
-    (i : ℕ) (d it : Statement) (turns : List Turn) (turn : Turn) → i < length all →
-    it ≡ get_or all i d → (g : Goes world ids left (drop i all) all turns)
+pub goes_next : (world after : World) (cs : Configurations) (left next : List ℕ)
+    (all : List Statement) (i : ℕ) (d it : Statement) (turns : List Turn) (turn : Turn) → i < length all →
+    it ≡ get_or all i d → (g : Goes world cs left (drop i all) all turns)
     (own : List lab.Event) (lines : List (List Line)) →
     IsTurn (frames_told g.steps) left it turn own lines →
-    HasRun after (ids ∷ []) (g.events ++ own) (g.steps ++ lines) →
+    HasRun after cs (g.events ++ own) (g.steps ++ lines) →
     next ≡ left_by it.meaning (left ++ places_after (frames_told g.steps) (frames_told lines)) →
-    Goes after ids next (drop (suc i) all) all (turns ++ turn ∷ [])
-goes_next world after ids left next all i d it turns turn within at g own lines is run left_is =
+    Goes after cs next (drop (suc i) all) all (turns ++ turn ∷ [])
+goes_next world after cs left next all i d it turns turn within at g own lines is run left_is =
     let parts : drop i all ≡ it ∷ drop (suc i) all = drop-cons all i d within
     ∙ ap (λ (x : Statement). x ∷ drop (suc i) all) (sym at) in
-    let h : Goes world ids left (it ∷ drop (suc i) all) all turns = record {
+    let h : Goes world cs left (it ∷ drop (suc i) all) all turns = record {
       events = g.events;
       steps = g.steps;
       run = g.run;
@@ -370,15 +371,15 @@ goes_next world after ids left next all i d it turns turn within at g own lines 
           (ss : List (List Line)) → IsCourse (frames_told g.steps) left b ts es ss →
           IsCourse 0 [] all (turns ++ ts) (g.events ++ es) (g.steps ++ ss)) parts g.whole;
     } in
-    goes_on world after ids left next it (drop (suc i) all) all turns turn h own lines is run
+    goes_on world after cs left next it (drop (suc i) all) all turns turn h own lines is run
     left_is
 
 -- all statements ran
-pub gone : (world : World) (ids : List ℕ) (left : List ℕ) (all behind : List Statement)
-    (turns : List Turn) (report : Report) (g : Goes world ids left behind all turns) →
-    behind ≡ [] → report.steps.items ≡ g.steps → IsRun (ids ∷ []) g.events report →
-    OneHistory (ids ∷ []) g.events report → HasRunAll ids all turns report
-gone world ids left all behind turns report g none steps run history =
+pub gone : (world : World) (setup : Setup) (left : List ℕ) (all behind : List Statement)
+    (turns : List Turn) (report : Report) (g : Goes world setup.configs left behind all turns) →
+    behind ≡ [] → report.steps.items ≡ g.steps → IsRun setup.configs g.events report →
+    OneHistory setup.configs g.events report → HasRunAll setup all turns report
+gone world setup left all behind turns report g none steps run history =
     let nothing : IsCourse (frames_told g.steps) left behind [] [] [] =
     subst (λ (b : List Statement). IsCourse (frames_told g.steps) left b [] [] []) (sym none)
     (refl, refl, refl) in

@@ -1,16 +1,18 @@
 -- How a whole run ends.
-use Rattle.std.proofs.Common.{◌≡◌, ℕ, List, Option, None, Some, refl}
-use Rattle.std.specs.Prelude.{Result, Ok, Err, OnOk, IfErr, IfSome}
+use Rattle.std.proofs.Common.{◌≡◌, ℕ, List, Option, None, Some, refl, sym, ◌∙◌, inl, inr, arith}
+use Rattle.std.specs.Prelude.{Result, Ok, Err, OnOk, IfOk, IfErr, IfSome, MatchResult}
+use Rattle.std.specs.Io.KnownBytes.{Appends}
 use Rattle.program.specs.declared.failure.Failure.{Failure}
 use Rattle.program.specs.declared.failure.Failure.TheVariants.{Unreadable, Script, Output}
 use Rattle.program.specs.declared.failure.Failure.TheVariants as failure
 use Rattle.program.specs.declared.run_error.RunError.{RunError}
 use Rattle.program.specs.declared.run_error.RunError.TheVariants.{Write, Memory}
+use Rattle.program.specs.declared.script.setup.Setup.{Setup}
 use Rattle.program.specs.declared.script.statement.Statement.{Statement}
 use Rattle.program.specs.Scripts.{lines_of, IsScript}
 use Rattle.program.specs.Faults.{script_fault, start}
 use Rattle.program.specs.Failures.{failure_of, IsFailureOf, IsOfReading}
-use Rattle.program.specs.Runs.{IsRunOf, IsRunOfText, AppendsPart, HasFailed}
+use Rattle.program.specs.Runs.{IsRunOf, IsRunOfText, AppendsPart, HasFailed, Ends}
 
 -- what follows from a thing holds where there is a value, if the thing does
 pub on_ok_map : {T E P Q : Type 0} (r : Result T E) → (P → Q) → OnOk r P → OnOk r Q
@@ -36,23 +38,23 @@ any_text None = tt
 any_text (Some t) = tt
 
 -- a run that ended early
-pub failed_run : (text old new : Option (List ℕ)) (ids : List ℕ) (statements : List Statement)
-    (e : RunError) → IfSome text (λ t. IsScript 1 (lines_of t) ids statements)
+pub failed_run : (text old new : Option (List ℕ)) (setup : Setup) (statements : List Statement)
+    (e : RunError) → IfSome text (λ t. IsScript 1 (lines_of t) setup statements)
     → IfSome text (λ t. script_fault start 1 (lines_of t) ≡ None) → (e ≡ Memory → new ≡ old)
-    → (e ≡ Write → IsRunOf ids statements (AppendsPart old new))
+    → (e ≡ Write → IsRunOf setup statements (AppendsPart old new))
     → HasFailed text old new (failure_of e)
-failed_run text old new ids statements Write spelled fault untouched part = record {
+failed_run text old new setup statements Write spelled fault untouched part = record {
   cause = any_text text;
   untouched = λ other. absurd (other refl);
   part = λ _. record {
-    ids = ids;
+    setup = setup;
     statements = statements;
     spelled = spelled;
     fault = fault;
     run = part refl;
   };
 }
-failed_run text old new ids statements Memory spelled fault untouched part = record {
+failed_run text old new setup statements Memory spelled fault untouched part = record {
   cause = any_text text;
   untouched = λ _. untouched refl;
   part = λ h. absurd (cc);
@@ -77,3 +79,28 @@ failed_reading text out failure.Memory is cause = record {
   untouched = λ _. refl;
   part = λ h. absurd (cc);
 }
+
+-- a run that was printed, whatever was read
+pub printed : (text old_out new_out old_err new_err : Option (List ℕ)) (answer : ℕ)
+    → Ends text old_out new_out old_err new_err answer → answer ≡ 0
+    → IsRunOfText None (Appends old_out new_out)
+printed text old_out new_out old_err new_err answer (inl prints) zero = record {
+  setup = prints.run.setup;
+  statements = prints.run.statements;
+  spelled = tt;
+  fault = tt;
+  run = prints.run.run;
+}
+printed text old_out new_out old_err new_err answer (inr fails) zero =
+    absurd (omega (arith, fails.status, zero))
+
+-- .. where its status is answered
+pub answered : {E : Type 0} (status : Result ℕ E) (answer : ℕ)
+    (text old_out new_out old_err new_err : Option (List ℕ))
+    → MatchResult status (λ s. answer ≡ s) (λ _. answer ≡ 1)
+    → IfOk status (Ends text old_out new_out old_err new_err) → answer ≡ 0
+    → IsRunOfText None (Appends old_out new_out)
+answered (Ok s) answer text old_out new_out old_err new_err is ends zero =
+    printed text old_out new_out old_err new_err s ends (sym is ∙ zero)
+answered (Err e) answer text old_out new_out old_err new_err is ends zero =
+    absurd (omega (arith, is, zero))

@@ -7,6 +7,7 @@ use Rattle.lab.specs.Runs.{IsRun}
 use Rattle.lab.specs.History.{OneHistory}
 use Rattle.program.specs.declared.failure.Failure.{Failure}
 use Rattle.program.specs.declared.failure.Failure.TheVariants.{Output}
+use Rattle.program.specs.declared.script.setup.Setup.{Setup}
 use Rattle.program.specs.declared.script.statement.Statement.{Statement}
 use Rattle.program.specs.declared.turn.Turn.{Turn}
 use Rattle.program.specs.Courses.{IsCourse}
@@ -15,31 +16,31 @@ use Rattle.program.specs.Faults.{script_fault, start}
 use Rattle.program.specs.Failures.{IsFailureOf, line_told}
 use Rattle.program.specs.Text.{run_text}
 
--- the statements were run at the nodes of the configuration, and all that came of them is of one
+-- the statements were run at the nodes of the configurations, and all that came of them is of one
 -- history
-pub record HasRunAll (ids : List ℕ) (statements : List Statement) (turns : List Turn)
+pub record HasRunAll (setup : Setup) (statements : List Statement) (turns : List Turn)
     (report : Report) : Type 0 where
   pub events : List lab.Event
   pub course : IsCourse 0 [] statements turns events report.steps.items
-  pub ran : IsRun (ids ∷ []) events report
-  pub history : OneHistory (ids ∷ []) events report
+  pub ran : IsRun setup.configs events report
+  pub history : OneHistory setup.configs events report
 
 -- .. and this was done with the text of exactly that run
-pub record IsRunOf (ids : List ℕ) (statements : List Statement) (done : List ℕ → Type 0) : Type 0
+pub record IsRunOf (setup : Setup) (statements : List Statement) (done : List ℕ → Type 0) : Type 0
   where
     pub turns : List Turn
     pub report : Report
-    pub run : HasRunAll ids statements turns report
+    pub run : HasRunAll setup statements turns report
     pub wrote : done (run_text turns report.steps.items)
 
 -- what was read, where that is known, is a script without a fault, and this was done with the text
 -- of its run
 pub record IsRunOfText (text : Option (List ℕ)) (done : List ℕ → Type 0) : Type 0 where
-  pub ids : List ℕ
+  pub setup : Setup
   pub statements : List Statement
-  pub spelled : IfSome text (λ t. IsScript 1 (lines_of t) ids statements)
+  pub spelled : IfSome text (λ t. IsScript 1 (lines_of t) setup statements)
   pub fault : IfSome text (λ t. script_fault start 1 (lines_of t) ≡ None)
-  pub run : IsRunOf ids statements done
+  pub run : IsRunOf setup statements done
 
 -- a beginning of a text was written
 pub record AppendsPart (old new : Option (List ℕ)) (text : List ℕ) : Type 0 where

@@ -121,11 +121,11 @@ impl Course {
 
     /// Runs a statement.
     pub fn take(&mut self, alloc: Global, statement: &Statement) -> Result<Turn, LabError>
-        ensures { (ids : List ℕ) (events : List LabEvent) (steps : List (List Line)) →
-            HasRun self.old.world (ids ∷ []) events steps → Names ids statement.now.meaning →
+        ensures { (cs : Configurations) (events : List LabEvent) (steps : List (List Line)) →
+            HasRun self.old.world cs events steps → Names cs statement.now.meaning →
             IfOk result (λ turn. (own : List LabEvent) × (lines : List (List Line))
             × IsTurn (frames_told steps) self.old.left.items statement.now turn own lines
-            × HasRun self.new.world (ids ∷ []) (events ++ own) (steps ++ lines)
+            × HasRun self.new.world cs (events ++ own) (steps ++ lines)
             × (self.new.left.items ≡ left_by statement.now.meaning (self.old.left.items
             ++ places_after (frames_told steps) (frames_told lines)))) }
     {

@@ -1,5 +1,5 @@
 //! From a script's bytes to the bytes that are printed.
-ghost use Rattle.std.specs.Prelude.{◌≡◌, ◌≢◌, ℕ, List, [], ◌∷◌, All, IfOk, IfErr, IfSome, OnOk};
+ghost use Rattle.std.specs.Prelude.{◌≡◌, ◌≢◌, All, IfOk, IfErr, IfSome, OnOk};
 ghost use Rattle.std.specs.Prelude.{None};
 ghost use Rattle.std.specs.IoError.{error_kind};
 ghost use Rattle.std.specs.Io.KnownBytes.{Appends};
@@ -14,42 +14,24 @@ ghost use Rattle.program.specs.declared.failure.Failure.TheVariants.{Memory, Unr
 use crate::course::Course;
 use crate::failure::Failure;
 use crate::run_error::RunError;
-use crate::script::{Script, Statement, read_script};
+use crate::script::{Script, Setup, Statement, read_script};
 use crate::text::{event_places, print_run};
 use crate::turn::Turn;
 use crate::writing::write_whole;
-use configurations::{Config, Configs};
-use kv_types::Limits;
 use lab::{LabError, Lines, Report};
 use std::alloc::Global;
 use std::io::{self, ErrorKind, Read, Write};
 
-/// The list of one configuration.
-fn only(alloc: Global, config: &Config) -> Result<Configs, RunError>
-    ensures made { IfOk result (λ configs. configs ≡ config.now ∷ []) }
-    ensures cause { IfErr result (λ e. e ≡ error.Memory) }
-{
-    let mut configs = Vec::new(alloc);
-    configs.push(config.clone()?)?;
-    // One configuration is lawful, so only memory can be wanting.
-    match Configs::new(configs) {
-        Ok(configs) => Ok(configs),
-        Err(_) => Err(RunError::Memory),
-    }
-}
-
 /// Runs the statements one after another, each in its turn.
 fn run_all(
     alloc: Global,
-    configs: &Configs,
+    setup: &Setup,
     statements: &[Statement],
 ) -> Result<(Vec<Turn>, Report), LabError>
-    ensures { (ids : List ℕ) → configs.now ≡ ids ∷ [] →
-        All (λ it. Names ids it.meaning) statements.now →
-        IfOk result (λ it. HasRunAll ids statements.now it.0.items it.1) }
+    requires { All (λ it. Names setup.now.configs it.meaning) statements.now }
+    ensures { IfOk result (λ it. HasRunAll setup.now statements.now it.0.items it.1) }
 {
-    let limits = Limits::default();
-    let mut course = Course::new(alloc, configs, &limits)?;
+    let mut course = Course::new(alloc, &setup.configs, &setup.limits)?;
     let mut turns = Vec::new(alloc);
     for statement in statements {
         turns.push(course.take(alloc, statement)?)?;
@@ -85,19 +67,18 @@ fn print<W: Write>(text: &[u8], out: &mut W) -> Result<(), RunError>
     }
 }
 
-/// Runs a script at the nodes of its configuration, and writes what happened.
+/// Runs a script at the nodes of its first configuration, and writes what happened.
 fn run_script<W: Write>(alloc: Global, script: &Script, out: &mut W) -> Result<(), RunError>
-    requires { All (λ it. Names script.now.config it.meaning) script.now.statements.items }
-    ensures run { OnOk result (IsRunOf script.now.config script.now.statements.items
+    requires { All (λ it. Names script.now.setup.configs it.meaning) script.now.statements.items }
+    ensures run { OnOk result (IsRunOf script.now.setup script.now.statements.items
         (Appends (W.contents out.old) (W.contents out.new))) }
     ensures untouched { IfErr result (λ e. e ≡ error.Memory →
         W.contents out.new ≡ W.contents out.old) }
     ensures part { IfErr result (λ e. e ≡ error.Write →
-        IsRunOf script.now.config script.now.statements.items
+        IsRunOf script.now.setup script.now.statements.items
         (AppendsPart (W.contents out.old) (W.contents out.new))) }
 {
-    let configs = only(alloc, &script.config)?;
-    let (turns, report) = run_all(alloc, &configs, &script.statements)?;
+    let (turns, report) = run_all(alloc, &script.setup, &script.statements)?;
     let text = text_of(alloc, &turns, &report.steps)?;
     print(&text, out)
 }
@@ -125,14 +106,14 @@ fn reading_failure(error: &io::Error) -> Failure
 /// The script that is read.
 fn script_of<R: Read>(alloc: Global, input: &mut R) -> Result<Script, Failure>
     ensures found { IfOk result (λ script. IfSome (R.remaining input.old) (λ text.
-        IsScript 1 (lines_of text) script.config script.statements.items)) }
+        IsScript 1 (lines_of text) script.setup script.statements.items)) }
     ensures lawful { OnOk result (IfSome (R.remaining input.old) (λ text.
         script_fault start 1 (lines_of text) ≡ None)) }
     ensures fault { IfErr result (λ failure. IfSome (R.remaining input.old) (λ text.
         IsFailureOf text failure)) }
     ensures cause { IfErr result IsOfReading }
     ensures node { IfOk result (λ script.
-        All (λ it. Names script.config it.meaning) script.statements.items) }
+        All (λ it. Names script.setup.configs it.meaning) script.statements.items) }
 {
     let text = match all_of(alloc, input) {
         Ok(text) => text,

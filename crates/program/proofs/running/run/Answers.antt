@@ -4,7 +4,7 @@ use Rattle.program.proofs.running.run.Goals as goal
 
 pub returns-clause-run : goal.returns-clause-run
 returns-clause-run g c = record {
-  ids = c.in_ok-script.script.config;
+  setup = c.in_ok-script.script.setup;
   statements = c.in_ok-script.script.statements.items;
   spelled = c.in_ok-script.ensures.found;
   fault = c.in_ok-script.ensures.lawful;
@@ -22,7 +22,7 @@ pub returns-in_err-run_script-clause-failed : goal.returns-in_err-run_script-cla
 returns-in_err-run_script-clause-failed g c =
     let failed = failed_run (g.R.Read.remaining c.args.input.now)
     (g.W.Write.contents c.args.out.now) (g.W.Write.contents c.run_script.new.out)
-    c.in_ok-script.script.config c.in_ok-script.script.statements.items
+    c.in_ok-script.script.setup c.in_ok-script.script.statements.items
     c.in_err-run_script.field-0.0 c.in_ok-script.ensures.found c.in_ok-script.ensures.lawful
     c.in_err-run_script.ensures.untouched c.in_err-run_script.ensures.part in
     search (rules, failed)

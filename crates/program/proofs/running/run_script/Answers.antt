@@ -6,8 +6,7 @@ pub returns-clause-run : goal.returns-clause-run
 returns-clause-run g c = on_ok_map c.print.result (λ wrote. record {
   turns = c.in_ok-turns.turns.items;
   report = c.in_ok-turns.report;
-  run = (rw c.deref.ensures.value at c.in_ok-turns.ensures) c.args.script.now.config
-      c.in_ok-configs.ensures.made c.requires;
+  run = rw c.deref.ensures.value at c.in_ok-turns.ensures;
   wrote = rw (
     c.deref-4.ensures.value,
     c.in_ok-text.ensures.text,
@@ -23,8 +22,7 @@ pub returns-clause-part : goal.returns-clause-part
 returns-clause-part g c = also_err _ _ c.print.result (record {
   turns = c.in_ok-turns.turns.items;
   report = c.in_ok-turns.report;
-  run = (rw c.deref.ensures.value at c.in_ok-turns.ensures) c.args.script.now.config
-      c.in_ok-configs.ensures.made c.requires;
+  run = rw c.deref.ensures.value at c.in_ok-turns.ensures;
   wrote = rw (
     c.deref-4.ensures.value,
     c.in_ok-text.ensures.text,

@@ -9,10 +9,10 @@ use Rattle.program.proofs.Flowing.{turn_of_event, turn_of_error, turn_of_flow, n
 use Rattle.program.proofs.course.Course.take.Goals as goal
 
 pub returns-in_ok-event-in-Event : goal.returns-in_ok-event-in-Event
-returns-in_ok-event-in-Event c = λ ids events steps run named.
+returns-in_ok-event-in-Event c = λ cs events steps run named.
     let what = c.in-Event.what in
     let it = c.args.statement.now in
-    let went = c.in_ok-event-in-Event.ensures (ids ∷ []) events steps run
+    let went = c.in_ok-event-in-Event.ensures cs events steps run
     (rw c.in-Event.is at named) in
     let one : frames_of_step went.0 ≡ frames_of_step went.0 + 0 = omega arith in (
       event what ∷ [],
@@ -24,7 +24,7 @@ returns-in_ok-event-in-Event c = λ ids events steps run named.
     )
 
 pub returns-in-Invalid : goal.returns-in-Invalid
-returns-in-Invalid c = λ ids events steps run named. (
+returns-in-Invalid c = λ cs events steps run named. (
   [],
   [],
   turn_of_error (frames_told steps) c.args.self.now.left.items c.args.statement.now _
@@ -34,8 +34,8 @@ returns-in-Invalid c = λ ids events steps run named. (
 )
 
 pub returns-then-is_empty : goal.returns-then-is_empty
-returns-then-is_empty c = λ ids events steps run named.
-    let went = c.in_ok-events-in-Flow.ensures (ids ∷ []) events steps run in
+returns-then-is_empty c = λ cs events steps run named.
+    let went = c.in_ok-events-in-Flow.ensures cs events steps run in
     let all = c.args.self.now.left.items ++ places_after (frames_told steps) (frames_told went.0)
     in
     let said : busy (drop most all) ≡ None = sym (ap busy went.4)
@@ -50,8 +50,8 @@ returns-then-is_empty c = λ ids events steps run named.
     )
 
 pub returns-else-is_empty : goal.returns-else-is_empty
-returns-else-is_empty c = λ ids events steps run named.
-    let went = c.in_ok-events-in-Flow.ensures (ids ∷ []) events steps run in
+returns-else-is_empty c = λ cs events steps run named.
+    let went = c.in_ok-events-in-Flow.ensures cs events steps run in
     let all = c.args.self.now.left.items ++ places_after (frames_told steps) (frames_told went.0)
     in
     let said : busy (drop most all) ≡ Some remark.Busy = sym (ap busy went.4)
