@@ -21,7 +21,7 @@ use Rattle.program.specs.declared.turn.Turn.{Turn}
 use Rattle.program.specs.declared.turn.Remark.{Remark}
 use Rattle.program.specs.declared.turn.Remark.TheVariants as remark
 use Rattle.program.specs.Runs.{HasRunAll}
-use Rattle.program.specs.Courses.{places_after, event, events_of, left_by, left_by_event}
+use Rattle.program.specs.Courses.{places_after, event, deliveries, left_by, left_by_event}
 use Rattle.program.specs.Courses.{most, busy, IsTurn, IsCourse}
 
 -- ---- places and frames add up
@@ -209,8 +209,8 @@ length-take (x ∷ xs) (suc k) le = ap suc (length-take xs k (omega (arith, le))
 abbrev pub HasFlowed : World → Configurations → List lab.Event → List (List Line) → List ℕ
     → List ℕ → ℕ → Type 0
 HasFlowed world cs events steps old left count = (own : List (List Line))
-    × HasRun world cs (events ++ events_of Flow (all_left old steps own)) (steps ++ own)
-    × (count ≡ length own) × (count ≡ length (events_of Flow (all_left old steps own)))
+    × HasRun world cs (events ++ deliveries (all_left old steps own)) (steps ++ own)
+    × (count ≡ length own) × (count ≡ length (deliveries (all_left old steps own)))
     × (left ≡ drop most (all_left old steps own))
 
 -- no frame is left
@@ -311,9 +311,10 @@ pub turn_of_event : (sent : ℕ) (left : List ℕ) (it : Statement) (what : What
     IsTurn sent left it (record { line = it.line; events = 1; remark = None })
     (event what ∷ []) (lines ∷ [])
 turn_of_event sent left it what lines is = record {
-  is = rw is refl;
-  happened = rw is refl;
+  line = refl;
+  count = refl;
   each = refl;
+  did = rw is (refl, refl);
 }
 
 pub turn_of_error : (sent : ℕ) (left : List ℕ) (it : Statement) (e : KvError) →
@@ -321,21 +322,23 @@ pub turn_of_error : (sent : ℕ) (left : List ℕ) (it : Statement) (e : KvError
     IsTurn sent left it (record { line = it.line; events = 0; remark = Some (remark.Invalid e) })
     [] []
 turn_of_error sent left it e is = record {
-  is = rw is refl;
-  happened = rw is refl;
+  line = refl;
+  count = refl;
   each = refl;
+  did = rw is (refl, refl);
 }
 
 pub turn_of_flow : (sent : ℕ) (left : List ℕ) (it : Statement) (own : List (List Line)) (count : ℕ)
     (said : Option Remark) → it.meaning ≡ Flow → count ≡ length own →
-    count ≡ length (events_of Flow (left ++ places_after sent (frames_told own))) →
+    count ≡ length (deliveries (left ++ places_after sent (frames_told own))) →
     busy (drop most (left ++ places_after sent (frames_told own))) ≡ said →
     IsTurn sent left it (record { line = it.line; events = count; remark = said })
-    (events_of Flow (left ++ places_after sent (frames_told own))) own
+    (deliveries (left ++ places_after sent (frames_told own))) own
 turn_of_flow sent left it own count said is each events remarks = record {
-  is = rw (is, events, remarks) refl;
-  happened = rw is refl;
+  line = refl;
+  count = events;
   each = sym each ∙ events;
+  did = rw is (refl, sym remarks);
 }
 
 pub none_left : (xs : List ℕ) → length xs ≡ 0 → busy xs ≡ None

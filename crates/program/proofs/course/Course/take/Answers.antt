@@ -2,8 +2,7 @@ use Rattle.std.proofs.Common.{◌≡◌, ◌+◌, ℕ, [], ◌∷◌, ◌++◌, 
 use Rattle.std.proofs.Common.{arith, append-nil, drop}
 use Rattle.std.proofs.lemmas.Bool.Decides.{nat_tests}
 use Rattle.lab.specs.Worlds.{frames_told, frames_of_step}
-use Rattle.program.specs.Courses.{event, events_of, left_by_event, places_after, busy, most}
-use Rattle.program.specs.declared.script.statement.Meaning.TheVariants.{Flow}
+use Rattle.program.specs.Courses.{event, deliveries, left_by_event, places_after, busy, most}
 use Rattle.program.specs.declared.turn.Remark.TheVariants as remark
 use Rattle.program.proofs.Flowing.{turn_of_event, turn_of_error, turn_of_flow, none_left, some_left}
 use Rattle.program.proofs.course.Course.take.Goals as goal
@@ -41,7 +40,7 @@ returns-then-is_empty c = λ cs events steps run named.
     let said : busy (drop most all) ≡ None = sym (ap busy went.4)
     ∙ none_left c.flow.new.self.left.items
     (grind (arith, nat_tests, c.if-is_empty.ensures, c.flow.new.self.left.ok.0)) in (
-      events_of Flow all,
+      deliveries all,
       went.0,
       turn_of_flow (frames_told steps) c.args.self.now.left.items c.args.statement.now went.0
           c.in_ok-events-in-Flow.events None c.in-Flow.is went.2 went.3 said,
@@ -57,7 +56,7 @@ returns-else-is_empty c = λ cs events steps run named.
     let said : busy (drop most all) ≡ Some remark.Busy = sym (ap busy went.4)
     ∙ some_left c.flow.new.self.left.items
     (λ e. absurd (grind (arith, nat_tests, c.if-is_empty.ensures, c.flow.new.self.left.ok.0))) in (
-      events_of Flow all,
+      deliveries all,
       went.0,
       turn_of_flow (frames_told steps) c.args.self.now.left.items c.args.statement.now went.0
           c.in_ok-events-in-Flow.events (Some remark.Busy) c.in-Flow.is went.2 went.3 said,
