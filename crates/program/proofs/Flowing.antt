@@ -297,7 +297,7 @@ goes_on world after cs left next it behind all turns turn g own lines is run lef
 -- ---- the turn of a statement
 
 -- an event that delivers no frame leaves all
-pub leaves_all : (what : What) (left : List ℕ) → ((place : ℕ) → what ≡ Deliver place → ⊥) →
+leaves_all : (what : What) (left : List ℕ) → ((place : ℕ) → what ≡ Deliver place → ⊥) →
     left_by_event what left ≡ left
 leaves_all (Submit node batch) left other = refl
 leaves_all (Get node key at) left other = refl
@@ -305,6 +305,10 @@ leaves_all (Deliver place) left other = absurd (other place refl)
 leaves_all (Tick node) left other = refl
 leaves_all (Start node) left other = refl
 leaves_all (Stop node junk) left other = refl
+
+pub left_as : (what : What) (left new : List ℕ) → ((place : ℕ) → what ≡ Deliver place → ⊥) →
+    new ≡ left → new ≡ left_by_event what left
+left_as what left new other e = e ∙ sym (leaves_all what left other)
 
 pub turn_of_event : (sent : ℕ) (left : List ℕ) (it : Statement) (what : What)
     (lines : List Line) → it.meaning ≡ Event what →

@@ -1,7 +1,7 @@
 -- What is written so far.
-use Rattle.std.proofs.Common.{◌≡◌, ◌≤◌, ◌+◌, ◌-◌, ℕ, List, [], ◌++◌, Option, Some, None, length}
-use Rattle.std.proofs.Common.{take, drop, sym, ap, subst, refl, ◌∙◌, arith, length-take, append-nil}
-use Rattle.std.specs.Io.KnownBytes.{Appends, Keeps}
+use Rattle.std.proofs.Common.{◌≡◌, ◌≤◌, ◌+◌, ◌-◌, ℕ, List, ◌++◌, Option, length, take, drop}
+use Rattle.std.proofs.Common.{sym, ap, subst, ◌∙◌}
+use Rattle.std.specs.Io.KnownBytes.{Appends}
 use lib.Seq.{take-add, take-take}
 use Rattle.program.proofs.Printed.{appends_more}
 
@@ -16,11 +16,3 @@ writes_more old mid new bytes done count within fits before more =
     ap (λ l. take done bytes ++ l) (take-take count (length bytes - done) (drop done bytes) fits)
     ∙ sym (take-add done count bytes) in
     subst (λ (l : List ℕ). Appends old new l) joined (appends_more old mid new _ _ before more)
-
--- what is written stays as it is
-pub writes_none : (old mid new : Option (List ℕ)) (bytes : List ℕ) → Appends old mid bytes
-    → Keeps mid new → Appends old new bytes
-writes_none None mid new bytes p q = tt
-writes_none (Some xs) None new bytes p q = absurd p
-writes_none (Some xs) (Some ys) None bytes p q = absurd q
-writes_none (Some xs) (Some ys) (Some zs) bytes p q = q ∙ p

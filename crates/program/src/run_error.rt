@@ -1,3 +1,4 @@
+//! Why a run ends early.
 ghost use Rattle.std.specs.Prelude.{◌≡◌};
 ghost use Rattle.program.specs.declared.run_error.RunError.TheVariants.{Memory};
 
