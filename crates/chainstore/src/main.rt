@@ -3,7 +3,7 @@
 
 use program::{Failure, refuse, serve, tell};
 use std::env;
-use std::io::{self, BufWriter, ErrorKind};
+use std::io::{self, ErrorKind};
 use std::process::ExitCode;
 
 /// Serves the program's words, and answers the exit status.
@@ -16,8 +16,7 @@ fn serve_words(rt: &HostRuntime) -> io::Result<u8> {
     for word in &words {
         texts.push(word.as_str())?;
     }
-    let mut out = BufWriter::new(rt.alloc(), rt.stdout())?;
-    let (mut input, mut err) = (rt.stdin(), rt.stderr());
+    let (mut input, mut out, mut err) = (rt.stdin(), rt.stdout(), rt.stderr());
     Ok(serve(rt, &texts, &mut input, &mut out, &mut err))
 }
 

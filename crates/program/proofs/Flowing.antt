@@ -14,13 +14,14 @@ use Rattle.lab.specs.Runs.{IsRun}
 use Rattle.lab.specs.History.{OneHistory}
 use Rattle.lab.specs.Worlds.{HasRun, frames_told, frames_of_step}
 use Rattle.std.proofs.Math.Seq.{drop-cons}
+use Rattle.program.specs.declared.script.setup.Setup.{Setup}
 use Rattle.program.specs.declared.script.statement.Statement.{Statement}
 use Rattle.program.specs.declared.script.statement.Meaning.TheVariants.{Event, Invalid, Flow}
 use Rattle.program.specs.declared.turn.Turn.{Turn}
 use Rattle.program.specs.declared.turn.Remark.{Remark}
 use Rattle.program.specs.declared.turn.Remark.TheVariants as remark
 use Rattle.program.specs.Runs.{HasRunAll}
-use Rattle.program.specs.Courses.{places_after, event, events_of, left_by, left_by_event}
+use Rattle.program.specs.Courses.{places_after, event, deliveries, left_by, left_by_event}
 use Rattle.program.specs.Courses.{most, busy, IsTurn, IsCourse}
 
 -- ---- places and frames add up
@@ -208,8 +209,8 @@ length-take (x ∷ xs) (suc k) le = ap suc (length-take xs k (omega (arith, le))
 abbrev pub HasFlowed : World → Configurations → List lab.Event → List (List Line) → List ℕ
     → List ℕ → ℕ → Type 0
 HasFlowed world cs events steps old left count = (own : List (List Line))
-    × HasRun world cs (events ++ events_of Flow (all_left old steps own)) (steps ++ own)
-    × (count ≡ length own) × (count ≡ length (events_of Flow (all_left old steps own)))
+    × HasRun world cs (events ++ deliveries (all_left old steps own)) (steps ++ own)
+    × (count ≡ length own) × (count ≡ length (deliveries (all_left old steps own)))
     × (left ≡ drop most (all_left old steps own))
 
 -- no frame is left
@@ -248,18 +249,18 @@ flowed_most world cs events steps old left count f reached =
 -- ---- a course
 
 -- statements ran so far, and with those that are left make the whole
-pub record Goes (world : World) (ids : List ℕ) (left : List ℕ) (behind all : List Statement)
+pub record Goes (world : World) (cs : Configurations) (left : List ℕ) (behind all : List Statement)
     (turns : List Turn) : Type 0 where
   pub events : List lab.Event
   pub steps : List (List Line)
-  pub run : HasRun world (ids ∷ []) events steps
+  pub run : HasRun world cs events steps
   pub whole : (ts : List Turn) (es : List lab.Event) (ss : List (List Line)) →
       IsCourse (frames_told steps) left behind ts es ss →
       IsCourse 0 [] all (turns ++ ts) (events ++ es) (steps ++ ss)
 
-pub goes_nowhere : (world : World) (ids : List ℕ) (left : List ℕ) (all : List Statement) →
-    HasRun world (ids ∷ []) [] [] → left ≡ [] → Goes world ids left all all []
-goes_nowhere world ids left all run none = record {
+pub goes_nowhere : (world : World) (cs : Configurations) (left : List ℕ) (all : List Statement) →
+    HasRun world cs [] [] → left ≡ [] → Goes world cs left all all []
+goes_nowhere world cs left all run none = record {
   events = [];
   steps = [];
   run = run;
@@ -267,14 +268,14 @@ goes_nowhere world ids left all run none = record {
 }
 
 -- one statement more
-pub goes_on : (world after : World) (ids : List ℕ) (left next : List ℕ) (it : Statement)
+pub goes_on : (world after : World) (cs : Configurations) (left next : List ℕ) (it : Statement)
     (behind all : List Statement) (turns : List Turn) (turn : Turn)
-    (g : Goes world ids left (it ∷ behind) all turns) (own : List lab.Event)
+    (g : Goes world cs left (it ∷ behind) all turns) (own : List lab.Event)
     (lines : List (List Line)) → IsTurn (frames_told g.steps) left it turn own lines →
-    HasRun after (ids ∷ []) (g.events ++ own) (g.steps ++ lines) →
+    HasRun after cs (g.events ++ own) (g.steps ++ lines) →
     next ≡ left_by it.meaning (left ++ places_after (frames_told g.steps) (frames_told lines)) →
-    Goes after ids next behind all (turns ++ turn ∷ [])
-goes_on world after ids left next it behind all turns turn g own lines is run left_is = record {
+    Goes after cs next behind all (turns ++ turn ∷ [])
+goes_on world after cs left next it behind all turns turn g own lines is run left_is = record {
   events = g.events ++ own;
   steps = g.steps ++ lines;
   run = run;
@@ -296,7 +297,7 @@ goes_on world after ids left next it behind all turns turn g own lines is run le
 -- ---- the turn of a statement
 
 -- an event that delivers no frame leaves all
-pub leaves_all : (what : What) (left : List ℕ) → ((place : ℕ) → what ≡ Deliver place → ⊥) →
+leaves_all : (what : What) (left : List ℕ) → ((place : ℕ) → what ≡ Deliver place → ⊥) →
     left_by_event what left ≡ left
 leaves_all (Submit node batch) left other = refl
 leaves_all (Get node key at) left other = refl
@@ -305,14 +306,19 @@ leaves_all (Tick node) left other = refl
 leaves_all (Start node) left other = refl
 leaves_all (Stop node junk) left other = refl
 
+pub left_as : (what : What) (left new : List ℕ) → ((place : ℕ) → what ≡ Deliver place → ⊥) →
+    new ≡ left → new ≡ left_by_event what left
+left_as what left new other e = e ∙ sym (leaves_all what left other)
+
 pub turn_of_event : (sent : ℕ) (left : List ℕ) (it : Statement) (what : What)
     (lines : List Line) → it.meaning ≡ Event what →
     IsTurn sent left it (record { line = it.line; events = 1; remark = None })
     (event what ∷ []) (lines ∷ [])
 turn_of_event sent left it what lines is = record {
-  is = rw is refl;
-  happened = rw is refl;
+  line = refl;
+  count = refl;
   each = refl;
+  did = rw is (refl, refl);
 }
 
 pub turn_of_error : (sent : ℕ) (left : List ℕ) (it : Statement) (e : KvError) →
@@ -320,21 +326,23 @@ pub turn_of_error : (sent : ℕ) (left : List ℕ) (it : Statement) (e : KvError
     IsTurn sent left it (record { line = it.line; events = 0; remark = Some (remark.Invalid e) })
     [] []
 turn_of_error sent left it e is = record {
-  is = rw is refl;
-  happened = rw is refl;
+  line = refl;
+  count = refl;
   each = refl;
+  did = rw is (refl, refl);
 }
 
 pub turn_of_flow : (sent : ℕ) (left : List ℕ) (it : Statement) (own : List (List Line)) (count : ℕ)
     (said : Option Remark) → it.meaning ≡ Flow → count ≡ length own →
-    count ≡ length (events_of Flow (left ++ places_after sent (frames_told own))) →
+    count ≡ length (deliveries (left ++ places_after sent (frames_told own))) →
     busy (drop most (left ++ places_after sent (frames_told own))) ≡ said →
     IsTurn sent left it (record { line = it.line; events = count; remark = said })
-    (events_of Flow (left ++ places_after sent (frames_told own))) own
+    (deliveries (left ++ places_after sent (frames_told own))) own
 turn_of_flow sent left it own count said is each events remarks = record {
-  is = rw (is, events, remarks) refl;
-  happened = rw is refl;
+  line = refl;
+  count = events;
   each = sym each ∙ events;
+  did = rw is (refl, sym remarks);
 }
 
 pub none_left : (xs : List ℕ) → length xs ≡ 0 → busy xs ≡ None
@@ -351,18 +359,18 @@ emptied [] ys e f = sym e
 emptied (x ∷ xs) ys e f = absurd (omega (arith, ap length e, ap length f))
 
 -- the next statement of all
-pub goes_next : (world after : World) (ids : List ℕ) (left next : List ℕ) (all : List Statement)
-    (i : ℕ) (d it : Statement) (turns : List Turn) (turn : Turn) → i < length all →
-    it ≡ get_or all i d → (g : Goes world ids left (drop i all) all turns)
+pub goes_next : (world after : World) (cs : Configurations) (left next : List ℕ)
+    (all : List Statement) (i : ℕ) (d it : Statement) (turns : List Turn) (turn : Turn) → i < length all →
+    it ≡ get_or all i d → (g : Goes world cs left (drop i all) all turns)
     (own : List lab.Event) (lines : List (List Line)) →
     IsTurn (frames_told g.steps) left it turn own lines →
-    HasRun after (ids ∷ []) (g.events ++ own) (g.steps ++ lines) →
+    HasRun after cs (g.events ++ own) (g.steps ++ lines) →
     next ≡ left_by it.meaning (left ++ places_after (frames_told g.steps) (frames_told lines)) →
-    Goes after ids next (drop (suc i) all) all (turns ++ turn ∷ [])
-goes_next world after ids left next all i d it turns turn within at g own lines is run left_is =
+    Goes after cs next (drop (suc i) all) all (turns ++ turn ∷ [])
+goes_next world after cs left next all i d it turns turn within at g own lines is run left_is =
     let parts : drop i all ≡ it ∷ drop (suc i) all = drop-cons all i d within
     ∙ ap (λ (x : Statement). x ∷ drop (suc i) all) (sym at) in
-    let h : Goes world ids left (it ∷ drop (suc i) all) all turns = record {
+    let h : Goes world cs left (it ∷ drop (suc i) all) all turns = record {
       events = g.events;
       steps = g.steps;
       run = g.run;
@@ -370,15 +378,15 @@ goes_next world after ids left next all i d it turns turn within at g own lines 
           (ss : List (List Line)) → IsCourse (frames_told g.steps) left b ts es ss →
           IsCourse 0 [] all (turns ++ ts) (g.events ++ es) (g.steps ++ ss)) parts g.whole;
     } in
-    goes_on world after ids left next it (drop (suc i) all) all turns turn h own lines is run
+    goes_on world after cs left next it (drop (suc i) all) all turns turn h own lines is run
     left_is
 
 -- all statements ran
-pub gone : (world : World) (ids : List ℕ) (left : List ℕ) (all behind : List Statement)
-    (turns : List Turn) (report : Report) (g : Goes world ids left behind all turns) →
-    behind ≡ [] → report.steps.items ≡ g.steps → IsRun (ids ∷ []) g.events report →
-    OneHistory (ids ∷ []) g.events report → HasRunAll ids all turns report
-gone world ids left all behind turns report g none steps run history =
+pub gone : (world : World) (setup : Setup) (left : List ℕ) (all behind : List Statement)
+    (turns : List Turn) (report : Report) (g : Goes world setup.configs left behind all turns) →
+    behind ≡ [] → report.steps.items ≡ g.steps → IsRun setup.configs g.events report →
+    OneHistory setup.configs g.events report → HasRunAll setup all turns report
+gone world setup left all behind turns report g none steps run history =
     let nothing : IsCourse (frames_told g.steps) left behind [] [] [] =
     subst (λ (b : List Statement). IsCourse (frames_told g.steps) left b [] [] []) (sym none)
     (refl, refl, refl) in

@@ -9,6 +9,7 @@ pub mod Ids
 pub mod Going
 pub mod Escape
 pub mod Printed
+pub mod Written
 pub mod Leaving
 pub mod Flowing
 pub mod Wholes

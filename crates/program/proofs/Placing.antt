@@ -6,7 +6,7 @@ use Rattle.std.proofs.lemmas.Grind.{common_steps}
 use Rattle.std.specs.Str.Parse.{digits_value}
 use Rattle.std.specs.Fmt.{decimal}
 use Rattle.std.proofs.lemmas.Fmt.{digits_value-decimal}
-use Rattle.chain_model.specs.Configuration.{has}
+use Rattle.chain_model.specs.Configuration.{Configurations, has, at_epoch}
 use Rattle.configurations.specs.Configs.{IsConfig}
 use Rattle.lab.specs.declared.event.What.{What}
 use Rattle.lab.specs.declared.event.What.TheVariants.{Submit, Get, Deliver, Tick, Start, Stop}
@@ -43,16 +43,16 @@ names (Stop n junk) words said (inr e) = rw (e.2, number_back n said.0) refl
 pub is_of_place : (before : Before) (name : List ℕ) (args cut : List (List ℕ)) (what : What)
     → cut ≡ args → cut ≡ before_fault args → false ≡ has_fault args → CanBeSaid what
     → fault_of_words (name ∷ cut) ≡ None → IsSpelled what (name ∷ cut)
-    → statement_fault before name args ≡ node_fault before.config (node_in what)
+    → statement_fault before name args ≡ node_fault before.configs (node_in what)
 is_of_place before name args cut what whole before_it none said good spelled =
     rw (← before_it, good, ← none, names what (name ∷ args) said (rw whole at spelled)) refl
 
 -- a node that a statement may name is one of a configuration
-pub stands : (config : Option (List ℕ)) (n : ℕ) → node_fault config (Some n) ≡ None →
-    (ids : List ℕ) × (config ≡ Some ids) × (has ids n ≡ true)
+pub stands : (configs : Option Configurations) (n : ℕ) → node_fault configs (Some n) ≡ None →
+    (cs : Configurations) × (configs ≡ Some cs) × (has (at_epoch cs 0) n ≡ true)
 stands None n e = grind (arith, common_steps)
-stands (Some ids) n e = elim (cases_Bool (has ids n)) [
-  | inl t ↦ (ids, refl, t)
+stands (Some cs) n e = elim (cases_Bool (has (at_epoch cs 0) n)) [
+  | inl t ↦ (cs, refl, t)
   | inr f ↦ grind (arith, common_steps)
 ]
 
@@ -61,11 +61,11 @@ pub is_placed : (before : Before) (name : List ℕ) (args cut : List (List ℕ))
     (meaning : Meaning) (node : ℕ) → cut ≡ args → cut ≡ before_fault args
     → false ≡ has_fault args → fault_of_words (name ∷ cut) ≡ None → CanBeSaid what
     → IsSpelled what (name ∷ cut) → node_in what ≡ Some node
-    → node_fault before.config (Some node) ≡ None → meaning ≡ meaning_of what
+    → node_fault before.configs (Some node) ≡ None → meaning ≡ meaning_of what
     → Places before name args (Ok meaning)
 is_placed before name args cut what meaning node whole before_it none good said spelled at free is =
-    let found = stands before.config node free in
-    let named : NamesNode (found.0 ∷ []) what = rw at found.2 in (
+    let found = stands before.configs node free in
+    let named : NamesNode found.0 what = rw at found.2 in (
       is_of_place before name args cut what whole before_it none said good spelled
           ∙ rw at free,
       (found.0, found.1, inr (what, said, rw whole at spelled, named, is)),
@@ -75,42 +75,45 @@ pub is_misplaced : (before : Before) (name : List ℕ) (args cut : List (List �
     (node : ℕ) (e : ScriptError) → cut ≡ args → cut ≡ before_fault args
     → false ≡ has_fault args → CanBeSaid what → fault_of_words (name ∷ cut) ≡ None
     → IsSpelled what (name ∷ cut) → node_in what ≡ Some node
-    → node_fault before.config (Some node) ≡ Some e
+    → node_fault before.configs (Some node) ≡ Some e
     → Places before name args (Err e)
 is_misplaced before name args cut what node e whole before_it none said good spelled at fault =
     λ _. is_of_place before name args cut what whole before_it none said good spelled ∙ rw at fault
 
 pub is_config : (before : Before) (words args : List (List ℕ)) (ids : List ℕ)
     → words ≡ codes "config" ∷ args → args ≡ map decimal ids → IsConfig ids
-    → numbers_of args ≡ ids → before.config ≡ None → config_fault before args ≡ None
-    → ReadsWords before words (Ok (Config ids))
-is_config before words args ids e a is numbers free good =
-    (rw (e, good) refl, (rw (e, a) refl, is, free), rw (e, numbers) refl)
+    → numbers_of args ≡ ids → before.configs ≡ None → config_fault before args ≡ None
+    → (cs : Configurations) → cs ≡ ids ∷ [] → ReadsWords before words (Ok (Config cs))
+is_config before words args ids e a is numbers free good cs one = (
+  rw (e, good) refl,
+  (ids, rw (e, a) refl, is, one, free),
+  rw (e, numbers, one) refl,
+)
 
 -- there is a configuration
-some_config : (config : Option (List ℕ)) → is_none config ≡ false →
-    (ids : List ℕ) × (config ≡ Some ids)
+some_config : (configs : Option Configurations) → is_none configs ≡ false →
+    (cs : Configurations) × (configs ≡ Some cs)
 some_config None e = grind (arith, common_steps)
-some_config (Some ids) e = (ids, refl)
+some_config (Some cs) e = (cs, refl)
 
 pub delivers : (before : Before) (args cut : List (List ℕ)) (place : ℕ) → cut ≡ args
     → cut ≡ before_fault args → false ≡ has_fault args → place < 2 ^ 63
-    → cut ≡ decimal place ∷ [] → is_none before.config ≡ false
+    → cut ≡ decimal place ∷ [] → is_none before.configs ≡ false
     → Places before (codes "deliver") args (Ok (Event (Deliver place)))
 delivers before args cut place whole before_it none small is some =
-    let found = some_config before.config some in
+    let found = some_config before.configs some in
     let spelled : IsSpelled (Deliver place) (codes "deliver" ∷ cut) = rw is refl in
     let good = event_read (Deliver place) (codes "deliver" ∷ cut) small spelled in
-    let names_none : node_fault before.config None ≡ None = rw found.1 refl in (
+    let names_none : node_fault before.configs None ≡ None = rw found.1 refl in (
       is_of_place before (codes "deliver") args cut (Deliver place) whole before_it none small good
           spelled ∙ names_none,
       (found.0, found.1, inr (Deliver place, small, rw whole at spelled, tt, refl)),
     )
 
 pub flows : (before : Before) (args cut : List (List ℕ)) → cut ≡ args → cut ≡ before_fault args
-    → false ≡ has_fault args → cut ≡ [] → is_none before.config ≡ false
+    → false ≡ has_fault args → cut ≡ [] → is_none before.configs ≡ false
     → Places before (codes "flow") args (Ok Flow)
 flows before args cut whole before_it none is some =
-    let found = some_config before.config some in
+    let found = some_config before.configs some in
     let empty : args ≡ [] = sym whole ∙ is in
     (rw (empty, found.1) refl, (found.0, found.1, inl (refl, rw empty refl)))

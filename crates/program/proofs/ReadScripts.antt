@@ -16,9 +16,10 @@ use Rattle.kv_types.specs.declared.edit.Edit.TheVariants.{Put, Delete}
 use Rattle.lab.specs.declared.event.What.{What}
 use Rattle.lab.specs.declared.event.What.TheVariants.{Submit, Get, Deliver, Tick, Start, Stop}
 use Rattle.lab.specs.Events.{node_in, NamesNode}
-use Rattle.chain_model.specs.Configuration.{has}
+use Rattle.chain_model.specs.Configuration.{Configurations, has, at_epoch}
 use Rattle.configurations.specs.Configs.{IsConfig}
 use Rattle.program.specs.declared.script.statement.Meaning.{Meaning}
+use Rattle.program.specs.declared.script.setup.Setup.{Setup}
 use Rattle.program.specs.declared.script.statement.Before.{Before}
 use Rattle.program.specs.declared.script.statement.Statement.{Statement}
 use Rattle.program.specs.Words.{AreBytes, is_plain, bytes_text}
@@ -120,67 +121,67 @@ not_skipped (b ∷ bs) c e letter = elim (cases_Bool (b == 32)) [
 
 -- ---- a line that is a statement has no fault
 
-abbrev behind_ids : List ℕ → Bool → Before
-behind_ids ids begun = record { config = Some ids; begun = begun }
+abbrev behind_configs : Configurations → Bool → Before
+behind_configs cs begun = record { configs = Some cs; begun = begun }
 
 -- what is to be said of the words of such a line
-pub record IsPassed (ids : List ℕ) (begun : Bool) (words : List (List ℕ)) : Type 0 where
-  pub good : words_fault (behind_ids ids begun) words ≡ None
-  pub after : after_words (behind_ids ids begun) words ≡ behind_ids ids true
+pub record IsPassed (cs : Configurations) (begun : Bool) (words : List (List ℕ)) : Type 0 where
+  pub good : words_fault (behind_configs cs begun) words ≡ None
+  pub after : after_words (behind_configs cs begun) words ≡ behind_configs cs true
   pub letter : 97 ≤ first_byte words
 
-free : (ids : List ℕ) (node : Option ℕ) → IfSome node (λ x. has ids x ≡ true) →
-    node_fault (Some ids) node ≡ None
-free ids None is = refl
-free ids (Some x) is = rw is refl
+free : (cs : Configurations) (node : Option ℕ) → IfSome node (λ x. has (at_epoch cs 0) x ≡ true) →
+    node_fault (Some cs) node ≡ None
+free cs None is = refl
+free cs (Some x) is = rw is refl
 
-good_statement : (ids : List ℕ) (begun : Bool) (what : What) (name : List ℕ)
+good_statement : (cs : Configurations) (begun : Bool) (what : What) (name : List ℕ)
     (args : List (List ℕ)) → CanBeSaid what → IsSpelled what (name ∷ args) →
-    NamesNode (ids ∷ []) what → statement_fault (behind_ids ids begun) name args ≡ None
-good_statement ids begun what name args said spelled named =
+    NamesNode cs what → statement_fault (behind_configs cs begun) name args ≡ None
+good_statement cs begun what name args said spelled named =
     let none = sym (no_fault what (name ∷ args) said spelled) in
-    is_of_place (behind_ids ids begun) name args args what refl (all_before args none) none
+    is_of_place (behind_configs cs begun) name args args what refl (all_before args none) none
     said (event_read what (name ∷ args) said spelled) spelled
-    ∙ free ids (node_in what) named
+    ∙ free cs (node_in what) named
 
-passes : (ids : List ℕ) (begun : Bool) (what : What) (words : List (List ℕ)) (name : List ℕ)
+passes : (cs : Configurations) (begun : Bool) (what : What) (words : List (List ℕ)) (name : List ℕ)
     (args : List (List ℕ)) → words ≡ name ∷ args → bytes_eq name (codes "config") ≡ false →
     97 ≤ first_byte (name ∷ args) → CanBeSaid what → IsSpelled what words →
-    NamesNode (ids ∷ []) what → IsPassed ids begun words
-passes ids begun what words name args e other letter said spelled named = record {
-  good = rw (e, other) (good_statement ids begun what name args said (rw e at spelled) named);
+    NamesNode cs what → IsPassed cs begun words
+passes cs begun what words name args e other letter said spelled named = record {
+  good = rw (e, other) (good_statement cs begun what name args said (rw e at spelled) named);
   after = rw (e, other) refl;
   letter = rw e letter;
 }
 
-event_passes : (ids : List ℕ) (begun : Bool) (what : What) (words : List (List ℕ)) →
-    CanBeSaid what → IsSpelled what words → NamesNode (ids ∷ []) what → IsPassed ids begun words
-event_passes ids begun (Submit n edits) words said e is =
-    passes ids begun (Submit n edits) words _ _ e refl (omega arith) said e is
-event_passes ids begun (Get n key None) words said e is =
-    passes ids begun (Get n key None) words _ _ e refl (omega arith) said e is
-event_passes ids begun (Get n key (Some at)) words said e is =
-    passes ids begun (Get n key (Some at)) words _ _ e refl (omega arith) said e is
-event_passes ids begun (Deliver place) words said e is =
-    passes ids begun (Deliver place) words _ _ e refl (omega arith) said e is
-event_passes ids begun (Tick n) words said e is =
-    passes ids begun (Tick n) words _ _ e refl (omega arith) said e is
-event_passes ids begun (Start n) words said e is =
-    passes ids begun (Start n) words _ _ e refl (omega arith) said e is
-event_passes ids begun (Stop n junk) words said (inl e) is =
-    passes ids begun (Stop n junk) words _ _ e.1 refl (omega arith) said (inl e) is
-event_passes ids begun (Stop n junk) words said (inr e) is =
-    passes ids begun (Stop n junk) words _ _ e.2 refl (omega arith) said (inr e) is
+event_passes : (cs : Configurations) (begun : Bool) (what : What) (words : List (List ℕ)) →
+    CanBeSaid what → IsSpelled what words → NamesNode cs what → IsPassed cs begun words
+event_passes cs begun (Submit n edits) words said e is =
+    passes cs begun (Submit n edits) words _ _ e refl (omega arith) said e is
+event_passes cs begun (Get n key None) words said e is =
+    passes cs begun (Get n key None) words _ _ e refl (omega arith) said e is
+event_passes cs begun (Get n key (Some at)) words said e is =
+    passes cs begun (Get n key (Some at)) words _ _ e refl (omega arith) said e is
+event_passes cs begun (Deliver place) words said e is =
+    passes cs begun (Deliver place) words _ _ e refl (omega arith) said e is
+event_passes cs begun (Tick n) words said e is =
+    passes cs begun (Tick n) words _ _ e refl (omega arith) said e is
+event_passes cs begun (Start n) words said e is =
+    passes cs begun (Start n) words _ _ e refl (omega arith) said e is
+event_passes cs begun (Stop n junk) words said (inl e) is =
+    passes cs begun (Stop n junk) words _ _ e.1 refl (omega arith) said (inl e) is
+event_passes cs begun (Stop n junk) words said (inr e) is =
+    passes cs begun (Stop n junk) words _ _ e.2 refl (omega arith) said (inr e) is
 
-statement_passes : (ids : List ℕ) (begun : Bool) (words : List (List ℕ)) (meaning : Meaning) →
-    IsStatement ids words meaning → IsPassed ids begun words
-statement_passes ids begun words meaning (inl is) = record {
+statement_passes : (cs : Configurations) (begun : Bool) (words : List (List ℕ))
+    (meaning : Meaning) → IsStatement cs words meaning → IsPassed cs begun words
+statement_passes cs begun words meaning (inl is) = record {
   good = rw is.1 refl;
   after = rw is.1 refl;
   letter = rw is.1 (omega arith);
 }
-statement_passes ids begun words meaning (inr (what, said, spelled, named, same)) =
-    event_passes ids begun what words said spelled named
+statement_passes cs begun words meaning (inr (what, said, spelled, named, same)) =
+    event_passes cs begun what words said spelled named
 
 -- ---- line by line
 
@@ -214,29 +215,29 @@ stated before after n line lines short few letter good later rest =
 abbrev AreShort : List (List ℕ) → Type 0
 AreShort lines = All (λ line. length line ≤ 262144) lines
 
-statements_read : (ids : List ℕ) (begun : Bool) (n : ℕ) (lines : List (List ℕ))
+statements_read : (cs : Configurations) (begun : Bool) (n : ℕ) (lines : List (List ℕ))
     (statements : List Statement) → AreShort lines → n + length lines ≤ 100001 →
-    AreStatements ids n lines statements →
-    script_fault (behind_ids ids begun) n lines ≡ None
-statements_read ids begun n [] statements short few are = refl
-statements_read ids begun n (line ∷ lines) statements short few (inl more) =
-    skipped (behind_ids ids begun) n line lines
+    AreStatements cs n lines statements →
+    script_fault (behind_configs cs begun) n lines ≡ None
+statements_read cs begun n [] statements short few are = refl
+statements_read cs begun n (line ∷ lines) statements short few (inl more) =
+    skipped (behind_configs cs begun) n line lines
     (All-head (λ l. length l ≤ 262144) line lines short) (omega (arith, few)) more.0
-    (statements_read ids begun (suc n) lines statements
+    (statements_read cs begun (suc n) lines statements
     (All-tail (λ l. length l ≤ 262144) line lines short) (omega (arith, few)) more.1)
-statements_read ids begun n (line ∷ lines) statements short few
+statements_read cs begun n (line ∷ lines) statements short few
     (inr (meaning, rest, is, same, more)) =
-    let p = statement_passes ids begun (words_of line) meaning is in
-    stated (behind_ids ids begun) (behind_ids ids true) n line lines
+    let p = statement_passes cs begun (words_of line) meaning is in
+    stated (behind_configs cs begun) (behind_configs cs true) n line lines
     (All-head (λ l. length l ≤ 262144) line lines short) (omega (arith, few)) p.letter p.good
     p.after
-    (statements_read ids true (suc n) lines rest
+    (statements_read cs true (suc n) lines rest
     (All-tail (λ l. length l ≤ 262144) line lines short) (omega (arith, few)) more)
 
 -- the configuration stands first
 config_good : (ids : List ℕ) (words : List (List ℕ)) → IsConfig ids →
     words ≡ codes "config" ∷ map decimal ids →
-    (words_fault start words ≡ None) × (after_words start words ≡ behind_ids ids false)
+    (words_fault start words ≡ None) × (after_words start words ≡ behind_configs (ids ∷ []) false)
 config_good ids words is e =
     let r = ids_read ids is.each in
     let before : map decimal ids ≡ before_fault (map decimal ids) =
@@ -245,25 +246,25 @@ config_good ids words is e =
       rw (e, r.back) refl,
     )
 
-lines_read : (n : ℕ) (lines : List (List ℕ)) (ids : List ℕ) (statements : List Statement) →
-    AreShort lines → n + length lines ≤ 100001 → IsScript n lines ids statements →
+lines_read : (n : ℕ) (lines : List (List ℕ)) (setup : Setup) (statements : List Statement) →
+    AreShort lines → n + length lines ≤ 100001 → IsScript n lines setup statements →
     script_fault start n lines ≡ None
-lines_read n [] ids statements short few is = absurd is
-lines_read n (line ∷ lines) ids statements short few (inl more) =
+lines_read n [] setup statements short few is = absurd is
+lines_read n (line ∷ lines) setup statements short few (inl more) =
     skipped start n line lines (All-head (λ l. length l ≤ 262144) line lines short)
     (omega (arith, few)) more.0
-    (lines_read (suc n) lines ids statements
+    (lines_read (suc n) lines setup statements
     (All-tail (λ l. length l ≤ 262144) line lines short) (omega (arith, few)) more.1)
-lines_read n (line ∷ lines) ids statements short few (inr (e, is, more)) =
+lines_read n (line ∷ lines) setup statements short few (inr (ids, e, is, up, more)) =
     let good = config_good ids (words_of line) is e in
-    stated start (behind_ids ids false) n line lines
+    stated start (behind_configs (ids ∷ []) false) n line lines
     (All-head (λ l. length l ≤ 262144) line lines short) (omega (arith, few))
     (rw e (omega arith)) good.0 good.1
-    (statements_read ids false (suc n) lines statements
+    (statements_read (ids ∷ []) false (suc n) lines statements
     (All-tail (λ l. length l ≤ 262144) line lines short) (omega (arith, few)) more)
 
-pub script_read : (lines : List (List ℕ)) (ids : List ℕ) (statements : List Statement) →
-    AreShort lines → length lines ≤ 100000 → IsScript 1 lines ids statements →
+pub script_read : (lines : List (List ℕ)) (setup : Setup) (statements : List Statement) →
+    AreShort lines → length lines ≤ 100000 → IsScript 1 lines setup statements →
     script_fault start 1 lines ≡ None
-script_read lines ids statements short few is =
-    lines_read 1 lines ids statements short (omega (arith, few)) is
+script_read lines setup statements short few is =
+    lines_read 1 lines setup statements short (omega (arith, few)) is

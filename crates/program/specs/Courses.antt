@@ -27,12 +27,10 @@ places_after sent (suc count) = suc sent ∷ places_after (suc sent) count
 abbrev pub event : What → lab.Event
 event what = record { what = what; fault = fault.None }
 
--- the events of a statement, where these frames had not been delivered by another one before it
--- ended: a flow delivers them in order of place, up to its bound
-abbrev pub events_of : Meaning → List ℕ → List lab.Event
-events_of (Event what) left = event what ∷ []
-events_of (Invalid e) left = []
-events_of Flow left = map (λ place. event (Deliver place)) (take most left)
+-- the events of a flow, where these frames had not been delivered by another statement before it
+-- ended: it delivers them in order of place, up to its bound
+abbrev pub deliveries : List ℕ → List lab.Event
+deliveries left = map (λ place. event (Deliver place)) (take most left)
 
 abbrev pub left_by_event : What → List ℕ → List ℕ
 left_by_event (Deliver place) left = without place left
@@ -42,7 +40,7 @@ left_by_event (Tick node) left = left
 left_by_event (Start node) left = left
 left_by_event (Stop node junk) left = left
 
--- .. and those of them that it does not deliver
+-- the frames of these that a statement does not deliver
 abbrev pub left_by : Meaning → List ℕ → List ℕ
 left_by (Event what) left = left_by_event what left
 left_by (Invalid e) left = left
@@ -53,25 +51,24 @@ abbrev pub busy : List ℕ → Option Remark
 busy [] = None
 busy (place ∷ places) = Some remark.Busy
 
-abbrev pub remark_of : Meaning → List ℕ → Option Remark
-remark_of (Event what) left = None
-remark_of (Invalid e) left = Some (remark.Invalid e)
-remark_of Flow left = busy (drop most left)
-
-abbrev pub turn_of : Statement → List ℕ → Turn
-turn_of it left = record {
-  line = it.line;
-  events = length (events_of it.meaning left);
-  remark = remark_of it.meaning left;
-}
+-- what a statement does, where these frames had not been delivered by another one before it ended:
+-- the lines of its steps, its events, and what is said besides
+abbrev pub IsTurnOf : Meaning → List ℕ → List (List Line) → List lab.Event → Option Remark → Type 0
+IsTurnOf (Event what) left steps events said = (events ≡ event what ∷ []) × (said ≡ None)
+IsTurnOf (Invalid e) left steps events said =
+    (events ≡ []) × (said ≡ Some (remark.Invalid e))
+IsTurnOf Flow left steps events said =
+    (events ≡ deliveries left) × (said ≡ busy (drop most left))
 
 -- a statement was run: its turn, its events, and the lines of each. So many frames had been sent,
 -- and these of them not been delivered.
 pub record IsTurn (sent : ℕ) (left : List ℕ) (it : Statement) (turn : Turn)
     (events : List lab.Event) (steps : List (List Line)) : Type 0 where
-  pub is : turn ≡ turn_of it (left ++ places_after sent (frames_told steps))
-  pub happened : events ≡ events_of it.meaning (left ++ places_after sent (frames_told steps))
+  pub line : turn.line ≡ it.line
+  pub count : turn.events ≡ length events
   pub each : length steps ≡ length events
+  pub did : IsTurnOf it.meaning (left ++ places_after sent (frames_told steps)) steps events
+      turn.remark
 
 -- statements were run, one after another
 abbrev pub IsCourse : ℕ → List ℕ → List Statement → List Turn → List lab.Event

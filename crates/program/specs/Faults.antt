@@ -6,7 +6,7 @@ use Rattle.std.specs.List.{list_all}
 use Rattle.std.specs.Option.{option_map_or, option_or}
 use Rattle.std.specs.Str.{bytes_eq}
 use Rattle.std.specs.Str.Parse.{digits_value}
-use Rattle.chain_model.specs.Configuration.{has}
+use Rattle.chain_model.specs.Configuration.{Configurations, has, at_epoch}
 use Rattle.program.specs.declared.script.error.ScriptError.{ScriptError}
 use Rattle.program.specs.declared.script.error.ScriptError.TheVariants.{LineTooLong, BadNumber}
 use Rattle.program.specs.declared.script.error.ScriptError.TheVariants.{UnknownStatement}
@@ -46,14 +46,14 @@ config_fault before args =
     if not (list_all is_number (before_fault args)) then Some BadNumber else
     if has_fault args then Some BadFault else
     if before.begun then Some OutOfPlace else
-    if is_some before.config || not (is_config (numbers_of args)) then Some BadConfiguration
+    if is_some before.configs || not (is_config (numbers_of args)) then Some BadConfiguration
     else None
 
--- a statement needs a configuration, and a node of it where it names one
-abbrev pub node_fault : Option (List ℕ) → Option ℕ → Option ScriptError
+-- a statement needs a configuration, and a node of the first one where it names one
+abbrev pub node_fault : Option Configurations → Option ℕ → Option ScriptError
 node_fault None named = Some OutOfPlace
-node_fault (Some ids) None = None
-node_fault (Some ids) (Some n) = if has ids n then None else Some UnknownNode
+node_fault (Some cs) None = None
+node_fault (Some cs) (Some n) = if has (at_epoch cs 0) n then None else Some UnknownNode
 
 -- the node that the words of a statement name: a frame goes to its own addressee
 abbrev pub node_named : List (List ℕ) → Option ℕ
@@ -66,7 +66,7 @@ node_named (name ∷ word ∷ args) =
 abbrev pub statement_fault : Before → List ℕ → List (List ℕ) → Option ScriptError
 statement_fault before name args =
     option_or (fault_of_words (name ∷ before_fault args))
-    (option_or (fault_word args) (node_fault before.config (node_named (name ∷ args))))
+    (option_or (fault_word args) (node_fault before.configs (node_named (name ∷ args))))
 
 abbrev pub words_fault : Before → List (List ℕ) → Option ScriptError
 words_fault before [] = Some UnknownStatement
@@ -84,8 +84,8 @@ abbrev pub after_words : Before → List (List ℕ) → Before
 after_words before [] = before
 after_words before (name ∷ args) =
     if bytes_eq name (codes "config")
-    then record { config = Some (numbers_of args); begun = before.begun }
-    else record { config = before.config; begun = true }
+    then record { configs = Some (numbers_of args ∷ []); begun = before.begun }
+    else record { configs = before.configs; begun = true }
 
 -- what stands before the line after this one
 abbrev pub after_line : Before → List ℕ → Before
@@ -100,11 +100,11 @@ numbered_fault before n line =
 -- the least fault of the first faulty line, the first line having number n; that there is no
 -- configuration counts for the line after the last
 abbrev pub script_fault : Before → ℕ → List (List ℕ) → Option (ℕ × ScriptError)
-script_fault before n [] = if is_none before.config then Some (n, BadConfiguration) else None
+script_fault before n [] = if is_none before.configs then Some (n, BadConfiguration) else None
 script_fault before n (line ∷ lines) =
     option_map_or (λ e. Some (n, e)) (numbered_fault before n line)
     (script_fault (after_line before line) (suc n) lines)
 
 -- nothing stands before the first line
 abbrev pub start : Before
-start = record { config = None; begun = false }
+start = record { configs = None; begun = false }

@@ -2,6 +2,7 @@
 use Rattle.std.specs.Prelude.{◌≡◌, ◌≤◌, ℕ, List, All, length, None}
 use Rattle.kv_types.specs.declared.edit.Edit.{Edit}
 use Rattle.lab.specs.declared.event.What.{What}
+use Rattle.program.specs.declared.script.setup.Setup.{Setup}
 use Rattle.program.specs.declared.script.statement.Statement.{Statement}
 use Rattle.program.specs.Words.{AreBytes, bytes_text}
 use Rattle.program.specs.Statements.{AreBytesIn, CanBeSaid, edit_text, IsSpelled, fault_of_words}
@@ -28,6 +29,6 @@ EventsAreRead = (what : What) (words : List (List ℕ)) → CanBeSaid what → I
 
 -- a script has no fault, where its lines are neither too long nor too many
 abbrev pub ScriptsAreRead : Type 0
-ScriptsAreRead = (lines : List (List ℕ)) (ids : List ℕ) (statements : List Statement)
+ScriptsAreRead = (lines : List (List ℕ)) (setup : Setup) (statements : List Statement)
     → All (λ line. length line ≤ 262144) lines → length lines ≤ 100000
-    → IsScript 1 lines ids statements → script_fault start 1 lines ≡ None
+    → IsScript 1 lines setup statements → script_fault start 1 lines ≡ None

@@ -7,5 +7,7 @@ pub mod Edits
 pub mod Reading
 pub mod Courses
 pub mod Text
+pub mod Failures
+pub mod Requests
 pub mod Runs
 pub mod Laws

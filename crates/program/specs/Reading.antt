@@ -4,6 +4,7 @@ use Rattle.std.specs.Prelude.{Some, None, Result, Ok, Err}
 use Rattle.std.specs.Fmt.{decimal}
 use Rattle.lab.specs.declared.event.What.{What}
 use Rattle.lab.specs.declared.event.What.TheVariants as what
+use Rattle.chain_model.specs.Configuration.{Configurations}
 use Rattle.configurations.specs.Configs.{IsConfig}
 use Rattle.program.specs.declared.script.error.ScriptError.{ScriptError}
 use Rattle.program.specs.declared.script.error.ScriptError.TheVariants.{OutOfMemory}
@@ -36,10 +37,11 @@ Reads words (Err e) = (e ≢ OutOfMemory) → fault_of_words words ≡ Some e
 -- the words say so, behind such lines
 abbrev pub IsItemOfWords : Before → List (List ℕ) → Item → Type 0
 IsItemOfWords before words Skipped = ⊥
-IsItemOfWords before words (Config ids) =
-    (words ≡ codes "config" ∷ map decimal ids) × IsConfig ids × (before.config ≡ None)
+IsItemOfWords before words (Config cs) =
+    (ids : List ℕ) × (words ≡ codes "config" ∷ map decimal ids) × IsConfig ids
+    × (cs ≡ ids ∷ []) × (before.configs ≡ None)
 IsItemOfWords before words (Asks meaning) =
-    (ids : List ℕ) × (before.config ≡ Some ids) × IsStatement ids words meaning
+    (cs : Configurations) × (before.configs ≡ Some cs) × IsStatement cs words meaning
 
 -- the line says so
 abbrev pub IsItem : Before → List ℕ → Item → Type 0
@@ -49,19 +51,19 @@ IsItem before line item = IsItemOfWords before (words_of line) item
 -- what an item leaves for the lines behind it
 abbrev pub after_item : Before → Item → Before
 after_item before Skipped = before
-after_item before (Config ids) = record { config = Some ids; begun = before.begun }
-after_item before (Asks meaning) = record { config = before.config; begun = true }
+after_item before (Config cs) = record { configs = Some cs; begun = before.begun }
+after_item before (Asks meaning) = record { configs = before.configs; begun = true }
 
 abbrev pub statements_of : ℕ → Item → List Statement
 statements_of n Skipped = []
-statements_of n (Config ids) = []
+statements_of n (Config cs) = []
 statements_of n (Asks meaning) = statement n meaning ∷ []
 
 -- a statement that may stand here
 abbrev pub Places : Before → List ℕ → List (List ℕ) → Result Meaning ScriptError → Type 0
 Places before name args (Ok meaning) =
     (statement_fault before name args ≡ None)
-    × ((ids : List ℕ) × (before.config ≡ Some ids) × IsStatement ids (name ∷ args) meaning)
+    × ((cs : Configurations) × (before.configs ≡ Some cs) × IsStatement cs (name ∷ args) meaning)
 Places before name args (Err e) = (e ≢ OutOfMemory) → statement_fault before name args ≡ Some e
 
 abbrev pub ReadsWords : Before → List (List ℕ) → Result Item ScriptError → Type 0

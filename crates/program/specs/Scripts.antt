@@ -3,9 +3,12 @@ use Rattle.std.specs.Prelude.{◌≡◌, ◌⊎◌, ℕ, suc, Bool, true, ◌==�
 use Rattle.std.specs.Prelude.{map, codes}
 use Rattle.std.specs.Fmt.{decimal}
 use Rattle.std.specs.List.{slice_split, onto_first}
+use Rattle.chain_model.specs.Configuration.{Configurations}
+use Rattle.kv_types.specs.declared.limits.Limits.{Limits}
 use Rattle.lab.specs.declared.event.What.{What}
 use Rattle.configurations.specs.Configs.{IsConfig}
 use Rattle.lab.specs.Events.{NamesNode}
+use Rattle.program.specs.declared.script.setup.Setup.{Setup}
 use Rattle.program.specs.declared.script.statement.Statement.{Statement}
 use Rattle.program.specs.declared.script.statement.Meaning.{Meaning}
 use Rattle.program.specs.declared.script.statement.Meaning.TheVariants.{Event, Invalid, Flow}
@@ -29,32 +32,43 @@ is_skipped (b ∷ bs) = b == 35
 abbrev pub statement : ℕ → Meaning → Statement
 statement n meaning = record { line = n; meaning = meaning }
 
--- words say what a statement comes to, at nodes of this configuration
-abbrev pub IsStatement : List ℕ → List (List ℕ) → Meaning → Type 0
-IsStatement ids words meaning =
+-- words say what a statement comes to, at nodes of the first of these configurations
+abbrev pub IsStatement : Configurations → List (List ℕ) → Meaning → Type 0
+IsStatement cs words meaning =
     ((meaning ≡ Flow) × (words ≡ codes "flow" ∷ []))
-    ⊎ ((what : What) × CanBeSaid what × IsSpelled what words × NamesNode (ids ∷ []) what
+    ⊎ ((what : What) × CanBeSaid what × IsSpelled what words × NamesNode cs what
     × (meaning ≡ meaning_of what))
 
--- lines behind a configuration, the first with number n: each is skipped, or is a statement
-abbrev pub AreStatements : List ℕ → ℕ → List (List ℕ) → List Statement → Type 0
-AreStatements ids n [] statements = statements ≡ []
-AreStatements ids n (line ∷ lines) statements =
-    ((is_skipped line ≡ true) × AreStatements ids (suc n) lines statements)
-    ⊎ ((meaning : Meaning) × (rest : List Statement) × IsStatement ids (words_of line) meaning
-    × (statements ≡ statement n meaning ∷ rest) × AreStatements ids (suc n) lines rest)
+-- lines behind the configurations, the first with number n: each is skipped, or is a statement
+abbrev pub AreStatements : Configurations → ℕ → List (List ℕ) → List Statement → Type 0
+AreStatements cs n [] statements = statements ≡ []
+AreStatements cs n (line ∷ lines) statements =
+    ((is_skipped line ≡ true) × AreStatements cs (suc n) lines statements)
+    ⊎ ((meaning : Meaning) × (rest : List Statement) × IsStatement cs (words_of line) meaning
+    × (statements ≡ statement n meaning ∷ rest) × AreStatements cs (suc n) lines rest)
+
+-- the limits of a script that sets none
+abbrev pub AreDefault : Limits → Type 0
+AreDefault limits =
+    (limits.log ≡ 4194304) × (limits.l0 ≡ 4) × (limits.table ≡ 2097152)
+    × (limits.level ≡ 10485760) × (limits.cache ≡ 256)
+
+-- a script that sets up these configurations, and no limit
+pub record SetsUp (setup : Setup) (cs : Configurations) : Type 0 where
+  pub configs : setup.configs ≡ cs
+  pub limits : AreDefault setup.limits
 
 -- lines that are a script, the first with number n: skipped ones, then a configuration, then what
 -- may stand behind it
-abbrev pub IsScript : ℕ → List (List ℕ) → List ℕ → List Statement → Type 0
-IsScript n [] ids statements = ⊥
-IsScript n (line ∷ lines) ids statements =
-    ((is_skipped line ≡ true) × IsScript (suc n) lines ids statements)
-    ⊎ ((words_of line ≡ codes "config" ∷ map decimal ids) × IsConfig ids
-    × AreStatements ids (suc n) lines statements)
+abbrev pub IsScript : ℕ → List (List ℕ) → Setup → List Statement → Type 0
+IsScript n [] setup statements = ⊥
+IsScript n (line ∷ lines) setup statements =
+    ((is_skipped line ≡ true) × IsScript (suc n) lines setup statements)
+    ⊎ ((ids : List ℕ) × (words_of line ≡ codes "config" ∷ map decimal ids) × IsConfig ids
+    × SetsUp setup (ids ∷ []) × AreStatements (ids ∷ []) (suc n) lines statements)
 
--- an event names a node of the configuration, if it names one
-abbrev pub Names : List ℕ → Meaning → Type 0
-Names ids (Event what) = NamesNode (ids ∷ []) what
-Names ids (Invalid e) = Unit {0}
-Names ids Flow = Unit {0}
+-- an event names a node of the first configuration, if it names one
+abbrev pub Names : Configurations → Meaning → Type 0
+Names cs (Event what) = NamesNode cs what
+Names cs (Invalid e) = Unit {0}
+Names cs Flow = Unit {0}

@@ -108,6 +108,10 @@ line_text (line.Acknowledged place from to epoch committed have) =
 line_text (line.Replied reply) = reply_text reply
 line_text (line.Stopped node cause) = stopped_text node cause
 
+-- the lines that are printed for a line of a report: one for each of today's
+abbrev pub line_texts : Line → List (List ℕ)
+line_texts line = line_text line ∷ []
+
 -- a line of output: a number of a line of the script, and what is said of it
 abbrev pub numbered : ℕ → List ℕ → List ℕ
 numbered n text = decimal n ++ (codes ": " ++ (text ++ 10 ∷ []))
@@ -137,7 +141,8 @@ line_told_at events here (line.Acknowledged place from to epoch committed have) 
 line_told_at events here (line.Stopped node cause) = here
 
 abbrev pub told_text : List ℕ → ℕ → Line → List ℕ
-told_text events here line = numbered (line_told_at events here line) (line_text line)
+told_text events here line =
+    flat_map (numbered (line_told_at events here line)) (line_texts line)
 
 abbrev pub step_text : List ℕ → ℕ → List Line → List ℕ
 step_text events here step = flat_map (told_text events here) step

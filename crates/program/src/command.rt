@@ -1,11 +1,18 @@
+//! What the program's words ask for.
+ghost use Rattle.std.specs.Prelude.{◌≡◌, ◌≢◌, ℕ, List, false, map, codes, Ok, Some, None, IfOk};
+ghost use Rattle.std.specs.Prelude.{MatchOption};
+ghost use Rattle.program.specs.Requests.{lab_script as script_of, is_dashed};
+
 use clap::error::ErrorKind;
 use clap::{Arg, ArgAction, Command};
 use std::alloc::Global;
 
 /// What the words ask for.
 pub enum Request<'a> {
-    /// A run of the script at this path, `-` for standard input.
-    Lab(&'a str),
+    /// A run of the script on standard input.
+    Input,
+    /// A run of the script at this path.
+    Script(&'a str),
 }
 
 /// Why the words are no request.
@@ -37,10 +44,45 @@ fn parsed<'a>(alloc: Global, words: &'a [&'a str]) -> Result<Option<&'a str>, cl
     }
 }
 
-/// The request that the words spell. The first word is the program's name.
-pub fn request_of<'a>(alloc: Global, words: &'a [&'a str]) -> Result<Request<'a>, WordsError> {
+/// The script of words in their plain form.
+fn lab_script<'a>(words: &'a [&'a str]) -> Option<&'a str>
+    ensures { MatchOption result (script_of (map (λ w. w.now) words.now) ≡ None)
+        (λ script. script_of (map (λ w. w.now) words.now) ≡ Some script.now) }
+{
+    match words {
+        [_, name, script] if *name == "lab" => Some(*script),
+        _ => None,
+    }
+}
+
+fn begins_with_dash(word: &str) -> bool
+    ensures { result ≡ is_dashed word.now }
+{
+    match word.as_bytes() {
+        [b'-', ..] => true,
+        _ => false,
+    }
+}
+
+/// The request that the words spell. The first word is the program's name. What words of the plain
+/// form ask for is decided here, and a contract says it; the parser decides on all others.
+pub fn request_of<'a>(alloc: Global, words: &'a [&'a str]) -> Result<Request<'a>, WordsError>
+    ensures input { script_of (map (λ w. w.now) words.now) ≡ Some (codes "-") →
+        result ≡ Ok Request.Input }
+    ensures path { (path : List ℕ) → script_of (map (λ w. w.now) words.now) ≡ Some path →
+        is_dashed path ≡ false → IfOk result (λ request. request ≢ Request.Input) }
+{
+    if let Some(script) = lab_script(words) {
+        if script == "-" {
+            return Ok(Request::Input);
+        }
+        if !begins_with_dash(script) {
+            return Ok(Request::Script(script));
+        }
+    }
     match parsed(alloc, words) {
-        Ok(Some(script)) => Ok(Request::Lab(script)),
+        Ok(Some("-")) => Ok(Request::Input),
+        Ok(Some(script)) => Ok(Request::Script(script)),
         Ok(None) => Err(WordsError::Usage),
         Err(error) if error.kind() == ErrorKind::OutOfMemory => Err(WordsError::Memory),
         Err(_) => Err(WordsError::Usage),

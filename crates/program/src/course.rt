@@ -6,8 +6,8 @@ ghost use Rattle.lab.specs.declared.event.Event.{Event as LabEvent};
 ghost use Rattle.lab.specs.declared.report.Line.{Line};
 ghost use Rattle.lab.specs.Events.{NamesNode};
 ghost use Rattle.lab.specs.Worlds.{HasRun, frames_told, frames_of_step};
-ghost use Rattle.program.specs.Courses.{event, events_of, left_by, left_by_event, places_after};
-ghost use Rattle.program.specs.Courses.{IsTurn, IsCourse, most};
+ghost use Rattle.program.specs.Courses.{event, deliveries, left_by, left_by_event};
+ghost use Rattle.program.specs.Courses.{IsTurn, places_after, most};
 ghost use Rattle.program.specs.Scripts.{Names};
 
 use crate::script::{Meaning, Statement};
@@ -101,9 +101,9 @@ impl Course {
         ensures { (cs : Configurations) (events : List LabEvent) (steps : List (List Line)) →
             HasRun self.old.world cs events steps →
             IfOk result (λ count. (own : List (List Line))
-            × HasRun self.new.world cs (events ++ events_of Meaning.Flow (self.old.left.items
+            × HasRun self.new.world cs (events ++ deliveries (self.old.left.items
             ++ places_after (frames_told steps) (frames_told own))) (steps ++ own)
-            × (count ≡ length own) × (count ≡ length (events_of Meaning.Flow (self.old.left.items
+            × (count ≡ length own) × (count ≡ length (deliveries (self.old.left.items
             ++ places_after (frames_told steps) (frames_told own))))
             × (self.new.left.items ≡ drop most (self.old.left.items
             ++ places_after (frames_told steps) (frames_told own)))) }
@@ -121,11 +121,11 @@ impl Course {
 
     /// Runs a statement.
     pub fn take(&mut self, alloc: Global, statement: &Statement) -> Result<Turn, LabError>
-        ensures { (ids : List ℕ) (events : List LabEvent) (steps : List (List Line)) →
-            HasRun self.old.world (ids ∷ []) events steps → Names ids statement.now.meaning →
+        ensures { (cs : Configurations) (events : List LabEvent) (steps : List (List Line)) →
+            HasRun self.old.world cs events steps → Names cs statement.now.meaning →
             IfOk result (λ turn. (own : List LabEvent) × (lines : List (List Line))
             × IsTurn (frames_told steps) self.old.left.items statement.now turn own lines
-            × HasRun self.new.world (ids ∷ []) (events ++ own) (steps ++ lines)
+            × HasRun self.new.world cs (events ++ own) (steps ++ lines)
             × (self.new.left.items ≡ left_by statement.now.meaning (self.old.left.items
             ++ places_after (frames_told steps) (frames_told lines)))) }
     {

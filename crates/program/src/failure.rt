@@ -1,11 +1,9 @@
 ghost use Rattle.std.specs.Prelude.{◌≡◌, Some};
-ghost use Rattle.program.specs.Runs.{failure_text};
-ghost use Rattle.program.specs.declared.failure.Failure.TheVariants.{Memory};
+ghost use Rattle.program.specs.Failures.{failure_of, failure_text};
 
+use crate::run_error::RunError;
 use crate::script::Fault;
 use crate::text::FaultText;
-use lab::LabError;
-use std::alloc::{AllocError, AllocFailed};
 use std::fmt;
 
 /// Why a run ended early. With `Output`, a beginning of its text may have been written.
@@ -33,26 +31,13 @@ impl fmt::Display for Failure {
     }
 }
 
-impl From<AllocError> for Failure {
-    ghost from_gives = { λ _ e. e ≡ Memory };
+impl From<RunError> for Failure {
+    ghost from_gives = { λ e failure. failure ≡ failure_of e };
 
-    fn from(_e: AllocError) -> Failure {
-        Failure::Memory
-    }
-}
-
-impl<T: Drop> From<AllocFailed<T>> for Failure {
-    ghost from_gives = { λ _ e. e ≡ Memory };
-
-    fn from(_e: AllocFailed<T>) -> Failure {
-        Failure::Memory
-    }
-}
-
-impl From<LabError> for Failure {
-    ghost from_gives = { λ _ e. e ≡ Memory };
-
-    fn from(_e: LabError) -> Failure {
-        Failure::Memory
+    fn from(e: RunError) -> Failure {
+        match e {
+            RunError::Write => Failure::Output,
+            RunError::Memory => Failure::Memory,
+        }
     }
 }

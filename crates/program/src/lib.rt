@@ -4,11 +4,13 @@
 mod command;
 mod course;
 mod failure;
+mod run_error;
 mod running;
 mod script;
 mod serving;
 mod text;
 mod turn;
+mod writing;
 
 pub use failure::Failure;
 pub use script::laws::{scripts_are_read, spellings_differ};

@@ -1,49 +1,37 @@
-ghost use Rattle.std.specs.Prelude.{◌≡◌, ◌≢◌, ℕ, List, [], ◌∷◌, All, IfOk, IfErr, IfSome, OnOk};
+//! From a script's bytes to the bytes that are printed.
+ghost use Rattle.std.specs.Prelude.{◌≡◌, ◌≢◌, All, IfOk, IfErr, IfSome, OnOk};
+ghost use Rattle.std.specs.Prelude.{None};
+ghost use Rattle.std.specs.IoError.{error_kind};
 ghost use Rattle.std.specs.Io.KnownBytes.{Appends};
 ghost use Rattle.program.specs.Scripts.{lines_of, IsScript, Names};
+ghost use Rattle.program.specs.Faults.{script_fault, start};
 ghost use Rattle.program.specs.Text.{event_lines, run_text};
-ghost use Rattle.program.specs.Runs.{HasRunAll, IsRunOf, IsRunOfText, IsFailureOf};
-ghost use Rattle.program.specs.Runs.{IsOfReading, IsOfRun};
-ghost use Rattle.program.specs.declared.failure.Failure.TheVariants.{Output};
+ghost use Rattle.program.specs.Failures.{IsOfReading, IsFailureOf};
+ghost use Rattle.program.specs.Runs.{HasRunAll, IsRunOf, IsRunOfText, HasFailed, AppendsPart};
+ghost use Rattle.program.specs.declared.run_error.RunError.TheVariants as error;
+ghost use Rattle.program.specs.declared.failure.Failure.TheVariants.{Memory, Unreadable};
 
 use crate::course::Course;
 use crate::failure::Failure;
-use crate::script::{Script, Statement, read_script};
+use crate::run_error::RunError;
+use crate::script::{Script, Setup, Statement, read_script};
 use crate::text::{event_places, print_run};
 use crate::turn::Turn;
-use configurations::{Config, Configs};
-use kv_types::Limits;
+use crate::writing::write_whole;
 use lab::{LabError, Lines, Report};
 use std::alloc::Global;
 use std::io::{self, ErrorKind, Read, Write};
 
-/// The list of one configuration.
-fn only(alloc: Global, config: &Config) -> Result<Configs, Failure>
-    ensures made { IfOk result (λ configs. configs ≡ config.now ∷ []) }
-    ensures cause { IfErr result IsOfRun }
-    ensures quiet { IfErr result (λ failure. failure ≢ Output) }
-{
-    let mut configs = Vec::new(alloc);
-    configs.push(config.clone()?)?;
-    // One configuration is lawful, so only memory can be wanting.
-    match Configs::new(configs) {
-        Ok(configs) => Ok(configs),
-        Err(_) => Err(Failure::Memory),
-    }
-}
-
 /// Runs the statements one after another, each in its turn.
 fn run_all(
     alloc: Global,
-    configs: &Configs,
+    setup: &Setup,
     statements: &[Statement],
 ) -> Result<(Vec<Turn>, Report), LabError>
-    ensures { (ids : List ℕ) → configs.now ≡ ids ∷ [] →
-        All (λ it. Names ids it.meaning) statements.now →
-        IfOk result (λ it. HasRunAll ids statements.now it.0.items it.1) }
+    requires { All (λ it. Names setup.now.configs it.meaning) statements.now }
+    ensures { IfOk result (λ it. HasRunAll setup.now statements.now it.0.items it.1) }
 {
-    let limits = Limits::default();
-    let mut course = Course::new(alloc, configs, &limits)?;
+    let mut course = Course::new(alloc, &setup.configs, &setup.limits)?;
     let mut turns = Vec::new(alloc);
     for statement in statements {
         turns.push(course.take(alloc, statement)?)?;
@@ -52,37 +40,47 @@ fn run_all(
     Ok((turns, report))
 }
 
-/// Prints a run. It fails only where the output takes no more.
-fn print<W: Write>(
-    places: &[u32],
-    turns: &[Turn],
-    steps: &[Lines],
-    out: &mut W,
-) -> Result<(), Failure>
-    requires { places.now ≡ event_lines turns.now }
-    ensures text { OnOk result (Appends (W.contents out.old) (W.contents out.new)
-        (run_text turns.now steps.now)) }
-    ensures cause { IfErr result (λ failure. failure ≡ Output) }
+/// The text of a run. It is made whole before any of it is written.
+fn text_of(alloc: Global, turns: &[Turn], steps: &[Lines]) -> Result<Vec<u8>, RunError>
+    ensures text { IfOk result (λ text. text.items ≡ run_text turns.now steps.now) }
+    ensures cause { IfErr result (λ e. e ≡ error.Memory) }
 {
-    match print_run(places, turns, steps, out) {
-        Ok(()) => Ok(()),
-        Err(_) => Err(Failure::Output),
+    let places = event_places(alloc, turns)?;
+    let mut text = Vec::new(alloc);
+    match print_run(&places, turns, steps, &mut text) {
+        Ok(()) => Ok(text),
+        // Bytes that are kept need nothing but memory.
+        Err(_) => Err(RunError::Memory),
     }
 }
 
-/// Runs a script at the nodes of its configuration, and writes what happened.
-fn run_script<W: Write>(alloc: Global, script: &Script, out: &mut W) -> Result<(), Failure>
-    requires { All (λ it. Names script.now.config it.meaning) script.now.statements.items }
-    ensures run { OnOk result (IsRunOf script.now.config script.now.statements.items
-        (W.contents out.old) (W.contents out.new)) }
-    ensures cause { IfErr result IsOfRun }
-    ensures untouched { IfErr result (λ failure. failure ≢ Output →
-        W.contents out.new ≡ W.contents out.old) }
+/// Writes a text, and all of it has then left the writer.
+fn print<W: Write>(text: &[u8], out: &mut W) -> Result<(), RunError>
+    ensures whole { OnOk result (Appends (W.contents out.old) (W.contents out.new) text.now) }
+    ensures part { AppendsPart (W.contents out.old) (W.contents out.new) text.now }
+    ensures cause { IfErr result (λ e. e ≡ error.Write) }
 {
-    let configs = only(alloc, &script.config)?;
-    let (turns, report) = run_all(alloc, &configs, &script.statements)?;
-    let places = event_places(alloc, &turns)?;
-    print(&places, &turns, &report.steps, out)
+    write_whole(text, out)?;
+    match out.flush() {
+        Ok(()) => Ok(()),
+        Err(_) => Err(RunError::Write),
+    }
+}
+
+/// Runs a script at the nodes of its first configuration, and writes what happened.
+fn run_script<W: Write>(alloc: Global, script: &Script, out: &mut W) -> Result<(), RunError>
+    requires { All (λ it. Names script.now.setup.configs it.meaning) script.now.statements.items }
+    ensures run { OnOk result (IsRunOf script.now.setup script.now.statements.items
+        (Appends (W.contents out.old) (W.contents out.new))) }
+    ensures untouched { IfErr result (λ e. e ≡ error.Memory →
+        W.contents out.new ≡ W.contents out.old) }
+    ensures part { IfErr result (λ e. e ≡ error.Write →
+        IsRunOf script.now.setup script.now.statements.items
+        (AppendsPart (W.contents out.old) (W.contents out.new))) }
+{
+    let (turns, report) = run_all(alloc, &script.setup, &script.statements)?;
+    let text = text_of(alloc, &turns, &report.steps)?;
+    print(&text, out)
 }
 
 fn all_of<R: Read>(alloc: Global, input: &mut R) -> io::Result<Vec<u8>>
@@ -93,20 +91,33 @@ fn all_of<R: Read>(alloc: Global, input: &mut R) -> io::Result<Vec<u8>>
     Ok(bytes)
 }
 
+/// The failure of a script that could not be read for this error.
+fn reading_failure(error: &io::Error) -> Failure
+    ensures memory { error_kind error.now ≡ ErrorKind.OutOfMemory → result ≡ Memory }
+    ensures unreadable { error_kind error.now ≢ ErrorKind.OutOfMemory → result ≡ Unreadable }
+{
+    if error.kind() == ErrorKind::OutOfMemory {
+        Failure::Memory
+    } else {
+        Failure::Unreadable
+    }
+}
+
 /// The script that is read.
 fn script_of<R: Read>(alloc: Global, input: &mut R) -> Result<Script, Failure>
     ensures found { IfOk result (λ script. IfSome (R.remaining input.old) (λ text.
-        IsScript 1 (lines_of text) script.config script.statements.items)) }
+        IsScript 1 (lines_of text) script.setup script.statements.items)) }
+    ensures lawful { OnOk result (IfSome (R.remaining input.old) (λ text.
+        script_fault start 1 (lines_of text) ≡ None)) }
     ensures fault { IfErr result (λ failure. IfSome (R.remaining input.old) (λ text.
         IsFailureOf text failure)) }
     ensures cause { IfErr result IsOfReading }
     ensures node { IfOk result (λ script.
-        All (λ it. Names script.config it.meaning) script.statements.items) }
+        All (λ it. Names script.setup.configs it.meaning) script.statements.items) }
 {
     let text = match all_of(alloc, input) {
         Ok(text) => text,
-        Err(error) if error.kind() == ErrorKind::OutOfMemory => return Err(Failure::Memory),
-        Err(_) => return Err(Failure::Unreadable),
+        Err(error) => return Err(reading_failure(&error)),
     };
     match read_script(alloc, &text) {
         Ok(script) => Ok(script),
@@ -116,13 +127,12 @@ fn script_of<R: Read>(alloc: Global, input: &mut R) -> Result<Script, Failure>
 
 /// Reads a script whole, runs it, and writes what happened.
 pub fn run<R: Read, W: Write>(alloc: Global, input: &mut R, out: &mut W) -> Result<(), Failure>
-    ensures run { OnOk result
-        (IsRunOfText (R.remaining input.old) (W.contents out.old) (W.contents out.new)) }
-    ensures fault { IfErr result (λ failure. IfSome (R.remaining input.old) (λ text.
-        IsFailureOf text failure)) }
-    ensures untouched { IfErr result (λ failure. failure ≢ Output →
-        W.contents out.new ≡ W.contents out.old) }
+    ensures run { OnOk result (IsRunOfText (R.remaining input.old)
+        (Appends (W.contents out.old) (W.contents out.new))) }
+    ensures failed { IfErr result
+        (HasFailed (R.remaining input.old) (W.contents out.old) (W.contents out.new)) }
 {
     let script = script_of(alloc, input)?;
-    run_script(alloc, &script, out)
+    run_script(alloc, &script, out)?;
+    Ok(())
 }

@@ -1,6 +1,11 @@
-ghost use Rattle.std.specs.Prelude.{◌≡◌, ◌≤◌, IfOk, OnOk, MatchResult, None};
+//! From the program's words and streams to its exit status.
+ghost use Rattle.std.specs.Prelude.{◌≡◌, ◌≤◌, ℕ, List, false, map, codes, Some, None};
+ghost use Rattle.std.specs.Prelude.{IfOk, IfErr, OnOk, MatchResult};
 ghost use Rattle.std.specs.Io.KnownBytes.{Appends};
-ghost use Rattle.program.specs.Runs.{line_told, Ends, IsRunOfText};
+ghost use Rattle.program.specs.Failures.{line_told};
+ghost use Rattle.program.specs.Requests.{lab_script, is_dashed};
+ghost use Rattle.program.specs.Runs.{Ends, EndsAs, HasFailed, IsRunOfText};
+ghost use Rattle.program.specs.declared.failure.Failure.{Failure as Cause};
 
 use crate::command::{Request, USAGE, WordsError, request_of};
 use crate::failure::Failure;
@@ -20,19 +25,33 @@ pub fn serve<F: Files + Alloc<A = Global>, R: Read, O: Write, E: Write>(
     out: &mut O,
     err: &mut E,
 ) -> u8
-    ensures run { result ≡ 0 → IsRunOfText None (O.contents out.old) (O.contents out.new) }
+    ensures input { lab_script (map (λ w. w.now) words.now) ≡ Some (codes "-") →
+        EndsAs (R.remaining input.old) (O.contents out.old) (O.contents out.new) result }
+    ensures path { (path : List ℕ) → lab_script (map (λ w. w.now) words.now) ≡ Some path →
+        is_dashed path ≡ false → input.new ≡ input.old }
+    ensures run { result ≡ 0 → IsRunOfText None (Appends (O.contents out.old) (O.contents out.new)) }
     ensures status { result ≤ 2 }
     ensures usage { result ≡ 2 → O.contents out.new ≡ O.contents out.old }
 {
-    let script = match request_of(rt.alloc(), words) {
-        Ok(Request::Lab(script)) => script,
-        Err(WordsError::Memory) => return tell(err, Failure::Memory),
-        Err(WordsError::Usage) => return refuse(err),
-    };
-    if script == "-" {
-        return end(serve_script(rt.alloc(), input, out, err));
+    match request_of(rt.alloc(), words) {
+        Ok(Request::Input) => end(serve_script(rt.alloc(), input, out, err)),
+        Ok(Request::Script(path)) => serve_path(rt, path, out, err),
+        Err(WordsError::Memory) => tell(err, Failure::Memory),
+        Err(WordsError::Usage) => refuse(err),
     }
-    match OpenOptions::new().read(true).open(rt, script) {
+}
+
+/// Runs the script at a path.
+fn serve_path<F: Files + Alloc<A = Global>, O: Write, E: Write>(
+    rt: &F,
+    path: &str,
+    out: &mut O,
+    err: &mut E,
+) -> u8
+    ensures run { result ≡ 0 → IsRunOfText None (Appends (O.contents out.old) (O.contents out.new)) }
+    ensures status { result ≤ 1 }
+{
+    match OpenOptions::new().read(true).open(rt, path) {
         Ok(mut file) => end(serve_script(rt.alloc(), &mut file, out, err)),
         Err(_) => tell(err, Failure::Unreadable),
     }
@@ -81,8 +100,10 @@ pub fn serve_script<R: Read, O: Write, E: Write>(
     out: &mut O,
     err: &mut E,
 ) -> io::Result<u8>
-    ensures { IfOk result (Ends (R.remaining input.old) (O.contents out.old) (O.contents out.new)
-        (E.contents err.old) (E.contents err.new)) }
+    ensures ended { IfOk result (Ends (R.remaining input.old) (O.contents out.old)
+        (O.contents out.new) (E.contents err.old) (E.contents err.new)) }
+    ensures refused { IfErr result (λ _. (failure : Cause) ×
+        HasFailed (R.remaining input.old) (O.contents out.old) (O.contents out.new) failure) }
 {
     match run(alloc, input, out) {
         Ok(()) => Ok(0),

@@ -1,6 +1,5 @@
 // The program's words, and what goes to standard error where they ask for nothing.
 use crate::calls::called;
-use program::serve;
 
 const USAGE: &[u8] = b"usage: chainstore lab SCRIPT | loop SCRIPT --dir D | dump DIR\n";
 
@@ -42,20 +41,4 @@ fn words_name_a_script(rt: HostRuntime) {
     }
     let absent = called(&rt, &["chainstore", "lab", "/no/such/script"], SCRIPT);
     assert!(rt; absent.tells(b"", b"script: unreadable\n") && absent.status == 1);
-}
-
-#[test]
-fn output_that_takes_no_more_is_told(rt: HostRuntime) {
-    let mut place = [0u8; 4];
-    let mut out = place.as_mut_slice();
-    let mut err = Vec::new(rt.alloc());
-    let mut input = SCRIPT;
-    let status = serve(
-        &rt,
-        &["chainstore", "lab", "-"],
-        &mut input,
-        &mut out,
-        &mut err,
-    );
-    assert!(rt; err.as_slice() == b"output: write\n".as_slice() && status == 1);
 }

@@ -8,10 +8,12 @@ pub mod laws;
 mod lines;
 mod meaning;
 mod reader;
+mod setup;
 mod statement;
 mod statements;
 mod word;
 
 pub use error::ScriptError;
 pub use reader::{Fault, Script, read_script};
+pub use setup::Setup;
 pub use statement::{Meaning, Statement};

@@ -15,10 +15,12 @@ use super::error::ScriptError;
 use super::fault::split_fault;
 use super::lines::{Lines, words};
 use super::meaning::meaning;
+use super::setup::Setup;
 use super::statement::{Before, Item, Meaning, Statement};
 use super::statements::asked_of;
 use super::word::number;
-use configurations::{Config, ConfigError};
+use configurations::{Config, ConfigError, Configs};
+use kv_types::Limits;
 use lab::What;
 use std::alloc::{AllocError, Global};
 
@@ -96,12 +98,25 @@ fn config_of(alloc: Global, numbers: &[u64]) -> Result<Config, ScriptError>
     }
 }
 
-// The one configuration.
+// The list of one configuration.
+fn only(alloc: Global, config: Config) -> Result<Configs, ScriptError>
+    ensures { MatchResult result (λ configs. configs ≡ config ∷ []) (λ e. e ≡ OutOfMemory) }
+{
+    let mut configs = Vec::new(alloc);
+    configs.push(config)?;
+    // One configuration is lawful, so only memory can be wanting.
+    match Configs::new(configs) {
+        Ok(configs) => Ok(configs),
+        Err(_) => Err(ScriptError::OutOfMemory),
+    }
+}
+
+// The configuration of a line, which is the only one.
 fn config(alloc: Global, before: &Before, args: &[&[u8]]) -> Result<Config, ScriptError>
     ensures { MatchResult result
         (λ config. (config_fault before.now (map (λ w. w.now) args.now) ≡ None)
         × (map (λ w. w.now) args.now ≡ map decimal config) × IsConfig config
-        × (numbers_of (map (λ w. w.now) args.now) ≡ config) × (before.now.config ≡ None))
+        × (numbers_of (map (λ w. w.now) args.now) ≡ config) × (before.now.configs ≡ None))
         (λ e. e ≢ OutOfMemory →
         config_fault before.now (map (λ w. w.now) args.now) ≡ Some e) }
 {
@@ -115,7 +130,7 @@ fn config(alloc: Global, before: &Before, args: &[&[u8]]) -> Result<Config, Scri
     if before.begun {
         return Err(ScriptError::OutOfPlace);
     }
-    if before.config.is_some() {
+    if before.configs.is_some() {
         return Err(ScriptError::BadConfiguration);
     }
     config_of(alloc, &numbers)
@@ -135,7 +150,7 @@ fn deliver(before: &Before, args: &[&[u8]]) -> Result<Meaning, ScriptError>
     if has_fault {
         return Err(ScriptError::BadFault);
     }
-    if before.config.is_none() {
+    if before.configs.is_none() {
         return Err(ScriptError::OutOfPlace);
     }
     Ok(Meaning::Event(What::Deliver { place }))
@@ -152,7 +167,7 @@ fn flow(before: &Before, args: &[&[u8]]) -> Result<Meaning, ScriptError>
     if has_fault {
         return Err(ScriptError::BadFault);
     }
-    if before.config.is_none() {
+    if before.configs.is_none() {
         return Err(ScriptError::OutOfPlace);
     }
     Ok(Meaning::Flow)
@@ -203,7 +218,8 @@ fn item_of_words(alloc: Global, before: &Before, words: &[&[u8]]) -> Result<Item
         return Err(ScriptError::UnknownStatement);
     };
     if *name == b"config".as_slice() {
-        return Ok(Item::Config(config(alloc, before, args)?));
+        let config = config(alloc, before, args)?;
+        return Ok(Item::Config(only(alloc, config)?));
     }
     Ok(Item::Asks(statement(alloc, before, name, args)?))
 }
@@ -222,10 +238,10 @@ fn item_of(alloc: Global, before: &Before, line: &[u8]) -> Result<Item, ScriptEr
     item_of_words(alloc, before, &words)
 }
 
-/// A script: its configuration, and its statements in order.
+/// A script: what it sets up, and its statements in order.
 #[derive(Debug, Drop)]
 pub struct Script {
-    pub config: Config,
+    pub setup: Setup,
     pub statements: Vec<Statement>,
 }
 
@@ -257,15 +273,15 @@ fn take_line(
 /// the least of its first faulty line.
 pub fn read_script(alloc: Global, text: &[u8]) -> Result<Script, Fault>
     ensures found { IfOk result (λ script.
-        IsScript 1 (lines_of text.now) script.config script.statements.items) }
+        IsScript 1 (lines_of text.now) script.setup script.statements.items) }
     ensures fault { MatchResult result (λ _. script_fault start 1 (lines_of text.now) ≡ None)
         (λ f. f.error ≢ OutOfMemory →
         script_fault start 1 (lines_of text.now) ≡ Some (f.line, f.error)) }
     ensures node { IfOk result (λ script.
-        All (λ it. Names script.config it.meaning) script.statements.items) }
+        All (λ it. Names script.setup.configs it.meaning) script.statements.items) }
 {
     let mut before = Before {
-        config: None,
+        configs: None,
         begun: false,
     };
     let mut statements = Vec::new(alloc);
@@ -280,11 +296,13 @@ pub fn read_script(alloc: Global, text: &[u8]) -> Result<Script, Fault>
         }
         number += 1;
     }
-    let Some(config) = before.into_config() else {
+    let Some(configs) = before.into_configs() else {
         return Err(Fault {
             line: number,
             error: ScriptError::BadConfiguration,
         });
     };
-    Ok(Script { config, statements })
+    let limits = Limits::default();
+    let setup = Setup { configs, limits };
+    Ok(Script { setup, statements })
 }

@@ -5,7 +5,7 @@ ghost use Rattle.program.specs.Faults.{node_fault};
 ghost use Rattle.program.specs.Reading.{after_item, statements_of};
 
 use super::error::ScriptError;
-use configurations::{Config, NodeId};
+use configurations::{Configs, NodeId};
 use kv_types::KvError;
 use lab::What;
 use std::alloc::AllocError;
@@ -32,14 +32,15 @@ pub struct Statement {
 #[derive(Debug, Drop)]
 pub enum Item {
     Skipped,
-    Config(Config),
+    /// The configurations up to this line.
+    Config(Configs),
     Asks(Meaning),
 }
 
-/// What stands before a line: the configuration, and whether a statement.
+/// What stands before a line: the configurations, and whether a statement.
 #[derive(Debug, Drop)]
 pub struct Before {
-    pub config: Option<Config>,
+    pub configs: Option<Configs>,
     pub begun: bool,
 }
 
@@ -69,37 +70,37 @@ impl Before {
     {
         match item {
             Item::Skipped => Ok(self),
-            Item::Config(config) => Ok(Before {
-                config: Some(config),
+            Item::Config(configs) => Ok(Before {
+                configs: Some(configs),
                 begun: self.begun,
             }),
             Item::Asks(meaning) => {
                 statements.push(Statement { line, meaning })?;
                 Ok(Before {
-                    config: self.config,
+                    configs: self.configs,
                     begun: true,
                 })
             }
         }
     }
 
-    /// The configuration, if there is one.
-    pub fn into_config(self) -> Option<Config>
-        ensures { result ≡ self.config }
+    /// The configurations, if there is one.
+    pub fn into_configs(self) -> Option<Configs>
+        ensures { result ≡ self.configs }
     {
-        self.config
+        self.configs
     }
 
     /// The node that a statement may name here.
     pub fn place(&self, node: u64) -> Result<NodeId, ScriptError>
         ensures { MatchResult result
-            (λ id. (id ≡ node) × (node_fault self.now.config (Some node) ≡ None))
-            (λ e. node_fault self.now.config (Some node) ≡ Some e) }
+            (λ id. (id ≡ node) × (node_fault self.now.configs (Some node) ≡ None))
+            (λ e. node_fault self.now.configs (Some node) ≡ Some e) }
     {
-        let Some(config) = &self.config else {
+        let Some(configs) = &self.configs else {
             return Err(ScriptError::OutOfPlace);
         };
-        match id_in(config.ids(), node) {
+        match id_in(configs.first().ids(), node) {
             Some(id) => Ok(id),
             None => Err(ScriptError::UnknownNode),
         }

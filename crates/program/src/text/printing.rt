@@ -138,5 +138,5 @@ pub fn print_run<W: Write>(
     for turn in turns {
         left = print_turn(places, turn, left, out)?;
     }
-    out.flush()
+    Ok(())
 }

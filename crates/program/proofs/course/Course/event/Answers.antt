@@ -1,5 +1,7 @@
-use Rattle.std.proofs.Common.{◌∙◌, sym, refl}
-use Rattle.program.proofs.Flowing.{leaves_all}
+use Rattle.std.proofs.Common.{refl, ◌++◌}
+use Rattle.lab.specs.Worlds.{frames_told, frames_of_step}
+use Rattle.program.specs.Courses.{places_after}
+use Rattle.program.proofs.Flowing.{left_as}
 use Rattle.program.proofs.course.Course.event.Goals as goal
 
 pub returns-in-Deliver : goal.returns-in-Deliver
@@ -14,5 +16,7 @@ returns-in_default c = λ cs events steps run named.
     let went = gave cs events steps run named in (
       went.0,
       went.1,
-      went.2 ∙ sym (leaves_all c.args.what.now _ c.in_default.not-Deliver),
+      left_as c.args.what.now (c.args.self.now.left.items
+          ++ places_after (frames_told steps) (frames_of_step went.0)) c.give.new.self.left.items
+          c.in_default.not-Deliver went.2,
     )

@@ -2,17 +2,16 @@ use Rattle.std.proofs.Common.{◌≡◌, ◌+◌, ℕ, [], ◌∷◌, ◌++◌, 
 use Rattle.std.proofs.Common.{arith, append-nil, drop}
 use Rattle.std.proofs.lemmas.Bool.Decides.{nat_tests}
 use Rattle.lab.specs.Worlds.{frames_told, frames_of_step}
-use Rattle.program.specs.Courses.{event, events_of, left_by_event, places_after, busy, most}
-use Rattle.program.specs.declared.script.statement.Meaning.TheVariants.{Flow}
+use Rattle.program.specs.Courses.{event, deliveries, left_by_event, places_after, busy, most}
 use Rattle.program.specs.declared.turn.Remark.TheVariants as remark
 use Rattle.program.proofs.Flowing.{turn_of_event, turn_of_error, turn_of_flow, none_left, some_left}
 use Rattle.program.proofs.course.Course.take.Goals as goal
 
 pub returns-in_ok-event-in-Event : goal.returns-in_ok-event-in-Event
-returns-in_ok-event-in-Event c = λ ids events steps run named.
+returns-in_ok-event-in-Event c = λ cs events steps run named.
     let what = c.in-Event.what in
     let it = c.args.statement.now in
-    let went = c.in_ok-event-in-Event.ensures (ids ∷ []) events steps run
+    let went = c.in_ok-event-in-Event.ensures cs events steps run
     (rw c.in-Event.is at named) in
     let one : frames_of_step went.0 ≡ frames_of_step went.0 + 0 = omega arith in (
       event what ∷ [],
@@ -24,7 +23,7 @@ returns-in_ok-event-in-Event c = λ ids events steps run named.
     )
 
 pub returns-in-Invalid : goal.returns-in-Invalid
-returns-in-Invalid c = λ ids events steps run named. (
+returns-in-Invalid c = λ cs events steps run named. (
   [],
   [],
   turn_of_error (frames_told steps) c.args.self.now.left.items c.args.statement.now _
@@ -34,14 +33,14 @@ returns-in-Invalid c = λ ids events steps run named. (
 )
 
 pub returns-then-is_empty : goal.returns-then-is_empty
-returns-then-is_empty c = λ ids events steps run named.
-    let went = c.in_ok-events-in-Flow.ensures (ids ∷ []) events steps run in
+returns-then-is_empty c = λ cs events steps run named.
+    let went = c.in_ok-events-in-Flow.ensures cs events steps run in
     let all = c.args.self.now.left.items ++ places_after (frames_told steps) (frames_told went.0)
     in
     let said : busy (drop most all) ≡ None = sym (ap busy went.4)
     ∙ none_left c.flow.new.self.left.items
     (grind (arith, nat_tests, c.if-is_empty.ensures, c.flow.new.self.left.ok.0)) in (
-      events_of Flow all,
+      deliveries all,
       went.0,
       turn_of_flow (frames_told steps) c.args.self.now.left.items c.args.statement.now went.0
           c.in_ok-events-in-Flow.events None c.in-Flow.is went.2 went.3 said,
@@ -50,14 +49,14 @@ returns-then-is_empty c = λ ids events steps run named.
     )
 
 pub returns-else-is_empty : goal.returns-else-is_empty
-returns-else-is_empty c = λ ids events steps run named.
-    let went = c.in_ok-events-in-Flow.ensures (ids ∷ []) events steps run in
+returns-else-is_empty c = λ cs events steps run named.
+    let went = c.in_ok-events-in-Flow.ensures cs events steps run in
     let all = c.args.self.now.left.items ++ places_after (frames_told steps) (frames_told went.0)
     in
     let said : busy (drop most all) ≡ Some remark.Busy = sym (ap busy went.4)
     ∙ some_left c.flow.new.self.left.items
     (λ e. absurd (grind (arith, nat_tests, c.if-is_empty.ensures, c.flow.new.self.left.ok.0))) in (
-      events_of Flow all,
+      deliveries all,
       went.0,
       turn_of_flow (frames_told steps) c.args.self.now.left.items c.args.statement.now went.0
           c.in_ok-events-in-Flow.events (Some remark.Busy) c.in-Flow.is went.2 went.3 said,

@@ -1,4 +1,5 @@
 use Rattle.std.proofs.Common.{arith, append-nil, refl, sym, ◌∙◌, []}
+use Rattle.program.specs.declared.script.setup.Setup.{Setup}
 use Rattle.program.specs.Scripts.{lines_of, IsScript}
 use Rattle.program.proofs.Going.{takes_on, keeps_fault, all_name}
 use Rattle.program.proofs.script.reader.read_script.Goals as goal
@@ -10,9 +11,9 @@ loop-line-preserved c =
     let lines = lines_of c.next.new.self.0.now in let old = c.loop-line.statements.items in
     let taken = rw c.in-Ok.is at c.take_line.ensures in
     record {
-      found = takes_on before c.in-Ok.after n line lines old _ (λ ids rest. IsScript 1
-          (lines_of c.args.text.now) ids rest) taken
-          (λ ids rest h. c.loop-line.invariant.found ids rest (rw c.in-Some.ensures.steps h));
+      found = takes_on before c.in-Ok.after n line lines old _ (λ setup rest. IsScript 1
+          (lines_of c.args.text.now) setup rest) taken (λ setup rest h.
+          c.loop-line.invariant.found setup rest (rw c.in-Some.ensures.steps h));
       fault = keeps_fault before c.in-Ok.after n line lines old _ taken
           ∙ rw c.in-Some.ensures.steps at c.loop-line.invariant.fault;
       few = omega (arith, taken.1);
@@ -20,17 +21,25 @@ loop-line-preserved c =
 
 pub returns-clause-found : goal.returns-clause-found
 returns-clause-found c =
+    let setup : Setup = record {
+      configs = c.in-Some-into_configs.configs;
+      limits = c.default-limits.result;
+    } in
     rw (← append-nil c.loop-line.statements.items)
-    (c.loop-line.invariant.found c.in-Some-into_config.config [] (rw (
+    (c.loop-line.invariant.found setup [] (rw (
       c.in-None.ensures.steps.0,
-      sym c.into_config.ensures ∙ c.in-Some-into_config.is,
-    ) (refl, refl)))
+      sym c.into_configs.ensures ∙ c.in-Some-into_configs.is,
+    ) (record { configs = refl; limits = c.default-limits.ensures }, refl)))
 
 pub returns-clause-node : goal.returns-clause-node
 returns-clause-node c =
-    all_name 1 (lines_of c.args.text.now) c.in-Some-into_config.config c.loop-line.statements.items
+    let setup : Setup = record {
+      configs = c.in-Some-into_configs.configs;
+      limits = c.default-limits.result;
+    } in
+    all_name 1 (lines_of c.args.text.now) setup c.loop-line.statements.items
     (rw (← append-nil c.loop-line.statements.items)
-    (c.loop-line.invariant.found c.in-Some-into_config.config [] (rw (
+    (c.loop-line.invariant.found setup [] (rw (
       c.in-None.ensures.steps.0,
-      sym c.into_config.ensures ∙ c.in-Some-into_config.is,
-    ) (refl, refl))))
+      sym c.into_configs.ensures ∙ c.in-Some-into_configs.is,
+    ) (record { configs = refl; limits = c.default-limits.ensures }, refl))))

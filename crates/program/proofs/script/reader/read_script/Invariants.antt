@@ -1,4 +1,5 @@
-use Rattle.std.proofs.Common.{◌≡◌, ◌++◌, ◌≤◌, ℕ, List}
+use Rattle.std.proofs.Common.{◌≡◌, ◌++◌, ◌≤◌, List}
+use Rattle.program.specs.declared.script.setup.Setup.{Setup}
 use Rattle.program.specs.declared.script.statement.Statement.{Statement}
 use Rattle.program.specs.Scripts.{lines_of, IsScript}
 use Rattle.program.specs.Faults.{script_fault, start}
@@ -9,9 +10,9 @@ use Rattle.program.proofs.script.reader.read_script.Given as goal
 -- whole
 abbrev pub invariant-loop-line : goal.invariant-loop-line
 invariant-loop-line l = record {
-  found : (ids : List ℕ) (rest : List Statement) → IsRest l.before.config l.number
-      (lines_of l.line-iterator.0.now) ids rest
-      → IsScript 1 (lines_of l.fn.text) ids (l.statements.items ++ rest);
+  found : (setup : Setup) (rest : List Statement) → IsRest l.before.configs l.number
+      (lines_of l.line-iterator.0.now) setup rest
+      → IsScript 1 (lines_of l.fn.text) setup (l.statements.items ++ rest);
   fault : script_fault l.before l.number (lines_of l.line-iterator.0.now) ≡ script_fault start 1
       (lines_of l.fn.text);
   few : l.number ≤ 100001;

@@ -1,0 +1,43 @@
+-- Why a run ends early, and the line that says so.
+use Rattle.std.specs.Prelude.{◌≡◌, ◌≢◌, ℕ, List, [], ◌∷◌, ◌++◌, codes, Some}
+use Rattle.std.specs.Fmt.{decimal}
+use Rattle.program.specs.declared.failure.Failure.{Failure}
+use Rattle.program.specs.declared.failure.Failure.TheVariants.{Unreadable, Script, Output}
+use Rattle.program.specs.declared.failure.Failure.TheVariants.{Memory}
+use Rattle.program.specs.declared.run_error.RunError.{RunError}
+use Rattle.program.specs.declared.run_error.RunError.TheVariants as run
+use Rattle.program.specs.declared.script.error.ScriptError.TheVariants.{OutOfMemory}
+use Rattle.program.specs.Scripts.{lines_of}
+use Rattle.program.specs.Faults.{script_fault, start}
+use Rattle.program.specs.Text.{fault_text}
+
+-- the failure of the program that an early end of its run is
+abbrev pub failure_of : RunError → Failure
+failure_of run.Write = Output
+failure_of run.Memory = Memory
+
+-- why a run ended early
+abbrev pub failure_text : Failure → List ℕ
+failure_text Unreadable = codes "script: unreadable"
+failure_text (Script f) = codes "line " ++ (decimal f.line ++ (codes ": " ++ fault_text f.error))
+failure_text Output = codes "output: write"
+failure_text Memory = codes "run: memory"
+
+-- the line that tells of a failure
+abbrev pub line_told : Failure → List ℕ
+line_told failure = failure_text failure ++ 10 ∷ []
+
+-- a fault of the script is the least of its first faulty line; only want of memory may come before
+abbrev pub IsFailureOf : List ℕ → Failure → Type 0
+IsFailureOf text (Script f) =
+    f.error ≢ OutOfMemory → script_fault start 1 (lines_of text) ≡ Some (f.line, f.error)
+IsFailureOf text Unreadable = Unit {0}
+IsFailureOf text Output = Unit {0}
+IsFailureOf text Memory = Unit {0}
+
+-- a script is refused for these alone, before anything runs
+abbrev pub IsOfReading : Failure → Type 0
+IsOfReading Unreadable = Unit {0}
+IsOfReading (Script f) = Unit {0}
+IsOfReading Output = ⊥
+IsOfReading Memory = Unit {0}

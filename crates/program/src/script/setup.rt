@@ -1,0 +1,10 @@
+//! What a script sets up before its first statement.
+use configurations::Configs;
+use kv_types::Limits;
+
+/// The configurations of a chain in order, and the limits of its nodes.
+#[derive(Debug, Drop)]
+pub struct Setup {
+    pub configs: Configs,
+    pub limits: Limits,
+}

@@ -1,0 +1,82 @@
+// Scripts that can't be read to their end, scripts at a path, and outputs that take no more.
+use crate::calls::called;
+use crate::streams::{Broken, Full};
+use program::serve;
+use std::fs;
+use std::io::{BufWriter, ErrorKind};
+use std::test::Fail;
+
+const WORDS: &[&str] = &["chainstore", "lab", "-"];
+
+const SCRIPT: &[u8] = b"config 1\nsubmit 1 a=1\nget 1 a\n";
+
+const TEXT: &[u8] = b"2: committed 1\n3: value 1 at 1\n";
+
+// Beginnings of a script before the error, its kind, and what is told of it. The half of a line
+// that was read would be a statement of its own.
+const UNREADABLE: &[(&str, ErrorKind, &str)] = &[
+    ("", ErrorKind::Other, "script: unreadable\n"),
+    (
+        "config 1\nget 1 a",
+        ErrorKind::Other,
+        "script: unreadable\n",
+    ),
+    (
+        "config 1\nget 1 a\n",
+        ErrorKind::PermissionDenied,
+        "script: unreadable\n",
+    ),
+    ("config 1\nget 1 a", ErrorKind::OutOfMemory, "run: memory\n"),
+];
+
+#[test]
+fn a_script_that_breaks_off_is_not_run(rt: HostRuntime) {
+    for (bytes, kind, told) in UNREADABLE {
+        let (mut out, mut err) = (Vec::new(rt.alloc()), Vec::new(rt.alloc()));
+        let (bytes, kind) = (bytes.as_bytes(), *kind);
+        let status = serve(&rt, WORDS, &mut Broken { bytes, kind }, &mut out, &mut err);
+        assert!(rt;
+            status == 1 && out.is_empty() && err.as_slice() == told.as_bytes(),
+            "{told}"
+        );
+    }
+}
+
+// The file is run and not the standard input.
+#[test]
+fn a_script_at_a_path_is_run(rt: HostRuntime) -> Result<(), Fail> {
+    let path = "script_at_a_path";
+    fs::write(&rt, path, "config 7\nstop 7\n")?;
+    let outcome = called(&rt, &["chainstore", "lab", path], SCRIPT);
+    let behind = called(&rt, &["chainstore", "lab", "--", path], SCRIPT);
+    fs::remove_file(&rt, path)?;
+    assert!(rt; outcome.status == 0 && outcome.tells(b"2: node 7 stopped\n", b""));
+    assert!(rt; behind.status == 0 && behind.tells(b"2: node 7 stopped\n", b""));
+    Ok(())
+}
+
+// However much is taken, it is a beginning of the text, and the failure is told.
+#[test]
+fn an_output_takes_a_beginning(rt: HostRuntime) {
+    for room in 0..TEXT.len() {
+        let (taken, mut err) = (Vec::new(rt.alloc()), Vec::new(rt.alloc()));
+        let (mut input, mut out) = (SCRIPT, Full { taken, room });
+        let status = serve(&rt, WORDS, &mut input, &mut out, &mut err);
+        assert!(rt; status == 1 && err.as_slice() == b"output: write\n".as_slice());
+        assert!(rt; out.taken.as_slice() == &TEXT[..room], "{room}");
+    }
+}
+
+// A writer that keeps the bytes until it is flushed fails only then.
+#[test]
+fn an_output_is_flushed(rt: HostRuntime) -> Result<(), Fail> {
+    for (room, status, told) in [(8, 1, "output: write\n"), (TEXT.len(), 0, "")] {
+        let (taken, mut err) = (Vec::new(rt.alloc()), Vec::new(rt.alloc()));
+        let mut input = SCRIPT;
+        let mut out = BufWriter::new(rt.alloc(), Full { taken, room })?;
+        let answer = serve(&rt, WORDS, &mut input, &mut out, &mut err);
+        assert!(rt; answer == status && err.as_slice() == told.as_bytes());
+        assert!(rt; out.get_ref().taken.as_slice() == &TEXT[..room], "{room}");
+    }
+    Ok(())
+}

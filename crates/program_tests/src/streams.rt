@@ -1,0 +1,41 @@
+// Streams that fail: a reader half way, a writer at its end.
+use std::io::{self, ErrorKind, Read, Write};
+
+// Gives these bytes, and then fails in this way.
+#[derive(Drop)]
+pub struct Broken<'a> {
+    pub bytes: &'a [u8],
+    pub kind: ErrorKind,
+}
+
+impl Read for Broken<'_> {
+    fn read(&mut self, buf: &mut [u8]) -> io::Result<usize> {
+        if self.bytes.is_empty() {
+            return Err(io::Error::from(self.kind));
+        }
+        self.bytes.read(buf)
+    }
+}
+
+// Takes so many bytes, and then fails.
+#[derive(Drop)]
+pub struct Full {
+    pub taken: Vec<u8>,
+    pub room: usize,
+}
+
+impl Write for Full {
+    fn write(&mut self, buf: &[u8]) -> io::Result<usize> {
+        let count = buf.len().min(self.room);
+        if count == 0 {
+            return Err(io::Error::from(ErrorKind::StorageFull));
+        }
+        self.taken.extend_from_slice(&buf[..count])?;
+        self.room = self.room.saturating_sub(count);
+        Ok(count)
+    }
+
+    fn flush(&mut self) -> io::Result<()> {
+        Ok(())
+    }
+}
