@@ -1,6 +1,7 @@
 -- A running node after its store's part and after a start, and what its disk leaves.
 use Rattle.std.proofs.Common.{◌≡◌, ℕ, ◌+◌, List, [], ◌∷◌, ◌++◌, length, true, inl, inr}
-use Rattle.std.proofs.Common.{suc, arith, map, Option, Some, None, refl, sym, ap, subst, ◌∙◌, replicate, length-append}
+use Rattle.std.proofs.Common.{suc, arith, map, Option, Some, None, refl, sym, ap, subst, ◌∙◌}
+use Rattle.std.proofs.Common.{replicate, length-append}
 use Rattle.std.specs.Prelude.{Result, Ok, Err, IfOk, IfErr}
 use Rattle.std.proofs.lemmas.List.{length-replicate}
 use Rattle.kv_types.specs.declared.edit.Edit.{Edit}

@@ -1,4 +1,4 @@
-use Rattle.std.proofs.Common.{rules, ◌≡◌, ℕ, ◌+◌, ◌-◌, ◌++◌, suc, ap, ◌∙◌, sym, subst, arith}
+use Rattle.std.proofs.Common.{rules, ◌≡◌, ◌+◌, ◌-◌, ◌++◌, suc, ap, ◌∙◌, sym, subst, arith}
 use Rattle.std.specs.Prelude.{option_to_list}
 use Rattle.std.proofs.lemmas.Result.{err_from_is_err_and}
 use Rattle.chain_model.specs.Rules.{forward, forwards}
@@ -55,8 +55,9 @@ loop-number-preserved g c =
           c.unwrap-number.ensures in
           let there = c.in_ok-batch.ensures.found y n.epoch n.ids n.list n.floor n.kept
           (was.honest.1 honest) (was.holds y n honest s) in
-          let sends : ℕ → Type 0 = λ i. AreFrames (option_to_list c.forward.result) (forward x n i) in
-          let one = subst sends made (c.forward.ensures n is there) in
+          let frame = option_to_list c.forward.result in
+          let one = subst (λ i. AreFrames frame (forward x n i)) made
+          (c.forward.ensures n is there) in
           let passed : forwards x n k (at + 1 - start) ≡ forwards x n k m ++ forward x n at
           = ap (forwards x n k) more ∙ c.one_by_one.ensures x n k m
           ∙ ap (λ i. forwards x n k m ++ forward x n i) (sym number) in
