@@ -1,7 +1,7 @@
 use Rattle.std.proofs.Common.{subst, sym, arith, add-one, drop}
 use Rattle.program.specs.declared.script.statement.Statement.{Statement}
 use Rattle.program.specs.Scripts.{Names}
-use Rattle.program.proofs.Flowing.{goes_nowhere, goes_next, gone, drop_past}
+use Rattle.program.proofs.Flowing.{goes_next, gone, drop_past}
 use Rattle.program.proofs.running.run_all.Goals as goal
 
 pub loop-statement-preserved : goal.loop-statement-preserved

@@ -1,4 +1,3 @@
-use Rattle.program.specs.Runs.{IsRunOf, AppendsPart}
 use Rattle.program.proofs.Wholes.{on_ok_map, only_write, also_err}
 use Rattle.program.proofs.running.run_script.Goals as goal
 
