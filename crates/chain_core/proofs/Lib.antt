@@ -1,5 +1,6 @@
 pub mod Ends
 pub mod Resends
 pub mod Queues
+pub mod Orders
 pub mod After
 pub mod Steps

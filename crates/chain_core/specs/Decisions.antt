@@ -89,17 +89,19 @@ done_of x n batch (done.Accepted request) = accept x n request batch
 done_of x n batch done.Appended = append x n (suc (length n.list)) batch
 done_of x n batch (done.Told committed have) = pass_on x n committed have
 
--- a number is left for a batch that is taken
+-- what the count allows of a decision: a number is left for a batch, and a successor tells no more
+-- committed than it has, and no more than there is
 abbrev pub HasRoomFor : ℕ → Decision → Type 0
 HasRoomFor count (decision.Accept request batch) = count < MAX_NUMBER
 HasRoomFor count (decision.Append batch) = count < MAX_NUMBER
+HasRoomFor count (decision.PassOn committed have) = (committed ≤ have) × (have ≤ count)
 HasRoomFor count _ = Unit {0}
 
--- .. or that was taken
+-- what the count allows of what was done
 abbrev pub HasRoom : ℕ → Done → Type 0
 HasRoom count (done.Accepted request) = count < MAX_NUMBER
 HasRoom count done.Appended = count < MAX_NUMBER
-HasRoom count (done.Told committed have) = Unit {0}
+HasRoom count (done.Told committed have) = (committed ≤ have) × (have ≤ count)
 
 -- what a node knows is what the machine of an answer has, and these requests have its replies
 pub record Follows (new : Core) (answer : Answer (List Edit)) (due : List Waiting) : Type 0 where

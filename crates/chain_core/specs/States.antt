@@ -1,10 +1,11 @@
 -- The numbers of a node, without its batches, and the machine of the chain's model that has them.
-use Rattle.std.specs.Prelude.{◌≡◌, ◌≤◌, ◌<◌, ℕ, List, [], ◌∷◌, length, map, true}
+use Rattle.std.specs.Prelude.{◌≡◌, ◌≤◌, ◌<◌, ℕ, List, [], ◌∷◌, length, map, true, false}
 use Rattle.kv_types.specs.declared.edit.Edit.{Edit}
+use Rattle.chain_model.specs.Configuration.{is_tail}
 use Rattle.chain_model.specs.Node as model
 use Rattle.chain_model.specs.Requests.{Reply, Committed}
 use Rattle.chain_core.specs.declared.waiting.Waiting.{Waiting}
-use Rattle.chain_core.specs.declared.state.AtRest.{AtRest}
+use Rattle.chain_core.specs.declared.at_rest.AtRest.{AtRest}
 
 -- the machine of a node that takes batches of edits
 abbrev pub Machine : Type 0
@@ -53,6 +54,16 @@ abbrev pub IsInOrder : (above most : ℕ) → List Waiting → Type 0
 IsInOrder above most [] = Unit {0}
 IsInOrder above most (it ∷ rest) =
     (above < it.number) × (it.number ≤ most) × IsInOrder it.number most rest
+
+-- the numbers of a node stand in this order, and those waited for rise
+pub record HasOrderedNumbers (core : Core) : Type 0 where
+  pub kept : core.kept ≤ core.floor
+  pub floor : core.floor ≤ core.committed
+  pub committed : core.committed ≤ core.count
+  -- its successor has all that it knows to be committed; a tail has no successor
+  pub successor_has : is_tail core.ids core.id ≡ false → core.committed ≤ core.successor_has
+  pub sent : core.successor_has ≤ core.count
+  pub pending : IsInOrder 0 core.count core.pending
 
 -- each request is told that its batch is committed
 abbrev pub replies_of : List Waiting → List (Reply (List Edit))

@@ -18,6 +18,30 @@ list_after n batch (done.Accepted request) = n.list ++ batch ∷ []
 list_after n batch done.Appended = n.list ++ batch ∷ []
 list_after n batch (done.Told committed have) = n.list
 
+-- its epoch afterwards
+abbrev pub epoch_after : Machine → Done → ℕ
+epoch_after n (done.Accepted request) = n.epoch
+epoch_after n done.Appended = n.epoch
+epoch_after n (done.Told committed have) = n.epoch
+
+-- its configuration afterwards
+abbrev pub ids_after : Machine → Done → List ℕ
+ids_after n (done.Accepted request) = n.ids
+ids_after n done.Appended = n.ids
+ids_after n (done.Told committed have) = n.ids
+
+-- its floor afterwards
+abbrev pub floor_after : Machine → Done → ℕ
+floor_after n (done.Accepted request) = n.floor
+floor_after n done.Appended = n.floor
+floor_after n (done.Told committed have) = n.floor
+
+-- its kept number afterwards
+abbrev pub kept_after : Machine → Done → ℕ
+kept_after n (done.Accepted request) = n.kept
+kept_after n done.Appended = n.kept
+kept_after n (done.Told committed have) = n.kept
+
 -- what it sends, by what the new machine has
 abbrev pub frames_after : ℕ → Machine → Done → Machine → List (Frame (List Edit))
 frames_after x old (done.Accepted request) new = forward x new (suc (length old.list))
@@ -26,14 +50,14 @@ frames_after x old done.Appended new =
 frames_after x old (done.Told committed have) new =
     if nat_lt old.committed committed then ack x new else []
 
--- what outlives a stop is as before, with the batch, where there is one; and what is sent
+-- what outlives a stop is what each kind of step leaves of it, and these frames are sent
 pub record Leaves (x : ℕ) (n : Machine) (batch : List Edit) (d : Done) (a : Answer (List Edit))
     : Type 0 where
   pub list : a.node.list ≡ list_after n batch d
-  pub epoch : a.node.epoch ≡ n.epoch
-  pub ids : a.node.ids ≡ n.ids
-  pub floor : a.node.floor ≡ n.floor
-  pub kept : a.node.kept ≡ n.kept
+  pub epoch : a.node.epoch ≡ epoch_after n d
+  pub ids : a.node.ids ≡ ids_after n d
+  pub floor : a.node.floor ≡ floor_after n d
+  pub kept : a.node.kept ≡ kept_after n d
   pub frames : a.frames ≡ frames_after x n d a.node
   pub dropped : a.dropped ≡ None
 

@@ -1,6 +1,7 @@
 //! The rules of a step of a node: what is decided of an input, and what a node knows after it.
 #![tactic(auto)]
 
+mod at_rest;
 mod deciding;
 mod decision;
 mod done;
@@ -13,6 +14,7 @@ mod sending;
 mod state;
 mod waiting;
 
+pub use at_rest::AtRest;
 pub use deciding::decide;
 pub use decision::Decision;
 pub use done::Done;
@@ -20,5 +22,5 @@ pub use drop_reason::DropReason;
 pub use error::CoreError;
 pub use input::Input;
 pub use sending::Sent;
-pub use state::{AtRest, CoreState};
+pub use state::CoreState;
 pub use waiting::Waiting;

@@ -60,10 +60,15 @@ impl CoreState {
         ensures there { result.start < result.end → result.end ≤ self.now.count + 1 }
         ensures to { result.start < result.end →
             IsSome (successor self.now.ids self.now.id) }
+        ensures kept { result.start < result.end → self.now.kept < result.start }
         ensures all { (n : Machine) → Is self.now n →
             forwards self.now.id n n.successor_has 16
             ≡ forwards self.now.id n n.successor_has (result.end - result.start) }
     {
+        // law: its numbers stand in order
+        let _ = self.committed();
+        // law: its ids differ, so with a successor it is no tail
+        let _ = self.config().ids();
         let has = self.successor_has().get();
         if self.successor().is_none() {
             return has + 1..has + 1;

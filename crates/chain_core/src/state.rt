@@ -1,4 +1,4 @@
-ghost use Rattle.std.specs.Prelude.{◌≡◌, ◌<◌, suc, List, length, max, not};
+ghost use Rattle.std.specs.Prelude.{◌≡◌, ◌<◌, ◌≤◌, suc, List, length, max, not};
 ghost use Rattle.std.specs.Prelude.{if◌then◌else◌};
 ghost use Rattle.std.specs.Prelude.{IfOk, OnErr};
 ghost use Rattle.kv_types.specs.declared.bounds.TheConstants.{MAX_NUMBER};
@@ -6,11 +6,11 @@ ghost use Rattle.kv_types.specs.declared.edit.Edit.{Edit};
 ghost use Rattle.chain_model.specs.Configuration.{has, is_head, is_tail, predecessor, successor};
 ghost use Rattle.chain_model.specs.Node.{created, started};
 ghost use Rattle.chain_model.specs.Rules.{accept, append, pass_on};
-ghost use Rattle.chain_core.specs.States.{Machine, Is, IsAtRest};
+ghost use Rattle.chain_core.specs.States.{Machine, Is, IsAtRest, HasOrderedNumbers};
 ghost use Rattle.chain_core.specs.Decisions.{Follows, HasRoom, done_of};
 
 use crate::queue::{count_due, move_due};
-use crate::{CoreError, Done, Waiting};
+use crate::{AtRest, CoreError, Done, Waiting};
 use configurations::{Config, Epoch, NodeId};
 use kv_types::Number;
 use std::alloc::Global;
@@ -33,35 +33,15 @@ pub struct CoreState {
 }
 
 impl Model for CoreState {
-    ghost use Rattle.chain_core.specs.States.{Core, IsInOrder};
+    ghost use Rattle.chain_core.specs.States.{Core, HasOrderedNumbers};
 
     ghost Value = { Core };
 
-    ghost view = { λ state. record {
-      id = state.id;
-      epoch = state.epoch;
-      ids = state.config;
-      count = state.count;
-      committed = state.committed;
-      floor = state.floor;
-      kept = state.kept;
-      successor_has = state.successor_has;
-      snapshots = state.snapshots.items;
-      pending = state.pending.items;
-    } };
+    ghost use Rattle.chain_core.specs.CoreState.{core_value};
 
-    ghost invariant = { λ state. IsInOrder 0 state.count state.pending.items };
-}
+    ghost view = { core_value };
 
-/// What outlives a stop of a node, besides its batches.
-#[derive(Debug, Drop)]
-pub struct AtRest {
-    pub id: NodeId,
-    pub epoch: Epoch,
-    pub config: Config,
-    pub count: Number,
-    pub floor: Number,
-    pub kept: Number,
+    ghost invariant = { λ state. HasOrderedNumbers (core_value state) };
 }
 
 fn is_head(config: &Config, id: NodeId) -> bool
@@ -153,7 +133,8 @@ impl CoreState {
 
     /// How many of them it knows to be committed.
     pub fn committed(&self) -> Number
-        ensures { result ≡ self.now.committed }
+        ensures same { result ≡ self.now.committed }
+        ensures ordered { HasOrderedNumbers self.now }
     {
         self.committed
     }
@@ -231,6 +212,7 @@ impl CoreState {
         ensures after { (n : Machine) (batch : List Edit) → Is self.old n →
             IfOk result (λ due.
             Follows self.new (accept self.old.id n request batch) due.items) }
+        ensures rises { self.old.committed ≤ self.new.committed }
         ensures same { self.new.id ≡ self.old.id }
         ensures memory { OnErr result (self.new ≡ self.old) }
     {
@@ -250,6 +232,7 @@ impl CoreState {
         requires { self.old.count < MAX_NUMBER }
         ensures after { (n : Machine) (batch : List Edit) → Is self.old n →
             Is self.new (append self.old.id n (suc (length n.list)) batch).node }
+        ensures rises { self.old.committed ≤ self.new.committed }
         ensures same { self.new.id ≡ self.old.id }
     {
         let number = self.count.next().unwrap();
@@ -264,8 +247,10 @@ impl CoreState {
         committed: Number,
         have: Number,
     ) -> Result<Vec<Waiting>, CoreError>
+        requires { (committed ≤ have) × (have ≤ self.old.count) }
         ensures after { (n : Machine) → Is self.old n → IfOk result (λ due.
             Follows self.new (pass_on self.old.id n committed have) due.items) }
+        ensures rises { self.old.committed ≤ self.new.committed }
         ensures same { self.new.id ≡ self.old.id }
         ensures memory { OnErr result (self.new ≡ self.old) }
     {
@@ -284,6 +269,7 @@ impl CoreState {
         requires { HasRoom self.old.count done }
         ensures after { (n : Machine) (batch : List Edit) → Is self.old n →
             IfOk result (λ due. Follows self.new (done_of self.old.id n batch done) due.items) }
+        ensures rises { self.old.committed ≤ self.new.committed }
         ensures same { self.new.id ≡ self.old.id }
         ensures memory { OnErr result (self.new ≡ self.old) }
     {

@@ -1,11 +1,11 @@
 -- Worked runs, which show what each event sends, replies and drops. Batches are numbers here.
-use Rattle.std.specs.Prelude.{◌≡◌, ℕ, List, [], ◌∷◌, Some, None, true}
+use Rattle.std.specs.Prelude.{◌≡◌, ℕ, List, [], ◌∷◌, take, Some, None, true}
 use Rattle.chain_model.specs.Configuration.{Configurations}
 use Rattle.chain_model.specs.Refusal as refusal
 use Rattle.chain_model.specs.DropReason as reason
 use Rattle.chain_model.specs.Requests.{Submit, Read, Open, Close}
 use Rattle.chain_model.specs.World.{Event, Ask, Tick, Tend, Notice, Deliver, Start, Stop}
-use Rattle.chain_model.specs.World.{Answered, StoppedBefore, StoppedAfter}
+use Rattle.chain_model.specs.World.{Answered, StoppedBefore, StoppedAfter, node_of}
 use Rattle.chain_model.specs.Trace.{Line, Forwards, Acks, Commits, Reads, Refuses, Drops, Adopts}
 use Rattle.chain_model.specs.Trace.{Opens, Starts, Stops, trace}
 
@@ -26,6 +26,10 @@ lines_of (step ∷ run) = step.1 ∷ lines_of run
 -- these configurations and events show these lines (this store's profile)
 abbrev pub ShowsThat : Configurations → Run → Type 0
 ShowsThat cs run = trace cs (events_of run) ≡ lines_of run
+
+-- the numbers and requests that wait at node x after these events (this store's profile)
+abbrev pub pending_after : Configurations → Run → ℕ → List (ℕ × ℕ)
+pending_after cs run x = (node_of cs (events_of run) x).pending
 
 -- three nodes; the frame of the first batch comes to node 2 twice, and the second time node 2 tells
 -- again what it has (this store's profile)
@@ -176,6 +180,35 @@ the_floor_waits_for_snapshots =
     (Tick 1 Answered, Forwards 1 2 0 2 ∷ []) ∷
     []
 
+-- the middle node tells that it has a batch, and is removed; the head knows nothing of what its new
+-- successor has, so a tick sends from the committed number on (this store's profile)
+abbrev pub a_new_successor_is_sent_all : Run
+a_new_successor_is_sent_all =
+    (Ask 1 1 (Submit 101) Answered, Forwards 1 2 0 1 ∷ []) ∷
+    (Deliver 1 Answered, Forwards 2 3 0 1 ∷ []) ∷
+    (Deliver 1 Answered, Drops reason.OtherNumber ∷ Acks 2 1 0 0 1 ∷ []) ∷
+    (Deliver 3 Answered, []) ∷
+    (Tick 1 Answered, []) ∷
+    (Notice 1 1 Answered, Adopts 1 1 ∷ []) ∷
+    (Tick 1 Answered, Forwards 1 3 1 1 ∷ []) ∷
+    (Notice 3 1 Answered, Adopts 3 1 ∷ Acks 3 1 1 0 0 ∷ []) ∷
+    (Deliver 4 Answered, Acks 3 1 1 1 1 ∷ []) ∷
+    (Deliver 6 Answered, Commits 1 1 ∷ []) ∷
+    []
+
+-- the head learns that it is removed, and forgets the request that waits: the batch is committed,
+-- and nobody is answered (this store's profile)
+abbrev pub a_removed_head_answers_nobody : Run
+a_removed_head_answers_nobody =
+    (Ask 1 1 (Submit 101) Answered, Forwards 1 2 0 1 ∷ []) ∷
+    (Notice 1 1 Answered, Adopts 1 1 ∷ []) ∷
+    (Tick 1 Answered, Drops reason.Removed ∷ []) ∷
+    (Deliver 1 Answered, Forwards 2 3 0 1 ∷ []) ∷
+    (Deliver 2 Answered, Acks 3 2 0 1 1 ∷ []) ∷
+    (Deliver 3 Answered, Acks 2 1 0 1 1 ∷ []) ∷
+    (Deliver 4 Answered, Drops reason.Removed ∷ []) ∷
+    []
+
 -- the worked runs show what they are to show (this store's profile)
 pub record WorkedRuns : Type 0 where
   pub repeated : ShowsThat ((1 ∷ 2 ∷ 3 ∷ []) ∷ []) a_repeated_forward_is_dropped
@@ -187,3 +220,10 @@ pub record WorkedRuns : Type 0 where
   pub skipped : ShowsThat ((1 ∷ 2 ∷ 3 ∷ []) ∷ (1 ∷ 2 ∷ []) ∷ (2 ∷ []) ∷ []) epochs_are_skipped
   pub stopped : ShowsThat ((1 ∷ []) ∷ []) a_stopped_node_says_so
   pub floor : ShowsThat ((1 ∷ 2 ∷ []) ∷ []) the_floor_waits_for_snapshots
+  pub new_successor : ShowsThat ((1 ∷ 2 ∷ 3 ∷ []) ∷ (1 ∷ 3 ∷ []) ∷ []) a_new_successor_is_sent_all
+  pub removed : ShowsThat ((1 ∷ 2 ∷ 3 ∷ []) ∷ (2 ∷ 3 ∷ []) ∷ []) a_removed_head_answers_nobody
+  -- a request waits after the first event, and none after the notice
+  pub waits : pending_after ((1 ∷ 2 ∷ 3 ∷ []) ∷ (2 ∷ 3 ∷ []) ∷ [])
+      (take 1 a_removed_head_answers_nobody) 1 ≡ (1, 1) ∷ []
+  pub forgets : pending_after ((1 ∷ 2 ∷ 3 ∷ []) ∷ (2 ∷ 3 ∷ []) ∷ [])
+      (take 2 a_removed_head_answers_nobody) 1 ≡ []

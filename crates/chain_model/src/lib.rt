@@ -59,12 +59,12 @@ pub fn goes_with_maps<A, B>()
     ensures { (f : A → B) (cs : Configurations) (es : List (Event A)) → GoesWithMap f cs es }
 {}
 
-/// Nine small runs show, event by event, the frames, replies and drops that they are to show.
+/// Eleven small runs show, event by event, the frames, replies and drops that they are to show.
 pub fn worked_runs()
     ensures { WorkedRuns }
 {}
 
-/// What a new node drops, and for which reason.
+/// What a new node drops and refuses, and for which reason.
 pub fn worked_drops()
     ensures { WorkedDrops }
 {}

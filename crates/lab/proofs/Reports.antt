@@ -4,6 +4,7 @@ use Rattle.std.specs.Prelude.{All}
 use Rattle.std.specs.List.{AllZip, flat_map}
 use Rattle.std.proofs.lemmas.List.Elements.{All-weaker, recursion_from_All}
 use Rattle.kv_types.specs.declared.edit.Edit.{Edit}
+use Rattle.disk.specs.Memory.{Slots}
 use Rattle.disk.specs.State.{State}
 use Rattle.chain_model.specs.Configuration.{Configurations, has, last_of}
 use Rattle.chain_model.specs.Headline.{Agrees, OneList, batches}
@@ -12,7 +13,12 @@ use Rattle.chain_model.specs.Outcomes.{MadeOfOutcomes}
 use Rattle.chain_model.specs.Requests.{Reply}
 use Rattle.chain_model.specs.World.{Outcome, Event as ModelEvent, outcomes, beginning, reached}
 use Rattle.chain_model.specs.World.{node_of}
+use Rattle.chain_core.specs.States.{Machine}
+use Rattle.node.specs.declared.node.Node.{Node}
+use Rattle.node.specs.Steps.{Runs, AlwaysRests, disk_of}
 use Rattle.lab.specs.declared.event.Event.{Event}
+use Rattle.lab.specs.declared.member.Member.{Member}
+use Rattle.lab.specs.declared.member.Member.TheVariants.{Running, Resting}
 use Rattle.lab.specs.declared.posted.Posted.{Posted}
 use Rattle.lab.specs.declared.report.Line.{Line}
 use Rattle.lab.specs.declared.report.NodeReport.{NodeReport}
@@ -20,10 +26,10 @@ use Rattle.lab.specs.declared.report.Report.{Report}
 use Rattle.lab.specs.declared.seat.Seat.{Seat}
 use Rattle.lab.specs.Disks.{HaveDisks, IsDiskOf}
 use Rattle.lab.specs.History.{Placed, IsHistory, StepSpeaksOf, HasAll}
-use Rattle.lab.specs.Members.{Choice, state, failures}
+use Rattle.lab.specs.Members.{Choice, Is, disk_in, is_honest, state, failures}
 use Rattle.lab.specs.Runs.{IsRun, Tells}
 use Rattle.lab.specs.Traces.{modelled_from, IsTrace}
-use Rattle.lab.specs.Worlds.{IsLeft, AreLeft, HasMade}
+use Rattle.lab.specs.Worlds.{IsSeated, IsLeft, AreLeft, HasMade}
 use Rattle.lab.proofs.Histories.{numbered_same, handed_same, all_speak}
 
 -- the model's one list is that of the lines and of the disks
@@ -57,9 +63,12 @@ one_of state failures id disk cs events choices steps nodes trace disks one made
           (disks.disks (id node)))
           (λ node. has (last_of cs) (id node) ≡ true → HasAll one.B (id node) (state (disk node)))
           (λ node own last. λ after now. (
+            (node_of cs es (id node)).epoch,
             (node_of cs es (id node)).ids,
             (node_of cs es (id node)).list,
-            (own.stands after now).batches,
+            (node_of cs es (id node)).floor,
+            (node_of cs es (id node)).kept,
+            own.stands after now,
             begins (id node) last,
           )) nodes disks.each;
     }
@@ -89,3 +98,28 @@ module _ (seats : List Seat) (posted : List Posted) (cs : Configurations) (event
         numbers = All-weaker Left (λ n. Tells n.running (machines n.id)) (λ n left. left.numbers)
             nodes each;
       }
+
+  -- and the disks of its nodes are those that its run left so far
+  pub disks_so_far : ((node : Node Slots) (x : ℕ) (n : Machine) → Runs is_honest state node x n →
+      AlwaysRests (state (disk_of node)) x n) →
+      HaveDisks state failures (λ (seat : Seat). seat.id) (λ (seat : Seat). disk_in seat.member) cs
+      events made.choices seats
+  disks_so_far law =
+      let machines = node_of cs (modelled_from 1 events made.choices) in
+      record {
+        ids = made.nodes;
+        disks = made.disks;
+        after = made.after;
+        each = All-weaker (IsSeated machines made.disks)
+            (λ seat. IsDiskOf state seat.id (machines seat.id) (disk_in seat.member)
+            (made.disks seat.id))
+            (λ seat seated. record {
+              same = seated.disk;
+              stands = stands seat.member seat.id (machines seat.id) seated.is;
+            }) seats made.each;
+      }
+    where
+      stands : (member : Member) (x : ℕ) (n : Machine) → Is member x n →
+          AlwaysRests (state (disk_in member)) x n
+      stands (Running node) x n is = law node x n is
+      stands (Resting disk) x n is = is.0

@@ -8,13 +8,6 @@ use Rattle.chain_model.specs.Node.{Answer, stopped}
 use Rattle.chain_core.specs.States.{Machine}
 use Rattle.node.specs.Steps.{Rests, AlwaysRests, StopsAs}
 
--- what outlives a stop is what a disk stands for
-rests_stopped : (left : Contents) (x : ℕ) (n : Machine) → Rests left x n → Rests left x (stopped n)
-rests_stopped left x n r = record {
-  batches = r.batches;
-  first = record { epoch = r.first.epoch; floor = r.first.floor; kept = r.first.kept };
-}
-
 module _ (left_exactly : SureIsLeft) (always_sure : CrashedIsSure) where
   -- a disk that crashed stands for what it reads as
   crashed_rests : (junk : Junk) (old new : State) (x : ℕ) (n : Machine) → Crashes junk old new →
@@ -24,7 +17,7 @@ module _ (left_exactly : SureIsLeft) (always_sure : CrashedIsSure) where
       subst (λ (slot : Slot). IsSure slot) (sym (crashes file)) (always_sure junk (old file)) in
       let same : contents new ≡ left = λ j. λ file.
       (sym (left_exactly new left file (is_sure file) now)) j in
-      subst (λ (l : Contents). Rests l x (stopped n)) same (rests_stopped (contents new) x n r)
+      subst (λ (l : Contents). Rests l x (stopped n)) same r
 
   -- a crash leaves what stands for the node as before the step or as after it
   pub rests_as : (junk : Junk) (old new : State) (x : ℕ) (n : Machine) (a : Answer (List Edit)) →

@@ -8,7 +8,7 @@ use Rattle.disk.specs.State.{State, Contents, MayLeave}
 use Rattle.chain_model.specs.Lists.{Begins, Part, place}
 use Rattle.chain_model.specs.Configuration.{Configurations, has, last_of}
 use Rattle.chain_model.specs.Headline.{batches}
-use Rattle.node.specs.Files.{HasBatches}
+use Rattle.node.specs.Files.{DiskRepresents}
 use Rattle.node.specs.declared.output.Reply.{Reply}
 use Rattle.node.specs.declared.output.Reply.TheVariants.{Committed, Value, Refused}
 use Rattle.lab.specs.declared.event.Event.{Event}
@@ -66,11 +66,11 @@ LineSpeaksOf B what (line.Stopped node cause) = Unit {0}
 abbrev pub StepSpeaksOf : List Placed → Event → List Line → Type 0
 StepSpeaksOf B event lines = All (LineSpeaksOf B event.what) lines
 
--- whatever a crash leaves of node x's disk stands for a list that begins with B
+-- whatever a crash leaves of node x's disk represents the node with a list that begins with B
 abbrev pub HasAll : List Placed → ℕ → State → Type 0
 HasAll B x disk = (left : Contents) → MayLeave disk left →
-    (ids : List ℕ) × (list : List (List Edit)) × HasBatches left x ids list
-    × Begins (batches B) list
+    (epoch : ℕ) × (ids : List ℕ) × (list : List (List Edit)) × (floor : ℕ) × (kept : ℕ)
+    × DiskRepresents left x epoch ids list floor kept × Begins (batches B) list
 
 -- There is one list B ..
 pub record IsHistory {D N : Type 0} (state : D → State) (id : N → ℕ) (disk : N → D)

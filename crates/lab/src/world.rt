@@ -11,7 +11,7 @@ ghost use Rattle.lab.specs.Members.{Is, disk_in};
 ghost use Rattle.lab.specs.Runs.{IsRun};
 ghost use Rattle.lab.specs.History.{OneHistory};
 ghost use Rattle.lab.specs.Worlds.{HasRun, HasEnded, AreCreated, AreLeft, IsCreated, IsLeft};
-ghost use Rattle.lab.specs.Worlds.{events_in, frames_told};
+ghost use Rattle.lab.specs.Worlds.{IsRunSoFar, HasHistory, events_in, frames_told};
 
 use crate::arrival::brought;
 use crate::member::Member;
@@ -26,6 +26,7 @@ use configurations::{Config, Configs, NodeId};
 use disk::MemDisk;
 use kv_types::{Batch, Limits, Number};
 use node::Node;
+use node::laws::disks_represent;
 use std::alloc::{AllocError, Global};
 
 /// The nodes of a chain on disks in memory, every frame that they ever sent, and every line of what
@@ -200,9 +201,18 @@ impl World {
 
     /// What the run did so far: the lines of each event. The world keeps the disks.
     pub fn report(&self) -> &[Lines]
-        ensures { (cs : Configurations) (events : List Event) (steps : List (List Line)) →
+        ensures steps { (cs : Configurations) (events : List Event) (steps : List (List Line)) →
             HasRun self.now cs events steps → result.now ≡ steps }
+        ensures run { (cs : Configurations) (events : List Event) (steps : List (List Line)) →
+            HasRun self.now cs events steps → IsRunSoFar self.now cs events result.now }
+        ensures history { (cs : Configurations) (events : List Event) (steps : List (List Line)) →
+            HasRun self.now cs events steps → HasHistory self.now cs events result.now }
     {
+        // Theorems of the chain's model: a call brings one, and does nothing.
+        one_history::<Batch>();
+        made_of_outcomes::<Batch>();
+        // A law of nodes.
+        disks_represent::<MemDisk>();
         &self.steps
     }
 

@@ -1,7 +1,7 @@
 pub mod Identities
 pub mod Records
 pub mod Causes
-pub mod Stores
+pub mod Engines
 pub mod Opens
 pub mod Blank
 pub mod Outputs

@@ -20,7 +20,7 @@ use Rattle.node.proofs.Identities.{one_spelling}
 use Rattle.node.specs.Layout.{identity_file, identity_record, identity_records}
 use Rattle.node.specs.Layout.{batch_record, records_from}
 use Rattle.node.specs.Files.{IsLog, HasId, IsSureId}
-use Rattle.node.proofs.Stores.{holds_in, sure_of_id, only_one}
+use Rattle.node.proofs.Engines.{holds_in, sure_of_id, only_one}
 
 -- what a file has it has where it is the same
 pub has_in : (old new : State) (file : ℕ) (records : List (List ℕ)) → new file ≡ old file →

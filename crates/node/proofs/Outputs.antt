@@ -1,16 +1,15 @@
 -- What a step sends and replies.
-use Rattle.std.proofs.Common.{◌≡◌, ℕ, zero, suc, ◌+◌, ◌-◌, ◌<◌, ◌≤◌, List, [], ◌∷◌, ◌++◌, length}
-use Rattle.std.proofs.Common.{map, Option, Some, None, Result, Ok, Err, get_or, refl, sym, ap}
+use Rattle.std.proofs.Common.{◌≡◌, ℕ, ◌≤◌, List, [], ◌∷◌, ◌++◌}
+use Rattle.std.proofs.Common.{map, Option, Some, None, Result, Ok, Err, refl, sym, ap}
 use Rattle.std.proofs.Common.{subst, ◌∙◌, arith}
 use Rattle.std.specs.Prelude.{SomeIff, IfOk, option_map, nat_lt}
 use Rattle.std.specs.Ordering.{is_gt, nat_cmp}
 use Rattle.std.proofs.lemmas.Bool.Decides.{nat_tests}
-use Rattle.std.proofs.lemmas.List.{map-append, append-nil}
+use Rattle.std.proofs.lemmas.List.{map-append}
 use Rattle.kv_types.specs.declared.edit.Edit.{Edit}
 use Rattle.chain_model.specs.Frames.{Frame}
-use Rattle.chain_model.specs.Lists.{place}
 use Rattle.chain_model.specs.Node.{Answer}
-use Rattle.chain_model.specs.Rules.{forward, forwards, show}
+use Rattle.chain_model.specs.Rules.{show}
 use Rattle.chain_core.specs.declared.done.Done.{Done}
 use Rattle.chain_core.specs.declared.input.Input.{Input}
 use Rattle.chain_core.specs.declared.input.Input.TheVariants as asked
@@ -35,22 +34,6 @@ both_sent a b f g of_a of_b =
     map-append as_model a b ∙ ap (λ l. l ++ map as_model b) of_a
     ∙ ap (λ l. map some f ++ l) of_b ∙ sym (map-append some f g)
 
-at_next : (list : List (List Edit)) (i : ℕ) (d : List Edit) → i < length list →
-    place list (suc i) ≡ Some (get_or list i d)
-at_next [] i d within = absurd (omega (arith, within))
-at_next (first ∷ list) zero d within = refl
-at_next (first ∷ list) (suc i) d within = at_next list i d (omega (arith, within))
-
--- the batch of a number stands one place before it
-pub stands_at : (list batches : List (List Edit)) (k : ℕ) (batch found : List Edit) → 1 ≤ k →
-    k ≤ length batches → list ≡ batches → found ≡ get_or batches (k - 1) found → batch ≡ found →
-    place list k ≡ Some batch
-stands_at list batches k batch found some within same got copy =
-    let number : k ≡ suc (k - 1) = omega (arith, some) in
-    let there = at_next batches (k - 1) found (omega (arith, some, within)) in
-    ap (λ l. place l k) same ∙ ap (λ i. place batches i) number ∙ there
-    ∙ ap (λ b. Some b) (sym got ∙ sym copy)
-
 -- the number that was made
 pub made_of : (o : Option ℕ) (P : Type 0) (value number : ℕ) → SomeIff o P value →
     o ≡ Some number → number ≡ value
@@ -64,15 +47,6 @@ pub replies_due : (input : Input) (due : List Waiting) →
     map told_to due ≡ replies_of input (core.replies_of due)
 replies_due input [] = refl
 replies_due input (it ∷ due) = ap (λ l. told_to it ∷ l) (replies_due input due)
-
--- one batch is sent
-pub one_sent : (x : ℕ) (n : Machine) (k first behind : ℕ) → first ≡ suc k → behind ≡ first + 1 →
-    forwards x n (first - 1) (behind - first) ≡ forward x n (suc k)
-one_sent x n k first behind is size =
-    let before : first - 1 ≡ k = omega (arith, is) in
-    let one : behind - first ≡ 1 = omega (arith, size) in
-    ap (λ i. forwards x n i (behind - first)) before ∙ ap (forwards x n k) one
-    ∙ append-nil (forward x n (suc k))
 
 -- what is said after the store's part is what the rule tells
 pub tells_rule : (x : ℕ) (n : Machine) (input : Input) (batch : List Edit) (d : Done)
@@ -105,3 +79,12 @@ tells_read n (asked.Submit other batch) request at key result read tells = absur
 tells_read n (asked.Forward epoch from number batch) request at key result read tells = absurd read
 tells_read n (asked.Ack epoch from committed have) request at key result read tells = absurd read
 tells_read n asked.Tick request at key result read tells = absurd read
+
+-- a read is at the floor or above
+pub readable : (n : Machine) (input : Input) (request at : ℕ) (key : List ℕ) →
+    IsReadOf n input (decision.Show request key at) → n.floor ≤ at
+readable n (asked.Get other asked_key number) request at key read = read.1
+readable n (asked.Submit other batch) request at key read = absurd read
+readable n (asked.Forward epoch from number batch) request at key read = absurd read
+readable n (asked.Ack epoch from committed have) request at key read = absurd read
+readable n asked.Tick request at key read = absurd read

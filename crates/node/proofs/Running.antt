@@ -1,10 +1,14 @@
 -- A running node after its store's part and after a start, and what its disk leaves.
-use Rattle.std.proofs.Common.{◌≡◌, ℕ, List, [], ◌∷◌, ◌++◌, length, true, inl, inr}
-use Rattle.std.proofs.Common.{map, None, refl, sym, ap, subst, ◌∙◌}
+use Rattle.std.proofs.Common.{◌≡◌, ℕ, ◌+◌, List, [], ◌∷◌, ◌++◌, length, true, inl, inr}
+use Rattle.std.proofs.Common.{suc, arith, map, Option, Some, None, refl, sym, ap, subst, ◌∙◌}
+use Rattle.std.proofs.Common.{replicate, length-append}
 use Rattle.std.specs.Prelude.{Result, Ok, Err, IfOk, IfErr}
+use Rattle.std.proofs.lemmas.List.{length-replicate}
 use Rattle.kv_types.specs.declared.edit.Edit.{Edit}
-use Rattle.disk.specs.State.{State, SureIsLeft, contents}
-use Rattle.chain_model.specs.Node.{Answer, created, started}
+use Rattle.disk.specs.State.{State, Contents, SureIsLeft, contents}
+use Rattle.chain_model.specs.Configuration.{successor}
+use Rattle.chain_model.specs.Lists.{place}
+use Rattle.chain_model.specs.Node.{Answer, started}
 use Rattle.chain_core.specs.declared.done.Done.{Done}
 use Rattle.chain_core.specs.declared.done.Done.TheVariants as done
 use Rattle.chain_core.specs.declared.input.Input.{Input}
@@ -13,26 +17,35 @@ use Rattle.chain_core.specs.States.{Machine, Core, Is, waiting}
 use Rattle.chain_core.specs.Decisions as core
 use Rattle.chain_core.specs.declared.decision.Decision.{Decision}
 use Rattle.chain_core.specs.Decisions.{done_of, rule_of}
-use Rattle.chain_core.specs.Steps.{Leaves, StepsLeave, list_after, frames_after}
+use Rattle.chain_core.specs.Steps.{Leaves, StepsLeave, StandsLast, list_after, epoch_after}
+use Rattle.chain_core.specs.Steps.{ids_after, floor_after, kept_after, frames_after}
 use Rattle.chain_model.specs.Frames.{Frame}
+use Rattle.node.specs.declared.engine.Engine.{Engine}
 use Rattle.node.specs.declared.node.Node.{Node}
 use Rattle.node.specs.declared.output.Output.{Output}
 use Rattle.node.specs.declared.stop.Stop.{Stop}
 use Rattle.node.specs.declared.stop.Stop.TheVariants as stop
 use Rattle.node.specs.declared.layout.Identity.{Identity}
-use Rattle.node.specs.Stores.{IsOpened}
-use Rattle.node.specs.Files.{HasBatches, IsStore, KeepsOneOf}
+use Rattle.node.specs.Engines.{EngineHolds, HasNumbersOf, IsOpened}
+use Rattle.node.specs.Files.{DiskRepresents, KeepsOneOf}
 use Rattle.node.specs.Starts.{IsStarted}
-use Rattle.node.specs.Steps.{IsFirst, Runs, AlwaysRests, StopsAs, Answers}
+use Rattle.node.specs.Steps.{Rests, Runs, AlwaysRests, StopsAs, Answers}
 use Rattle.node.specs.Stops.{IsOfMachine}
 use Rattle.node.proofs.Outputs.{tells_rule}
-use Rattle.node.specs.Outputs.{Says, Tells, told_to, Follows, Ends, HasAppended}
-use Rattle.node.proofs.Stores.{kept}
+use Rattle.node.specs.Outputs.{Says, Tells, told_to, Follows, Ends, HasAppended, IsCopyFor}
+use Rattle.node.proofs.Engines.{has_numbers_of, holds_as, represented}
 
--- a machine with these numbers and batches
-abbrev pub machine_with : Core → List (List Edit) → Machine
-machine_with core batches = record {
-  list = batches;
+-- a node after a call of its engine, and one that knows other numbers
+abbrev pub with_engine : {D : Type 0} → Node D → D → Engine → Node D
+with_engine node disk engine = record node { disk = disk; engine = engine }
+
+abbrev pub with_core : {D : Type 0} → Node D → Core → Node D
+with_core node core = record node { core = core }
+
+-- a machine with these numbers, and as many batches as they count
+abbrev pub machine_with : Core → Machine
+machine_with core = record {
+  list = replicate core.count [];
   epoch = core.epoch;
   ids = core.ids;
   committed = core.committed;
@@ -44,12 +57,11 @@ machine_with core batches = record {
   running = true;
 }
 
-pub has_numbers : (core : Core) (batches : List (List Edit)) → core.count ≡ length batches →
-    Is core (machine_with core batches)
-has_numbers core batches count = record {
+has_numbers : (core : Core) → Is core (machine_with core)
+has_numbers core = record {
   epoch = refl;
   ids = refl;
-  count = sym count;
+  count = length-replicate core.count [];
   committed = refl;
   floor = refl;
   kept = refl;
@@ -59,64 +71,129 @@ has_numbers core batches count = record {
   running = refl;
 }
 
--- what is counted after the store's part was done
-pub counted : (law : StepsLeave) (old new : Core) (batches after : List (List Edit))
-    (batch : List Edit) (d : Done) (due : List Waiting) →
-    core.Follows new (done_of old.id (machine_with old batches) batch d) due →
-    list_after (machine_with old batches) batch d ≡ after → new.count ≡ length after
-counted law old new batches after batch d due follows list =
-    let n = machine_with old batches in
-    sym follows.is.count ∙ ap length (law old.id n batch d).list ∙ ap length list
-
--- .. and after a word of the successor
-pub told_counts : (law : StepsLeave) (old new : Core) (batches : List (List Edit))
-    (committed have : ℕ) (due : List Waiting) → old.count ≡ length batches →
-    ((n : Machine) (batch : List Edit) → Is old n →
-    core.Follows new (done_of old.id n batch (done.Told committed have)) due) →
-    new.count ≡ length batches
-told_counts law old new batches committed have due count after =
-    counted law old new batches batches [] (done.Told committed have) due
-    (after (machine_with old batches) [] (has_numbers old batches count)) refl
-
 pub appended_list : (n : Machine) (batch : List Edit) (d : Done) → HasAppended d →
     list_after n batch d ≡ n.list ++ batch ∷ []
 appended_list n batch (done.Accepted request) has = refl
 appended_list n batch done.Appended has = refl
 appended_list n batch (done.Told committed have) has = absurd has
 
--- a step leaves the first configuration, the floor and the kept number
-pub still_first : (x : ℕ) (n : Machine) (batch : List Edit) (d : Done) (a : Answer (List Edit)) →
-    Leaves x n batch d a → IsFirst n → IsFirst a.node
-still_first x n batch d a leaves first = record {
-  epoch = leaves.epoch ∙ first.epoch;
-  floor = leaves.floor ∙ first.floor;
-  kept = leaves.kept ∙ first.kept;
-}
+-- what is counted after the store's part was done
+counted : StepsLeave → (old new : Core) (batch : List Edit) (d : Done) (due : List Waiting) →
+    ((n : Machine) (batch : List Edit) → Is old n →
+    core.Follows new (done_of old.id n batch d) due) →
+    new.count ≡ length (list_after (machine_with old) batch d)
+counted law old new batch d due after =
+    let n = machine_with old in
+    sym (after n batch (has_numbers old)).is.count ∙ ap length (law old.id n batch d).list
+
+-- .. one batch more where one was appended
+pub counts_appended : StepsLeave → (old new : Core) (d : Done) (due : List Waiting) →
+    HasAppended d →
+    ((n : Machine) (batch : List Edit) → Is old n →
+    core.Follows new (done_of old.id n batch d) due) → new.count ≡ old.count + 1
+counts_appended law old new d due has after =
+    let n = machine_with old in
+    counted law old new [] d due after ∙ ap length (appended_list n [] d has)
+    ∙ length-append n.list ([] ∷ []) ∙ ap (λ k. k + 1) (length-replicate old.count [])
+
+-- .. and as many as before after a word of the successor
+pub counts_told : StepsLeave → (old new : Core) (committed have : ℕ) (due : List Waiting) →
+    ((n : Machine) (batch : List Edit) → Is old n →
+    core.Follows new (done_of old.id n batch (done.Told committed have)) due) →
+    new.count ≡ old.count
+counts_told law old new committed have due after =
+    counted law old new [] (done.Told committed have) due after ∙ length-replicate old.count []
+
+same_kept : (n : Machine) (d : Done) → kept_after n d ≡ n.kept
+same_kept n (done.Accepted request) = refl
+same_kept n done.Appended = refl
+same_kept n (done.Told committed have) = refl
+
+-- no batch was given up
+pub keeps_kept : StepsLeave → (old new : Core) (d : Done) (due : List Waiting) →
+    ((n : Machine) (batch : List Edit) → Is old n →
+    core.Follows new (done_of old.id n batch d) due) → new.kept ≡ old.kept
+keeps_kept law old new d due after =
+    let n = machine_with old in
+    sym (after n [] (has_numbers old)).is.kept ∙ (law old.id n [] d).kept ∙ same_kept n d
+
+-- an engine that has one batch more holds what the step leaves
+pub holds_appended : (disk : State) (engine : Engine) (x : ℕ) (n : Machine) (batch : List Edit)
+    (d : Done) → HasAppended d →
+    EngineHolds disk engine x n.epoch n.ids (n.list ++ batch ∷ []) n.floor n.kept →
+    EngineHolds disk engine x (epoch_after n d) (ids_after n d) (list_after n batch d)
+    (floor_after n d) (kept_after n d)
+holds_appended disk engine x n batch (done.Accepted request) has holds = holds
+holds_appended disk engine x n batch done.Appended has holds = holds
+holds_appended disk engine x n batch (done.Told committed have) has holds = absurd has
+
+-- a disk with one batch more represents what the step leaves
+represents_appended : (left : Contents) (x : ℕ) (n : Machine) (batch : List Edit) (d : Done) →
+    HasAppended d →
+    DiskRepresents left x n.epoch n.ids (n.list ++ batch ∷ []) n.floor n.kept →
+    DiskRepresents left x (epoch_after n d) (ids_after n d) (list_after n batch d)
+    (floor_after n d) (kept_after n d)
+represents_appended left x n batch (done.Accepted request) has it = it
+represents_appended left x n batch done.Appended has it = it
+represents_appended left x n batch (done.Told committed have) has it = absurd has
+
+-- what a disk represents, by other names of the same numbers
+represents_as : (left : Contents) (x e d : ℕ) (ids js : List ℕ) (list more : List (List Edit))
+    (f g k h : ℕ) → d ≡ e → js ≡ ids → more ≡ list → g ≡ f → h ≡ k →
+    DiskRepresents left x e ids list f k → DiskRepresents left x d js more g h
+represents_as left x e d ids js list more f g k h of_epoch of_ids of_list of_floor of_kept it =
+    rw (of_epoch, of_ids, of_list, of_floor, of_kept) it
 
 -- while a batch is appended, the disk stands for the machine before or after
 pub stops_between : (disk : State) (x : ℕ) (n : Machine) (batch : List Edit) (d : Done)
-    (a : Answer (List Edit)) → Leaves x n batch d a → HasAppended d → IsFirst n →
-    KeepsOneOf disk x n.ids n.list (n.list ++ batch ∷ []) → StopsAs disk x n a
-stops_between disk x n batch d a leaves has first one_of left now =
-    let list : a.node.list ≡ n.list ++ batch ∷ [] = leaves.list ∙ appended_list n batch d has in
+    (a : Answer (List Edit)) → Leaves x n batch d a → HasAppended d →
+    KeepsOneOf disk x n.epoch n.ids n.list (n.list ++ batch ∷ []) n.floor n.kept →
+    StopsAs disk x n a
+stops_between disk x n batch d a leaves has one_of left now =
+    let m = a.node in
     elim (one_of left now) [
-      | inl old ↦ inl (record { batches = old; first = first })
-      | inr new ↦ inr (record {
-        batches = subst (λ (l : List (List Edit)). HasBatches left x a.node.ids l) (sym list)
-            (subst (λ (ids : List ℕ). HasBatches left x ids (n.list ++ batch ∷ []))
-            (sym leaves.ids) new);
-        first = still_first x n batch d a leaves first;
-      })
+      | inl old ↦ inl old
+      | inr new ↦ inr (represents_as left x (epoch_after n d) m.epoch (ids_after n d) m.ids
+          (list_after n batch d) m.list (floor_after n d) m.floor (kept_after n d) m.kept
+          leaves.epoch leaves.ids leaves.list leaves.floor leaves.kept
+          (represents_appended left x n batch d has new))
     ]
+
+-- a copy for the successor is one after a step, which leaves id and configuration
+pub copy_after : (old new : Core) (n m : Machine) (x : ℕ) (batch : List Edit)
+    (copy : Option (List Edit)) → Is old n → m.ids ≡ n.ids → old.id ≡ x → new.id ≡ x →
+    IsCopyFor (successor old.ids old.id) batch copy → IsCopyFor (successor m.ids new.id) batch copy
+copy_after old new n m x batch copy is ids old_id new_id copied =
+    let same_ids : m.ids ≡ old.ids = ids ∙ is.ids in
+    let same_id : new.id ≡ old.id = new_id ∙ sym old_id in
+    rw (same_ids, same_id) copied
+
+-- the number of a batch that was taken
+pub number_taken : (x : ℕ) (n : Machine) (batch : List Edit) (d : Done) (a : Answer (List Edit)) →
+    Leaves x n batch d a → HasAppended d → length a.node.list ≡ suc (length n.list)
+number_taken x n batch d a leaves has =
+    omega (
+      arith,
+      ap length leaves.list,
+      ap length (appended_list n batch d has),
+      length-append n.list (batch ∷ []),
+    )
+
+-- .. at which it stands
+pub taken_stands : StandsLast → (x : ℕ) (n : Machine) (batch : List Edit) (d : Done)
+    (a : Answer (List Edit)) (count : ℕ) → Leaves x n batch d a → HasAppended d →
+    count ≡ suc (length n.list) → place a.node.list count ≡ Some batch
+taken_stands law x n batch d a count leaves has number =
+    ap (λ l. place l count) (leaves.list ∙ appended_list n batch d has)
+    ∙ ap (place (n.list ++ batch ∷ [])) number ∙ law n.list batch
 
 module _ {D : Type 0} (is_honest : D → Type 0) (state : D → State) where
   -- whatever a crash leaves of its disk stands for it
   pub rests : SureIsLeft → (node : Node D) (x : ℕ) (n : Machine) →
       Runs is_honest state node x n → AlwaysRests (state node.disk) x n
-  rests law node x n r left leaves = record {
-    batches = kept law (state node.disk) node.engine x n.ids n.list r.store left leaves;
-    first = r.first;
-  }
+  rests law node x n r left leaves =
+      represented law (state node.disk) node.engine x n.epoch n.ids n.list n.floor n.kept r.store
+      left leaves
 
   pub stops_before : SureIsLeft → (node : Node D) (x : ℕ) (n : Machine)
       (a : Answer (List Edit)) → Runs is_honest state node x n → StopsAs (state node.disk) x n a
@@ -127,22 +204,30 @@ module _ {D : Type 0} (is_honest : D → Type 0) (state : D → State) where
       StopsAs (state node.disk) x n a
   stops_after law node x n a r left leaves = inr (rests law node x a.node r left leaves)
 
+  -- a node whose engine holds what it held runs on
+  pub still_runs : (node : Node D) (disk : D) (engine : Engine) (x : ℕ) (n : Machine) →
+      Runs is_honest state node x n → is_honest disk →
+      EngineHolds (state disk) engine x n.epoch n.ids n.list n.floor n.kept →
+      Runs is_honest state (with_engine node disk engine) x n
+  still_runs node disk engine x n r honest holds =
+      record { honest = honest; store = holds; core = r.core; id = r.id }
+
   -- a node that did its store's part runs as the machine after the rule
   pub goes_on : (node : Node D) (x : ℕ) (n : Machine) (batch : List Edit) (d : Done)
-      (a : Answer (List Edit)) → Leaves x n batch d a → IsFirst n → is_honest node.disk →
-      IsStore (state node.disk) node.engine x n.ids (list_after n batch d) → Is node.core a.node →
+      (a : Answer (List Edit)) → Leaves x n batch d a → is_honest node.disk →
+      EngineHolds (state node.disk) node.engine x (epoch_after n d) (ids_after n d)
+      (list_after n batch d) (floor_after n d) (kept_after n d) → Is node.core a.node →
       node.core.id ≡ x → Runs is_honest state node x a.node
-  goes_on node x n batch d a leaves first honest store is id = record {
-    honest = honest;
-    store = subst (λ (l : List (List Edit)). IsStore (state node.disk) node.engine x a.node.ids l)
-        (sym leaves.list)
-        (subst (λ (ids : List ℕ).
-        IsStore (state node.disk) node.engine x ids (list_after n batch d))
-        (sym leaves.ids) store);
-    core = is;
-    id = id;
-    first = still_first x n batch d a leaves first;
-  }
+  goes_on node x n batch d a leaves honest holds is id =
+      let m = a.node in
+      record {
+        honest = honest;
+        store = holds_as (state node.disk) node.engine x (epoch_after n d) m.epoch (ids_after n d)
+            m.ids (list_after n batch d) m.list (floor_after n d) m.floor (kept_after n d) m.kept
+            leaves.epoch leaves.ids leaves.list leaves.floor leaves.kept holds;
+        core = is;
+        id = id;
+      }
 
   -- what it then tells is the machine's answer, and for want of memory it stops
   pub ends : SureIsLeft → (node : Node D) (x : ℕ) (n : Machine) (input : Input)
@@ -202,35 +287,30 @@ module _ {D : Type 0} (is_honest : D → Type 0) (state : D → State) where
       rw is (record { done = machine; stopped = (honest, stops) })
 
   -- what was opened runs as the machine that was started
-  module _ (node : Node D) (identity : Identity) (count : ℕ)
-      (is : (n : Machine) → IsFirst n → n.ids ≡ identity.config → length n.list ≡ count →
+  module _ (node : Node D) (identity : Identity)
+      (is : (n : Machine) → HasNumbersOf node.engine n → n.ids ≡ identity.config →
       Is node.core (started identity.id n)) where
     pub runs_opened : (x : ℕ) (n : Machine) → is_honest node.disk →
-        IsOpened (state node.disk) identity node.engine x n.ids n.list → IsFirst n →
-        node.core.id ≡ identity.id → count ≡ length node.engine.batches.items →
-        Runs is_honest state node x (started x n)
-    runs_opened x n honest opened first id size = record {
-      honest = honest;
-      store = opened.store;
-      core = subst (λ (y : ℕ). Is node.core (started y n)) opened.id
-          (is n first (sym opened.config) (sym (size ∙ ap length opened.store.batches)));
-      id = id ∙ opened.id;
-      first = record { epoch = first.epoch; floor = first.floor; kept = first.kept };
-    }
+        IsOpened (state node.disk) identity node.engine x n.epoch n.ids n.list n.floor n.kept →
+        node.core.id ≡ identity.id → Runs is_honest state node x (started x n)
+    runs_opened x n honest opened id =
+        let numbers = has_numbers_of (state node.disk) node.engine x n opened.holds in
+        record {
+          honest = honest;
+          store = opened.holds;
+          core = subst (λ (y : ℕ). Is node.core (started y n)) opened.id
+              (is n numbers (sym opened.config));
+          id = id ∙ opened.id;
+        }
 
     -- .. and as a node that its disk stood for
-    pub starts : (old : D) (list : List (List Edit)) →
-        HasBatches (contents (state old)) identity.id identity.config list →
-        is_honest node.disk →
-        IsOpened (state node.disk) identity node.engine identity.id identity.config list →
-        node.core.id ≡ identity.id → count ≡ length node.engine.batches.items →
-        IsStarted is_honest state old node
-    starts old list had honest opened id size =
-        let n : Machine = record (created identity.config) { list = list } in
-        let first : IsFirst n = record { epoch = refl; floor = refl; kept = refl } in
-        record {
-          x = identity.id;
-          n = n;
-          stood = record { batches = had; first = first };
-          runs = runs_opened identity.id n honest opened first id size;
-        }
+    pub starts : (old : D) (n : Machine) → n.ids ≡ identity.config →
+        Rests (contents (state old)) identity.id n → is_honest node.disk →
+        IsOpened (state node.disk) identity node.engine identity.id n.epoch n.ids n.list n.floor
+        n.kept → node.core.id ≡ identity.id → IsStarted is_honest state old node
+    starts old n ids had honest opened id = record {
+      x = identity.id;
+      n = n;
+      stood = had;
+      runs = runs_opened identity.id n honest opened id;
+    }

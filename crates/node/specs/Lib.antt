@@ -1,7 +1,7 @@
 pub mod Stops
 pub mod Layout
 pub mod Files
-pub mod Stores
+pub mod Engines
 pub mod Steps
 pub mod Outputs
 pub mod Starts

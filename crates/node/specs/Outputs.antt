@@ -1,5 +1,6 @@
 -- What private functions promise one another of what a step answers.
-use Rattle.std.specs.Prelude.{◌≡◌, ℕ, List, option_map, Option, Result, MatchResult, OnErr}
+use Rattle.std.specs.Prelude.{◌≡◌, ℕ, List, option_map, Option, Some, None, Result, MatchResult}
+use Rattle.std.specs.Prelude.{OnErr}
 use Rattle.kv_types.specs.declared.edit.Edit.{Edit}
 use Rattle.disk.specs.State.{State}
 use Rattle.chain_model.specs.Frames.{Frame}
@@ -34,6 +35,11 @@ pub record Says (dropped_for : Option DropReason) (sent : List (Frame (List Edit
 -- .. what the machine does in this answer to an input
 abbrev pub Tells : Input → Answer (List Edit) → Output → Type 0
 Tells input a = Says (option_map reason_of a.dropped) a.frames (replies_of input a.replies)
+
+-- a copy of a batch for the successor, if there is one
+abbrev pub IsCopyFor : Option ℕ → List Edit → Option (List Edit) → Type 0
+IsCopyFor successor batch None = successor ≡ None
+IsCopyFor successor batch (Some copy) = copy ≡ batch
 
 -- a batch was appended
 abbrev pub HasAppended : Done → Type 0

@@ -1,11 +1,10 @@
 -- A node of code and a node of the chain's model: what a running one and a stopped one's disk stand
 -- for, and what a step answers.
-use Rattle.std.specs.Prelude.{◌≡◌, ◌⊎◌, ℕ, List, [], ◌∷◌, length, option_map}
+use Rattle.std.specs.Prelude.{◌≡◌, ◌⊎◌, ℕ, List, [], ◌∷◌, option_map}
 use Rattle.std.specs.List.{flat_map}
 use Rattle.kv_types.specs.declared.edit.Edit.{Edit}
 use Rattle.kv_types.specs.Maps.{map_of}
 use Rattle.disk.specs.State.{State, Contents, MayLeave}
-use Rattle.record_log.specs.Stands.{HasFailed}
 use Rattle.chain_model.specs.Node as model
 use Rattle.chain_model.specs.Refusal as model_refusal
 use Rattle.chain_model.specs.DropReason as model_reason
@@ -22,18 +21,12 @@ use Rattle.node.specs.declared.node.Node.{Node}
 use Rattle.node.specs.declared.output.Output.{Output}
 use Rattle.node.specs.declared.output.Reply.{Reply}
 use Rattle.node.specs.declared.output.Reply.TheVariants as reply
-use Rattle.node.specs.Files.{HasBatches, IsStore}
+use Rattle.node.specs.Files.{DiskRepresents}
+use Rattle.node.specs.Engines.{EngineHolds, IsUsable, engine_count, engine_kept}
 
--- its configuration is the first one, and neither floor nor kept number ever rose
-pub record IsFirst (n : Machine) : Type 0 where
-  pub epoch : n.epoch ≡ 0
-  pub floor : n.floor ≡ 0
-  pub kept : n.kept ≡ 0
-
--- what a disk has stands for node x with this machine's configuration and batches
-pub record Rests (left : Contents) (x : ℕ) (n : Machine) : Type 0 where
-  pub batches : HasBatches left x n.ids n.list
-  pub first : IsFirst n
+-- what a disk has represents node x with this machine's configuration, batches and numbers
+abbrev pub Rests : Contents → ℕ → Machine → Type 0
+Rests left x n = DiskRepresents left x n.epoch n.ids n.list n.floor n.kept
 
 -- .. as it reads, and whatever a crash leaves of it
 abbrev pub AlwaysRests : State → ℕ → Machine → Type 0
@@ -48,15 +41,15 @@ disk_of node = node.disk
 pub record Runs {D : Type 0} (is_honest : D → Type 0) (state : D → State) (node : Node D) (x : ℕ)
     (n : Machine) : Type 0 where
   pub honest : is_honest node.disk
-  pub store : IsStore (state node.disk) node.engine x n.ids n.list
+  pub store : EngineHolds (state node.disk) node.engine x n.epoch n.ids n.list n.floor n.kept
   pub core : Is node.core n
   pub id : node.core.id ≡ x
-  pub first : IsFirst n
 
--- no append of it failed, and its numbers count its batches, so a step may follow
+-- its engine is usable and has the numbers that the node knows, so a step may follow
 pub record MayStep {D : Type 0} (node : Node D) : Type 0 where
-  pub works : HasFailed node.engine.log → ⊥
-  pub count : node.core.count ≡ length node.engine.batches.items
+  pub usable : IsUsable node.engine
+  pub count : node.core.count ≡ engine_count node.engine
+  pub kept : node.core.kept ≡ engine_kept node.engine
 
 abbrev pub refusal_of : model_refusal.Refusal → Refusal
 refusal_of model_refusal.NotRunning = refusal.NotRunning
@@ -102,6 +95,10 @@ told_as input (model_request.Refused i why) = reply.Refused i (refusal_of why) �
 abbrev pub replies_of : Input → List (model_request.Reply (List Edit)) → List Reply
 replies_of input replies = flat_map (told_as input) replies
 
+-- these replies are those of the machine to an input
+abbrev pub AreReplies : Input → List (model_request.Reply (List Edit)) → List Reply → Type 0
+AreReplies input of_machine replies = replies ≡ replies_of input of_machine
+
 -- a node that answered is the machine after the step, and has dropped, sent and replied what that
 -- does
 pub record Answers {D : Type 0} (is_honest : D → Type 0) (state : D → State) (new : Node D) (x : ℕ)
@@ -109,7 +106,7 @@ pub record Answers {D : Type 0} (is_honest : D → Type 0) (state : D → State)
   pub runs : Runs is_honest state new x a.node
   pub dropped : output.dropped ≡ option_map reason_of a.dropped
   pub frames : AreFrames output.frames.items a.frames
-  pub replied : output.replies.items ≡ replies_of input a.replies
+  pub replied : AreReplies input a.replies output.replies.items
 
 -- a node that stopped in a step leaves a disk that stands for the machine as before the step or as
 -- after it

@@ -1,37 +1,40 @@
 ghost use Rattle.std.specs.Prelude.{◌≡◌, ◌≢◌, ℕ, ◌+◌, ◌<◌, [], ◌∷◌, ◌++◌};
-ghost use Rattle.std.specs.Prelude.{◌≤◌, List, length, slice_get, All, Some, MatchOption};
+ghost use Rattle.std.specs.Prelude.{◌≤◌, List, length, take, slice_get, All, Some, MatchOption};
 ghost use Rattle.std.specs.Prelude.{IfOk, IfErr, OnOk, MatchResult};
 ghost use Rattle.kv_types.specs.declared.bounds.TheConstants.{MAX_NUMBER};
 ghost use Rattle.kv_types.specs.declared.edit.Edit.{Edit};
 ghost use Rattle.kv_types.specs.Spelling.{IsBatch};
+ghost use Rattle.kv_types.specs.Maps.{map_of};
 ghost use Rattle.disk.specs.State.{Leaves, contents, IsSame};
-ghost use Rattle.record_log.specs.Stands.{Holds, HasFailed, count_of};
-ghost use Rattle.node.specs.Files.{AreInRange, HasBatches, HasId, IsBlank, IsStore, IsSureId};
-ghost use Rattle.node.specs.Files.{KeepsOneOf, KeepsOthers, LeavesNoMore};
-ghost use Rattle.node.specs.Layout.{identity_file, identity_records, batches_file};
-ghost use Rattle.node.specs.Layout.{batch_record, records_from};
+ghost use Rattle.record_log.specs.Stands.{EndsInRange, Holds, HasFailed, count_of};
 ghost use Rattle.chain_model.specs.Configuration.{IsId};
+ghost use Rattle.chain_model.specs.Lists.{place};
 ghost use Rattle.configurations.specs.Configs.{IsConfig};
-ghost use Rattle.node.specs.Stores.{IsOpened, Works};
+ghost use Rattle.node.specs.Files.{DiskRepresents, HasId, IsBlank, IsSureId};
+ghost use Rattle.node.specs.Files.{KeepsOneOf, KeepsOthers, LeavesNoMore};
+ghost use Rattle.node.specs.Layout.{identity_file, identity_records};
+ghost use Rattle.node.specs.Layout.{batch_record, records_from};
+ghost use Rattle.node.specs.Engines.{EngineHolds, IsOpened, IsUsable};
+ghost use Rattle.node.specs.Engines.{engine_count, engine_epoch, engine_floor, engine_kept};
 ghost use Rattle.node.specs.Stops.{KeepsDisk, TellsDisk, IsOfMachine, TellsBlank};
 
 use crate::Stop;
 use crate::layout::{
     BATCHES_FILE, IDENTITY_FILE, Identity, batch_of, batch_record, identity_of, identity_record,
 };
-use configurations::{Config, NodeId};
+use configurations::{Config, Epoch, NodeId};
 use disk::laws::sure_is_left;
 use disk::{Disk, DiskError};
 use kv_types::laws::spellings_differ;
-use kv_types::{Batch, Number};
+use kv_types::{Batch, Key, Number, Value, value_at};
 use record_log::{Log, one_list};
 use std::alloc::Global;
 
 /// The store of a node: its batches in a log, and in memory. The disk is lent to it at each call.
 #[derive(Debug, Drop)]
 pub struct Engine {
-    pub log: Log,
-    pub batches: Vec<Batch>,
+    log: Log,
+    batches: Vec<Batch>,
 }
 
 /// The batch of a log's record, which has the number that the record's place gives it.
@@ -104,16 +107,18 @@ fn identity_in<D: Disk>(alloc: Global, disk: &mut D, log: &Log) -> Result<Identi
     identity_of(alloc, &record)
 }
 
-/// How many bytes the identity file has: none where it is absent.
-fn identity_length<D: Disk>(disk: &mut D) -> Result<u64, Stop>
+/// How many bytes a file has: none where it is absent.
+fn length_of<D: Disk>(disk: &mut D, file: u64) -> Result<u64, Stop>
     ensures keeps { KeepsDisk D.is_honest D.failures disk.old disk.new (TellsDisk result) }
     ensures length { D.is_honest disk.old →
-        IfOk result (λ len. MatchOption (contents (D.state disk.old) identity_file)
+        IfOk result (λ len. MatchOption (contents (D.state disk.old) file)
         (len ≡ 0) (λ bytes. len ≡ length bytes)) }
+    ensures range { D.is_honest disk.old →
+        OnOk result (EndsInRange (contents (D.state disk.old) file)) }
     ensures refused { D.is_honest disk.old → IfErr result IsOfMachine }
     ensures same { D.is_honest disk.old → IsSame (D.state disk.old) (D.state disk.new) }
 {
-    match disk.length(IDENTITY_FILE) {
+    match disk.length(file) {
         Err(DiskError::NoFile) => Ok(0),
         answer => Ok(answer?),
     }
@@ -135,7 +140,7 @@ fn identity_on<D: Disk>(alloc: Global, disk: &mut D) -> Result<Identity, Stop>
         D.state disk.new other ≡ D.state disk.old other }
 {
     one_list();
-    if identity_length(disk)? == 0 {
+    if length_of(disk, IDENTITY_FILE)? == 0 {
         return Err(Stop::NotCreated);
     }
     let identity = Log::open(alloc, disk, IDENTITY_FILE, 0)?;
@@ -151,13 +156,16 @@ impl Engine {
         config: &Config,
     ) -> Result<Engine, Stop>
         ensures keeps { KeepsDisk D.is_honest D.failures disk.old disk.new (TellsDisk result) }
-        ensures created { D.is_honest disk.old → AreInRange (D.state disk.old) →
-            MatchResult result (λ engine. IsStore (D.state disk.new) engine id config.now [])
-            IsOfMachine }
-        ensures works { IfOk result (λ engine. HasFailed engine.log → ⊥) }
-        ensures none { IfOk result (λ engine. engine.batches.items ≡ []) }
+        ensures created { D.is_honest disk.old →
+            MatchResult result
+            (λ engine. EngineHolds (D.state disk.new) engine id 0 config.now [] 0 0) IsOfMachine }
+        ensures usable { IfOk result IsUsable }
+        ensures none { IfOk result
+            (λ engine. (engine_count engine ≡ 0) × (engine_kept engine ≡ 0)) }
         ensures others { D.is_honest disk.old → KeepsOthers (D.state disk.old) (D.state disk.new) }
     {
+        length_of(disk, BATCHES_FILE)?;
+        length_of(disk, IDENTITY_FILE)?;
         let log = Log::create(alloc, disk, BATCHES_FILE)?;
         let mut identity = Log::create(alloc, disk, IDENTITY_FILE)?;
         let record = identity_record(alloc, id, config)?;
@@ -169,15 +177,17 @@ impl Engine {
     /// The node and the store that the disk has.
     pub fn open<D: Disk>(alloc: Global, disk: &mut D) -> Result<(Identity, Engine), Stop>
         ensures keeps { KeepsDisk D.is_honest D.failures disk.old disk.new (TellsDisk result) }
-        ensures opened { (x : ℕ) (ids : List ℕ) (list : List (List Edit)) → D.is_honest disk.old →
-            HasBatches (contents (D.state disk.old)) x ids list →
-            MatchResult result (λ it. IsOpened (D.state disk.new) it.0 it.1 x ids list)
-            IsOfMachine }
+        ensures opened { (x epoch : ℕ) (ids : List ℕ) (list : List (List Edit)) (floor kept : ℕ) →
+            D.is_honest disk.old →
+            DiskRepresents (contents (D.state disk.old)) x epoch ids list floor kept →
+            MatchResult result
+            (λ it. IsOpened (D.state disk.new) it.0 it.1 x epoch ids list floor kept) IsOfMachine }
         ensures found { D.is_honest disk.old → IfOk result (λ it. (list : List (List Edit)) ×
-            HasBatches (contents (D.state disk.old)) it.0.id it.0.config list) }
+            DiskRepresents (contents (D.state disk.old)) it.0.id (engine_epoch it.1) it.0.config
+            list (engine_floor it.1) (engine_kept it.1)) }
         ensures blank { D.is_honest disk.old →
             IfErr result (λ e. TellsBlank e (IsBlank (contents (D.state disk.old)))) }
-        ensures works { IfOk result (λ it. Works it.1) }
+        ensures usable { IfOk result (λ it. IsUsable it.1) }
         ensures crash { D.is_honest disk.old → LeavesNoMore (D.state disk.old) (D.state disk.new) }
         ensures others { D.is_honest disk.old → KeepsOthers (D.state disk.old) (D.state disk.new) }
     {
@@ -189,25 +199,58 @@ impl Engine {
         Ok((identity, Engine { log, batches }))
     }
 
+    /// How many batches it has.
+    pub fn count(&self) -> Number
+        requires { IsUsable self.now }
+        ensures { result ≡ engine_count self.now }
+    {
+        Number::new(self.batches.len() as u64).unwrap()
+    }
+
+    /// The place of its configuration in the list of configurations.
+    pub fn epoch(&self) -> Epoch
+        ensures { result ≡ engine_epoch self.now }
+    {
+        Epoch::FIRST
+    }
+
+    /// The least number that it can be read at.
+    pub fn floor(&self) -> Number
+        ensures { result ≡ engine_floor self.now }
+    {
+        Number::ZERO
+    }
+
+    /// So many of its first batches it has given up.
+    pub fn kept(&self) -> Number
+        ensures { result ≡ engine_kept self.now }
+    {
+        Number::ZERO
+    }
+
     /// Adds a batch. Four device calls.
     pub fn append<D: Disk>(&mut self, alloc: Global, disk: &mut D, batch: Batch) -> Result<(), Stop>
-        requires works { HasFailed self.old.log → ⊥ }
-        requires room { length self.old.batches.items < MAX_NUMBER }
+        requires usable { IsUsable self.old }
+        requires room { engine_count self.old < MAX_NUMBER }
         ensures keeps { KeepsDisk D.is_honest D.failures disk.old disk.new (TellsDisk result) }
-        ensures appended { (x : ℕ) (ids : List ℕ) (list : List (List Edit)) →
-            D.is_honest disk.old → IsStore (D.state disk.old) self.old x ids list →
-            MatchResult result
-            (λ _. IsStore (D.state disk.new) self.new x ids (list ++ batch ∷ [])) IsOfMachine }
+        ensures appended { (x epoch : ℕ) (ids : List ℕ) (list : List (List Edit))
+            (floor kept : ℕ) → D.is_honest disk.old →
+            EngineHolds (D.state disk.old) self.old x epoch ids list floor kept →
+            MatchResult result (λ _. EngineHolds (D.state disk.new) self.new x epoch ids
+            (list ++ batch ∷ []) floor kept) IsOfMachine }
 
         // A crash now, whatever the answer, leaves the old batches, with the new one or without.
-        ensures crash { (x : ℕ) (ids : List ℕ) (list : List (List Edit)) →
-            D.is_honest disk.old → IsStore (D.state disk.old) self.old x ids list →
-            KeepsOneOf (D.state disk.new) x ids list (list ++ batch ∷ []) }
-        ensures others { (x : ℕ) (ids : List ℕ) (list : List (List Edit)) →
-            D.is_honest disk.old → IsStore (D.state disk.old) self.old x ids list →
+        ensures crash { (x epoch : ℕ) (ids : List ℕ) (list : List (List Edit))
+            (floor kept : ℕ) → D.is_honest disk.old →
+            EngineHolds (D.state disk.old) self.old x epoch ids list floor kept →
+            KeepsOneOf (D.state disk.new) x epoch ids list (list ++ batch ∷ []) floor kept }
+        ensures others { (x epoch : ℕ) (ids : List ℕ) (list : List (List Edit))
+            (floor kept : ℕ) → D.is_honest disk.old →
+            EngineHolds (D.state disk.old) self.old x epoch ids list floor kept →
             KeepsOthers (D.state disk.old) (D.state disk.new) }
-        ensures works { OnOk result ((HasFailed self.new.log → ⊥)
-            × (self.new.batches.items ≡ self.old.batches.items ++ batch ∷ [])) }
+        ensures usable { OnOk result (IsUsable self.new
+            × (engine_count self.new ≡ engine_count self.old + 1)
+            × (engine_kept self.new ≡ engine_kept self.old)) }
     {
         sure_is_left();
         let number = self.batches.len() as u64 + 1;
@@ -216,5 +259,43 @@ impl Engine {
         self.log.append(alloc, disk, &record)?;
         self.batches.push_reserved(batch);
         Ok(())
+    }
+
+    /// The batch of this number.
+    pub fn batch<D: Disk>(&self, disk: &mut D, number: Number) -> Result<Batch, Stop>
+        requires usable { IsUsable self.now }
+        requires there { (engine_kept self.now < number) × (number ≤ engine_count self.now) }
+        ensures keeps { KeepsDisk D.is_honest D.failures disk.old disk.new (TellsDisk result) }
+        ensures found { (x epoch : ℕ) (ids : List ℕ) (list : List (List Edit)) (floor kept : ℕ) →
+            D.is_honest disk.old →
+            EngineHolds (D.state disk.old) self.now x epoch ids list floor kept →
+            MatchResult result (λ batch. place list number ≡ Some batch) IsOfMachine }
+        ensures holds { (x epoch : ℕ) (ids : List ℕ) (list : List (List Edit)) (floor kept : ℕ) →
+            D.is_honest disk.old →
+            EngineHolds (D.state disk.old) self.now x epoch ids list floor kept →
+            EngineHolds (D.state disk.new) self.now x epoch ids list floor kept }
+        ensures others { D.is_honest disk.old → KeepsOthers (D.state disk.old) (D.state disk.new) }
+    {
+        Ok(self.batches[number.get() as usize - 1].clone()?)
+    }
+
+    /// What the key has in the map of so many first batches.
+    pub fn get<D: Disk>(&self, disk: &mut D, at: Number, key: &Key) -> Result<Option<Value>, Stop>
+        ensures keeps { KeepsDisk D.is_honest D.failures disk.old disk.new (TellsDisk result) }
+        ensures found { (x epoch : ℕ) (ids : List ℕ) (list : List (List Edit)) (floor kept : ℕ) →
+            D.is_honest disk.old →
+            EngineHolds (D.state disk.old) self.now x epoch ids list floor kept → floor ≤ at →
+            MatchResult result (λ value. value ≡ map_of (take at list) key.now) IsOfMachine }
+        ensures holds { (x epoch : ℕ) (ids : List ℕ) (list : List (List Edit)) (floor kept : ℕ) →
+            D.is_honest disk.old →
+            EngineHolds (D.state disk.old) self.now x epoch ids list floor kept →
+            EngineHolds (D.state disk.new) self.now x epoch ids list floor kept }
+        ensures others { D.is_honest disk.old → KeepsOthers (D.state disk.old) (D.state disk.new) }
+    {
+        let first = self.batches.len().min(at.get() as usize);
+        match value_at(&self.batches[..first], key) {
+            Some(value) => Ok(Some(value.clone()?)),
+            None => Ok(None),
+        }
     }
 }

@@ -1,29 +1,33 @@
-ghost use Rattle.std.specs.Prelude.{◌≡◌, ℕ, length, replicate};
+ghost use Rattle.std.specs.Prelude.{◌≡◌, ℕ, ◌+◌, ◌-◌, length, replicate};
 ghost use Rattle.std.specs.Prelude.{◌<◌, ◌≤◌, suc, OnOk, OnErr, IfOk, IfErr, MatchResult};
 ghost use Rattle.kv_types.specs.declared.bounds.TheConstants.{MAX_NUMBER};
 ghost use Rattle.disk.specs.State.{contents};
 ghost use Rattle.chain_model.specs.Node.{created, started};
-ghost use Rattle.chain_model.specs.Rules.{accept, append, pass_on};
-ghost use Rattle.node.specs.Files.{AreInRange, KeepsOthers, LeavesNoMore};
+ghost use Rattle.chain_model.specs.Rules.{accept, append, forwards, pass_on, resend, show};
+ghost use Rattle.node.specs.Engines.{EngineHolds, HasNumbersOf, IsUsable};
+ghost use Rattle.node.specs.Engines.{engine_count, engine_kept};
+ghost use Rattle.node.specs.Files.{KeepsOthers, LeavesNoMore};
 ghost use Rattle.node.specs.Starts.{IsStarted, Declines, KeepsTaken, disk_behind};
 ghost use Rattle.chain_core.specs.States.{Machine, Is};
 ghost use Rattle.chain_core.specs.Decisions.{answer_to, done_of, rule_of};
-ghost use Rattle.chain_core.specs.Decisions.{HasRoomFor, IsReadOf};
+ghost use Rattle.chain_core.specs.Decisions.{AreFrames, HasRoomFor, IsReadOf};
+ghost use Rattle.chain_core.specs.declared.decision.Decision.{Decision};
 ghost use Rattle.node.specs.Steps.{Runs, AlwaysRests, Answers, StopsAs, MayStep, disk_of};
-ghost use Rattle.node.specs.Steps.{IsFirst};
 ghost use Rattle.node.specs.Outputs.{Ends, Follows, HasAppended};
 ghost use Rattle.node.specs.Stops.{KeepsDisk, TellsDisk, IsOfMachine};
 
 use crate::engine::Engine;
 use crate::layout::Identity;
-use crate::telling::{drop_for, output_of, refuse, resend, show, tell_again};
+use crate::telling::{
+    copy_for_successor, drop_for, output_of, output_taken, push_some, refuse, show, tell_again,
+};
 use crate::{Output, Stop};
-use chain_core::laws::steps_leave;
-use chain_core::{AtRest, CoreState, Decision, Done, Input, Waiting, decide};
+use chain_core::laws::{one_by_one, stands_last, steps_leave};
+use chain_core::{AtRest, CoreState, Decision, Done, Input, Sent, Waiting, decide};
 use configurations::{Config, Epoch, NodeId};
 use disk::Disk;
 use disk::laws::sure_is_left;
-use kv_types::{Batch, Limits, Number};
+use kv_types::{Batch, Key, Limits, Number};
 use std::alloc::Global;
 
 /// A running node of a chain, and its disk.
@@ -35,25 +39,57 @@ pub struct Node<D: Disk + Drop> {
     limits: Limits,
 }
 
-// What a node knows as it starts with so many batches.
-fn core_of(alloc: Global, identity: Identity, count: usize) -> CoreState
-    requires { count ≤ MAX_NUMBER }
+// What a node knows as it starts with an engine.
+fn core_of(alloc: Global, identity: Identity, engine: &Engine) -> CoreState
+    requires { IsUsable engine.now }
     ensures id { result.id ≡ identity.id }
-    ensures count { result.count ≡ count }
-    ensures is { (n : Machine) → IsFirst n → n.ids ≡ identity.config → length n.list ≡ count →
+    ensures count { result.count ≡ engine_count engine.now }
+    ensures kept { result.kept ≡ engine_kept engine.now }
+    ensures is { (n : Machine) → HasNumbersOf engine.now n → n.ids ≡ identity.config →
         Is result (started identity.id n) }
 {
     CoreState::started(
         alloc,
         AtRest {
             id: identity.id,
-            epoch: Epoch::FIRST,
+            epoch: engine.epoch(),
             config: identity.config,
-            count: Number::new(count as u64).unwrap(),
-            floor: Number::ZERO,
-            kept: Number::ZERO,
+            count: engine.count(),
+            floor: engine.floor(),
+            kept: engine.kept(),
         },
     )
+}
+
+// The batches that a tick sends again, for the successor.
+fn resent<D: Disk>(
+    alloc: Global,
+    core: &CoreState,
+    engine: &Engine,
+    disk: &mut D,
+) -> Result<Vec<Sent>, Stop>
+    requires usable { IsUsable engine.now }
+    requires count { core.now.count ≡ engine_count engine.now }
+    requires kept { core.now.kept ≡ engine_kept engine.now }
+    ensures keeps { KeepsDisk D.is_honest D.failures disk.old disk.new (TellsDisk result) }
+    ensures sent { (x : ℕ) (n : Machine) → Is core.now n → D.is_honest disk.old →
+        EngineHolds (D.state disk.old) engine.now x n.epoch n.ids n.list n.floor n.kept →
+        MatchResult result (λ sent. AreFrames sent.items
+        (forwards core.now.id n n.successor_has 16)) IsOfMachine }
+    ensures holds { (x : ℕ) (n : Machine) → D.is_honest disk.old →
+        EngineHolds (D.state disk.old) engine.now x n.epoch n.ids n.list n.floor n.kept →
+        EngineHolds (D.state disk.new) engine.now x n.epoch n.ids n.list n.floor n.kept }
+    ensures others { D.is_honest disk.old → KeepsOthers (D.state disk.old) (D.state disk.new) }
+{
+    one_by_one();
+    let numbers = core.resends();
+    let mut sent = Vec::new(alloc);
+    for number in numbers.start..numbers.end {
+        let number = Number::new(number).unwrap();
+        let batch = engine.batch(disk, number)?;
+        push_some(&mut sent, core.forward(number, batch))?;
+    }
+    Ok(sent)
 }
 
 impl<D: Disk + Drop> Node<D> {
@@ -67,7 +103,7 @@ impl<D: Disk + Drop> Node<D> {
         limits: &Limits,
     ) -> Result<Node<D>, (Stop, D)>
         ensures keeps { KeepsTaken D.is_honest D.failures disk result }
-        ensures created { D.is_honest disk → AreInRange (D.state disk) →
+        ensures created { D.is_honest disk →
             MatchResult result (λ node. Runs D.is_honest D.state node id (created config.now))
             (λ refused. IsOfMachine refused.0) }
         ensures others { D.is_honest disk →
@@ -107,7 +143,7 @@ impl<D: Disk + Drop> Node<D> {
         match Engine::open(alloc, &mut disk) {
             Ok((identity, engine)) => Ok(Node {
                 disk,
-                core: core_of(alloc, identity, engine.batches.len()),
+                core: core_of(alloc, identity, &engine),
                 engine,
                 limits: *limits,
             }),
@@ -128,7 +164,7 @@ impl<D: Disk + Drop> Node<D> {
             result }
         ensures others { (x : ℕ) (n : Machine) → Runs D.is_honest D.state self.old x n →
             KeepsOthers (D.state (disk_of self.old)) (D.state (disk_of self.new)) }
-        ensures works { OnOk result (MayStep self.new × (1 ≤ self.new.core.count)) }
+        ensures works { OnOk result (MayStep self.new) }
     {
         steps_leave();
         self.engine.append(alloc, &mut self.disk, batch)?;
@@ -150,17 +186,11 @@ impl<D: Disk + Drop> Node<D> {
         ensures works { OnOk result (MayStep self.new) }
     {
         steps_leave();
+        stands_last();
         sure_is_left();
+        let copy = copy_for_successor(&self.core, &batch)?;
         let due = self.take(alloc, batch, Done::Accepted { request })?;
-        let last = self.core.count().get();
-        output_of(
-            alloc,
-            &self.core,
-            &self.engine.batches,
-            last..last + 1,
-            false,
-            &due,
-        )
+        output_taken(alloc, &self.core, copy, false, &due)
     }
 
     // The next batch of the predecessor is taken. A tail commits it, and acknowledges it.
@@ -179,23 +209,17 @@ impl<D: Disk + Drop> Node<D> {
         ensures works { OnOk result (MayStep self.new) }
     {
         steps_leave();
+        stands_last();
         sure_is_left();
+        let copy = copy_for_successor(&self.core, &batch)?;
         let due = self.take(alloc, batch, Done::Appended)?;
-        let last = self.core.count().get();
-        let acks = self.core.is_tail();
-        output_of(
-            alloc,
-            &self.core,
-            &self.engine.batches,
-            last..last + 1,
-            acks,
-            &due,
-        )
+        output_taken(alloc, &self.core, copy, self.core.is_tail(), &due)
     }
 
     // What the successor tells is taken, and passed on where more is committed.
     fn pass_on(&mut self, alloc: Global, committed: Number, have: Number) -> Result<Output, Stop>
-        requires { MayStep self.old }
+        requires may { MayStep self.old }
+        requires there { (committed ≤ have) × (have ≤ self.old.core.count) }
         ensures disk { disk_of self.new ≡ disk_of self.old }
         ensures ends { (x : ℕ) (n : Machine) (input : Input) →
             Runs D.is_honest D.state self.old x n →
@@ -208,7 +232,44 @@ impl<D: Disk + Drop> Node<D> {
         sure_is_left();
         let grows = committed > self.core.committed();
         let due = self.core.after(alloc, Done::Told { committed, have })?;
-        output_of(alloc, &self.core, &self.engine.batches, 1..1, grows, &due)
+        output_of(alloc, &self.core, Vec::new(alloc), grows, &due)
+    }
+
+    // What the successor is not known to have is sent again, and the predecessor told.
+    fn resend(&mut self, alloc: Global) -> Result<Output, Stop>
+        requires { MayStep self.old }
+        ensures keeps { KeepsDisk D.is_honest D.failures (disk_of self.old) (disk_of self.new)
+            (TellsDisk result) }
+        ensures ends { (x : ℕ) (n : Machine) (input : Input) →
+            Runs D.is_honest D.state self.old x n →
+            Ends D.is_honest D.state self.new x n (resend x n)
+            (Answers D.is_honest D.state self.new x input (resend x n)) result }
+        ensures others { (x : ℕ) (n : Machine) → Runs D.is_honest D.state self.old x n →
+            KeepsOthers (D.state (disk_of self.old)) (D.state (disk_of self.new)) }
+        ensures works { OnOk result (MayStep self.new) }
+    {
+        sure_is_left();
+        let sent = resent(alloc, &self.core, &self.engine, &mut self.disk)?;
+        output_of(alloc, &self.core, sent, true, &[])
+    }
+
+    // The client is shown what the key has at a number.
+    fn read(&mut self, alloc: Global, request: Number, key: Key, at: Number) -> Result<Output, Stop>
+        requires { MayStep self.old }
+        ensures keeps { KeepsDisk D.is_honest D.failures (disk_of self.old) (disk_of self.new)
+            (TellsDisk result) }
+        ensures ends { (x : ℕ) (n : Machine) (input : Input) →
+            Runs D.is_honest D.state self.old x n →
+            IsReadOf n input (Decision.Show request key at) →
+            Ends D.is_honest D.state self.new x n (show n request at)
+            (Answers D.is_honest D.state self.new x input (show n request at)) result }
+        ensures others { (x : ℕ) (n : Machine) → Runs D.is_honest D.state self.old x n →
+            KeepsOthers (D.state (disk_of self.old)) (D.state (disk_of self.new)) }
+        ensures works { OnOk result (MayStep self.new) }
+    {
+        sure_is_left();
+        let value = self.engine.get(&mut self.disk, at, &key)?;
+        show(alloc, request, at, value)
     }
 
     // What was decided is done.
@@ -231,10 +292,8 @@ impl<D: Disk + Drop> Node<D> {
             Decision::Append { batch } => self.append(alloc, batch),
             Decision::TellAgain => tell_again(alloc, &self.core),
             Decision::PassOn { committed, have } => self.pass_on(alloc, committed, have),
-            Decision::Show { request, key, at } => {
-                show(alloc, &self.engine.batches, request, &key, at)
-            }
-            Decision::Resend => resend(alloc, &self.core, &self.engine.batches),
+            Decision::Show { request, key, at } => self.read(alloc, request, key, at),
+            Decision::Resend => self.resend(alloc),
             Decision::Refuse { request, refusal } => refuse(alloc, request, refusal),
             Decision::Drop(reason) => Ok(drop_for(alloc, reason)),
         }
@@ -273,6 +332,14 @@ impl<D: Disk + Drop> Node<D> {
             result ≡ n.epoch }
     {
         self.core.epoch()
+    }
+
+    /// Its configuration.
+    pub fn config(&self) -> &Config
+        ensures { (x : ℕ) (n : Machine) → Runs D.is_honest D.state self.now x n →
+            result.now ≡ n.ids }
+    {
+        self.core.config()
     }
 
     /// How many batches the node has.

@@ -1,22 +1,24 @@
-// What a step answers of a node's numbers and batches, without a change.
-ghost use Rattle.std.specs.Prelude.{◌≡◌, ◌<◌, ◌≤◌, ◌+◌, ◌-◌, ℕ, [], ◌∷◌, ◌++◌, length, map};
-ghost use Rattle.std.specs.Prelude.{Option};
-ghost use Rattle.std.specs.Prelude.{IfOk, IfErr, OnOk, option_to_list, if◌then◌else◌};
+// What a step answers, from a node's numbers and what the store gave.
+ghost use Rattle.std.specs.Prelude.{◌≡◌, ℕ, [], ◌∷◌, ◌++◌, List, map, take, Option};
+ghost use Rattle.std.specs.Prelude.{IfOk, IfErr, OnOk, option_to_list, if◌then◌else◌, Some};
+ghost use Rattle.kv_types.specs.declared.edit.Edit.{Edit};
+ghost use Rattle.kv_types.specs.Maps.{map_of};
+ghost use Rattle.chain_model.specs.Configuration.{successor};
+ghost use Rattle.chain_model.specs.Frames.{Frame};
+ghost use Rattle.chain_model.specs.Lists.{place};
 ghost use Rattle.chain_model.specs.Node.{dropped_for, refused};
-ghost use Rattle.chain_model.specs.Rules.{ack, forward, forwards, show, resend, tell_again};
+ghost use Rattle.chain_model.specs.Rules.{ack, forward, show, tell_again};
 ghost use Rattle.chain_core.specs.States.{Machine, Is};
 ghost use Rattle.chain_core.specs.Decisions.{AreFrames, refusal_as, reason_as};
-ghost use Rattle.node.specs.Outputs.{Says, Tells, told_to};
+ghost use Rattle.node.specs.Outputs.{IsCopyFor, Says, Tells, told_to};
 
 use crate::{Output, Reply, Stop};
-use chain_core::laws::one_by_one;
 use chain_core::{CoreState, DropReason, Input, Sent, Waiting};
-use kv_types::{Batch, Key, Number, value_at};
+use kv_types::{Batch, Number, Value};
 use link_messages::Refusal;
 use std::alloc::{AllocError, Global};
-use std::ops::Range;
 
-fn push_some(frames: &mut Vec<Sent>, sent: Option<Sent>) -> Result<(), AllocError>
+pub(crate) fn push_some(frames: &mut Vec<Sent>, sent: Option<Sent>) -> Result<(), AllocError>
     ensures { OnOk result (frames.new.items ≡ frames.old.items ++ option_to_list sent) }
 {
     if let Some(sent) = sent {
@@ -25,19 +27,17 @@ fn push_some(frames: &mut Vec<Sent>, sent: Option<Sent>) -> Result<(), AllocErro
     Ok(())
 }
 
-// The batch of this number, for the successor.
-fn forward_at(core: &CoreState, batches: &[Batch], number: u64) -> Result<Option<Sent>, AllocError>
-    requires count { core.now.count ≡ length batches.now }
-    requires there { (1 ≤ number) × (number ≤ core.now.count) }
-    ensures { (n : Machine) → Is core.now n → n.list ≡ batches.now →
-        IfOk result (λ sent. AreFrames (option_to_list sent) (forward core.now.id n number)) }
+/// A copy of a batch for the successor, if there is one.
+pub(crate) fn copy_for_successor(
+    core: &CoreState,
+    batch: &Batch,
+) -> Result<Option<Batch>, AllocError>
+    ensures { IfOk result (IsCopyFor (successor core.now.ids core.now.id) batch.now) }
 {
     if core.successor().is_none() {
         return Ok(None);
     }
-    let _greatest = core.count().get();
-    let batch = batches[number as usize - 1].clone()?;
-    Ok(core.forward(Number::new(number).unwrap(), batch))
+    Ok(Some(batch.clone()?))
 }
 
 fn ack_where(core: &CoreState, acks: bool) -> Option<Sent>
@@ -47,31 +47,14 @@ fn ack_where(core: &CoreState, acks: bool) -> Option<Sent>
     if acks { core.ack() } else { None }
 }
 
-// The batches of these numbers for the successor, and then, where `acks`, what it has for the
-// predecessor.
-fn frames_of(
-    alloc: Global,
-    core: &CoreState,
-    batches: &[Batch],
-    numbers: Range<u64>,
-    acks: bool,
-) -> Result<Vec<Sent>, AllocError>
-    requires count { core.now.count ≡ length batches.now }
-    requires from { 1 ≤ numbers.start }
-    requires to { numbers.start < numbers.end → numbers.end ≤ core.now.count + 1 }
-    ensures { (n : Machine) → Is core.now n → n.list ≡ batches.now →
-        IfOk result (λ frames. AreFrames frames.items
-        (forwards core.now.id n (numbers.start - 1) (numbers.end - numbers.start)
-        ++ (if acks then ack core.now.id n else []))) }
+// The last batch for the successor, if this is a copy of it.
+fn forward_last(core: &CoreState, copy: Option<Batch>) -> Option<Sent>
+    ensures { (n : Machine) (batch : List Edit) → Is core.now n →
+        place n.list core.now.count ≡ Some batch →
+        IsCopyFor (successor n.ids core.now.id) batch copy →
+        AreFrames (option_to_list result) (forward core.now.id n core.now.count) }
 {
-    one_by_one();
-    let most = numbers.end.saturating_sub(numbers.start) as usize;
-    let mut frames = Vec::with_capacity(alloc, most + 1)?;
-    for number in numbers.start..numbers.end {
-        push_some(&mut frames, forward_at(core, batches, number)?)?;
-    }
-    push_some(&mut frames, ack_where(core, acks))?;
-    Ok(frames)
+    core.forward(core.count(), copy?)
 }
 
 // Each of these requests is told that its batch is committed.
@@ -101,31 +84,48 @@ fn replying(alloc: Global, reply: Reply) -> Result<Output, Stop>
     })
 }
 
-/// What a node sends and replies: the batches of these numbers for its successor, where `acks` what
-/// it has for its predecessor, and the requests that are due.
+/// What a node sends and replies: these frames, where `acks` what it has for its predecessor, and
+/// an answer to each request that is due.
 pub(crate) fn output_of(
     alloc: Global,
     core: &CoreState,
-    batches: &[Batch],
-    numbers: Range<u64>,
+    sent: Vec<Sent>,
     acks: bool,
     due: &[Waiting],
 ) -> Result<Output, Stop>
-    requires count { core.now.count ≡ length batches.now }
-    requires from { 1 ≤ numbers.start }
-    requires to { numbers.start < numbers.end → numbers.end ≤ core.now.count + 1 }
-    ensures says { (n : Machine) → Is core.now n → n.list ≡ batches.now →
-        IfOk result (Says None
-        (forwards core.now.id n (numbers.start - 1) (numbers.end - numbers.start)
-        ++ (if acks then ack core.now.id n else []))
+    ensures says { (n : Machine) (frames : List (Frame (List Edit))) → Is core.now n →
+        AreFrames sent.items frames →
+        IfOk result (Says None (frames ++ (if acks then ack core.now.id n else []))
         (map told_to due.now)) }
     ensures memory { IfErr result (λ e. e ≡ Stop.Memory) }
 {
+    let mut frames = sent;
+    push_some(&mut frames, ack_where(core, acks))?;
     Ok(Output {
         dropped: None,
-        frames: frames_of(alloc, core, batches, numbers, acks)?,
+        frames,
         replies: replies_to(alloc, due)?,
     })
+}
+
+/// .. once a batch was taken: it is forwarded, if this is a copy of it.
+pub(crate) fn output_taken(
+    alloc: Global,
+    core: &CoreState,
+    copy: Option<Batch>,
+    acks: bool,
+    due: &[Waiting],
+) -> Result<Output, Stop>
+    ensures says { (n : Machine) (batch : List Edit) → Is core.now n →
+        place n.list core.now.count ≡ Some batch →
+        IsCopyFor (successor n.ids core.now.id) batch copy →
+        IfOk result (Says None (forward core.now.id n core.now.count
+        ++ (if acks then ack core.now.id n else [])) (map told_to due.now)) }
+    ensures memory { IfErr result (λ e. e ≡ Stop.Memory) }
+{
+    let mut sent = Vec::new(alloc);
+    push_some(&mut sent, forward_last(core, copy))?;
+    output_of(alloc, core, sent, acks, due)
 }
 
 /// Another batch came than the next one: the predecessor is told again what is there.
@@ -143,41 +143,26 @@ pub(crate) fn tell_again(alloc: Global, core: &CoreState) -> Result<Output, Stop
     })
 }
 
-/// What the key has at this number.
+/// What the key has at this number is shown.
 pub(crate) fn show(
     alloc: Global,
-    batches: &[Batch],
     request: Number,
-    key: &Key,
-    at: Number,
+    number: Number,
+    value: Option<Value>,
 ) -> Result<Output, Stop>
-    ensures tells { (n : Machine) (asked : Option ℕ) → n.list ≡ batches.now →
-        IfOk result (Tells (Input.Get request key.now asked) (show n request at)) }
+    ensures tells { (n : Machine) (key : List ℕ) (asked : Option ℕ) →
+        value ≡ map_of (take number n.list) key →
+        IfOk result (Tells (Input.Get request key asked) (show n request number)) }
     ensures memory { IfErr result (λ e. e ≡ Stop.Memory) }
 {
-    let first = batches.len().min(at.get() as usize);
-    let value = match value_at(&batches[..first], key) {
-        Some(value) => Some(value.clone()?),
-        None => None,
-    };
     replying(
         alloc,
         Reply::Value {
             request,
-            number: at,
+            number,
             value,
         },
     )
-}
-
-/// What the successor is not known to have is sent again, and the predecessor told.
-pub(crate) fn resend(alloc: Global, core: &CoreState, batches: &[Batch]) -> Result<Output, Stop>
-    requires { core.now.count ≡ length batches.now }
-    ensures tells { (n : Machine) (input : Input) → Is core.now n → n.list ≡ batches.now →
-        IfOk result (Tells input (resend core.now.id n)) }
-    ensures memory { IfErr result (λ e. e ≡ Stop.Memory) }
-{
-    output_of(alloc, core, batches, core.resends(), true, &[])
 }
 
 pub(crate) fn refuse(alloc: Global, request: Number, refusal: Refusal) -> Result<Output, Stop>

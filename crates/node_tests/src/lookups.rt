@@ -1,5 +1,5 @@
 // Each look-up once, and the causes of a stop by their numbers and texts.
-use crate::running::created;
+use crate::running::{created, created_in};
 use node::Stop;
 use std::test::Fail;
 
@@ -10,6 +10,17 @@ fn a_new_node(rt: HostRuntime) -> Result<(), Fail> {
     assert_eq!(rt; (node.count().get(), node.committed().get()), (0, 0));
     assert_eq!(rt; (node.floor().get(), node.kept().get()), (0, 0));
     assert_eq!(rt; node.tables(), [0; 7]);
+    Ok(())
+}
+
+#[test]
+fn its_configuration(rt: HostRuntime) -> Result<(), Fail> {
+    let node = created_in(rt.alloc(), 2, &[3, 1, 2])?.node;
+    let ids = node.config().ids();
+    assert_eq!(rt; ids.len(), 3);
+    for (id, want) in ids.iter().zip(&[3, 1, 2]) {
+        assert_eq!(rt; id.get(), *want);
+    }
     Ok(())
 }
 

@@ -13,4 +13,10 @@ returns c = record {
   not_newer = refl;
   reply_to_a_client = refl;
   no_frame = refl;
+  old_and_bad = refl;
+  removed_and_no_head = refl;
+  removed_and_later_epoch = refl;
+  later_epoch_of_stranger = refl;
+  stranger_with_bad_ack = refl;
+  too_old_and_too_new = refl;
 }

@@ -12,4 +12,8 @@ returns c = record {
   skipped = refl;
   stopped = refl;
   floor = refl;
+  new_successor = refl;
+  removed = refl;
+  waits = refl;
+  forgets = refl;
 }

@@ -1,11 +1,15 @@
 use Rattle.std.proofs.Common.{◌≡◌, ◌∷◌, [], ◌++◌, List, suc, refl, sym, ap, subst, ◌∙◌}
 use Rattle.std.proofs.Common.{arith}
+use Rattle.std.specs.Prelude.{if◌then◌else◌}
+use Rattle.chain_model.specs.Configuration.{is_tail}
 use Rattle.chain_model.specs.Rules.{accept}
 use Rattle.chain_core.specs.declared.waiting.Waiting.{Waiting}
 use Rattle.chain_core.specs.States.{Core, IsInOrder}
 use Rattle.chain_core.specs.Queues.{front, behind}
 use Rattle.chain_core.specs.Decisions.{Follows}
 use Rattle.chain_core.proofs.Queues.{behind_in_order, push_in_order, front_few, front_push}
+use Rattle.chain_core.specs.CoreState.{core_value}
+use Rattle.chain_core.proofs.Orders.{ordered_longer}
 use Rattle.chain_core.proofs.After.{follows_accept, next_of}
 use Rattle.chain_core.proofs.state.CoreState.accept.Goals as goal
 
@@ -14,7 +18,7 @@ pub overflow_add-count_due : goal.overflow_add-count_due
 overflow_add-count_due c =
     let inside = c.self.inside in
     let few = front_few 0 inside.count c.committed_with-committed.result inside.pending.items
-    c.self.invariant (omega arith) in
+    c.self.invariant.pending (omega arith) in
     omega (arith, few, ap (λ (v : Core). v.count) c.self.view_is, c.requires, c.count_due.ensures)
 
 -- there is room for those that were due and for the new one
@@ -34,9 +38,17 @@ invariant_of-self-2 c =
     let pending = c.self.inside.pending.items in
     let next : number ≡ suc old =
     next_of c.next.result _ old old number c.next.ensures c.unwrap-number.ensures refl in
-    let rises = push_in_order 0 old pending asked c.self.invariant (omega arith) next in
+    let rises = push_in_order 0 old pending asked c.self.invariant.pending (omega arith) next in
+    let waits : IsInOrder 0 number c.move_due.new.pending.items =
     rw (c.move_due.ensures.pending, c.in_ok-push_back.ensures.items)
-    (behind_in_order 0 number c.committed_with-committed.result (pending ++ asked ∷ []) rises)
+    (behind_in_order 0 number c.committed_with-committed.result (pending ++ asked ∷ []) rises) in
+    let commits : c.committed_with-committed.result
+    ≡ (if is_tail c.self.inside.config c.self.inside.id then number
+    else c.self.inside.committed) =
+    c.committed_with-committed.ensures
+    ∙ ap (λ (v : Core). if is_tail v.ids v.id then number else v.committed) (sym c.self.view_is) in
+    ordered_longer (core_value c.self.inside) c.self.invariant number
+    c.committed_with-committed.result c.move_due.new.pending.items next commits waits
 
 pub returns-clause-after : goal.returns-clause-after
 returns-clause-after c = λ n batch is.
@@ -49,7 +61,8 @@ returns-clause-after c = λ n batch is.
     let due = c.move_due.new.due.items in
     let empty = c.reserve.ensures.items ∙ c.new-due.ensures.items in
     let same = c.self.view_is in
-    let ordered = subst (λ (v : Core). IsInOrder 0 v.count v.pending) same c.self.invariant in
+    let ordered = subst (λ (v : Core). IsInOrder 0 v.count v.pending) same
+    c.self.invariant.pending in
     let next : number ≡ suc now.count =
     next_of c.next.result _ c.self.inside.count now.count number c.next.ensures
     c.unwrap-number.ensures (ap (λ (v : Core). v.count) same) in

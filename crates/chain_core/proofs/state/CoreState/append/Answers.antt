@@ -1,7 +1,11 @@
-use Rattle.std.proofs.Common.{◌≡◌, suc, length, refl, sym, ap, subst, arith}
+use Rattle.std.proofs.Common.{◌≡◌, suc, length, refl, sym, ap, subst, ◌∙◌, arith}
+use Rattle.std.specs.Prelude.{if◌then◌else◌}
+use Rattle.chain_model.specs.Configuration.{is_tail}
 use Rattle.chain_model.specs.Rules.{append}
 use Rattle.chain_core.specs.States.{Core, Is}
 use Rattle.chain_core.proofs.Queues.{raise}
+use Rattle.chain_core.specs.CoreState.{core_value}
+use Rattle.chain_core.proofs.Orders.{ordered_longer}
 use Rattle.chain_core.proofs.After.{follows_append, next_of}
 use Rattle.chain_core.proofs.state.CoreState.append.Goals as goal
 
@@ -11,7 +15,12 @@ invariant_of-self c =
     let number = c.unwrap-number.result in
     let next : number ≡ suc old =
     next_of c.next.result _ old old number c.next.ensures c.unwrap-number.ensures refl in
-    raise 0 old number c.self.inside.pending.items c.self.invariant (omega (arith, next))
+    let pending = c.self.inside.pending.items in
+    ordered_longer (core_value c.self.inside) c.self.invariant number
+    c.committed_with-self-inside.result pending next
+    (c.committed_with-self-inside.ensures
+    ∙ ap (λ (v : Core). if is_tail v.ids v.id then number else v.committed) (sym c.self.view_is))
+    (raise 0 old number pending c.self.invariant.pending (omega (arith, next)))
 
 pub returns-clause-after : goal.returns-clause-after
 returns-clause-after c = λ n batch is.

@@ -1,10 +1,12 @@
-use Rattle.std.proofs.Common.{◌≡◌, ◌++◌, List, sym, ap, subst, ◌∙◌, max}
+use Rattle.std.proofs.Common.{◌≡◌, ◌≤◌, ◌++◌, List, sym, ap, subst, ◌∙◌, max, arith}
 use Rattle.chain_model.specs.Rules.{pass_on}
 use Rattle.chain_core.specs.declared.waiting.Waiting.{Waiting}
 use Rattle.chain_core.specs.States.{Core, IsInOrder}
 use Rattle.chain_core.specs.Queues.{front, behind}
 use Rattle.chain_core.specs.Decisions.{Follows}
 use Rattle.chain_core.proofs.Queues.{behind_in_order}
+use Rattle.chain_core.specs.CoreState.{core_value}
+use Rattle.chain_core.proofs.Orders.{ordered_told}
 use Rattle.chain_core.proofs.After.{follows_told}
 use Rattle.chain_core.proofs.state.CoreState.pass_on.Goals as goal
 
@@ -12,8 +14,14 @@ pub invariant_of-self : goal.invariant_of-self
 invariant_of-self c =
     let inside = c.self.inside in
     let committed = c.greater-committed.result in
-    rw c.move_due.ensures.pending
-    (behind_in_order 0 inside.count committed inside.pending.items c.self.invariant)
+    let pending = c.move_due.new.pending.items in
+    let waits : IsInOrder 0 inside.count pending = rw c.move_due.ensures.pending
+    (behind_in_order 0 inside.count committed inside.pending.items c.self.invariant.pending) in
+    let there : c.args.have ≤ inside.count =
+    omega (arith, c.requires.1, ap (λ (v : Core). v.count) c.self.view_is) in
+    ordered_told (core_value inside) c.self.invariant c.args.committed c.args.have committed
+    c.greater-self-inside.result pending c.greater-committed.ensures c.greater-self-inside.ensures
+    c.requires.0 there waits
 
 pub returns-clause-after : goal.returns-clause-after
 returns-clause-after c = λ n is.
@@ -26,7 +34,8 @@ returns-clause-after c = λ n is.
     let due = c.move_due.new.due.items in
     let empty = c.reserve.ensures.items ∙ c.new-due.ensures.items in
     let same = c.self.view_is in
-    let ordered = subst (λ (v : Core). IsInOrder 0 v.count v.pending) same c.self.invariant in
+    let ordered = subst (λ (v : Core). IsInOrder 0 v.count v.pending) same
+    c.self.invariant.pending in
     let out : due ≡ front more now.pending =
     c.move_due.ensures.due
     ∙ (ap (λ (l : List Waiting). l ++ front more c.self.inside.pending.items) empty

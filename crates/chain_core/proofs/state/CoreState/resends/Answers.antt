@@ -1,6 +1,8 @@
 use Rattle.std.proofs.Common.{◌≡◌, ◌+◌, ◌-◌, None, length, min, refl, sym, ap, ◌∙◌}
-use Rattle.std.proofs.Common.{arith}
+use Rattle.std.proofs.Common.{not, arith}
+use Rattle.std.specs.Option.{is_some}
 use Rattle.chain_model.specs.Configuration.{successor}
+use Rattle.chain_core.proofs.Ends.{no_tail_before}
 use Rattle.chain_core.proofs.Resends.{sent_to_count, none_sent, not_some}
 use Rattle.chain_core.proofs.state.CoreState.resends.Goals as goal
 
@@ -29,3 +31,21 @@ returns-clause-all c = λ n is.
     c.min-more.ensures ∙ ap (λ d. min d 16) (c.saturating_sub.ensures ∙ rw (from, count) refl) in
     rw more (sent_to_count c.args.self.now.id n 16 m n.successor_has (omega (arith, least))
     (λ l. omega (arith, least, l)))
+
+-- what it cannot send again its successor is known to have
+pub returns-clause-kept : goal.returns-clause-kept
+returns-clause-kept c = λ more.
+    let now = c.args.self.now in
+    let o = c.committed.ensures.ordered in
+    let some = ap is_some (sym c.successor.ensures) ∙ c.is_none.ensures
+    ∙ ap not c.if-is_none.false in
+    let is = rw c.config.ensures at c.ids.ensures.is in
+    let no_tail = no_tail_before now.ids now.id is.different some in
+    omega (
+      arith,
+      o.kept,
+      o.floor,
+      o.successor_has no_tail,
+      c.get-has.ensures.same,
+      c.successor_has.ensures,
+    )

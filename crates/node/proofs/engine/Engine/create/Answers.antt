@@ -1,4 +1,4 @@
-use Rattle.std.proofs.Common.{◌≡◌, ◌≤◌, [], ◌∷◌, ap, length, subst, ◌∙◌, arith, sym}
+use Rattle.std.proofs.Common.{refl, ◌≡◌, ◌≤◌, [], ◌∷◌, ap, length, subst, ◌∙◌, arith, sym}
 use Rattle.std.proofs.lemmas.Result.{err_from_is_err_and}
 use Rattle.std.proofs.lemmas.List.Elements.{All-nil}
 use Rattle.kv_types.specs.Spelling.{IsBatch}
@@ -7,13 +7,15 @@ use Rattle.record_log.specs.Stands.{EndsInRange, Holds}
 use Rattle.node.specs.Layout.{identity_file, identity_record, identity_records, batches_file}
 use Rattle.node.proofs.Causes.{met}
 use Rattle.node.proofs.Identities.{identity_fits}
-use Rattle.node.proofs.Stores.{holds_in, sure_of_id}
+use Rattle.node.proofs.Engines.{holds_in, sure_of_id}
 use Rattle.node.proofs.engine.Engine.create.Goals as goal
 
 -- two new logs, and the node's record in one
 pub returns-clause-created : goal.returns-clause-created
-returns-clause-created g c = λ honest ranges.
-    let honest1 = c.create.ensures.keeps.honest.1 honest in
+returns-clause-created g c = λ honest.
+    let honest_a = c.length_of.ensures.keeps.honest.1 honest in
+    let honest0 = c.length_of-2.ensures.keeps.honest.1 honest_a in
+    let honest1 = c.create.ensures.keeps.honest.1 honest0 in
     let honest2 = c.create-2.ensures.keeps.honest.1 honest1 in
     let s1 = g.D.Disk.state c.create.new.disk in
     let s3 = g.D.Disk.state c.append.new.disk in
@@ -21,9 +23,14 @@ returns-clause-created g c = λ honest ranges.
     let is = c.in_ok-identity.ensures.at in
     let in_log = c.in_ok-log.ensures.at.in_file in
     let apart : identity_file ≡ batches_file → ⊥ = λ e. omega (arith, e) in
-    let ends = subst (λ (slot : Slot). EndsInRange (seen slot))
-    (sym (c.create.ensures.others identity_file honest apart)) ranges.identity in
-    let new = c.in_ok-identity.ensures.created honest1 ends in
+    let batches_end = subst (λ (slot : Slot). EndsInRange (seen slot))
+    (sym (c.length_of-2.ensures.same honest_a batches_file
+    ∙ c.length_of.ensures.same honest batches_file)) (c.in_ok-length_of.ensures.range honest) in
+    let identity_ends = subst (λ (slot : Slot). EndsInRange (seen slot))
+    (sym (c.create.ensures.others identity_file honest0 apart
+    ∙ c.length_of-2.ensures.same honest_a identity_file))
+    (c.in_ok-length_of-2.ensures.range honest_a) in
+    let new = c.in_ok-identity.ensures.created honest1 identity_ends in
     let held = c.in_ok-append.ensures.appended [] honest2 new in
     let told = c.in_ok-append.ensures.told.0 in
     let one : c.deref.result.now ≡ identity_record c.args.id c.args.config.now =
@@ -40,22 +47,27 @@ returns-clause-created g c = λ honest ranges.
           c.in_ok-record.ensures.id c.in_ok-record.ensures.config (told.file ∙ is.in_file)
           (told.start ∙ is.from) named;
       at = c.in_ok-log.ensures.at;
-      log = holds_in s1 s3 log [] kept (c.in_ok-log.ensures.created honest ranges.batches);
+      log = holds_in s1 s3 log [] kept (c.in_ok-log.ensures.created honest0 batches_end);
       batches = c.new-batches.ensures.items;
       each = All-nil IsBatch;
       few = omega arith;
+      numbers = record { first = refl; not_raised = refl; none_dropped = refl };
     }
 
 -- the log works and takes the record, so it tells of the machine alone
 pub returns-in_err-append-clause-created : goal.returns-in_err-append-clause-created
-returns-in_err-append-clause-created g c = λ honest ranges.
-    let honest1 = c.create.ensures.keeps.honest.1 honest in
+returns-in_err-append-clause-created g c = λ honest.
+    let honest_a = c.length_of.ensures.keeps.honest.1 honest in
+    let honest0 = c.length_of-2.ensures.keeps.honest.1 honest_a in
+    let honest1 = c.create.ensures.keeps.honest.1 honest0 in
     let honest2 = c.create-2.ensures.keeps.honest.1 honest1 in
     let result = c.from_residual-in_err-append.result in
     let p = err_from_is_err_and result c.from_residual-in_err-append.ensures.1 in
     let apart : identity_file ≡ batches_file → ⊥ = λ e. omega (arith, e) in
     let ends = subst (λ (slot : Slot). EndsInRange (seen slot))
-    (sym (c.create.ensures.others identity_file honest apart)) ranges.identity in
+    (sym (c.create.ensures.others identity_file honest0 apart
+    ∙ c.length_of-2.ensures.same honest_a identity_file))
+    (c.in_ok-length_of-2.ensures.range honest_a) in
     let new = c.in_ok-identity.ensures.created honest1 ends in
     let one = c.deref.ensures.value ∙ c.in_ok-record.ensures.spelled in
     let short = identity_fits c.args.id c.args.config.now c.in_ok-record.ensures.config in

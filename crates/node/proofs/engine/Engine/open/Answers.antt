@@ -2,12 +2,13 @@ use Rattle.std.proofs.Common.{◌≡◌, ℕ, List, sym, subst, ◌∙◌, arith
 use Rattle.node.specs.Layout.{identity_file, batches_file, records_from}
 use Rattle.node.specs.Files.{IsSureOfId}
 use Rattle.node.proofs.Opens.{has_in, same_identity, same_batches}
-use Rattle.node.proofs.Stores.{holds_in, id_in}
+use Rattle.node.proofs.Engines.{holds_in, id_in}
 use Rattle.node.proofs.engine.Engine.open.Goals as goal
 
 -- the disk had one node and one list, and they are those that were read
 pub returns-clause-opened : goal.returns-clause-opened
-returns-clause-opened g c = λ x ids list honest had.
+returns-clause-opened g c = λ x epoch ids list floor kept honest represents.
+    let had = represents.batches in
     let honest1 = c.identity_on.ensures.keeps.honest.1 honest in
     let honest2 = c.open.ensures.keeps.honest.1 honest1 in
     let s0 = g.D.Disk.state c.args.disk.now in
@@ -25,13 +26,13 @@ returns-clause-opened g c = λ x ids list honest had.
     let holds = c.in_ok-log.ensures.opened records honest1 stood in
     let read = c.in_ok-batches.ensures.found records honest2 holds in
     let after = c.batches_in.ensures.same honest2 in
-    let kept = after identity_file ∙ c.open.ensures.others identity_file honest1 apart in
+    let same_file = after identity_file ∙ c.open.ensures.others identity_file honest1 apart in
     let list' = c.in_ok-batches.batches.items in
-    let sure = id_in s1 s3 it.id it.config kept found.sure in
+    let sure = id_in s1 s3 it.id it.config same_file found.sure in
     record {
       id = same.0;
       config = same.1;
-      store = record {
+      holds = record {
         id = subst (λ (y : ℕ). IsSureOfId s3 y ids) same.0
             (subst (λ (ys : List ℕ). IsSureOfId s3 it.id ys) same.1 sure);
         at = c.in_ok-log.ensures.at;
@@ -39,5 +40,6 @@ returns-clause-opened g c = λ x ids list honest had.
         batches = sym (same_batches c.spellings_differ.ensures 1 list list' had.each read.1 read.0);
         each = had.each;
         few = had.few;
+        numbers = represents.numbers;
       };
     }

@@ -1,61 +1,61 @@
-use Rattle.std.proofs.Common.{◌≡◌, ◌+◌, ◌-◌, ℕ, suc, List, [], ◌∷◌, ◌++◌, length, length-append}
-use Rattle.std.proofs.Common.{Bool, if◌then◌else◌, ap, subst, sym, ◌∙◌, arith}
+use Rattle.std.proofs.Common.{◌≡◌, ℕ, suc, List, [], ◌++◌, length}
+use Rattle.std.proofs.Common.{Bool, if◌then◌else◌, ap, subst, sym, ◌∙◌, inr}
 use Rattle.std.proofs.lemmas.Result.{err_from_is_err_and}
 use Rattle.kv_types.specs.declared.edit.Edit.{Edit}
 use Rattle.chain_model.specs.Configuration.{is_tail}
 use Rattle.chain_model.specs.Frames.{Frame}
-use Rattle.chain_model.specs.Rules.{ack, append, forward, forwards}
+use Rattle.chain_model.specs.Rules.{ack, append, forward}
 use Rattle.chain_core.specs.declared.done.Done.TheVariants as done
 use Rattle.node.specs.Stops.{IsOfMachine}
-use Rattle.node.proofs.Running.{ends_rule, ends_stopped}
-use Rattle.node.proofs.Outputs.{one_sent}
+use Rattle.node.proofs.Running.{ends_rule, ends_stopped, stops_before}
+use Rattle.node.proofs.Running.{copy_after, number_taken, taken_stands}
 use Rattle.node.proofs.node.Node.append.Goals as goal
+
+-- nothing has changed
+pub returns-in_err-copy-clause-ends : goal.returns-in_err-copy-clause-ends
+returns-in_err-copy-clause-ends g c = λ x n input r.
+    let a = append x n (suc (length n.list)) c.args.batch in
+    let p = err_from_is_err_and c.from_residual.result c.from_residual.ensures.1 in
+    let old = c.args.self.now in
+    ends_stopped g.D.Disk.is_honest g.D.Disk.state old x n a _ c.from_residual.result p.0 p.1
+    (inr p.2) r.honest
+    (stops_before g.D.Disk.is_honest g.D.Disk.state c.sure_is_left.ensures old x n a r)
 
 -- it stops as the store's part does
 pub returns-in_err-due-clause-ends : goal.returns-in_err-due-clause-ends
 returns-in_err-due-clause-ends g c = λ x n input r.
     let a = append x n (suc (length n.list)) c.args.batch in
-    let p = err_from_is_err_and c.from_residual.result c.from_residual.ensures.1 in
+    let result = c.from_residual-in_err-due.result in
+    let p = err_from_is_err_and result c.from_residual-in_err-due.ensures.1 in
     let e = c.in_err-due.ensures.ends x n r in
-    ends_stopped g.D.Disk.is_honest g.D.Disk.state c.take.new.self x n a _ c.from_residual.result
-    p.0 p.1 (subst IsOfMachine (sym p.2) e.done) e.stopped.0 e.stopped.1
-
-pub output_of-requires-clause-from : goal.output_of-requires-clause-from
-output_of-requires-clause-from g c =
-    omega (arith, c.in_ok-due.ensures.works.1, c.get-last.ensures.same, c.count.ensures)
+    ends_stopped g.D.Disk.is_honest g.D.Disk.state c.take.new.self x n a _ result p.0 p.1
+    (subst IsOfMachine (sym p.2) e.done) e.stopped.0 e.stopped.1
 
 -- the batch that was taken is sent, and a tail acknowledges it
 pub returns-clause-ends : goal.returns-clause-ends
 returns-clause-ends g c = λ x n input r.
     let batch = c.args.batch in
+    let d = done.Appended in
     let a = append x n (suc (length n.list)) batch in
-    let leaves = c.steps_leave.ensures x n batch done.Appended in
+    let leaves = c.steps_leave.ensures x n batch d in
     let follows = (c.in_ok-due.ensures.ends x n r).done in
-    let last = c.get-last.result in
-    let number : last ≡ suc (length n.list) =
-    omega (
-      arith,
-      c.get-last.ensures.same,
-      c.count.ensures,
-      follows.runs.core.count,
-      ap length leaves.list,
-      length-append n.list (batch ∷ []),
-    ) in
+    let old = c.args.self.now.core in
+    let new = c.take.new.self.core in
+    let number : new.count ≡ suc (length n.list) =
+    sym follows.runs.core.count ∙ number_taken x n batch d a leaves tt in
+    let there = taken_stands c.stands_last.ensures x n batch d a new.count leaves tt number in
+    let copied = copy_after old new n a.node x batch c.in_ok-copy.copy r.core leaves.ids r.id
+    follows.runs.id c.in_ok-copy.ensures in
+    let says = c.output_taken.ensures.says a.node batch follows.runs.core there copied in
     let told : Bool → List (Frame (List Edit)) = λ acks. if acks then ack x a.node else [] in
-    let acks = c.is_tail-acks.result in
+    let acks = c.is_tail.result in
     let sent : ℕ → List (Frame (List Edit)) = λ y.
-    forwards y a.node (last - 1) (last + 1 - last) ++ (if acks then ack y a.node else []) in
-    let id = c.take.new.self.core.id in
-    let tail : acks ≡ is_tail a.node.ids x = c.is_tail-acks.ensures
-    ∙ ap (λ ids. is_tail ids id) (sym follows.runs.core.ids)
+    forward y a.node new.count ++ (if acks then ack y a.node else []) in
+    let tail : acks ≡ is_tail a.node.ids x = c.is_tail.ensures
+    ∙ ap (λ ids. is_tail ids new.id) (sym follows.runs.core.ids)
     ∙ ap (is_tail a.node.ids) follows.runs.id in
-    let both = ap (λ f. f ++ told acks)
-    (one_sent x a.node (length n.list) last (last + 1) number (omega arith))
+    let both = ap (λ k. forward x a.node k ++ told acks) number
     ∙ ap (λ b. forward x a.node (suc (length n.list)) ++ told b) tail in
-    let Batches = List (List Edit) in
-    let list = sym {A = Batches} follows.runs.store.batches ∙ sym c.deref.ensures.value in
     ends_rule g.D.Disk.is_honest g.D.Disk.state c.sure_is_left.ensures c.take.new.self x n input
-    batch done.Appended a c.in_ok-due.due.items c.deref-2.result.now sent c.output_of.result
-    leaves follows
-    c.deref-2.ensures.value both (c.output_of.ensures.says a.node follows.runs.core list)
-    c.output_of.ensures.memory
+    batch d a c.in_ok-due.due.items c.deref.result.now sent c.output_taken.result leaves follows
+    c.deref.ensures.value both says c.output_taken.ensures.memory

@@ -1,4 +1,4 @@
-use Rattle.std.proofs.Common.{◌≡◌, ℕ, List, [], length}
+use Rattle.std.proofs.Common.{◌≡◌, ℕ, List, [], refl}
 use Rattle.std.proofs.Common.{Bool, nat_lt, if◌then◌else◌, ap, subst, sym, ◌∙◌, inr}
 use Rattle.std.proofs.lemmas.Result.{err_from_is_err_and}
 use Rattle.kv_types.specs.declared.edit.Edit.{Edit}
@@ -6,11 +6,10 @@ use Rattle.chain_model.specs.Frames.{Frame}
 use Rattle.chain_model.specs.Rules.{ack, pass_on}
 use Rattle.chain_core.specs.declared.done.Done.TheVariants as done
 use Rattle.chain_core.specs.Decisions as core
-use Rattle.chain_core.specs.Decisions.{done_of}
+use Rattle.chain_core.specs.Decisions.{AreFrames, done_of}
 use Rattle.node.proofs.Outputs.{greater}
-use Rattle.node.specs.declared.node.Node.{Node}
 use Rattle.node.proofs.Running.{ends_rule, ends_stopped, stops_before, goes_on}
-use Rattle.node.proofs.Running.{told_counts}
+use Rattle.node.proofs.Running.{with_core, counts_told, keeps_kept}
 use Rattle.node.proofs.Causes.{on_ok}
 use Rattle.node.proofs.node.Node.pass_on.Goals as goal
 
@@ -20,26 +19,23 @@ returns-in_err-due-clause-ends g c = λ x n input r.
     let a = pass_on x n c.args.committed c.args.have in
     let p = err_from_is_err_and c.from_residual.result c.from_residual.ensures.1 in
     let old = c.args.self.now in
-    let node : Node g.row.D.Denot =
-    record { disk = old.disk; engine = old.engine; core = c.after.new.self; limits = old.limits } in
+    let node = with_core old c.after.new.self in
     ends_stopped g.D.Disk.is_honest g.D.Disk.state node x n a _ c.from_residual.result
     p.0 p.1 (inr p.2) r.honest (stops_before g.D.Disk.is_honest g.D.Disk.state
     c.sure_is_left.ensures old x n a r)
 
--- as many batches are counted as before
-pub output_of-requires-clause-count : goal.output_of-requires-clause-count
-output_of-requires-clause-count g c =
-    let old = c.args.self.now in
-    let count = told_counts c.steps_leave.ensures old.core c.after.new.self old.engine.batches.items
-    c.args.committed c.args.have c.in_ok-due.due.items c.requires.count c.in_ok-due.ensures.after in
-    count ∙ ap length (sym c.deref.ensures.value)
-
+-- as many batches are counted as before, and none was given up
 pub returns-clause-works : goal.returns-clause-works
 returns-clause-works g c =
-    let old = c.args.self.now in
-    let count = told_counts c.steps_leave.ensures old.core c.after.new.self old.engine.batches.items
-    c.args.committed c.args.have c.in_ok-due.due.items c.requires.count c.in_ok-due.ensures.after in
-    on_ok c.output_of.result (record { works = c.requires.works; count = count })
+    let may = c.requires.may in
+    let old = c.args.self.now.core in
+    let due = c.in_ok-due.due.items in
+    let count = counts_told c.steps_leave.ensures old c.after.new.self c.args.committed c.args.have
+    due c.in_ok-due.ensures.after in
+    let kept = keeps_kept c.steps_leave.ensures old c.after.new.self
+    (done.Told c.args.committed c.args.have) due c.in_ok-due.ensures.after in
+    on_ok c.output_of.result
+    (record { usable = may.usable; count = count ∙ may.count; kept = kept ∙ may.kept })
 
 -- what the successor told is passed on where more is committed
 pub returns-clause-ends : goal.returns-clause-ends
@@ -49,21 +45,20 @@ returns-clause-ends g c = λ x n input r.
     let a = pass_on x n c.args.committed c.args.have in
     let leaves = c.steps_leave.ensures x n [] d in
     let due = c.in_ok-due.due.items in
-    let node : Node g.row.D.Denot =
-    record { disk = old.disk; engine = old.engine; core = c.after.new.self; limits = old.limits } in
+    let node = with_core old c.after.new.self in
     let follows = subst (λ (y : ℕ). core.Follows node.core (done_of y n [] d) due) r.id
     (c.in_ok-due.ensures.after n [] r.core) in
-    let runs = goes_on g.D.Disk.is_honest g.D.Disk.state node x n [] d a leaves r.first r.honest
+    let runs = goes_on g.D.Disk.is_honest g.D.Disk.state node x n [] d a leaves r.honest
     r.store follows.is (c.in_ok-due.ensures.same ∙ r.id) in
     let told : Bool → List (Frame (List Edit)) = λ acks. if acks then ack x a.node else [] in
     let sent : ℕ → List (Frame (List Edit)) =
     λ y. if c.gt-grows.result then ack y a.node else [] in
+    let none : AreFrames c.new.result.items [] = rw c.new.ensures.items refl in
     let grows : c.gt-grows.result ≡ nat_lt n.committed c.args.committed =
     c.gt-grows.ensures ∙ greater c.args.committed c.committed.result
-    ∙ ap (λ k. nat_lt k c.args.committed) (c.committed.ensures ∙ sym r.core.committed) in
-    let list = sym runs.store.batches ∙ sym c.deref.ensures.value in
+    ∙ ap (λ k. nat_lt k c.args.committed) (c.committed.ensures.same ∙ sym r.core.committed) in
     ends_rule g.D.Disk.is_honest g.D.Disk.state c.sure_is_left.ensures node x n input [] d a due
-    c.deref-2.result.now sent
+    c.deref.result.now sent
     c.output_of.result leaves (record { runs = runs; replied = follows.replied })
-    c.deref-2.ensures.value (ap told grows)
-    (c.output_of.ensures.says a.node runs.core list) c.output_of.ensures.memory
+    c.deref.ensures.value (ap told grows)
+    (c.output_of.ensures.says a.node [] runs.core none) c.output_of.ensures.memory

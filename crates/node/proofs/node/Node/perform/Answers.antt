@@ -1,11 +1,10 @@
-use Rattle.std.proofs.Common.{Ok, ℕ, subst, sym, ◌∙◌}
+use Rattle.std.proofs.Common.{Ok, ℕ, subst}
 use Rattle.std.specs.Prelude.{IfOk}
-use Rattle.chain_model.specs.Rules.{tell_again, resend, show}
+use Rattle.chain_model.specs.Rules.{tell_again}
 use Rattle.chain_core.specs.Decisions.{IsReadOf, rule_of}
 use Rattle.chain_core.specs.declared.decision.Decision.TheVariants as decision
 use Rattle.node.specs.Outputs.{Tells}
 use Rattle.node.proofs.Running.{ends, ends_as}
-use Rattle.node.proofs.Outputs.{tells_read}
 use Rattle.node.proofs.node.Node.perform.Goals as goal
 
 pub returns-in-Accept-clause-ends : goal.returns-in-Accept-clause-ends
@@ -39,25 +38,15 @@ returns-in-TellAgain-clause-ends g c = λ x n input r read.
 pub returns-in-Show-clause-ends : goal.returns-in-Show-clause-ends
 returns-in-Show-clause-ends g c = λ x n input r read.
     let it = c.in-Show in
-    let shown = decision.Show it.request it.key it.at in
-    let list = sym r.store.batches ∙ sym c.deref.ensures.value in
     let of_read = subst (λ d. IsReadOf n input d) it.is read in
-    let tells = tells_read n input it.request it.at it.key c.show.result of_read
-    (λ number. c.show.ensures.tells n number list) in
-    ends_as g.D.Disk.is_honest g.D.Disk.state c.args.self.now x n input c.args.decision shown
-    c.show.result it.is (ends g.D.Disk.is_honest g.D.Disk.state
-    c.sure_is_left.ensures c.args.self.now x n input (show n it.request it.at) c.show.result r tells
-    c.show.ensures.memory)
+    ends_as g.D.Disk.is_honest g.D.Disk.state c.read.new.self x n input c.args.decision
+    (decision.Show it.request it.key it.at) c.read.result it.is
+    (c.read.ensures.ends x n input r of_read)
 
 pub returns-in-Resend-clause-ends : goal.returns-in-Resend-clause-ends
 returns-in-Resend-clause-ends g c = λ x n input r read.
-    let list = sym r.store.batches ∙ sym c.deref-in-Resend.ensures.value in
-    let tells = subst (λ (y : ℕ). IfOk c.resend.result (Tells input (resend y n))) r.id
-    (c.resend.ensures.tells n input r.core list) in
-    ends_as g.D.Disk.is_honest g.D.Disk.state c.args.self.now x n input c.args.decision
-    decision.Resend c.resend.result c.in-Resend.is
-    (ends g.D.Disk.is_honest g.D.Disk.state c.sure_is_left.ensures c.args.self.now x n input
-    (resend x n) c.resend.result r tells c.resend.ensures.memory)
+    ends_as g.D.Disk.is_honest g.D.Disk.state c.resend.new.self x n input c.args.decision
+    decision.Resend c.resend.result c.in-Resend.is (c.resend.ensures.ends x n input r)
 
 pub returns-in-Refuse-clause-ends : goal.returns-in-Refuse-clause-ends
 returns-in-Refuse-clause-ends g c = λ x n input r read.

@@ -1,8 +1,11 @@
-use Rattle.std.proofs.Common.{arith}
+use Rattle.chain_core.specs.States.{Machine}
+use Rattle.chain_model.specs.Node.{created}
 use Rattle.disk.specs.State.{contents}
 use Rattle.node.specs.declared.node.Node.{Node}
+use Rattle.node.specs.Engines.{engine_epoch, engine_floor, engine_kept}
 use Rattle.node.proofs.Running.{runs_opened, starts}
-use Rattle.node.proofs.Stores.{as_read}
+use Rattle.node.proofs.Engines.{as_read}
+use Rattle.std.proofs.Common.{refl}
 use Rattle.node.proofs.node.Node.start.Goals as goal
 
 -- a disk that rests as a machine stands for it as it reads
@@ -10,22 +13,21 @@ pub returns-in-Ok-clause-started : goal.returns-in-Ok-clause-started
 returns-in-Ok-clause-started g c = λ x n honest rests.
     let s0 = g.D.Disk.state c.args.disk in
     let read = rests (contents s0) (as_read s0) in
-    let opened = c.in-Ok.ensures.opened x n.ids n.list honest read.batches in
+    let opened = c.in-Ok.ensures.opened x n.epoch n.ids n.list n.floor n.kept honest read in
     let node : Node g.row.D.Denot = record {
       disk = c.open.new.disk;
       engine = c.in-Ok.engine;
       core = c.core_of.result;
       limits = c.args.limits.now;
     } in
-    runs_opened g.D.Disk.is_honest g.D.Disk.state node c.in-Ok.identity c.len.result
-    c.core_of.ensures.is x n (c.open.ensures.keeps.honest.1 honest) opened read.first
-    c.core_of.ensures.id (omega (arith, c.len.ensures))
+    runs_opened g.D.Disk.is_honest g.D.Disk.state node c.in-Ok.identity c.core_of.ensures.is x n
+    (c.open.ensures.keeps.honest.1 honest) opened c.core_of.ensures.id
 
 pub returns-in-Err-clause-started : goal.returns-in-Err-clause-started
 returns-in-Err-clause-started g c = λ x n honest rests.
     let s0 = g.D.Disk.state c.args.disk in
     let read = rests (contents s0) (as_read s0) in (
-      c.in-Err.ensures.opened x n.ids n.list honest read.batches,
+      c.in-Err.ensures.opened x n.epoch n.ids n.list n.floor n.kept honest read,
       λ left leaves. rests left (c.in-Err.ensures.crash honest left leaves),
     )
 
@@ -34,13 +36,19 @@ pub returns-in-Ok-clause-told : goal.returns-in-Ok-clause-told
 returns-in-Ok-clause-told g c = λ honest.
     let found = c.in-Ok.ensures.found honest in
     let it = c.in-Ok.identity in
-    let opened = c.in-Ok.ensures.opened it.id it.config found.0 honest found.1 in
+    let engine = c.in-Ok.engine in
+    let n : Machine = record (created it.config) {
+      list = found.0;
+      epoch = engine_epoch engine;
+      floor = engine_floor engine;
+      kept = engine_kept engine;
+    } in
+    let opened = c.in-Ok.ensures.opened it.id n.epoch n.ids n.list n.floor n.kept honest found.1 in
     let node : Node g.row.D.Denot = record {
       disk = c.open.new.disk;
       engine = c.in-Ok.engine;
       core = c.core_of.result;
       limits = c.args.limits.now;
     } in
-    starts g.D.Disk.is_honest g.D.Disk.state node it c.len.result c.core_of.ensures.is c.args.disk
-    found.0 found.1 (c.open.ensures.keeps.honest.1 honest) opened c.core_of.ensures.id
-    (omega (arith, c.len.ensures))
+    starts g.D.Disk.is_honest g.D.Disk.state node it c.core_of.ensures.is c.args.disk n refl found.1
+    (c.open.ensures.keeps.honest.1 honest) opened c.core_of.ensures.id

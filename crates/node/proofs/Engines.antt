@@ -1,8 +1,8 @@
--- What the disk of a store leaves.
+-- What an open engine holds, and what a crash leaves of it.
 use Rattle.std.proofs.Common.{◌≡◌, ℕ, ◌+◌, ◌≤◌, ◌<◌, List, [], ◌∷◌, ◌++◌, length, drop, Option}
 use Rattle.std.proofs.Common.{Some, None}
 use Rattle.std.proofs.Common.{inl, inr, refl, sym, ap, subst, ◌∙◌, arith}
-use Rattle.std.proofs.Common.{length-append}
+use Rattle.std.proofs.Common.{zero, suc, ◌-◌, get_or, length-append}
 use Rattle.std.specs.Prelude.{IsSomeAnd, slice_get, ◌⊎◌, ◌≢◌}
 use Rattle.std.proofs.lemmas.List.Elements.{All-push}
 use Rattle.kv_types.specs.declared.edit.Edit.{Edit}
@@ -19,7 +19,10 @@ use Rattle.configurations.specs.Configs.{IsConfig}
 use Rattle.kv_types.specs.declared.bounds.TheConstants.{MAX_NUMBER}
 use Rattle.node.specs.Layout.{identity_file, identity_records, batches_file}
 use Rattle.node.specs.Layout.{batch_record, records_from}
-use Rattle.node.specs.Files.{IsLog, HasId, HasBatches, IsSureOfId, IsStore, KeepsOneOf}
+use Rattle.node.specs.Files.{IsLog, HasId, DiskRepresents, IsSureOfId, KeepsOneOf}
+use Rattle.node.specs.Engines.{EngineHolds, HasNumbersOf, engine_count}
+use Rattle.chain_core.specs.States.{Machine}
+use Rattle.chain_model.specs.Lists.{place}
 use Rattle.node.proofs.Records.{records_from-push, length-ends}
 
 -- a log holds what it held where its file is the same
@@ -87,9 +90,43 @@ only_one disk log (first ∷ []) one h size got =
 only_one disk log (first ∷ second ∷ others) one h size got =
     absurd (omega (arith, size, ap length h.ends, length-ends 0 (first ∷ second ∷ others)))
 
--- An open store, and one batch more.
-module _ (law : SureIsLeft) (old : State) (engine : Engine) (x : ℕ) (ids : List ℕ)
-    (list : List (List Edit)) (s : IsStore old engine x ids list) where
+-- a machine that an engine holds has its numbers
+pub has_numbers_of : (disk : State) (engine : Engine) (x : ℕ) (n : Machine) →
+    EngineHolds disk engine x n.epoch n.ids n.list n.floor n.kept → HasNumbersOf engine n
+has_numbers_of disk engine x n s = record {
+  epoch = s.numbers.first;
+  count = sym (ap length s.batches);
+  floor = s.numbers.not_raised;
+  kept = s.numbers.none_dropped;
+}
+
+-- what an engine holds, by other names of the same numbers
+pub holds_as : (disk : State) (engine : Engine) (x e d : ℕ) (ids js : List ℕ)
+    (list more : List (List Edit)) (f g k h : ℕ) → d ≡ e → js ≡ ids → more ≡ list → g ≡ f →
+    h ≡ k → EngineHolds disk engine x e ids list f k → EngineHolds disk engine x d js more g h
+holds_as disk engine x e d ids js list more f g k h of_epoch of_ids of_list of_floor of_kept s =
+    rw (of_epoch, of_ids, of_list, of_floor, of_kept) s
+
+at_next : (list : List (List Edit)) (i : ℕ) (d : List Edit) → i < length list →
+    place list (suc i) ≡ Some (get_or list i d)
+at_next [] i d within = absurd (omega (arith, within))
+at_next (first ∷ list) zero d within = refl
+at_next (first ∷ list) (suc i) d within = at_next list i d (omega (arith, within))
+
+-- the batch of a number stands one place before it
+pub stands_at : (list batches : List (List Edit)) (k : ℕ) (batch found : List Edit) → 1 ≤ k →
+    k ≤ length batches → list ≡ batches → found ≡ get_or batches (k - 1) found → batch ≡ found →
+    place list k ≡ Some batch
+stands_at list batches k batch found some within same got copy =
+    let number : k ≡ suc (k - 1) = omega (arith, some) in
+    let there = at_next batches (k - 1) found (omega (arith, some, within)) in
+    ap (λ l. place l k) same ∙ ap (λ i. place batches i) number ∙ there
+    ∙ ap (λ b. Some b) (sym got ∙ sym copy)
+
+-- An open engine, and one batch more.
+module _ (law : SureIsLeft) (old : State) (engine : Engine) (x epoch : ℕ) (ids : List ℕ)
+    (list : List (List Edit)) (floor kept : ℕ)
+    (s : EngineHolds old engine x epoch ids list floor kept) where
   log_left : (left : Contents) → MayLeave old left →
       IsLog (left batches_file) (records_from 1 list)
   log_left left leaves =
@@ -100,13 +137,17 @@ module _ (law : SureIsLeft) (old : State) (engine : Engine) (x : ℕ) (ids : Lis
       sym (ap old s.at.in_file) ∙ s.log.sure in
       stands_left law old batches_file s.log.bytes records sure stands left leaves
 
-  -- a crash leaves the batches
-  pub kept : (left : Contents) → MayLeave old left → HasBatches left x ids list
-  kept left leaves = record {
-    id = id_left law old x ids s.id left leaves;
-    batches = log_left left leaves;
-    each = s.each;
-    few = s.few;
+  -- a crash leaves what it holds
+  pub represented : (left : Contents) → MayLeave old left →
+      DiskRepresents left x epoch ids list floor kept
+  represented left leaves = record {
+    batches = record {
+      id = id_left law old x ids s.id left leaves;
+      batches = log_left left leaves;
+      each = s.each;
+      few = s.few;
+    };
+    numbers = s.numbers;
   }
 
   -- the identity file is another than that of the log
@@ -114,8 +155,8 @@ module _ (law : SureIsLeft) (old : State) (engine : Engine) (x : ℕ) (ids : Lis
   apart same = absurd (omega (arith, same, s.at.in_file))
 
   module _ (batch : List Edit) (is_batch : IsBatch batch) where
-    pub unchanged : KeepsOneOf old x ids list (list ++ batch ∷ [])
-    unchanged left leaves = inl (kept left leaves)
+    pub unchanged : KeepsOneOf old x epoch ids list (list ++ batch ∷ []) floor kept
+    unchanged left leaves = inl (represented left leaves)
 
     pub next_record : (number : ℕ) → number ≡ length engine.batches.items + 1 →
         batch_record number batch ≡ batch_record (1 + length list) batch
@@ -124,7 +165,7 @@ module _ (law : SureIsLeft) (old : State) (engine : Engine) (x : ℕ) (ids : Lis
         ap (λ (n : ℕ). batch_record n batch) same
 
     module _ (one : List ℕ) (is : one ≡ batch_record (1 + length list) batch)
-        (room : length engine.batches.items < MAX_NUMBER) where
+        (room : engine_count engine < MAX_NUMBER) where
       few_more : length (list ++ batch ∷ []) ≤ MAX_NUMBER
       few_more = omega (arith, length-append list (batch ∷ []), ap length s.batches, room)
 
@@ -135,20 +176,25 @@ module _ (law : SureIsLeft) (old : State) (engine : Engine) (x : ℕ) (ids : Lis
 
       one_of : (left : Contents) → HasId left x ids →
           IsSomeAnd (left batches_file) (IsOldOrNew 0 (records_from 1 list) one) →
-          HasBatches left x ids list ⊎ HasBatches left x ids (list ++ batch ∷ [])
+          DiskRepresents left x epoch ids list floor kept
+          ⊎ DiskRepresents left x epoch ids (list ++ batch ∷ []) floor kept
       one_of left id either = split (left batches_file) refl either
         where
           split : (bytes : Option (List ℕ)) → left batches_file ≡ bytes →
               IsSomeAnd bytes (IsOldOrNew 0 (records_from 1 list) one) →
-              HasBatches left x ids list ⊎ HasBatches left x ids (list ++ batch ∷ [])
+              DiskRepresents left x epoch ids list floor kept
+              ⊎ DiskRepresents left x epoch ids (list ++ batch ∷ []) floor kept
           split None same none = absurd none
           split (Some it) same (inl stands) =
               let P : Option (List ℕ) → Type 0 = λ o. IsLog o (records_from 1 list) in
               inl (record {
-                id = id;
-                batches = subst P (sym same) stands;
-                each = s.each;
-                few = s.few;
+                batches = record {
+                  id = id;
+                  batches = subst P (sym same) stands;
+                  each = s.each;
+                  few = s.few;
+                };
+                numbers = s.numbers;
               })
           split (Some it) same (inr stands) =
               let more : List (List ℕ) = records_from 1 (list ++ batch ∷ []) in
@@ -156,17 +202,20 @@ module _ (law : SureIsLeft) (old : State) (engine : Engine) (x : ℕ) (ids : Lis
               subst (λ (r : List (List ℕ)). StandsFor it r) one_more stands in
               let P : Option (List ℕ) → Type 0 = λ o. IsLog o more in
               inr (record {
-                id = id;
-                batches = subst P (sym same) whole;
-                each = All-push IsBatch list batch s.each is_batch;
-                few = few_more;
+                batches = record {
+                  id = id;
+                  batches = subst P (sym same) whole;
+                  each = All-push IsBatch list batch s.each is_batch;
+                  few = few_more;
+                };
+                numbers = s.numbers;
               })
 
       -- a crash while a record is appended leaves the batches, with one more or without
       pub crashed : (new : State) →
           ((other : ℕ) → other ≢ engine.log.file → new other ≡ old other) →
           LeavesAt new engine.log.file (IsOldOrNew engine.log.start (records_from 1 list) one) →
-          KeepsOneOf new x ids list (list ++ batch ∷ [])
+          KeepsOneOf new x epoch ids list (list ++ batch ∷ []) floor kept
       crashed new others leaves left now =
           let id : IsSureOfId new x ids = id_in old new x ids (others identity_file apart) s.id in
           let P : ℕ → List ℕ → Type 0 = λ start. IsOldOrNew start (records_from 1 list) one in
@@ -183,7 +232,7 @@ module _ (law : SureIsLeft) (old : State) (engine : Engine) (x : ℕ) (ids : Lis
           IsAt batches_file 0 after.log →
           after.batches.items ≡ engine.batches.items ++ batch ∷ [] →
           Holds new after.log (records_from 1 list ++ one ∷ []) →
-          IsStore new after x ids (list ++ batch ∷ [])
+          EngineHolds new after x epoch ids (list ++ batch ∷ []) floor kept
       appended new after others at batches_are holds = record {
         id = id_in old new x ids (others identity_file apart) s.id;
         at = at;
@@ -191,6 +240,7 @@ module _ (law : SureIsLeft) (old : State) (engine : Engine) (x : ℕ) (ids : Lis
         batches = batches_are ∙ ap (λ (l : List (List Edit)). l ++ batch ∷ []) s.batches;
         each = All-push IsBatch list batch s.each is_batch;
         few = few_more;
+        numbers = s.numbers;
       }
 
 -- a read gives what a crash may leave

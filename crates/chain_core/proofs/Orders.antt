@@ -1,0 +1,50 @@
+-- The order of a node's numbers, which each rule keeps.
+use Rattle.std.proofs.Common.{◌≡◌, ◌≤◌, ℕ, suc, List, Bool, true, false, max, refl, ◌∙◌, sym, arith}
+use Rattle.std.specs.Prelude.{if◌then◌else◌}
+use Rattle.std.proofs.lemmas.Bool.{true≢false}
+use Rattle.chain_model.specs.Configuration.{is_tail}
+use Rattle.chain_core.specs.declared.waiting.Waiting.{Waiting}
+use Rattle.chain_core.specs.States.{Core, HasOrderedNumbers, IsInOrder}
+
+module _ (core : Core) (o : HasOrderedNumbers core) where
+  longer_where : (b : Bool) → is_tail core.ids core.id ≡ b → (number c : ℕ)
+      (pending : List Waiting) → number ≡ suc core.count →
+      c ≡ (if b then number else core.committed) → IsInOrder 0 number pending →
+      HasOrderedNumbers (record core { count = number; committed = c; pending = pending })
+  longer_where true tail number c pending next commits rises = record {
+    kept = o.kept;
+    floor = omega (arith, o.floor, o.committed, next, commits);
+    committed = omega (arith, commits);
+    successor_has = λ no_tail. absurd (true≢false (sym tail ∙ no_tail));
+    sent = omega (arith, o.sent, next);
+    pending = rises;
+  }
+  longer_where false tail number c pending next commits rises = record {
+    kept = o.kept;
+    floor = omega (arith, o.floor, commits);
+    committed = omega (arith, o.committed, next, commits);
+    successor_has = λ no_tail. omega (arith, o.successor_has no_tail, commits);
+    sent = omega (arith, o.sent, next);
+    pending = rises;
+  }
+
+  -- after one more batch, which a tail commits
+  pub ordered_longer : (number c : ℕ) (pending : List Waiting) → number ≡ suc core.count →
+      c ≡ (if is_tail core.ids core.id then number else core.committed) →
+      IsInOrder 0 number pending →
+      HasOrderedNumbers (record core { count = number; committed = c; pending = pending })
+  ordered_longer = longer_where (is_tail core.ids core.id) refl
+
+  -- after what the successor told
+  pub ordered_told : (committed have c has : ℕ) (pending : List Waiting) →
+      c ≡ max core.committed committed → has ≡ max core.successor_has have → committed ≤ have →
+      have ≤ core.count → IsInOrder 0 core.count pending →
+      HasOrderedNumbers (record core { committed = c; successor_has = has; pending = pending })
+  ordered_told committed have c has pending greater more told there rises = record {
+    kept = o.kept;
+    floor = omega (arith, o.floor, greater);
+    committed = omega (arith, o.committed, greater, told, there);
+    successor_has = λ no_tail. omega (arith, o.successor_has no_tail, greater, more, told);
+    sent = omega (arith, o.sent, more, there);
+    pending = rises;
+  }

@@ -1,0 +1,18 @@
+//! What a node starts from.
+ghost use Rattle.std.specs.Prelude.{◌≤◌};
+
+use configurations::{Config, Epoch, NodeId};
+use kv_types::Number;
+
+/// What outlives a stop of a node, besides its batches.
+#[derive(Debug, Drop)]
+pub struct AtRest {
+    pub id: NodeId,
+    pub epoch: Epoch,
+    pub config: Config,
+    pub count: Number,
+    pub floor: Number,
+    pub kept: Number,
+    ghost kept_within: { kept ≤ floor },
+    ghost floor_within: { floor ≤ count },
+}

@@ -1,0 +1,35 @@
+use Rattle.std.proofs.Common.{ℕ, sym, subst}
+use Rattle.std.specs.Prelude.{IfOk}
+use Rattle.std.proofs.lemmas.Result.{err_from_is_err_and}
+use Rattle.chain_model.specs.Rules.{resend}
+use Rattle.node.specs.Outputs.{Tells}
+use Rattle.node.specs.Stops.{IsOfMachine}
+use Rattle.node.proofs.Running.{with_engine, still_runs, stops_before, ends, ends_stopped}
+use Rattle.node.proofs.node.Node.resend.Goals as goal
+
+-- a batch could not be had, and the engine holds what it held
+pub returns-in_err-sent-clause-ends : goal.returns-in_err-sent-clause-ends
+returns-in_err-sent-clause-ends g c = λ x n input r.
+    let a = resend x n in
+    let p = err_from_is_err_and c.from_residual.result c.from_residual.ensures.1 in
+    let old = c.args.self.now in
+    let node = with_engine old c.resent.new.disk old.engine in
+    let runs = still_runs g.D.Disk.is_honest g.D.Disk.state old c.resent.new.disk old.engine x n r
+    (c.resent.ensures.keeps.honest.1 r.honest) (c.resent.ensures.holds x n r.honest r.store) in
+    ends_stopped g.D.Disk.is_honest g.D.Disk.state node x n a _ c.from_residual.result p.0 p.1
+    (subst IsOfMachine (sym p.2) (c.in_err-sent.ensures.sent x n r.core r.honest r.store))
+    runs.honest (stops_before g.D.Disk.is_honest g.D.Disk.state c.sure_is_left.ensures node x n a
+    runs)
+
+-- the batches and what the node has are sent
+pub returns-clause-ends : goal.returns-clause-ends
+returns-clause-ends g c = λ x n input r.
+    let old = c.args.self.now in
+    let node = with_engine old c.resent.new.disk old.engine in
+    let runs = still_runs g.D.Disk.is_honest g.D.Disk.state old c.resent.new.disk old.engine x n r
+    (c.resent.ensures.keeps.honest.1 r.honest) (c.resent.ensures.holds x n r.honest r.store) in
+    let sent = c.in_ok-sent.ensures.sent x n r.core r.honest r.store in
+    let tells = subst (λ (y : ℕ). IfOk c.output_of.result (Tells input (resend y n))) r.id
+    (c.output_of.ensures.says n _ r.core sent) in
+    ends g.D.Disk.is_honest g.D.Disk.state c.sure_is_left.ensures node x n input (resend x n)
+    c.output_of.result runs tells c.output_of.ensures.memory

@@ -1,0 +1,79 @@
+use Rattle.std.proofs.Common.{rules, ◌≡◌, ◌+◌, ◌-◌, ◌++◌, suc, ap, ◌∙◌, sym, subst, arith}
+use Rattle.std.specs.Prelude.{option_to_list}
+use Rattle.std.proofs.lemmas.Result.{err_from_is_err_and}
+use Rattle.chain_model.specs.Rules.{forward, forwards}
+use Rattle.chain_core.specs.Decisions.{AreFrames}
+use Rattle.node.proofs.Outputs.{both_sent, made_of}
+use Rattle.node.proofs.node.resent.Goals as goal
+
+-- a batch that could not be had is wanted for the engine's cause
+pub returns-in_err-batch-clause-sent : goal.returns-in_err-batch-clause-sent
+returns-in_err-batch-clause-sent g c = λ x n is honest s.
+    let was = c.loop-number.invariant in
+    let p = err_from_is_err_and c.from_residual.result c.from_residual.ensures.1 in
+    let found = c.in_err-batch.ensures.found x n.epoch n.ids n.list n.floor n.kept
+    (was.honest.1 honest) (was.holds x n honest s) in
+    rw (p.1, p.2) found
+
+-- the engine holds what it held
+pub returns-in_err-batch-clause-holds : goal.returns-in_err-batch-clause-holds
+returns-in_err-batch-clause-holds g c = λ x n honest s.
+    let was = c.loop-number.invariant in
+    c.batch.ensures.holds x n.epoch n.ids n.list n.floor n.kept (was.honest.1 honest)
+    (was.holds x n honest s)
+
+pub returns-in_err-push_some-clause-holds : goal.returns-in_err-push_some-clause-holds
+returns-in_err-push_some-clause-holds g c = λ x n honest s.
+    let was = c.loop-number.invariant in
+    c.batch.ensures.holds x n.epoch n.ids n.list n.floor n.kept (was.honest.1 honest)
+    (was.holds x n honest s)
+
+-- the batch of one number more was sent
+pub loop-number-preserved : goal.loop-number-preserved
+loop-number-preserved g c =
+    let was = c.loop-number.invariant in
+    let core = c.args.core.now in
+    let x = core.id in
+    let k = core.successor_has in
+    let start = c.resends-numbers.result.start in
+    let at = c.loop-number.number in
+    let m = at - start in
+    let from = c.resends-numbers.ensures.from in
+    let number : at ≡ suc (k + m) = omega (arith, from, c.loop-number.auto.number) in
+    let more : at + 1 - start ≡ suc m = omega (arith, c.loop-number.auto.number) in
+    record {
+      reached = search rules;
+      honest = search rules;
+      count = search rules;
+      holds = λ y n honest s.
+          c.batch.ensures.holds y n.epoch n.ids n.list n.floor n.kept (was.honest.1 honest)
+          (was.holds y n honest s);
+      others = search rules;
+      sent = λ y n is honest s.
+          let made = made_of c.new.result _ at c.unwrap-number.result c.new.ensures
+          c.unwrap-number.ensures in
+          let there = c.in_ok-batch.ensures.found y n.epoch n.ids n.list n.floor n.kept
+          (was.honest.1 honest) (was.holds y n honest s) in
+          let frame = option_to_list c.forward.result in
+          let one = subst (λ i. AreFrames frame (forward x n i)) made
+          (c.forward.ensures n is there) in
+          let passed : forwards x n k (at + 1 - start) ≡ forwards x n k m ++ forward x n at
+          = ap (forwards x n k) more ∙ c.one_by_one.ensures x n k m
+          ∙ ap (λ i. forwards x n k m ++ forward x n i) (sym number) in
+          let sent = both_sent _ _ _ _ (was.sent y n is honest s) one in
+          rw (passed, c.in_ok-push_some.ensures) sent;
+    }
+
+-- all of them were sent
+pub returns-clause-sent : goal.returns-clause-sent
+returns-clause-sent g c = λ x n is honest s.
+    let core = c.args.core.now in
+    let numbers = c.resends-numbers.result in
+    let at = c.loop-number in
+    let all : at.number - numbers.start ≡ numbers.end - numbers.start =
+    omega (arith, c.loop-number-test.false, at.invariant.reached) in
+    let sent = subst (λ m. AreFrames at.sent.items (forwards core.id n core.successor_has m)) all
+    (at.invariant.sent x n is honest s) in
+    let whole = c.resends-numbers.ensures.all n is
+    ∙ ap (λ k. forwards core.id n k (numbers.end - numbers.start)) is.successor_has in
+    subst (AreFrames at.sent.items) (sym whole) sent

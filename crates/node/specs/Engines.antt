@@ -1,0 +1,60 @@
+-- An open engine over a node's files: its numbers, and what it holds.
+use Rattle.std.specs.Prelude.{◌≡◌, ℕ, ◌≤◌, List, length, All}
+use Rattle.kv_types.specs.declared.bounds.TheConstants.{MAX_NUMBER}
+use Rattle.kv_types.specs.declared.edit.Edit.{Edit}
+use Rattle.kv_types.specs.Spelling.{IsBatch}
+use Rattle.disk.specs.State.{State}
+use Rattle.record_log.specs.Stands.{HasFailed, Holds, IsAt}
+use Rattle.chain_core.specs.States.{Machine}
+use Rattle.node.specs.declared.engine.Engine.{Engine}
+use Rattle.node.specs.declared.layout.Identity.{Identity}
+use Rattle.node.specs.Layout.{batches_file, records_from}
+use Rattle.node.specs.Files.{HasPlainNumbers, IsSureOfId}
+
+-- how many batches it has
+abbrev pub engine_count : Engine → ℕ
+engine_count engine = length engine.batches.items
+
+-- the place of its configuration in the list of configurations
+abbrev pub engine_epoch : Engine → ℕ
+engine_epoch engine = 0
+
+-- the least number that it can be read at
+abbrev pub engine_floor : Engine → ℕ
+engine_floor engine = 0
+
+-- so many of its first batches it has given up
+abbrev pub engine_kept : Engine → ℕ
+engine_kept engine = 0
+
+-- no append of it failed, and its numbers are in order
+pub record IsUsable (engine : Engine) : Type 0 where
+  pub works : HasFailed engine.log → ⊥
+  pub kept : engine_kept engine ≤ engine_floor engine
+  pub floor : engine_floor engine ≤ engine_count engine
+  pub few : engine_count engine ≤ MAX_NUMBER
+
+-- an open engine holds what the disk represents: it is there, and a crash leaves it
+pub record EngineHolds (disk : State) (engine : Engine) (x epoch : ℕ) (ids : List ℕ)
+    (list : List (List Edit)) (floor kept : ℕ) : Type 0 where
+  pub id : IsSureOfId disk x ids
+  pub at : IsAt batches_file 0 engine.log
+  pub log : Holds disk engine.log (records_from 1 list)
+  pub batches : engine.batches.items ≡ list
+  pub each : All IsBatch list
+  pub few : length list ≤ MAX_NUMBER
+  pub numbers : HasPlainNumbers epoch floor kept
+
+-- a machine has the numbers of an engine
+pub record HasNumbersOf (engine : Engine) (n : Machine) : Type 0 where
+  pub epoch : n.epoch ≡ engine_epoch engine
+  pub count : length n.list ≡ engine_count engine
+  pub floor : n.floor ≡ engine_floor engine
+  pub kept : n.kept ≡ engine_kept engine
+
+-- what was opened is the engine of node x with this configuration and these batches
+pub record IsOpened (disk : State) (identity : Identity) (engine : Engine) (x epoch : ℕ)
+    (ids : List ℕ) (list : List (List Edit)) (floor kept : ℕ) : Type 0 where
+  pub id : identity.id ≡ x
+  pub config : identity.config ≡ ids
+  pub holds : EngineHolds disk engine x epoch ids list floor kept
