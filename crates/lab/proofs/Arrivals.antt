@@ -1,7 +1,7 @@
 -- What an event brought to a node, by the kind of event.
 use Rattle.std.proofs.Common.{◌≡◌, ℕ, List, map, Option, Some, None, refl, sym}
 use Rattle.std.proofs.Common.{ap, subst, ◌∙◌}
-use Rattle.std.proofs.lemmas.Bool.{cond-true, cond-false}
+use Rattle.std.proofs.lemmas.Bool.{cond-true, cond-false, false≢true}
 use Rattle.kv_types.specs.declared.edit.Edit.{Edit}
 use Rattle.disk.specs.declared.junk.Junk.{Junk}
 use Rattle.chain_model.specs.Configuration.{Configurations}
@@ -10,7 +10,7 @@ use Rattle.chain_model.specs.DropReason as model_reason
 use Rattle.chain_model.specs.Frames.{Frame as ModelFrame}
 use Rattle.chain_model.specs.Requests as request
 use Rattle.chain_model.specs.Node.{dropped_for, silent, started, stopped}
-use Rattle.chain_model.specs.World.{World, Went, Answered, StoppedBefore, outcome, answers}
+use Rattle.chain_model.specs.World.{World, Answered, StoppedBefore, outcome, answers}
 use Rattle.chain_model.specs.World.{stops, delivered, nothing}
 use Rattle.link_messages.specs.declared.frame.Frame.{Frame}
 use Rattle.link_messages.specs.declared.frame.Frame.TheVariants as frame
@@ -28,7 +28,9 @@ use Rattle.lab.specs.declared.report.Line.TheVariants as line
 use Rattle.lab.specs.Events.{modelled, reply_line}
 use Rattle.lab.specs.Comings.{Brings, BringsNothing, coming_of}
 use Rattle.lab.specs.Comings.{WasStarted, Starts, Fails, RunsOn, WasStopped, Stops, RestsOn}
-use Rattle.lab.specs.Comings.{Happened}
+use Rattle.lab.specs.Comings.{Happened, junk_with}
+use Rattle.lab.specs.Disks.{junk_of}
+use Rattle.lab.specs.Members.{Choice}
 use Rattle.lab.proofs.Happenings.{IsOutcome, Tells, chosen, as_chosen, given, stop_tells}
 use Rattle.lab.proofs.Happenings.{drop_tells}
 
@@ -78,22 +80,22 @@ tick_replies x (request.Refused j why) = refl
 module _ (cs : Configurations) (w : World (List Edit)) (i x : ℕ) (member : Member) (does : Did)
   where
     -- a frame in a place is delivered to its addressee
-    to_addressee : (p : ℕ) (it : Frame) (f : ModelFrame (List Edit)) (went : Went) →
+    to_addressee : (p : ℕ) (it : Frame) (f : ModelFrame (List Edit)) (choice : Choice) →
         place w.frames p ≡ Some f → frame_as x it ≡ Some f →
-        outcome w cs (modelled i (Deliver p) went) ≡ delivered w (frame_as x it) went
-    to_addressee p it f went there same =
-        ap (λ (o : Option (ModelFrame (List Edit))). delivered w o went) (there ∙ sym same)
+        outcome w cs (modelled i (Deliver p) choice) ≡ delivered w (frame_as x it) choice.went
+    to_addressee p it f choice there same =
+        ap (λ (o : Option (ModelFrame (List Edit))). delivered w o choice.went) (there ∙ sym same)
 
     deliver : (p : ℕ) (it : Frame) (f : ModelFrame (List Edit)) → place w.frames p ≡ Some f →
         frame_as x it ≡ Some f → Happened x (w.nodes x) (coming_of it) member does →
         IsOutcome cs w i x (Deliver p) member does
     deliver p (frame.Forward epoch from number batch) f there same was =
         given cs w i x (Deliver p) (input.Forward epoch from number batch) member does
-        (λ went. to_addressee p (frame.Forward epoch from number batch) f went there same)
+        (λ choice. to_addressee p (frame.Forward epoch from number batch) f choice there same)
         (λ cause. refl) (λ o. refl) (forward_replies p epoch from number batch) was
     deliver p (frame.Ack epoch from committed have) f there same was =
         given cs w i x (Deliver p) (input.Ack epoch from committed have) member does
-        (λ went. to_addressee p (frame.Ack epoch from committed have) f went there same)
+        (λ choice. to_addressee p (frame.Ack epoch from committed have) f choice there same)
         (λ cause. refl) (λ o. refl) (ack_replies p epoch from committed have) was
     deliver p (frame.Notice epoch config) f there same was = absurd (cc)
     deliver p (frame.Submit request batch) f there same was = absurd (cc)
@@ -113,45 +115,55 @@ module _ (cs : Configurations) (w : World (List Edit)) (i x : ℕ) (member : Mem
         let o = answers x (silent (started x (w.nodes x))) in
         as_chosen cs w i x (Start x) member does (chosen Answered Disk) o
         (started x (w.nodes x)) (cond-false _ _ _ off) refl is
-        (subst (λ (d : Did). Tells x (Start x) Disk d o) (sym told)
-        (record { frames = refl; told = λ n. refl; counted = λ n. refl }))
-    start (Fails off cause is told) =
+        (subst (λ (d : Did). Tells x (Start x) (chosen Answered Disk) d o) (sym told) (record {
+          frames = refl;
+          told = λ n. refl;
+          counted = λ n. refl;
+          fits = λ stops. absurd (false≢true stops);
+          ends = refl;
+        }))
+    start (Fails off cause of_machine is told) =
         as_chosen cs w i x (Start x) member does (chosen StoppedBefore cause) (stops x (w.nodes x))
         (stopped (w.nodes x)) (cond-false _ _ _ off) refl is
-        (subst (λ (d : Did). Tells x (Start x) cause d (stops x (w.nodes x))) (sym told)
-        (stop_tells x (Start x) cause (Some cause) (w.nodes x) refl))
+        (subst (λ (d : Did). Tells x (Start x) (chosen StoppedBefore cause) d
+        (stops x (w.nodes x))) (sym told)
+        (stop_tells x (Start x) (chosen StoppedBefore cause) (Some cause) (w.nodes x) refl
+        of_machine))
     start (RunsOn up is told) =
         let o = answers x (dropped_for (w.nodes x) model_reason.Running) in
         as_chosen cs w i x (Start x) member does (chosen Answered Disk) o (w.nodes x)
         (cond-true _ _ _ up) refl is
-        (subst (λ (d : Did). Tells x (Start x) Disk d o) (sym told.1)
-        (drop_tells x (Start x) Disk (w.nodes x) model_reason.Running told.0 told.2 refl))
+        (subst (λ (d : Did). Tells x (Start x) (chosen Answered Disk) d o) (sym told.1)
+        (drop_tells x (Start x) (chosen Answered Disk) (w.nodes x) model_reason.Running told.0
+        told.2 refl))
 
     stop : (junk : Junk) → WasStopped x (w.nodes x) member does →
         IsOutcome cs w i x (Stop x junk) member does
     stop junk (Stops up is told) =
         as_chosen cs w i x (Stop x junk) member does (chosen Answered Disk) (stops x (w.nodes x))
         (stopped (w.nodes x)) (cond-true _ _ _ up) refl is
-        (subst (λ (d : Did). Tells x (Stop x junk) Disk d (stops x (w.nodes x))) (sym told)
-        (stop_tells x (Stop x junk) Disk None (w.nodes x) refl))
+        (subst (λ (d : Did). Tells x (Stop x junk) (chosen Answered Disk) d
+        (stops x (w.nodes x))) (sym told)
+        (stop_tells x (Stop x junk) (chosen Answered Disk) None (w.nodes x) refl tt))
     stop junk (RestsOn off is told) =
         let o = answers x (dropped_for (w.nodes x) model_reason.NotRunning) in
         as_chosen cs w i x (Stop x junk) member does (chosen Answered Disk) o (w.nodes x)
         (cond-false _ _ _ off) refl is
-        (subst (λ (d : Did). Tells x (Stop x junk) Disk d o) (sym told.1)
-        (drop_tells x (Stop x junk) Disk (w.nodes x) model_reason.NotRunning told.0 told.2 refl))
+        (subst (λ (d : Did). Tells x (Stop x junk) (chosen Answered Disk) d o) (sym told.1)
+        (drop_tells x (Stop x junk) (chosen Answered Disk) (w.nodes x) model_reason.NotRunning
+        told.0 told.2 refl))
 
     -- what an event brought and made of a node is the event's outcome
     pub happened : (what : What) (comes : Coming) → Brings w.frames i what x comes →
         Happened x (w.nodes x) comes member does → IsOutcome cs w i x what member does
     happened (Submit node batch) comes brings was =
         subst (λ (y : ℕ). IsOutcome cs w i x (Submit y batch) member does) brings.0
-        (given cs w i x (Submit x batch) (input.Submit i batch) member does (λ went. refl)
+        (given cs w i x (Submit x batch) (input.Submit i batch) member does (λ choice. refl)
         (λ cause. refl) (λ o. refl) (submit_replies x i batch)
         (subst (λ (k : Coming). Happened x (w.nodes x) k member does) brings.1 was))
     happened (Get node key at) comes brings was =
         subst (λ (y : ℕ). IsOutcome cs w i x (Get y key at) member does) brings.0
-        (given cs w i x (Get x key at) (input.Get i key at) member does (λ went. refl)
+        (given cs w i x (Get x key at) (input.Get i key at) member does (λ choice. refl)
         (λ cause. refl) (λ o. refl) (get_replies x i key at)
         (subst (λ (k : Coming). Happened x (w.nodes x) k member does) brings.1 was))
     happened (Deliver p) comes brings was =
@@ -159,7 +171,7 @@ module _ (cs : Configurations) (w : World (List Edit)) (i x : ℕ) (member : Mem
         (subst (λ (k : Coming). Happened x (w.nodes x) k member does) brings.is was)
     happened (Tick node) comes brings was =
         subst (λ (y : ℕ). IsOutcome cs w i x (Tick y) member does) brings.0
-        (given cs w i x (Tick x) input.Tick member does (λ went. refl)
+        (given cs w i x (Tick x) input.Tick member does (λ choice. refl)
         (λ cause. refl) (λ o. refl) (tick_replies x)
         (subst (λ (k : Coming). Happened x (w.nodes x) k member does) brings.1 was))
     happened (Start node) comes brings was =
@@ -171,8 +183,23 @@ module _ (cs : Configurations) (w : World (List Edit)) (i x : ℕ) (member : Mem
 
 -- an event without a frame does nothing
 pub nothing_done : (cs : Configurations) (w : World (List Edit)) (i : ℕ) (what : What)
-    (went : Went) → BringsNothing w.frames what →
-    outcome w cs (modelled i what went) ≡ nothing
-nothing_done cs w i what went brings =
-    ap (λ (e : What). outcome w cs (modelled i e went)) brings.1
-    ∙ ap (λ (o : Option (ModelFrame (List Edit))). delivered w o went) brings.2
+    (choice : Choice) → BringsNothing w.frames what →
+    outcome w cs (modelled i what choice) ≡ nothing
+nothing_done cs w i what choice brings =
+    ap (λ (e : What). outcome w cs (modelled i e choice)) brings.1
+    ∙ ap (λ (o : Option (ModelFrame (List Edit))). delivered w o choice.went) brings.2
+
+-- the junk of a stop is what it comes with
+pub junk_same : (frames : List (ModelFrame (List Edit))) (i x : ℕ) (what : What) (comes : Coming) →
+    Brings frames i what x comes → junk_with comes ≡ junk_of what
+junk_same frames i x (Submit node batch) comes brings = ap junk_with brings.1
+junk_same frames i x (Get node key at) comes brings = ap junk_with brings.1
+junk_same frames i x (Deliver p) comes brings = ap junk_with brings.is ∙ none_with brings.it
+  where
+    none_with : (it : Frame) → junk_with (coming_of it) ≡ None
+    none_with (frame.Forward epoch from number batch) = refl
+    none_with (frame.Ack epoch from committed have) = refl
+    none_with _ = refl
+junk_same frames i x (Tick node) comes brings = ap junk_with brings.1
+junk_same frames i x (Start node) comes brings = ap junk_with brings.1
+junk_same frames i x (Stop node junk) comes brings = ap junk_with brings.1

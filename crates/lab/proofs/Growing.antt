@@ -1,5 +1,5 @@
 -- One event more.
-use Rattle.std.proofs.Common.{◌≡◌, ℕ, suc, ◌+◌, List, [], ◌∷◌, ◌++◌, length, map, refl, sym, ap}
+use Rattle.std.proofs.Common.{◌≡◌, ℕ, suc, ◌+◌, ◌≤◌, List, [], ◌∷◌, ◌++◌, length, map, refl, sym, ap}
 use Rattle.std.proofs.Common.{ap₂}
 use Rattle.std.proofs.Common.{subst, ◌∙◌, length-append, arith}
 use Rattle.std.specs.Prelude.{All}
@@ -8,14 +8,15 @@ use Rattle.std.proofs.lemmas.Slice.Zip.{AllZip-long}
 use Rattle.kv_types.specs.declared.edit.Edit.{Edit}
 use Rattle.chain_model.specs.Configuration.{Configurations, at_epoch}
 use Rattle.chain_model.specs.World.{World, run, reached, beginning, happens, outcome}
+use Rattle.disk.specs.Memory.{Slots}
 use Rattle.lab.specs.declared.event.Event.{Event}
-use Rattle.lab.specs.declared.event.What.{What}
 use Rattle.lab.specs.declared.posted.Posted.{Posted}
 use Rattle.lab.specs.declared.report.Line.{Line}
 use Rattle.lab.specs.declared.seat.Seat.{Seat}
-use Rattle.lab.specs.Events.{modelled, lines_of}
-use Rattle.lab.specs.Members.{Choice}
-use Rattle.lab.specs.Runs.{modelled_from, told_from}
+use Rattle.lab.specs.Disks.{DisksFollow, AllFollow}
+use Rattle.lab.specs.Events.{modelled, lines_of, ChoiceFits}
+use Rattle.lab.specs.Members.{Choice, state, failures}
+use Rattle.lab.specs.Traces.{modelled_from, told_from, AllFit}
 use Rattle.lab.specs.Worlds.{IsKept, IsSeated, HasMade, frames_told, frames_of_step}
 
 -- one event more at the end
@@ -23,29 +24,69 @@ module _ (cs : Configurations) (e : Event) (ch : Choice) where
   pub run-push : (i k : ℕ) (es : List Event) (chs : List Choice) (w : World (List Edit)) →
       length chs ≡ length es → k ≡ i + length es →
       run cs (modelled_from i (es ++ e ∷ []) (chs ++ ch ∷ [])) w ≡ happens cs
-      (run cs (modelled_from i es chs) w) (modelled k e.what ch.went)
-  run-push i k [] [] w same at = ap (λ (j : ℕ). happens cs w (modelled j e.what ch.went))
+      (run cs (modelled_from i es chs) w) (modelled k e.what ch)
+  run-push i k [] [] w same at = ap (λ (j : ℕ). happens cs w (modelled j e.what ch))
       (omega arith)
   run-push i k [] (c ∷ chs) w same at = absurd (omega arith)
   run-push i k (f ∷ es) [] w same at = absurd (omega arith)
   run-push i k (f ∷ es) (c ∷ chs) w same at = run-push (suc i) k es chs
-      (happens cs w (modelled i f.what c.went)) (omega arith) (omega arith)
+      (happens cs w (modelled i f.what c)) (omega arith) (omega arith)
 
   pub told_from-push : (i k : ℕ) (es : List Event) (chs : List Choice) (w : World (List Edit)) →
       length chs ≡ length es → k ≡ i + length es →
       let u = run cs (modelled_from i es chs) w in
       told_from cs i (es ++ e ∷ []) (chs ++ ch ∷ []) w ≡ told_from cs i es chs w ++ lines_of
-      (length u.frames) e.what ch.cause (outcome u cs (modelled k e.what ch.went)) ∷ []
+      (length u.frames) e.what ch (outcome u cs (modelled k e.what ch)) ∷ []
   told_from-push i k [] [] w same at = ap
-      (λ (j : ℕ). lines_of (length w.frames) e.what ch.cause
-      (outcome w cs (modelled j e.what ch.went)) ∷ []) (omega arith)
+      (λ (j : ℕ). lines_of (length w.frames) e.what ch
+      (outcome w cs (modelled j e.what ch)) ∷ []) (omega arith)
   told_from-push i k [] (c ∷ chs) w same at = absurd (omega arith)
   told_from-push i k (f ∷ es) [] w same at = absurd (omega arith)
   told_from-push i k (f ∷ es) (c ∷ chs) w same at =
-      ap (λ (l : List (List Line)). lines_of (length w.frames) f.what c.cause
-      (outcome w cs (modelled i f.what c.went)) ∷ l)
-      (told_from-push (suc i) k es chs (happens cs w (modelled i f.what c.went)) (omega arith)
+      ap (λ (l : List (List Line)). lines_of (length w.frames) f.what c
+      (outcome w cs (modelled i f.what c)) ∷ l)
+      (told_from-push (suc i) k es chs (happens cs w (modelled i f.what c)) (omega arith)
       (omega arith))
+
+  pub fit-push : (i k : ℕ) (es : List Event) (chs : List Choice) (w : World (List Edit)) →
+      length chs ≡ length es → k ≡ i + length es → AllFit cs i es chs w →
+      let u = run cs (modelled_from i es chs) w in
+      ChoiceFits e ch (outcome u cs (modelled k e.what ch)) →
+      AllFit cs i (es ++ e ∷ []) (chs ++ ch ∷ []) w
+  fit-push i k [] [] w same at all one = (
+    subst (λ (j : ℕ). ChoiceFits e ch (outcome w cs (modelled j e.what ch))) (omega arith) one,
+    tt,
+  )
+  fit-push i k [] (c ∷ chs) w same at all one = absurd (omega arith)
+  fit-push i k (f ∷ es) [] w same at all one = absurd all
+  fit-push i k (f ∷ es) (c ∷ chs) w same at all one = (
+    all.0,
+    fit-push (suc i) k es chs (happens cs w (modelled i f.what c)) (omega arith) (omega arith)
+        all.1 one,
+  )
+
+  pub follow-push : (i k : ℕ) (es : List Event) (chs : List Choice) (w : World (List Edit))
+      (old disks new : ℕ → Slots) → length chs ≡ length es → k ≡ i + length es →
+      AllFollow state failures cs i es chs w old disks →
+      let u = run cs (modelled_from i es chs) w in
+      DisksFollow state failures e ch (outcome u cs (modelled k e.what ch)) disks new →
+      AllFollow state failures cs i (es ++ e ∷ []) (chs ++ ch ∷ []) w old new
+  follow-push i k [] [] w old disks new same at all one = (
+    new,
+    subst (λ (d : ℕ → Slots). DisksFollow state failures e ch
+        (outcome w cs (modelled i e.what ch)) d new) all
+        (subst (λ (j : ℕ). DisksFollow state failures e ch
+        (outcome w cs (modelled j e.what ch)) disks new) (omega arith) one),
+    refl,
+  )
+  follow-push i k [] (c ∷ chs) w old disks new same at all one = absurd (omega arith)
+  follow-push i k (f ∷ es) [] w old disks new same at all one = absurd all
+  follow-push i k (f ∷ es) (c ∷ chs) w old disks new same at all one = (
+    all.0,
+    all.1,
+    follow-push (suc i) k es chs (happens cs w (modelled i f.what c)) all.0 disks new
+        (omega arith) (omega arith) all.2 one,
+  )
 
 -- each event has its lines
 pub length-told_from : (cs : Configurations) (i : ℕ) (es : List Event) (chs : List Choice)
@@ -54,7 +95,7 @@ pub length-told_from : (cs : Configurations) (i : ℕ) (es : List Event) (chs : 
 length-told_from cs i [] chs w same = refl
 length-told_from cs i (e ∷ es) [] w same = absurd (omega arith)
 length-told_from cs i (e ∷ es) (ch ∷ chs) w same =
-    ap suc (length-told_from cs (suc i) es chs (happens cs w (modelled i e.what ch.went))
+    ap suc (length-told_from cs (suc i) es chs (happens cs w (modelled i e.what ch))
     (omega arith))
 
 -- so many frames more are told of
@@ -64,14 +105,20 @@ frames_told-push [] lines = omega arith
 frames_told-push (step ∷ steps) lines = omega (arith, frames_told-push steps lines)
 
 -- what the event in place i makes of a world, and its lines
-pub record Next (cs : Configurations) (w : World (List Edit)) (i : ℕ) (what : What)
-    (choice : Choice) (seats : List Seat) (posted : List Posted) (lines : List Line) : Type 0 where
-  pub told : lines ≡ lines_of (length w.frames) what choice.cause
-      (outcome w cs (modelled i what choice.went))
-  pub counted : frames_of_step lines ≡ length (outcome w cs (modelled i what choice.went)).frames
-  pub frames : AllZip IsKept posted (happens cs w (modelled i what choice.went)).frames
+pub record Next (cs : Configurations) (w : World (List Edit)) (old : ℕ → Slots) (i : ℕ)
+    (event : Event) (choice : Choice) (seats : List Seat) (posted : List Posted) (lines : List Line)
+    : Type 0 where
+  pub told : lines ≡ lines_of (length w.frames) event.what choice
+      (outcome w cs (modelled i event.what choice))
+  pub fits : ChoiceFits event choice (outcome w cs (modelled i event.what choice))
+  pub counted : frames_of_step lines ≡ length (outcome w cs (modelled i event.what choice)).frames
+  pub frames : AllZip IsKept posted (happens cs w (modelled i event.what choice)).frames
   pub nodes : map (λ seat. seat.id) seats ≡ at_epoch cs 0
-  pub each : All (IsSeated (happens cs w (modelled i what choice.went))) seats
+  pub disks : ℕ → Slots
+  pub follow : DisksFollow state failures event choice
+      (outcome w cs (modelled i event.what choice)) old disks
+  pub few : (x : ℕ) → failures (disks x) ≤ i
+  pub each : All (IsSeated (happens cs w (modelled i event.what choice)).nodes disks) seats
 
 module _ (cs : Configurations) (events : List Event) (steps : List (List Line))
     (seats : List Seat) (posted : List Posted) (made : HasMade seats posted cs events steps) where
@@ -81,30 +128,35 @@ module _ (cs : Configurations) (events : List Event) (steps : List (List Line))
 
   -- there are as many steps as events
   pub length-steps : length steps ≡ length events
-  length-steps = ap length made.told
-      ∙ length-told_from cs 1 events made.choices (beginning cs) made.one_each
+  length-steps = ap length made.trace.told
+      ∙ length-told_from cs 1 events made.choices (beginning cs) made.trace.one_each
 
   -- what comes next is one event more
   pub grown : (i : ℕ) (event : Event) (choice : Choice) (now : List Seat) (more : List Posted)
       (lines : List Line) → i ≡ length events + 1 →
-      Next cs so_far i event.what choice now more lines →
+      Next cs so_far made.disks i event choice now more lines →
       HasMade now more cs (events ++ event ∷ []) (steps ++ lines ∷ [])
   grown i event choice now more lines at next =
       let place : i ≡ 1 + length events = omega (arith, at) in
-      let here = run-push cs event choice 1 i events made.choices (beginning cs) made.one_each
-      place in
+      let here = run-push cs event choice 1 i events made.choices (beginning cs)
+      made.trace.one_each place in
       record {
         lawful = made.lawful;
         choices = made.choices ++ choice ∷ [];
-        one_each = omega (
-          arith,
-          length-append made.choices (choice ∷ []),
-          length-append events (event ∷ []),
-          made.one_each,
-        );
-        told = ap₂ (λ (a : List (List Line)) (b : List Line). a ++ b ∷ []) made.told next.told
-            ∙ sym (told_from-push cs event choice 1 i events made.choices (beginning cs)
-            made.one_each place);
+        trace = record {
+          one_each = omega (
+            arith,
+            length-append made.choices (choice ∷ []),
+            length-append events (event ∷ []),
+            made.trace.one_each,
+          );
+          fits = fit-push cs event choice 1 i events made.choices (beginning cs)
+              made.trace.one_each place made.trace.fits next.fits;
+          told = ap₂ (λ (a : List (List Line)) (b : List Line). a ++ b ∷ []) made.trace.told
+              next.told
+              ∙ sym (told_from-push cs event choice 1 i events made.choices (beginning cs)
+              made.trace.one_each place);
+        };
         frames = subst (λ (v : World (List Edit)). AllZip IsKept more v.frames) (sym here)
             next.frames;
         sent = omega (
@@ -114,10 +166,20 @@ module _ (cs : Configurations) (events : List Event) (steps : List (List Line))
           next.counted,
           AllZip-long IsKept posted so_far.frames made.frames,
           AllZip-long IsKept more
-              (happens cs so_far (modelled i event.what choice.went)).frames next.frames,
+              (happens cs so_far (modelled i event.what choice)).frames next.frames,
           length-append so_far.frames
-              (outcome so_far cs (modelled i event.what choice.went)).frames,
+              (outcome so_far cs (modelled i event.what choice)).frames,
         );
         nodes = next.nodes;
-        each = subst (λ (v : World (List Edit)). All (IsSeated v) now) (sym here) next.each;
+        disks = next.disks;
+        after = record {
+          first = made.after.first;
+          begun = made.after.begun;
+          follow = follow-push cs event choice 1 i events made.choices (beginning cs)
+              made.after.first made.disks next.disks made.trace.one_each place made.after.follow
+              next.follow;
+        };
+        few = λ x. omega (arith, next.few x, at, length-append events (event ∷ []));
+        each = subst (λ (v : World (List Edit)). All (IsSeated v.nodes next.disks) now) (sym here)
+            next.each;
       }

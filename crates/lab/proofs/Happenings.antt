@@ -3,7 +3,8 @@ use Rattle.std.proofs.Common.{◌≡◌, ℕ, suc, ◌+◌, List, [], ◌∷◌,
 use Rattle.std.proofs.Common.{None, true, false, cond, inl, inr, refl, sym, ap, ap₂, subst, ◌∙◌}
 use Rattle.std.proofs.Common.{arith, option_map}
 use Rattle.std.proofs.lemmas.List.{map-append}
-use Rattle.std.proofs.lemmas.Bool.{cond-true, cond-false}
+use Rattle.std.specs.Prelude.{Bool, IfSome}
+use Rattle.std.proofs.lemmas.Bool.{cond-true, cond-false, false≢true}
 use Rattle.kv_types.specs.declared.edit.Edit.{Edit}
 use Rattle.chain_model.specs.Configuration.{Configurations}
 use Rattle.chain_model.specs.DropReason as model_reason
@@ -25,6 +26,7 @@ use Rattle.node.specs.declared.output.Reply.{Reply}
 use Rattle.node.specs.declared.stop.Stop.{Stop as Cause}
 use Rattle.node.specs.declared.stop.Stop.TheVariants.{Disk}
 use Rattle.node.specs.Steps.{reason_of, replies_of, told_as}
+use Rattle.node.specs.Stops.{IsOfMachine}
 use Rattle.lab.specs.declared.coming.Did.{Did}
 use Rattle.lab.specs.declared.coming.Did.TheVariants as did
 use Rattle.lab.specs.declared.event.What.{What}
@@ -111,25 +113,40 @@ counts_replies (reply ∷ replies) = omega (arith, counts_replies replies)
 
 -- ---- outcomes
 
+-- a node that stops by itself stops for its device or for memory
+abbrev pub CauseFits : What → Choice → Outcome (List Edit) → Type 0
+CauseFits what choice o = o.stopped ≡ true → IfSome (cause_told what choice.cause) IsOfMachine
+
+-- the node stopped where its doing says so, with the cause that was chosen
+abbrev pub StopsSo : What → Choice → Did → Bool → Type 0
+StopsSo what choice (did.Answered output) stopped = stopped ≡ false
+StopsSo what choice (did.Started epoch count committed) stopped = stopped ≡ false
+StopsSo what choice (did.Stopped told) stopped =
+    (stopped ≡ true) × (cause_told what choice.cause ≡ told)
+
 -- an event's outcome, told so: the node that it came to, and the member of the lab that this is now
 pub record IsOutcome (cs : Configurations) (w : World (List Edit)) (i x : ℕ) (what : What)
     (member : Member) (does : Did) : Type 0 where
   pub choice : Choice
   pub node : Machine
-  pub came : (outcome w cs (modelled i what choice.went)).came_to ≡ Some (x, node)
+  pub came : (outcome w cs (modelled i what choice)).came_to ≡ Some (x, node)
   pub is : Is member x node
-  pub frames : AreFrames (sent_by does) (outcome w cs (modelled i what choice.went)).frames
+  pub frames : AreFrames (sent_by does) (outcome w cs (modelled i what choice)).frames
   pub told : (n : ℕ) → did_lines x n does
-      ≡ lines_of n what choice.cause (outcome w cs (modelled i what choice.went))
+      ≡ lines_of n what choice (outcome w cs (modelled i what choice))
   pub counted : (n : ℕ) → frames_of_step (did_lines x n does)
-      ≡ length (outcome w cs (modelled i what choice.went)).frames
+      ≡ length (outcome w cs (modelled i what choice)).frames
+  pub fits : CauseFits what choice (outcome w cs (modelled i what choice))
+  pub ends : StopsSo what choice does (outcome w cs (modelled i what choice)).stopped
 
 -- what a node's doing is at an outcome
-pub record Tells (x : ℕ) (what : What) (cause : Cause) (does : Did) (o : Outcome (List Edit))
+pub record Tells (x : ℕ) (what : What) (choice : Choice) (does : Did) (o : Outcome (List Edit))
     : Type 0 where
   pub frames : AreFrames (sent_by does) o.frames
-  pub told : (n : ℕ) → did_lines x n does ≡ lines_of n what cause o
+  pub told : (n : ℕ) → did_lines x n does ≡ lines_of n what choice o
   pub counted : (n : ℕ) → frames_of_step (did_lines x n does) ≡ length o.frames
+  pub fits : CauseFits what choice o
+  pub ends : StopsSo what choice does o.stopped
 
 abbrev pub chosen : Went → Cause → Choice
 chosen went cause = record { went = went; cause = cause }
@@ -138,11 +155,11 @@ module _ (cs : Configurations) (w : World (List Edit)) (i x : ℕ) (what : What)
     (does : Did) where
   -- with this choice the outcome is this one
   pub as_chosen : (choice : Choice) (o : Outcome (List Edit)) (n : Machine) →
-      outcome w cs (modelled i what choice.went) ≡ o → o.came_to ≡ Some (x, n) → Is member x n →
-      Tells x what choice.cause does o → IsOutcome cs w i x what member does
+      outcome w cs (modelled i what choice) ≡ o → o.came_to ≡ Some (x, n) → Is member x n →
+      Tells x what choice does o → IsOutcome cs w i x what member does
   as_chosen choice o n is_o came is tells =
       let same = sym is_o in
-      let all = subst (λ (p : Outcome (List Edit)). Tells x what choice.cause does p) same tells in
+      let all = subst (λ (p : Outcome (List Edit)). Tells x what choice does p) same tells in
       record {
         choice = choice;
         node = n;
@@ -151,6 +168,8 @@ module _ (cs : Configurations) (w : World (List Edit)) (i x : ℕ) (what : What)
         frames = all.frames;
         told = all.told;
         counted = all.counted;
+        fits = all.fits;
+        ends = all.ends;
       }
 
 -- ---- answers and stops
@@ -175,7 +194,7 @@ counts_answer n a replies =
     )
 
 -- an input's answer is told as the model's
-module _ (x : ℕ) (what : What) (inp : Input) (cause : Cause) (a : Answer (List Edit))
+module _ (x : ℕ) (what : What) (inp : Input) (choice : Choice) (a : Answer (List Edit))
     (output : Output) (is : IsAnswer inp a output) where
   answer_lines : (n : ℕ) → did_lines x n (did.Answered output)
       ≡ answered_lines n a (replies_of inp a.replies)
@@ -187,7 +206,7 @@ module _ (x : ℕ) (what : What) (inp : Input) (cause : Cause) (a : Answer (List
 
   answer_tells : (start_lines what (answers x a) ≡ []) →
       (reply_lines what a.replies ≡ map (λ reply. line.Replied reply) (replies_of inp a.replies)) →
-      Tells x what cause (did.Answered output) (answers x a)
+      Tells x what choice (did.Answered output) (answers x a)
   answer_tells starts replies = record {
     frames = is.frames;
     told = λ n. answer_lines n
@@ -195,24 +214,29 @@ module _ (x : ℕ) (what : What) (inp : Input) (cause : Cause) (a : Answer (List
         (sym starts) (sym replies);
     counted = λ n. ap frames_of_step (answer_lines n)
         ∙ counts_answer n a (replies_of inp a.replies);
+    fits = λ stops. absurd (false≢true stops);
+    ends = refl;
   }
 
 -- a stop is told with its cause
-pub stop_tells : (x : ℕ) (what : What) (cause : Cause) (told : Option Cause) (n : Machine) →
-    cause_told what cause ≡ told → Tells x what cause (did.Stopped told) (stops x n)
-stop_tells x what cause told n is = record {
+pub stop_tells : (x : ℕ) (what : What) (choice : Choice) (told : Option Cause) (n : Machine) →
+    cause_told what choice.cause ≡ told → IfSome told IsOfMachine →
+    Tells x what choice (did.Stopped told) (stops x n)
+stop_tells x what choice told n is of_machine = record {
   frames = refl;
   told = λ m. ap (λ (c : Option Cause). line.Stopped x c ∷ []) (sym is);
   counted = λ m. refl;
+  fits = λ stops. subst (λ (c : Option Cause). IfSome c IsOfMachine) (sym is) of_machine;
+  ends = (refl, is);
 }
 
 -- a drop is told with its reason
-pub drop_tells : (x : ℕ) (what : What) (cause : Cause) (n : Machine) (why : model_reason.DropReason)
-    (output : Output) → IsDrop (reason_of why) output →
+pub drop_tells : (x : ℕ) (what : What) (choice : Choice) (n : Machine)
+    (why : model_reason.DropReason) (output : Output) → IsDrop (reason_of why) output →
     start_lines what (answers x (dropped_for n why)) ≡ [] →
-    Tells x what cause (did.Answered output) (answers x (dropped_for n why))
-drop_tells x what cause n why output is starts =
-    answer_tells x what input.Tick cause (dropped_for n why) output (record {
+    Tells x what choice (did.Answered output) (answers x (dropped_for n why))
+drop_tells x what choice n why output is starts =
+    answer_tells x what input.Tick choice (dropped_for n why) output (record {
       dropped = is.dropped;
       frames = ap (map (λ (it : Sent). frame_as it.to it.frame)) is.frames;
       replied = is.replied;
@@ -233,49 +257,53 @@ shows_so inp what (r ∷ replies) each =
 -- an input comes, as the model has it
 module _ (cs : Configurations) (w : World (List Edit)) (i x : ℕ) (what : What) (inp : Input)
     (member : Member) (does : Did)
-    (at : (went : Went) → outcome w cs (modelled i what went)
-    ≡ cond (w.nodes x).running (as_it_went x (w.nodes x) (answer_to x (w.nodes x) inp) went)
+    (at : (choice : Choice) → outcome w cs (modelled i what choice)
+    ≡ cond (w.nodes x).running (as_it_went x (w.nodes x) (answer_to x (w.nodes x) inp) choice.went)
     (answers x (at_rest (w.nodes x) inp)))
     (causes : (cause : Cause) → cause_told what cause ≡ Some cause)
     (starts : (o : Outcome (List Edit)) → start_lines what o ≡ [])
     (replies : (r : request.Reply (List Edit)) → reply_line what r
     ≡ map (λ reply. line.Replied reply) (told_as inp r)) where
-  runs : (went : Went) → (w.nodes x).running ≡ true → outcome w cs (modelled i what went)
-      ≡ as_it_went x (w.nodes x) (answer_to x (w.nodes x) inp) went
-  runs went up = at went ∙ cond-true _ _ _ up
+  runs : (choice : Choice) → (w.nodes x).running ≡ true → outcome w cs (modelled i what choice)
+      ≡ as_it_went x (w.nodes x) (answer_to x (w.nodes x) inp) choice.went
+  runs choice up = at choice ∙ cond-true _ _ _ up
 
-  rests : (went : Went) → (w.nodes x).running ≡ false → outcome w cs (modelled i what went)
+  rests : (choice : Choice) → (w.nodes x).running ≡ false → outcome w cs (modelled i what choice)
       ≡ answers x (at_rest (w.nodes x) inp)
-  rests went off = at went ∙ cond-false _ _ _ off
+  rests choice off = at choice ∙ cond-false _ _ _ off
 
   -- the node answers so
   tells : (a : Answer (List Edit)) → (told : Told does (IsAnswer inp a)) →
-      Tells x what Disk does (answers x a)
-  tells a told = subst (λ (d : Did). Tells x what Disk d (answers x a)) (sym told.1)
-      (answer_tells x what inp Disk a told.0 told.2 (starts (answers x a))
+      Tells x what (chosen Answered Disk) does (answers x a)
+  tells a told = subst (λ (d : Did). Tells x what (chosen Answered Disk) d (answers x a))
+      (sym told.1)
+      (answer_tells x what inp (chosen Answered Disk) a told.0 told.2 (starts (answers x a))
       (shows_so inp what a.replies replies))
 
-  ends : (cause : Cause) (n : Machine) → does ≡ did.Stopped (Some cause) →
-      Tells x what cause does (stops x n)
-  ends cause n is = subst (λ (d : Did). Tells x what cause d (stops x n)) (sym is)
-      (stop_tells x what cause (Some cause) n (causes cause))
+  ends : (went : Went) (cause : Cause) (n : Machine) → IsOfMachine cause →
+      does ≡ did.Stopped (Some cause) → Tells x what (chosen went cause) does (stops x n)
+  ends went cause n of_machine is =
+      subst (λ (d : Did). Tells x what (chosen went cause) d (stops x n)) (sym is)
+      (stop_tells x what (chosen went cause) (Some cause) n (causes cause) of_machine)
 
   pub given : WasGiven x (w.nodes x) inp member does → IsOutcome cs w i x what member does
   given (Answers up is told) =
       as_chosen cs w i x what member does (chosen Answered Disk)
       (answers x (answer_to x (w.nodes x) inp)) (answer_to x (w.nodes x) inp).node
-      (runs Answered up) refl is (tells (answer_to x (w.nodes x) inp) told)
-  given (Ends up cause (inl before) told) =
+      (runs (chosen Answered Disk) up) refl is (tells (answer_to x (w.nodes x) inp) told)
+  given (Ends up cause of_machine (inl before) told) =
       as_chosen cs w i x what member does (chosen StoppedBefore cause) (stops x (w.nodes x))
-      (stopped (w.nodes x)) (runs StoppedBefore up) refl before (ends cause (w.nodes x) told)
-  given (Ends up cause (inr behind) told) =
+      (stopped (w.nodes x)) (runs (chosen StoppedBefore cause) up) refl before
+      (ends StoppedBefore cause (w.nodes x) of_machine told)
+  given (Ends up cause of_machine (inr behind) told) =
       as_chosen cs w i x what member does (chosen StoppedAfter cause)
       (stops x (answer_to x (w.nodes x) inp).node) (stopped (answer_to x (w.nodes x) inp).node)
-      (runs StoppedAfter up) refl behind (ends cause (answer_to x (w.nodes x) inp).node told)
+      (runs (chosen StoppedAfter cause) up) refl behind
+      (ends StoppedAfter cause (answer_to x (w.nodes x) inp).node of_machine told)
   given (Rests off is told) =
       as_chosen cs w i x what member does (chosen Answered Disk)
       (answers x (at_rest (w.nodes x) inp)) (at_rest (w.nodes x) inp).node
-      (rests Answered off) refl (subst (λ (n : Machine). Is member x n) (sym (rests_same inp)) is)
+      (rests (chosen Answered Disk) off) refl (subst (λ (n : Machine). Is member x n) (sym (rests_same inp)) is)
       (tells (at_rest (w.nodes x) inp) told)
     where
       rests_same : (inp : Input) → (at_rest (w.nodes x) inp).node ≡ w.nodes x

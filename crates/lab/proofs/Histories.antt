@@ -12,7 +12,6 @@ use Rattle.chain_model.specs.Frames.{Frame, Forward, Ack}
 use Rattle.chain_model.specs.Headline.{Agrees, numbered, handed_in}
 use Rattle.chain_model.specs.Requests.{Reply, Committed, Shows, Opened, Closed, Refused}
 use Rattle.chain_model.specs.World.{Event as ModelEvent, World, Outcome, outcome, outcomes, happens}
-use Rattle.node.specs.declared.stop.Stop.{Stop as Cause}
 use Rattle.chain_core.specs.States.{Machine}
 use Rattle.lab.specs.declared.event.Event.{Event}
 use Rattle.lab.specs.declared.event.What.{What}
@@ -22,7 +21,7 @@ use Rattle.lab.specs.declared.report.Line.TheVariants.{Stopped}
 use Rattle.lab.specs.Events.{modelled, lines_of, lines_at, lines_if, drop_lines, if_started}
 use Rattle.lab.specs.Events.{start_lines, frame_lines, reply_line, reply_lines, cause_told}
 use Rattle.lab.specs.Members.{Choice}
-use Rattle.lab.specs.Runs.{modelled_from, told_from}
+use Rattle.lab.specs.Traces.{modelled_from, told_from}
 use Rattle.lab.specs.History.{Placed, LineSpeaksOf, StepSpeaksOf, handed_from}
 
 -- ---- events
@@ -36,20 +35,20 @@ numbered_same i (event ∷ events) (ch ∷ chs) = one event.what (numbered_same 
   where
     one : (what : What) →
         numbered (suc i) (modelled_from (suc i) events chs) ≡ modelled_from (suc i) events chs
-        → numbered i (modelled i what ch.went ∷ modelled_from (suc i) events chs) ≡ modelled i what
-        ch.went ∷ modelled_from (suc i) events chs
+        → numbered i (modelled i what ch ∷ modelled_from (suc i) events chs) ≡ modelled i what
+        ch ∷ modelled_from (suc i) events chs
     one (Submit x batch) later
-        = ap (λ (l : List (ModelEvent (List Edit))). modelled i (Submit x batch) ch.went ∷ l) later
+        = ap (λ (l : List (ModelEvent (List Edit))). modelled i (Submit x batch) ch ∷ l) later
     one (Get x key at) later
-        = ap (λ (l : List (ModelEvent (List Edit))). modelled i (Get x key at) ch.went ∷ l) later
+        = ap (λ (l : List (ModelEvent (List Edit))). modelled i (Get x key at) ch ∷ l) later
     one (Deliver p) later
-        = ap (λ (l : List (ModelEvent (List Edit))). modelled i (Deliver p) ch.went ∷ l) later
+        = ap (λ (l : List (ModelEvent (List Edit))). modelled i (Deliver p) ch ∷ l) later
     one (Tick x) later
-        = ap (λ (l : List (ModelEvent (List Edit))). modelled i (Tick x) ch.went ∷ l) later
+        = ap (λ (l : List (ModelEvent (List Edit))). modelled i (Tick x) ch ∷ l) later
     one (Start x) later
-        = ap (λ (l : List (ModelEvent (List Edit))). modelled i (Start x) ch.went ∷ l) later
+        = ap (λ (l : List (ModelEvent (List Edit))). modelled i (Start x) ch ∷ l) later
     one (Stop x junk) later
-        = ap (λ (l : List (ModelEvent (List Edit))). modelled i (Stop x junk) ch.went ∷ l) later
+        = ap (λ (l : List (ModelEvent (List Edit))). modelled i (Stop x junk) ch ∷ l) later
 
 -- what the model's events hand in is what the events hand in
 pub handed_same : (i : ℕ) (events : List Event) (chs : List Choice) → length chs ≡ length events →
@@ -61,7 +60,7 @@ handed_same i (event ∷ events) (ch ∷ chs) same = one event.what
   where
     one : (what : What) →
         handed_in (suc i) (modelled_from (suc i) events chs) ≡ handed_from (suc i) events
-        → handed_in i (modelled i what ch.went ∷ modelled_from (suc i) events chs) ≡ handed_from i
+        → handed_in i (modelled i what ch ∷ modelled_from (suc i) events chs) ≡ handed_from i
         (record { what = what; fault = event.fault } ∷ events)
     one (Submit x batch) later = ap (λ (l : List Placed). (i, batch) ∷ l) later
     one (Get x key at) later = later
@@ -144,13 +143,13 @@ replied B what (r ∷ replies) agree =
     (speaks B what r agree.0) (replied B what replies agree.1)
 
 -- the lines of an event at a node speak of B where the replies of its outcome do
-lines_speak_at : (B : List Placed) (x n : ℕ) (what : What) (cause : Cause)
+lines_speak_at : (B : List Placed) (x n : ℕ) (what : What) (choice : Choice)
     (o : Outcome (List Edit)) → AllByRecursion (Agrees B) o.replies →
-    Each B what (lines_at x n what cause o)
-lines_speak_at B x n what cause o agree =
+    Each B what (lines_at x n what choice o)
+lines_speak_at B x n what choice o agree =
     let Of = LineSpeaksOf B what in
     let replies = reply_lines what o.replies in
-    cond_both o.stopped (Stopped x (cause_told what cause) ∷ [])
+    cond_both o.stopped (Stopped x (cause_told what choice.cause) ∷ [])
     (drop_lines o.dropped ++ (start_lines what o ++ (frame_lines n o.frames ++ replies)))
     (Each B what) (λ stops. (tt, tt))
     (λ goes_on. both Of (drop_lines o.dropped)
@@ -160,11 +159,11 @@ lines_speak_at B x n what cause o agree =
     (replied B what o.replies agree))))
 
 -- .. and so do those of one that came to none
-lines_speak : (B : List Placed) (at : Option (ℕ × Machine)) (n : ℕ) (what : What) (cause : Cause)
+lines_speak : (B : List Placed) (at : Option (ℕ × Machine)) (n : ℕ) (what : What) (choice : Choice)
     (o : Outcome (List Edit)) → AllByRecursion (Agrees B) o.replies →
-    Each B what (lines_if at n what cause o)
-lines_speak B None n what cause o agree = (tt, tt)
-lines_speak B (Some at) n what cause o agree = lines_speak_at B at.0 n what cause o agree
+    Each B what (lines_if at n what choice o)
+lines_speak B None n what choice o agree = (tt, tt)
+lines_speak B (Some at) n what choice o agree = lines_speak_at B at.0 n what choice o agree
 
 -- .. and so do those of all events
 pub all_speak : (B : List Placed) (cs : Configurations) (i : ℕ) (events : List Event)
@@ -175,13 +174,13 @@ pub all_speak : (B : List Placed) (cs : Configurations) (i : ℕ) (events : List
 all_speak B cs i [] chs w same agree = tt
 all_speak B cs i (event ∷ events) [] w same agree = absurd (omega arith)
 all_speak B cs i (event ∷ events) (ch ∷ chs) w same agree =
-    let e = modelled i event.what ch.went in
+    let e = modelled i event.what ch in
     let o = outcome w cs e in
     let n = length w.frames in
     let later = flat_map (λ (p : Outcome (List Edit)). p.replies)
     (outcomes cs (modelled_from (suc i) events chs) (happens cs w e)) in (
-      All-from_recursion (LineSpeaksOf B event.what) (lines_of n event.what ch.cause o)
-          (lines_speak B o.came_to n event.what ch.cause o
+      All-from_recursion (LineSpeaksOf B event.what) (lines_of n event.what ch o)
+          (lines_speak B o.came_to n event.what ch o
           (front (Agrees B) o.replies later agree)),
       all_speak B cs (suc i) events chs (happens cs w e) (omega arith)
           (back (Agrees B) o.replies later agree),

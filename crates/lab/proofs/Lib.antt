@@ -1,4 +1,5 @@
 mod Rests
+mod Disks
 mod Posting
 mod Reading
 mod Places

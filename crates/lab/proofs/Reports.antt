@@ -1,9 +1,11 @@
--- A report that is a run of the model has one history.
-use Rattle.std.proofs.Common.{◌≡◌, ℕ, List, true, sym, subst}
+-- A run of the model has one history; so have a report of it, and a world that goes on.
+use Rattle.std.proofs.Common.{◌≡◌, ℕ, List, true, sym, subst, ◌∙◌}
 use Rattle.std.specs.Prelude.{All}
 use Rattle.std.specs.List.{AllZip, flat_map}
 use Rattle.std.proofs.lemmas.List.Elements.{All-weaker, recursion_from_All}
 use Rattle.kv_types.specs.declared.edit.Edit.{Edit}
+use Rattle.disk.specs.Memory.{Slots}
+use Rattle.disk.specs.State.{State}
 use Rattle.chain_model.specs.Configuration.{Configurations, has, last_of}
 use Rattle.chain_model.specs.Headline.{Agrees, OneList, batches}
 use Rattle.chain_model.specs.Lists.{Part, Begins}
@@ -11,21 +13,36 @@ use Rattle.chain_model.specs.Outcomes.{MadeOfOutcomes}
 use Rattle.chain_model.specs.Requests.{Reply}
 use Rattle.chain_model.specs.World.{Outcome, Event as ModelEvent, outcomes, beginning, reached}
 use Rattle.chain_model.specs.World.{node_of}
+use Rattle.chain_core.specs.States.{Machine}
+use Rattle.node.specs.declared.node.Node.{Node}
+use Rattle.node.specs.Steps.{Runs, AlwaysRests, disk_of}
 use Rattle.lab.specs.declared.event.Event.{Event}
+use Rattle.lab.specs.declared.member.Member.{Member}
+use Rattle.lab.specs.declared.member.Member.TheVariants.{Running, Resting}
+use Rattle.lab.specs.declared.posted.Posted.{Posted}
 use Rattle.lab.specs.declared.report.Line.{Line}
+use Rattle.lab.specs.declared.report.NodeReport.{NodeReport}
 use Rattle.lab.specs.declared.report.Report.{Report}
-use Rattle.lab.specs.Runs.{IsRun, IsLeft, modelled_from}
-use Rattle.lab.specs.History.{Placed, OneHistory, StepSpeaksOf, HasAll}
+use Rattle.lab.specs.declared.seat.Seat.{Seat}
+use Rattle.lab.specs.Disks.{HaveDisks, IsDiskOf}
+use Rattle.lab.specs.History.{Placed, IsHistory, StepSpeaksOf, HasAll}
+use Rattle.lab.specs.Members.{Choice, Is, disk_in, is_honest, state, failures}
+use Rattle.lab.specs.Runs.{IsRun, Tells}
+use Rattle.lab.specs.Traces.{modelled_from, IsTrace}
+use Rattle.lab.specs.Worlds.{IsSeated, IsLeft, AreLeft, HasMade}
 use Rattle.lab.proofs.Histories.{numbered_same, handed_same, all_speak}
 
--- the model's one list is that of the report
-pub one_of : (cs : Configurations) (events : List Event) (report : Report)
-    (is : IsRun cs events report) →
-    OneList cs (modelled_from 1 events is.choices) →
-    MadeOfOutcomes cs (modelled_from 1 events is.choices) → OneHistory cs events report
-one_of cs events report is one made =
-    let es = modelled_from 1 events is.choices in
-    let same = numbered_same 1 events is.choices in
+-- the model's one list is that of the lines and of the disks
+pub one_of : {D N : Type 0} (state : D → State) (failures : D → ℕ) (id : N → ℕ) (disk : N → D)
+    (cs : Configurations) (events : List Event) (choices : List Choice) (steps : List (List Line))
+    (nodes : List N) → IsTrace cs events choices steps →
+    HaveDisks state failures id disk cs events choices nodes →
+    OneList cs (modelled_from 1 events choices) →
+    MadeOfOutcomes cs (modelled_from 1 events choices) →
+    IsHistory state id disk cs events steps nodes
+one_of state failures id disk cs events choices steps nodes trace disks one made =
+    let es = modelled_from 1 events choices in
+    let same = numbered_same 1 events choices in
     let agrees = subst (λ (l : List (ModelEvent (List Edit))). All (Agrees one.B)
     (reached cs l).replies) same one.agrees in
     let joined = flat_map (λ (o : Outcome (List Edit)). o.replies) (outcomes cs es (beginning cs))
@@ -37,18 +54,72 @@ one_of cs events report is one made =
     record {
       B = one.B;
       taken = subst (λ (l : List Placed). Part one.B l)
-          (handed_same 1 events is.choices is.one_each) one.taken;
-      speaks = subst (λ (l : List (List Line)). AllZip (StepSpeaksOf one.B) events l) (sym is.told)
-          (all_speak one.B cs 1 events is.choices (beginning cs) is.one_each replies);
-      stands = All-weaker (λ node. IsLeft (node_of cs es node.id) node)
-          (λ node. has (last_of cs) node.id ≡ true → HasAll one.B node)
-          (λ node left last. λ after now. (
-            (node_of cs es node.id).epoch,
-            (node_of cs es node.id).ids,
-            (node_of cs es node.id).list,
-            (node_of cs es node.id).floor,
-            (node_of cs es node.id).kept,
-            left.disk after now,
-            begins node.id last,
-          )) report.nodes.items is.left;
+          (handed_same 1 events choices trace.one_each) one.taken;
+      speaks = subst (λ (l : List (List Line)). AllZip (StepSpeaksOf one.B) events l)
+          (sym trace.told)
+          (all_speak one.B cs 1 events choices (beginning cs) trace.one_each replies);
+      stands = All-weaker
+          (λ node. IsDiskOf state (id node) (node_of cs es (id node)) (disk node)
+          (disks.disks (id node)))
+          (λ node. has (last_of cs) (id node) ≡ true → HasAll one.B (id node) (state (disk node)))
+          (λ node own last. λ after now. (
+            (node_of cs es (id node)).epoch,
+            (node_of cs es (id node)).ids,
+            (node_of cs es (id node)).list,
+            (node_of cs es (id node)).floor,
+            (node_of cs es (id node)).kept,
+            own.stands after now,
+            begins (id node) last,
+          )) nodes disks.each;
     }
+
+module _ (seats : List Seat) (posted : List Posted) (cs : Configurations) (events : List Event)
+    (steps : List (List Line)) (made : HasMade seats posted cs events steps) where
+  -- what is left of a world's nodes is a run
+  pub run_left : (report : Report) → report.steps.items ≡ steps →
+      AreLeft seats report.nodes.items → IsRun cs events report
+  run_left report same left =
+      let nodes = report.nodes.items in
+      let machines = node_of cs (modelled_from 1 events made.choices) in
+      let each = left.each machines made.disks made.each in
+      let Left : NodeReport → Type 0 = λ n. IsLeft (machines n.id) (made.disks n.id) n in
+      record {
+        choices = made.choices;
+        trace = subst (λ (l : List (List Line)). IsTrace cs events made.choices l) (sym same)
+            made.trace;
+        disks = record {
+          ids = left.ids ∙ made.nodes;
+          disks = made.disks;
+          after = made.after;
+          each = All-weaker Left
+              (λ n. IsDiskOf state n.id (machines n.id) n.disk (made.disks n.id))
+              (λ n left. left.disk) nodes each;
+        };
+        numbers = All-weaker Left (λ n. Tells n.running (machines n.id)) (λ n left. left.numbers)
+            nodes each;
+      }
+
+  -- and the disks of its nodes are those that its run left so far
+  pub disks_so_far : ((node : Node Slots) (x : ℕ) (n : Machine) → Runs is_honest state node x n →
+      AlwaysRests (state (disk_of node)) x n) →
+      HaveDisks state failures (λ (seat : Seat). seat.id) (λ (seat : Seat). disk_in seat.member) cs
+      events made.choices seats
+  disks_so_far law =
+      let machines = node_of cs (modelled_from 1 events made.choices) in
+      record {
+        ids = made.nodes;
+        disks = made.disks;
+        after = made.after;
+        each = All-weaker (IsSeated machines made.disks)
+            (λ seat. IsDiskOf state seat.id (machines seat.id) (disk_in seat.member)
+            (made.disks seat.id))
+            (λ seat seated. record {
+              same = seated.disk;
+              stands = stands seat.member seat.id (machines seat.id) seated.is;
+            }) seats made.each;
+      }
+    where
+      stands : (member : Member) (x : ℕ) (n : Machine) → Is member x n →
+          AlwaysRests (state (disk_in member)) x n
+      stands (Running node) x n is = law node x n is
+      stands (Resting disk) x n is = is.0

@@ -1,6 +1,6 @@
 -- The nodes in their seats after an event.
 use Rattle.std.proofs.Common.{◌≡◌, ℕ, zero, suc, ◌<◌, List, [], ◌∷◌, length, map, get_or, slice_set}
-use Rattle.std.proofs.Common.{Some, true, false, ◌==◌, refl, sym, subst, ◌∙◌, eq-eqb, eqb-true}
+use Rattle.std.proofs.Common.{Some, true, false, ◌==◌, refl, sym, ap, subst, ◌∙◌, eq-eqb, eqb-true}
 use Rattle.std.proofs.Common.{arith}
 use Rattle.std.specs.List.{AllByRecursion}
 use Rattle.std.proofs.lemmas.Bool.{cond_both, cond-true, cond-false, false≢true}
@@ -10,8 +10,10 @@ use Rattle.chain_model.specs.Configuration.{has, AllDifferent}
 use Rattle.chain_model.specs.World.{World, Outcome, after}
 use Rattle.chain_core.specs.States.{Machine}
 use Rattle.lab.specs.declared.seat.Seat.{Seat}
-use Rattle.lab.specs.Members.{Is}
+use Rattle.disk.specs.Memory.{Slots}
+use Rattle.lab.specs.Members.{Is, disk_in}
 use Rattle.lab.specs.Worlds.{IsSeated, HasNoSeat}
+use Rattle.lab.proofs.Disks.{with_disk, disk_here, disk_elsewhere}
 
 -- the ids of seats
 abbrev pub ids_of : List Seat → List ℕ
@@ -39,9 +41,13 @@ has_at (s ∷ seats) (suc k) d within =
     cond_both (s.id == (get_or seats k d).id) true (has (ids_of seats) (get_or seats k d).id)
     (λ b. b ≡ true) (λ same. refl) (λ other. has_at seats k d (omega arith))
 
--- an event came to node x, which is n after it
-module _ (w : World (List Edit)) (o : Outcome (List Edit)) (x : ℕ) (n : Machine)
-    (came : o.came_to ≡ Some (x, n)) where
+-- an event came to node x, which is n after it and has this disk
+module _ (w : World (List Edit)) (disks : ℕ → Slots) (o : Outcome (List Edit)) (x : ℕ) (n : Machine)
+    (own : Slots) (came : o.came_to ≡ Some (x, n)) where
+  -- the disks then
+  abbrev now_disks : ℕ → Slots
+  now_disks = with_disk disks x own
+
   here : (after w o).nodes x ≡ n
   here = rw came (cond-true (x == x) n (w.nodes x) (eq-eqb x x refl))
 
@@ -53,38 +59,47 @@ module _ (w : World (List Edit)) (o : Outcome (List Edit)) (x : ℕ) (n : Machin
           (λ same. absurd (false≢true (sym e ∙ eq-eqb y x (sym (eqb-true x y same)))))
           (λ differs. differs)
 
-  -- nodes with other ids are as they were
-  stay : (seats : List Seat) → has (ids_of seats) x ≡ false → AllByRecursion (IsSeated w) seats →
-      AllByRecursion (IsSeated (after w o)) seats
+  -- a node with another id is as it was
+  stays : (s : Seat) → (s.id == x) ≡ false → IsSeated w.nodes disks s → IsSeated (after w o).nodes now_disks s
+  stays s other seated = record {
+    is = subst (λ (m : Machine). Is s.member s.id m) (sym (elsewhere s.id other)) seated.is;
+    disk = seated.disk ∙ sym (disk_elsewhere disks x own s.id other);
+  }
+
+  stay : (seats : List Seat) → has (ids_of seats) x ≡ false → AllByRecursion (IsSeated w.nodes disks) seats →
+      AllByRecursion (IsSeated (after w o).nodes now_disks) seats
   stay [] none all = tt
   stay (s ∷ seats) none all =
       cond_both (s.id == x) true (has (ids_of seats) x)
-      (λ b. b ≡ false → AllByRecursion (IsSeated (after w o)) (s ∷ seats))
+      (λ b. b ≡ false → AllByRecursion (IsSeated (after w o).nodes now_disks) (s ∷ seats))
       (λ same e. absurd (false≢true (sym e)))
       (λ other e. (
-        subst (λ (m : Machine). Is s.member s.id m) (sym (elsewhere s.id other)) all.0,
+        stays s other all.0,
         stay seats e all.1,
       )) none
 
   -- .. and the one that it came to is n
   pub seated : (seats : List Seat) (k : ℕ) (now : Seat) → k < length seats →
       AllDifferent (ids_of seats) → (get_or seats k now).id ≡ x → now.id ≡ x →
-      Is now.member x n → AllByRecursion (IsSeated w) seats →
-      AllByRecursion (IsSeated (after w o)) (slice_set seats k now)
-  seated [] k now within differ was id is all = absurd (omega arith)
-  seated (s ∷ seats) zero now within differ was id is all = (
-    subst (λ (y : ℕ). Is now.member y ((after w o).nodes y)) (sym id)
-        (subst (λ (m : Machine). Is now.member x m) (sym here) is),
+      Is now.member x n → disk_in now.member ≡ own → AllByRecursion (IsSeated w.nodes disks) seats →
+      AllByRecursion (IsSeated (after w o).nodes now_disks) (slice_set seats k now)
+  seated [] k now within differ was id is owns all = absurd (omega arith)
+  seated (s ∷ seats) zero now within differ was id is owns all = (
+    record {
+      is = subst (λ (y : ℕ). Is now.member y ((after w o).nodes y)) (sym id)
+          (subst (λ (m : Machine). Is now.member x m) (sym here) is);
+      disk = owns ∙ (sym (disk_here disks x own) ∙ ap now_disks (sym id));
+    },
     stay seats (subst (λ (y : ℕ). has (ids_of seats) y ≡ false) was differ.0) all.1,
   )
-  seated (s ∷ seats) (suc k) now within differ was id is all =
+  seated (s ∷ seats) (suc k) now within differ was id is owns all =
       let among = subst (λ (y : ℕ). has (ids_of seats) y ≡ true) was
       (has_at seats k now (omega arith)) in
       cond_both (s.id == x) true true
-      (λ b. AllByRecursion (IsSeated (after w o)) (slice_set (s ∷ seats) (suc k) now))
+      (λ b. AllByRecursion (IsSeated (after w o).nodes now_disks) (slice_set (s ∷ seats) (suc k) now))
       (λ same. absurd (false≢true (sym (subst (λ (y : ℕ). has (ids_of seats) y ≡ false)
       (eqb-true s.id x same) differ.0) ∙ among)))
       (λ other. (
-        subst (λ (m : Machine). Is s.member s.id m) (sym (elsewhere s.id other)) all.0,
-        seated seats k now (omega arith) differ.1 was id is all.1,
+        stays s other all.0,
+        seated seats k now (omega arith) differ.1 was id is owns all.1,
       ))

@@ -1,13 +1,17 @@
 -- A step of the lab's world is a step of the model's.
-use Rattle.std.proofs.Common.{◌≡◌, ℕ, ◌+◌, List, [], ◌∷◌, ◌++◌, length, get_or, slice_set, true}
-use Rattle.std.proofs.Common.{sym, ap, subst, ◌∙◌, arith, append-nil}
+use Rattle.std.proofs.Common.{◌≡◌, ℕ, ◌+◌, ◌≤◌, List, [], ◌∷◌, ◌++◌, length, get_or, slice_set, true}
+use Rattle.std.proofs.Common.{refl, sym, ap, subst, ◌∙◌, arith, append-nil}
 use Rattle.std.proofs.Math.Seq.{map-set_same}
 use Rattle.std.specs.Prelude.{All, Option, Some, None, MatchOption}
+use Rattle.std.proofs.lemmas.Bool.{false≢true}
 use Rattle.std.proofs.lemmas.Option.{MatchOption-at_none, MatchOption-at_some}
 use Rattle.std.specs.List.{AllZip, AllByRecursion}
 use Rattle.std.proofs.lemmas.List.Elements.{recursion_from_All, All-from_recursion}
 use Rattle.std.proofs.lemmas.Slice.Zip.{AllZip-long}
+use Rattle.kv_types.specs.declared.bounds.TheConstants.{MAX_NUMBER}
 use Rattle.kv_types.specs.declared.edit.Edit.{Edit}
+use Rattle.disk.specs.declared.junk.Junk.{Junk}
+use Rattle.disk.specs.Memory.{Slots}
 use Rattle.chain_model.specs.Configuration.{Configurations, Lawful, AllDifferent, has}
 use Rattle.chain_model.specs.Configuration.{at_epoch}
 use Rattle.chain_model.specs.Frames.{Frame as ModelFrame}
@@ -27,13 +31,16 @@ use Rattle.lab.specs.declared.report.Line.TheVariants.{Nothing}
 use Rattle.lab.specs.declared.seat.Seat.{Seat}
 use Rattle.lab.specs.declared.world.World.{World as LabWorld}
 use Rattle.lab.specs.Events.{modelled, lines_of, NamesNode}
-use Rattle.lab.specs.Members.{Is, Choice}
-use Rattle.lab.specs.Comings.{Brings, BringsNothing, sent_by}
-use Rattle.lab.specs.Runs.{modelled_from}
+use Rattle.lab.specs.Members.{Is, Choice, disk_in}
+use Rattle.lab.specs.Comings.{Brings, BringsNothing, DiskLeft, sent_by}
+use Rattle.lab.specs.Disks.{junk_of}
+use Rattle.lab.specs.Traces.{modelled_from}
 use Rattle.lab.specs.Worlds.{IsKept, IsSeated, HasNoSeat, WasTold, HasMade, HasRun}
 use Rattle.lab.specs.Worlds.{frames_of_step}
 use Rattle.lab.proofs.Posting.{zip_both}
-use Rattle.lab.proofs.Arrivals.{happened, nothing_done}
+use Rattle.lab.proofs.Arrivals.{happened, nothing_done, junk_same}
+use Rattle.lab.proofs.Disks.{MayRise, with_disk, all_follow, none_follow, follows, few_more}
+use Rattle.lab.proofs.Disks.{at_most_one}
 use Rattle.lab.proofs.Seating.{ids_of, has_at, has_one, seated}
 use Rattle.lab.proofs.Growing.{length-steps, grown, run-push}
 use Rattle.lab.proofs.Addressees.{IsNumbered, addressed, all_numbered, back, kept_all}
@@ -44,19 +51,26 @@ Brought posted i what found = (frames : List (ModelFrame (List Edit))) →
     AllZip IsKept posted frames → MatchOption found (BringsNothing frames what)
     (λ it. Brings frames i what it.to it.coming)
 
+-- the number is the place of the event behind these
+pub record IsNext (events : List Event) (i : ℕ) : Type 0 where
+  pub at : i ≡ length events + 1
+  pub fits : i ≤ MAX_NUMBER
+
 -- an event's place is one more than there are steps
 pub place_of : (world : LabWorld) (cs : Configurations) (events : List Event)
     (steps : List (List Line)) → HasRun world cs events steps → (n i : ℕ) →
-    n ≡ world.steps.len → i ≡ n + 1 → i ≡ length events + 1
-place_of world cs events steps run n i long at =
-    omega (
-      arith,
-      at,
-      long,
-      world.steps.ok.0,
-      ap length run.kept,
-      length-steps cs events steps world.seats.items world.frames.items run.made,
-    )
+    n ≡ world.steps.len → n + 1 ≤ MAX_NUMBER → i ≡ n + 1 → IsNext events i
+place_of world cs events steps run n i long fits is = record {
+  at = omega (
+    arith,
+    is,
+    long,
+    world.steps.ok.0,
+    ap length run.kept,
+    length-steps cs events steps world.seats.items world.frames.items run.made,
+  );
+  fits = subst (λ (k : ℕ). k ≤ MAX_NUMBER) (sym is) fits;
+}
 
 -- in every run frames are in order
 abbrev pub AlwaysInOrder : Type 0
@@ -65,7 +79,7 @@ AlwaysInOrder = (cs : Configurations) (es : List (ModelEvent (List Edit))) → L
 
 module _ (in_order : AlwaysInOrder) (cs : Configurations) (events : List Event)
     (steps : List (List Line)) (seats : List Seat) (posted : List Posted)
-    (made : HasMade seats posted cs events steps) (i : ℕ) (at : i ≡ length events + 1)
+    (made : HasMade seats posted cs events steps) (i : ℕ) (next : IsNext events i)
     (event : Event) where
   -- the world of the model so far
   abbrev pub w : World (List Edit)
@@ -73,12 +87,12 @@ module _ (in_order : AlwaysInOrder) (cs : Configurations) (events : List Event)
 
   -- what the event sends is numbered
   sent_numbered : (choice : Choice) →
-      AllByRecursion IsNumbered (outcome w cs (modelled i event.what choice.went)).frames
+      AllByRecursion IsNumbered (outcome w cs (modelled i event.what choice)).frames
   sent_numbered choice =
       let more = modelled_from 1 (events ++ event ∷ []) (made.choices ++ choice ∷ []) in
-      let here = run-push cs event choice 1 i events made.choices (beginning cs) made.one_each
-      (omega (arith, at)) in
-      back IsNumbered w.frames (outcome w cs (modelled i event.what choice.went)).frames
+      let here = run-push cs event choice 1 i events made.choices (beginning cs)
+      made.trace.one_each (omega (arith, next.at)) in
+      back IsNumbered w.frames (outcome w cs (modelled i event.what choice)).frames
       (subst (λ (v : World (List Edit)). AllByRecursion IsNumbered v.frames) here
       (all_numbered cs more (in_order cs more made.lawful)))
 
@@ -113,20 +127,30 @@ module _ (in_order : AlwaysInOrder) (cs : Configurations) (events : List Event)
       HasMade now more cs (events ++ event ∷ []) (steps ++ lines ∷ [])
   told_next x comes lines now more brings t =
       let seat = t.handed.seat in
-      let all = recursion_from_All (IsSeated w) seats made.each in
+      let all = recursion_from_All (IsSeated w.nodes made.disks) seats made.each in
       let old = get_or seats t.index seat in
       let was : old.id ≡ x = t.at.id seat in
       let before : Is old.member x (w.nodes x) =
       subst (λ (y : ℕ). Is old.member y (w.nodes y)) was
-      (made.each t.index seat t.at.within) in
+      (made.each t.index seat t.at.within).is in
+      let slots : disk_in old.member ≡ made.disks x =
+      (made.each t.index seat t.at.within).disk ∙ ap made.disks was in
+      let own = disk_in seat.member in
+      let left : DiskLeft (junk_of event.what) t.does (made.disks x) seat.member =
+      subst (λ (d : Slots). DiskLeft (junk_of event.what) t.does d seat.member) slots
+      (subst (λ (j : Option Junk). DiskLeft j t.does (disk_in old.member) seat.member)
+      (junk_same w.frames i x event.what comes brings) t.handed.disk) in
+      let few = made.few x in
+      let may : MayRise (made.disks x) = omega (arith, few, next.at, next.fits) in
       let out = happened cs w i x seat.member t.does event.what comes brings
       (t.handed.happened x (w.nodes x) before) in
-      let o = outcome w cs (modelled i event.what out.choice.went) in
+      let o = outcome w cs (modelled i event.what out.choice) in
       let id : seat.id ≡ x = t.handed.id ∙ was in
       let long = AllZip-long IsKept posted w.frames made.frames in
-      grown cs events steps seats posted made i event out.choice now more lines at (record {
+      grown cs events steps seats posted made i event out.choice now more lines next.at (record {
         told = t.told ∙ out.told (length posted)
-            ∙ ap (λ n. lines_of n event.what out.choice.cause o) (sym long);
+            ∙ ap (λ n. lines_of n event.what out.choice o) (sym long);
+        fits = record { cause = out.fits };
         counted = ap frames_of_step t.told ∙ out.counted (length posted);
         frames = subst (λ (l : List Posted). AllZip IsKept l (w.frames ++ o.frames))
             (sym t.kept.whole)
@@ -135,12 +159,20 @@ module _ (in_order : AlwaysInOrder) (cs : Configurations) (events : List Event)
             (sent_numbered out.choice)));
         nodes = ap ids_of t.handed.whole
             ∙ map-set_same (λ (s : Seat). s.id) seats t.index seat seat t.handed.id ∙ made.nodes;
+        disks = with_disk made.disks x own;
+        follow = all_follow event out.choice o x out.node made.disks own out.came
+            (follows (made.disks x) seat.member may event out.choice o x out.node t.does out.is
+            out.ends left);
+        few = few_more made.disks x own (length events) i next.at made.few
+            (at_most_one (junk_of event.what) t.does (made.disks x) seat.member left may);
         each = subst (λ (l : List Seat). All (IsSeated (happens cs w
-            (modelled i event.what out.choice.went))) l) (sym t.handed.whole)
-            (All-from_recursion (IsSeated (after w o)) (slice_set seats t.index seat)
-            (seated w o x out.node out.came seats t.index seat t.at.within
+            (modelled i event.what out.choice)).nodes (with_disk made.disks x own)) l)
+            (sym t.handed.whole)
+            (All-from_recursion (IsSeated (after w o).nodes (with_disk made.disks x own))
+            (slice_set seats t.index seat)
+            (seated w made.disks o x out.node own out.came seats t.index seat t.at.within
             (subst (λ (c : List ℕ). AllDifferent c) (sym made.nodes) made.lawful.different)
-            was id (subst (λ (y : ℕ). Is seat.member x out.node) (sym id) out.is) all));
+            was id out.is refl all));
       })
 
   -- what came to a node was of an event that names one of configuration 0, if it names one
@@ -170,18 +202,26 @@ module _ (in_order : AlwaysInOrder) (cs : Configurations) (events : List Event)
       HasMade seats posted cs (events ++ event ∷ []) (steps ++ (Nothing ∷ []) ∷ [])
   nothing_next brings =
       let choice : Choice = record { went = Answered; cause = Disk } in
-      let none = nothing_done cs w i event.what Answered brings in
-      let same : after w nothing ≡ happens cs w (modelled i event.what Answered) =
+      let none = nothing_done cs w i event.what choice brings in
+      let same : after w nothing ≡ happens cs w (modelled i event.what choice) =
       ap (after w) (sym none) in
-      grown cs events steps seats posted made i event choice seats posted (Nothing ∷ []) at
+      grown cs events steps seats posted made i event choice seats posted (Nothing ∷ []) next.at
       (record {
-        told = ap (lines_of (length w.frames) event.what Disk) (sym none);
+        told = ap (lines_of (length w.frames) event.what choice) (sym none);
+        fits = record {
+          cause = λ stops. absurd (false≢true
+              (ap (λ (o : Outcome (List Edit)). o.stopped) (sym none) ∙ stops));
+        };
         counted = ap (λ (o : Outcome (List Edit)). length o.frames) (sym none);
         frames = subst (λ (v : World (List Edit)). AllZip IsKept posted v.frames) same
             (subst (λ (l : List (ModelFrame (List Edit))). AllZip IsKept posted l)
             (sym (append-nil w.frames)) made.frames);
         nodes = made.nodes;
-        each = subst (λ (v : World (List Edit)). All (IsSeated v) seats) same made.each;
+        disks = made.disks;
+        follow = none_follow event choice (outcome w cs (modelled i event.what choice)) made.disks
+            (ap (λ (o : Outcome (List Edit)). o.came_to) none);
+        few = λ x. omega (arith, made.few x, next.at);
+        each = subst (λ (v : World (List Edit)). All (IsSeated v.nodes made.disks) seats) same made.each;
       })
 
   -- the same, by what an event was found to bring

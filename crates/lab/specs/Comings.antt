@@ -2,6 +2,12 @@
 use Rattle.std.specs.Prelude.{◌≡◌, ◌⊎◌, ℕ, List, [], ◌∷◌, ◌++◌, length, map, option_map, Option}
 use Rattle.std.specs.Prelude.{Some, None, suc, true, false}
 use Rattle.kv_types.specs.declared.edit.Edit.{Edit}
+use Rattle.disk.specs.declared.junk.Junk.{Junk}
+use Rattle.disk.specs.declared.junk.Junk.TheVariants.{Old}
+use Rattle.disk.specs.Calls.{Rises}
+use Rattle.disk.specs.Crashes.{Crashes}
+use Rattle.disk.specs.Memory.{Slots}
+use Rattle.disk.specs.State.{State}
 use Rattle.chain_model.specs.Lists.{place}
 use Rattle.chain_model.specs.DropReason as model_reason
 use Rattle.chain_model.specs.Frames as model_frame
@@ -20,7 +26,9 @@ use Rattle.chain_core.specs.States.{Machine}
 use Rattle.node.specs.declared.output.Output.{Output}
 use Rattle.node.specs.declared.output.Reply.TheVariants as reply
 use Rattle.node.specs.declared.stop.Stop.{Stop as Cause}
+use Rattle.node.specs.declared.stop.Stop.TheVariants.{Disk}
 use Rattle.node.specs.Steps.{reason_of, replies_of}
+use Rattle.node.specs.Stops.{IsOfMachine}
 use Rattle.lab.specs.declared.coming.Coming.{Coming}
 use Rattle.lab.specs.declared.coming.Coming.TheVariants as coming
 use Rattle.lab.specs.declared.coming.Did.{Did}
@@ -28,10 +36,12 @@ use Rattle.lab.specs.declared.coming.Did.TheVariants as did
 use Rattle.lab.specs.declared.event.What.{What}
 use Rattle.lab.specs.declared.event.What.TheVariants.{Submit, Get, Deliver, Tick, Start, Stop}
 use Rattle.lab.specs.declared.member.Member.{Member}
+use Rattle.lab.specs.declared.member.Member.TheVariants.{Running, Resting}
 use Rattle.lab.specs.declared.posted.Posted.{Posted}
 use Rattle.lab.specs.declared.report.Line.{Line}
 use Rattle.lab.specs.declared.report.Line.TheVariants as line
-use Rattle.lab.specs.Members.{Is}
+use Rattle.lab.specs.Disks.{IsCrashOf}
+use Rattle.lab.specs.Members.{Is, IsResting, disk_in, state, failures}
 
 -- ---- what comes
 
@@ -109,23 +119,24 @@ Told does Is = (output : Output) × (does ≡ did.Answered output) × Is output
 
 -- ---- what a node does, being n before, and which member of the lab it is then
 
--- an input came: the node ran and answered; or it stopped by itself, as before the step or as after
--- it; or it does not run
+-- an input came: the node ran and answered; or it stopped by itself, for its device or for memory,
+-- as before the step or as after it; or it does not run
 pub data WasGiven (x : ℕ) (n : Machine) (inp : Input) (member : Member) (does : Did) : Type 0 where
   Answers : n.running ≡ true → Is member x (answer_to x n inp).node
       → Told does (IsAnswer inp (answer_to x n inp)) → WasGiven x n inp member does
-  Ends : n.running ≡ true → (cause : Cause)
+  Ends : n.running ≡ true → (cause : Cause) → IsOfMachine cause
       → Is member x (stopped n) ⊎ Is member x (stopped (answer_to x n inp).node)
       → does ≡ did.Stopped (Some cause) → WasGiven x n inp member does
   Rests : n.running ≡ false → Is member x n → Told does (IsAnswer inp (at_rest n inp))
       → WasGiven x n inp member does
 
--- a node was started: it runs as the machine that was started, or could not; or it ran
+-- a node was started: it runs as the machine that was started, or could not, for its device or for
+-- memory; or it ran
 pub data WasStarted (x : ℕ) (n : Machine) (member : Member) (does : Did) : Type 0 where
   Starts : n.running ≡ false → Is member x (started x n)
       → does ≡ did.Started n.epoch (length n.list) (started x n).committed
       → WasStarted x n member does
-  Fails : n.running ≡ false → (cause : Cause) → Is member x (stopped n)
+  Fails : n.running ≡ false → (cause : Cause) → IsOfMachine cause → Is member x (stopped n)
       → does ≡ did.Stopped (Some cause) → WasStarted x n member does
   RunsOn : n.running ≡ true → Is member x n → Told does (IsDrop reason.Running)
       → WasStarted x n member does
@@ -151,6 +162,44 @@ Happened x n (coming.Given inp) member does = WasGiven x n inp member does
 Happened x n (coming.Faulty why) member does = WasFaulty x n why member does
 Happened x n coming.Start member does = WasStarted x n member does
 Happened x n (coming.Stop junk) member does = WasStopped x n member does
+
+-- ---- what is left of its disk
+
+-- the junk that a node is stopped with
+abbrev pub junk_with : Coming → Option Junk
+junk_with (coming.Stop junk) = Some junk
+junk_with (coming.Given inp) = None
+junk_with (coming.Faulty why) = None
+junk_with coming.Start = None
+
+-- no call of the disk failed, and a node that rests has the same one
+pub record DiskStays (old : Slots) (member : Member) : Type 0 where
+  pub count : failures (disk_in member) ≡ failures old
+  pub same : IsResting member → disk_in member ≡ old
+
+-- a node that was stopped rests, and its disk crashed with this junk
+abbrev pub HasCrashed : Junk → Slots → Member → Type 0
+HasCrashed junk old (Running node) = ⊥
+HasCrashed junk old (Resting disk) = IsCrashOf state failures junk old disk
+
+abbrev pub HasCrashedWith : Option Junk → Slots → Member → Type 0
+HasCrashedWith (Some junk) old member = HasCrashed junk old member
+HasCrashedWith None old member = ⊥
+
+-- a node stopped by itself: a call of the disk failed if that is the cause, and else none; what was
+-- left of the disk crashed so that each file is as it was synced
+pub record DiskEnds (cause : Cause) (old new : Slots) : Type 0 where
+  pub failed : cause ≡ Disk → Rises (failures old) (failures new)
+  pub others : (cause ≡ Disk → ⊥) → failures new ≡ failures old
+  pub left : State
+  pub crashes : Crashes Old left (state new)
+
+-- what a node that did this has of the disk that it had
+abbrev pub DiskLeft : Option Junk → Did → Slots → Member → Type 0
+DiskLeft junk (did.Answered output) old member = DiskStays old member
+DiskLeft junk (did.Started epoch count committed) old member = DiskStays old member
+DiskLeft junk (did.Stopped None) old member = HasCrashedWith junk old member
+DiskLeft junk (did.Stopped (Some cause)) old member = DiskEnds cause old (disk_in member)
 
 -- ---- what is told of it
 

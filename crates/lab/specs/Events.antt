@@ -13,11 +13,13 @@ use Rattle.chain_core.specs.States.{Machine}
 use Rattle.node.specs.declared.stop.Stop.{Stop as Cause}
 use Rattle.node.specs.declared.output.Reply.TheVariants as reply
 use Rattle.node.specs.Steps.{reason_of, refusal_of}
+use Rattle.node.specs.Stops.{IsOfMachine}
 use Rattle.lab.specs.declared.event.Event.{Event}
 use Rattle.lab.specs.declared.event.What.{What}
 use Rattle.lab.specs.declared.event.What.TheVariants.{Submit, Get, Deliver, Tick, Start, Stop}
 use Rattle.lab.specs.declared.report.Line.{Line}
 use Rattle.lab.specs.declared.report.Line.TheVariants as line
+use Rattle.lab.specs.Members.{Choice}
 
 -- the node that an event names; a frame goes to its addressee
 abbrev pub node_in : What → Option ℕ
@@ -36,14 +38,15 @@ NamesNode cs what = IfSome (node_in what) (λ x. has (at_epoch cs 0) x ≡ true)
 abbrev pub NamesNodes : Configurations → List Event → Type 0
 NamesNodes cs events = All (λ event. NamesNode cs event.what) events
 
--- the event in place i, as the model has it, where the step went so
-abbrev pub modelled : ℕ → What → model.Went → model.Event (List Edit)
-modelled i (Submit node batch) went = model.Ask node i (model_request.Submit batch) went
-modelled i (Get node key at) went = model.Ask node i (model_request.Read at) went
-modelled i (Deliver place) went = model.Deliver place went
-modelled i (Tick node) went = model.Tick node went
-modelled i (Start node) went = model.Start node went
-modelled i (Stop node junk) went = model.Stop node
+-- the event in place i, as the model has it, by what was chosen in it
+abbrev pub modelled : ℕ → What → Choice → model.Event (List Edit)
+modelled i (Submit node batch) choice =
+    model.Ask node i (model_request.Submit batch) choice.went
+modelled i (Get node key at) choice = model.Ask node i (model_request.Read at) choice.went
+modelled i (Deliver place) choice = model.Deliver place choice.went
+modelled i (Tick node) choice = model.Tick node choice.went
+modelled i (Start node) choice = model.Start node choice.went
+modelled i (Stop node junk) choice = model.Stop node
 
 -- a drop is told with its reason
 abbrev pub drop_lines : Option model_reason.DropReason → List Line
@@ -111,19 +114,25 @@ cause_told (Start node) cause = Some cause
 
 -- the lines of an event that came to node x: why it was dropped, then a start, then frames, then
 -- replies
-abbrev pub lines_at : ℕ → ℕ → What → Cause → model.Outcome (List Edit) → List Line
-lines_at x sent what cause o =
-    if o.stopped then line.Stopped x (cause_told what cause) ∷ []
+abbrev pub lines_at : ℕ → ℕ → What → Choice → model.Outcome (List Edit) → List Line
+lines_at x sent what choice o =
+    if o.stopped then line.Stopped x (cause_told what choice.cause) ∷ []
     else drop_lines o.dropped ++ (start_lines what o
     ++ (frame_lines sent o.frames ++ reply_lines what o.replies))
 
 -- the lines of an event, after so many frames
-abbrev pub lines_if : Option (ℕ × Machine) → ℕ → What → Cause → model.Outcome (List Edit)
+abbrev pub lines_if : Option (ℕ × Machine) → ℕ → What → Choice → model.Outcome (List Edit)
     → List Line
-lines_if None sent what cause o = line.Nothing ∷ []
-lines_if (Some at) sent what cause o = lines_at at.0 sent what cause o
+lines_if None sent what choice o = line.Nothing ∷ []
+lines_if (Some at) sent what choice o = lines_at at.0 sent what choice o
 
 -- the lines that tell what an event did after so many frames, and of a node that stopped by itself
 -- why
-abbrev pub lines_of : ℕ → What → Cause → model.Outcome (List Edit) → List Line
-lines_of sent what cause o = lines_if o.came_to sent what cause o
+abbrev pub lines_of : ℕ → What → Choice → model.Outcome (List Edit) → List Line
+lines_of sent what choice o = lines_if o.came_to sent what choice o
+
+-- What was chosen fits the event and its outcome. An event that bears a fault is as one without.
+pub record ChoiceFits (event : Event) (choice : Choice) (o : model.Outcome (List Edit)) : Type 0
+  where
+    -- a node stops by itself for its device or for memory alone
+    pub cause : o.stopped ≡ true → IfSome (cause_told event.what choice.cause) IsOfMachine

@@ -4,7 +4,7 @@ use Rattle.std.specs.Prelude.{All}
 use Rattle.std.specs.List.{AllZip}
 use Rattle.kv_types.specs.declared.edit.Edit.{Edit}
 use Rattle.kv_types.specs.Maps.{map_of}
-use Rattle.disk.specs.State.{Contents, MayLeave}
+use Rattle.disk.specs.State.{State, Contents, MayLeave}
 use Rattle.chain_model.specs.Lists.{Begins, Part, place}
 use Rattle.chain_model.specs.Configuration.{Configurations, has, last_of}
 use Rattle.chain_model.specs.Headline.{batches}
@@ -66,18 +66,26 @@ LineSpeaksOf B what (line.Stopped node cause) = Unit {0}
 abbrev pub StepSpeaksOf : List Placed → Event → List Line → Type 0
 StepSpeaksOf B event lines = All (LineSpeaksOf B event.what) lines
 
--- whatever a crash leaves of the node's disk represents the node with a list that begins with B
-abbrev pub HasAll : List Placed → NodeReport → Type 0
-HasAll B node = (left : Contents) → MayLeave (state node.disk) left →
+-- whatever a crash leaves of node x's disk represents the node with a list that begins with B
+abbrev pub HasAll : List Placed → ℕ → State → Type 0
+HasAll B x disk = (left : Contents) → MayLeave disk left →
     (epoch : ℕ) × (ids : List ℕ) × (list : List (List Edit)) × (floor : ℕ) × (kept : ℕ)
-    × DiskRepresents left node.id epoch ids list floor kept × Begins (batches B) list
+    × DiskRepresents left x epoch ids list floor kept × Begins (batches B) list
 
 -- There is one list B ..
-pub record OneHistory (cs : Configurations) (events : List Event) (report : Report) : Type 0 where
+pub record IsHistory {D N : Type 0} (state : D → State) (id : N → ℕ) (disk : N → D)
+    (cs : Configurations) (events : List Event) (steps : List (List Line)) (nodes : List N)
+    : Type 0 where
   pub B : List Placed
   -- .. taken in order and none twice from the batches handed in
   pub taken : Part B (handed_from 1 events)
   -- .. of which every read and every acknowledgement speaks
-  pub speaks : AllZip (StepSpeaksOf B) events report.steps.items
+  pub speaks : AllZip (StepSpeaksOf B) events steps
   -- .. and which every node of the last configuration has on its disk
-  pub stands : All (λ node. has (last_of cs) node.id ≡ true → HasAll B node) report.nodes.items
+  pub stands : All (λ node. has (last_of cs) (id node) ≡ true →
+      HasAll B (id node) (state (disk node))) nodes
+
+-- .. for a report
+abbrev pub OneHistory : Configurations → List Event → Report → Type 0
+OneHistory cs events report = IsHistory state (λ (node : NodeReport). node.id)
+    (λ (node : NodeReport). node.disk) cs events report.steps.items report.nodes.items

@@ -1,5 +1,7 @@
 pub mod Events
 pub mod Members
+pub mod Traces
+pub mod Disks
 pub mod Comings
 pub mod Runs
 pub mod History

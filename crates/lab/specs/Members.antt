@@ -1,7 +1,5 @@
 -- What a node of the lab stands for, and what the code was left to choose in a step.
 use Rattle.std.specs.Prelude.{◌≡◌, ℕ, false}
-use Rattle.disk.specs.declared.junk.Junk.{Junk}
-use Rattle.disk.specs.Crashes.{Crashes}
 use Rattle.disk.specs.State.{State}
 use Rattle.disk.specs.Memory.{Slots, state_of}
 use Rattle.chain_model.specs.World as model
@@ -19,6 +17,20 @@ is_honest disk = Unit {0}
 abbrev pub state : Slots → State
 state disk = state_of disk.slots
 
+-- how often a call of it failed
+abbrev pub failures : Slots → ℕ
+failures disk = disk.failures
+
+-- the disk that a node owns, or that is left of it
+abbrev pub disk_in : Member → Slots
+disk_in (Running node) = disk_of node
+disk_in (Resting disk) = disk
+
+-- it does not run
+abbrev pub IsResting : Member → Type 0
+IsResting (Running node) = ⊥
+IsResting (Resting disk) = Unit {0}
+
 -- a step of it may follow, if it runs
 abbrev pub Works : Member → Type 0
 Works member = (node : Node Slots) → member ≡ Running node → MayStep node
@@ -27,11 +39,6 @@ Works member = (node : Node Slots) → member ≡ Running node → MayStep node
 abbrev pub Is : Member → ℕ → Machine → Type 0
 Is (Running node) x n = Runs is_honest state node x n
 Is (Resting disk) x n = AlwaysRests (state disk) x n × (n.running ≡ false)
-
--- the machine of a running node stopped, and its disk crashed with this junk
-abbrev pub HasCrashed : Junk → Node Slots → Member → Type 0
-HasCrashed junk node (Running other) = ⊥
-HasCrashed junk node (Resting disk) = Crashes junk (state (disk_of node)) (state disk)
 
 -- what the code was left to choose in a step: how it went, and why the node stopped if it did
 pub record Choice : Type 0 where

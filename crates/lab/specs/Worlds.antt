@@ -1,5 +1,5 @@
 -- A world of code, and the run of the model that it has made.
-use Rattle.std.specs.Prelude.{◌≡◌, ℕ, ◌+◌, List, [], ◌∷◌, ◌++◌, length, map, Some}
+use Rattle.std.specs.Prelude.{◌≡◌, ℕ, ◌+◌, ◌≤◌, List, [], ◌∷◌, ◌++◌, length, map, Some}
 use Rattle.std.specs.Prelude.{All, true, ◌≢◌, ◌<◌, get_or, slice_set}
 use Rattle.std.specs.List.{AllZip, HoldsAt}
 use Rattle.kv_types.specs.declared.edit.Edit.{Edit}
@@ -7,28 +7,28 @@ use Rattle.chain_model.specs.Configuration.{Configurations, Lawful, at_epoch}
 use Rattle.chain_model.specs.Frames as model_frame
 use Rattle.chain_model.specs.Node.{created}
 use Rattle.chain_model.specs.World as model
-use Rattle.disk.specs.declared.junk.Junk.{Junk}
 use Rattle.disk.specs.Memory.{Slots}
-use Rattle.node.specs.declared.node.Node.{Node}
 use Rattle.link_messages.specs.declared.frame.Frame.{Frame}
 use Rattle.link_messages.specs.Spelling.{IsFrame, HasBounds, spelling}
 use Rattle.chain_core.specs.Decisions.{frame_as}
 use Rattle.chain_core.specs.States.{Machine}
 use Rattle.chain_core.specs.declared.sending.Sent.{Sent}
 use Rattle.lab.specs.declared.coming.Coming.{Coming}
-use Rattle.lab.specs.declared.coming.Coming.TheVariants.{Stop}
 use Rattle.lab.specs.declared.coming.Did.{Did}
 use Rattle.lab.specs.declared.event.Event.{Event}
+use Rattle.lab.specs.declared.event.EventRecord.{EventRecord}
 use Rattle.lab.specs.declared.report.Line.{Line}
 use Rattle.lab.specs.declared.report.Line.TheVariants as line
-use Rattle.lab.specs.declared.member.Member.TheVariants.{Running}
 use Rattle.lab.specs.declared.posted.Posted.{Posted}
 use Rattle.lab.specs.declared.report.NodeReport.{NodeReport}
 use Rattle.lab.specs.declared.seat.Seat.{Seat}
 use Rattle.lab.specs.declared.world.World.{World}
-use Rattle.lab.specs.Members.{Choice, HasCrashed, Is}
-use Rattle.lab.specs.Comings.{Happened, sent_by, did_lines}
-use Rattle.lab.specs.Runs.{IsLeft, modelled_from, told_from}
+use Rattle.lab.specs.Members.{Choice, Is, disk_in, state, failures}
+use Rattle.lab.specs.Comings.{Happened, DiskLeft, junk_with, sent_by, did_lines}
+use Rattle.lab.specs.Disks.{AreDisksAfter, HaveDisks, IsDiskOf}
+use Rattle.lab.specs.History.{IsHistory}
+use Rattle.lab.specs.Runs.{Tells}
+use Rattle.lab.specs.Traces.{modelled_from, IsTrace}
 
 -- how many frames a line tells of
 abbrev pub frames_in : Line → ℕ
@@ -85,24 +85,33 @@ pub record WasHanded (old : List Seat) (index : ℕ) (comes : Coming) (does : Di
   pub id : seat.id ≡ (get_or old index seat).id
   pub happened : (x : ℕ) (n : Machine) → Is (get_or old index seat).member x n →
       Happened x n comes seat.member does
-  -- a node that is stopped has its disk crashed with exactly its junk
-  pub crashes : (junk : Junk) (node : Node Slots) → comes ≡ Stop junk →
-      (get_or old index seat).member ≡ Running node → HasCrashed junk node seat.member
+  pub disk : DiskLeft (junk_with comes) does (disk_in (get_or old index seat).member) seat.member
 
--- a node of the lab is the machine of its id
-abbrev pub IsSeated : model.World (List Edit) → Seat → Type 0
-IsSeated w seat = Is seat.member seat.id (w.nodes seat.id)
+-- a node of the lab is the machine of its id, and has the disk of its id
+pub record IsSeated (nodes : ℕ → Machine) (disks : ℕ → Slots) (seat : Seat) : Type 0 where
+  pub is : Is seat.member seat.id (nodes seat.id)
+  pub disk : disk_in seat.member ≡ disks seat.id
+
+-- a node that was just created with this configuration: no call of its disk failed
+pub record IsCreated (config : List ℕ) (seat : Seat) : Type 0 where
+  pub is : Is seat.member seat.id (created config)
+  pub count : failures (disk_in seat.member) ≡ 0
 
 -- these nodes were just created with this configuration, each in its seat
 pub record AreCreated (config ids : List ℕ) (seats : List Seat) : Type 0 where
   pub nodes : map (λ seat. seat.id) seats ≡ ids
-  pub each : All (λ seat. Is seat.member seat.id (created config)) seats
+  pub each : All (IsCreated config) seats
+
+-- what is left of a node that is this machine and has this disk
+pub record IsLeft (n : Machine) (own : Slots) (left : NodeReport) : Type 0 where
+  pub disk : IsDiskOf state left.id n left.disk own
+  pub numbers : Tells left.running n
 
 -- this is left of the nodes in these seats
 pub record AreLeft (seats : List Seat) (nodes : List NodeReport) : Type 0 where
   pub ids : map (λ node. node.id) nodes ≡ map (λ seat. seat.id) seats
-  pub each : (w : model.World (List Edit)) → All (IsSeated w) seats →
-      All (λ node. IsLeft (w.nodes node.id) node) nodes
+  pub each : (machines : ℕ → Machine) (disks : ℕ → Slots) → All (IsSeated machines disks) seats →
+      All (λ node. IsLeft (machines node.id) (disks node.id) node) nodes
 
 -- what came to node x, what is told of it, and which frames are kept and who is in the seats now
 pub record WasTold (seats : List Seat) (posted : List Posted) (x : ℕ) (comes : Coming)
@@ -115,24 +124,46 @@ pub record WasTold (seats : List Seat) (posted : List Posted) (x : ℕ) (comes :
   pub told : lines ≡ did_lines x (length posted) does
 
 -- The nodes and frames have come of these events, and these are the lines of each: how each step
--- went was chosen, and then nodes, frames and lines are those of the model's run.
+-- went was chosen, and then nodes, disks, frames and lines are those of the model's run.
 pub record HasMade (seats : List Seat) (posted : List Posted) (cs : Configurations)
     (events : List Event) (steps : List (List Line)) : Type 0 where
   pub lawful : Lawful cs
   pub choices : List Choice
-  pub one_each : length choices ≡ length events
-  pub told : steps ≡ told_from cs 1 events choices (model.beginning cs)
+  pub trace : IsTrace cs events choices steps
   pub frames : AllZip IsKept posted (model.reached cs (modelled_from 1 events choices)).frames
   pub sent : frames_told steps ≡ length posted
   pub nodes : map (λ seat. seat.id) seats ≡ at_epoch cs 0
-  pub each : All (IsSeated (model.reached cs (modelled_from 1 events choices))) seats
+  pub disks : ℕ → Slots
+  pub after : AreDisksAfter state failures cs events choices disks
+  -- no disk failed more often than there are events
+  pub few : (x : ℕ) → failures (disks x) ≤ length events
+  pub each : All (IsSeated (model.node_of cs (modelled_from 1 events choices)) disks) seats
 
--- the world has taken these events, and keeps the lines of each
+-- the events that were taken
+abbrev pub events_in : List EventRecord → List Event
+events_in taken = map (λ it. it.event) taken
+
+-- the world has taken these events, and keeps them and the lines of each
 pub record HasRun (world : World) (cs : Configurations) (events : List Event)
     (steps : List (List Line)) : Type 0 where
   pub kept : world.steps.items ≡ steps
+  pub taken : events_in world.events.items ≡ events
   pub made : HasMade world.seats.items world.frames.items cs events steps
 
 -- a step was refused, and so is every later one
 abbrev pub HasEnded : World → Type 0
 HasEnded world = world.ended ≡ true
+
+-- the lines so far are those of a run of the model over these events, and each node has the disk
+-- that they left, which stands for its machine's whole list
+pub record IsRunSoFar (world : World) (cs : Configurations) (events : List Event)
+    (steps : List (List Line)) : Type 0 where
+  pub choices : List Choice
+  pub trace : IsTrace cs events choices steps
+  pub disks : HaveDisks state failures (λ (seat : Seat). seat.id)
+      (λ (seat : Seat). disk_in seat.member) cs events choices world.seats.items
+
+-- .. and there is one history of them
+abbrev pub HasHistory : World → Configurations → List Event → List (List Line) → Type 0
+HasHistory world cs events steps = IsHistory state (λ (seat : Seat). seat.id)
+    (λ (seat : Seat). disk_in seat.member) cs events steps world.seats.items

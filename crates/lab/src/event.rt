@@ -14,6 +14,23 @@ pub struct Event {
     pub fault: Fault,
 }
 
+impl Event {
+    pub fn clone(&self) -> Result<Event, AllocError>
+        ensures { IfOk result (λ event. event ≡ self.now) }
+    {
+        Ok(Event {
+            what: self.what.clone()?,
+            fault: self.fault.clone()?,
+        })
+    }
+}
+
+/// An event that a world took, in its place of the run.
+#[derive(Debug, Drop)]
+pub struct EventRecord {
+    pub event: Event,
+}
+
 #[derive(Debug, Drop)]
 pub enum What {
     Submit {

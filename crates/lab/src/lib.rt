@@ -15,7 +15,7 @@ mod whole;
 mod world;
 
 pub use error::LabError;
-pub use event::{Event, What, names_node, names_nodes};
+pub use event::{Event, EventRecord, What, names_node, names_nodes};
 pub use report::{Line, Lines, NodeReport, Numbers, Report};
 pub use whole::run;
 pub use world::World;

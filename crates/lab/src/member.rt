@@ -1,10 +1,11 @@
-ghost use Rattle.std.specs.Prelude.{◌≡◌, ◌⊎◌, ℕ, List, IfOk};
+ghost use Rattle.std.specs.Prelude.{◌≡◌, ◌⊎◌, ℕ, List, IfOk, Some, None};
 ghost use Rattle.kv_types.specs.declared.edit.Edit.{Edit};
 ghost use Rattle.chain_model.specs.Node.{Answer, stopped};
 ghost use Rattle.chain_core.specs.States.{Machine};
 ghost use Rattle.node.specs.Steps.{Runs, MayStep, StopsAs, disk_of};
-ghost use Rattle.lab.specs.Members.{Is, Works, HasCrashed, is_honest, state};
+ghost use Rattle.lab.specs.Members.{Is, Works, disk_in, is_honest, state};
 ghost use Rattle.lab.specs.Comings.{WasGiven, WasFaulty, WasStarted, WasStopped, Happened};
+ghost use Rattle.lab.specs.Comings.{DiskLeft, HasCrashed, junk_with};
 
 use crate::coming::{Coming, Did, dropped, unheard};
 use disk::laws::{crashed_is_sure, sure_is_left};
@@ -20,17 +21,16 @@ pub enum Member {
     Resting(MemDisk),
 }
 
-// What is left of a node that stopped in a step.
-fn ended(node: Node<MemDisk>) -> Member
+// What is left of a node that stopped by itself, of its disk.
+fn ended(mut disk: MemDisk) -> Member
     ensures works { Works result }
-    ensures crashes { HasCrashed Junk.Old node result }
+    ensures crashes { HasCrashed Junk.Old disk result }
     ensures rests { (x : ℕ) (n : Machine) (a : Answer (List Edit)) →
-        StopsAs (state (disk_of node)) x n a →
+        StopsAs (state disk) x n a →
         Is result x (stopped n) ⊎ Is result x (stopped a.node) }
 {
     sure_is_left();
     crashed_is_sure();
-    let mut disk = node.into_disk();
     disk.crash(Junk::Old);
     Member::Resting(disk)
 }
@@ -40,11 +40,12 @@ fn handled(alloc: Global, mut node: Node<MemDisk>, input: Input) -> (Member, Did
     requires { MayStep node }
     ensures given { (x : ℕ) (n : Machine) → Runs is_honest state node x n →
         WasGiven x n input result.0 result.1 }
+    ensures disk { DiskLeft None result.1 (disk_of node) result.0 }
     ensures works { Works result.0 }
 {
     match node.step(alloc, input) {
         Ok(output) => (Member::Running(node), Did::Answered(output)),
-        Err(stop) => (ended(node), Did::Stopped(Some(stop))),
+        Err(stop) => (ended(node.into_disk()), Did::Stopped(Some(stop))),
     }
 }
 
@@ -56,6 +57,7 @@ impl Member {
             IfOk result (λ it. WasGiven x n input it.0 it.1) }
         ensures same { (disk : _) → self ≡ Member.Resting disk →
             IfOk result (λ it. it.0 ≡ self) }
+        ensures disk { IfOk result (λ it. DiskLeft None it.1 (disk_in self) it.0) }
         ensures works { IfOk result (λ it. Works it.0) }
     {
         match self {
@@ -73,10 +75,9 @@ impl Member {
         ensures started { (x : ℕ) (n : Machine) → Is self x n →
             WasStarted x n result.0 result.1 }
         ensures same { (node : _) → self ≡ Member.Running node → result.0 ≡ self }
+        ensures disk { DiskLeft None result.1 (disk_in self) result.0 }
         ensures works { Works result.0 }
     {
-        sure_is_left();
-        crashed_is_sure();
         let disk = match self {
             Member::Running(node) => {
                 let output = dropped(alloc, DropReason::Running);
@@ -93,17 +94,15 @@ impl Member {
                 };
                 (Member::Running(node), did)
             }
-            Err((stop, mut disk)) => {
-                disk.crash(Junk::Old);
-                (Member::Resting(disk), Did::Stopped(Some(stop)))
-            }
+            Err((stop, disk)) => (ended(disk), Did::Stopped(Some(stop))),
         }
     }
 
     // The machine stops, and its disk crashes.
     fn stop(self, alloc: Global, junk: Junk) -> (Member, Did)
         ensures crashes { (node : _) → self ≡ Member.Running node →
-            HasCrashed junk node result.0 }
+            HasCrashed junk (disk_of node) result.0 }
+        ensures disk { DiskLeft (Some junk) result.1 (disk_in self) result.0 }
         ensures stopped { (x : ℕ) (n : Machine) → Is self x n →
             WasStopped x n result.0 result.1 }
         ensures same { (disk : _) → self ≡ Member.Resting disk → result.0 ≡ self }
@@ -129,6 +128,7 @@ impl Member {
         requires { Works self }
         ensures faulty { (x : ℕ) (n : Machine) → Is self x n →
             WasFaulty x n why result.0 result.1 }
+        ensures disk { DiskLeft None result.1 (disk_in self) result.0 }
         ensures same { result.0 ≡ self }
     {
         match self {
@@ -153,8 +153,8 @@ impl Member {
         requires { Works self }
         ensures happened { (x : ℕ) (n : Machine) → Is self x n →
             IfOk result (λ it. Happened x n coming it.0 it.1) }
-        ensures crashes { (junk : _) (node : _) → coming ≡ Coming.Stop junk →
-            self ≡ Member.Running node → IfOk result (λ it. HasCrashed junk node it.0) }
+        ensures disk { IfOk result (λ it.
+            DiskLeft (junk_with coming) it.1 (disk_in self) it.0) }
         ensures works { IfOk result (λ it. Works it.0) }
     {
         match coming {

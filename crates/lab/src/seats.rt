@@ -1,4 +1,4 @@
-ghost use Rattle.std.specs.Prelude.{◌≡◌, ◌<◌, length, slice_set, IfOk, MatchOption, None};
+ghost use Rattle.std.specs.Prelude.{◌<◌, length, slice_set, IfOk, MatchOption};
 ghost use Rattle.lab.specs.Worlds.{IsSeatOf, HasNoSeat, WasHanded, WasTold};
 
 use crate::coming::{Arrival, Coming, Did};
@@ -13,8 +13,8 @@ use kv_types::Limits;
 use std::alloc::{AllocError, Global};
 use std::mem;
 
-// Where a node has its seat.
-fn seat_of(seats: &[Seat], id: NodeId) -> Option<usize>
+/// Where a node has its seat.
+pub fn seat_of(seats: &[Seat], id: NodeId) -> Option<usize>
     ensures { MatchOption result (HasNoSeat seats.now id)
         (λ index. IsSeatOf seats.now index id) }
 {
@@ -40,25 +40,20 @@ fn hand(
     Ok(did)
 }
 
-/// Gives a node what comes to it, keeps what it sends, and tells what it does. None where the node
-/// has no seat.
+/// Gives the node in this seat what comes to it, keeps what it sends, and tells what it does.
 pub fn give(
     alloc: Global,
     seats: &mut Vec<Seat>,
     posted: &mut Vec<Posted>,
+    index: usize,
     arrival: Arrival,
     limits: &Limits,
-) -> Result<Option<Lines>, AllocError>
-    ensures told { IfOk result (λ told. MatchOption told (HasNoSeat seats.old.items arrival.to)
-        (λ lines. WasTold seats.old.items posted.old.items arrival.to arrival.coming lines
-        seats.new.items posted.new.items)) }
-    ensures nothing { IfOk result (λ told. told ≡ None →
-        (seats.new.items ≡ seats.old.items) × (posted.new.items ≡ posted.old.items)) }
+) -> Result<Lines, AllocError>
+    requires { IsSeatOf seats.old.items index arrival.to }
+    ensures { IfOk result (λ lines. WasTold seats.old.items posted.old.items arrival.to
+        arrival.coming lines seats.new.items posted.new.items) }
 {
     let Arrival { to, coming } = arrival;
-    let Some(index) = seat_of(seats, to) else {
-        return Ok(None);
-    };
     let did = hand(alloc, seats, index, coming, limits)?;
-    Ok(Some(tell(alloc, posted, to, did)?))
+    tell(alloc, posted, to, did)
 }

@@ -1,29 +1,32 @@
 ghost use Rattle.std.specs.Prelude.{◌≡◌, ℕ, List, [], ◌∷◌, ◌++◌, IfOk, IsErr, MatchResult, OnOk};
+ghost use Rattle.std.specs.Prelude.{map};
 ghost use Rattle.chain_model.specs.Configuration.{Configurations};
 ghost use Rattle.lab.specs.declared.event.Event.{Event};
 ghost use Rattle.lab.specs.declared.report.Line.{Line};
 ghost use Rattle.lab.specs.Events.{NamesNode};
 ghost use Rattle.chain_core.specs.States.{Machine};
-ghost use Rattle.chain_model.specs.Node.{created};
+ghost use Rattle.disk.specs.Memory.{Slots};
 ghost use Rattle.node.specs.Steps.{disk_of};
-ghost use Rattle.lab.specs.Members.{Is};
-ghost use Rattle.lab.specs.Runs.{IsRun, IsLeft};
+ghost use Rattle.lab.specs.Members.{Is, disk_in};
+ghost use Rattle.lab.specs.Runs.{IsRun};
 ghost use Rattle.lab.specs.History.{OneHistory};
-ghost use Rattle.lab.specs.Worlds.{HasRun, HasEnded, AreCreated, AreLeft, frames_told};
+ghost use Rattle.lab.specs.Worlds.{HasRun, HasEnded, AreCreated, AreLeft, IsCreated, IsLeft};
+ghost use Rattle.lab.specs.Worlds.{IsRunSoFar, HasHistory, events_in, frames_told};
 
 use crate::arrival::brought;
 use crate::member::Member;
 use crate::posted::Posted;
 use crate::report::{Line, Lines, NodeReport, Numbers, Report};
 use crate::seat::Seat;
-use crate::seats::give;
+use crate::seats::{give, seat_of};
 use crate::telling::one_line;
-use crate::{Event, LabError};
+use crate::{Event, EventRecord, LabError};
 use chain_model::{in_order, made_of_outcomes, one_history};
 use configurations::{Config, Configs, NodeId};
 use disk::MemDisk;
 use kv_types::{Batch, Limits, Number};
 use node::Node;
+use node::laws::disks_represent;
 use std::alloc::{AllocError, Global};
 
 /// The nodes of a chain on disks in memory, every frame that they ever sent, and every line of what
@@ -33,6 +36,7 @@ pub struct World {
     limits: Limits,
     seats: Vec<Seat>,
     frames: Vec<Posted>,
+    events: Vec<EventRecord>,
     steps: Vec<Lines>,
     // A step was refused.
     ended: bool,
@@ -46,7 +50,7 @@ fn created_node(
     limits: &Limits,
 ) -> Result<Seat, LabError>
     ensures id { IfOk result (λ seat. seat.id ≡ id) }
-    ensures is { IfOk result (λ seat. Is seat.member id (created config.now)) }
+    ensures created { IfOk result (IsCreated config.now) }
 {
     let disk = MemDisk::new(alloc);
     match Node::create(alloc, disk, id, config, limits) {
@@ -71,7 +75,8 @@ fn created_nodes(alloc: Global, config: &Config, limits: &Limits) -> Result<Vec<
 
 // What is left of a node.
 fn left_of(seat: Seat) -> NodeReport
-    ensures left { (n : Machine) → Is seat.member seat.id n → IsLeft n result }
+    ensures left { (n : Machine) (disk : Slots) → Is seat.member seat.id n →
+        disk_in seat.member ≡ disk → IsLeft n disk result }
     ensures id { result.id ≡ seat.id }
     ensures runs { (node : _) → seat.member ≡ Member.Running node → result.disk ≡ disk_of node }
     ensures rests { (disk : _) → seat.member ≡ Member.Resting disk → result.disk ≡ disk }
@@ -109,6 +114,16 @@ fn left_of_all(alloc: Global, seats: Vec<Seat>) -> Result<Vec<NodeReport>, Alloc
     Ok(nodes)
 }
 
+// An event is taken. Its lines are not there yet.
+fn keep(events: &mut Vec<EventRecord>, event: &Event) -> Result<(), AllocError>
+    ensures { OnOk result (events_in events.new.items
+        ≡ events_in events.old.items ++ event.now ∷ []) }
+{
+    let event = event.clone()?;
+    events.push(EventRecord { event })?;
+    Ok(())
+}
+
 impl World {
     /// Creates the nodes of the first configuration.
     pub fn new(alloc: Global, configs: &Configs, limits: &Limits) -> Result<World, LabError>
@@ -119,6 +134,7 @@ impl World {
             limits: *limits,
             seats: created_nodes(alloc, configs.first(), limits)?,
             frames: Vec::new(alloc),
+            events: Vec::new(alloc),
             steps: Vec::new(alloc),
             ended: false,
         })
@@ -140,13 +156,16 @@ impl World {
         // A theorem of the chain's model: the call brings it, and does nothing.
         in_order::<Batch>();
         let Some(arrival) = brought(alloc, &self.frames, request, &event.what)? else {
+            keep(&mut self.events, event)?;
             self.steps.push(one_line(alloc, Line::Nothing)?)?;
             return Ok(());
         };
-        let (seats, frames) = (&mut self.seats, &mut self.frames);
-        let Some(lines) = give(alloc, seats, frames, arrival, &self.limits)? else {
+        let Some(index) = seat_of(&self.seats, arrival.to) else {
             return Ok(());
         };
+        keep(&mut self.events, event)?;
+        let (seats, frames) = (&mut self.seats, &mut self.frames);
+        let lines = give(alloc, seats, frames, index, arrival, &self.limits)?;
         self.steps.push(lines)?;
         Ok(())
     }
@@ -180,6 +199,31 @@ impl World {
         self.frames.len() as u64
     }
 
+    /// What the run did so far: the lines of each event. The world keeps the disks.
+    pub fn report(&self) -> &[Lines]
+        ensures steps { (cs : Configurations) (events : List Event) (steps : List (List Line)) →
+            HasRun self.now cs events steps → result.now ≡ steps }
+        ensures run { (cs : Configurations) (events : List Event) (steps : List (List Line)) →
+            HasRun self.now cs events steps → IsRunSoFar self.now cs events result.now }
+        ensures history { (cs : Configurations) (events : List Event) (steps : List (List Line)) →
+            HasRun self.now cs events steps → HasHistory self.now cs events result.now }
+    {
+        // Theorems of the chain's model: a call brings one, and does nothing.
+        one_history::<Batch>();
+        made_of_outcomes::<Batch>();
+        // A law of nodes.
+        disks_represent::<MemDisk>();
+        &self.steps
+    }
+
+    /// The events that the world took so far.
+    pub fn events(&self) -> &[EventRecord]
+        ensures { (cs : Configurations) (events : List Event) (steps : List (List Line)) →
+            HasRun self.now cs events steps → events_in result.now ≡ events }
+    {
+        &self.events
+    }
+
     /// What the run did, and what it left of each node.
     pub fn finish(self, alloc: Global) -> Result<Report, LabError>
         ensures steps { (cs : Configurations) (events : List Event) (steps : List (List Line)) →
@@ -188,14 +232,19 @@ impl World {
             HasRun self cs events steps → IfOk result (IsRun cs events) }
         ensures history { (cs : Configurations) (events : List Event) (steps : List (List Line)) →
             HasRun self cs events steps → IfOk result (OneHistory cs events) }
+        ensures ended { HasEnded self → IsErr result }
     {
         let World {
             seats,
             steps,
             limits: _limits,
             frames: _frames,
-            ended: _ended,
+            events: _events,
+            ended,
         } = self;
+        if ended {
+            return Err(LabError::Memory);
+        }
         let nodes = left_of_all(alloc, seats)?;
         // Theorems of the chain's model: a call brings one, and does nothing.
         one_history::<Batch>();

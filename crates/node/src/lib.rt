@@ -2,6 +2,7 @@
 #![tactic(auto)]
 
 mod engine;
+pub mod laws;
 mod layout;
 mod node;
 mod output;

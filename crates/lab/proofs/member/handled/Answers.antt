@@ -1,6 +1,13 @@
-use Rattle.std.proofs.Common.{refl}
+use Rattle.std.proofs.Common.{Err, Result, refl, sym, ap, subst}
+use Rattle.disk.specs.Memory.{Slots}
 use Rattle.chain_core.specs.Decisions.{answer_to}
+use Rattle.node.specs.declared.output.Output.{Output}
+use Rattle.node.specs.declared.stop.Stop.{Stop}
+use Rattle.node.specs.Steps.{StopsAs, disk_of}
+use Rattle.node.specs.Stops.{KeepsDisk, TellsDisk}
 use Rattle.lab.specs.Comings.{Answers, Ends}
+use Rattle.lab.specs.Members.{is_honest, state, failures}
+use Rattle.lab.proofs.Disks.{ends_by}
 use Rattle.lab.proofs.member.handled.Goals as goal
 
 pub returns-in-Ok-clause-given : goal.returns-in-Ok-clause-given
@@ -18,6 +25,19 @@ returns-in-Ok-clause-given c = λ x n r.
 
 pub returns-in-Err-clause-given : goal.returns-in-Err-clause-given
 returns-in-Err-clause-given c = λ x n r.
-    Ends r.core.running c.in-Err.stop
-    (c.ended.ensures.rests x n (answer_to x n c.args.input)
-    (c.in-Err.ensures.stopped x n r).1) refl
+    let was = c.in-Err.ensures.stopped x n r in
+    let stops = subst (λ (d : Slots). StopsAs (state d) x n (answer_to x n c.args.input))
+    (sym c.into_disk.ensures.disk) was.1 in
+    Ends r.core.running c.in-Err.stop (c.in-Err.ensures.answered x n r)
+    (c.ended.ensures.rests x n (answer_to x n c.args.input) stops) refl
+
+pub returns-in-Err-clause-disk : goal.returns-in-Err-clause-disk
+returns-in-Err-clause-disk c =
+    let stop = c.in-Err.stop in
+    let old = disk_of c.args.node in
+    let told : Result Output Stop = Err stop in
+    let keeps = subst (λ (d : Slots). KeepsDisk is_honest failures old d (TellsDisk told))
+    (sym c.into_disk.ensures.disk) c.in-Err.ensures.keeps in
+    ends_by stop old c.into_disk.result c.ended.result c.ended.ensures.crashes
+    (λ is. keeps.failed (ap (λ (e : Stop). Err e) is))
+    (λ other. keeps.others (λ is. other (cc)))

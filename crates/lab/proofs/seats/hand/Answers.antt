@@ -2,16 +2,11 @@ use Rattle.std.proofs.Common.{◌≡◌, ℕ, ◌<◌, List, length, get_or, sli
 use Rattle.std.proofs.Common.{◌∙◌}
 use Rattle.std.proofs.lemmas.List.{set-set, get_or_default}
 use Rattle.lab.specs.declared.coming.Coming.{Coming}
-use Rattle.lab.specs.declared.coming.Coming.TheVariants.{Stop}
 use Rattle.lab.specs.declared.coming.Did.{Did}
-use Rattle.lab.specs.declared.member.Member.TheVariants.{Running}
-use Rattle.disk.specs.declared.junk.Junk.{Junk}
-use Rattle.disk.specs.Memory.{Slots}
-use Rattle.node.specs.declared.node.Node.{Node}
 use Rattle.lab.specs.declared.seat.Seat.{Seat}
-use Rattle.lab.specs.Members.{HasCrashed, Is}
+use Rattle.lab.specs.Members.{Is, disk_in}
 use Rattle.chain_core.specs.States.{Machine}
-use Rattle.lab.specs.Comings.{Happened}
+use Rattle.lab.specs.Comings.{Happened, DiskLeft, junk_with}
 use Rattle.lab.specs.Worlds.{WasHanded}
 use Rattle.lab.proofs.seats.hand.Goals as goal
 
@@ -19,10 +14,9 @@ use Rattle.lab.proofs.seats.hand.Goals as goal
 handed : (old : List Seat) (i : ℕ) (between was was' now : Seat) (comes : Coming) (does : Did) →
     i < length old → was ≡ get_or old i was' → now.id ≡ (get_or old i was').id →
     ((x : ℕ) (n : Machine) → Is was.member x n → Happened x n comes now.member does) →
-    ((junk : Junk) (node : Node Slots) → comes ≡ Stop junk → was.member ≡ Running node →
-    HasCrashed junk node now.member) →
+    DiskLeft (junk_with comes) does (disk_in was.member) now.member →
     WasHanded old i comes does (slice_set (slice_set old i between) i now)
-handed old i between was was' now comes does within out id happened crashes =
+handed old i between was was' now comes does within out id happened disk =
     let same = get_or_default old i was' now within in
     record {
       seat = now;
@@ -30,8 +24,8 @@ handed old i between was was' now comes does within out id happened crashes =
       id = id ∙ ap (λ (s : Seat). s.id) same;
       happened = λ x n is. happened x n
           (subst (λ (s : Seat). Is s.member x n) (sym (out ∙ same)) is);
-      crashes = λ junk node is runs. crashes junk node is
-          (ap (λ (s : Seat). s.member) (out ∙ same) ∙ runs);
+      disk = subst (λ (s : Seat). DiskLeft (junk_with comes) does (disk_in s.member) now.member)
+          (out ∙ same) disk;
     }
 
 pub returns : goal.returns
@@ -44,4 +38,4 @@ returns c =
     }) c.args.coming c.in_ok-member.did c.requires
     (c.replace-seat.ensures.value ∙ get_or_default c.args.seats.now c.args.index
     c.index-seats-index-2.result c.index-seats-index.result c.requires)
-    refl c.in_ok-member.ensures.happened c.in_ok-member.ensures.crashes
+    refl c.in_ok-member.ensures.happened c.in_ok-member.ensures.disk

@@ -1,10 +1,9 @@
-use Rattle.std.proofs.Common.{refl, subst}
-use Rattle.disk.specs.declared.junk.Junk.TheVariants.{Old}
-use Rattle.chain_model.specs.Node.{started}
+use Rattle.std.proofs.Common.{refl, sym, subst, inl, inr}
+use Rattle.chain_model.specs.Node.{started, stopped, silent}
 use Rattle.lab.specs.declared.member.Member.{Member}
-use Rattle.lab.specs.Members.{Is, state}
-use Rattle.lab.specs.Comings.{Starts, Fails, RunsOn}
-use Rattle.lab.proofs.Rests.{rests_on}
+use Rattle.lab.specs.Members.{Is, disk_in}
+use Rattle.lab.specs.Comings.{Starts, Fails, RunsOn, DiskEnds}
+use Rattle.lab.proofs.Disks.{ends_by}
 use Rattle.lab.proofs.member.Member.start.Goals as goal
 
 pub returns-in-Running-clause-started : goal.returns-in-Running-clause-started
@@ -26,9 +25,17 @@ pub returns-in-Err-clause-started : goal.returns-in-Err-clause-started
 returns-in-Err-clause-started c = λ x n is.
     let r = subst (λ (m : Member). Is m x n) c.in-Resting.is is in
     let left = c.in-Err.ensures.started x n tt r.0 in
-    Fails r.1 c.in-Err.stop (
-      rests_on c.sure_is_left.ensures c.crashed_is_sure.ensures Old (state c.in-Err.disk)
-          (state c.crash.new.self) x n (c.crash.ensures.crashes tt)
-          (c.crash.ensures.allowed tt) left.1,
-      refl,
-    ) refl
+    let rests = elim (c.ended.ensures.rests x n (silent n) (λ after now. inl (left.1 after now))) as
+    (λ _. Is c.ended.result x (stopped n)) [
+      | inl before ↦ before
+      | inr behind ↦ behind
+    ] in
+    Fails r.1 c.in-Err.stop left.0 rests refl
+
+pub returns-in-Err-clause-disk : goal.returns-in-Err-clause-disk
+returns-in-Err-clause-disk c =
+    let keeps = c.in-Err.ensures.keeps in
+    subst (λ (m : Member). DiskEnds c.in-Err.stop (disk_in m) (disk_in c.ended.result))
+    (sym c.in-Resting.is)
+    (ends_by c.in-Err.stop c.in-Resting.disk c.in-Err.disk c.ended.result c.ended.ensures.crashes
+    (λ is. keeps.failed is) (λ other. keeps.others other))

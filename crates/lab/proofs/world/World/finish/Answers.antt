@@ -1,22 +1,24 @@
-use Rattle.std.proofs.Common.{◌∙◌}
-use Rattle.chain_model.specs.World.{reached}
+use Rattle.lab.specs.declared.report.NodeReport.{NodeReport}
 use Rattle.lab.specs.declared.report.Report.{Report}
-use Rattle.lab.specs.Runs.{IsRun, modelled_from}
-use Rattle.lab.proofs.Reports.{one_of}
+use Rattle.lab.specs.Members.{state, failures}
+use Rattle.lab.specs.Runs.{IsRun}
+use Rattle.lab.specs.Traces.{modelled_from}
+use Rattle.lab.proofs.Reports.{one_of, run_left}
 use Rattle.lab.proofs.world.World.finish.Goals as goal
+
+pub returns-clause-run : goal.returns-clause-run
+returns-clause-run c = λ cs events steps run.
+    let report : Report = record { steps = c.args.self.steps; nodes = c.in_ok-nodes.nodes } in
+    run_left c.args.self.seats.items c.args.self.frames.items cs events steps run.made report
+    run.kept c.in_ok-nodes.ensures
 
 pub returns-clause-history : goal.returns-clause-history
 returns-clause-history c = λ cs events steps run.
-    let made = run.made in
-    let left = c.in_ok-nodes.ensures in
-    let es = modelled_from 1 events made.choices in
     let report : Report = record { steps = c.args.self.steps; nodes = c.in_ok-nodes.nodes } in
-    let is : IsRun cs events report = record {
-      choices = made.choices;
-      one_each = made.one_each;
-      told = run.kept ∙ made.told;
-      nodes = left.ids ∙ made.nodes;
-      left = left.each (reached cs es) made.each;
-    } in
-    one_of cs events report is (c.one_history.ensures cs es made.lawful)
-    (c.made_of_outcomes.ensures cs es)
+    let is : IsRun cs events report =
+    run_left c.args.self.seats.items c.args.self.frames.items cs events steps run.made report
+    run.kept c.in_ok-nodes.ensures in
+    let es = modelled_from 1 events is.choices in
+    one_of state failures (λ (node : NodeReport). node.id) (λ (node : NodeReport). node.disk) cs
+    events is.choices report.steps.items report.nodes.items is.trace is.disks
+    (c.one_history.ensures cs es run.made.lawful) (c.made_of_outcomes.ensures cs es)

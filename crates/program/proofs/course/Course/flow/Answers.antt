@@ -1,6 +1,11 @@
 use Rattle.std.proofs.Common.{ℕ, List, subst, add-one, arith}
-use Rattle.program.proofs.Flowing.{Flows, flows_on, flowed_all, flowed_most, emptied}
+use Rattle.program.proofs.Flowing.{Flows, flows_none, flows_on, flowed_all, flowed_most, emptied}
 use Rattle.program.proofs.course.Course.flow.Goals as goal
+
+-- nothing is delivered yet
+pub loop-count-init : goal.loop-count-init
+loop-count-init c = λ cs events steps run.
+    flows_none c.args.self.now.world cs events steps c.args.self.now.left.items run
 
 pub returns-in_default : goal.returns-in_default
 returns-in_default c = λ cs events steps run.

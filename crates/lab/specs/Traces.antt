@@ -1,0 +1,44 @@
+-- Events and the lines of each, as a run of the model by what was chosen in each.
+use Rattle.std.specs.Prelude.{◌≡◌, ℕ, suc, List, [], ◌∷◌, length}
+use Rattle.kv_types.specs.declared.edit.Edit.{Edit}
+use Rattle.chain_model.specs.Configuration.{Configurations}
+use Rattle.chain_model.specs.World as model
+use Rattle.lab.specs.declared.event.Event.{Event}
+use Rattle.lab.specs.declared.report.Line.{Line}
+use Rattle.lab.specs.Events.{modelled, lines_of, ChoiceFits}
+use Rattle.lab.specs.Members.{Choice}
+
+-- the events from place i on, as the model has them, by what was chosen in each
+abbrev pub modelled_from : ℕ → List Event → List Choice → List (model.Event (List Edit))
+modelled_from i [] choices = []
+modelled_from i (event ∷ events) [] = []
+modelled_from i (event ∷ events) (choice ∷ choices) =
+    modelled i event.what choice ∷ modelled_from (suc i) events choices
+
+-- the lines of each of them, from a world on
+abbrev pub told_from : Configurations → ℕ → List Event → List Choice → model.World (List Edit)
+    → List (List Line)
+told_from cs i [] choices w = []
+told_from cs i (event ∷ events) [] w = []
+told_from cs i (event ∷ events) (choice ∷ choices) w =
+    let e = modelled i event.what choice in
+    lines_of (length w.frames) event.what choice (model.outcome w cs e)
+    ∷ told_from cs (suc i) events choices (model.happens cs w e)
+
+-- what was chosen fits each of them, from a world on
+abbrev pub AllFit : Configurations → ℕ → List Event → List Choice → model.World (List Edit)
+    → Type 0
+AllFit cs i [] choices w = Unit {0}
+AllFit cs i (event ∷ events) [] w = ⊥
+AllFit cs i (event ∷ events) (choice ∷ choices) w =
+    let e = modelled i event.what choice in
+    ChoiceFits event choice (model.outcome w cs e)
+    × AllFit cs (suc i) events choices (model.happens cs w e)
+
+-- By these choices, one for each event, the events are a run of the model, and each has the lines
+-- of what it did.
+pub record IsTrace (cs : Configurations) (events : List Event) (choices : List Choice)
+    (steps : List (List Line)) : Type 0 where
+  pub one_each : length choices ≡ length events
+  pub fits : AllFit cs 1 events choices (model.beginning cs)
+  pub told : steps ≡ told_from cs 1 events choices (model.beginning cs)
