@@ -132,6 +132,7 @@ pub all_keys : (keys : List (List ℕ)) (n : ℕ) (filter : List ℕ) → length
     HasKeys keys n filter → IsFilter keys filter
 all_keys keys n filter all had = record {
   len = had.len;
-  exact = λ p low. subst (λ (ks : List (List ℕ)). HasBit filter p ↔ IsProbe (8 * length filter) ks p)
+  exact = λ p low. subst
+      (λ (ks : List (List ℕ)). HasBit filter p ↔ IsProbe (8 * length filter) ks p)
       (take_all n keys all) (had.exact p low);
 }

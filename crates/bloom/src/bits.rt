@@ -1,3 +1,4 @@
+// Bits of a byte string, by their place.
 ghost use Rattle.std.specs.Prelude.{◌≡◌, ◌⊎◌, ◌↔◌, ◌*◌, ◌<◌, ℕ, length, IsTrue};
 ghost use Rattle.bloom.specs.Filters.{HasBit};
 

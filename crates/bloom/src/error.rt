@@ -1,3 +1,4 @@
+// Why a filter was not built.
 ghost use Rattle.std.specs.Prelude.{◌≡◌};
 ghost use Rattle.bloom.specs.declared.error.BloomError.TheVariants.{Memory};
 

@@ -1,3 +1,4 @@
+// The filter of some keys: how it is built, and how it is asked.
 ghost use Rattle.std.specs.Prelude.{◌≡◌, ◌⊎◌, ◌↔◌, ◌*◌, ◌<◌, ◌^◌, ℕ, length, IfOk, IsTrue};
 ghost use Rattle.bloom.specs.Filters.{HasBit, IsProbeOf, IsFilter, Covers, CoversAll, bytes_for};
 

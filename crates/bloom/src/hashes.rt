@@ -1,3 +1,4 @@
+// A key's two hashes, and the probes that they give.
 ghost use Rattle.std.specs.Prelude.{◌≡◌, ◌<◌, ◌+◌, ◌*◌, ◌%◌};
 ghost use Rattle.bloom.specs.Filters.{first_hash, second_hash, probe};
 

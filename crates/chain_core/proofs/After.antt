@@ -2,7 +2,7 @@
 use Rattle.std.proofs.Common.{◌≡◌, ℕ, suc, ◌+◌, List, [], ◌∷◌, ◌++◌, length, Bool, true, max}
 use Rattle.std.proofs.Common.{false, refl, sym, ap, subst, ◌∙◌, length-append, arith}
 use Rattle.std.specs.Prelude.{if◌then◌else◌, Option, Some, SomeIff}
-use Rattle.kv_types.specs.declared.edit.Edit.{Edit}
+use Rattle.kv_types.specs.Content.{BatchContent}
 use Rattle.chain_model.specs.Configuration.{is_tail}
 use Rattle.chain_model.specs.Node.{due, not_due}
 use Rattle.chain_model.specs.Rules.{accept, append, pass_on, longer_for}
@@ -20,7 +20,7 @@ pub committed_by : (b : Bool) (n : Machine) →
 committed_by true n = refl
 committed_by false n = refl
 
-longer : (n : Machine) (batch : List Edit) (count number : ℕ) → length n.list ≡ count →
+longer : (n : Machine) (batch : BatchContent) (count number : ℕ) → length n.list ≡ count →
     number ≡ suc count → length (n.list ++ batch ∷ []) ≡ number
 longer n batch count number e next = omega (arith, length-append n.list (batch ∷ []), e, next)
 
@@ -33,7 +33,7 @@ next_of o P old count number found some same =
 
 module _ (core : Core) (n : Machine) (is : Is core n) where
   -- after a batch of the head
-  module _ (i : ℕ) (batch : List Edit) (number c : ℕ) (next : number ≡ suc core.count)
+  module _ (i : ℕ) (batch : BatchContent) (number c : ℕ) (next : number ≡ suc core.count)
       (ordered : IsInOrder 0 core.count core.pending)
       (commits : c ≡ (if is_tail core.ids core.id then number else core.committed)) where
     abbrev pub all : List Waiting
@@ -67,8 +67,8 @@ module _ (core : Core) (n : Machine) (is : Is core n) where
                 ∙ (not_due_behind 0 number c all rises ∙ ap waiting (sym left)));
             running = is.running;
           };
-          replied = ap (λ (k : ℕ). due {A = List Edit} k m.pending) same
-              ∙ (ap (due {A = List Edit} c) waits
+          replied = ap (λ (k : ℕ). due {A = BatchContent} k m.pending) same
+              ∙ (ap (due {A = BatchContent} c) waits
               ∙ (due_front 0 number c all rises ∙ ap replies_of (sym out)));
         } in
         subst (λ (k : Machine). Follows new
@@ -76,7 +76,7 @@ module _ (core : Core) (n : Machine) (is : Is core n) where
         (sym (committed_by (is_tail n.ids core.id) (longer_for n i batch))) base
 
   -- after a batch of the predecessor
-  pub follows_append : (batch : List Edit) (number c : ℕ) → number ≡ suc core.count →
+  pub follows_append : (batch : BatchContent) (number c : ℕ) → number ≡ suc core.count →
       c ≡ (if is_tail core.ids core.id then number else core.committed) →
       Is (record core { count = number; committed = c })
       (append core.id n (suc (length n.list)) batch).node
@@ -124,7 +124,7 @@ module _ (core : Core) (n : Machine) (is : Is core n) where
               ∙ (not_due_behind 0 core.count c core.pending ordered ∙ ap waiting (sym left)));
           running = is.running;
         };
-        replied = ap (λ (k : ℕ). due {A = List Edit} k n.pending) same
-            ∙ (ap (due {A = List Edit} c) is.pending
+        replied = ap (λ (k : ℕ). due {A = BatchContent} k n.pending) same
+            ∙ (ap (due {A = BatchContent} c) is.pending
             ∙ (due_front 0 core.count c core.pending ordered ∙ ap replies_of (sym out)));
       }

@@ -3,7 +3,7 @@ use Rattle.std.proofs.Common.{◌≡◌, ℕ, suc, ◌+◌, ◌≤◌, ◌<◌, 
 use Rattle.std.proofs.Common.{false, refl, ap, arith}
 use Rattle.std.specs.Prelude.{nat_le}
 use Rattle.std.proofs.lemmas.Bool.{leb-false, lt-leb}
-use Rattle.kv_types.specs.declared.edit.Edit.{Edit}
+use Rattle.kv_types.specs.Content.{BatchContent}
 use Rattle.chain_model.specs.Node.{due, not_due}
 use Rattle.chain_core.specs.declared.waiting.Waiting.{Waiting}
 use Rattle.chain_core.specs.States.{IsInOrder, waiting, replies_of}
@@ -16,7 +16,7 @@ lower a b m (p ∷ ps) le o = (omega (arith, le, o.0), o.1, o.2)
 -- above k none is due
 
 none_due : (a m k : ℕ) (ps : List Waiting) → k ≤ a → IsInOrder a m ps →
-    (due {A = List Edit} k (waiting ps) ≡ []) × (not_due k (waiting ps) ≡ waiting ps)
+    (due {A = BatchContent} k (waiting ps) ≡ []) × (not_due k (waiting ps) ≡ waiting ps)
 none_due a m k [] le o = (refl, refl)
 none_due a m k (p ∷ ps) le o =
     let above : k < p.number = omega (arith, le, o.0) in
@@ -26,13 +26,13 @@ none_due a m k (p ∷ ps) le o =
 
 -- those due are the front
 pub due_front : (a m k : ℕ) (ps : List Waiting) → IsInOrder a m ps →
-    due {A = List Edit} k (waiting ps) ≡ replies_of (front k ps)
+    due {A = BatchContent} k (waiting ps) ≡ replies_of (front k ps)
 due_front a m k [] o = refl
 due_front a m k (p ∷ ps) o = go (nat_le p.number k) refl (due_front p.number m k ps o.2)
   where
     go : (b : Bool) → nat_le p.number k ≡ b →
-        due {A = List Edit} k (waiting ps) ≡ replies_of (front k ps) →
-        due {A = List Edit} k (waiting (p ∷ ps)) ≡ replies_of (front k (p ∷ ps))
+        due {A = BatchContent} k (waiting ps) ≡ replies_of (front k ps) →
+        due {A = BatchContent} k (waiting (p ∷ ps)) ≡ replies_of (front k (p ∷ ps))
     go true e rest = rw (e, rest) refl
     go false e rest =
         let above = leb-false p.number k e in

@@ -3,19 +3,19 @@ use Rattle.std.proofs.Common.{◌≡◌, ℕ, zero, suc, ◌+◌, ◌<◌, ◌�
 use Rattle.std.proofs.Common.{Option, Some, None, Bool, true, not, refl, sym, ap, ◌∙◌, arith}
 use Rattle.std.specs.Option.{is_some}
 use Rattle.std.proofs.lemmas.Bool.{true≢false}
-use Rattle.kv_types.specs.declared.edit.Edit.{Edit}
+use Rattle.kv_types.specs.Content.{BatchContent}
 use Rattle.chain_model.specs.Configuration.{successor}
 use Rattle.chain_model.specs.Frames.{Frame}
 use Rattle.chain_model.specs.Lists.{place}
 use Rattle.chain_model.specs.Rules.{forward, forward_to, forwards}
 use Rattle.chain_core.specs.States.{Machine}
 
-none_behind : (l : List (List Edit)) (k : ℕ) → length l ≤ k → place l (suc k) ≡ None
+none_behind : (l : List BatchContent) (k : ℕ) → length l ≤ k → place l (suc k) ≡ None
 none_behind [] k behind = refl
 none_behind (x ∷ l) zero behind = absurd (omega (arith, behind))
 none_behind (x ∷ l) (suc k) behind = none_behind l k (omega (arith, behind))
 
-no_batch : (s : Option ℕ) (x : ℕ) (n : Machine) (k : ℕ) (batch : Option (List Edit)) →
+no_batch : (s : Option ℕ) (x : ℕ) (n : Machine) (k : ℕ) (batch : Option BatchContent) →
     batch ≡ None → forward_to s x n k batch ≡ []
 no_batch None x n k batch e = refl
 no_batch (Some s) x n k batch e = rw e refl
@@ -37,7 +37,7 @@ module _ (x : ℕ) (n : Machine) where
   sent_to_count (suc c) (suc m) k few last =
       let less = sent_to_count c m (suc k) (omega (arith, few))
       (λ l. omega (arith, last (omega (arith, l)))) in
-      ap (λ (fs : List (Frame (List Edit))). forward x n (suc k) ++ fs) less
+      ap (λ (fs : List (Frame BatchContent)). forward x n (suc k) ++ fs) less
 
   -- nothing is sent without a successor
   pub none_sent : (c k : ℕ) → successor n.ids x ≡ None → forwards x n k c ≡ []

@@ -3,7 +3,7 @@ use Rattle.std.proofs.Common.{◌≡◌, ℕ, zero, suc, ◌+◌, List, [], ◌�
 use Rattle.std.proofs.Common.{Some, None, refl, sym, ap, subst, ◌∙◌, append_assoc, append-nil}
 use Rattle.std.proofs.Common.{arith}
 use Rattle.std.specs.Prelude.{if◌then◌else◌, nat_lt}
-use Rattle.kv_types.specs.declared.edit.Edit.{Edit}
+use Rattle.kv_types.specs.Content.{BatchContent}
 use Rattle.chain_model.specs.Configuration.{is_tail, predecessor, successor}
 use Rattle.chain_model.specs.Frames.{Frame}
 use Rattle.chain_model.specs.Lists.{place}
@@ -16,7 +16,8 @@ use Rattle.chain_core.specs.Steps.{Leaves, StepsLeave, StandsLast, OneByOne}
 use Rattle.chain_core.proofs.After.{committed_by}
 
 -- who waits is not told
-same_forward : (s : Option ℕ) (x k : ℕ) (b : Option (List Edit)) (n : Machine) (ps : List (ℕ × ℕ)) →
+same_forward : (s : Option ℕ) (x k : ℕ) (b : Option BatchContent) (n : Machine)
+    (ps : List (ℕ × ℕ)) →
     forward_to s x n k b ≡ forward_to s x (record n { pending = ps }) k b
 same_forward None x k b n ps = refl
 same_forward (Some s) x k None n ps = refl
@@ -27,8 +28,8 @@ same_ack : (p : Option ℕ) (x : ℕ) (n : Machine) (ps : List (ℕ × ℕ)) →
 same_ack None x n ps = refl
 same_ack (Some p) x n ps = refl
 
-module _ (x : ℕ) (n : Machine) (batch : List Edit) where
-  abbrev long : List (List Edit)
+module _ (x : ℕ) (n : Machine) (batch : BatchContent) where
+  abbrev long : List BatchContent
   long = n.list ++ batch ∷ []
 
   abbrev next : ℕ
@@ -58,7 +59,7 @@ steps_leave x n batch (done.Accepted i) =
     (acknowledge m (forward x m (suc (length n.list)))))
     (sym (committed_by (is_tail n.ids x) (longer_for n i batch))) (accepted x n batch i)
 steps_leave x n batch done.Appended =
-    let answer : Machine → Answer (List Edit) = λ m. record {
+    let answer : Machine → Answer BatchContent = λ m. record {
       node = m;
       frames = forward x m (suc (length n.list)) ++ (if is_tail m.ids x then ack x m else []);
       replies = [];
@@ -86,7 +87,7 @@ steps_leave x n batch (done.Told committed have) =
       floor = refl;
       kept = refl;
       frames = ap
-          (λ (fs : List (Frame (List Edit))). if nat_lt n.committed committed then fs else [])
+          (λ (fs : List (Frame BatchContent)). if nat_lt n.committed committed then fs else [])
           (same_ack (predecessor n.ids x) x m (not_due m.committed m.pending));
       dropped = refl;
     }
@@ -104,5 +105,5 @@ one_by_one x n k (suc m) =
     let others = forwards x n (suc k) m in
     let same : suc k + m ≡ k + suc m = omega arith in
     let rest = one_by_one x n (suc k) m ∙ ap (λ (j : ℕ). others ++ forward x n (suc j)) same in
-    ap (λ (fs : List (Frame (List Edit))). first ++ fs) rest
+    ap (λ (fs : List (Frame BatchContent)). first ++ fs) rest
     ∙ sym (append_assoc first others (forward x n (suc (k + suc m))))

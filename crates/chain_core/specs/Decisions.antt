@@ -2,7 +2,7 @@
 use Rattle.std.specs.Prelude.{◌≡◌, ◌≤◌, ◌<◌, ℕ, suc, List, length, map, Option}
 use Rattle.std.specs.Prelude.{Some, None}
 use Rattle.kv_types.specs.declared.bounds.TheConstants.{MAX_NUMBER}
-use Rattle.kv_types.specs.declared.edit.Edit.{Edit}
+use Rattle.kv_types.specs.Content.{BatchContent}
 use Rattle.chain_model.specs.Refusal as model_refusal
 use Rattle.chain_model.specs.DropReason as model_reason
 use Rattle.chain_model.specs.Frames as model_frame
@@ -27,7 +27,7 @@ use Rattle.chain_core.specs.declared.waiting.Waiting.{Waiting}
 use Rattle.chain_core.specs.States.{Machine, Core, Is, replies_of}
 
 -- what the machine of node x answers to an input
-abbrev pub answer_to : ℕ → Machine → Input → Answer (List Edit)
+abbrev pub answer_to : ℕ → Machine → Input → Answer BatchContent
 answer_to x n (input.Submit request batch) = ask x n request (model_request.Submit batch)
 answer_to x n (input.Get request key at) = ask x n request (model_request.Read at)
 answer_to x n (input.Forward epoch from number batch) =
@@ -61,7 +61,7 @@ reason_as reason.NotForNodes = model_reason.NotForNodes
 reason_as reason.Unreadable = model_reason.Unreadable
 
 -- the rule that a decision names
-abbrev pub rule_of : ℕ → Machine → Decision → Answer (List Edit)
+abbrev pub rule_of : ℕ → Machine → Decision → Answer BatchContent
 rule_of x n (decision.Accept request batch) = accept x n request batch
 rule_of x n (decision.Append batch) = append x n (suc (length n.list)) batch
 rule_of x n decision.TellAgain = tell_again x n
@@ -84,7 +84,7 @@ pub record Decides (x : ℕ) (n : Machine) (input : Input) (decision : Decision)
   pub read : IsReadOf n input decision
 
 -- the rule whose store's part was done, with this batch where one was appended
-abbrev pub done_of : ℕ → Machine → List Edit → Done → Answer (List Edit)
+abbrev pub done_of : ℕ → Machine → BatchContent → Done → Answer BatchContent
 done_of x n batch (done.Accepted request) = accept x n request batch
 done_of x n batch done.Appended = append x n (suc (length n.list)) batch
 done_of x n batch (done.Told committed have) = pass_on x n committed have
@@ -104,12 +104,12 @@ HasRoom count done.Appended = count < MAX_NUMBER
 HasRoom count (done.Told committed have) = (committed ≤ have) × (have ≤ count)
 
 -- what a node knows is what the machine of an answer has, and these requests have its replies
-pub record Follows (new : Core) (answer : Answer (List Edit)) (due : List Waiting) : Type 0 where
+pub record Follows (new : Core) (answer : Answer BatchContent) (due : List Waiting) : Type 0 where
   pub is : Is new answer.node
   pub replied : answer.replies ≡ replies_of due
 
 -- a frame to a node, as the model has it, where it is one between nodes
-abbrev pub frame_as : ℕ → Frame → Option (model_frame.Frame (List Edit))
+abbrev pub frame_as : ℕ → Frame → Option (model_frame.Frame BatchContent)
 frame_as to (frame.Forward epoch from number batch) =
     Some (model_frame.Forward to epoch from number batch)
 frame_as to (frame.Ack epoch from committed have) =
@@ -117,5 +117,5 @@ frame_as to (frame.Ack epoch from committed have) =
 frame_as to _ = None
 
 -- what is sent is these frames of the model, one by one
-abbrev pub AreFrames : List Sent → List (model_frame.Frame (List Edit)) → Type 0
+abbrev pub AreFrames : List Sent → List (model_frame.Frame BatchContent) → Type 0
 AreFrames sent frames = map (λ it. frame_as it.to it.frame) sent ≡ map Some frames

@@ -1,6 +1,6 @@
 -- The numbers of a node, without its batches, and the machine of the chain's model that has them.
 use Rattle.std.specs.Prelude.{◌≡◌, ◌≤◌, ◌<◌, ℕ, List, [], ◌∷◌, length, map, true, false}
-use Rattle.kv_types.specs.declared.edit.Edit.{Edit}
+use Rattle.kv_types.specs.Content.{BatchContent}
 use Rattle.chain_model.specs.Configuration.{is_tail}
 use Rattle.chain_model.specs.Node as model
 use Rattle.chain_model.specs.Requests.{Reply, Committed}
@@ -9,7 +9,7 @@ use Rattle.chain_core.specs.declared.at_rest.AtRest.{AtRest}
 
 -- the machine of a node that takes batches of edits
 abbrev pub Machine : Type 0
-Machine = model.Node (List Edit)
+Machine = model.Node BatchContent
 
 -- what a node knows besides its batches
 pub record Core : Type 0 where
@@ -66,5 +66,5 @@ pub record HasOrderedNumbers (core : Core) : Type 0 where
   pub pending : IsInOrder 0 core.count core.pending
 
 -- each request is told that its batch is committed
-abbrev pub replies_of : List Waiting → List (Reply (List Edit))
+abbrev pub replies_of : List Waiting → List (Reply BatchContent)
 replies_of due = map (λ it. Committed it.request it.number) due

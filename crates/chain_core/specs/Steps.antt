@@ -1,7 +1,7 @@
 -- What a step leaves and sends once the store's part is done. (The words of `laws`.)
 use Rattle.std.specs.Prelude.{◌≡◌, ℕ, suc, ◌+◌, List, [], ◌∷◌, ◌++◌, length, Some, None}
 use Rattle.std.specs.Prelude.{if◌then◌else◌, nat_lt}
-use Rattle.kv_types.specs.declared.edit.Edit.{Edit}
+use Rattle.kv_types.specs.Content.{BatchContent}
 use Rattle.chain_model.specs.Configuration.{is_tail}
 use Rattle.chain_model.specs.Frames.{Frame}
 use Rattle.chain_model.specs.Lists.{place}
@@ -13,7 +13,7 @@ use Rattle.chain_core.specs.States.{Machine}
 use Rattle.chain_core.specs.Decisions.{done_of}
 
 -- its batches afterwards
-abbrev pub list_after : Machine → List Edit → Done → List (List Edit)
+abbrev pub list_after : Machine → BatchContent → Done → List BatchContent
 list_after n batch (done.Accepted request) = n.list ++ batch ∷ []
 list_after n batch done.Appended = n.list ++ batch ∷ []
 list_after n batch (done.Told committed have) = n.list
@@ -43,7 +43,7 @@ kept_after n done.Appended = n.kept
 kept_after n (done.Told committed have) = n.kept
 
 -- what it sends, by what the new machine has
-abbrev pub frames_after : ℕ → Machine → Done → Machine → List (Frame (List Edit))
+abbrev pub frames_after : ℕ → Machine → Done → Machine → List (Frame BatchContent)
 frames_after x old (done.Accepted request) new = forward x new (suc (length old.list))
 frames_after x old done.Appended new =
     forward x new (suc (length old.list)) ++ (if is_tail new.ids x then ack x new else [])
@@ -51,7 +51,7 @@ frames_after x old (done.Told committed have) new =
     if nat_lt old.committed committed then ack x new else []
 
 -- what outlives a stop is what each kind of step leaves of it, and these frames are sent
-pub record Leaves (x : ℕ) (n : Machine) (batch : List Edit) (d : Done) (a : Answer (List Edit))
+pub record Leaves (x : ℕ) (n : Machine) (batch : BatchContent) (d : Done) (a : Answer BatchContent)
     : Type 0 where
   pub list : a.node.list ≡ list_after n batch d
   pub epoch : a.node.epoch ≡ epoch_after n d
@@ -62,12 +62,12 @@ pub record Leaves (x : ℕ) (n : Machine) (batch : List Edit) (d : Done) (a : An
   pub dropped : a.dropped ≡ None
 
 abbrev pub StepsLeave : Type 0
-StepsLeave = (x : ℕ) (n : Machine) (batch : List Edit) (d : Done) →
+StepsLeave = (x : ℕ) (n : Machine) (batch : BatchContent) (d : Done) →
     Leaves x n batch d (done_of x n batch d)
 
 -- a batch that is taken stands at the next place
 abbrev pub StandsLast : Type 0
-StandsLast = (list : List (List Edit)) (batch : List Edit) →
+StandsLast = (list : List BatchContent) (batch : BatchContent) →
     place (list ++ batch ∷ []) (suc (length list)) ≡ Some batch
 
 -- of the batches that are sent again the last comes last

@@ -1,3 +1,4 @@
+// The rule for each input, by the numbers of the node that gets it.
 ghost use Rattle.std.specs.Prelude.{◌≡◌};
 ghost use Rattle.chain_core.specs.States.{Machine, Is};
 ghost use Rattle.chain_core.specs.Decisions.{Decides, HasRoomFor};

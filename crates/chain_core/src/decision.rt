@@ -1,3 +1,4 @@
+// What is decided of an input: the rule, with what it needs.
 use crate::DropReason;
 use kv_types::{Batch, Key, Number};
 use link_messages::Refusal;

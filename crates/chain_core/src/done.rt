@@ -1,3 +1,4 @@
+// What the store's part of a step did.
 use kv_types::Number;
 
 /// What was done of a decision that changes what a node knows: the store has the batch, where there

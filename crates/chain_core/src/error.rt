@@ -1,3 +1,4 @@
+// Why a state could not change.
 ghost use Rattle.std.specs.Prelude.{◌≡◌};
 ghost use Rattle.chain_core.specs.declared.error.CoreError.TheVariants.{Memory};
 

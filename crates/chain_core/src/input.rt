@@ -1,3 +1,4 @@
+// The inputs of a node: requests of clients, frames of neighbours, ticks.
 use configurations::{Epoch, NodeId};
 use kv_types::{Batch, Key, Number};
 

@@ -1,3 +1,4 @@
+// The requests that wait for their batches to be committed, in order of number.
 ghost use Rattle.std.specs.Prelude.{◌≡◌, ◌≤◌, ◌+◌, ◌++◌, length};
 ghost use Rattle.std.specs.Vec.{vec_len, vec_capacity};
 ghost use Rattle.chain_core.specs.Queues.{front, behind};

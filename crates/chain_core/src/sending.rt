@@ -1,3 +1,4 @@
+// The frames of a node: its acknowledgement, its batches, and those of a tick.
 ghost use Rattle.std.specs.Prelude.{◌≡◌, ◌<◌, ◌≤◌, ◌+◌, ◌-◌, Some, IsSome};
 ghost use Rattle.std.specs.Prelude.{option_to_list};
 ghost use Rattle.chain_model.specs.Configuration.{successor};

@@ -1,8 +1,9 @@
-ghost use Rattle.std.specs.Prelude.{◌≡◌, ◌<◌, ◌≤◌, suc, List, length, max, not};
+// What a node knows besides its batches, and how each step changes it.
+ghost use Rattle.std.specs.Prelude.{◌≡◌, ◌<◌, ◌≤◌, suc, length, max, not};
 ghost use Rattle.std.specs.Prelude.{if◌then◌else◌};
 ghost use Rattle.std.specs.Prelude.{IfOk, OnErr};
 ghost use Rattle.kv_types.specs.declared.bounds.TheConstants.{MAX_NUMBER};
-ghost use Rattle.kv_types.specs.declared.edit.Edit.{Edit};
+ghost use Rattle.kv_types.specs.Content.{BatchContent};
 ghost use Rattle.chain_model.specs.Configuration.{has, is_head, is_tail, predecessor, successor};
 ghost use Rattle.chain_model.specs.Node.{created, started};
 ghost use Rattle.chain_model.specs.Rules.{accept, append, pass_on};
@@ -209,7 +210,7 @@ impl CoreState {
     // The head has one more batch, for which a request waits. A tail commits it.
     fn accept(&mut self, alloc: Global, request: Number) -> Result<Vec<Waiting>, CoreError>
         requires { self.old.count < MAX_NUMBER }
-        ensures after { (n : Machine) (batch : List Edit) → Is self.old n →
+        ensures after { (n : Machine) (batch : BatchContent) → Is self.old n →
             IfOk result (λ due.
             Follows self.new (accept self.old.id n request batch) due.items) }
         ensures rises { self.old.committed ≤ self.new.committed }
@@ -230,7 +231,7 @@ impl CoreState {
     // The node has one more batch of its predecessor. A tail commits it.
     fn append(&mut self)
         requires { self.old.count < MAX_NUMBER }
-        ensures after { (n : Machine) (batch : List Edit) → Is self.old n →
+        ensures after { (n : Machine) (batch : BatchContent) → Is self.old n →
             Is self.new (append self.old.id n (suc (length n.list)) batch).node }
         ensures rises { self.old.committed ≤ self.new.committed }
         ensures same { self.new.id ≡ self.old.id }
@@ -267,7 +268,7 @@ impl CoreState {
     /// committed, in order of number.
     pub fn after(&mut self, alloc: Global, done: Done) -> Result<Vec<Waiting>, CoreError>
         requires { HasRoom self.old.count done }
-        ensures after { (n : Machine) (batch : List Edit) → Is self.old n →
+        ensures after { (n : Machine) (batch : BatchContent) → Is self.old n →
             IfOk result (λ due. Follows self.new (done_of self.old.id n batch done) due.items) }
         ensures rises { self.old.committed ≤ self.new.committed }
         ensures same { self.new.id ≡ self.old.id }

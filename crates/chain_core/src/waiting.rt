@@ -1,3 +1,4 @@
+// A request that waits for its batch to be committed.
 use kv_types::Number;
 
 /// A request whose batch has this number.

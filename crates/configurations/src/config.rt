@@ -1,3 +1,4 @@
+// A configuration: the nodes of a chain, from head to tail.
 ghost use Rattle.std.specs.Prelude.{◌≡◌, ◌⊎◌, ◌↔◌, IfOk, IfErr, IsFalse, true};
 ghost use Rattle.chain_model.specs.Configuration.{AllDifferent, has, is_head, is_tail};
 ghost use Rattle.chain_model.specs.Configuration.{predecessor, successor};

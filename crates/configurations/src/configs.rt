@@ -1,3 +1,4 @@
+// The configuration service's list: each configuration has fewer nodes than the last.
 ghost use Rattle.std.specs.Prelude.{◌≡◌, ◌<◌, ◌≤◌, length, nat_lt};
 ghost use Rattle.std.specs.Prelude.{IfOk, IfErr, IsTrue, MatchOption};
 ghost use Rattle.chain_model.specs.Configuration.{Lawful, at_epoch, is_part};

@@ -1,3 +1,4 @@
+// The place of a configuration in its list, from 0.
 ghost use Rattle.std.specs.Prelude.{◌≡◌, ◌≤◌, SomeIff};
 
 use std::marker::Model;

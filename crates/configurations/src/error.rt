@@ -1,3 +1,4 @@
+// The faults of a configuration, and of a list of them.
 ghost use Rattle.std.specs.Prelude.{◌≡◌};
 ghost use Rattle.configurations.specs.declared.error.ConfigError.TheVariants.{Memory};
 

@@ -1,3 +1,4 @@
+// The id of a node, from 1 to 65,535.
 ghost use Rattle.std.specs.Prelude.{◌≡◌, ◌≤◌, SomeIff};
 ghost use Rattle.chain_model.specs.Configuration.{IsId};
 

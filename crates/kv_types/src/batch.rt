@@ -1,3 +1,4 @@
+// Batches: lists of edits that apply at once, with one spelling in bytes.
 ghost use Rattle.std.specs.Prelude.{◌≡◌, ◌<◌, ◌≤◌, ◌⊎◌, ◌↔◌, List, ℕ, ◌++◌, length};
 ghost use Rattle.std.specs.Prelude.{IfOk, IfErr, Err, IsErrOf, OnOk};
 

@@ -1,3 +1,4 @@
+// Edits: a put of a value at a key, or a deletion.
 ghost use Rattle.std.specs.Prelude.{◌≡◌, IfOk, option_copied};
 
 use crate::{Key, Value};

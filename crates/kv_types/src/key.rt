@@ -1,3 +1,4 @@
+// Keys: byte strings of at most 1,024 bytes, in byte order.
 ghost use Rattle.std.specs.Prelude.{◌≡◌, ◌<◌, ◌≤◌, ◌↔◌, length, nat_eq, IfOk, IsOkUnless};
 ghost use Rattle.std.specs.Prelude.{IsTrue, Err, Some, List, ℕ, ◌++◌, ◌⊎◌, OnOk, IfErr, IsErrOf};
 ghost use Rattle.std.specs.Cmp.{partial_equiv_from_equiv};

@@ -1,3 +1,4 @@
+// The limits of a store that its user can set, with their defaults.
 ghost use Rattle.std.specs.Prelude.{◌≡◌, ◌↔◌, IfOk, IsOkUnless, IsOk};
 ghost use Rattle.kv_types.specs.Limits.{IsInRange};
 

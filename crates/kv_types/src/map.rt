@@ -1,3 +1,4 @@
+// Reads of the map that a list of batches gives.
 ghost use Rattle.std.specs.Prelude.{◌≡◌, option_copied, if◌then◌else◌};
 ghost use Rattle.std.specs.Str.{bytes_eq};
 ghost use Rattle.kv_types.specs.Maps.{key_of, left_by, map_of};

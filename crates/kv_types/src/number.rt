@@ -1,3 +1,4 @@
+// Numbers of batches and requests, from 0 to 2^63 - 1.
 ghost use Rattle.std.specs.Prelude.{◌≡◌, ◌+◌, ◌<◌, ◌≤◌, SomeIff};
 
 use crate::bounds::MAX_NUMBER;

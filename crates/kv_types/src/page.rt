@@ -1,3 +1,4 @@
+// Pages: the rows that answer a range, within the limits of an answer.
 ghost use Rattle.std.specs.Prelude.{◌≡◌};
 
 use crate::Row;

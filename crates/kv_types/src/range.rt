@@ -1,3 +1,4 @@
+// Ranges of keys, read forward or backward.
 ghost use Rattle.std.specs.Prelude.{◌≡◌, ◌⊎◌, ◌<◌, ◌≤◌, ◌↔◌, IfOk, IsTrue, IsOkUnless, Err};
 ghost use Rattle.std.specs.Prelude.{option_copied};
 

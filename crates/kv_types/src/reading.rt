@@ -1,3 +1,4 @@
+// Keys, values, edits and batches, read from their bytes.
 ghost use Rattle.std.specs.Prelude.{◌≡◌, ◌≤◌, length, IfOk};
 ghost use Rattle.kv_types.specs.Reading.{Gives, number_at, text_at, edit_at, edits_at, batch_at};
 ghost use Rattle.kv_types.specs.Reading.{batch_of};

@@ -1,3 +1,4 @@
+// A row: a key and its value.
 ghost use Rattle.std.specs.Prelude.{◌≡◌, IfOk};
 
 use crate::bounds::ROW_OVERHEAD;

@@ -1,3 +1,4 @@
+// Values: byte strings of at most 16,384 bytes.
 ghost use Rattle.std.specs.Prelude.{◌≡◌, ◌<◌, ◌≤◌, ◌↔◌, length, IfOk, IsOkUnless, Err};
 ghost use Rattle.std.specs.Prelude.{List, ℕ, ◌++◌, ◌⊎◌, OnOk, IfErr, IsErrOf};
 ghost use Rattle.kv_types.specs.Spelling.{text};

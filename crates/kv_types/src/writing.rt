@@ -1,3 +1,4 @@
+// Keys, values, edits and batches, written as bytes.
 ghost use Rattle.std.specs.Prelude.{◌≡◌, ◌≤◌, ◌<◌, ◌^◌, ◌++◌, ◌+◌, length, OnOk, All};
 ghost use Rattle.kv_types.specs.Spelling.{text, edit_text, spelling, IsEdit};
 

@@ -2,7 +2,7 @@
 use Rattle.std.proofs.Common.{◌≡◌, ℕ, List, map, Option, Some, None, refl, sym}
 use Rattle.std.proofs.Common.{ap, subst, ◌∙◌}
 use Rattle.std.proofs.lemmas.Bool.{cond-true, cond-false, false≢true}
-use Rattle.kv_types.specs.declared.edit.Edit.{Edit}
+use Rattle.kv_types.specs.Content.{BatchContent}
 use Rattle.disk.specs.declared.junk.Junk.{Junk}
 use Rattle.chain_model.specs.Configuration.{Configurations}
 use Rattle.chain_model.specs.Lists.{place}
@@ -36,10 +36,11 @@ use Rattle.lab.proofs.Happenings.{drop_tells}
 
 -- each kind tells of replies as the node does
 abbrev RepliesSo : What → Input → Type 0
-RepliesSo what inp = (r : request.Reply (List Edit)) → reply_line what r
+RepliesSo what inp = (r : request.Reply BatchContent) → reply_line what r
     ≡ map (λ reply. line.Replied reply) (told_as inp r)
 
-submit_replies : (x i : ℕ) (batch : List Edit) → RepliesSo (Submit x batch) (input.Submit i batch)
+submit_replies : (x i : ℕ) (batch : BatchContent) →
+    RepliesSo (Submit x batch) (input.Submit i batch)
 submit_replies x i batch (request.Committed j k) = refl
 submit_replies x i batch (request.Shows j s l) = refl
 submit_replies x i batch (request.Opened j s) = refl
@@ -54,7 +55,7 @@ get_replies x i key at (request.Opened j s) = refl
 get_replies x i key at (request.Closed j s) = refl
 get_replies x i key at (request.Refused j why) = refl
 
-forward_replies : (p epoch from number : ℕ) (batch : List Edit) →
+forward_replies : (p epoch from number : ℕ) (batch : BatchContent) →
     RepliesSo (Deliver p) (input.Forward epoch from number batch)
 forward_replies p epoch from number batch (request.Committed j k) = refl
 forward_replies p epoch from number batch (request.Shows j s l) = refl
@@ -77,16 +78,16 @@ tick_replies x (request.Opened j s) = refl
 tick_replies x (request.Closed j s) = refl
 tick_replies x (request.Refused j why) = refl
 
-module _ (cs : Configurations) (w : World (List Edit)) (i x : ℕ) (member : Member) (does : Did)
+module _ (cs : Configurations) (w : World BatchContent) (i x : ℕ) (member : Member) (does : Did)
   where
     -- a frame in a place is delivered to its addressee
-    to_addressee : (p : ℕ) (it : Frame) (f : ModelFrame (List Edit)) (choice : Choice) →
+    to_addressee : (p : ℕ) (it : Frame) (f : ModelFrame BatchContent) (choice : Choice) →
         place w.frames p ≡ Some f → frame_as x it ≡ Some f →
         outcome w cs (modelled i (Deliver p) choice) ≡ delivered w (frame_as x it) choice.went
     to_addressee p it f choice there same =
-        ap (λ (o : Option (ModelFrame (List Edit))). delivered w o choice.went) (there ∙ sym same)
+        ap (λ (o : Option (ModelFrame BatchContent)). delivered w o choice.went) (there ∙ sym same)
 
-    deliver : (p : ℕ) (it : Frame) (f : ModelFrame (List Edit)) → place w.frames p ≡ Some f →
+    deliver : (p : ℕ) (it : Frame) (f : ModelFrame BatchContent) → place w.frames p ≡ Some f →
         frame_as x it ≡ Some f → Happened x (w.nodes x) (coming_of it) member does →
         IsOutcome cs w i x (Deliver p) member does
     deliver p (frame.Forward epoch from number batch) f there same was =
@@ -182,15 +183,15 @@ module _ (cs : Configurations) (w : World (List Edit)) (i x : ℕ) (member : Mem
         (stop junk (subst (λ (k : Coming). Happened x (w.nodes x) k member does) brings.1 was))
 
 -- an event without a frame does nothing
-pub nothing_done : (cs : Configurations) (w : World (List Edit)) (i : ℕ) (what : What)
+pub nothing_done : (cs : Configurations) (w : World BatchContent) (i : ℕ) (what : What)
     (choice : Choice) → BringsNothing w.frames what →
     outcome w cs (modelled i what choice) ≡ nothing
 nothing_done cs w i what choice brings =
     ap (λ (e : What). outcome w cs (modelled i e choice)) brings.1
-    ∙ ap (λ (o : Option (ModelFrame (List Edit))). delivered w o choice.went) brings.2
+    ∙ ap (λ (o : Option (ModelFrame BatchContent)). delivered w o choice.went) brings.2
 
 -- the junk of a stop is what it comes with
-pub junk_same : (frames : List (ModelFrame (List Edit))) (i x : ℕ) (what : What) (comes : Coming) →
+pub junk_same : (frames : List (ModelFrame BatchContent)) (i x : ℕ) (what : What) (comes : Coming) →
     Brings frames i what x comes → junk_with comes ≡ junk_of what
 junk_same frames i x (Submit node batch) comes brings = ap junk_with brings.1
 junk_same frames i x (Get node key at) comes brings = ap junk_with brings.1

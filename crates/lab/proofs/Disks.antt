@@ -2,8 +2,7 @@
 use Rattle.std.proofs.Common.{◌≡◌, ℕ, ◌+◌, ◌^◌, ◌-◌, ◌<◌, ◌≤◌, Option, Some, None, false}
 use Rattle.std.proofs.Common.{cond, ◌==◌, refl, sym, subst, ◌∙◌, eq-eqb, eqb-true, arith}
 use Rattle.std.proofs.lemmas.Bool.{cond_both, cond-true, cond-false, false≢true}
-use Rattle.std.specs.Prelude.{List}
-use Rattle.kv_types.specs.declared.edit.Edit.{Edit}
+use Rattle.kv_types.specs.Content.{BatchContent}
 use Rattle.disk.specs.Calls.{Rises}
 use Rattle.disk.specs.declared.junk.Junk.{Junk}
 use Rattle.disk.specs.declared.junk.Junk.TheVariants.{Old}
@@ -103,7 +102,7 @@ module _ (old : Slots) (member : Member) (may : MayRise old) where
   rests_so (Resting disk) x n is off = tt
 
   -- what the node left is what the event's outcome leaves
-  pub follows : (event : Event) (choice : Choice) (o : Outcome (List Edit)) (x : ℕ) (n : Machine)
+  pub follows : (event : Event) (choice : Choice) (o : Outcome BatchContent) (x : ℕ) (n : Machine)
       (does : Did) → Is member x n → StopsSo event.what choice does o.stopped →
       DiskLeft (junk_of event.what) does old member →
       DiskFollows state failures event choice o n old (disk_in member)
@@ -139,7 +138,7 @@ pub disk_elsewhere : (disks : ℕ → Slots) (x : ℕ) (own : Slots) (y : ℕ) �
 disk_elsewhere disks x own y other = cond-false (y == x) own (disks y) other
 
 -- what the node that an event came to left is what the event leaves of all disks
-pub all_follow : (event : Event) (choice : Choice) (o : Outcome (List Edit)) (x : ℕ) (n : Machine)
+pub all_follow : (event : Event) (choice : Choice) (o : Outcome BatchContent) (x : ℕ) (n : Machine)
     (disks : ℕ → Slots) (own : Slots) → o.came_to ≡ Some (x, n) →
     DiskFollows state failures event choice o n (disks x) own →
     DisksFollow state failures event choice o disks (with_disk disks x own)
@@ -157,7 +156,7 @@ all_follow event choice o x n disks own came follow = record {
 }
 
 -- an event that came to none leaves them
-pub none_follow : (event : Event) (choice : Choice) (o : Outcome (List Edit)) (disks : ℕ → Slots) →
+pub none_follow : (event : Event) (choice : Choice) (o : Outcome BatchContent) (disks : ℕ → Slots) →
     o.came_to ≡ None → DisksFollow state failures event choice o disks disks
 none_follow event choice o disks none = record {
   at = λ x n is.

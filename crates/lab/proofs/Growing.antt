@@ -1,11 +1,12 @@
 -- One event more.
-use Rattle.std.proofs.Common.{◌≡◌, ℕ, suc, ◌+◌, ◌≤◌, List, [], ◌∷◌, ◌++◌, length, map, refl, sym, ap}
+use Rattle.std.proofs.Common.{◌≡◌, ℕ, suc, ◌+◌, ◌≤◌, List, [], ◌∷◌, ◌++◌, length, map, refl, sym}
+use Rattle.std.proofs.Common.{ap}
 use Rattle.std.proofs.Common.{ap₂}
 use Rattle.std.proofs.Common.{subst, ◌∙◌, length-append, arith}
 use Rattle.std.specs.Prelude.{All}
 use Rattle.std.specs.List.{AllZip}
 use Rattle.std.proofs.lemmas.Slice.Zip.{AllZip-long}
-use Rattle.kv_types.specs.declared.edit.Edit.{Edit}
+use Rattle.kv_types.specs.Content.{BatchContent}
 use Rattle.chain_model.specs.Configuration.{Configurations, at_epoch}
 use Rattle.chain_model.specs.World.{World, run, reached, beginning, happens, outcome}
 use Rattle.disk.specs.Memory.{Slots}
@@ -21,7 +22,7 @@ use Rattle.lab.specs.Worlds.{IsKept, IsSeated, HasMade, frames_told, frames_of_s
 
 -- one event more at the end
 module _ (cs : Configurations) (e : Event) (ch : Choice) where
-  pub run-push : (i k : ℕ) (es : List Event) (chs : List Choice) (w : World (List Edit)) →
+  pub run-push : (i k : ℕ) (es : List Event) (chs : List Choice) (w : World BatchContent) →
       length chs ≡ length es → k ≡ i + length es →
       run cs (modelled_from i (es ++ e ∷ []) (chs ++ ch ∷ [])) w ≡ happens cs
       (run cs (modelled_from i es chs) w) (modelled k e.what ch)
@@ -32,7 +33,7 @@ module _ (cs : Configurations) (e : Event) (ch : Choice) where
   run-push i k (f ∷ es) (c ∷ chs) w same at = run-push (suc i) k es chs
       (happens cs w (modelled i f.what c)) (omega arith) (omega arith)
 
-  pub told_from-push : (i k : ℕ) (es : List Event) (chs : List Choice) (w : World (List Edit)) →
+  pub told_from-push : (i k : ℕ) (es : List Event) (chs : List Choice) (w : World BatchContent) →
       length chs ≡ length es → k ≡ i + length es →
       let u = run cs (modelled_from i es chs) w in
       told_from cs i (es ++ e ∷ []) (chs ++ ch ∷ []) w ≡ told_from cs i es chs w ++ lines_of
@@ -48,7 +49,7 @@ module _ (cs : Configurations) (e : Event) (ch : Choice) where
       (told_from-push (suc i) k es chs (happens cs w (modelled i f.what c)) (omega arith)
       (omega arith))
 
-  pub fit-push : (i k : ℕ) (es : List Event) (chs : List Choice) (w : World (List Edit)) →
+  pub fit-push : (i k : ℕ) (es : List Event) (chs : List Choice) (w : World BatchContent) →
       length chs ≡ length es → k ≡ i + length es → AllFit cs i es chs w →
       let u = run cs (modelled_from i es chs) w in
       ChoiceFits e ch (outcome u cs (modelled k e.what ch)) →
@@ -65,7 +66,7 @@ module _ (cs : Configurations) (e : Event) (ch : Choice) where
         all.1 one,
   )
 
-  pub follow-push : (i k : ℕ) (es : List Event) (chs : List Choice) (w : World (List Edit))
+  pub follow-push : (i k : ℕ) (es : List Event) (chs : List Choice) (w : World BatchContent)
       (old disks new : ℕ → Slots) → length chs ≡ length es → k ≡ i + length es →
       AllFollow state failures cs i es chs w old disks →
       let u = run cs (modelled_from i es chs) w in
@@ -90,7 +91,7 @@ module _ (cs : Configurations) (e : Event) (ch : Choice) where
 
 -- each event has its lines
 pub length-told_from : (cs : Configurations) (i : ℕ) (es : List Event) (chs : List Choice)
-    (w : World (List Edit)) → length chs ≡ length es →
+    (w : World BatchContent) → length chs ≡ length es →
     length (told_from cs i es chs w) ≡ length es
 length-told_from cs i [] chs w same = refl
 length-told_from cs i (e ∷ es) [] w same = absurd (omega arith)
@@ -105,7 +106,7 @@ frames_told-push [] lines = omega arith
 frames_told-push (step ∷ steps) lines = omega (arith, frames_told-push steps lines)
 
 -- what the event in place i makes of a world, and its lines
-pub record Next (cs : Configurations) (w : World (List Edit)) (old : ℕ → Slots) (i : ℕ)
+pub record Next (cs : Configurations) (w : World BatchContent) (old : ℕ → Slots) (i : ℕ)
     (event : Event) (choice : Choice) (seats : List Seat) (posted : List Posted) (lines : List Line)
     : Type 0 where
   pub told : lines ≡ lines_of (length w.frames) event.what choice
@@ -123,7 +124,7 @@ pub record Next (cs : Configurations) (w : World (List Edit)) (old : ℕ → Slo
 module _ (cs : Configurations) (events : List Event) (steps : List (List Line))
     (seats : List Seat) (posted : List Posted) (made : HasMade seats posted cs events steps) where
   -- the world of the model so far
-  abbrev pub so_far : World (List Edit)
+  abbrev pub so_far : World BatchContent
   so_far = reached cs (modelled_from 1 events made.choices)
 
   -- there are as many steps as events
@@ -157,7 +158,7 @@ module _ (cs : Configurations) (events : List Event) (steps : List (List Line))
               ∙ sym (told_from-push cs event choice 1 i events made.choices (beginning cs)
               made.trace.one_each place);
         };
-        frames = subst (λ (v : World (List Edit)). AllZip IsKept more v.frames) (sym here)
+        frames = subst (λ (v : World BatchContent). AllZip IsKept more v.frames) (sym here)
             next.frames;
         sent = omega (
           arith,
@@ -180,6 +181,6 @@ module _ (cs : Configurations) (events : List Event) (steps : List (List Line))
               next.follow;
         };
         few = λ x. omega (arith, next.few x, at, length-append events (event ∷ []));
-        each = subst (λ (v : World (List Edit)). All (IsSeated v.nodes next.disks) now) (sym here)
+        each = subst (λ (v : World BatchContent). All (IsSeated v.nodes next.disks) now) (sym here)
             next.each;
       }

@@ -5,7 +5,7 @@ use Rattle.std.proofs.Common.{arith, option_map}
 use Rattle.std.proofs.lemmas.List.{map-append}
 use Rattle.std.specs.Prelude.{Bool, IfSome}
 use Rattle.std.proofs.lemmas.Bool.{cond-true, cond-false, false≢true}
-use Rattle.kv_types.specs.declared.edit.Edit.{Edit}
+use Rattle.kv_types.specs.Content.{BatchContent}
 use Rattle.chain_model.specs.Configuration.{Configurations}
 use Rattle.chain_model.specs.DropReason as model_reason
 use Rattle.chain_model.specs.Frames as model_frame
@@ -45,18 +45,18 @@ use Rattle.lab.specs.Worlds.{frames_of_step}
 -- ---- lines
 
 -- a frame that is sent is told as the model's
-told_so : (p to : ℕ) (it : Frame) (f : ModelFrame (List Edit)) → frame_as to it ≡ Some f →
+told_so : (p to : ℕ) (it : Frame) (f : ModelFrame BatchContent) → frame_as to it ≡ Some f →
     sent_as p to it ≡ frame_line p f
 told_so p to (frame.Forward epoch from number batch) f is =
-    subst (λ (o : Option (ModelFrame (List Edit))). IsTold o) is refl
+    subst (λ (o : Option (ModelFrame BatchContent)). IsTold o) is refl
   where
-    IsTold : Option (ModelFrame (List Edit)) → Type 0
+    IsTold : Option (ModelFrame BatchContent) → Type 0
     IsTold None = Unit {0}
     IsTold (Some g) = line.Forwarded p from to epoch number ≡ frame_line p g
 told_so p to (frame.Ack epoch from committed have) f is =
-    subst (λ (o : Option (ModelFrame (List Edit))). IsTold o) is refl
+    subst (λ (o : Option (ModelFrame BatchContent)). IsTold o) is refl
   where
-    IsTold : Option (ModelFrame (List Edit)) → Type 0
+    IsTold : Option (ModelFrame BatchContent) → Type 0
     IsTold None = Unit {0}
     IsTold (Some g) = line.Acknowledged p from to epoch committed have ≡ frame_line p g
 told_so p to (frame.Notice epoch config) f is = absurd (cc)
@@ -73,7 +73,7 @@ told_so p to (frame.Refused request why) f is = absurd (cc)
 told_so p to (frame.Closed request number) f is = absurd (cc)
 
 -- .. and so are all of them
-sent_so : (n : ℕ) (sent : List Sent) (frames : List (ModelFrame (List Edit))) →
+sent_so : (n : ℕ) (sent : List Sent) (frames : List (ModelFrame BatchContent)) →
     AreFrames sent frames → sent_lines n sent ≡ frame_lines n frames
 sent_so n [] [] are = refl
 sent_so n [] (f ∷ frames) are = absurd (cc)
@@ -98,7 +98,7 @@ counts_drop : (why : Option model_reason.DropReason) → frames_of_step (drop_li
 counts_drop None = refl
 counts_drop (Some why) = refl
 
-counts_frames : (n : ℕ) (frames : List (ModelFrame (List Edit))) →
+counts_frames : (n : ℕ) (frames : List (ModelFrame BatchContent)) →
     frames_of_step (frame_lines n frames) ≡ length frames
 counts_frames n [] = refl
 counts_frames n (model_frame.Forward to epoch from number batch ∷ frames) =
@@ -114,7 +114,7 @@ counts_replies (reply ∷ replies) = omega (arith, counts_replies replies)
 -- ---- outcomes
 
 -- a node that stops by itself stops for its device or for memory
-abbrev pub CauseFits : What → Choice → Outcome (List Edit) → Type 0
+abbrev pub CauseFits : What → Choice → Outcome BatchContent → Type 0
 CauseFits what choice o = o.stopped ≡ true → IfSome (cause_told what choice.cause) IsOfMachine
 
 -- the node stopped where its doing says so, with the cause that was chosen
@@ -125,7 +125,7 @@ StopsSo what choice (did.Stopped told) stopped =
     (stopped ≡ true) × (cause_told what choice.cause ≡ told)
 
 -- an event's outcome, told so: the node that it came to, and the member of the lab that this is now
-pub record IsOutcome (cs : Configurations) (w : World (List Edit)) (i x : ℕ) (what : What)
+pub record IsOutcome (cs : Configurations) (w : World BatchContent) (i x : ℕ) (what : What)
     (member : Member) (does : Did) : Type 0 where
   pub choice : Choice
   pub node : Machine
@@ -140,7 +140,7 @@ pub record IsOutcome (cs : Configurations) (w : World (List Edit)) (i x : ℕ) (
   pub ends : StopsSo what choice does (outcome w cs (modelled i what choice)).stopped
 
 -- what a node's doing is at an outcome
-pub record Tells (x : ℕ) (what : What) (choice : Choice) (does : Did) (o : Outcome (List Edit))
+pub record Tells (x : ℕ) (what : What) (choice : Choice) (does : Did) (o : Outcome BatchContent)
     : Type 0 where
   pub frames : AreFrames (sent_by does) o.frames
   pub told : (n : ℕ) → did_lines x n does ≡ lines_of n what choice o
@@ -151,19 +151,19 @@ pub record Tells (x : ℕ) (what : What) (choice : Choice) (does : Did) (o : Out
 abbrev pub chosen : Went → Cause → Choice
 chosen went cause = record { went = went; cause = cause }
 
-module _ (cs : Configurations) (w : World (List Edit)) (i x : ℕ) (what : What) (member : Member)
+module _ (cs : Configurations) (w : World BatchContent) (i x : ℕ) (what : What) (member : Member)
     (does : Did) where
   -- with this choice the outcome is this one
-  pub as_chosen : (choice : Choice) (o : Outcome (List Edit)) (n : Machine) →
+  pub as_chosen : (choice : Choice) (o : Outcome BatchContent) (n : Machine) →
       outcome w cs (modelled i what choice) ≡ o → o.came_to ≡ Some (x, n) → Is member x n →
       Tells x what choice does o → IsOutcome cs w i x what member does
   as_chosen choice o n is_o came is tells =
       let same = sym is_o in
-      let all = subst (λ (p : Outcome (List Edit)). Tells x what choice does p) same tells in
+      let all = subst (λ (p : Outcome BatchContent). Tells x what choice does p) same tells in
       record {
         choice = choice;
         node = n;
-        came = ap (λ (p : Outcome (List Edit)). p.came_to) is_o ∙ came;
+        came = ap (λ (p : Outcome BatchContent). p.came_to) is_o ∙ came;
         is = is;
         frames = all.frames;
         told = all.told;
@@ -175,12 +175,12 @@ module _ (cs : Configurations) (w : World (List Edit)) (i x : ℕ) (what : What)
 -- ---- answers and stops
 
 -- the lines of an answer, by what they tell of
-abbrev answered_lines : ℕ → Answer (List Edit) → List Reply → List Line
+abbrev answered_lines : ℕ → Answer BatchContent → List Reply → List Line
 answered_lines n a replies =
     drop_lines a.dropped
     ++ (frame_lines n a.frames ++ map (λ reply. line.Replied reply) replies)
 
-counts_answer : (n : ℕ) (a : Answer (List Edit)) (replies : List Reply) →
+counts_answer : (n : ℕ) (a : Answer BatchContent) (replies : List Reply) →
     frames_of_step (answered_lines n a replies) ≡ length a.frames
 counts_answer n a replies =
     let told = map (λ reply. line.Replied reply) replies in
@@ -194,7 +194,7 @@ counts_answer n a replies =
     )
 
 -- an input's answer is told as the model's
-module _ (x : ℕ) (what : What) (inp : Input) (choice : Choice) (a : Answer (List Edit))
+module _ (x : ℕ) (what : What) (inp : Input) (choice : Choice) (a : Answer BatchContent)
     (output : Output) (is : IsAnswer inp a output) where
   answer_lines : (n : ℕ) → did_lines x n (did.Answered output)
       ≡ answered_lines n a (replies_of inp a.replies)
@@ -245,8 +245,8 @@ drop_tells x what choice n why output is starts =
 -- ---- inputs
 
 -- what a read shows is told in one way
-shows_so : (inp : Input) (what : What) (replies : List (request.Reply (List Edit))) →
-    ((r : request.Reply (List Edit)) → reply_line what r
+shows_so : (inp : Input) (what : What) (replies : List (request.Reply BatchContent)) →
+    ((r : request.Reply BatchContent) → reply_line what r
     ≡ map (λ reply. line.Replied reply) (told_as inp r)) →
     reply_lines what replies ≡ map (λ reply. line.Replied reply) (replies_of inp replies)
 shows_so inp what [] each = refl
@@ -255,14 +255,14 @@ shows_so inp what (r ∷ replies) each =
     ∙ sym (map-append (λ reply. line.Replied reply) (told_as inp r) (replies_of inp replies))
 
 -- an input comes, as the model has it
-module _ (cs : Configurations) (w : World (List Edit)) (i x : ℕ) (what : What) (inp : Input)
+module _ (cs : Configurations) (w : World BatchContent) (i x : ℕ) (what : What) (inp : Input)
     (member : Member) (does : Did)
     (at : (choice : Choice) → outcome w cs (modelled i what choice)
     ≡ cond (w.nodes x).running (as_it_went x (w.nodes x) (answer_to x (w.nodes x) inp) choice.went)
     (answers x (at_rest (w.nodes x) inp)))
     (causes : (cause : Cause) → cause_told what cause ≡ Some cause)
-    (starts : (o : Outcome (List Edit)) → start_lines what o ≡ [])
-    (replies : (r : request.Reply (List Edit)) → reply_line what r
+    (starts : (o : Outcome BatchContent) → start_lines what o ≡ [])
+    (replies : (r : request.Reply BatchContent) → reply_line what r
     ≡ map (λ reply. line.Replied reply) (told_as inp r)) where
   runs : (choice : Choice) → (w.nodes x).running ≡ true → outcome w cs (modelled i what choice)
       ≡ as_it_went x (w.nodes x) (answer_to x (w.nodes x) inp) choice.went
@@ -273,7 +273,7 @@ module _ (cs : Configurations) (w : World (List Edit)) (i x : ℕ) (what : What)
   rests choice off = at choice ∙ cond-false _ _ _ off
 
   -- the node answers so
-  tells : (a : Answer (List Edit)) → (told : Told does (IsAnswer inp a)) →
+  tells : (a : Answer BatchContent) → (told : Told does (IsAnswer inp a)) →
       Tells x what (chosen Answered Disk) does (answers x a)
   tells a told = subst (λ (d : Did). Tells x what (chosen Answered Disk) d (answers x a))
       (sym told.1)
@@ -303,7 +303,8 @@ module _ (cs : Configurations) (w : World (List Edit)) (i x : ℕ) (what : What)
   given (Rests off is told) =
       as_chosen cs w i x what member does (chosen Answered Disk)
       (answers x (at_rest (w.nodes x) inp)) (at_rest (w.nodes x) inp).node
-      (rests (chosen Answered Disk) off) refl (subst (λ (n : Machine). Is member x n) (sym (rests_same inp)) is)
+      (rests (chosen Answered Disk) off) refl
+      (subst (λ (n : Machine). Is member x n) (sym (rests_same inp)) is)
       (tells (at_rest (w.nodes x) inp) told)
     where
       rests_same : (inp : Input) → (at_rest (w.nodes x) inp).node ≡ w.nodes x

@@ -4,7 +4,7 @@ use Rattle.std.proofs.Common.{refl, ap, arith}
 use Rattle.std.specs.List.{AllZip, AllByRecursion, flat_map}
 use Rattle.std.proofs.lemmas.Bool.{cond_both}
 use Rattle.std.proofs.lemmas.List.Elements.{All-from_recursion}
-use Rattle.kv_types.specs.declared.edit.Edit.{Edit}
+use Rattle.kv_types.specs.Content.{BatchContent}
 use Rattle.kv_types.specs.Maps.{map_of}
 use Rattle.chain_model.specs.Configuration.{Configurations}
 use Rattle.chain_model.specs.DropReason as reason
@@ -38,17 +38,17 @@ numbered_same i (event ∷ events) (ch ∷ chs) = one event.what (numbered_same 
         → numbered i (modelled i what ch ∷ modelled_from (suc i) events chs) ≡ modelled i what
         ch ∷ modelled_from (suc i) events chs
     one (Submit x batch) later
-        = ap (λ (l : List (ModelEvent (List Edit))). modelled i (Submit x batch) ch ∷ l) later
+        = ap (λ (l : List (ModelEvent BatchContent)). modelled i (Submit x batch) ch ∷ l) later
     one (Get x key at) later
-        = ap (λ (l : List (ModelEvent (List Edit))). modelled i (Get x key at) ch ∷ l) later
+        = ap (λ (l : List (ModelEvent BatchContent)). modelled i (Get x key at) ch ∷ l) later
     one (Deliver p) later
-        = ap (λ (l : List (ModelEvent (List Edit))). modelled i (Deliver p) ch ∷ l) later
+        = ap (λ (l : List (ModelEvent BatchContent)). modelled i (Deliver p) ch ∷ l) later
     one (Tick x) later
-        = ap (λ (l : List (ModelEvent (List Edit))). modelled i (Tick x) ch ∷ l) later
+        = ap (λ (l : List (ModelEvent BatchContent)). modelled i (Tick x) ch ∷ l) later
     one (Start x) later
-        = ap (λ (l : List (ModelEvent (List Edit))). modelled i (Start x) ch ∷ l) later
+        = ap (λ (l : List (ModelEvent BatchContent)). modelled i (Start x) ch ∷ l) later
     one (Stop x junk) later
-        = ap (λ (l : List (ModelEvent (List Edit))). modelled i (Stop x junk) ch ∷ l) later
+        = ap (λ (l : List (ModelEvent BatchContent)). modelled i (Stop x junk) ch ∷ l) later
 
 -- what the model's events hand in is what the events hand in
 pub handed_same : (i : ℕ) (events : List Event) (chs : List Choice) → length chs ≡ length events →
@@ -101,12 +101,12 @@ module _ (B : List Placed) (what : What) where
   if_start None (Some at) = (tt, tt)
   if_start (Some why) at = tt
 
-  sent : (n : ℕ) (frames : List (Frame (List Edit))) → Each (frame_lines n frames)
+  sent : (n : ℕ) (frames : List (Frame BatchContent)) → Each (frame_lines n frames)
   sent n [] = tt
   sent n (Forward to epoch from number batch ∷ frames) = (tt, sent (suc n) frames)
   sent n (Ack to epoch from committed have ∷ frames) = (tt, sent (suc n) frames)
 
-starts : (B : List Placed) (what : What) (o : Outcome (List Edit)) →
+starts : (B : List Placed) (what : What) (o : Outcome BatchContent) →
     Each B what (start_lines what o)
 starts B (Submit x batch) o = tt
 starts B (Get x key at) o = tt
@@ -116,18 +116,18 @@ starts B (Start x) o = if_start B (Start x) o.dropped o.came_to
 starts B (Stop x junk) o = tt
 
 -- a read's reply speaks of B where the model's does
-shown : (B : List Placed) (what : What) (i s : ℕ) (l : List (List Edit)) →
+shown : (B : List Placed) (what : What) (i s : ℕ) (l : List BatchContent) →
     Agrees B (Shows i s l) → Each B what (reply_line what (Shows i s l))
 shown B (Submit x batch) i s l agrees = tt
 shown B (Get x key at) i s l agrees =
-    ((agrees.0, ap (λ (m : List (List Edit)). map_of m key) agrees.1), tt)
+    ((agrees.0, ap (λ (m : List BatchContent). map_of m key) agrees.1), tt)
 shown B (Deliver p) i s l agrees = tt
 shown B (Tick x) i s l agrees = tt
 shown B (Start x) i s l agrees = tt
 shown B (Stop x junk) i s l agrees = tt
 
 -- a reply speaks of B where the model's does
-speaks : (B : List Placed) (what : What) (r : Reply (List Edit)) → Agrees B r →
+speaks : (B : List Placed) (what : What) (r : Reply BatchContent) → Agrees B r →
     Each B what (reply_line what r)
 speaks B what (Committed i n) agrees = (agrees, tt)
 speaks B what (Shows i s l) agrees = shown B what i s l agrees
@@ -135,7 +135,7 @@ speaks B what (Opened i s) agrees = tt
 speaks B what (Closed i s) agrees = tt
 speaks B what (Refused i why) agrees = (tt, tt)
 
-replied : (B : List Placed) (what : What) (replies : List (Reply (List Edit))) →
+replied : (B : List Placed) (what : What) (replies : List (Reply BatchContent)) →
     AllByRecursion (Agrees B) replies → Each B what (reply_lines what replies)
 replied B what [] agree = tt
 replied B what (r ∷ replies) agree =
@@ -144,7 +144,7 @@ replied B what (r ∷ replies) agree =
 
 -- the lines of an event at a node speak of B where the replies of its outcome do
 lines_speak_at : (B : List Placed) (x n : ℕ) (what : What) (choice : Choice)
-    (o : Outcome (List Edit)) → AllByRecursion (Agrees B) o.replies →
+    (o : Outcome BatchContent) → AllByRecursion (Agrees B) o.replies →
     Each B what (lines_at x n what choice o)
 lines_speak_at B x n what choice o agree =
     let Of = LineSpeaksOf B what in
@@ -160,15 +160,15 @@ lines_speak_at B x n what choice o agree =
 
 -- .. and so do those of one that came to none
 lines_speak : (B : List Placed) (at : Option (ℕ × Machine)) (n : ℕ) (what : What) (choice : Choice)
-    (o : Outcome (List Edit)) → AllByRecursion (Agrees B) o.replies →
+    (o : Outcome BatchContent) → AllByRecursion (Agrees B) o.replies →
     Each B what (lines_if at n what choice o)
 lines_speak B None n what choice o agree = (tt, tt)
 lines_speak B (Some at) n what choice o agree = lines_speak_at B at.0 n what choice o agree
 
 -- .. and so do those of all events
 pub all_speak : (B : List Placed) (cs : Configurations) (i : ℕ) (events : List Event)
-    (chs : List Choice) (w : World (List Edit)) → length chs ≡ length events
-    → AllByRecursion (Agrees B) (flat_map (λ (o : Outcome (List Edit)). o.replies)
+    (chs : List Choice) (w : World BatchContent) → length chs ≡ length events
+    → AllByRecursion (Agrees B) (flat_map (λ (o : Outcome BatchContent). o.replies)
     (outcomes cs (modelled_from i events chs) w))
     → AllZip (StepSpeaksOf B) events (told_from cs i events chs w)
 all_speak B cs i [] chs w same agree = tt
@@ -177,7 +177,7 @@ all_speak B cs i (event ∷ events) (ch ∷ chs) w same agree =
     let e = modelled i event.what ch in
     let o = outcome w cs e in
     let n = length w.frames in
-    let later = flat_map (λ (p : Outcome (List Edit)). p.replies)
+    let later = flat_map (λ (p : Outcome BatchContent). p.replies)
     (outcomes cs (modelled_from (suc i) events chs) (happens cs w e)) in (
       All-from_recursion (LineSpeaksOf B event.what) (lines_of n event.what ch o)
           (lines_speak B o.came_to n event.what ch o

@@ -6,7 +6,7 @@ use Rattle.std.specs.List.{AllZip, HoldsAt}
 use Rattle.std.proofs.lemmas.Option.{slice_get_past, slice_get_within, slice_get-get_or}
 use Rattle.std.proofs.lemmas.Option.{get_or_from_slice_get}
 use Rattle.std.proofs.lemmas.List.Elements.{All-get_or}
-use Rattle.kv_types.specs.declared.edit.Edit.{Edit}
+use Rattle.kv_types.specs.Content.{BatchContent}
 use Rattle.chain_model.specs.Lists.{place}
 use Rattle.chain_model.specs.Frames.{Frame as ModelFrame}
 use Rattle.lab.specs.declared.posted.Posted.{Posted}
@@ -47,7 +47,7 @@ place_at l p i x at within is =
     ∙ ap (λ y. Some y) (sym (is x))
 
 -- where nothing is kept the model has no frame
-pub none_kept : (posted : List Posted) (frames : List (ModelFrame (List Edit))) (p : ℕ) →
+pub none_kept : (posted : List Posted) (frames : List (ModelFrame BatchContent)) (p : ℕ) →
     AllZip IsKept posted frames → place posted p ≡ None → place frames p ≡ None
 none_kept [] [] p each none = refl
 none_kept [] (f ∷ frames) p each none = absurd each
@@ -61,13 +61,13 @@ none_kept (x ∷ posted) (f ∷ frames) (suc (suc p)) each none =
     none_kept posted frames (suc p) each.1 none
 
 -- a frame of the model that is kept so
-pub record Has (frames : List (ModelFrame (List Edit))) (p : ℕ) (posted : Posted) : Type 0 where
-  pub frame : ModelFrame (List Edit)
+pub record Has (frames : List (ModelFrame BatchContent)) (p : ℕ) (posted : Posted) : Type 0 where
+  pub frame : ModelFrame BatchContent
   pub there : place frames p ≡ Some frame
   pub kept : IsKept posted frame
 
 -- what is kept in a place is a frame of the model in that place
-pub some_kept : (posted : List Posted) (frames : List (ModelFrame (List Edit))) (p : ℕ)
+pub some_kept : (posted : List Posted) (frames : List (ModelFrame BatchContent)) (p : ℕ)
     (x : Posted) → AllZip IsKept posted frames → place posted p ≡ Some x → Has frames p x
 some_kept [] frames p x each is = absurd (none_some is)
   where

@@ -3,7 +3,7 @@ use Rattle.std.proofs.Common.{◌≡◌, ℕ, List, true, sym, subst, ◌∙◌}
 use Rattle.std.specs.Prelude.{All}
 use Rattle.std.specs.List.{AllZip, flat_map}
 use Rattle.std.proofs.lemmas.List.Elements.{All-weaker, recursion_from_All}
-use Rattle.kv_types.specs.declared.edit.Edit.{Edit}
+use Rattle.kv_types.specs.Content.{BatchContent}
 use Rattle.disk.specs.Memory.{Slots}
 use Rattle.disk.specs.State.{State}
 use Rattle.chain_model.specs.Configuration.{Configurations, has, last_of}
@@ -43,13 +43,13 @@ pub one_of : {D N : Type 0} (state : D → State) (failures : D → ℕ) (id : N
 one_of state failures id disk cs events choices steps nodes trace disks one made =
     let es = modelled_from 1 events choices in
     let same = numbered_same 1 events choices in
-    let agrees = subst (λ (l : List (ModelEvent (List Edit))). All (Agrees one.B)
+    let agrees = subst (λ (l : List (ModelEvent BatchContent)). All (Agrees one.B)
     (reached cs l).replies) same one.agrees in
-    let joined = flat_map (λ (o : Outcome (List Edit)). o.replies) (outcomes cs es (beginning cs))
+    let joined = flat_map (λ (o : Outcome BatchContent). o.replies) (outcomes cs es (beginning cs))
     in
     let replies = recursion_from_All (Agrees one.B) joined
-    (subst (λ (l : List (Reply (List Edit))). All (Agrees one.B) l) made.replies agrees) in
-    let begins = subst (λ (l : List (ModelEvent (List Edit))). (x : ℕ) → has (last_of cs) x ≡ true
+    (subst (λ (l : List (Reply BatchContent)). All (Agrees one.B) l) made.replies agrees) in
+    let begins = subst (λ (l : List (ModelEvent BatchContent)). (x : ℕ) → has (last_of cs) x ≡ true
     → Begins (batches one.B) (node_of cs l x).list) same one.stands in
     record {
       B = one.B;

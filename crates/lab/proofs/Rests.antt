@@ -1,6 +1,6 @@
 -- What a disk that crashed stands for.
-use Rattle.std.proofs.Common.{◌≡◌, ◌⊎◌, ℕ, List, inl, inr, sym, subst}
-use Rattle.kv_types.specs.declared.edit.Edit.{Edit}
+use Rattle.std.proofs.Common.{◌≡◌, ◌⊎◌, ℕ, inl, inr, sym, subst}
+use Rattle.kv_types.specs.Content.{BatchContent}
 use Rattle.disk.specs.declared.junk.Junk.{Junk}
 use Rattle.disk.specs.State.{Slot, State, Contents, contents, IsSure, SureIsLeft, MayLeave}
 use Rattle.disk.specs.Crashes.{Crashes, CrashedIsSure}
@@ -20,7 +20,7 @@ module _ (left_exactly : SureIsLeft) (always_sure : CrashedIsSure) where
       subst (λ (l : Contents). Rests l x (stopped n)) same r
 
   -- a crash leaves what stands for the node as before the step or as after it
-  pub rests_as : (junk : Junk) (old new : State) (x : ℕ) (n : Machine) (a : Answer (List Edit)) →
+  pub rests_as : (junk : Junk) (old new : State) (x : ℕ) (n : Machine) (a : Answer BatchContent) →
       Crashes junk old new → MayLeave old (contents new) → StopsAs old x n a →
       AlwaysRests new x (stopped n) ⊎ AlwaysRests new x (stopped a.node)
   rests_as junk old new x n a crashes allowed stops = elim (stops (contents new) allowed) [

@@ -5,7 +5,7 @@ use Rattle.std.proofs.Common.{arith}
 use Rattle.std.specs.List.{AllByRecursion}
 use Rattle.std.proofs.lemmas.Bool.{cond_both, cond-true, cond-false, false≢true}
 use Rattle.std.proofs.lemmas.List.Elements.{recursion_from_All}
-use Rattle.kv_types.specs.declared.edit.Edit.{Edit}
+use Rattle.kv_types.specs.Content.{BatchContent}
 use Rattle.chain_model.specs.Configuration.{has, AllDifferent}
 use Rattle.chain_model.specs.World.{World, Outcome, after}
 use Rattle.chain_core.specs.States.{Machine}
@@ -42,7 +42,8 @@ has_at (s ∷ seats) (suc k) d within =
     (λ b. b ≡ true) (λ same. refl) (λ other. has_at seats k d (omega arith))
 
 -- an event came to node x, which is n after it and has this disk
-module _ (w : World (List Edit)) (disks : ℕ → Slots) (o : Outcome (List Edit)) (x : ℕ) (n : Machine)
+module _ (w : World BatchContent) (disks : ℕ → Slots) (o : Outcome BatchContent) (x : ℕ)
+    (n : Machine)
     (own : Slots) (came : o.came_to ≡ Some (x, n)) where
   -- the disks then
   abbrev now_disks : ℕ → Slots
@@ -60,13 +61,15 @@ module _ (w : World (List Edit)) (disks : ℕ → Slots) (o : Outcome (List Edit
           (λ differs. differs)
 
   -- a node with another id is as it was
-  stays : (s : Seat) → (s.id == x) ≡ false → IsSeated w.nodes disks s → IsSeated (after w o).nodes now_disks s
+  stays : (s : Seat) → (s.id == x) ≡ false → IsSeated w.nodes disks s →
+      IsSeated (after w o).nodes now_disks s
   stays s other seated = record {
     is = subst (λ (m : Machine). Is s.member s.id m) (sym (elsewhere s.id other)) seated.is;
     disk = seated.disk ∙ sym (disk_elsewhere disks x own s.id other);
   }
 
-  stay : (seats : List Seat) → has (ids_of seats) x ≡ false → AllByRecursion (IsSeated w.nodes disks) seats →
+  stay : (seats : List Seat) → has (ids_of seats) x ≡ false →
+      AllByRecursion (IsSeated w.nodes disks) seats →
       AllByRecursion (IsSeated (after w o).nodes now_disks) seats
   stay [] none all = tt
   stay (s ∷ seats) none all =
@@ -96,7 +99,8 @@ module _ (w : World (List Edit)) (disks : ℕ → Slots) (o : Outcome (List Edit
       let among = subst (λ (y : ℕ). has (ids_of seats) y ≡ true) was
       (has_at seats k now (omega arith)) in
       cond_both (s.id == x) true true
-      (λ b. AllByRecursion (IsSeated (after w o).nodes now_disks) (slice_set (s ∷ seats) (suc k) now))
+      (λ b. AllByRecursion (IsSeated (after w o).nodes now_disks)
+      (slice_set (s ∷ seats) (suc k) now))
       (λ same. absurd (false≢true (sym (subst (λ (y : ℕ). has (ids_of seats) y ≡ false)
       (eqb-true s.id x same) differ.0) ∙ among)))
       (λ other. (

@@ -1,5 +1,6 @@
 -- A step of the lab's world is a step of the model's.
-use Rattle.std.proofs.Common.{◌≡◌, ℕ, ◌+◌, ◌≤◌, List, [], ◌∷◌, ◌++◌, length, get_or, slice_set, true}
+use Rattle.std.proofs.Common.{◌≡◌, ℕ, ◌+◌, ◌≤◌, List, [], ◌∷◌, ◌++◌, length, get_or, slice_set}
+use Rattle.std.proofs.Common.{true}
 use Rattle.std.proofs.Common.{refl, sym, ap, subst, ◌∙◌, arith, append-nil}
 use Rattle.std.proofs.Math.Seq.{map-set_same}
 use Rattle.std.specs.Prelude.{All, Option, Some, None, MatchOption}
@@ -9,7 +10,7 @@ use Rattle.std.specs.List.{AllZip, AllByRecursion}
 use Rattle.std.proofs.lemmas.List.Elements.{recursion_from_All, All-from_recursion}
 use Rattle.std.proofs.lemmas.Slice.Zip.{AllZip-long}
 use Rattle.kv_types.specs.declared.bounds.TheConstants.{MAX_NUMBER}
-use Rattle.kv_types.specs.declared.edit.Edit.{Edit}
+use Rattle.kv_types.specs.Content.{BatchContent}
 use Rattle.disk.specs.declared.junk.Junk.{Junk}
 use Rattle.disk.specs.Memory.{Slots}
 use Rattle.chain_model.specs.Configuration.{Configurations, Lawful, AllDifferent, has}
@@ -47,7 +48,7 @@ use Rattle.lab.proofs.Addressees.{IsNumbered, addressed, all_numbered, back, kep
 
 -- what an event brings, by the frames that are kept
 abbrev pub Brought : List Posted → ℕ → What → Option Arrival → Type 0
-Brought posted i what found = (frames : List (ModelFrame (List Edit))) →
+Brought posted i what found = (frames : List (ModelFrame BatchContent)) →
     AllZip IsKept posted frames → MatchOption found (BringsNothing frames what)
     (λ it. Brings frames i what it.to it.coming)
 
@@ -74,7 +75,7 @@ place_of world cs events steps run n i long fits is = record {
 
 -- in every run frames are in order
 abbrev pub AlwaysInOrder : Type 0
-AlwaysInOrder = (cs : Configurations) (es : List (ModelEvent (List Edit))) → Lawful cs →
+AlwaysInOrder = (cs : Configurations) (es : List (ModelEvent BatchContent)) → Lawful cs →
     InOrder cs es
 
 module _ (in_order : AlwaysInOrder) (cs : Configurations) (events : List Event)
@@ -82,7 +83,7 @@ module _ (in_order : AlwaysInOrder) (cs : Configurations) (events : List Event)
     (made : HasMade seats posted cs events steps) (i : ℕ) (next : IsNext events i)
     (event : Event) where
   -- the world of the model so far
-  abbrev pub w : World (List Edit)
+  abbrev pub w : World BatchContent
   w = reached cs (modelled_from 1 events made.choices)
 
   -- what the event sends is numbered
@@ -93,7 +94,7 @@ module _ (in_order : AlwaysInOrder) (cs : Configurations) (events : List Event)
       let here = run-push cs event choice 1 i events made.choices (beginning cs)
       made.trace.one_each (omega (arith, next.at)) in
       back IsNumbered w.frames (outcome w cs (modelled i event.what choice)).frames
-      (subst (λ (v : World (List Edit)). AllByRecursion IsNumbered v.frames) here
+      (subst (λ (v : World BatchContent). AllByRecursion IsNumbered v.frames) here
       (all_numbered cs more (in_order cs more made.lawful)))
 
   -- the node that an event is for has a seat
@@ -210,18 +211,19 @@ module _ (in_order : AlwaysInOrder) (cs : Configurations) (events : List Event)
         told = ap (lines_of (length w.frames) event.what choice) (sym none);
         fits = record {
           cause = λ stops. absurd (false≢true
-              (ap (λ (o : Outcome (List Edit)). o.stopped) (sym none) ∙ stops));
+              (ap (λ (o : Outcome BatchContent). o.stopped) (sym none) ∙ stops));
         };
-        counted = ap (λ (o : Outcome (List Edit)). length o.frames) (sym none);
-        frames = subst (λ (v : World (List Edit)). AllZip IsKept posted v.frames) same
-            (subst (λ (l : List (ModelFrame (List Edit))). AllZip IsKept posted l)
+        counted = ap (λ (o : Outcome BatchContent). length o.frames) (sym none);
+        frames = subst (λ (v : World BatchContent). AllZip IsKept posted v.frames) same
+            (subst (λ (l : List (ModelFrame BatchContent)). AllZip IsKept posted l)
             (sym (append-nil w.frames)) made.frames);
         nodes = made.nodes;
         disks = made.disks;
         follow = none_follow event choice (outcome w cs (modelled i event.what choice)) made.disks
-            (ap (λ (o : Outcome (List Edit)). o.came_to) none);
+            (ap (λ (o : Outcome BatchContent). o.came_to) none);
         few = λ x. omega (arith, made.few x, next.at);
-        each = subst (λ (v : World (List Edit)). All (IsSeated v.nodes made.disks) seats) same made.each;
+        each = subst (λ (v : World BatchContent). All (IsSeated v.nodes made.disks) seats) same
+            made.each;
       })
 
   -- the same, by what an event was found to bring

@@ -1,7 +1,7 @@
 -- What comes to a node of the lab, and what the node then does.
 use Rattle.std.specs.Prelude.{◌≡◌, ◌⊎◌, ℕ, List, [], ◌∷◌, ◌++◌, length, map, option_map, Option}
 use Rattle.std.specs.Prelude.{Some, None, suc, true, false}
-use Rattle.kv_types.specs.declared.edit.Edit.{Edit}
+use Rattle.kv_types.specs.Content.{BatchContent}
 use Rattle.disk.specs.declared.junk.Junk.{Junk}
 use Rattle.disk.specs.declared.junk.Junk.TheVariants.{Old}
 use Rattle.disk.specs.Calls.{Rises}
@@ -62,16 +62,16 @@ abbrev pub IsPostedAt : List Posted → ℕ → Posted → Type 0
 IsPostedAt frames p posted = place frames p ≡ Some posted
 
 -- a frame of the world in this place is for node x, and is this to it
-pub record IsDelivered (frames : List (model_frame.Frame (List Edit))) (p x : ℕ) (comes : Coming)
+pub record IsDelivered (frames : List (model_frame.Frame BatchContent)) (p x : ℕ) (comes : Coming)
     : Type 0 where
-  pub frame : model_frame.Frame (List Edit)
+  pub frame : model_frame.Frame BatchContent
   pub there : place frames p ≡ Some frame
   pub it : Frame
   pub same : frame_as x it ≡ Some frame
   pub is : comes ≡ coming_of it
 
 -- the event in place i lets this come to node x, after these frames
-abbrev pub Brings : List (model_frame.Frame (List Edit)) → ℕ → What → ℕ → Coming → Type 0
+abbrev pub Brings : List (model_frame.Frame BatchContent) → ℕ → What → ℕ → Coming → Type 0
 Brings frames i (Submit node batch) x comes =
     (x ≡ node) × (comes ≡ coming.Given (input.Submit i batch))
 Brings frames i (Get node key at) x comes =
@@ -82,13 +82,13 @@ Brings frames i (Start node) x comes = (x ≡ node) × (comes ≡ coming.Start)
 Brings frames i (Stop node junk) x comes = (x ≡ node) × (comes ≡ coming.Stop junk)
 
 -- the event is a delivery, and no frame has its place
-abbrev pub BringsNothing : List (model_frame.Frame (List Edit)) → What → Type 0
+abbrev pub BringsNothing : List (model_frame.Frame BatchContent) → What → Type 0
 BringsNothing frames what = (p : ℕ) × (what ≡ Deliver p) × IsNowhere frames p
 
 -- ---- what a node answers
 
 -- the answer of a node that does not run: a client is refused, all else is dropped
-abbrev pub at_rest : Machine → Input → Answer (List Edit)
+abbrev pub at_rest : Machine → Input → Answer BatchContent
 at_rest n (input.Submit i batch) = refused n i model_refusal.NotRunning
 at_rest n (input.Get i key at) = refused n i model_refusal.NotRunning
 at_rest n (input.Forward epoch from number batch) = dropped_for n model_reason.NotRunning
@@ -96,7 +96,7 @@ at_rest n (input.Ack epoch from committed have) = dropped_for n model_reason.Not
 at_rest n input.Tick = dropped_for n model_reason.NotRunning
 
 -- what is told to have been dropped, sent and replied is what this answer of the machine has
-pub record IsAnswer (inp : Input) (a : Answer (List Edit)) (output : Output) : Type 0 where
+pub record IsAnswer (inp : Input) (a : Answer BatchContent) (output : Output) : Type 0 where
   pub dropped : output.dropped ≡ option_map reason_of a.dropped
   pub frames : AreFrames output.frames.items a.frames
   pub replied : output.replies.items ≡ replies_of inp a.replies

@@ -1,7 +1,7 @@
 -- What a run leaves of its nodes' disks, event by event.
 use Rattle.std.specs.Prelude.{◌≡◌, ℕ, suc, ◌+◌, List, [], ◌∷◌, map, Option, Some, None, true, false}
 use Rattle.std.specs.Prelude.{All}
-use Rattle.kv_types.specs.declared.edit.Edit.{Edit}
+use Rattle.kv_types.specs.Content.{BatchContent}
 use Rattle.disk.specs.declared.junk.Junk.{Junk}
 use Rattle.disk.specs.declared.junk.Junk.TheVariants.{Old}
 use Rattle.disk.specs.Crashes.{Crashes}
@@ -50,7 +50,7 @@ IsStopOf state failures None cause old new = IsEndOf state failures cause old ne
 
 -- what an event leaves of the disk of the node that it came to, which is n after it
 pub record DiskFollows {D : Type 0} (state : D → State) (failures : D → ℕ) (event : Event)
-    (choice : Choice) (o : model.Outcome (List Edit)) (n : Machine) (old new : D) : Type 0 where
+    (choice : Choice) (o : model.Outcome BatchContent) (n : Machine) (old new : D) : Type 0 where
   pub stops : o.stopped ≡ true →
       IsStopOf state failures (junk_of event.what) choice.cause old new
   -- where the node did not stop, no call of its disk failed
@@ -60,14 +60,14 @@ pub record DiskFollows {D : Type 0} (state : D → State) (failures : D → ℕ)
 
 -- what an event leaves of all disks, by the ids of their nodes
 pub record DisksFollow {D : Type 0} (state : D → State) (failures : D → ℕ) (event : Event)
-    (choice : Choice) (o : model.Outcome (List Edit)) (old new : ℕ → D) : Type 0 where
+    (choice : Choice) (o : model.Outcome BatchContent) (old new : ℕ → D) : Type 0 where
   pub at : (x : ℕ) (n : Machine) → o.came_to ≡ Some (x, n) →
       DiskFollows state failures event choice o n (old x) (new x)
   pub others : (x : ℕ) → ((n : Machine) → o.came_to ≡ Some (x, n) → ⊥) → new x ≡ old x
 
 -- what the events from place i on leave of all disks, one event after another, from a world on
 abbrev pub AllFollow : {D : Type 0} → (D → State) → (D → ℕ) → Configurations → ℕ → List Event
-    → List Choice → model.World (List Edit) → (ℕ → D) → (ℕ → D) → Type 0
+    → List Choice → model.World BatchContent → (ℕ → D) → (ℕ → D) → Type 0
 AllFollow state failures cs i [] choices w old new = new ≡ old
 AllFollow state failures cs i (event ∷ events) [] w old new = ⊥
 AllFollow {D} state failures cs i (event ∷ events) (choice ∷ choices) w old new =

@@ -2,7 +2,7 @@
 use Rattle.std.specs.Prelude.{◌≡◌, ℕ, suc, List, [], ◌∷◌, ◌++◌, length, Option, Some, None}
 use Rattle.std.specs.Prelude.{IfSome, true, if◌then◌else◌, All}
 use Rattle.std.specs.List.{flat_map}
-use Rattle.kv_types.specs.declared.edit.Edit.{Edit}
+use Rattle.kv_types.specs.Content.{BatchContent}
 use Rattle.kv_types.specs.Maps.{map_of}
 use Rattle.chain_model.specs.Configuration.{Configurations, has, at_epoch}
 use Rattle.chain_model.specs.DropReason as model_reason
@@ -39,7 +39,7 @@ abbrev pub NamesNodes : Configurations → List Event → Type 0
 NamesNodes cs events = All (λ event. NamesNode cs event.what) events
 
 -- the event in place i, as the model has it, by what was chosen in it
-abbrev pub modelled : ℕ → What → Choice → model.Event (List Edit)
+abbrev pub modelled : ℕ → What → Choice → model.Event BatchContent
 modelled i (Submit node batch) choice =
     model.Ask node i (model_request.Submit batch) choice.went
 modelled i (Get node key at) choice = model.Ask node i (model_request.Read at) choice.went
@@ -62,7 +62,7 @@ if_started None None = []
 if_started None (Some at) = start_line at.0 at.1 ∷ []
 if_started (Some why) at = []
 
-abbrev pub start_lines : What → model.Outcome (List Edit) → List Line
+abbrev pub start_lines : What → model.Outcome BatchContent → List Line
 start_lines (Start node) o = if_started o.dropped o.came_to
 start_lines (Submit node batch) o = []
 start_lines (Get node key at) o = []
@@ -71,19 +71,19 @@ start_lines (Tick node) o = []
 start_lines (Stop node junk) o = []
 
 -- a frame that is sent is told with its place among all, from 1
-abbrev pub frame_line : ℕ → model_frame.Frame (List Edit) → Line
+abbrev pub frame_line : ℕ → model_frame.Frame BatchContent → Line
 frame_line place (model_frame.Forward to epoch from number batch) =
     line.Forwarded place from to epoch number
 frame_line place (model_frame.Ack to epoch from committed have) =
     line.Acknowledged place from to epoch committed have
 
 -- the frames that are sent after so many others
-abbrev pub frame_lines : ℕ → List (model_frame.Frame (List Edit)) → List Line
+abbrev pub frame_lines : ℕ → List (model_frame.Frame BatchContent) → List Line
 frame_lines sent [] = []
 frame_lines sent (frame ∷ frames) = frame_line (suc sent) frame ∷ frame_lines (suc sent) frames
 
 -- a read is told what its key has in the map of the batches that it shows
-abbrev pub value_lines : What → ℕ → ℕ → List (List Edit) → List Line
+abbrev pub value_lines : What → ℕ → ℕ → List BatchContent → List Line
 value_lines (Get node key at) i s batches =
     line.Replied (reply.Value i s (map_of batches key)) ∷ []
 value_lines (Submit node batch) i s batches = []
@@ -92,7 +92,7 @@ value_lines (Tick node) i s batches = []
 value_lines (Start node) i s batches = []
 value_lines (Stop node junk) i s batches = []
 
-abbrev pub reply_line : What → model_request.Reply (List Edit) → List Line
+abbrev pub reply_line : What → model_request.Reply BatchContent → List Line
 reply_line what (model_request.Committed i k) = line.Replied (reply.Committed i k) ∷ []
 reply_line what (model_request.Shows i s batches) = value_lines what i s batches
 reply_line what (model_request.Opened i s) = []
@@ -100,7 +100,7 @@ reply_line what (model_request.Closed i s) = []
 reply_line what (model_request.Refused i why) =
     line.Replied (reply.Refused i (refusal_of why)) ∷ []
 
-abbrev pub reply_lines : What → List (model_request.Reply (List Edit)) → List Line
+abbrev pub reply_lines : What → List (model_request.Reply BatchContent) → List Line
 reply_lines what replies = flat_map (reply_line what) replies
 
 -- a node that stops by itself tells the cause
@@ -114,25 +114,25 @@ cause_told (Start node) cause = Some cause
 
 -- the lines of an event that came to node x: why it was dropped, then a start, then frames, then
 -- replies
-abbrev pub lines_at : ℕ → ℕ → What → Choice → model.Outcome (List Edit) → List Line
+abbrev pub lines_at : ℕ → ℕ → What → Choice → model.Outcome BatchContent → List Line
 lines_at x sent what choice o =
     if o.stopped then line.Stopped x (cause_told what choice.cause) ∷ []
     else drop_lines o.dropped ++ (start_lines what o
     ++ (frame_lines sent o.frames ++ reply_lines what o.replies))
 
 -- the lines of an event, after so many frames
-abbrev pub lines_if : Option (ℕ × Machine) → ℕ → What → Choice → model.Outcome (List Edit)
+abbrev pub lines_if : Option (ℕ × Machine) → ℕ → What → Choice → model.Outcome BatchContent
     → List Line
 lines_if None sent what choice o = line.Nothing ∷ []
 lines_if (Some at) sent what choice o = lines_at at.0 sent what choice o
 
 -- the lines that tell what an event did after so many frames, and of a node that stopped by itself
 -- why
-abbrev pub lines_of : ℕ → What → Choice → model.Outcome (List Edit) → List Line
+abbrev pub lines_of : ℕ → What → Choice → model.Outcome BatchContent → List Line
 lines_of sent what choice o = lines_if o.came_to sent what choice o
 
 -- What was chosen fits the event and its outcome. An event that bears a fault is as one without.
-pub record ChoiceFits (event : Event) (choice : Choice) (o : model.Outcome (List Edit)) : Type 0
+pub record ChoiceFits (event : Event) (choice : Choice) (o : model.Outcome BatchContent) : Type 0
   where
     -- a node stops by itself for its device or for memory alone
     pub cause : o.stopped ≡ true → IfSome (cause_told event.what choice.cause) IsOfMachine

@@ -2,7 +2,7 @@
 use Rattle.std.specs.Prelude.{◌≡◌, ℕ, suc, ◌≤◌, List, [], ◌∷◌, length, take, Option, Some, true}
 use Rattle.std.specs.Prelude.{All}
 use Rattle.std.specs.List.{AllZip}
-use Rattle.kv_types.specs.declared.edit.Edit.{Edit}
+use Rattle.kv_types.specs.Content.{BatchContent}
 use Rattle.kv_types.specs.Maps.{map_of}
 use Rattle.disk.specs.State.{State, Contents, MayLeave}
 use Rattle.chain_model.specs.Lists.{Begins, Part, place}
@@ -22,7 +22,7 @@ use Rattle.lab.specs.Members.{state}
 
 -- a batch with the place of its event
 abbrev pub Placed : Type 0
-Placed = ℕ × List Edit
+Placed = ℕ × BatchContent
 
 -- the batches that events hand in, the first event being in place i
 abbrev pub with_batch : ℕ → What → List Placed → List Placed
@@ -49,7 +49,7 @@ ShowsOf B (Stop node junk) s value = ⊥
 
 -- an acknowledgement of n to request i says that place n of B is the batch of event i
 abbrev pub SpeaksOf : List Placed → What → Reply → Type 0
-SpeaksOf B what (Committed i n) = (batch : List Edit) × (place B n ≡ Some (i, batch))
+SpeaksOf B what (Committed i n) = (batch : BatchContent) × (place B n ≡ Some (i, batch))
 SpeaksOf B what (Value i s value) = ShowsOf B what s value
 SpeaksOf B what (Refused i refusal) = Unit {0}
 
@@ -69,7 +69,7 @@ StepSpeaksOf B event lines = All (LineSpeaksOf B event.what) lines
 -- whatever a crash leaves of node x's disk represents the node with a list that begins with B
 abbrev pub HasAll : List Placed → ℕ → State → Type 0
 HasAll B x disk = (left : Contents) → MayLeave disk left →
-    (epoch : ℕ) × (ids : List ℕ) × (list : List (List Edit)) × (floor : ℕ) × (kept : ℕ)
+    (epoch : ℕ) × (ids : List ℕ) × (list : List BatchContent) × (floor : ℕ) × (kept : ℕ)
     × DiskRepresents left x epoch ids list floor kept × Begins (batches B) list
 
 -- There is one list B ..

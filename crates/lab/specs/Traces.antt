@@ -1,6 +1,6 @@
 -- Events and the lines of each, as a run of the model by what was chosen in each.
 use Rattle.std.specs.Prelude.{◌≡◌, ℕ, suc, List, [], ◌∷◌, length}
-use Rattle.kv_types.specs.declared.edit.Edit.{Edit}
+use Rattle.kv_types.specs.Content.{BatchContent}
 use Rattle.chain_model.specs.Configuration.{Configurations}
 use Rattle.chain_model.specs.World as model
 use Rattle.lab.specs.declared.event.Event.{Event}
@@ -9,14 +9,14 @@ use Rattle.lab.specs.Events.{modelled, lines_of, ChoiceFits}
 use Rattle.lab.specs.Members.{Choice}
 
 -- the events from place i on, as the model has them, by what was chosen in each
-abbrev pub modelled_from : ℕ → List Event → List Choice → List (model.Event (List Edit))
+abbrev pub modelled_from : ℕ → List Event → List Choice → List (model.Event BatchContent)
 modelled_from i [] choices = []
 modelled_from i (event ∷ events) [] = []
 modelled_from i (event ∷ events) (choice ∷ choices) =
     modelled i event.what choice ∷ modelled_from (suc i) events choices
 
 -- the lines of each of them, from a world on
-abbrev pub told_from : Configurations → ℕ → List Event → List Choice → model.World (List Edit)
+abbrev pub told_from : Configurations → ℕ → List Event → List Choice → model.World BatchContent
     → List (List Line)
 told_from cs i [] choices w = []
 told_from cs i (event ∷ events) [] w = []
@@ -26,7 +26,7 @@ told_from cs i (event ∷ events) (choice ∷ choices) w =
     ∷ told_from cs (suc i) events choices (model.happens cs w e)
 
 -- what was chosen fits each of them, from a world on
-abbrev pub AllFit : Configurations → ℕ → List Event → List Choice → model.World (List Edit)
+abbrev pub AllFit : Configurations → ℕ → List Event → List Choice → model.World BatchContent
     → Type 0
 AllFit cs i [] choices w = Unit {0}
 AllFit cs i (event ∷ events) [] w = ⊥

@@ -2,7 +2,7 @@
 use Rattle.std.specs.Prelude.{◌≡◌, ℕ, ◌+◌, ◌≤◌, List, [], ◌∷◌, ◌++◌, length, map, Some}
 use Rattle.std.specs.Prelude.{All, true, ◌≢◌, ◌<◌, get_or, slice_set}
 use Rattle.std.specs.List.{AllZip, HoldsAt}
-use Rattle.kv_types.specs.declared.edit.Edit.{Edit}
+use Rattle.kv_types.specs.Content.{BatchContent}
 use Rattle.chain_model.specs.Configuration.{Configurations, Lawful, at_epoch}
 use Rattle.chain_model.specs.Frames as model_frame
 use Rattle.chain_model.specs.Node.{created}
@@ -50,7 +50,7 @@ frames_told [] = 0
 frames_told (step ∷ steps) = frames_of_step step + frames_told steps
 
 -- a frame of the model is kept: its addressee, and its bytes
-pub record IsKept (posted : Posted) (frame : model_frame.Frame (List Edit)) : Type 0 where
+pub record IsKept (posted : Posted) (frame : model_frame.Frame BatchContent) : Type 0 where
   pub it : Frame
   pub same : frame_as posted.to it ≡ Some frame
   pub lawful : IsFrame it

@@ -1,6 +1,7 @@
+// Which node an event is for, and the input that it brings.
 ghost use Rattle.std.specs.Prelude.{List, IfOk, MatchOption};
 ghost use Rattle.std.specs.List.{AllZip};
-ghost use Rattle.kv_types.specs.declared.edit.Edit.{Edit};
+ghost use Rattle.kv_types.specs.Content.{BatchContent};
 ghost use Rattle.chain_model.specs.Frames.{Frame};
 ghost use Rattle.lab.specs.Comings.{Brings, BringsNothing};
 ghost use Rattle.lab.specs.Worlds.{IsKept};
@@ -20,7 +21,7 @@ pub fn brought(
     request: Number,
     what: &What,
 ) -> Result<Option<Arrival>, LabError>
-    ensures { (frames : List (Frame (List Edit))) → AllZip IsKept posted.now frames →
+    ensures { (frames : List (Frame BatchContent)) → AllZip IsKept posted.now frames →
         IfOk result (λ found. MatchOption found (BringsNothing frames what.now)
         (λ it. Brings frames request what.now it.to it.coming)) }
 {

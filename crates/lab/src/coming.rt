@@ -1,3 +1,4 @@
+// The inputs of a simulated node, and the outcomes of its steps.
 ghost use Rattle.std.specs.Prelude.{◌≡◌, IfOk};
 ghost use Rattle.chain_core.specs.States.{Machine};
 ghost use Rattle.lab.specs.Comings.{IsAnswer, IsDrop, IsRefusal, at_rest, coming_of};

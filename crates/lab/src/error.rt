@@ -1,3 +1,4 @@
+// Why a run has no report.
 ghost use Rattle.std.specs.Prelude.{◌≡◌};
 ghost use Rattle.lab.specs.declared.error.LabError.TheVariants.{Memory};
 

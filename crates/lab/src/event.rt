@@ -1,3 +1,4 @@
+// The events of a run.
 ghost use Rattle.std.specs.Prelude.{◌≡◌, ◌↔◌, IfOk, IsTrue};
 ghost use Rattle.lab.specs.Events.{node_in, NamesNode, NamesNodes};
 

@@ -1,5 +1,6 @@
-ghost use Rattle.std.specs.Prelude.{◌≡◌, ◌⊎◌, ℕ, List, IfOk, Some, None};
-ghost use Rattle.kv_types.specs.declared.edit.Edit.{Edit};
+// A simulated node, running or stopped, and its steps.
+ghost use Rattle.std.specs.Prelude.{◌≡◌, ◌⊎◌, ℕ, IfOk, Some, None};
+ghost use Rattle.kv_types.specs.Content.{BatchContent};
 ghost use Rattle.chain_model.specs.Node.{Answer, stopped};
 ghost use Rattle.chain_core.specs.States.{Machine};
 ghost use Rattle.node.specs.Steps.{Runs, MayStep, StopsAs, disk_of};
@@ -25,7 +26,7 @@ pub enum Member {
 fn ended(mut disk: MemDisk) -> Member
     ensures works { Works result }
     ensures crashes { HasCrashed Junk.Old disk result }
-    ensures rests { (x : ℕ) (n : Machine) (a : Answer (List Edit)) →
+    ensures rests { (x : ℕ) (n : Machine) (a : Answer BatchContent) →
         StopsAs (state disk) x n a →
         Is result x (stopped n) ⊎ Is result x (stopped a.node) }
 {

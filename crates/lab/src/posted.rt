@@ -1,6 +1,7 @@
+// The frames that were sent, kept as bytes with their addressees.
 ghost use Rattle.std.specs.Prelude.{◌≡◌, ◌++◌, List, Some, IfOk, IsErr, MatchOption};
 ghost use Rattle.std.specs.List.{AllZip};
-ghost use Rattle.kv_types.specs.declared.edit.Edit.{Edit};
+ghost use Rattle.kv_types.specs.Content.{BatchContent};
 ghost use Rattle.chain_model.specs.Frames.{Frame as ModelFrame};
 ghost use Rattle.link_messages.specs.Spelling.{IsFrame, spelling};
 ghost use Rattle.lab.specs.Comings.{IsDelivered, IsPostedAt, IsNowhere, coming_of};
@@ -69,7 +70,7 @@ fn posted_at(posted: &[Posted], place: u64) -> Option<&Posted>
 
 /// The node that the frame in this place, from 1, is for, and what it is to it.
 pub fn delivered(alloc: Global, posted: &[Posted], place: u64) -> Result<Option<Arrival>, LabError>
-    ensures { (frames : List (ModelFrame (List Edit))) → AllZip IsKept posted.now frames →
+    ensures { (frames : List (ModelFrame BatchContent)) → AllZip IsKept posted.now frames →
         IfOk result (λ found. MatchOption found (IsNowhere frames place)
         (λ it. IsDelivered frames place it.to it.coming)) }
 {

@@ -1,3 +1,4 @@
+// The report of a run: the lines of each event, and what is left of each node.
 ghost use Rattle.std.specs.Prelude.{◌≡◌};
 
 use configurations::{Epoch, NodeId};

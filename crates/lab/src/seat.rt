@@ -1,3 +1,4 @@
+// A simulated node with its id.
 ghost use Rattle.lab.specs.Members.{Works};
 
 use crate::member::Member;

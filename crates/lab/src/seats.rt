@@ -1,3 +1,4 @@
+// All simulated nodes, and how an input reaches the one that it is for.
 ghost use Rattle.std.specs.Prelude.{◌<◌, length, slice_set, IfOk, MatchOption};
 ghost use Rattle.lab.specs.Worlds.{IsSeatOf, HasNoSeat, WasHanded, WasTold};
 

@@ -1,3 +1,4 @@
+// The lines of a step, and the frames that it sends.
 ghost use Rattle.std.specs.Prelude.{◌≡◌, ◌+◌, [], ◌∷◌, ◌++◌, length, map, IfOk, OnOk};
 ghost use Rattle.lab.specs.declared.report.Line.{Line};
 ghost use Rattle.lab.specs.Comings.{sent_line, sent_lines, dropped_lines, did_lines, sent_by};

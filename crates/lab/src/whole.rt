@@ -1,3 +1,4 @@
+// A whole run: a list of events, from created nodes to a report.
 ghost use Rattle.std.specs.Prelude.{IfOk};
 ghost use Rattle.lab.specs.Events.{NamesNodes};
 ghost use Rattle.lab.specs.Runs.{IsRun};

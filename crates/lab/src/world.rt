@@ -1,3 +1,4 @@
+// A world of simulated nodes, stepped event by event.
 ghost use Rattle.std.specs.Prelude.{◌≡◌, ℕ, List, [], ◌∷◌, ◌++◌, IfOk, IsErr, MatchResult, OnOk};
 ghost use Rattle.std.specs.Prelude.{map};
 ghost use Rattle.chain_model.specs.Configuration.{Configurations};

@@ -1,3 +1,4 @@
+// The faults of a stream of frames.
 ghost use Rattle.std.specs.Prelude.{◌≡◌};
 ghost use Rattle.link_messages.specs.declared.error.FrameError.TheVariants.{Memory};
 

@@ -1,3 +1,4 @@
+// The fields of frames, written as bytes and read from them.
 ghost use Rattle.std.specs.Prelude.{◌≡◌, ◌++◌, OnOk, IfSome, option_copied};
 ghost use Rattle.std.specs.Int.{w16};
 ghost use Rattle.chain_model.specs.Configuration.{IsId};

@@ -1,3 +1,4 @@
+// The 14 kinds of frame, and the most bytes that one may have.
 use crate::Refusal;
 use configurations::{Config, Epoch, NodeId};
 use kv_types::{Batch, Key, Number, Page, Range, Value};

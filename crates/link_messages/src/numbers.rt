@@ -1,3 +1,4 @@
+// Numbers and truth values, written as bytes and read from them.
 ghost use Rattle.std.specs.Prelude.{◌≡◌, ◌++◌, OnOk};
 ghost use Rattle.std.specs.Int.{w8, w16, w32, w64};
 ghost use Rattle.link_messages.specs.Spelling.{truth, u16, u32, u64};

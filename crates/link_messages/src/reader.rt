@@ -1,3 +1,4 @@
+// The reader of a stream of frames, fed in pieces of any length.
 ghost use Rattle.std.specs.Prelude.{◌≡◌, ◌≤◌, ◌++◌, [], length, OnOk, OnErr, IfOk, IfSome};
 ghost use Rattle.link_messages.specs.Reading.{told_by, left_by};
 ghost use Rattle.link_messages.specs.Stream.{Answers};

@@ -1,3 +1,4 @@
+// The rows of an answer, written as bytes and read from them.
 ghost use Rattle.std.specs.Prelude.{◌≡◌, ◌++◌, OnOk, All, nat_le};
 ghost use Rattle.std.specs.List.{flat_map, sum_by};
 ghost use Rattle.kv_types.specs.Pages.{row_size};

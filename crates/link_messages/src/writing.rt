@@ -1,3 +1,4 @@
+// Each kind of frame, written as bytes.
 ghost use Rattle.std.specs.Prelude.{◌≡◌, ◌≤◌, ◌++◌, OnOk, IfOk, IfSome};
 ghost use Rattle.chain_model.specs.Configuration.{IsId};
 ghost use Rattle.kv_types.specs.Spelling.{IsBatch};

@@ -5,7 +5,6 @@ use Rattle.std.proofs.Common.{inl, inr, refl, sym, ap, subst, ◌∙◌, arith}
 use Rattle.std.proofs.Common.{zero, suc, ◌-◌, get_or, length-append}
 use Rattle.std.specs.Prelude.{IsSomeAnd, slice_get, ◌⊎◌, ◌≢◌}
 use Rattle.std.proofs.lemmas.List.Elements.{All-push}
-use Rattle.kv_types.specs.declared.edit.Edit.{Edit}
 use Rattle.kv_types.specs.Spelling.{IsBatch}
 use Rattle.disk.specs.State.{State, Slot, Absent, Fresh, Kept, Contents, Leaves, MayLeave}
 use Rattle.disk.specs.State.{contents, seen, IsSure, SureIsLeft}
@@ -17,6 +16,7 @@ use Rattle.node.specs.declared.engine.Engine.{Engine}
 use Rattle.chain_model.specs.Configuration.{IsId}
 use Rattle.configurations.specs.Configs.{IsConfig}
 use Rattle.kv_types.specs.declared.bounds.TheConstants.{MAX_NUMBER}
+use Rattle.kv_types.specs.Content.{BatchContent}
 use Rattle.node.specs.Layout.{identity_file, identity_records, batches_file}
 use Rattle.node.specs.Layout.{batch_record, records_from}
 use Rattle.node.specs.Files.{IsLog, HasId, DiskRepresents, IsSureOfId, KeepsOneOf}
@@ -102,19 +102,19 @@ has_numbers_of disk engine x n s = record {
 
 -- what an engine holds, by other names of the same numbers
 pub holds_as : (disk : State) (engine : Engine) (x e d : ℕ) (ids js : List ℕ)
-    (list more : List (List Edit)) (f g k h : ℕ) → d ≡ e → js ≡ ids → more ≡ list → g ≡ f →
+    (list more : List BatchContent) (f g k h : ℕ) → d ≡ e → js ≡ ids → more ≡ list → g ≡ f →
     h ≡ k → EngineHolds disk engine x e ids list f k → EngineHolds disk engine x d js more g h
 holds_as disk engine x e d ids js list more f g k h of_epoch of_ids of_list of_floor of_kept s =
     rw (of_epoch, of_ids, of_list, of_floor, of_kept) s
 
-at_next : (list : List (List Edit)) (i : ℕ) (d : List Edit) → i < length list →
+at_next : (list : List BatchContent) (i : ℕ) (d : BatchContent) → i < length list →
     place list (suc i) ≡ Some (get_or list i d)
 at_next [] i d within = absurd (omega (arith, within))
 at_next (first ∷ list) zero d within = refl
 at_next (first ∷ list) (suc i) d within = at_next list i d (omega (arith, within))
 
 -- the batch of a number stands one place before it
-pub stands_at : (list batches : List (List Edit)) (k : ℕ) (batch found : List Edit) → 1 ≤ k →
+pub stands_at : (list batches : List BatchContent) (k : ℕ) (batch found : BatchContent) → 1 ≤ k →
     k ≤ length batches → list ≡ batches → found ≡ get_or batches (k - 1) found → batch ≡ found →
     place list k ≡ Some batch
 stands_at list batches k batch found some within same got copy =
@@ -125,7 +125,7 @@ stands_at list batches k batch found some within same got copy =
 
 -- An open engine, and one batch more.
 module _ (law : SureIsLeft) (old : State) (engine : Engine) (x epoch : ℕ) (ids : List ℕ)
-    (list : List (List Edit)) (floor kept : ℕ)
+    (list : List BatchContent) (floor kept : ℕ)
     (s : EngineHolds old engine x epoch ids list floor kept) where
   log_left : (left : Contents) → MayLeave old left →
       IsLog (left batches_file) (records_from 1 list)
@@ -154,7 +154,7 @@ module _ (law : SureIsLeft) (old : State) (engine : Engine) (x epoch : ℕ) (ids
   apart : identity_file ≢ engine.log.file
   apart same = absurd (omega (arith, same, s.at.in_file))
 
-  module _ (batch : List Edit) (is_batch : IsBatch batch) where
+  module _ (batch : BatchContent) (is_batch : IsBatch batch) where
     pub unchanged : KeepsOneOf old x epoch ids list (list ++ batch ∷ []) floor kept
     unchanged left leaves = inl (represented left leaves)
 
@@ -237,7 +237,7 @@ module _ (law : SureIsLeft) (old : State) (engine : Engine) (x epoch : ℕ) (ids
         id = id_in old new x ids (others identity_file apart) s.id;
         at = at;
         log = subst (λ (r : List (List ℕ)). Holds new after.log r) one_more holds;
-        batches = batches_are ∙ ap (λ (l : List (List Edit)). l ++ batch ∷ []) s.batches;
+        batches = batches_are ∙ ap (λ (l : List BatchContent). l ++ batch ∷ []) s.batches;
         each = All-push IsBatch list batch s.each is_batch;
         few = few_more;
         numbers = s.numbers;

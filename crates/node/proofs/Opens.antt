@@ -6,7 +6,7 @@ use Rattle.std.specs.Int.{w16, to_be_bytes, from_be_bytes}
 use Rattle.std.proofs.lemmas.Nat.{from_be_bytes-to_be_bytes_2}
 use Rattle.std.proofs.lemmas.List.{append-nil}
 use Rattle.std.proofs.lemmas.List.Elements.{All-head, All-tail, All-weaker}
-use Rattle.kv_types.specs.declared.edit.Edit.{Edit}
+use Rattle.kv_types.specs.Content.{BatchContent}
 use Rattle.kv_types.specs.Spelling.{IsBatch, SpellingsDiffer, spelling}
 use Rattle.disk.specs.State.{State, Slot, Contents, seen, IsSame}
 use Rattle.record_log.specs.declared.log.Log.{Log}
@@ -53,7 +53,7 @@ same_identity law left x y xs ys s t =
     one_identity x y xs ys s.id t.id s.config t.config cc
 
 -- records are those of one list of batches at most
-pub same_batches : SpellingsDiffer → (number : ℕ) (a b : List (List Edit)) → All IsBatch a →
+pub same_batches : SpellingsDiffer → (number : ℕ) (a b : List BatchContent) → All IsBatch a →
     All IsBatch b → records_from number a ≡ records_from number b → a ≡ b
 same_batches law number [] [] each_a each_b same = refl
 same_batches law number [] (y ∷ b) each_a each_b same = absurd cc

@@ -6,7 +6,7 @@ use Rattle.std.specs.Prelude.{SomeIff, IfOk, option_map, nat_lt}
 use Rattle.std.specs.Ordering.{is_gt, nat_cmp}
 use Rattle.std.proofs.lemmas.Bool.Decides.{nat_tests}
 use Rattle.std.proofs.lemmas.List.{map-append}
-use Rattle.kv_types.specs.declared.edit.Edit.{Edit}
+use Rattle.kv_types.specs.Content.{BatchContent}
 use Rattle.chain_model.specs.Frames.{Frame}
 use Rattle.chain_model.specs.Node.{Answer}
 use Rattle.chain_model.specs.Rules.{show}
@@ -26,11 +26,11 @@ use Rattle.node.specs.Outputs.{Says, Tells, told_to}
 use Rattle.node.specs.Steps.{reason_of, replies_of}
 
 -- frames one behind another
-pub both_sent : (a b : List Sent) (f g : List (Frame (List Edit))) → AreFrames a f →
+pub both_sent : (a b : List Sent) (f g : List (Frame BatchContent)) → AreFrames a f →
     AreFrames b g → AreFrames (a ++ b) (f ++ g)
 both_sent a b f g of_a of_b =
-    let as_model : Sent → Option (Frame (List Edit)) = λ it. frame_as it.to it.frame in
-    let some : Frame (List Edit) → Option (Frame (List Edit)) = λ it. Some it in
+    let as_model : Sent → Option (Frame BatchContent) = λ it. frame_as it.to it.frame in
+    let some : Frame BatchContent → Option (Frame BatchContent) = λ it. Some it in
     map-append as_model a b ∙ ap (λ l. l ++ map as_model b) of_a
     ∙ ap (λ l. map some f ++ l) of_b ∙ sym (map-append some f g)
 
@@ -49,14 +49,14 @@ replies_due input [] = refl
 replies_due input (it ∷ due) = ap (λ l. told_to it ∷ l) (replies_due input due)
 
 -- what is said after the store's part is what the rule tells
-pub tells_rule : (x : ℕ) (n : Machine) (input : Input) (batch : List Edit) (d : Done)
-    (a : Answer (List Edit)) (due : List Waiting) (sent : List (Frame (List Edit)))
+pub tells_rule : (x : ℕ) (n : Machine) (input : Input) (batch : BatchContent) (d : Done)
+    (a : Answer BatchContent) (due : List Waiting) (sent : List (Frame BatchContent))
     (result : Result Output Stop) → Leaves x n batch d a → a.replies ≡ core.replies_of due →
     sent ≡ frames_after x n d a.node → IfOk result (Says None sent (map told_to due)) →
     IfOk result (Tells input a)
 tells_rule x n input batch d a due sent (Ok output) leaves replied frames says = record {
   dropped = says.dropped ∙ ap (option_map reason_of) (sym leaves.dropped);
-  frames = subst (λ (f : List (Frame (List Edit))). AreFrames output.frames.items f)
+  frames = subst (λ (f : List (Frame BatchContent)). AreFrames output.frames.items f)
       (frames ∙ sym leaves.frames) says.frames;
   replied = says.replied ∙ replies_due input due ∙ ap (replies_of input) (sym replied);
 }

@@ -5,7 +5,7 @@ use Rattle.std.specs.Prelude.{All, slice_get}
 use Rattle.std.proofs.lemmas.List.{take_all}
 use Rattle.std.proofs.lemmas.List.Elements.{All-head, All-tail}
 use Rattle.std.specs.Int.{w64, to_be_bytes}
-use Rattle.kv_types.specs.declared.edit.Edit.{Edit}
+use Rattle.kv_types.specs.Content.{BatchContent}
 use Rattle.kv_types.specs.Spelling.{IsBatch, spelling}
 use Rattle.disk.specs.State.{State}
 use Rattle.record_log.specs.declared.log.Log.{Log}
@@ -14,7 +14,7 @@ use Rattle.record_log.specs.Grammar.{ends_from}
 use Rattle.node.specs.Layout.{batch_record, records_from}
 
 -- one batch more is one record more
-pub records_from-push : (number : ℕ) (list : List (List Edit)) (batch : List Edit) →
+pub records_from-push : (number : ℕ) (list : List BatchContent) (batch : BatchContent) →
     records_from number (list ++ batch ∷ [])
     ≡ records_from number list ++ batch_record (number + length list) batch ∷ []
 records_from-push number [] batch = ap (λ (n : ℕ). batch_record n batch ∷ []) (omega arith)
@@ -26,11 +26,11 @@ records_from-push number (first ∷ list) batch =
 
 -- a record of batches is that of a batch of its number
 pub record Numbered (number : ℕ) (bytes : List ℕ) : Type 0 where
-  pub batch : List Edit
+  pub batch : BatchContent
   pub is_batch : IsBatch batch
   pub spelled : bytes ≡ batch_record number batch
 
-pub numbered_at : (number : ℕ) (list : List (List Edit)) (i : ℕ) (bytes : List ℕ) →
+pub numbered_at : (number : ℕ) (list : List BatchContent) (i : ℕ) (bytes : List ℕ) →
     All IsBatch list → slice_get (records_from number list) i ≡ Some bytes →
     Numbered (number + i) bytes
 numbered_at number [] i bytes each got = absurd cc
@@ -59,7 +59,8 @@ take_suc (x ∷ records) (suc i) one got =
     ap (λ (l : List (List ℕ)). x ∷ l) (take_suc records i one got)
 
 -- the records that were read are one more
-pub grows : (records : List (List ℕ)) (i : ℕ) (list new : List (List Edit)) (batch : List Edit) →
+pub grows : (records : List (List ℕ)) (i : ℕ) (list new : List BatchContent)
+    (batch : BatchContent) →
     length list ≡ i → new ≡ list ++ batch ∷ [] → take i records ≡ records_from 1 list →
     slice_get records i ≡ Some (batch_record (i + 1) batch) →
     take (i + 1) records ≡ records_from 1 new
@@ -82,7 +83,7 @@ length-ends at (first ∷ others) = ap suc (length-ends (at + 5 + length first) 
 
 -- all of a log's records were read
 pub all_read : (disk : State) (log : Log) (records : List (List ℕ)) (i : ℕ)
-    (list : List (List Edit)) → Holds disk log records → count_of log ≤ i →
+    (list : List BatchContent) → Holds disk log records → count_of log ≤ i →
     take i records ≡ records_from 1 list → records ≡ records_from 1 list
 all_read disk log records i list h all before =
     let size : length records ≤ i =
@@ -90,7 +91,7 @@ all_read disk log records i list h all before =
     sym (take_all i records size) ∙ before
 
 -- a record of a batch is shorter than a log takes
-pub record_fits : (number : ℕ) (batch : List Edit) → IsBatch batch →
+pub record_fits : (number : ℕ) (batch : BatchContent) → IsBatch batch →
     length (batch_record number batch) ≤ 16777216
 record_fits number batch is =
     let short = is.short in

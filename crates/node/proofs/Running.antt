@@ -4,7 +4,7 @@ use Rattle.std.proofs.Common.{suc, arith, map, Option, Some, None, refl, sym, ap
 use Rattle.std.proofs.Common.{replicate, length-append}
 use Rattle.std.specs.Prelude.{Result, Ok, Err, IfOk, IfErr}
 use Rattle.std.proofs.lemmas.List.{length-replicate}
-use Rattle.kv_types.specs.declared.edit.Edit.{Edit}
+use Rattle.kv_types.specs.Content.{BatchContent}
 use Rattle.disk.specs.State.{State, Contents, SureIsLeft, contents}
 use Rattle.chain_model.specs.Configuration.{successor}
 use Rattle.chain_model.specs.Lists.{place}
@@ -71,15 +71,15 @@ has_numbers core = record {
   running = refl;
 }
 
-pub appended_list : (n : Machine) (batch : List Edit) (d : Done) → HasAppended d →
+pub appended_list : (n : Machine) (batch : BatchContent) (d : Done) → HasAppended d →
     list_after n batch d ≡ n.list ++ batch ∷ []
 appended_list n batch (done.Accepted request) has = refl
 appended_list n batch done.Appended has = refl
 appended_list n batch (done.Told committed have) has = absurd has
 
 -- what is counted after the store's part was done
-counted : StepsLeave → (old new : Core) (batch : List Edit) (d : Done) (due : List Waiting) →
-    ((n : Machine) (batch : List Edit) → Is old n →
+counted : StepsLeave → (old new : Core) (batch : BatchContent) (d : Done) (due : List Waiting) →
+    ((n : Machine) (batch : BatchContent) → Is old n →
     core.Follows new (done_of old.id n batch d) due) →
     new.count ≡ length (list_after (machine_with old) batch d)
 counted law old new batch d due after =
@@ -89,7 +89,7 @@ counted law old new batch d due after =
 -- .. one batch more where one was appended
 pub counts_appended : StepsLeave → (old new : Core) (d : Done) (due : List Waiting) →
     HasAppended d →
-    ((n : Machine) (batch : List Edit) → Is old n →
+    ((n : Machine) (batch : BatchContent) → Is old n →
     core.Follows new (done_of old.id n batch d) due) → new.count ≡ old.count + 1
 counts_appended law old new d due has after =
     let n = machine_with old in
@@ -98,7 +98,7 @@ counts_appended law old new d due has after =
 
 -- .. and as many as before after a word of the successor
 pub counts_told : StepsLeave → (old new : Core) (committed have : ℕ) (due : List Waiting) →
-    ((n : Machine) (batch : List Edit) → Is old n →
+    ((n : Machine) (batch : BatchContent) → Is old n →
     core.Follows new (done_of old.id n batch (done.Told committed have)) due) →
     new.count ≡ old.count
 counts_told law old new committed have due after =
@@ -111,14 +111,14 @@ same_kept n (done.Told committed have) = refl
 
 -- no batch was given up
 pub keeps_kept : StepsLeave → (old new : Core) (d : Done) (due : List Waiting) →
-    ((n : Machine) (batch : List Edit) → Is old n →
+    ((n : Machine) (batch : BatchContent) → Is old n →
     core.Follows new (done_of old.id n batch d) due) → new.kept ≡ old.kept
 keeps_kept law old new d due after =
     let n = machine_with old in
     sym (after n [] (has_numbers old)).is.kept ∙ (law old.id n [] d).kept ∙ same_kept n d
 
 -- an engine that has one batch more holds what the step leaves
-pub holds_appended : (disk : State) (engine : Engine) (x : ℕ) (n : Machine) (batch : List Edit)
+pub holds_appended : (disk : State) (engine : Engine) (x : ℕ) (n : Machine) (batch : BatchContent)
     (d : Done) → HasAppended d →
     EngineHolds disk engine x n.epoch n.ids (n.list ++ batch ∷ []) n.floor n.kept →
     EngineHolds disk engine x (epoch_after n d) (ids_after n d) (list_after n batch d)
@@ -128,7 +128,7 @@ holds_appended disk engine x n batch done.Appended has holds = holds
 holds_appended disk engine x n batch (done.Told committed have) has holds = absurd has
 
 -- a disk with one batch more represents what the step leaves
-represents_appended : (left : Contents) (x : ℕ) (n : Machine) (batch : List Edit) (d : Done) →
+represents_appended : (left : Contents) (x : ℕ) (n : Machine) (batch : BatchContent) (d : Done) →
     HasAppended d →
     DiskRepresents left x n.epoch n.ids (n.list ++ batch ∷ []) n.floor n.kept →
     DiskRepresents left x (epoch_after n d) (ids_after n d) (list_after n batch d)
@@ -138,15 +138,15 @@ represents_appended left x n batch done.Appended has it = it
 represents_appended left x n batch (done.Told committed have) has it = absurd has
 
 -- what a disk represents, by other names of the same numbers
-represents_as : (left : Contents) (x e d : ℕ) (ids js : List ℕ) (list more : List (List Edit))
+represents_as : (left : Contents) (x e d : ℕ) (ids js : List ℕ) (list more : List BatchContent)
     (f g k h : ℕ) → d ≡ e → js ≡ ids → more ≡ list → g ≡ f → h ≡ k →
     DiskRepresents left x e ids list f k → DiskRepresents left x d js more g h
 represents_as left x e d ids js list more f g k h of_epoch of_ids of_list of_floor of_kept it =
     rw (of_epoch, of_ids, of_list, of_floor, of_kept) it
 
 -- while a batch is appended, the disk stands for the machine before or after
-pub stops_between : (disk : State) (x : ℕ) (n : Machine) (batch : List Edit) (d : Done)
-    (a : Answer (List Edit)) → Leaves x n batch d a → HasAppended d →
+pub stops_between : (disk : State) (x : ℕ) (n : Machine) (batch : BatchContent) (d : Done)
+    (a : Answer BatchContent) → Leaves x n batch d a → HasAppended d →
     KeepsOneOf disk x n.epoch n.ids n.list (n.list ++ batch ∷ []) n.floor n.kept →
     StopsAs disk x n a
 stops_between disk x n batch d a leaves has one_of left now =
@@ -160,8 +160,8 @@ stops_between disk x n batch d a leaves has one_of left now =
     ]
 
 -- a copy for the successor is one after a step, which leaves id and configuration
-pub copy_after : (old new : Core) (n m : Machine) (x : ℕ) (batch : List Edit)
-    (copy : Option (List Edit)) → Is old n → m.ids ≡ n.ids → old.id ≡ x → new.id ≡ x →
+pub copy_after : (old new : Core) (n m : Machine) (x : ℕ) (batch : BatchContent)
+    (copy : Option BatchContent) → Is old n → m.ids ≡ n.ids → old.id ≡ x → new.id ≡ x →
     IsCopyFor (successor old.ids old.id) batch copy → IsCopyFor (successor m.ids new.id) batch copy
 copy_after old new n m x batch copy is ids old_id new_id copied =
     let same_ids : m.ids ≡ old.ids = ids ∙ is.ids in
@@ -169,7 +169,8 @@ copy_after old new n m x batch copy is ids old_id new_id copied =
     rw (same_ids, same_id) copied
 
 -- the number of a batch that was taken
-pub number_taken : (x : ℕ) (n : Machine) (batch : List Edit) (d : Done) (a : Answer (List Edit)) →
+pub number_taken : (x : ℕ) (n : Machine) (batch : BatchContent) (d : Done)
+    (a : Answer BatchContent) →
     Leaves x n batch d a → HasAppended d → length a.node.list ≡ suc (length n.list)
 number_taken x n batch d a leaves has =
     omega (
@@ -180,8 +181,8 @@ number_taken x n batch d a leaves has =
     )
 
 -- .. at which it stands
-pub taken_stands : StandsLast → (x : ℕ) (n : Machine) (batch : List Edit) (d : Done)
-    (a : Answer (List Edit)) (count : ℕ) → Leaves x n batch d a → HasAppended d →
+pub taken_stands : StandsLast → (x : ℕ) (n : Machine) (batch : BatchContent) (d : Done)
+    (a : Answer BatchContent) (count : ℕ) → Leaves x n batch d a → HasAppended d →
     count ≡ suc (length n.list) → place a.node.list count ≡ Some batch
 taken_stands law x n batch d a count leaves has number =
     ap (λ l. place l count) (leaves.list ∙ appended_list n batch d has)
@@ -196,11 +197,11 @@ module _ {D : Type 0} (is_honest : D → Type 0) (state : D → State) where
       left leaves
 
   pub stops_before : SureIsLeft → (node : Node D) (x : ℕ) (n : Machine)
-      (a : Answer (List Edit)) → Runs is_honest state node x n → StopsAs (state node.disk) x n a
+      (a : Answer BatchContent) → Runs is_honest state node x n → StopsAs (state node.disk) x n a
   stops_before law node x n a r left leaves = inl (rests law node x n r left leaves)
 
   pub stops_after : SureIsLeft → (node : Node D) (x : ℕ) (n : Machine)
-      (a : Answer (List Edit)) → Runs is_honest state node x a.node →
+      (a : Answer BatchContent) → Runs is_honest state node x a.node →
       StopsAs (state node.disk) x n a
   stops_after law node x n a r left leaves = inr (rests law node x a.node r left leaves)
 
@@ -213,8 +214,8 @@ module _ {D : Type 0} (is_honest : D → Type 0) (state : D → State) where
       record { honest = honest; store = holds; core = r.core; id = r.id }
 
   -- a node that did its store's part runs as the machine after the rule
-  pub goes_on : (node : Node D) (x : ℕ) (n : Machine) (batch : List Edit) (d : Done)
-      (a : Answer (List Edit)) → Leaves x n batch d a → is_honest node.disk →
+  pub goes_on : (node : Node D) (x : ℕ) (n : Machine) (batch : BatchContent) (d : Done)
+      (a : Answer BatchContent) → Leaves x n batch d a → is_honest node.disk →
       EngineHolds (state node.disk) node.engine x (epoch_after n d) (ids_after n d)
       (list_after n batch d) (floor_after n d) (kept_after n d) → Is node.core a.node →
       node.core.id ≡ x → Runs is_honest state node x a.node
@@ -231,7 +232,7 @@ module _ {D : Type 0} (is_honest : D → Type 0) (state : D → State) where
 
   -- what it then tells is the machine's answer, and for want of memory it stops
   pub ends : SureIsLeft → (node : Node D) (x : ℕ) (n : Machine) (input : Input)
-      (a : Answer (List Edit)) (result : Result Output Stop) → Runs is_honest state node x a.node →
+      (a : Answer BatchContent) (result : Result Output Stop) → Runs is_honest state node x a.node →
       IfOk result (Tells input a) → IfErr result (λ e. e ≡ stop.Memory) →
       Ends is_honest state node x n a (Answers is_honest state node x input a) result
   ends law node x n input a (Ok output) r tells memory = record {
@@ -261,8 +262,8 @@ module _ {D : Type 0} (is_honest : D → Type 0) (state : D → State) where
 
   -- .. and so it is after the store's part
   pub ends_rule : SureIsLeft → (node : Node D) (x : ℕ) (n : Machine) (input : Input)
-      (batch : List Edit) (d : Done) (a : Answer (List Edit)) (due told : List Waiting)
-      (sent : ℕ → List (Frame (List Edit))) (result : Result Output Stop) →
+      (batch : BatchContent) (d : Done) (a : Answer BatchContent) (due told : List Waiting)
+      (sent : ℕ → List (Frame BatchContent)) (result : Result Output Stop) →
       Leaves x n batch d a → Follows is_honest state node x a due → told ≡ due →
       sent x ≡ frames_after x n d a.node →
       IfOk result (Says None (sent node.core.id) (map told_to told)) →
@@ -279,7 +280,7 @@ module _ {D : Type 0} (is_honest : D → Type 0) (state : D → State) where
       memory
 
   -- a call that stops
-  pub ends_stopped : {T : Type 0} (node : Node D) (x : ℕ) (n : Machine) (a : Answer (List Edit))
+  pub ends_stopped : {T : Type 0} (node : Node D) (x : ℕ) (n : Machine) (a : Answer BatchContent)
       (IsDone : T → Type 0) (result : Result T Stop) (e : Stop) → result ≡ Err e →
       IsOfMachine e → is_honest node.disk → StopsAs (state node.disk) x n a →
       Ends is_honest state node x n a IsDone result

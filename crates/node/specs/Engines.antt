@@ -1,7 +1,7 @@
 -- An open engine over a node's files: its numbers, and what it holds.
 use Rattle.std.specs.Prelude.{◌≡◌, ℕ, ◌+◌, ◌≤◌, List, length, All}
 use Rattle.kv_types.specs.declared.bounds.TheConstants.{MAX_NUMBER}
-use Rattle.kv_types.specs.declared.edit.Edit.{Edit}
+use Rattle.kv_types.specs.Content.{BatchContent}
 use Rattle.kv_types.specs.Spelling.{IsBatch}
 use Rattle.disk.specs.State.{State}
 use Rattle.disk.specs.Calls.{EndsOutOfRange}
@@ -42,7 +42,7 @@ IsNearlyFull engine = EndsOutOfRange (gate_of engine.log) (MAX_RECORD + 6)
 
 -- an open engine holds what the disk represents: it is there, and a crash leaves it
 pub record EngineHolds (disk : State) (engine : Engine) (x epoch : ℕ) (ids : List ℕ)
-    (list : List (List Edit)) (floor kept : ℕ) : Type 0 where
+    (list : List BatchContent) (floor kept : ℕ) : Type 0 where
   pub id : IsSureOfId disk x ids
   pub at : IsAt batches_file 0 engine.log
   pub log : Holds disk engine.log (records_from 1 list)
@@ -60,7 +60,7 @@ pub record HasNumbersOf (engine : Engine) (n : Machine) : Type 0 where
 
 -- what was opened is the engine of node x with this configuration and these batches
 pub record IsOpened (disk : State) (identity : Identity) (engine : Engine) (x epoch : ℕ)
-    (ids : List ℕ) (list : List (List Edit)) (floor kept : ℕ) : Type 0 where
+    (ids : List ℕ) (list : List BatchContent) (floor kept : ℕ) : Type 0 where
   pub id : identity.id ≡ x
   pub config : identity.config ≡ ids
   pub holds : EngineHolds disk engine x epoch ids list floor kept

@@ -2,7 +2,7 @@
 use Rattle.std.specs.Prelude.{◌≡◌, ◌⊎◌, ◌≤◌, ℕ, List, [], length, Option, All}
 use Rattle.std.specs.Prelude.{IsSomeAnd, MatchOption}
 use Rattle.kv_types.specs.declared.bounds.TheConstants.{MAX_NUMBER}
-use Rattle.kv_types.specs.declared.edit.Edit.{Edit}
+use Rattle.kv_types.specs.Content.{BatchContent}
 use Rattle.kv_types.specs.Spelling.{IsBatch}
 use Rattle.disk.specs.State.{State, Contents, MayLeave, contents}
 use Rattle.record_log.specs.Grammar.{StandsFor}
@@ -31,7 +31,7 @@ pub record HasId (left : Contents) (x : ℕ) (ids : List ℕ) : Type 0 where
   pub identity : IsLog (left identity_file) (identity_records x ids)
 
 -- what a disk has stands for node x with this configuration and these batches
-pub record HasBatches (left : Contents) (x : ℕ) (ids : List ℕ) (list : List (List Edit)) : Type 0
+pub record HasBatches (left : Contents) (x : ℕ) (ids : List ℕ) (list : List BatchContent) : Type 0
   where
     pub id : HasId left x ids
     pub batches : IsLog (left batches_file) (records_from 1 list)
@@ -47,7 +47,7 @@ pub record HasPlainNumbers (epoch floor kept : ℕ) : Type 0 where
 
 -- what a disk has represents node x: its configuration, number `epoch` in the list of
 -- configurations, its batches, its floor and its kept number
-pub record DiskRepresents (left : Contents) (x epoch : ℕ) (ids : List ℕ) (list : List (List Edit))
+pub record DiskRepresents (left : Contents) (x epoch : ℕ) (ids : List ℕ) (list : List BatchContent)
     (floor kept : ℕ) : Type 0 where
   pub batches : HasBatches left x ids list
   pub numbers : HasPlainNumbers epoch floor kept
@@ -55,7 +55,7 @@ pub record DiskRepresents (left : Contents) (x epoch : ℕ) (ids : List ℕ) (li
 -- what a disk has is neither blank nor a node's
 pub record IsDamaged (left : Contents) : Type 0 where
   pub created : IsBlank left → ⊥
-  pub no_node : (x epoch : ℕ) (ids : List ℕ) (list : List (List Edit)) (floor kept : ℕ) →
+  pub no_node : (x epoch : ℕ) (ids : List ℕ) (list : List BatchContent) (floor kept : ℕ) →
       DiskRepresents left x epoch ids list floor kept → ⊥
 
 -- the identity file is that of node x with this configuration, and a crash leaves it as it is
@@ -80,7 +80,7 @@ abbrev pub LeavesNoMore : State → State → Type 0
 LeavesNoMore old new = (left : Contents) → MayLeave new left → MayLeave old left
 
 -- whatever a crash leaves of a disk represents node x with one of two lists of batches
-abbrev pub KeepsOneOf : State → (x epoch : ℕ) → List ℕ → (list more : List (List Edit)) →
+abbrev pub KeepsOneOf : State → (x epoch : ℕ) → List ℕ → (list more : List BatchContent) →
     (floor kept : ℕ) → Type 0
 KeepsOneOf disk x epoch ids list more floor kept = (left : Contents) → MayLeave disk left →
     DiskRepresents left x epoch ids list floor kept

@@ -2,7 +2,7 @@
 use Rattle.std.specs.Prelude.{◌≡◌, ◌⊎◌, ℕ, suc, List, [], ◌∷◌, ◌++◌, length}
 use Rattle.std.specs.List.{flat_map}
 use Rattle.std.specs.Int.{w16, w64, to_be_bytes}
-use Rattle.kv_types.specs.declared.edit.Edit.{Edit}
+use Rattle.kv_types.specs.Content.{BatchContent}
 use Rattle.kv_types.specs.Spelling.{spelling}
 
 -- the file with the node's id and configuration, and the file of its batches
@@ -26,11 +26,11 @@ abbrev pub identity_records : ℕ → List ℕ → List (List ℕ)
 identity_records id ids = identity_record id ids ∷ []
 
 -- the record of a batch: its number and its spelling
-abbrev pub batch_record : ℕ → List Edit → List ℕ
+abbrev pub batch_record : ℕ → BatchContent → List ℕ
 batch_record number batch = to_be_bytes w64 number ++ spelling batch
 
 -- the records of batches that are numbered from this one on, without a gap
-abbrev pub records_from : ℕ → List (List Edit) → List (List ℕ)
+abbrev pub records_from : ℕ → List BatchContent → List (List ℕ)
 records_from number [] = []
 records_from number (batch ∷ batches) =
     batch_record number batch ∷ records_from (suc number) batches

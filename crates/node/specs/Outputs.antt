@@ -1,7 +1,7 @@
 -- What private functions promise one another of what a step answers.
 use Rattle.std.specs.Prelude.{◌≡◌, ℕ, List, option_map, Option, Some, None, Result, MatchResult}
 use Rattle.std.specs.Prelude.{OnErr}
-use Rattle.kv_types.specs.declared.edit.Edit.{Edit}
+use Rattle.kv_types.specs.Content.{BatchContent}
 use Rattle.disk.specs.State.{State}
 use Rattle.chain_model.specs.Frames.{Frame}
 use Rattle.chain_model.specs.Node.{Answer}
@@ -26,18 +26,18 @@ abbrev pub told_to : Waiting → Reply
 told_to it = reply.Committed it.request it.number
 
 -- an output drops, sends and replies this
-pub record Says (dropped_for : Option DropReason) (sent : List (Frame (List Edit)))
+pub record Says (dropped_for : Option DropReason) (sent : List (Frame BatchContent))
     (told : List Reply) (output : Output) : Type 0 where
   pub dropped : output.dropped ≡ dropped_for
   pub frames : AreFrames output.frames.items sent
   pub replied : output.replies.items ≡ told
 
 -- .. what the machine does in this answer to an input
-abbrev pub Tells : Input → Answer (List Edit) → Output → Type 0
+abbrev pub Tells : Input → Answer BatchContent → Output → Type 0
 Tells input a = Says (option_map reason_of a.dropped) a.frames (replies_of input a.replies)
 
 -- a copy of a batch for the successor, if there is one
-abbrev pub IsCopyFor : Option ℕ → List Edit → Option (List Edit) → Type 0
+abbrev pub IsCopyFor : Option ℕ → BatchContent → Option BatchContent → Type 0
 IsCopyFor successor batch None = successor ≡ None
 IsCopyFor successor batch (Some copy) = copy ≡ batch
 
@@ -49,14 +49,14 @@ HasAppended (done.Told committed have) = ⊥
 
 -- a node that did its store's part is the machine of the rule, and these requests are due
 pub record Follows {D : Type 0} (is_honest : D → Type 0) (state : D → State) (new : Node D) (x : ℕ)
-    (a : Answer (List Edit)) (due : List Waiting) : Type 0 where
+    (a : Answer BatchContent) (due : List Waiting) : Type 0 where
   pub runs : Runs is_honest state new x a.node
   pub replied : a.replies ≡ core.replies_of due
 
 -- a call that takes machine n to this answer is done, or it ends in a stop, and the disk stands for
 -- the machine before or after the answer
 pub record Ends {D T : Type 0} (is_honest : D → Type 0) (state : D → State) (new : Node D) (x : ℕ)
-    (n : Machine) (a : Answer (List Edit)) (IsDone : T → Type 0) (result : Result T Stop) : Type 0
+    (n : Machine) (a : Answer BatchContent) (IsDone : T → Type 0) (result : Result T Stop) : Type 0
   where
     pub done : MatchResult result IsDone IsOfMachine
     pub stopped : OnErr result (is_honest (disk_of new) × StopsAs (state (disk_of new)) x n a)

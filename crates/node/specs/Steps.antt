@@ -2,7 +2,7 @@
 -- for, and what a step answers.
 use Rattle.std.specs.Prelude.{◌≡◌, ◌⊎◌, ℕ, List, [], ◌∷◌, option_map}
 use Rattle.std.specs.List.{flat_map}
-use Rattle.kv_types.specs.declared.edit.Edit.{Edit}
+use Rattle.kv_types.specs.Content.{BatchContent}
 use Rattle.kv_types.specs.Maps.{map_of}
 use Rattle.disk.specs.State.{State, Contents, MayLeave}
 use Rattle.chain_model.specs.Node as model
@@ -81,7 +81,7 @@ reason_of model_reason.NotForNodes = reason.NotForNodes
 reason_of model_reason.Unreadable = reason.Unreadable
 
 -- what the client of a read is shown: what its key has in the map of these batches
-abbrev pub value_for : Input → ℕ → ℕ → List (List Edit) → List Reply
+abbrev pub value_for : Input → ℕ → ℕ → List BatchContent → List Reply
 value_for (input.Get request key at) i s batches =
     reply.Value i s (map_of batches key) ∷ []
 value_for (input.Submit request batch) i s batches = []
@@ -90,24 +90,24 @@ value_for (input.Ack epoch from committed have) i s batches = []
 value_for input.Tick i s batches = []
 
 -- what a client is told where the machine replies. (No input asks for the other replies yet.)
-abbrev pub told_as : Input → model_request.Reply (List Edit) → List Reply
+abbrev pub told_as : Input → model_request.Reply BatchContent → List Reply
 told_as input (model_request.Committed i k) = reply.Committed i k ∷ []
 told_as input (model_request.Shows i s batches) = value_for input i s batches
 told_as input (model_request.Opened i s) = []
 told_as input (model_request.Closed i s) = []
 told_as input (model_request.Refused i why) = reply.Refused i (refusal_of why) ∷ []
 
-abbrev pub replies_of : Input → List (model_request.Reply (List Edit)) → List Reply
+abbrev pub replies_of : Input → List (model_request.Reply BatchContent) → List Reply
 replies_of input replies = flat_map (told_as input) replies
 
 -- these replies are those of the machine to an input
-abbrev pub AreReplies : Input → List (model_request.Reply (List Edit)) → List Reply → Type 0
+abbrev pub AreReplies : Input → List (model_request.Reply BatchContent) → List Reply → Type 0
 AreReplies input of_machine replies = replies ≡ replies_of input of_machine
 
 -- a node that answered is the machine after the step, and has dropped, sent and replied what that
 -- does
 pub record Answers {D : Type 0} (is_honest : D → Type 0) (state : D → State) (new : Node D) (x : ℕ)
-    (input : Input) (a : model.Answer (List Edit)) (output : Output) : Type 0 where
+    (input : Input) (a : model.Answer BatchContent) (output : Output) : Type 0 where
   pub runs : Runs is_honest state new x a.node
   pub dropped : output.dropped ≡ option_map reason_of a.dropped
   pub frames : AreFrames output.frames.items a.frames
@@ -115,5 +115,5 @@ pub record Answers {D : Type 0} (is_honest : D → Type 0) (state : D → State)
 
 -- a node that stopped in a step leaves a disk that stands for the machine as before the step or as
 -- after it
-abbrev pub StopsAs : State → ℕ → Machine → model.Answer (List Edit) → Type 0
+abbrev pub StopsAs : State → ℕ → Machine → model.Answer BatchContent → Type 0
 StopsAs disk x n a = (left : Contents) → MayLeave disk left → Rests left x n ⊎ Rests left x a.node

@@ -1,8 +1,9 @@
+// A node's store on its disk: a log of batches, and the batches in memory.
 ghost use Rattle.std.specs.Prelude.{◌≡◌, ◌≢◌, ℕ, ◌+◌, ◌<◌, [], ◌∷◌, ◌++◌};
 ghost use Rattle.std.specs.Prelude.{◌≤◌, List, length, take, slice_get, All, Some, MatchOption};
 ghost use Rattle.std.specs.Prelude.{IfOk, IfErr, OnOk, MatchResult};
 ghost use Rattle.kv_types.specs.declared.bounds.TheConstants.{MAX_NUMBER};
-ghost use Rattle.kv_types.specs.declared.edit.Edit.{Edit};
+ghost use Rattle.kv_types.specs.Content.{BatchContent};
 ghost use Rattle.kv_types.specs.Spelling.{IsBatch};
 ghost use Rattle.kv_types.specs.Maps.{map_of};
 ghost use Rattle.disk.specs.State.{Leaves, contents, IsSame};
@@ -50,7 +51,7 @@ fn batch_at<D: Disk>(alloc: Global, disk: &mut D, log: &Log, index: usize) -> Re
     ensures found { (records : List (List ℕ)) → D.is_honest disk.old →
         Holds (D.state disk.old) log.now records →
         IfOk result (λ batch. slice_get records index ≡ Some (batch_record (index + 1) batch)) }
-    ensures damaged { (list : List (List Edit)) → D.is_honest disk.old →
+    ensures damaged { (list : List BatchContent) → D.is_honest disk.old →
         Holds (D.state disk.old) log.now (records_from 1 list) → All IsBatch list →
         IfErr result IsOfMachine }
     ensures created { IfErr result (λ e. e ≢ Stop.NotCreated) }
@@ -71,7 +72,7 @@ fn batches_in<D: Disk>(alloc: Global, disk: &mut D, log: &Log) -> Result<Vec<Bat
         IfOk result (λ batches.
         (records ≡ records_from 1 batches.items) × All IsBatch batches.items) }
     ensures few { IfOk result (λ batches. length batches.items ≤ MAX_NUMBER) }
-    ensures damaged { (list : List (List Edit)) → D.is_honest disk.old →
+    ensures damaged { (list : List BatchContent) → D.is_honest disk.old →
         Holds (D.state disk.old) log.now (records_from 1 list) → All IsBatch list →
         length list ≤ MAX_NUMBER → IfErr result IsOfMachine }
     ensures created { IfErr result (λ e. e ≢ Stop.NotCreated) }
@@ -193,12 +194,12 @@ impl Engine {
         ensures keeps { KeepsDisk D.is_honest D.failures disk.old disk.new (TellsDisk result) }
         ensures reliable { StaysReliable (D.is_reliable disk.old) (D.is_reliable disk.new)
             (TellsDisk result) ⊥ }
-        ensures opened { (x epoch : ℕ) (ids : List ℕ) (list : List (List Edit)) (floor kept : ℕ) →
+        ensures opened { (x epoch : ℕ) (ids : List ℕ) (list : List BatchContent) (floor kept : ℕ) →
             D.is_honest disk.old →
             DiskRepresents (contents (D.state disk.old)) x epoch ids list floor kept →
             MatchResult result
             (λ it. IsOpened (D.state disk.new) it.0 it.1 x epoch ids list floor kept) IsOfMachine }
-        ensures found { D.is_honest disk.old → IfOk result (λ it. (list : List (List Edit)) ×
+        ensures found { D.is_honest disk.old → IfOk result (λ it. (list : List BatchContent) ×
             DiskRepresents (contents (D.state disk.old)) it.0.id (engine_epoch it.1) it.0.config
             list (engine_floor it.1) (engine_kept it.1)) }
         ensures blank { D.is_honest disk.old →
@@ -251,18 +252,18 @@ impl Engine {
         ensures keeps { KeepsDisk D.is_honest D.failures disk.old disk.new (TellsDisk result) }
         ensures reliable { StaysReliable (D.is_reliable disk.old) (D.is_reliable disk.new)
             (TellsDisk result) (IsNearlyFull self.old) }
-        ensures appended { (x epoch : ℕ) (ids : List ℕ) (list : List (List Edit))
+        ensures appended { (x epoch : ℕ) (ids : List ℕ) (list : List BatchContent)
             (floor kept : ℕ) → D.is_honest disk.old →
             EngineHolds (D.state disk.old) self.old x epoch ids list floor kept →
             MatchResult result (λ _. EngineHolds (D.state disk.new) self.new x epoch ids
             (list ++ batch ∷ []) floor kept) IsOfMachine }
 
         // A crash now, whatever the answer, leaves the old batches, with the new one or without.
-        ensures crash { (x epoch : ℕ) (ids : List ℕ) (list : List (List Edit))
+        ensures crash { (x epoch : ℕ) (ids : List ℕ) (list : List BatchContent)
             (floor kept : ℕ) → D.is_honest disk.old →
             EngineHolds (D.state disk.old) self.old x epoch ids list floor kept →
             KeepsOneOf (D.state disk.new) x epoch ids list (list ++ batch ∷ []) floor kept }
-        ensures others { (x epoch : ℕ) (ids : List ℕ) (list : List (List Edit))
+        ensures others { (x epoch : ℕ) (ids : List ℕ) (list : List BatchContent)
             (floor kept : ℕ) → D.is_honest disk.old →
             EngineHolds (D.state disk.old) self.old x epoch ids list floor kept →
             KeepsOthers (D.state disk.old) (D.state disk.new) }
@@ -286,11 +287,11 @@ impl Engine {
         ensures keeps { KeepsDisk D.is_honest D.failures disk.old disk.new (TellsDisk result) }
         ensures reliable { StaysReliable (D.is_reliable disk.old) (D.is_reliable disk.new)
             (TellsDisk result) ⊥ }
-        ensures found { (x epoch : ℕ) (ids : List ℕ) (list : List (List Edit)) (floor kept : ℕ) →
+        ensures found { (x epoch : ℕ) (ids : List ℕ) (list : List BatchContent) (floor kept : ℕ) →
             D.is_honest disk.old →
             EngineHolds (D.state disk.old) self.now x epoch ids list floor kept →
             MatchResult result (λ batch. place list number ≡ Some batch) IsOfMachine }
-        ensures holds { (x epoch : ℕ) (ids : List ℕ) (list : List (List Edit)) (floor kept : ℕ) →
+        ensures holds { (x epoch : ℕ) (ids : List ℕ) (list : List BatchContent) (floor kept : ℕ) →
             D.is_honest disk.old →
             EngineHolds (D.state disk.old) self.now x epoch ids list floor kept →
             EngineHolds (D.state disk.new) self.now x epoch ids list floor kept }
@@ -304,11 +305,11 @@ impl Engine {
         ensures keeps { KeepsDisk D.is_honest D.failures disk.old disk.new (TellsDisk result) }
         ensures reliable { StaysReliable (D.is_reliable disk.old) (D.is_reliable disk.new)
             (TellsDisk result) ⊥ }
-        ensures found { (x epoch : ℕ) (ids : List ℕ) (list : List (List Edit)) (floor kept : ℕ) →
+        ensures found { (x epoch : ℕ) (ids : List ℕ) (list : List BatchContent) (floor kept : ℕ) →
             D.is_honest disk.old →
             EngineHolds (D.state disk.old) self.now x epoch ids list floor kept → floor ≤ at →
             MatchResult result (λ value. value ≡ map_of (take at list) key.now) IsOfMachine }
-        ensures holds { (x epoch : ℕ) (ids : List ℕ) (list : List (List Edit)) (floor kept : ℕ) →
+        ensures holds { (x epoch : ℕ) (ids : List ℕ) (list : List BatchContent) (floor kept : ℕ) →
             D.is_honest disk.old →
             EngineHolds (D.state disk.old) self.now x epoch ids list floor kept →
             EngineHolds (D.state disk.new) self.now x epoch ids list floor kept }

@@ -1,8 +1,9 @@
+// The records of a node's two files.
 ghost use Rattle.std.specs.Prelude.{◌≡◌, ◌⊎◌, ℕ, [], ◌∷◌, List, ◌++◌};
 ghost use Rattle.std.specs.Prelude.{IfOk, IfErr, IfSome, IsSome, IsErrOf, All, ◌<◌};
 ghost use Rattle.std.specs.List.{flat_map};
 ghost use Rattle.std.specs.Int.{w16, to_be_bytes};
-ghost use Rattle.kv_types.specs.declared.edit.Edit.{Edit};
+ghost use Rattle.kv_types.specs.Content.{BatchContent};
 ghost use Rattle.kv_types.specs.Spelling.{IsBatch};
 ghost use Rattle.chain_model.specs.Configuration.{IsId};
 ghost use Rattle.configurations.specs.Configs.{IsConfig};
@@ -95,7 +96,7 @@ pub fn batch_record(alloc: Global, number: u64, batch: &Batch) -> Result<Vec<u8>
 /// The batch of a record, if that has this number.
 pub fn batch_of(alloc: Global, number: u64, bytes: &[u8]) -> Result<Batch, Stop>
     ensures found { IfOk result (λ batch. (bytes.now ≡ batch_record number batch) × IsBatch batch) }
-    ensures damaged { IsErrOf result Stop.Damaged → (batch : List Edit) → IsBatch batch →
+    ensures damaged { IsErrOf result Stop.Damaged → (batch : BatchContent) → IsBatch batch →
         bytes.now ≡ batch_record number batch → ⊥ }
     ensures only { IfErr result (λ e. (e ≡ Stop.Damaged) ⊎ (e ≡ Stop.Memory)) }
 {

@@ -1,3 +1,4 @@
+// A running node: its store, and the rules of a step over it.
 ghost use Rattle.std.specs.Prelude.{◌≡◌, ℕ, ◌+◌, ◌-◌, length, replicate};
 ghost use Rattle.std.specs.Prelude.{◌<◌, ◌≤◌, suc, OnOk, OnErr, IfOk, IfErr, MatchResult, IsErrAnd};
 ghost use Rattle.kv_types.specs.declared.bounds.TheConstants.{MAX_NUMBER};

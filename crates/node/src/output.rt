@@ -1,3 +1,4 @@
+// What a step answers: frames for other nodes, replies for clients.
 use chain_core::{DropReason, Sent};
 use kv_types::{Number, Value};
 use link_messages::Refusal;

@@ -1,3 +1,4 @@
+// Why a node ended.
 ghost use Rattle.std.specs.Prelude.{◌≡◌};
 ghost use Rattle.node.specs.declared.stop.Stop.TheVariants.{Memory};
 ghost use Rattle.node.specs.Stops.{disk_stop, log_stop, config_stop};

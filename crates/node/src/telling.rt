@@ -1,7 +1,7 @@
 // What a step answers, from a node's numbers and what the store gave.
 ghost use Rattle.std.specs.Prelude.{◌≡◌, ℕ, [], ◌∷◌, ◌++◌, List, map, take, Option};
 ghost use Rattle.std.specs.Prelude.{IfOk, IfErr, OnOk, option_to_list, if◌then◌else◌, Some};
-ghost use Rattle.kv_types.specs.declared.edit.Edit.{Edit};
+ghost use Rattle.kv_types.specs.Content.{BatchContent};
 ghost use Rattle.kv_types.specs.Maps.{map_of};
 ghost use Rattle.chain_model.specs.Configuration.{successor};
 ghost use Rattle.chain_model.specs.Frames.{Frame};
@@ -49,7 +49,7 @@ fn ack_where(core: &CoreState, acks: bool) -> Option<Sent>
 
 // The last batch for the successor, if this is a copy of it.
 fn forward_last(core: &CoreState, copy: Option<Batch>) -> Option<Sent>
-    ensures { (n : Machine) (batch : List Edit) → Is core.now n →
+    ensures { (n : Machine) (batch : BatchContent) → Is core.now n →
         place n.list core.now.count ≡ Some batch →
         IsCopyFor (successor n.ids core.now.id) batch copy →
         AreFrames (option_to_list result) (forward core.now.id n core.now.count) }
@@ -93,7 +93,7 @@ pub(crate) fn output_of(
     acks: bool,
     due: &[Waiting],
 ) -> Result<Output, Stop>
-    ensures says { (n : Machine) (frames : List (Frame (List Edit))) → Is core.now n →
+    ensures says { (n : Machine) (frames : List (Frame BatchContent)) → Is core.now n →
         AreFrames sent.items frames →
         IfOk result (Says None (frames ++ (if acks then ack core.now.id n else []))
         (map told_to due.now)) }
@@ -116,7 +116,7 @@ pub(crate) fn output_taken(
     acks: bool,
     due: &[Waiting],
 ) -> Result<Output, Stop>
-    ensures says { (n : Machine) (batch : List Edit) → Is core.now n →
+    ensures says { (n : Machine) (batch : BatchContent) → Is core.now n →
         place n.list core.now.count ≡ Some batch →
         IsCopyFor (successor n.ids core.now.id) batch copy →
         IfOk result (Says None (forward core.now.id n core.now.count

@@ -360,7 +360,8 @@ emptied (x ∷ xs) ys e f = absurd (omega (arith, ap length e, ap length f))
 
 -- the next statement of all
 pub goes_next : (world after : World) (cs : Configurations) (left next : List ℕ)
-    (all : List Statement) (i : ℕ) (d it : Statement) (turns : List Turn) (turn : Turn) → i < length all →
+    (all : List Statement) (i : ℕ) (d it : Statement) (turns : List Turn) (turn : Turn) →
+    i < length all →
     it ≡ get_or all i d → (g : Goes world cs left (drop i all) all turns)
     (own : List lab.Event) (lines : List (List Line)) →
     IsTurn (frames_told g.steps) left it turn own lines →

@@ -1,3 +1,4 @@
+// A run of statements: the events of each, one after another.
 ghost use Rattle.std.specs.Prelude.{◌≡◌, ℕ, List, [], ◌∷◌, ◌++◌, length, map, take, drop};
 ghost use Rattle.std.specs.Prelude.{OnOk, IfOk, ◌+◌, ◌-◌};
 ghost use Rattle.chain_model.specs.Configuration.{Configurations};

@@ -1,3 +1,4 @@
+// Why a run ended early, and the line that says so.
 ghost use Rattle.std.specs.Prelude.{◌≡◌, Some};
 ghost use Rattle.program.specs.Failures.{failure_of, failure_text};
 

@@ -29,7 +29,8 @@ pub fn serve<F: Files + Alloc<A = Global>, R: Read, O: Write, E: Write>(
         EndsAs (R.remaining input.old) (O.contents out.old) (O.contents out.new) result }
     ensures path { (path : List ℕ) → lab_script (map (λ w. w.now) words.now) ≡ Some path →
         is_dashed path ≡ false → input.new ≡ input.old }
-    ensures run { result ≡ 0 → IsRunOfText None (Appends (O.contents out.old) (O.contents out.new)) }
+    ensures run { result ≡ 0 →
+        IsRunOfText None (Appends (O.contents out.old) (O.contents out.new)) }
     ensures status { result ≤ 2 }
     ensures usage { result ≡ 2 → O.contents out.new ≡ O.contents out.old }
 {
@@ -48,7 +49,8 @@ fn serve_path<F: Files + Alloc<A = Global>, O: Write, E: Write>(
     out: &mut O,
     err: &mut E,
 ) -> u8
-    ensures run { result ≡ 0 → IsRunOfText None (Appends (O.contents out.old) (O.contents out.new)) }
+    ensures run { result ≡ 0 →
+        IsRunOfText None (Appends (O.contents out.old) (O.contents out.new)) }
     ensures status { result ≤ 1 }
 {
     match OpenOptions::new().read(true).open(rt, path) {

@@ -1,3 +1,4 @@
+// What a statement did: how many events it had, and what is said of it besides.
 use kv_types::KvError;
 
 /// What is said of a statement besides the lines of its events.

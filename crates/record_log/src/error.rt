@@ -1,3 +1,4 @@
+// The refusals of a log.
 ghost use Rattle.std.specs.Prelude.{◌≡◌};
 ghost use Rattle.record_log.specs.declared.error.LogError.TheVariants.{Memory};
 ghost use Rattle.record_log.specs.Error.{log_error};

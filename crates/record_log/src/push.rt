@@ -1,3 +1,4 @@
+// The four device calls of an append.
 ghost use Rattle.std.specs.Prelude.{◌≡◌, ◌≢◌, ℕ, ◌+◌, ◌<◌, ◌^◌, ◌⊎◌, List, length, OnOk, IfErr};
 ghost use Rattle.std.specs.Prelude.{IsErrOf};
 ghost use Rattle.disk.specs.Calls.{Keeps, StaysReliable, EndsOutOfRange};

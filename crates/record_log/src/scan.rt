@@ -1,3 +1,4 @@
+// The records of a file, found from its bytes.
 ghost use Rattle.std.specs.Prelude.{◌≡◌, ◌≤◌, ◌++◌, ◌<◌, ◌^◌, List, ℕ, length, ◌⊎◌, IfOk, IfErr};
 ghost use Rattle.std.specs.Prelude.{Err, IsErr, MatchOption};
 ghost use Rattle.record_log.specs.Grammar.{IsClosed, StandsFor, entry, ends_from, end_of};

@@ -1,3 +1,4 @@
+// Batches in bytes both ways, and limits at their edges.
 use kv_types::{Batch, Edit, Key, KvError, Limits, Number, Page, Range, Row, Value, value_at};
 use std::alloc::Global;
 use std::test::Fail;

@@ -1,3 +1,4 @@
+// The outcomes of a crash, and the refusals of a disk.
 use disk::{Crash, Disk, DiskError, Fault, Junk, JunkBytes, MemDisk};
 use std::alloc::{AllocError, Global};
 use std::test::Fail;

@@ -1,3 +1,4 @@
+// The bytes of whole logs, openings, and failures that stay.
 use disk::{Crash, Disk, DiskError, Junk, JunkBytes, MemDisk};
 use record_log::{Log, LogError};
 use std::alloc::{AllocError, Global};

@@ -1,3 +1,4 @@
+// The words of a statement whose form is right.
 ghost use Rattle.std.specs.Prelude.{◌≡◌, ◌++◌, ◌∷◌, [], map, Some, OnOk};
 ghost use Rattle.lab.specs.Events.{node_in};
 ghost use Rattle.program.specs.Reading.{what_of};

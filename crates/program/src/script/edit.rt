@@ -1,3 +1,4 @@
+// The words of edits: KEY=VALUE and -KEY.
 ghost use Rattle.std.specs.Prelude.{◌≡◌, ◌==◌, true, false, not, map, position, MatchOption};
 ghost use Rattle.std.specs.Prelude.{IfOk, All};
 ghost use Rattle.std.specs.List.{list_any};

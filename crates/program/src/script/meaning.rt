@@ -1,3 +1,4 @@
+// What a statement asks for: an event, all frames that are left, or nothing valid.
 ghost use Rattle.std.specs.Prelude.{◌≡◌, None, Some, map, IfOk, MatchResult};
 ghost use Rattle.std.specs.Option.{option_or};
 ghost use Rattle.lab.specs.Events.{node_in};

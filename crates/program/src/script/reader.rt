@@ -1,3 +1,4 @@
+// The reader of scripts: all statements, or the first fault.
 ghost use Rattle.std.specs.Prelude.{◌≡◌, ◌≢◌, ◌⊎◌, ◌++◌, ◌∷◌, [], map, codes, true, false};
 ghost use Rattle.std.specs.Prelude.{Some, None, IfOk, OnOk, MatchResult, MatchOption, All};
 ghost use Rattle.std.specs.Fmt.{decimal};

@@ -1,3 +1,4 @@
+// The statements of a script, and what the reader knows between two lines.
 ghost use Rattle.std.specs.Prelude.{◌≡◌, ◌++◌, true, false, Some, None};
 ghost use Rattle.std.specs.Prelude.{IfOk, MatchOption, MatchResult};
 ghost use Rattle.chain_model.specs.Configuration.{has};

@@ -1,3 +1,4 @@
+// Each statement, read from its words.
 ghost use Rattle.std.specs.Prelude.{◌≡◌, ◌∷◌, ◌<◌, nat_lt, length, true, false, map, codes};
 ghost use Rattle.std.specs.Prelude.{MatchOption, IfOk};
 ghost use Rattle.std.specs.Str.{bytes_eq};

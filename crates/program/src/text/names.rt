@@ -1,3 +1,4 @@
+// The names of refusals, drop reasons and causes, as they are printed.
 ghost use Rattle.std.specs.Prelude.{◌≡◌, Some};
 ghost use Rattle.program.specs.Text.{refusal_text, error_text, reason_text, cause_text};
 ghost use Rattle.program.specs.Text.{fault_text};

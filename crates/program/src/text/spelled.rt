@@ -1,3 +1,4 @@
+// Byte strings, as scripts spell them.
 ghost use Rattle.std.specs.Prelude.{Some};
 ghost use Rattle.program.specs.Words.{byte_text, bytes_text};
 

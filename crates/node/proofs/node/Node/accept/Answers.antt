@@ -2,7 +2,7 @@ use Rattle.std.proofs.Common.{◌≡◌, ℕ, suc, List, [], ◌++◌, length}
 use Rattle.std.proofs.Common.{ap, subst, sym, ◌∙◌, inr}
 use Rattle.std.proofs.lemmas.Result.{err_from_is_err_and}
 use Rattle.std.proofs.lemmas.List.{append-nil}
-use Rattle.kv_types.specs.declared.edit.Edit.{Edit}
+use Rattle.kv_types.specs.Content.{BatchContent}
 use Rattle.chain_model.specs.Frames.{Frame}
 use Rattle.chain_model.specs.Rules.{accept, forward}
 use Rattle.chain_core.specs.declared.done.Done.TheVariants as done
@@ -47,7 +47,7 @@ returns-clause-ends g c = λ x n input r.
     let copied = copy_after old new n a.node x batch c.in_ok-copy.copy r.core leaves.ids r.id
     follows.runs.id c.in_ok-copy.ensures in
     let says = c.output_taken.ensures.says a.node batch follows.runs.core there copied in
-    let sent : ℕ → List (Frame (List Edit)) = λ y. forward y a.node new.count ++ [] in
+    let sent : ℕ → List (Frame BatchContent) = λ y. forward y a.node new.count ++ [] in
     let one = append-nil (forward x a.node new.count) ∙ ap (forward x a.node) number in
     ends_rule g.D.Disk.is_honest g.D.Disk.state c.sure_is_left.ensures c.take.new.self x n input
     batch d a c.in_ok-due.due.items c.deref.result.now sent c.output_taken.result leaves follows

@@ -1,7 +1,7 @@
 use Rattle.std.proofs.Common.{◌≡◌, ℕ, suc, List, [], ◌++◌, length}
 use Rattle.std.proofs.Common.{Bool, if◌then◌else◌, ap, subst, sym, ◌∙◌, inr}
 use Rattle.std.proofs.lemmas.Result.{err_from_is_err_and}
-use Rattle.kv_types.specs.declared.edit.Edit.{Edit}
+use Rattle.kv_types.specs.Content.{BatchContent}
 use Rattle.chain_model.specs.Configuration.{is_tail}
 use Rattle.chain_model.specs.Frames.{Frame}
 use Rattle.chain_model.specs.Rules.{ack, append, forward}
@@ -47,9 +47,9 @@ returns-clause-ends g c = λ x n input r.
     let copied = copy_after old new n a.node x batch c.in_ok-copy.copy r.core leaves.ids r.id
     follows.runs.id c.in_ok-copy.ensures in
     let says = c.output_taken.ensures.says a.node batch follows.runs.core there copied in
-    let told : Bool → List (Frame (List Edit)) = λ acks. if acks then ack x a.node else [] in
+    let told : Bool → List (Frame BatchContent) = λ acks. if acks then ack x a.node else [] in
     let acks = c.is_tail.result in
-    let sent : ℕ → List (Frame (List Edit)) = λ y.
+    let sent : ℕ → List (Frame BatchContent) = λ y.
     forward y a.node new.count ++ (if acks then ack y a.node else []) in
     let tail : acks ≡ is_tail a.node.ids x = c.is_tail.ensures
     ∙ ap (λ ids. is_tail ids new.id) (sym follows.runs.core.ids)

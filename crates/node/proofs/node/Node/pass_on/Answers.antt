@@ -1,7 +1,7 @@
 use Rattle.std.proofs.Common.{◌≡◌, ℕ, List, [], refl}
 use Rattle.std.proofs.Common.{Bool, nat_lt, if◌then◌else◌, ap, subst, sym, ◌∙◌, inr}
 use Rattle.std.proofs.lemmas.Result.{err_from_is_err_and}
-use Rattle.kv_types.specs.declared.edit.Edit.{Edit}
+use Rattle.kv_types.specs.Content.{BatchContent}
 use Rattle.chain_model.specs.Frames.{Frame}
 use Rattle.chain_model.specs.Rules.{ack, pass_on}
 use Rattle.chain_core.specs.declared.done.Done.TheVariants as done
@@ -50,8 +50,8 @@ returns-clause-ends g c = λ x n input r.
     (c.in_ok-due.ensures.after n [] r.core) in
     let runs = goes_on g.D.Disk.is_honest g.D.Disk.state node x n [] d a leaves r.honest
     r.store follows.is (c.in_ok-due.ensures.same ∙ r.id) in
-    let told : Bool → List (Frame (List Edit)) = λ acks. if acks then ack x a.node else [] in
-    let sent : ℕ → List (Frame (List Edit)) =
+    let told : Bool → List (Frame BatchContent) = λ acks. if acks then ack x a.node else [] in
+    let sent : ℕ → List (Frame BatchContent) =
     λ y. if c.gt-grows.result then ack y a.node else [] in
     let none : AreFrames c.new.result.items [] = rw c.new.ensures.items refl in
     let grows : c.gt-grows.result ≡ nat_lt n.committed c.args.committed =

@@ -1,7 +1,7 @@
-use Rattle.std.proofs.Common.{ℕ, List, sym, subst}
+use Rattle.std.proofs.Common.{ℕ, sym, subst}
 use Rattle.std.specs.Prelude.{MatchResult, OnErr}
 use Rattle.chain_model.specs.Node.{Answer}
-use Rattle.kv_types.specs.declared.edit.Edit.{Edit}
+use Rattle.kv_types.specs.Content.{BatchContent}
 use Rattle.chain_core.specs.Decisions.{Decides}
 use Rattle.node.specs.Steps.{Answers, StopsAs}
 use Rattle.node.specs.Stops.{IsOfMachine}
@@ -13,7 +13,7 @@ returns-clause-answered g c = λ x n r.
     let node = c.perform.new.self in
     let decides = subst (λ (y : ℕ). Decides y n c.args.input c.decide-decision.result) r.id
     (c.decide-decision.ensures.decides n r.core) in
-    subst (λ (a : Answer (List Edit)). MatchResult c.perform.result
+    subst (λ (a : Answer BatchContent). MatchResult c.perform.result
     (Answers g.D.Disk.is_honest g.D.Disk.state node x c.args.input a) IsOfMachine)
     (sym decides.rule) (c.perform.ensures.ends x n c.args.input r decides.read).done
 
@@ -22,6 +22,6 @@ returns-clause-stopped g c = λ x n r.
     let node = c.perform.new.self in
     let decides = subst (λ (y : ℕ). Decides y n c.args.input c.decide-decision.result) r.id
     (c.decide-decision.ensures.decides n r.core) in
-    subst (λ (a : Answer (List Edit)). OnErr c.perform.result (g.D.Disk.is_honest node.disk
+    subst (λ (a : Answer BatchContent). OnErr c.perform.result (g.D.Disk.is_honest node.disk
     × StopsAs (g.D.Disk.state node.disk) x n a))
     (sym decides.rule) (c.perform.ensures.ends x n c.args.input r decides.read).stopped
