@@ -20,9 +20,17 @@ use Rattle.chain_model.specs.InOrder.{InOrder}
 use Rattle.chain_model.specs.World.{Event as ModelEvent, World, Outcome, Answered, reached}
 use Rattle.chain_model.specs.World.{beginning}
 use Rattle.chain_model.specs.World.{outcome, happens, after, nothing}
+use Rattle.node.specs.declared.node.Node.{Node}
 use Rattle.node.specs.declared.stop.Stop.TheVariants.{Disk}
+use Rattle.node.specs.Steps.{Runs, disk_of}
+use Rattle.chain_core.specs.States.{Machine}
+use Rattle.lab.specs.declared.member.Member.{Member}
+use Rattle.lab.specs.declared.member.Member.TheVariants.{Running, Resting}
 use Rattle.lab.specs.declared.coming.Arrival.{Arrival}
 use Rattle.lab.specs.declared.coming.Coming.{Coming}
+use Rattle.lab.specs.declared.coming.Coming.TheVariants as coming
+use Rattle.lab.specs.declared.coming.Did.{Did}
+use Rattle.lab.specs.declared.coming.Did.TheVariants as did
 use Rattle.lab.specs.declared.event.Event.{Event}
 use Rattle.lab.specs.declared.event.What.{What}
 use Rattle.lab.specs.declared.event.What.TheVariants.{Submit, Get, Deliver, Tick, Start, Stop}
@@ -32,12 +40,13 @@ use Rattle.lab.specs.declared.report.Line.TheVariants.{Nothing}
 use Rattle.lab.specs.declared.seat.Seat.{Seat}
 use Rattle.lab.specs.declared.world.World.{World as LabWorld}
 use Rattle.lab.specs.Events.{modelled, lines_of, NamesNode}
-use Rattle.lab.specs.Members.{Is, Choice, disk_in}
-use Rattle.lab.specs.Comings.{Brings, BringsNothing, DiskLeft, sent_by}
-use Rattle.lab.specs.Disks.{junk_of}
+use Rattle.lab.specs.Members.{Is, Choice, disk_in, is_honest, state, failures}
+use Rattle.lab.specs.Comings.{Brings, BringsNothing, DiskLeft, HasCrashed, Happened, WasStopped}
+use Rattle.lab.specs.Comings.{Stops, RestsOn, junk_with, sent_by}
+use Rattle.lab.specs.Disks.{junk_of, IsCrashOf}
 use Rattle.lab.specs.Traces.{modelled_from}
 use Rattle.lab.specs.Worlds.{IsKept, IsSeated, HasNoSeat, WasTold, HasMade, HasRun}
-use Rattle.lab.specs.Worlds.{frames_of_step}
+use Rattle.lab.specs.Worlds.{IsSeatOf, StopsNode, frames_of_step}
 use Rattle.lab.proofs.Posting.{zip_both}
 use Rattle.lab.proofs.Arrivals.{happened, nothing_done, junk_same}
 use Rattle.lab.proofs.Disks.{MayRise, with_disk, all_follow, none_follow, follows, few_more}
@@ -72,6 +81,23 @@ place_of world cs events steps run n i long fits is = record {
   );
   fits = subst (λ (k : ℕ). k ≤ MAX_NUMBER) (sym is) fits;
 }
+
+-- a running node that was stopped rests, and its disk is a crash of what it was
+crash_of : (junk : Junk) (x : ℕ) (n : Machine) (own : Node Slots) (old new : Member) (does : Did) →
+    old ≡ Running own → Is old x n → WasStopped x n new does →
+    DiskLeft (Some junk) does (disk_in old) new →
+    IsCrashOf state failures junk (disk_of own) (disk_in new)
+crash_of junk x n own old new does runs is (Stops on rests stopped) left =
+    let here = subst (λ (d : Did). DiskLeft (Some junk) d (disk_in old) new) stopped left in
+    crashed new (subst (λ (m : Member). HasCrashed junk (disk_in m) new) runs here)
+  where
+    crashed : (member : Member) → HasCrashed junk (disk_of own) member →
+        IsCrashOf state failures junk (disk_of own) (disk_in member)
+    crashed (Running other) has = absurd has
+    crashed (Resting disk) has = has
+crash_of junk x n own old new does runs is (RestsOn off same drop) left =
+    let on : Runs is_honest state own x n = subst (λ (m : Member). Is m x n) runs is in
+    absurd (false≢true (sym off ∙ on.core.running))
 
 -- in every run frames are in order
 abbrev pub AlwaysInOrder : Type 0
@@ -198,6 +224,37 @@ module _ (in_order : AlwaysInOrder) (cs : Configurations) (events : List Event)
       named (Start node) brings = has_it node brings.0
       named (Stop node junk) brings = has_it node brings.0
 
+  -- a node that was stopped while it ran is left a crash of its disk with the junk
+  stopped_next : (what : What) (x : ℕ) (comes : Coming) (lines : List Line) (now : List Seat)
+      (more : List Posted) → Brings w.frames i what x comes →
+      WasTold seats posted x comes lines now more → StopsNode what seats now
+  stopped_next (Stop node junk) x comes lines now more brings t =
+      let seat = t.handed.seat in
+      let old = get_or seats t.index seat in
+      let was : old.id ≡ x = t.at.id seat in
+      let before : Is old.member x (w.nodes x) =
+      subst (λ (y : ℕ). Is old.member y (w.nodes y)) was
+      (made.each t.index seat t.at.within).is in
+      let stopped : WasStopped x (w.nodes x) seat.member t.does =
+      subst (λ (c : Coming). Happened x (w.nodes x) c seat.member t.does) brings.1
+      (t.handed.happened x (w.nodes x) before) in
+      let left : DiskLeft (Some junk) t.does (disk_in old.member) seat.member =
+      subst (λ (c : Coming). DiskLeft (junk_with c) t.does (disk_in old.member) seat.member)
+      brings.1 t.handed.disk in
+      record {
+        index = t.index;
+        at = subst (λ (y : ℕ). IsSeatOf seats t.index y) brings.0 t.at;
+        seat = seat;
+        others = t.handed.whole;
+        crashes = λ own runs. crash_of junk x (w.nodes x) own old.member seat.member t.does runs
+            before stopped left;
+      }
+  stopped_next (Submit node batch) x comes lines now more brings t = tt
+  stopped_next (Get node key at) x comes lines now more brings t = tt
+  stopped_next (Deliver p) x comes lines now more brings t = tt
+  stopped_next (Tick node) x comes lines now more brings t = tt
+  stopped_next (Start node) x comes lines now more brings t = tt
+
   -- no frame has the place
   nothing_next : BringsNothing w.frames event.what →
       HasMade seats posted cs (events ++ event ∷ []) (steps ++ (Nothing ∷ []) ∷ [])
@@ -240,6 +297,13 @@ module _ (in_order : AlwaysInOrder) (cs : Configurations) (events : List Event)
         (λ it. Brings w.frames i event.what it.to it.coming) is (brought w.frames made.frames) in
         subst (λ (what : What). NamesNode cs what) (sym brings.1) tt
 
+    -- .. and stops none
+    pub nothing_stopped : found ≡ None → (now : List Seat) → StopsNode event.what seats now
+    nothing_stopped is now =
+        let brings = MatchOption-at_none (BringsNothing w.frames event.what)
+        (λ it. Brings w.frames i event.what it.to it.coming) is (brought w.frames made.frames) in
+        subst (λ (what : What). StopsNode what seats now) (sym brings.1) tt
+
     module _ (it : Arrival) (is : found ≡ Some it) where
       brings : Brings w.frames i event.what it.to it.coming
       brings = MatchOption-at_some (BringsNothing w.frames event.what)
@@ -252,6 +316,11 @@ module _ (in_order : AlwaysInOrder) (cs : Configurations) (events : List Event)
       pub named_after : (lines : List Line) (now : List Seat) (more : List Posted) →
           WasTold seats posted it.to it.coming lines now more → NamesNode cs event.what
       named_after lines now more t = told_named it.to it.coming lines now more brings t
+
+      pub stopped_after : (lines : List Line) (now : List Seat) (more : List Posted) →
+          WasTold seats posted it.to it.coming lines now more → StopsNode event.what seats now
+      stopped_after lines now more t =
+          stopped_next event.what it.to it.coming lines now more brings t
 
       pub told_after : (lines : List Line) (now : List Seat) (more : List Posted) →
           WasTold seats posted it.to it.coming lines now more →

@@ -7,7 +7,10 @@ use Rattle.chain_model.specs.Configuration.{Configurations, Lawful, at_epoch}
 use Rattle.chain_model.specs.Frames as model_frame
 use Rattle.chain_model.specs.Node.{created}
 use Rattle.chain_model.specs.World as model
+use Rattle.disk.specs.declared.junk.Junk.{Junk}
 use Rattle.disk.specs.Memory.{Slots}
+use Rattle.node.specs.declared.node.Node.{Node}
+use Rattle.node.specs.Steps.{disk_of}
 use Rattle.link_messages.specs.declared.frame.Frame.{Frame}
 use Rattle.link_messages.specs.Spelling.{IsFrame, HasBounds, spelling}
 use Rattle.chain_core.specs.Decisions.{frame_as}
@@ -17,6 +20,9 @@ use Rattle.lab.specs.declared.coming.Coming.{Coming}
 use Rattle.lab.specs.declared.coming.Did.{Did}
 use Rattle.lab.specs.declared.event.Event.{Event}
 use Rattle.lab.specs.declared.event.EventRecord.{EventRecord}
+use Rattle.lab.specs.declared.event.What.{What}
+use Rattle.lab.specs.declared.event.What.TheVariants.{Submit, Get, Deliver, Tick, Start, Stop}
+use Rattle.lab.specs.declared.member.Member.TheVariants.{Running}
 use Rattle.lab.specs.declared.report.Line.{Line}
 use Rattle.lab.specs.declared.report.Line.TheVariants as line
 use Rattle.lab.specs.declared.posted.Posted.{Posted}
@@ -25,7 +31,7 @@ use Rattle.lab.specs.declared.seat.Seat.{Seat}
 use Rattle.lab.specs.declared.world.World.{World}
 use Rattle.lab.specs.Members.{Choice, Is, disk_in, state, failures}
 use Rattle.lab.specs.Comings.{Happened, DiskLeft, junk_with, sent_by, did_lines}
-use Rattle.lab.specs.Disks.{AreDisksAfter, HaveDisks, IsDiskOf}
+use Rattle.lab.specs.Disks.{AreDisksAfter, HaveDisks, IsDiskOf, IsCrashOf}
 use Rattle.lab.specs.History.{IsHistory}
 use Rattle.lab.specs.Runs.{Tells}
 use Rattle.lab.specs.Traces.{modelled_from, IsTrace}
@@ -122,6 +128,25 @@ pub record WasTold (seats : List Seat) (posted : List Posted) (x : ℕ) (comes :
   pub handed : WasHanded seats index comes does now
   pub kept : Keeps posted (sent_by does) more
   pub told : lines ≡ did_lines x (length posted) does
+
+-- Node x was stopped with this junk, in its seat: if it ran, a crash with the junk is what its disk
+-- is left as. Every other seat is as it was.
+pub record IsStopped (old new : List Seat) (x : ℕ) (junk : Junk) : Type 0 where
+  pub index : ℕ
+  pub at : IsSeatOf old index x
+  pub seat : Seat
+  pub others : new ≡ slice_set old index seat
+  pub crashes : (node : Node Slots) → (get_or old index seat).member ≡ Running node →
+      IsCrashOf state failures junk (disk_of node) (disk_in seat.member)
+
+-- a stop event stops the node that it names, with its junk
+abbrev pub StopsNode : What → List Seat → List Seat → Type 0
+StopsNode (Stop node junk) old new = IsStopped old new node junk
+StopsNode (Submit node batch) old new = Unit {0}
+StopsNode (Get node key at) old new = Unit {0}
+StopsNode (Deliver place) old new = Unit {0}
+StopsNode (Tick node) old new = Unit {0}
+StopsNode (Start node) old new = Unit {0}
 
 -- The nodes and frames have come of these events, and these are the lines of each: how each step
 -- went was chosen, and then nodes, disks, frames and lines are those of the model's run.

@@ -12,7 +12,7 @@ ghost use Rattle.lab.specs.Members.{Is, disk_in};
 ghost use Rattle.lab.specs.Runs.{IsRun};
 ghost use Rattle.lab.specs.History.{OneHistory};
 ghost use Rattle.lab.specs.Worlds.{HasRun, HasEnded, AreCreated, AreLeft, IsCreated, IsLeft};
-ghost use Rattle.lab.specs.Worlds.{IsRunSoFar, HasHistory, events_in, frames_told};
+ghost use Rattle.lab.specs.Worlds.{IsRunSoFar, HasHistory, StopsNode, events_in, frames_told};
 
 use crate::arrival::brought;
 use crate::member::Member;
@@ -149,6 +149,9 @@ impl World {
         ensures nothing { (cs : Configurations) (events : List Event) (steps : List (List Line)) →
             HasRun self.old cs events steps → (NamesNode cs event.now.what → ⊥) →
             OnOk result (HasRun self.new cs events steps) }
+        ensures stopped { (cs : Configurations) (events : List Event) (steps : List (List Line)) →
+            HasRun self.old cs events steps → NamesNode cs event.now.what →
+            OnOk result (StopsNode event.now.what self.old.seats.items self.new.seats.items) }
     {
         // No run that memory holds has more events than there are numbers.
         let Some(request) = Number::new(self.steps.len() as u64 + 1) else {
@@ -181,6 +184,9 @@ impl World {
         ensures nothing { (cs : Configurations) (events : List Event) (steps : List (List Line)) →
             HasRun self.old cs events steps → (NamesNode cs event.now.what → ⊥) →
             OnOk result (HasRun self.new cs events steps) }
+        ensures stopped { (cs : Configurations) (events : List Event) (steps : List (List Line)) →
+            HasRun self.old cs events steps → NamesNode cs event.now.what →
+            OnOk result (StopsNode event.now.what self.old.seats.items self.new.seats.items) }
         ensures ends { MatchResult result (λ _. HasEnded self.new → ⊥) (λ _. HasEnded self.new) }
         ensures again { HasEnded self.old → IsErr result }
     {

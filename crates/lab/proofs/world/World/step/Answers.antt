@@ -12,3 +12,8 @@ returns-clause-nothing c = λ cs events steps run other.
     on_ok_weaker c.happen-happened.result
     (λ same. record { kept = same.kept; taken = same.taken; made = same.made })
     (c.happen-happened.ensures.nothing cs events steps run other)
+
+pub returns-clause-stopped : goal.returns-clause-stopped
+returns-clause-stopped c = λ cs events steps run names.
+    on_ok_weaker c.happen-happened.result (λ stops. stops)
+    (c.happen-happened.ensures.stopped cs events steps run names)
