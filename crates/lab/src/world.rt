@@ -26,8 +26,8 @@ use chain_model::{in_order, made_of_outcomes, one_history};
 use configurations::{Config, Configs, NodeId};
 use disk::MemDisk;
 use kv_types::{Batch, Limits, Number};
-use node::Node;
 use node::laws::disks_represent;
+use node::{Node, Stop};
 use std::alloc::{AllocError, Global};
 
 /// The nodes of a chain on disks in memory, every frame that they ever sent, and every line of what
@@ -59,7 +59,12 @@ fn created_node(
             id,
             member: Member::Running(node),
         }),
-        Err(_refused) => Err(LabError::Memory),
+        Err(refused) => {
+            // A new disk fails at no call that fits, so only memory can be wanting.
+            let stop = refused.0;
+            prove!(stop == Stop::Memory);
+            Err(LabError::Memory)
+        }
     }
 }
 
