@@ -303,7 +303,8 @@ module _ (cs : Configurations) (w : World (List Edit)) (i x : ℕ) (what : What)
   given (Rests off is told) =
       as_chosen cs w i x what member does (chosen Answered Disk)
       (answers x (at_rest (w.nodes x) inp)) (at_rest (w.nodes x) inp).node
-      (rests (chosen Answered Disk) off) refl (subst (λ (n : Machine). Is member x n) (sym (rests_same inp)) is)
+      (rests (chosen Answered Disk) off) refl
+      (subst (λ (n : Machine). Is member x n) (sym (rests_same inp)) is)
       (tells (at_rest (w.nodes x) inp) told)
     where
       rests_same : (inp : Input) → (at_rest (w.nodes x) inp).node ≡ w.nodes x

@@ -60,13 +60,16 @@ module _ (w : World (List Edit)) (disks : ℕ → Slots) (o : Outcome (List Edit
           (λ differs. differs)
 
   -- a node with another id is as it was
-  stays : (s : Seat) → (s.id == x) ≡ false → IsSeated w.nodes disks s → IsSeated (after w o).nodes now_disks s
+  stays : (s : Seat) → (s.id == x) ≡ false → IsSeated w.nodes disks s →
+      IsSeated (after w o).nodes now_disks s
   stays s other seated = record {
     is = subst (λ (m : Machine). Is s.member s.id m) (sym (elsewhere s.id other)) seated.is;
     disk = seated.disk ∙ sym (disk_elsewhere disks x own s.id other);
   }
 
-  stay : (seats : List Seat) → has (ids_of seats) x ≡ false → AllByRecursion (IsSeated w.nodes disks) seats →
+  -- .. and so are all of them
+  stay : (seats : List Seat) → has (ids_of seats) x ≡ false →
+      AllByRecursion (IsSeated w.nodes disks) seats →
       AllByRecursion (IsSeated (after w o).nodes now_disks) seats
   stay [] none all = tt
   stay (s ∷ seats) none all =
@@ -96,7 +99,8 @@ module _ (w : World (List Edit)) (disks : ℕ → Slots) (o : Outcome (List Edit
       let among = subst (λ (y : ℕ). has (ids_of seats) y ≡ true) was
       (has_at seats k now (omega arith)) in
       cond_both (s.id == x) true true
-      (λ b. AllByRecursion (IsSeated (after w o).nodes now_disks) (slice_set (s ∷ seats) (suc k) now))
+      (λ b. AllByRecursion (IsSeated (after w o).nodes now_disks)
+      (slice_set (s ∷ seats) (suc k) now))
       (λ same. absurd (false≢true (sym (subst (λ (y : ℕ). has (ids_of seats) y ≡ false)
       (eqb-true s.id x same) differ.0) ∙ among)))
       (λ other. (

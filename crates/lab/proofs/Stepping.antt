@@ -1,5 +1,6 @@
 -- A step of the lab's world is a step of the model's.
-use Rattle.std.proofs.Common.{◌≡◌, ℕ, ◌+◌, ◌≤◌, List, [], ◌∷◌, ◌++◌, length, get_or, slice_set, true}
+use Rattle.std.proofs.Common.{◌≡◌, ℕ, ◌+◌, ◌≤◌, List, [], ◌∷◌, ◌++◌, length, get_or, slice_set}
+use Rattle.std.proofs.Common.{true}
 use Rattle.std.proofs.Common.{refl, sym, ap, subst, ◌∙◌, arith, append-nil}
 use Rattle.std.proofs.Math.Seq.{map-set_same}
 use Rattle.std.specs.Prelude.{All, Option, Some, None, MatchOption}
@@ -221,7 +222,8 @@ module _ (in_order : AlwaysInOrder) (cs : Configurations) (events : List Event)
         follow = none_follow event choice (outcome w cs (modelled i event.what choice)) made.disks
             (ap (λ (o : Outcome (List Edit)). o.came_to) none);
         few = λ x. omega (arith, made.few x, next.at);
-        each = subst (λ (v : World (List Edit)). All (IsSeated v.nodes made.disks) seats) same made.each;
+        each = subst (λ (v : World (List Edit)). All (IsSeated v.nodes made.disks) seats) same
+            made.each;
       })
 
   -- the same, by what an event was found to bring
