@@ -225,6 +225,45 @@ pub fn shown(alloc: Global, report: &Report) -> Result<String, AllocError> {
     Ok(text)
 }
 
+// How many events a world has taken, and what the last of them showed.
+fn so_far(alloc: Global, world: &World) -> Result<String, AllocError> {
+    let taken = world.events().len();
+    match world.report().last() {
+        Some(lines) => {
+            let text = lines_text(alloc, lines.as_slice())?;
+            format!(in alloc; "{taken} {text}\n")
+        }
+        None => format!(in alloc; "{taken}\n"),
+    }
+}
+
+/// What a world of these nodes has after each event, an event a line.
+pub fn shown_on_the_way(alloc: Global, ids: &[u16], steps: &[Step]) -> Result<String, Fail> {
+    let configs = configs(alloc, ids)?;
+    let events = events_of(alloc, steps)?;
+    let mut world = World::new(alloc, &configs, &Limits::default())?;
+    let mut text = so_far(alloc, &world)?;
+    for event in &events {
+        world.step(alloc, event)?;
+        text.push_str(&so_far(alloc, &world)?)?;
+    }
+    Ok(text)
+}
+
+/// How many lines tell that a node stopped, and how many of them that it stopped by itself.
+pub fn stops_in(report: &Report) -> (u64, u64) {
+    let (mut all, mut own) = (0u64, 0u64);
+    for lines in &report.steps {
+        for line in lines.as_slice() {
+            if let Line::Stopped { cause, .. } = line {
+                all = all.saturating_add(1);
+                own = own.saturating_add(cause.is_some() as u64);
+            }
+        }
+    }
+    (all, own)
+}
+
 /// What a report tells of each node, a node a line.
 pub fn nodes_text(alloc: Global, report: &Report) -> Result<String, AllocError> {
     let mut text = String::new(alloc);

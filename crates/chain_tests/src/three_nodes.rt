@@ -1,5 +1,7 @@
 // Runs of a chain of nodes 1, 2 and 3: what each event shows, by the rules of a step.
-use crate::courses::{ONE, Step, TWO, nodes_text, report_of, sent_after, shown};
+use crate::courses::{
+    ONE, Step, TWO, nodes_text, report_of, sent_after, shown, shown_on_the_way, stops_in,
+};
 use std::test::Fail;
 
 const CHAIN: &[u16] = &[1, 2, 3];
@@ -189,5 +191,37 @@ fn a_world_is_stepped(rt: HostRuntime) -> Result<(), Fail> {
     let steps = [Step::Submit(1, ONE), Step::Tick(4), Step::Tick(1)];
     assert_eq!(rt; sent_after(rt.alloc(), CHAIN, &steps)?, (2, 2));
     assert!(rt; report_of(rt.alloc(), CHAIN, &steps)?.is_none());
+    Ok(())
+}
+
+// With ample memory a node stops only where an event stops it.
+#[test]
+fn no_node_stops_by_itself(rt: HostRuntime) -> Result<(), Fail> {
+    let report = report_of(rt.alloc(), CHAIN, RESTS)?.ok_or("no node")?;
+    assert_eq!(rt; stops_in(&report), (2, 0));
+    Ok(())
+}
+
+// An event of an unknown node is not taken, and one without a frame is.
+#[test]
+fn a_world_that_goes_on_shows_what_it_did(rt: HostRuntime) -> Result<(), Fail> {
+    let steps = [
+        Step::Submit(1, ONE),
+        Step::Tick(4),
+        Step::Deliver(1),
+        Step::Deliver(9),
+        Step::Tick(1),
+    ];
+    assert_eq!(rt;
+        shown_on_the_way(rt.alloc(), CHAIN, &steps)?.as_str(),
+        "\
+0
+1 #1 1>2 forward 0 1
+1 #1 1>2 forward 0 1
+2 #2 2>3 forward 0 1
+3 nothing
+4 #3 1>2 forward 0 1
+"
+    );
     Ok(())
 }

@@ -68,6 +68,7 @@ module _ (w : World BatchContent) (disks : ℕ → Slots) (o : Outcome BatchCont
     disk = seated.disk ∙ sym (disk_elsewhere disks x own s.id other);
   }
 
+  -- .. and so are all of them
   stay : (seats : List Seat) → has (ids_of seats) x ≡ false →
       AllByRecursion (IsSeated w.nodes disks) seats →
       AllByRecursion (IsSeated (after w o).nodes now_disks) seats
