@@ -1,14 +1,22 @@
-use Rattle.std.proofs.Common.{refl, ◌++◌}
+use Rattle.std.proofs.Common.{ℕ, List, ◌++◌, ◌∙◌, sym, ap}
+use Rattle.chain_model.specs.Node.{without}
+use Rattle.lab.specs.declared.event.What.{What}
 use Rattle.lab.specs.Worlds.{frames_told, frames_of_step}
-use Rattle.program.specs.Courses.{places_after}
+use Rattle.program.specs.Courses.{left_by_event, places_after}
 use Rattle.program.proofs.Flowing.{left_as}
 use Rattle.program.proofs.course.Course.event.Goals as goal
 
 pub returns-in-Deliver : goal.returns-in-Deliver
 returns-in-Deliver c = λ cs events steps run named.
     let gave = rw c.in_ok-clone.ensures at c.in_ok-give.ensures in
-    let went = gave cs events steps run named in
-    (went.0, went.1, rw (c.in-Deliver.is, c.take_out.ensures, went.2) refl)
+    let went = gave cs events steps run named in (
+      went.0,
+      went.1,
+      c.take_out.ensures
+          ∙ (ap (λ (l : List ℕ). without c.in-Deliver.place l) went.2
+          ∙ ap (λ (what : What). left_by_event what (c.args.self.now.left.items
+          ++ places_after (frames_told steps) (frames_of_step went.0))) (sym c.in-Deliver.is)),
+    )
 
 pub returns-in_default : goal.returns-in_default
 returns-in_default c = λ cs events steps run named.
