@@ -16,3 +16,4 @@ pub mod Wholes
 pub mod OneText
 pub mod ReadBack
 pub mod ReadScripts
+pub mod Beginnings

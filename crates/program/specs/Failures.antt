@@ -41,3 +41,10 @@ IsOfReading Unreadable = Unit {0}
 IsOfReading (Script f) = Unit {0}
 IsOfReading Output = ⊥
 IsOfReading Memory = Unit {0}
+
+-- a script cannot be read for these alone
+abbrev pub IsOfInput : Failure → Type 0
+IsOfInput Unreadable = Unit {0}
+IsOfInput (Script f) = ⊥
+IsOfInput Output = ⊥
+IsOfInput Memory = Unit {0}

@@ -11,3 +11,4 @@ pub mod Failures
 pub mod Requests
 pub mod Runs
 pub mod Laws
+pub mod Beginnings

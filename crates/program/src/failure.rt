@@ -1,10 +1,12 @@
 // Why a run ended early, and the line that says so.
 ghost use Rattle.std.specs.Prelude.{◌≡◌, Some};
 ghost use Rattle.program.specs.Failures.{failure_of, failure_text};
+ghost use Rattle.program.specs.declared.failure.Failure.TheVariants.{Memory};
 
 use crate::run_error::RunError;
 use crate::script::Fault;
 use crate::text::FaultText;
+use std::alloc::AllocError;
 use std::fmt;
 
 /// Why a run ended early. With `Output`, a beginning of its text may have been written.
@@ -40,5 +42,13 @@ impl From<RunError> for Failure {
             RunError::Write => Failure::Output,
             RunError::Memory => Failure::Memory,
         }
+    }
+}
+
+impl From<AllocError> for Failure {
+    ghost from_gives = { λ _ failure. failure ≡ Memory };
+
+    fn from(_e: AllocError) -> Failure {
+        Failure::Memory
     }
 }

@@ -1,7 +1,6 @@
 //! From a script's bytes to the bytes that are printed.
-ghost use Rattle.std.specs.Prelude.{◌≡◌, ◌≢◌, All, IfOk, IfErr, IfSome, OnOk};
+ghost use Rattle.std.specs.Prelude.{◌≡◌, All, IfOk, IfErr, IfSome, OnOk};
 ghost use Rattle.std.specs.Prelude.{None};
-ghost use Rattle.std.specs.IoError.{error_kind};
 ghost use Rattle.std.specs.Io.KnownBytes.{Appends};
 ghost use Rattle.program.specs.Scripts.{lines_of, IsScript, Names};
 ghost use Rattle.program.specs.Faults.{script_fault, start};
@@ -9,10 +8,10 @@ ghost use Rattle.program.specs.Text.{event_lines, run_text};
 ghost use Rattle.program.specs.Failures.{IsOfReading, IsFailureOf};
 ghost use Rattle.program.specs.Runs.{HasRunAll, IsRunOf, IsRunOfText, HasFailed, AppendsPart};
 ghost use Rattle.program.specs.declared.run_error.RunError.TheVariants as error;
-ghost use Rattle.program.specs.declared.failure.Failure.TheVariants.{Memory, Unreadable};
 
 use crate::course::Course;
 use crate::failure::Failure;
+use crate::reading;
 use crate::run_error::RunError;
 use crate::script::{Script, Setup, Statement, read_script};
 use crate::text::{event_places, print_run};
@@ -20,7 +19,7 @@ use crate::turn::Turn;
 use crate::writing::write_whole;
 use lab::{LabError, Lines, Report};
 use std::alloc::Global;
-use std::io::{self, ErrorKind, Read, Write};
+use std::io::{Read, Write};
 
 /// Runs the statements one after another, each in its turn.
 fn run_all(
@@ -83,26 +82,6 @@ fn run_script<W: Write>(alloc: Global, script: &Script, out: &mut W) -> Result<(
     print(&text, out)
 }
 
-fn all_of<R: Read>(alloc: Global, input: &mut R) -> io::Result<Vec<u8>>
-    ensures { IfOk result (λ bytes. IfSome (R.remaining input.old) (λ left. bytes.items ≡ left)) }
-{
-    let mut bytes = Vec::new(alloc);
-    input.read_to_end(&mut bytes)?;
-    Ok(bytes)
-}
-
-/// The failure of a script that could not be read for this error.
-fn reading_failure(error: &io::Error) -> Failure
-    ensures memory { error_kind error.now ≡ ErrorKind.OutOfMemory → result ≡ Memory }
-    ensures unreadable { error_kind error.now ≢ ErrorKind.OutOfMemory → result ≡ Unreadable }
-{
-    if error.kind() == ErrorKind::OutOfMemory {
-        Failure::Memory
-    } else {
-        Failure::Unreadable
-    }
-}
-
 /// The script that is read.
 fn script_of<R: Read>(alloc: Global, input: &mut R) -> Result<Script, Failure>
     ensures found { IfOk result (λ script. IfSome (R.remaining input.old) (λ text.
@@ -115,10 +94,7 @@ fn script_of<R: Read>(alloc: Global, input: &mut R) -> Result<Script, Failure>
     ensures node { IfOk result (λ script.
         All (λ it. Names script.setup.configs it.meaning) script.statements.items) }
 {
-    let text = match all_of(alloc, input) {
-        Ok(text) => text,
-        Err(error) => return Err(reading_failure(&error)),
-    };
+    let text = reading::text_of(alloc, input)?;
     match read_script(alloc, &text) {
         Ok(script) => Ok(script),
         Err(fault) => Err(Failure::Script(fault)),

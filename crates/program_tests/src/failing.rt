@@ -1,6 +1,7 @@
-// Scripts that can't be read to their end, scripts at a path, and outputs that take no more.
+// Scripts that can't be read to their end, or have none, scripts at a path, and outputs that take
+// no more.
 use crate::calls::called;
-use crate::streams::{Broken, Full};
+use crate::streams::{Broken, Endless, Full};
 use program::serve;
 use std::fs;
 use std::io::{BufWriter, ErrorKind};
@@ -39,6 +40,27 @@ fn a_script_that_breaks_off_is_not_run(rt: HostRuntime) {
             status == 1 && out.is_empty() && err.as_slice() == told.as_bytes(),
             "{told}"
         );
+    }
+}
+
+// Bytes that come for ever, the most of them that are read, and what is told.
+const ENDLESS: &[(u8, usize, &str)] = &[
+    (b'a', 300000, "line 1: line too long\n"),
+    (b'\n', 150000, "line 100001: too many lines\n"),
+];
+
+#[test]
+fn a_script_without_an_end_is_read_as_far_as_its_fault(rt: HostRuntime) {
+    for (byte, most, told) in ENDLESS {
+        let (mut out, mut err) = (Vec::new(rt.alloc()), Vec::new(rt.alloc()));
+        let (byte, given) = (*byte, 0);
+        let mut input = Endless { byte, given };
+        let status = serve(&rt, WORDS, &mut input, &mut out, &mut err);
+        assert!(rt;
+            status == 1 && out.is_empty() && err.as_slice() == told.as_bytes(),
+            "{told}"
+        );
+        assert!(rt; input.given <= *most, "{told}");
     }
 }
 

@@ -1,4 +1,4 @@
-// Streams that fail: a reader half way, a writer at its end.
+// Streams that fail, a reader half way, a writer at its end, and a reader that never ends.
 use std::io::{self, ErrorKind, Read, Write};
 
 // Gives these bytes, and then fails in this way.
@@ -14,6 +14,21 @@ impl Read for Broken<'_> {
             return Err(io::Error::from(self.kind));
         }
         self.bytes.read(buf)
+    }
+}
+
+// Gives one byte for ever, and counts how many it gave.
+#[derive(Drop)]
+pub struct Endless {
+    pub byte: u8,
+    pub given: usize,
+}
+
+impl Read for Endless {
+    fn read(&mut self, buf: &mut [u8]) -> io::Result<usize> {
+        buf.fill(self.byte);
+        self.given = self.given.saturating_add(buf.len());
+        Ok(buf.len())
     }
 }
 

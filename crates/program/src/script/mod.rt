@@ -3,6 +3,7 @@
 mod asked;
 mod edit;
 mod error;
+mod extent;
 mod fault;
 pub mod laws;
 mod lines;
@@ -14,6 +15,7 @@ mod statements;
 mod word;
 
 pub use error::ScriptError;
+pub use extent::Extent;
 pub use reader::{Fault, Script, read_script};
 pub use setup::Setup;
 pub use statement::{Meaning, Statement};

@@ -26,10 +26,10 @@ use lab::What;
 use std::alloc::{AllocError, Global};
 
 /// The most bytes of a line, without its line feed.
-const LINE: usize = 262144;
+pub const LINE: usize = 262144;
 
 /// The most lines of a script.
-const LINES: u32 = 100000;
+pub const LINES: u32 = 100000;
 
 fn skips(line: &[u8]) -> bool
     ensures { result ≡ is_skipped line.now }

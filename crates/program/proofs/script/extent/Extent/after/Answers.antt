@@ -1,0 +1,10 @@
+use Rattle.std.proofs.Common.{rules, ◌++◌, take}
+use Rattle.program.proofs.Beginnings.{fault_among}
+use Rattle.program.proofs.script.extent.Extent.after.Goals as goal
+
+pub returns-in_err-extent : goal.returns-in_err-extent
+returns-in_err-extent c = λ text has.
+    let faulty = fault_among text c.args.bytes.now c.loop-byte.byte-index c.loop-byte-test.true
+    (c.in_err-extent.ensures (text ++ take c.loop-byte.byte-index c.args.bytes.now)
+    (c.loop-byte.invariant text has)) in
+    search (rules, faulty)
