@@ -4,6 +4,7 @@ use Rattle.std.proofs.Common.{ap, subst, ◌∙◌}
 use Rattle.std.proofs.lemmas.Bool.{cond-true, cond-false, false≢true}
 use Rattle.kv_types.specs.Content.{BatchContent}
 use Rattle.disk.specs.declared.junk.Junk.{Junk}
+use Rattle.disk.specs.Memory.{Slots}
 use Rattle.chain_model.specs.Configuration.{Configurations}
 use Rattle.chain_model.specs.Lists.{place}
 use Rattle.chain_model.specs.DropReason as model_reason
@@ -30,7 +31,7 @@ use Rattle.lab.specs.Comings.{Brings, BringsNothing, coming_of}
 use Rattle.lab.specs.Comings.{WasStarted, Starts, Fails, RunsOn, WasStopped, Stops, RestsOn}
 use Rattle.lab.specs.Comings.{Happened, junk_with}
 use Rattle.lab.specs.Disks.{junk_of}
-use Rattle.lab.specs.Members.{Choice}
+use Rattle.lab.specs.Members.{Choice, is_honest, state}
 use Rattle.lab.proofs.Happenings.{IsOutcome, Tells, chosen, as_chosen, given, stop_tells}
 use Rattle.lab.proofs.Happenings.{drop_tells}
 
@@ -78,7 +79,8 @@ tick_replies x (request.Opened j s) = refl
 tick_replies x (request.Closed j s) = refl
 tick_replies x (request.Refused j why) = refl
 
-module _ (cs : Configurations) (w : World BatchContent) (i x : ℕ) (member : Member) (does : Did)
+module _ (cs : Configurations) (w : World BatchContent) (i x : ℕ) (member : Member Slots)
+    (does : Did)
   where
     -- a frame in a place is delivered to its addressee
     to_addressee : (p : ℕ) (it : Frame) (f : ModelFrame BatchContent) (choice : Choice) →
@@ -88,7 +90,7 @@ module _ (cs : Configurations) (w : World BatchContent) (i x : ℕ) (member : Me
         ap (λ (o : Option (ModelFrame BatchContent)). delivered w o choice.went) (there ∙ sym same)
 
     deliver : (p : ℕ) (it : Frame) (f : ModelFrame BatchContent) → place w.frames p ≡ Some f →
-        frame_as x it ≡ Some f → Happened x (w.nodes x) (coming_of it) member does →
+        frame_as x it ≡ Some f → Happened is_honest state x (w.nodes x) (coming_of it) member does →
         IsOutcome cs w i x (Deliver p) member does
     deliver p (frame.Forward epoch from number batch) f there same was =
         given cs w i x (Deliver p) (input.Forward epoch from number batch) member does
@@ -111,7 +113,8 @@ module _ (cs : Configurations) (w : World BatchContent) (i x : ℕ) (member : Me
     deliver p (frame.Refused request why) f there same was = absurd (cc)
     deliver p (frame.Closed request number) f there same was = absurd (cc)
 
-    start : WasStarted x (w.nodes x) member does → IsOutcome cs w i x (Start x) member does
+    start : WasStarted is_honest state x (w.nodes x) member does →
+        IsOutcome cs w i x (Start x) member does
     start (Starts off is told) =
         let o = answers x (silent (started x (w.nodes x))) in
         as_chosen cs w i x (Start x) member does (chosen Answered Disk) o
@@ -138,7 +141,7 @@ module _ (cs : Configurations) (w : World BatchContent) (i x : ℕ) (member : Me
         (drop_tells x (Start x) (chosen Answered Disk) (w.nodes x) model_reason.Running told.0
         told.2 refl))
 
-    stop : (junk : Junk) → WasStopped x (w.nodes x) member does →
+    stop : (junk : Junk) → WasStopped is_honest state x (w.nodes x) member does →
         IsOutcome cs w i x (Stop x junk) member does
     stop junk (Stops up is told) =
         as_chosen cs w i x (Stop x junk) member does (chosen Answered Disk) (stops x (w.nodes x))
@@ -156,31 +159,34 @@ module _ (cs : Configurations) (w : World BatchContent) (i x : ℕ) (member : Me
 
     -- what an event brought and made of a node is the event's outcome
     pub happened : (what : What) (comes : Coming) → Brings w.frames i what x comes →
-        Happened x (w.nodes x) comes member does → IsOutcome cs w i x what member does
+        Happened is_honest state x (w.nodes x) comes member does →
+        IsOutcome cs w i x what member does
     happened (Submit node batch) comes brings was =
         subst (λ (y : ℕ). IsOutcome cs w i x (Submit y batch) member does) brings.0
         (given cs w i x (Submit x batch) (input.Submit i batch) member does (λ choice. refl)
         (λ cause. refl) (λ o. refl) (submit_replies x i batch)
-        (subst (λ (k : Coming). Happened x (w.nodes x) k member does) brings.1 was))
+        (subst (λ (k : Coming). Happened is_honest state x (w.nodes x) k member does) brings.1 was))
     happened (Get node key at) comes brings was =
         subst (λ (y : ℕ). IsOutcome cs w i x (Get y key at) member does) brings.0
         (given cs w i x (Get x key at) (input.Get i key at) member does (λ choice. refl)
         (λ cause. refl) (λ o. refl) (get_replies x i key at)
-        (subst (λ (k : Coming). Happened x (w.nodes x) k member does) brings.1 was))
+        (subst (λ (k : Coming). Happened is_honest state x (w.nodes x) k member does) brings.1 was))
     happened (Deliver p) comes brings was =
         deliver p brings.it brings.frame brings.there brings.same
-        (subst (λ (k : Coming). Happened x (w.nodes x) k member does) brings.is was)
+        (subst (λ (k : Coming). Happened is_honest state x (w.nodes x) k member does) brings.is was)
     happened (Tick node) comes brings was =
         subst (λ (y : ℕ). IsOutcome cs w i x (Tick y) member does) brings.0
         (given cs w i x (Tick x) input.Tick member does (λ choice. refl)
         (λ cause. refl) (λ o. refl) (tick_replies x)
-        (subst (λ (k : Coming). Happened x (w.nodes x) k member does) brings.1 was))
+        (subst (λ (k : Coming). Happened is_honest state x (w.nodes x) k member does) brings.1 was))
     happened (Start node) comes brings was =
         subst (λ (y : ℕ). IsOutcome cs w i x (Start y) member does) brings.0
-        (start (subst (λ (k : Coming). Happened x (w.nodes x) k member does) brings.1 was))
+        (start (subst (λ (k : Coming). Happened is_honest state x (w.nodes x) k member does)
+        brings.1 was))
     happened (Stop node junk) comes brings was =
         subst (λ (y : ℕ). IsOutcome cs w i x (Stop y junk) member does) brings.0
-        (stop junk (subst (λ (k : Coming). Happened x (w.nodes x) k member does) brings.1 was))
+        (stop junk (subst (λ (k : Coming). Happened is_honest state x (w.nodes x) k member does)
+        brings.1 was))
 
 -- an event without a frame does nothing
 pub nothing_done : (cs : Configurations) (w : World BatchContent) (i : ℕ) (what : What)

@@ -7,6 +7,7 @@ use Rattle.disk.specs.Calls.{Rises}
 use Rattle.disk.specs.declared.junk.Junk.{Junk}
 use Rattle.disk.specs.declared.junk.Junk.TheVariants.{Old}
 use Rattle.disk.specs.Memory.{Slots}
+use Rattle.disk.specs.State.{State}
 use Rattle.chain_model.specs.World.{Outcome}
 use Rattle.chain_core.specs.States.{Machine}
 use Rattle.node.specs.declared.stop.Stop.{Stop as Cause}
@@ -21,15 +22,17 @@ use Rattle.lab.specs.declared.member.Member.TheVariants.{Running, Resting}
 use Rattle.lab.specs.Comings.{HasCrashed, DiskEnds, DiskLeft}
 use Rattle.lab.specs.Disks.{junk_of, IsCrashOf, IsEndOf, IsStopOf, DiskFollows, DisksFollow}
 use Rattle.lab.specs.Events.{cause_told}
-use Rattle.lab.specs.Members.{Choice, Is, IsResting, disk_in, state, failures}
+use Rattle.lab.specs.Members.{Choice, Is, IsResting, disk_in, is_honest, state, failures}
 use Rattle.lab.proofs.Happenings.{StopsSo}
 
 -- a node stopped by itself and left this disk, which then crashed
-pub ends_by : (cause : Cause) (old left : Slots) (member : Member) → HasCrashed Old left member →
+pub ends_by : {D : Type 0} (state : D → State) (failures : D → ℕ) (cause : Cause) (old left : D)
+    (member : Member D) → HasCrashed state failures Old left member →
     (cause ≡ Disk → Rises (failures old) (failures left)) →
-    ((cause ≡ Disk → ⊥) → failures left ≡ failures old) → DiskEnds cause old (disk_in member)
-ends_by cause old left (Running node) crashed failed others = absurd crashed
-ends_by cause old left (Resting disk) crashed failed others = record {
+    ((cause ≡ Disk → ⊥) → failures left ≡ failures old) →
+    DiskEnds state failures cause old (disk_in member)
+ends_by state failures cause old left (Running node) crashed failed others = absurd crashed
+ends_by state failures cause old left (Resting disk) crashed failed others = record {
   failed = λ is. subst (λ (n : ℕ). Rises (failures old) n) (sym crashed.count) (failed is);
   others = λ other. crashed.count ∙ others other;
   left = state left;
@@ -42,12 +45,13 @@ MayRise disk = failures disk < 2 ^ 64 - 1
 
 -- ---- one disk
 
-crash_of : (junk : Junk) (old : Slots) (member : Member) → HasCrashed junk old member →
+crash_of : (junk : Junk) (old : Slots) (member : Member Slots) →
+    HasCrashed state failures junk old member →
     IsCrashOf state failures junk old (disk_in member)
 crash_of junk old (Running node) crashed = absurd crashed
 crash_of junk old (Resting disk) crashed = crashed
 
-end_of : (cause : Cause) (old new : Slots) → DiskEnds cause old new → MayRise old →
+end_of : (cause : Cause) (old new : Slots) → DiskEnds state failures cause old new → MayRise old →
     IsEndOf state failures cause old new
 end_of cause old new ends may = record {
   failed = λ is. (ends.failed is).below may;
@@ -57,8 +61,9 @@ end_of cause old new ends may = record {
 }
 
 -- no call failed but for one of a node that stopped by itself
-pub at_most_one : (junk : Option Junk) (does : Did) (old : Slots) (member : Member) →
-    DiskLeft junk does old member → MayRise old → failures (disk_in member) ≤ failures old + 1
+pub at_most_one : (junk : Option Junk) (does : Did) (old : Slots) (member : Member Slots) →
+    DiskLeft state failures junk does old member → MayRise old →
+    failures (disk_in member) ≤ failures old + 1
 at_most_one junk (did.Answered output) old member left may = omega (arith, left.count)
 at_most_one junk (did.Started epoch count committed) old member left may = omega (arith, left.count)
 at_most_one None (did.Stopped None) old member left may = absurd left
@@ -73,38 +78,46 @@ at_most_one junk (did.Stopped (Some Memory)) old member left may =
 at_most_one junk (did.Stopped (Some NotCreated)) old member left may =
     omega (arith, left.others (λ e. cc))
 
-module _ (old : Slots) (member : Member) (may : MayRise old) where
+module _ (old : Slots) (member : Member Slots) (may : MayRise old) where
   -- a stop is that of the event, or by itself for the cause that was chosen
   stop_of : (what : What) (choice : Choice) (told : Option Cause) →
-      cause_told what choice.cause ≡ told → DiskLeft (junk_of what) (did.Stopped told) old member →
+      cause_told what choice.cause ≡ told → DiskLeft state failures (junk_of what)
+      (did.Stopped told) old member →
       IsStopOf state failures (junk_of what) choice.cause old (disk_in member)
   stop_of (Stop x junk) choice told is left = crash_of junk old member
-      (subst (λ (c : Option Cause). DiskLeft (Some junk) (did.Stopped c) old member) (sym is) left)
+      (subst (λ (c : Option Cause). DiskLeft state failures (Some junk) (did.Stopped c) old member)
+      (sym is) left)
   stop_of (Submit x batch) choice told is left = by_itself choice.cause told is left
     where
       by_itself : (cause : Cause) (told : Option Cause) → Some cause ≡ told →
-          DiskLeft None (did.Stopped told) old member →
+          DiskLeft state failures None (did.Stopped told) old member →
           IsEndOf state failures cause old (disk_in member)
       by_itself cause told is left = end_of cause old (disk_in member)
-          (subst (λ (c : Option Cause). DiskLeft None (did.Stopped c) old member) (sym is) left) may
+          (subst (λ (c : Option Cause). DiskLeft state failures None (did.Stopped c) old member)
+          (sym is) left) may
   stop_of (Get x key at) choice told is left = end_of choice.cause old (disk_in member)
-      (subst (λ (c : Option Cause). DiskLeft None (did.Stopped c) old member) (sym is) left) may
+      (subst (λ (c : Option Cause). DiskLeft state failures None (did.Stopped c) old member)
+      (sym is) left) may
   stop_of (Deliver p) choice told is left = end_of choice.cause old (disk_in member)
-      (subst (λ (c : Option Cause). DiskLeft None (did.Stopped c) old member) (sym is) left) may
+      (subst (λ (c : Option Cause). DiskLeft state failures None (did.Stopped c) old member)
+      (sym is) left) may
   stop_of (Tick x) choice told is left = end_of choice.cause old (disk_in member)
-      (subst (λ (c : Option Cause). DiskLeft None (did.Stopped c) old member) (sym is) left) may
+      (subst (λ (c : Option Cause). DiskLeft state failures None (did.Stopped c) old member)
+      (sym is) left) may
   stop_of (Start x) choice told is left = end_of choice.cause old (disk_in member)
-      (subst (λ (c : Option Cause). DiskLeft None (did.Stopped c) old member) (sym is) left) may
+      (subst (λ (c : Option Cause). DiskLeft state failures None (did.Stopped c) old member)
+      (sym is) left) may
 
   -- a member that is a machine which does not run rests
-  rests_so : (m : Member) (x : ℕ) (n : Machine) → Is m x n → n.running ≡ false → IsResting m
+  rests_so : (m : Member Slots) (x : ℕ) (n : Machine) → Is is_honest state m x n →
+      n.running ≡ false → IsResting m
   rests_so (Running node) x n is off = absurd (false≢true (sym off ∙ is.core.running))
   rests_so (Resting disk) x n is off = tt
 
   -- what the node left is what the event's outcome leaves
   pub follows : (event : Event) (choice : Choice) (o : Outcome BatchContent) (x : ℕ) (n : Machine)
-      (does : Did) → Is member x n → StopsSo event.what choice does o.stopped →
-      DiskLeft (junk_of event.what) does old member →
+      (does : Did) → Is is_honest state member x n → StopsSo event.what choice does o.stopped →
+      DiskLeft state failures (junk_of event.what) does old member →
       DiskFollows state failures event choice o n old (disk_in member)
   follows event choice o x n (did.Answered output) is ends left = record {
     stops = λ stops. absurd (false≢true (sym ends ∙ stops));

@@ -6,6 +6,7 @@ use Rattle.std.proofs.lemmas.List.{map-append}
 use Rattle.std.specs.Prelude.{Bool, IfSome}
 use Rattle.std.proofs.lemmas.Bool.{cond-true, cond-false, false≢true}
 use Rattle.kv_types.specs.Content.{BatchContent}
+use Rattle.disk.specs.Memory.{Slots}
 use Rattle.chain_model.specs.Configuration.{Configurations}
 use Rattle.chain_model.specs.DropReason as model_reason
 use Rattle.chain_model.specs.Frames as model_frame
@@ -35,7 +36,7 @@ use Rattle.lab.specs.declared.report.Line.{Line}
 use Rattle.lab.specs.declared.report.Line.TheVariants as line
 use Rattle.lab.specs.Events.{modelled, lines_of, drop_lines, start_lines, frame_line, frame_lines}
 use Rattle.lab.specs.Events.{reply_line, reply_lines, cause_told}
-use Rattle.lab.specs.Members.{Is, Choice}
+use Rattle.lab.specs.Members.{Is, Choice, is_honest, state}
 use Rattle.lab.specs.Comings.{at_rest, IsAnswer, IsDrop, Told}
 use Rattle.lab.specs.Comings.{WasGiven, Answers, Ends, Rests}
 use Rattle.lab.specs.Comings.{sent_by, sent_as, sent_lines}
@@ -126,11 +127,11 @@ StopsSo what choice (did.Stopped told) stopped =
 
 -- an event's outcome, told so: the node that it came to, and the member of the lab that this is now
 pub record IsOutcome (cs : Configurations) (w : World BatchContent) (i x : ℕ) (what : What)
-    (member : Member) (does : Did) : Type 0 where
+    (member : Member Slots) (does : Did) : Type 0 where
   pub choice : Choice
   pub node : Machine
   pub came : (outcome w cs (modelled i what choice)).came_to ≡ Some (x, node)
-  pub is : Is member x node
+  pub is : Is is_honest state member x node
   pub frames : AreFrames (sent_by does) (outcome w cs (modelled i what choice)).frames
   pub told : (n : ℕ) → did_lines x n does
       ≡ lines_of n what choice (outcome w cs (modelled i what choice))
@@ -151,11 +152,13 @@ pub record Tells (x : ℕ) (what : What) (choice : Choice) (does : Did) (o : Out
 abbrev pub chosen : Went → Cause → Choice
 chosen went cause = record { went = went; cause = cause }
 
-module _ (cs : Configurations) (w : World BatchContent) (i x : ℕ) (what : What) (member : Member)
+module _ (cs : Configurations) (w : World BatchContent) (i x : ℕ) (what : What)
+    (member : Member Slots)
     (does : Did) where
   -- with this choice the outcome is this one
   pub as_chosen : (choice : Choice) (o : Outcome BatchContent) (n : Machine) →
-      outcome w cs (modelled i what choice) ≡ o → o.came_to ≡ Some (x, n) → Is member x n →
+      outcome w cs (modelled i what choice) ≡ o → o.came_to ≡ Some (x, n) →
+      Is is_honest state member x n →
       Tells x what choice does o → IsOutcome cs w i x what member does
   as_chosen choice o n is_o came is tells =
       let same = sym is_o in
@@ -256,7 +259,7 @@ shows_so inp what (r ∷ replies) each =
 
 -- an input comes, as the model has it
 module _ (cs : Configurations) (w : World BatchContent) (i x : ℕ) (what : What) (inp : Input)
-    (member : Member) (does : Did)
+    (member : Member Slots) (does : Did)
     (at : (choice : Choice) → outcome w cs (modelled i what choice)
     ≡ cond (w.nodes x).running (as_it_went x (w.nodes x) (answer_to x (w.nodes x) inp) choice.went)
     (answers x (at_rest (w.nodes x) inp)))
@@ -286,7 +289,8 @@ module _ (cs : Configurations) (w : World BatchContent) (i x : ℕ) (what : What
       subst (λ (d : Did). Tells x what (chosen went cause) d (stops x n)) (sym is)
       (stop_tells x what (chosen went cause) (Some cause) n (causes cause) of_machine)
 
-  pub given : WasGiven x (w.nodes x) inp member does → IsOutcome cs w i x what member does
+  pub given : WasGiven is_honest state x (w.nodes x) inp member does →
+      IsOutcome cs w i x what member does
   given (Answers up is told) =
       as_chosen cs w i x what member does (chosen Answered Disk)
       (answers x (answer_to x (w.nodes x) inp)) (answer_to x (w.nodes x) inp).node
@@ -304,7 +308,7 @@ module _ (cs : Configurations) (w : World BatchContent) (i x : ℕ) (what : What
       as_chosen cs w i x what member does (chosen Answered Disk)
       (answers x (at_rest (w.nodes x) inp)) (at_rest (w.nodes x) inp).node
       (rests (chosen Answered Disk) off) refl
-      (subst (λ (n : Machine). Is member x n) (sym (rests_same inp)) is)
+      (subst (λ (n : Machine). Is is_honest state member x n) (sym (rests_same inp)) is)
       (tells (at_rest (w.nodes x) inp) told)
     where
       rests_same : (inp : Input) → (at_rest (w.nodes x) inp).node ≡ w.nodes x

@@ -12,7 +12,7 @@ use Rattle.chain_model.specs.Node.{created}
 use Rattle.chain_core.specs.States.{Machine}
 use Rattle.lab.specs.declared.report.NodeReport.{NodeReport}
 use Rattle.lab.specs.declared.seat.Seat.{Seat}
-use Rattle.lab.specs.Members.{Is, disk_in, failures}
+use Rattle.lab.specs.Members.{Is, disk_in, is_honest, state, failures}
 use Rattle.lab.specs.Worlds.{IsSeated, IsCreated, AreCreated, IsLeft, AreLeft, HasMade}
 use Rattle.lab.proofs.Disks.{with_disk, disk_here, disk_elsewhere}
 use Rattle.lab.proofs.Seating.{ids_of}
@@ -45,7 +45,8 @@ back P (x ∷ xs) ys all = back P xs ys all.1
 -- what is left of one node more
 pub left_next : (seats : List Seat) (nodes now : List NodeReport) (seat : Seat)
     (node : NodeReport) → node.id ≡ seat.id →
-    ((n : Machine) (own : Slots) → Is seat.member seat.id n → disk_in seat.member ≡ own →
+    ((n : Machine) (own : Slots) → Is is_honest state seat.member seat.id n →
+    disk_in seat.member ≡ own →
     IsLeft n own node) → now ≡ nodes ++ node ∷ [] →
     AreLeft seats nodes → AreLeft (seats ++ seat ∷ []) now
 left_next seats nodes now seat node id left whole are = record {

@@ -119,7 +119,7 @@ module _ (seats : List Seat) (posted : List Posted) (cs : Configurations) (event
             }) seats made.each;
       }
     where
-      stands : (member : Member) (x : ℕ) (n : Machine) → Is member x n →
+      stands : (member : Member Slots) (x : ℕ) (n : Machine) → Is is_honest state member x n →
           AlwaysRests (state (disk_in member)) x n
       stands (Running node) x n is = law node x n is
-      stands (Resting disk) x n is = is.0
+      stands (Resting disk) x n is = is.1

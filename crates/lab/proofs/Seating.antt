@@ -11,7 +11,7 @@ use Rattle.chain_model.specs.World.{World, Outcome, after}
 use Rattle.chain_core.specs.States.{Machine}
 use Rattle.lab.specs.declared.seat.Seat.{Seat}
 use Rattle.disk.specs.Memory.{Slots}
-use Rattle.lab.specs.Members.{Is, disk_in}
+use Rattle.lab.specs.Members.{Is, disk_in, is_honest, state}
 use Rattle.lab.specs.Worlds.{IsSeated, HasNoSeat}
 use Rattle.lab.proofs.Disks.{with_disk, disk_here, disk_elsewhere}
 
@@ -64,7 +64,8 @@ module _ (w : World BatchContent) (disks : ℕ → Slots) (o : Outcome BatchCont
   stays : (s : Seat) → (s.id == x) ≡ false → IsSeated w.nodes disks s →
       IsSeated (after w o).nodes now_disks s
   stays s other seated = record {
-    is = subst (λ (m : Machine). Is s.member s.id m) (sym (elsewhere s.id other)) seated.is;
+    is = subst (λ (m : Machine). Is is_honest state s.member s.id m) (sym (elsewhere s.id other))
+        seated.is;
     disk = seated.disk ∙ sym (disk_elsewhere disks x own s.id other);
   }
 
@@ -85,13 +86,14 @@ module _ (w : World BatchContent) (disks : ℕ → Slots) (o : Outcome BatchCont
   -- .. and the one that it came to is n
   pub seated : (seats : List Seat) (k : ℕ) (now : Seat) → k < length seats →
       AllDifferent (ids_of seats) → (get_or seats k now).id ≡ x → now.id ≡ x →
-      Is now.member x n → disk_in now.member ≡ own → AllByRecursion (IsSeated w.nodes disks) seats →
+      Is is_honest state now.member x n → disk_in now.member ≡ own →
+      AllByRecursion (IsSeated w.nodes disks) seats →
       AllByRecursion (IsSeated (after w o).nodes now_disks) (slice_set seats k now)
   seated [] k now within differ was id is owns all = absurd (omega arith)
   seated (s ∷ seats) zero now within differ was id is owns all = (
     record {
-      is = subst (λ (y : ℕ). Is now.member y ((after w o).nodes y)) (sym id)
-          (subst (λ (m : Machine). Is now.member x m) (sym here) is);
+      is = subst (λ (y : ℕ). Is is_honest state now.member y ((after w o).nodes y)) (sym id)
+          (subst (λ (m : Machine). Is is_honest state now.member x m) (sym here) is);
       disk = owns ∙ (sym (disk_here disks x own) ∙ ap now_disks (sym id));
     },
     stay seats (subst (λ (y : ℕ). has (ids_of seats) y ≡ false) was differ.0) all.1,

@@ -28,9 +28,7 @@ use Rattle.lab.specs.declared.member.Member.{Member}
 use Rattle.lab.specs.declared.member.Member.TheVariants.{Running, Resting}
 use Rattle.lab.specs.declared.coming.Arrival.{Arrival}
 use Rattle.lab.specs.declared.coming.Coming.{Coming}
-use Rattle.lab.specs.declared.coming.Coming.TheVariants as coming
 use Rattle.lab.specs.declared.coming.Did.{Did}
-use Rattle.lab.specs.declared.coming.Did.TheVariants as did
 use Rattle.lab.specs.declared.event.Event.{Event}
 use Rattle.lab.specs.declared.event.What.{What}
 use Rattle.lab.specs.declared.event.What.TheVariants.{Submit, Get, Deliver, Tick, Start, Stop}
@@ -83,20 +81,24 @@ place_of world cs events steps run n i long fits is = record {
 }
 
 -- a running node that was stopped rests, and its disk is a crash of what it was
-crash_of : (junk : Junk) (x : ℕ) (n : Machine) (own : Node Slots) (old new : Member) (does : Did) →
-    old ≡ Running own → Is old x n → WasStopped x n new does →
-    DiskLeft (Some junk) does (disk_in old) new →
+crash_of : (junk : Junk) (x : ℕ) (n : Machine) (own : Node Slots) (old new : Member Slots)
+    (does : Did) →
+    old ≡ Running own → Is is_honest state old x n → WasStopped is_honest state x n new does →
+    DiskLeft state failures (Some junk) does (disk_in old) new →
     IsCrashOf state failures junk (disk_of own) (disk_in new)
 crash_of junk x n own old new does runs is (Stops on rests stopped) left =
-    let here = subst (λ (d : Did). DiskLeft (Some junk) d (disk_in old) new) stopped left in
-    crashed new (subst (λ (m : Member). HasCrashed junk (disk_in m) new) runs here)
+    let here = subst (λ (d : Did). DiskLeft state failures (Some junk) d (disk_in old) new) stopped
+    left in
+    crashed new (subst (λ (m : Member Slots). HasCrashed state failures junk (disk_in m) new) runs
+    here)
   where
-    crashed : (member : Member) → HasCrashed junk (disk_of own) member →
+    crashed : (member : Member Slots) → HasCrashed state failures junk (disk_of own) member →
         IsCrashOf state failures junk (disk_of own) (disk_in member)
     crashed (Running other) has = absurd has
     crashed (Resting disk) has = has
 crash_of junk x n own old new does runs is (RestsOn off same drop) left =
-    let on : Runs is_honest state own x n = subst (λ (m : Member). Is m x n) runs is in
+    let on : Runs is_honest state own x n = subst (λ (m : Member Slots). Is is_honest state m x n)
+    runs is in
     absurd (false≢true (sym off ∙ on.core.running))
 
 -- in every run frames are in order
@@ -157,15 +159,16 @@ module _ (in_order : AlwaysInOrder) (cs : Configurations) (events : List Event)
       let all = recursion_from_All (IsSeated w.nodes made.disks) seats made.each in
       let old = get_or seats t.index seat in
       let was : old.id ≡ x = t.at.id seat in
-      let before : Is old.member x (w.nodes x) =
-      subst (λ (y : ℕ). Is old.member y (w.nodes y)) was
+      let before : Is is_honest state old.member x (w.nodes x) =
+      subst (λ (y : ℕ). Is is_honest state old.member y (w.nodes y)) was
       (made.each t.index seat t.at.within).is in
       let slots : disk_in old.member ≡ made.disks x =
       (made.each t.index seat t.at.within).disk ∙ ap made.disks was in
       let own = disk_in seat.member in
-      let left : DiskLeft (junk_of event.what) t.does (made.disks x) seat.member =
-      subst (λ (d : Slots). DiskLeft (junk_of event.what) t.does d seat.member) slots
-      (subst (λ (j : Option Junk). DiskLeft j t.does (disk_in old.member) seat.member)
+      let left : DiskLeft state failures (junk_of event.what) t.does (made.disks x) seat.member =
+      subst (λ (d : Slots). DiskLeft state failures (junk_of event.what) t.does d seat.member) slots
+      (subst (λ (j : Option Junk). DiskLeft state failures j t.does (disk_in old.member)
+      seat.member)
       (junk_same w.frames i x event.what comes brings) t.handed.disk) in
       let few = made.few x in
       let may : MayRise (made.disks x) = omega (arith, few, next.at, next.fits) in
@@ -232,14 +235,15 @@ module _ (in_order : AlwaysInOrder) (cs : Configurations) (events : List Event)
       let seat = t.handed.seat in
       let old = get_or seats t.index seat in
       let was : old.id ≡ x = t.at.id seat in
-      let before : Is old.member x (w.nodes x) =
-      subst (λ (y : ℕ). Is old.member y (w.nodes y)) was
+      let before : Is is_honest state old.member x (w.nodes x) =
+      subst (λ (y : ℕ). Is is_honest state old.member y (w.nodes y)) was
       (made.each t.index seat t.at.within).is in
-      let stopped : WasStopped x (w.nodes x) seat.member t.does =
-      subst (λ (c : Coming). Happened x (w.nodes x) c seat.member t.does) brings.1
+      let stopped : WasStopped is_honest state x (w.nodes x) seat.member t.does =
+      subst (λ (c : Coming). Happened is_honest state x (w.nodes x) c seat.member t.does) brings.1
       (t.handed.happened x (w.nodes x) before) in
-      let left : DiskLeft (Some junk) t.does (disk_in old.member) seat.member =
-      subst (λ (c : Coming). DiskLeft (junk_with c) t.does (disk_in old.member) seat.member)
+      let left : DiskLeft state failures (Some junk) t.does (disk_in old.member) seat.member =
+      subst (λ (c : Coming). DiskLeft state failures (junk_with c) t.does (disk_in old.member)
+      seat.member)
       brings.1 t.handed.disk in
       record {
         index = t.index;

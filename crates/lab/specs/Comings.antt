@@ -6,7 +6,6 @@ use Rattle.disk.specs.declared.junk.Junk.{Junk}
 use Rattle.disk.specs.declared.junk.Junk.TheVariants.{Old}
 use Rattle.disk.specs.Calls.{Rises}
 use Rattle.disk.specs.Crashes.{Crashes}
-use Rattle.disk.specs.Memory.{Slots}
 use Rattle.disk.specs.State.{State}
 use Rattle.chain_model.specs.Lists.{place}
 use Rattle.chain_model.specs.DropReason as model_reason
@@ -41,7 +40,7 @@ use Rattle.lab.specs.declared.posted.Posted.{Posted}
 use Rattle.lab.specs.declared.report.Line.{Line}
 use Rattle.lab.specs.declared.report.Line.TheVariants as line
 use Rattle.lab.specs.Disks.{IsCrashOf}
-use Rattle.lab.specs.Members.{Is, IsResting, disk_in, state, failures}
+use Rattle.lab.specs.Members.{Is, IsResting, disk_in}
 
 -- ---- what comes
 
@@ -121,47 +120,58 @@ Told does Is = (output : Output) × (does ≡ did.Answered output) × Is output
 
 -- an input came: the node ran and answered; or it stopped by itself, for its device or for memory,
 -- as before the step or as after it; or it does not run
-pub data WasGiven (x : ℕ) (n : Machine) (inp : Input) (member : Member) (does : Did) : Type 0 where
-  Answers : n.running ≡ true → Is member x (answer_to x n inp).node
-      → Told does (IsAnswer inp (answer_to x n inp)) → WasGiven x n inp member does
+pub data WasGiven {D : Type 0} (is_honest : D → Type 0) (state : D → State) (x : ℕ) (n : Machine)
+    (inp : Input) (member : Member D) (does : Did) : Type 0 where
+  Answers : n.running ≡ true → Is is_honest state member x (answer_to x n inp).node
+      → Told does (IsAnswer inp (answer_to x n inp)) → WasGiven is_honest state x n inp member does
   Ends : n.running ≡ true → (cause : Cause) → IsOfMachine cause
-      → Is member x (stopped n) ⊎ Is member x (stopped (answer_to x n inp).node)
-      → does ≡ did.Stopped (Some cause) → WasGiven x n inp member does
-  Rests : n.running ≡ false → Is member x n → Told does (IsAnswer inp (at_rest n inp))
-      → WasGiven x n inp member does
+      → Is is_honest state member x (stopped n)
+      ⊎ Is is_honest state member x (stopped (answer_to x n inp).node)
+      → does ≡ did.Stopped (Some cause) → WasGiven is_honest state x n inp member does
+  Rests : n.running ≡ false → Is is_honest state member x n
+      → Told does (IsAnswer inp (at_rest n inp))
+      → WasGiven is_honest state x n inp member does
 
 -- a node was started: it runs as the machine that was started, or could not, for its device or for
 -- memory; or it ran
-pub data WasStarted (x : ℕ) (n : Machine) (member : Member) (does : Did) : Type 0 where
-  Starts : n.running ≡ false → Is member x (started x n)
+pub data WasStarted {D : Type 0} (is_honest : D → Type 0) (state : D → State) (x : ℕ)
+    (n : Machine) (member : Member D) (does : Did) : Type 0 where
+  Starts : n.running ≡ false → Is is_honest state member x (started x n)
       → does ≡ did.Started n.epoch (length n.list) (started x n).committed
-      → WasStarted x n member does
-  Fails : n.running ≡ false → (cause : Cause) → IsOfMachine cause → Is member x (stopped n)
-      → does ≡ did.Stopped (Some cause) → WasStarted x n member does
-  RunsOn : n.running ≡ true → Is member x n → Told does (IsDrop reason.Running)
-      → WasStarted x n member does
+      → WasStarted is_honest state x n member does
+  Fails : n.running ≡ false → (cause : Cause) → IsOfMachine cause
+      → Is is_honest state member x (stopped n)
+      → does ≡ did.Stopped (Some cause) → WasStarted is_honest state x n member does
+  RunsOn : n.running ≡ true → Is is_honest state member x n → Told does (IsDrop reason.Running)
+      → WasStarted is_honest state x n member does
 
 -- a node was stopped: it rests, or rested
-pub data WasStopped (x : ℕ) (n : Machine) (member : Member) (does : Did) : Type 0 where
-  Stops : n.running ≡ true → Is member x (stopped n) → does ≡ did.Stopped None
-      → WasStopped x n member does
-  RestsOn : n.running ≡ false → Is member x n → Told does (IsDrop reason.NotRunning)
-      → WasStopped x n member does
+pub data WasStopped {D : Type 0} (is_honest : D → Type 0) (state : D → State) (x : ℕ)
+    (n : Machine) (member : Member D) (does : Did) : Type 0 where
+  Stops : n.running ≡ true → Is is_honest state member x (stopped n) → does ≡ did.Stopped None
+      → WasStopped is_honest state x n member does
+  RestsOn : n.running ≡ false → Is is_honest state member x n → Told does (IsDrop reason.NotRunning)
+      → WasStopped is_honest state x n member does
 
 -- what is no frame between nodes is dropped, for this reason if the node runs
-pub data WasFaulty (x : ℕ) (n : Machine) (why : DropReason) (member : Member) (does : Did) : Type 0
-  where
-    Drops : n.running ≡ true → Is member x n → Told does (IsDrop why)
-        → WasFaulty x n why member does
-    DropsResting : n.running ≡ false → Is member x n → Told does (IsDrop reason.NotRunning)
-        → WasFaulty x n why member does
+pub data WasFaulty {D : Type 0} (is_honest : D → Type 0) (state : D → State) (x : ℕ) (n : Machine)
+    (why : DropReason) (member : Member D) (does : Did) : Type 0 where
+  Drops : n.running ≡ true → Is is_honest state member x n → Told does (IsDrop why)
+      → WasFaulty is_honest state x n why member does
+  DropsResting : n.running ≡ false → Is is_honest state member x n
+      → Told does (IsDrop reason.NotRunning)
+      → WasFaulty is_honest state x n why member does
 
 -- what came made this of node x, which was n
-abbrev pub Happened : ℕ → Machine → Coming → Member → Did → Type 0
-Happened x n (coming.Given inp) member does = WasGiven x n inp member does
-Happened x n (coming.Faulty why) member does = WasFaulty x n why member does
-Happened x n coming.Start member does = WasStarted x n member does
-Happened x n (coming.Stop junk) member does = WasStopped x n member does
+abbrev pub Happened : {D : Type 0} → (D → Type 0) → (D → State) → ℕ → Machine → Coming → Member D
+    → Did → Type 0
+Happened is_honest state x n (coming.Given inp) member does =
+    WasGiven is_honest state x n inp member does
+Happened is_honest state x n (coming.Faulty why) member does =
+    WasFaulty is_honest state x n why member does
+Happened is_honest state x n coming.Start member does = WasStarted is_honest state x n member does
+Happened is_honest state x n (coming.Stop junk) member does =
+    WasStopped is_honest state x n member does
 
 -- ---- what is left of its disk
 
@@ -173,33 +183,39 @@ junk_with (coming.Faulty why) = None
 junk_with coming.Start = None
 
 -- no call of the disk failed, and a node that rests has the same one
-pub record DiskStays (old : Slots) (member : Member) : Type 0 where
+pub record DiskStays {D : Type 0} (failures : D → ℕ) (old : D) (member : Member D) : Type 0 where
   pub count : failures (disk_in member) ≡ failures old
   pub same : IsResting member → disk_in member ≡ old
 
 -- a node that was stopped rests, and its disk crashed with this junk
-abbrev pub HasCrashed : Junk → Slots → Member → Type 0
-HasCrashed junk old (Running node) = ⊥
-HasCrashed junk old (Resting disk) = IsCrashOf state failures junk old disk
+abbrev pub HasCrashed : {D : Type 0} → (D → State) → (D → ℕ) → Junk → D → Member D → Type 0
+HasCrashed state failures junk old (Running node) = ⊥
+HasCrashed state failures junk old (Resting disk) = IsCrashOf state failures junk old disk
 
-abbrev pub HasCrashedWith : Option Junk → Slots → Member → Type 0
-HasCrashedWith (Some junk) old member = HasCrashed junk old member
-HasCrashedWith None old member = ⊥
+abbrev pub HasCrashedWith : {D : Type 0} → (D → State) → (D → ℕ) → Option Junk → D → Member D
+    → Type 0
+HasCrashedWith state failures (Some junk) old member = HasCrashed state failures junk old member
+HasCrashedWith state failures None old member = ⊥
 
 -- a node stopped by itself: a call of the disk failed if that is the cause, and else none; what was
 -- left of the disk crashed so that each file is as it was synced
-pub record DiskEnds (cause : Cause) (old new : Slots) : Type 0 where
+pub record DiskEnds {D : Type 0} (state : D → State) (failures : D → ℕ) (cause : Cause)
+    (old new : D) : Type 0 where
   pub failed : cause ≡ Disk → Rises (failures old) (failures new)
   pub others : (cause ≡ Disk → ⊥) → failures new ≡ failures old
   pub left : State
   pub crashes : Crashes Old left (state new)
 
 -- what a node that did this has of the disk that it had
-abbrev pub DiskLeft : Option Junk → Did → Slots → Member → Type 0
-DiskLeft junk (did.Answered output) old member = DiskStays old member
-DiskLeft junk (did.Started epoch count committed) old member = DiskStays old member
-DiskLeft junk (did.Stopped None) old member = HasCrashedWith junk old member
-DiskLeft junk (did.Stopped (Some cause)) old member = DiskEnds cause old (disk_in member)
+abbrev pub DiskLeft : {D : Type 0} → (D → State) → (D → ℕ) → Option Junk → Did → D → Member D
+    → Type 0
+DiskLeft state failures junk (did.Answered output) old member = DiskStays failures old member
+DiskLeft state failures junk (did.Started epoch count committed) old member =
+    DiskStays failures old member
+DiskLeft state failures junk (did.Stopped None) old member =
+    HasCrashedWith state failures junk old member
+DiskLeft state failures junk (did.Stopped (Some cause)) old member =
+    DiskEnds state failures cause old (disk_in member)
 
 -- ---- what is told of it
 

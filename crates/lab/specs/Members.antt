@@ -10,7 +10,34 @@ use Rattle.node.specs.Steps.{Runs, AlwaysRests, MayStep, disk_of}
 use Rattle.lab.specs.declared.member.Member.{Member}
 use Rattle.lab.specs.declared.member.Member.TheVariants.{Running, Resting}
 
--- a disk in memory is always honest, and its state is that of its slots
+-- the disk that a node owns, or that is left of it
+abbrev pub disk_in : {D : Type 0} → Member D → D
+disk_in (Running node) = disk_of node
+disk_in (Resting disk) = disk
+
+-- it does not run
+abbrev pub IsResting : {D : Type 0} → Member D → Type 0
+IsResting (Running node) = ⊥
+IsResting (Resting disk) = Unit {0}
+
+-- a step of it may follow, if it runs
+abbrev pub Works : {D : Type 0} → Member D → Type 0
+Works {D} member = (node : Node D) → member ≡ Running node → MayStep node
+
+-- a running node is node x as this machine; a resting one's disk is honest and stands for it
+abbrev pub Is : {D : Type 0} → (D → Type 0) → (D → State) → Member D → ℕ → Machine → Type 0
+Is is_honest state (Running node) x n = Runs is_honest state node x n
+Is is_honest state (Resting disk) x n =
+    is_honest disk × AlwaysRests (state disk) x n × (n.running ≡ false)
+
+-- what the code was left to choose in a step: how it went, and why the node stopped if it did
+pub record Choice : Type 0 where
+  pub went : model.Went
+  pub cause : Cause
+
+-- ---- a disk in memory
+
+-- it is always honest, and its state is that of its slots
 abbrev pub is_honest : Slots → Type 0
 is_honest disk = Unit {0}
 
@@ -20,27 +47,3 @@ state disk = state_of disk.slots
 -- how often a call of it failed
 abbrev pub failures : Slots → ℕ
 failures disk = disk.failures
-
--- the disk that a node owns, or that is left of it
-abbrev pub disk_in : Member → Slots
-disk_in (Running node) = disk_of node
-disk_in (Resting disk) = disk
-
--- it does not run
-abbrev pub IsResting : Member → Type 0
-IsResting (Running node) = ⊥
-IsResting (Resting disk) = Unit {0}
-
--- a step of it may follow, if it runs
-abbrev pub Works : Member → Type 0
-Works member = (node : Node Slots) → member ≡ Running node → MayStep node
-
--- a running node is node x as this machine; a resting one's disk stands for it
-abbrev pub Is : Member → ℕ → Machine → Type 0
-Is (Running node) x n = Runs is_honest state node x n
-Is (Resting disk) x n = AlwaysRests (state disk) x n × (n.running ≡ false)
-
--- what the code was left to choose in a step: how it went, and why the node stopped if it did
-pub record Choice : Type 0 where
-  pub went : model.Went
-  pub cause : Cause

@@ -29,7 +29,7 @@ use Rattle.lab.specs.declared.posted.Posted.{Posted}
 use Rattle.lab.specs.declared.report.NodeReport.{NodeReport}
 use Rattle.lab.specs.declared.seat.Seat.{Seat}
 use Rattle.lab.specs.declared.world.World.{World}
-use Rattle.lab.specs.Members.{Choice, Is, disk_in, state, failures}
+use Rattle.lab.specs.Members.{Choice, Is, disk_in, is_honest, state, failures}
 use Rattle.lab.specs.Comings.{Happened, DiskLeft, junk_with, sent_by, did_lines}
 use Rattle.lab.specs.Disks.{AreDisksAfter, HaveDisks, IsDiskOf, IsCrashOf}
 use Rattle.lab.specs.History.{IsHistory}
@@ -89,18 +89,19 @@ pub record WasHanded (old : List Seat) (index : ℕ) (comes : Coming) (does : Di
   pub seat : Seat
   pub whole : new ≡ slice_set old index seat
   pub id : seat.id ≡ (get_or old index seat).id
-  pub happened : (x : ℕ) (n : Machine) → Is (get_or old index seat).member x n →
-      Happened x n comes seat.member does
-  pub disk : DiskLeft (junk_with comes) does (disk_in (get_or old index seat).member) seat.member
+  pub happened : (x : ℕ) (n : Machine) → Is is_honest state (get_or old index seat).member x n →
+      Happened is_honest state x n comes seat.member does
+  pub disk : DiskLeft state failures (junk_with comes) does
+      (disk_in (get_or old index seat).member) seat.member
 
 -- a node of the lab is the machine of its id, and has the disk of its id
 pub record IsSeated (nodes : ℕ → Machine) (disks : ℕ → Slots) (seat : Seat) : Type 0 where
-  pub is : Is seat.member seat.id (nodes seat.id)
+  pub is : Is is_honest state seat.member seat.id (nodes seat.id)
   pub disk : disk_in seat.member ≡ disks seat.id
 
 -- a node that was just created with this configuration: no call of its disk failed
 pub record IsCreated (config : List ℕ) (seat : Seat) : Type 0 where
-  pub is : Is seat.member seat.id (created config)
+  pub is : Is is_honest state seat.member seat.id (created config)
   pub count : failures (disk_in seat.member) ≡ 0
 
 -- these nodes were just created with this configuration, each in its seat

@@ -8,7 +8,7 @@ ghost use Rattle.lab.specs.Events.{NamesNode};
 ghost use Rattle.chain_core.specs.States.{Machine};
 ghost use Rattle.disk.specs.Memory.{Slots};
 ghost use Rattle.node.specs.Steps.{disk_of};
-ghost use Rattle.lab.specs.Members.{Is, disk_in};
+ghost use Rattle.lab.specs.Members.{Is, disk_in, is_honest, state};
 ghost use Rattle.lab.specs.Runs.{IsRun};
 ghost use Rattle.lab.specs.History.{OneHistory};
 ghost use Rattle.lab.specs.Worlds.{HasRun, HasEnded, AreCreated, AreLeft, IsCreated, IsLeft};
@@ -81,7 +81,7 @@ fn created_nodes(alloc: Global, config: &Config, limits: &Limits) -> Result<Vec<
 
 // What is left of a node.
 fn left_of(seat: Seat) -> NodeReport
-    ensures left { (n : Machine) (disk : Slots) → Is seat.member seat.id n →
+    ensures left { (n : Machine) (disk : Slots) → Is is_honest state seat.member seat.id n →
         disk_in seat.member ≡ disk → IsLeft n disk result }
     ensures id { result.id ≡ seat.id }
     ensures runs { (node : _) → seat.member ≡ Member.Running node → result.disk ≡ disk_of node }

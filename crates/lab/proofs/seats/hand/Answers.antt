@@ -4,7 +4,7 @@ use Rattle.std.proofs.lemmas.List.{set-set, get_or_default}
 use Rattle.lab.specs.declared.coming.Coming.{Coming}
 use Rattle.lab.specs.declared.coming.Did.{Did}
 use Rattle.lab.specs.declared.seat.Seat.{Seat}
-use Rattle.lab.specs.Members.{Is, disk_in}
+use Rattle.lab.specs.Members.{Is, disk_in, is_honest, state, failures}
 use Rattle.chain_core.specs.States.{Machine}
 use Rattle.lab.specs.Comings.{Happened, DiskLeft, junk_with}
 use Rattle.lab.specs.Worlds.{WasHanded}
@@ -13,8 +13,9 @@ use Rattle.lab.proofs.seats.hand.Goals as goal
 -- the seat was taken out, and another one put there
 handed : (old : List Seat) (i : ℕ) (between was was' now : Seat) (comes : Coming) (does : Did) →
     i < length old → was ≡ get_or old i was' → now.id ≡ (get_or old i was').id →
-    ((x : ℕ) (n : Machine) → Is was.member x n → Happened x n comes now.member does) →
-    DiskLeft (junk_with comes) does (disk_in was.member) now.member →
+    ((x : ℕ) (n : Machine) → Is is_honest state was.member x n →
+    Happened is_honest state x n comes now.member does) →
+    DiskLeft state failures (junk_with comes) does (disk_in was.member) now.member →
     WasHanded old i comes does (slice_set (slice_set old i between) i now)
 handed old i between was was' now comes does within out id happened disk =
     let same = get_or_default old i was' now within in
@@ -23,8 +24,9 @@ handed old i between was was' now comes does within out id happened disk =
       whole = set-set old i between now;
       id = id ∙ ap (λ (s : Seat). s.id) same;
       happened = λ x n is. happened x n
-          (subst (λ (s : Seat). Is s.member x n) (sym (out ∙ same)) is);
-      disk = subst (λ (s : Seat). DiskLeft (junk_with comes) does (disk_in s.member) now.member)
+          (subst (λ (s : Seat). Is is_honest state s.member x n) (sym (out ∙ same)) is);
+      disk = subst (λ (s : Seat). DiskLeft state failures (junk_with comes) does (disk_in s.member)
+          now.member)
           (out ∙ same) disk;
     }
 
@@ -38,4 +40,4 @@ returns c =
     }) c.args.coming c.in_ok-member.did c.requires
     (c.replace-seat.ensures.value ∙ get_or_default c.args.seats.now c.args.index
     c.index-seats-index-2.result c.index-seats-index.result c.requires)
-    refl c.in_ok-member.ensures.happened c.in_ok-member.ensures.disk
+    refl c.in_ok-member.ensures.happened (c.in_ok-member.ensures.disk tt)

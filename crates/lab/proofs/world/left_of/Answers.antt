@@ -1,16 +1,17 @@
 use Rattle.std.proofs.Common.{sym, ap, subst, ◌∙◌}
+use Rattle.disk.specs.Memory.{Slots}
 use Rattle.lab.specs.declared.member.Member.{Member}
-use Rattle.lab.specs.Members.{Is, disk_in}
+use Rattle.lab.specs.Members.{Is, disk_in, is_honest, state}
 use Rattle.lab.proofs.world.left_of.Goals as goal
 
 pub returns-in-Running-clause-left : goal.returns-in-Running-clause-left
 returns-in-Running-clause-left c = λ n disk is own.
     let x = c.args.seat.id in
-    let r = subst (λ (m : Member). Is m x n) c.in-Running.is is in
+    let r = subst (λ (m : Member Slots). Is is_honest state m x n) c.in-Running.is is in
     record {
       disk = record {
         same = c.into_disk-disk.ensures.disk
-            ∙ (ap (λ (m : Member). disk_in m) (sym c.in-Running.is) ∙ own);
+            ∙ (ap (λ (m : Member Slots). disk_in m) (sym c.in-Running.is) ∙ own);
         stands = c.into_disk-disk.ensures.rests x n r;
       };
       numbers = (
