@@ -5,27 +5,31 @@ use Rattle.std.proofs.lemmas.Bool.{cases_lt}
 use Rattle.std.proofs.Common.{⊎_elim}
 use Rattle.disk.specs.declared.error.DiskError.{DiskError}
 use Rattle.disk.specs.declared.error.DiskError.TheVariants.{Failed, NoFile, Short, Memory}
-use Rattle.disk.specs.Calls.{HasRisen, Rises, Keeps}
+use Rattle.disk.specs.State.{State}
+use Rattle.disk.specs.Calls.{HasRisen, Rises, CallKeeps}
 
--- `Failed` is told only where the count has risen
-pub has_risen : {T : Type 0} (was is : Type 0) (before now : ℕ) (result : Result T DiskError)
-    → Keeps was is before now result → IsErrOf result Failed → HasRisen before now
-has_risen was is before now result keeps failed =
-    λ below. omega (arith, (keeps.failed failed).below below)
+rises_later : (before now : ℕ) → Rises before now → before ≤ now
+rises_later before now rises =
+    ⊎_elim (λ lt. omega (arith, rises.below lt)) (λ ge. omega (arith, rises.last ge))
+    (cases_lt before (2 ^ 64 - 1))
 
--- the count doesn't fall
-pub later : {T : Type 0} (was is : Type 0) (before now : ℕ) (result : Result T DiskError)
-    → Keeps was is before now result → before ≤ now
-later was is before now (Ok x) keeps = omega (arith, keeps.others (λ e. absurd cc))
-later was is before now (Err Failed) keeps = rises_later before now (keeps.failed refl)
+-- a call that fails raises the count, and no call lowers it
+module _ {D T : Type 0} (is_honest : D → Type 0) (state : D → State) (failures : D → ℕ)
+    (is_reliable : D → Type 0) (old new : D) (cause : Type 0) (IsKept : State → State → Type 0)
   where
-    rises_later : (before now : ℕ) → Rises before now → before ≤ now
-    rises_later before now rises =
-        ⊎_elim (λ lt. omega (arith, rises.below lt)) (λ ge. omega (arith, rises.last ge))
-        (cases_lt before (2 ^ 64 - 1))
-later was is before now (Err NoFile) keeps = omega (arith, keeps.others (λ e. absurd cc))
-later was is before now (Err Short) keeps = omega (arith, keeps.others (λ e. absurd cc))
-later was is before now (Err Memory) keeps = omega (arith, keeps.others (λ e. absurd cc))
+    pub has_risen : (result : Result T DiskError) →
+        CallKeeps is_honest state failures is_reliable old new result cause IsKept →
+        IsErrOf result Failed → HasRisen (failures old) (failures new)
+    has_risen result keeps failed = λ below. omega (arith, (keeps.disk.failed failed).below below)
+
+    pub later : (result : Result T DiskError) →
+        CallKeeps is_honest state failures is_reliable old new result cause IsKept →
+        failures old ≤ failures new
+    later (Ok x) keeps = omega (arith, keeps.disk.count (λ e. absurd cc))
+    later (Err Failed) keeps = rises_later (failures old) (failures new) (keeps.disk.failed refl)
+    later (Err NoFile) keeps = omega (arith, keeps.disk.count (λ e. absurd cc))
+    later (Err Short) keeps = omega (arith, keeps.disk.count (λ e. absurd cc))
+    later (Err Memory) keeps = omega (arith, keeps.disk.count (λ e. absurd cc))
 
 -- a rise stays a rise over later calls
 pub risen_still : (before mid now : ℕ) → HasRisen before mid → mid ≤ now → HasRisen before now

@@ -10,7 +10,11 @@ use Rattle.disk.specs.declared.error.DiskError.TheVariants.{Failed, NoFile, Shor
 use Rattle.disk.specs.State.{State, Slot, seen, IsSame, Changes, MayHave}
 use Rattle.disk.specs.State.{written, cut_to, synced, removed}
 
--- ---- the count of failures
+-- a write of so many bytes from this place on would end past the greatest place of a file
+abbrev pub EndsOutOfRange : ℕ → ℕ → Type 0
+EndsOutOfRange at len = 2 ^ 63 ≤ at + len
+
+-- ---- what every call keeps
 
 -- A count of failures has risen. At its last value it stays, and each call counts.
 abbrev pub HasRisen : ℕ → ℕ → Type 0
@@ -21,29 +25,31 @@ pub record Rises (before now : ℕ) : Type 0 where
   pub below : before < 2 ^ 64 - 1 → now ≡ before + 1
   pub last : 2 ^ 64 - 1 ≤ before → now ≡ before
 
--- what every call keeps, of an honest disk and of any other
-pub record Keeps {T : Type 0} (was is : Type 0) (before now : ℕ)
-    (result : Result T DiskError) : Type 0 where
+-- What a call keeps of a disk with these ghost members, of an honest one and of any other. The call
+-- `has_failed` where it answers that the device failed.
+pub record KeepsBy {D : Type 0} (is_honest : D → Type 0) (state : D → State) (failures : D → ℕ)
+    (is_reliable : D → Type 0) (old new : D) (has_failed cause : Type 0)
+    (IsKept : State → State → Type 0) : Type 0 where
   -- the disk is honest now exactly if it was
-  pub honest : is ↔ was
-  -- `Failed` is told only where the count rises
-  pub failed : IsErrOf result Failed → Rises before now
-  -- it doesn't change otherwise
-  pub others : (IsErrOf result Failed → ⊥) → now ≡ before
-  -- at the last value nothing else is told
-  pub last : 2 ^ 64 - 1 ≤ before → IsErrOf result Failed
+  pub honest : is_honest new ↔ is_honest old
+  -- a failure is answered only where the count rises
+  pub failed : has_failed → Rises (failures old) (failures new)
+  -- the count doesn't change otherwise
+  pub count : (has_failed → ⊥) → failures new ≡ failures old
+  -- a reliable disk fails only for this cause
+  pub only : is_reliable old → has_failed → cause
+  -- it is reliable after a call that has not failed
+  pub reliable : is_reliable old → (has_failed → ⊥) → is_reliable new
+  -- the files of an honest disk are kept so
+  pub files : is_honest old → IsKept (state old) (state new)
 
--- ---- reliable disks
-
--- A reliable disk fails in a call only for this reason, and is reliable after a call that has not
--- failed.
-pub record StaysReliable (was is has_failed reason : Type 0) : Type 0 where
-  pub failed : was → has_failed → reason
-  pub after : was → (has_failed → ⊥) → is
-
--- a write of so many bytes from this place on would end past the greatest place of a file
-abbrev pub EndsOutOfRange : ℕ → ℕ → Type 0
-EndsOutOfRange at len = 2 ^ 63 ≤ at + len
+-- the disk's own calls keep this, and at the count's last value they answer nothing but a failure
+pub record CallKeeps {D T : Type 0} (is_honest : D → Type 0) (state : D → State)
+    (failures : D → ℕ) (is_reliable : D → Type 0) (old new : D) (result : Result T DiskError)
+    (cause : Type 0) (IsKept : State → State → Type 0) : Type 0 where
+  pub disk : KeepsBy is_honest state failures is_reliable old new (IsErrOf result Failed) cause
+      IsKept
+  pub last : 2 ^ 64 - 1 ≤ failures old → IsErrOf result Failed
 
 -- ---- the calls that read
 

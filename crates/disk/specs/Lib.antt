@@ -1,5 +1,6 @@
 pub mod State
 pub mod Calls
+pub mod Lent
 pub mod Piece
 pub mod Buffer
 pub mod Content

@@ -80,6 +80,16 @@ SureIsLeft = (disk : State) (left : Contents) (file : ℕ) → IsSure (disk file
 abbrev pub IsSame : State → State → Type 0
 IsSame old new = (file : ℕ) → new file ≡ old file
 
+-- .. but for one file
+abbrev pub IsSameBut : ℕ → State → State → Type 0
+IsSameBut file old new = (other : ℕ) → other ≢ file → new other ≡ old other
+
+-- a crash leaves nothing of this file that it could not have left before, and the others are as
+-- they were
+pub record AddsNoOutcome (file : ℕ) (old new : State) : Type 0 where
+  pub crash : (left : Option (List ℕ)) → Leaves (new file) left → Leaves (old file) left
+  pub others : IsSameBut file old new
+
 -- ---- what the calls make of a slot
 
 -- the bytes from this place on, over what is there and past its end

@@ -20,10 +20,19 @@ use Rattle.kv_types.specs.Content.{BatchContent}
 use Rattle.node.specs.Layout.{identity_file, identity_records, batches_file}
 use Rattle.node.specs.Layout.{batch_record, records_from}
 use Rattle.node.specs.Files.{IsLog, HasId, DiskRepresents, IsSureOfId, KeepsOneOf}
-use Rattle.node.specs.Engines.{EngineHolds, HasNumbersOf, engine_count}
+use Rattle.node.specs.Engines.{EngineHolds, HasNumbersOf, KeepsStore, engine_count}
 use Rattle.chain_core.specs.States.{Machine}
 use Rattle.chain_model.specs.Lists.{place}
 use Rattle.node.proofs.Records.{records_from-push, length-ends}
+
+-- what two calls kept, both have
+pub kept_on : {engine : Engine} {a b c : State} → KeepsStore engine a b → KeepsStore engine b c →
+    KeepsStore engine a c
+kept_on first second = record {
+  others = λ other not_own. second.others other not_own ∙ first.others other not_own;
+  holds = λ x epoch ids list floor kept held.
+      second.holds x epoch ids list floor kept (first.holds x epoch ids list floor kept held);
+}
 
 -- a log holds what it held where its file is the same
 pub holds_in : (old new : State) (log : Log) (records : List (List ℕ)) →

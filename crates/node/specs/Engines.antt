@@ -6,12 +6,12 @@ use Rattle.kv_types.specs.Spelling.{IsBatch}
 use Rattle.disk.specs.State.{State}
 use Rattle.disk.specs.Calls.{EndsOutOfRange}
 use Rattle.record_log.specs.declared.log.TheConstants.{MAX_RECORD}
-use Rattle.record_log.specs.Stands.{HasFailed, Holds, IsAt, gate_of}
+use Rattle.record_log.specs.Stands.{HasFailed, Holds, IsAt, file_of, gate_of}
 use Rattle.chain_core.specs.States.{Machine}
 use Rattle.node.specs.declared.engine.Engine.{Engine}
 use Rattle.node.specs.declared.layout.Identity.{Identity}
 use Rattle.node.specs.Layout.{batches_file, records_from}
-use Rattle.node.specs.Files.{HasPlainNumbers, IsSureOfId}
+use Rattle.node.specs.Files.{HasPlainNumbers, IsSureOfId, KeepsOthers}
 
 -- how many batches it has
 abbrev pub engine_count : Engine → ℕ
@@ -64,3 +64,14 @@ pub record IsOpened (disk : State) (identity : Identity) (engine : Engine) (x ep
   pub id : identity.id ≡ x
   pub config : identity.config ≡ ids
   pub holds : EngineHolds disk engine x epoch ids list floor kept
+
+-- where its log is in its place, the files that are no node's are as they were
+abbrev pub KeepsOthersOf : Engine → State → State → Type 0
+KeepsOthersOf engine old new = file_of engine.log ≡ batches_file → KeepsOthers old new
+
+-- so they are, and it holds what it held
+pub record KeepsStore (engine : Engine) (old new : State) : Type 0 where
+  pub others : KeepsOthers old new
+  pub holds : (x epoch : ℕ) (ids : List ℕ) (list : List BatchContent) (floor kept : ℕ) →
+      EngineHolds old engine x epoch ids list floor kept →
+      EngineHolds new engine x epoch ids list floor kept

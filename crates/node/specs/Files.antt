@@ -79,6 +79,11 @@ KeepsOthers old new = (other : ℕ) → (IsOwnFile other → ⊥) → new other 
 abbrev pub LeavesNoMore : State → State → Type 0
 LeavesNoMore old new = (left : Contents) → MayLeave new left → MayLeave old left
 
+-- recovery leaves no more, and keeps the files that are no node's
+pub record IsRecovered (old new : State) : Type 0 where
+  pub crash : LeavesNoMore old new
+  pub others : KeepsOthers old new
+
 -- whatever a crash leaves of a disk represents node x with one of two lists of batches
 abbrev pub KeepsOneOf : State → (x epoch : ℕ) → List ℕ → (list more : List BatchContent) →
     (floor kept : ℕ) → Type 0

@@ -1,8 +1,10 @@
--- What private functions promise one another of what a step answers.
+-- How a step ends and what it keeps, and what private functions promise one another of its answer.
 use Rattle.std.specs.Prelude.{◌≡◌, ℕ, List, option_map, Option, Some, None, Result, MatchResult}
-use Rattle.std.specs.Prelude.{OnErr}
+use Rattle.std.specs.Prelude.{OnErr, OnOk}
 use Rattle.kv_types.specs.Content.{BatchContent}
+use Rattle.disk.specs.declared.disk.Disk.{Ghosts}
 use Rattle.disk.specs.State.{State}
+use Rattle.disk.specs.Lent.{KeepsDisk}
 use Rattle.chain_model.specs.Frames.{Frame}
 use Rattle.chain_model.specs.Node.{Answer}
 use Rattle.chain_core.specs.declared.drop_reason.DropReason.{DropReason}
@@ -18,8 +20,10 @@ use Rattle.node.specs.declared.output.Output.{Output}
 use Rattle.node.specs.declared.output.Reply.{Reply}
 use Rattle.node.specs.declared.output.Reply.TheVariants as reply
 use Rattle.node.specs.declared.stop.Stop.{Stop}
-use Rattle.node.specs.Steps.{Runs, StopsAs, disk_of, reason_of, replies_of}
-use Rattle.node.specs.Stops.{IsOfMachine}
+use Rattle.node.specs.Engines.{IsNearlyFull, KeepsOthersOf}
+use Rattle.node.specs.Steps.{Answers, MayStep, Runs, StopsAs, disk_of, engine_of}
+use Rattle.node.specs.Steps.{reason_of, replies_of}
+use Rattle.node.specs.Stops.{IsOfMachine, TellsDisk}
 
 -- a request is told that its batch is committed
 abbrev pub told_to : Waiting → Reply
@@ -60,3 +64,16 @@ pub record Ends {D T : Type 0} (is_honest : D → Type 0) (state : D → State) 
   where
     pub done : MatchResult result IsDone IsOfMachine
     pub stopped : OnErr result (is_honest (disk_of new) × StopsAs (state (disk_of new)) x n a)
+
+-- node x, which was machine n, ends a step as the machine does in this answer to an input
+abbrev pub StepEnds : {D : Type 0} → Ghosts D → (old new : Node D) → Result Output Stop → ℕ →
+    Machine → Input → Answer BatchContent → Type 0
+StepEnds g old new result x n input a = Runs g.is_honest g.state old x n →
+    Ends g.is_honest g.state new x n a (Answers g.is_honest g.state new x input a) result
+
+-- what a step keeps: the node's disk and, where the step is done, that another may follow
+pub record KeepsNode {D T : Type 0} (g : Ghosts D) (old new : Node D) (result : Result T Stop) :
+    Type 0 where
+  pub disk : KeepsDisk g (disk_of old) (disk_of new) (TellsDisk result)
+      (IsNearlyFull (engine_of old)) (KeepsOthersOf (engine_of old))
+  pub works : OnOk result (MayStep new)

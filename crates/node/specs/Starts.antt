@@ -1,5 +1,5 @@
 -- What the calls that take a disk answer: a node, or why not.
-use Rattle.std.specs.Prelude.{◌≡◌, ℕ, Result, Ok, Err, MatchResult}
+use Rattle.std.specs.Prelude.{ℕ, Result, Ok, Err}
 use Rattle.disk.specs.State.{State, Contents, contents}
 use Rattle.chain_model.specs.Node.{started}
 use Rattle.node.specs.declared.node.Node.{Node}
@@ -7,8 +7,7 @@ use Rattle.node.specs.declared.stop.Stop.{Stop}
 use Rattle.node.specs.declared.stop.Stop.TheVariants as stop
 use Rattle.node.specs.Files.{IsBlank, IsDamaged}
 use Rattle.chain_core.specs.States.{Machine}
-use Rattle.node.specs.Steps.{Rests, Runs, disk_of}
-use Rattle.node.specs.Stops.{KeepsDisk}
+use Rattle.node.specs.Steps.{Rests, Runs}
 
 -- a node that was started runs as a node that its disk stood for
 pub record IsStarted {D : Type 0} (is_honest : D → Type 0) (state : D → State) (disk : D)
@@ -29,10 +28,3 @@ Declines stop.NotCreated left = IsBlank left
 abbrev pub disk_behind : {D : Type 0} → Result (Node D) (Stop × D) → D
 disk_behind (Ok node) = node.disk
 disk_behind (Err refused) = refused.1
-
--- what every call keeps, of the disk that it takes
-abbrev pub KeepsTaken : {D : Type 0} → (D → Type 0) → (D → ℕ) → D → Result (Node D) (Stop × D)
-    → Type 0
-KeepsTaken is_honest failures disk result = MatchResult result
-    (λ node. KeepsDisk is_honest failures disk (disk_of node) ⊥)
-    (λ refused. KeepsDisk is_honest failures disk refused.1 (refused.0 ≡ stop.Disk))

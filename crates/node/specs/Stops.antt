@@ -1,8 +1,7 @@
 -- How a node tells what its disk and its log told it.
-use Rattle.std.specs.Prelude.{◌≡◌, ◌↔◌, ◌⊎◌, ℕ, Result, Err}
+use Rattle.std.specs.Prelude.{◌≡◌, ◌⊎◌, Result, Err}
 use Rattle.disk.specs.declared.error.DiskError.{DiskError}
 use Rattle.disk.specs.declared.error.DiskError.TheVariants as disk
-use Rattle.disk.specs.Calls.{Rises}
 use Rattle.configurations.specs.declared.error.ConfigError.{ConfigError}
 use Rattle.configurations.specs.declared.error.ConfigError.TheVariants as config
 use Rattle.record_log.specs.declared.error.LogError.{LogError}
@@ -32,18 +31,6 @@ config_stop config.NotInOrder = stop.Damaged
 config_stop config.TooMany = stop.Damaged
 config_stop config.BadId = stop.Damaged
 config_stop config.Memory = stop.Memory
-
--- What every call keeps: the disk's honesty, and the count of failures but where the node stops
--- for the disk.
-pub record Keeps (was_honest now_honest : Type 0) (before now : ℕ) (told : Type 0) : Type 0 where
-  pub honest : now_honest ↔ was_honest
-  pub failed : told → Rises before now
-  pub others : (told → ⊥) → now ≡ before
-
--- .. of the disk that is lent to it
-abbrev pub KeepsDisk : {D : Type 0} → (D → Type 0) → (D → ℕ) → D → D → Type 0 → Type 0
-KeepsDisk is_honest failures old new told =
-    Keeps (is_honest old) (is_honest new) (failures old) (failures new) told
 
 -- a call stops the node for the disk
 abbrev pub TellsDisk : {T : Type 0} → Result T Stop → Type 0

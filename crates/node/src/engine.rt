@@ -6,20 +6,20 @@ ghost use Rattle.kv_types.specs.declared.bounds.TheConstants.{MAX_NUMBER};
 ghost use Rattle.kv_types.specs.Content.{BatchContent};
 ghost use Rattle.kv_types.specs.Spelling.{IsBatch};
 ghost use Rattle.kv_types.specs.Maps.{map_of};
-ghost use Rattle.disk.specs.State.{Leaves, contents, IsSame};
-ghost use Rattle.disk.specs.Calls.{StaysReliable};
+ghost use Rattle.disk.specs.State.{AddsNoOutcome, contents, IsSame};
+ghost use Rattle.disk.specs.Lent.{KeepsDisk};
 ghost use Rattle.record_log.specs.Stands.{EndsInRange, Holds, HasFailed, count_of};
 ghost use Rattle.chain_model.specs.Configuration.{IsId};
 ghost use Rattle.chain_model.specs.Lists.{place};
 ghost use Rattle.configurations.specs.Configs.{IsConfig};
 ghost use Rattle.node.specs.Files.{DiskRepresents, HasId, IsBlank, IsSureId};
-ghost use Rattle.node.specs.Files.{KeepsOneOf, KeepsOthers, LeavesNoMore};
+ghost use Rattle.node.specs.Files.{IsRecovered, KeepsOneOf, KeepsOthers};
 ghost use Rattle.node.specs.Layout.{identity_file, identity_records};
 ghost use Rattle.node.specs.Layout.{batch_record, records_from};
 ghost use Rattle.node.specs.Engines.{EngineHolds, IsOpened, IsUsable};
-ghost use Rattle.node.specs.Engines.{IsNearlyFull};
+ghost use Rattle.node.specs.Engines.{IsNearlyFull, KeepsOthersOf, KeepsStore};
 ghost use Rattle.node.specs.Engines.{engine_count, engine_epoch, engine_floor, engine_kept};
-ghost use Rattle.node.specs.Stops.{KeepsDisk, TellsDisk, IsOfMachine, TellsBlank};
+ghost use Rattle.node.specs.Stops.{TellsDisk, IsOfMachine, TellsBlank};
 
 use crate::Stop;
 use crate::layout::{
@@ -44,9 +44,7 @@ pub struct Engine {
 fn batch_at<D: Disk>(alloc: Global, disk: &mut D, log: &Log, index: usize) -> Result<Batch, Stop>
     requires works { HasFailed log.now → ⊥ }
     requires within { index < count_of log.now }
-    ensures keeps { KeepsDisk D.is_honest D.failures disk.old disk.new (TellsDisk result) }
-    ensures reliable { StaysReliable (D.is_reliable disk.old) (D.is_reliable disk.new)
-        (TellsDisk result) ⊥ }
+    ensures kept { KeepsDisk D.Disk disk.old disk.new (TellsDisk result) ⊥ IsSame }
     ensures each { IfOk result IsBatch }
     ensures found { (records : List (List ℕ)) → D.is_honest disk.old →
         Holds (D.state disk.old) log.now records →
@@ -55,7 +53,6 @@ fn batch_at<D: Disk>(alloc: Global, disk: &mut D, log: &Log, index: usize) -> Re
         Holds (D.state disk.old) log.now (records_from 1 list) → All IsBatch list →
         IfErr result IsOfMachine }
     ensures created { IfErr result (λ e. e ≢ Stop.NotCreated) }
-    ensures same { D.is_honest disk.old → IsSame (D.state disk.old) (D.state disk.new) }
 {
     let record = log.record(alloc, disk, index)?;
     batch_of(alloc, index as u64 + 1, &record)
@@ -64,9 +61,7 @@ fn batch_at<D: Disk>(alloc: Global, disk: &mut D, log: &Log, index: usize) -> Re
 /// The batches that a log has, in order of number.
 fn batches_in<D: Disk>(alloc: Global, disk: &mut D, log: &Log) -> Result<Vec<Batch>, Stop>
     requires { HasFailed log.now → ⊥ }
-    ensures keeps { KeepsDisk D.is_honest D.failures disk.old disk.new (TellsDisk result) }
-    ensures reliable { StaysReliable (D.is_reliable disk.old) (D.is_reliable disk.new)
-        (TellsDisk result) ⊥ }
+    ensures kept { KeepsDisk D.Disk disk.old disk.new (TellsDisk result) ⊥ IsSame }
     ensures found { (records : List (List ℕ)) → D.is_honest disk.old →
         Holds (D.state disk.old) log.now records →
         IfOk result (λ batches.
@@ -76,7 +71,6 @@ fn batches_in<D: Disk>(alloc: Global, disk: &mut D, log: &Log) -> Result<Vec<Bat
         Holds (D.state disk.old) log.now (records_from 1 list) → All IsBatch list →
         length list ≤ MAX_NUMBER → IfErr result IsOfMachine }
     ensures created { IfErr result (λ e. e ≢ Stop.NotCreated) }
-    ensures same { D.is_honest disk.old → IsSame (D.state disk.old) (D.state disk.new) }
 {
     if Number::new(log.len() as u64).is_none() {
         return Err(Stop::Damaged);
@@ -91,9 +85,7 @@ fn batches_in<D: Disk>(alloc: Global, disk: &mut D, log: &Log) -> Result<Vec<Bat
 /// The node that a log's only record names.
 fn identity_in<D: Disk>(alloc: Global, disk: &mut D, log: &Log) -> Result<Identity, Stop>
     requires { HasFailed log.now → ⊥ }
-    ensures keeps { KeepsDisk D.is_honest D.failures disk.old disk.new (TellsDisk result) }
-    ensures reliable { StaysReliable (D.is_reliable disk.old) (D.is_reliable disk.new)
-        (TellsDisk result) ⊥ }
+    ensures kept { KeepsDisk D.Disk disk.old disk.new (TellsDisk result) ⊥ IsSame }
     ensures found { (records : List (List ℕ)) → D.is_honest disk.old →
         Holds (D.state disk.old) log.now records →
         IfOk result (λ it. records ≡ identity_records it.id it.config) }
@@ -104,7 +96,6 @@ fn identity_in<D: Disk>(alloc: Global, disk: &mut D, log: &Log) -> Result<Identi
     ensures blank { (records : List (List ℕ)) → D.is_honest disk.old →
         Holds (D.state disk.old) log.now records →
         IfErr result (λ e. TellsBlank e (records ≡ [])) }
-    ensures same { D.is_honest disk.old → IsSame (D.state disk.old) (D.state disk.new) }
 {
     if log.len() == 0 {
         return Err(Stop::NotCreated);
@@ -118,16 +109,12 @@ fn identity_in<D: Disk>(alloc: Global, disk: &mut D, log: &Log) -> Result<Identi
 
 /// How many bytes a file has: none where it is absent.
 fn length_of<D: Disk>(disk: &mut D, file: u64) -> Result<u64, Stop>
-    ensures keeps { KeepsDisk D.is_honest D.failures disk.old disk.new (TellsDisk result) }
-    ensures reliable { StaysReliable (D.is_reliable disk.old) (D.is_reliable disk.new)
-        (TellsDisk result) ⊥ }
-    ensures length { D.is_honest disk.old →
-        IfOk result (λ len. MatchOption (contents (D.state disk.old) file)
-        (len ≡ 0) (λ bytes. len ≡ length bytes)) }
+    ensures kept { KeepsDisk D.Disk disk.old disk.new (TellsDisk result) ⊥ IsSame }
+    ensures length { D.is_honest disk.old → MatchResult result
+        (λ len. MatchOption (contents (D.state disk.old) file) (len ≡ 0)
+        (λ bytes. len ≡ length bytes)) IsOfMachine }
     ensures range { D.is_honest disk.old →
         OnOk result (EndsInRange (contents (D.state disk.old) file)) }
-    ensures refused { D.is_honest disk.old → IfErr result IsOfMachine }
-    ensures same { D.is_honest disk.old → IsSame (D.state disk.old) (D.state disk.new) }
 {
     match disk.length(file) {
         Err(DiskError::NoFile) => Ok(0),
@@ -137,20 +124,14 @@ fn length_of<D: Disk>(disk: &mut D, file: u64) -> Result<u64, Stop>
 
 /// The node whose identity is on the disk.
 fn identity_on<D: Disk>(alloc: Global, disk: &mut D) -> Result<Identity, Stop>
-    ensures keeps { KeepsDisk D.is_honest D.failures disk.old disk.new (TellsDisk result) }
-    ensures reliable { StaysReliable (D.is_reliable disk.old) (D.is_reliable disk.new)
-        (TellsDisk result) ⊥ }
+    ensures kept { KeepsDisk D.Disk disk.old disk.new (TellsDisk result) ⊥
+        (AddsNoOutcome identity_file) }
     ensures found { D.is_honest disk.old →
         IfOk result (λ it. IsSureId (D.state disk.old) (D.state disk.new) it.id it.config) }
     ensures opened { (x : ℕ) (ids : List ℕ) → D.is_honest disk.old →
         HasId (contents (D.state disk.old)) x ids → IfErr result IsOfMachine }
     ensures blank { D.is_honest disk.old →
         IfErr result (λ e. TellsBlank e (IsBlank (contents (D.state disk.old)))) }
-    ensures crash { D.is_honest disk.old → (left : _) →
-        Leaves (D.state disk.new identity_file) left →
-        Leaves (D.state disk.old identity_file) left }
-    ensures others { (other : ℕ) → D.is_honest disk.old → other ≢ identity_file →
-        D.state disk.new other ≡ D.state disk.old other }
 {
     one_list();
     if length_of(disk, IDENTITY_FILE)? == 0 {
@@ -168,16 +149,13 @@ impl Engine {
         id: NodeId,
         config: &Config,
     ) -> Result<Engine, Stop>
-        ensures keeps { KeepsDisk D.is_honest D.failures disk.old disk.new (TellsDisk result) }
-        ensures reliable { StaysReliable (D.is_reliable disk.old) (D.is_reliable disk.new)
-            (TellsDisk result) ⊥ }
+        ensures kept { KeepsDisk D.Disk disk.old disk.new (TellsDisk result) ⊥ KeepsOthers }
         ensures created { D.is_honest disk.old →
             MatchResult result
             (λ engine. EngineHolds (D.state disk.new) engine id 0 config.now [] 0 0) IsOfMachine }
         ensures usable { IfOk result IsUsable }
         ensures none { IfOk result
             (λ engine. (engine_count engine ≡ 0) × (engine_kept engine ≡ 0)) }
-        ensures others { D.is_honest disk.old → KeepsOthers (D.state disk.old) (D.state disk.new) }
     {
         length_of(disk, BATCHES_FILE)?;
         length_of(disk, IDENTITY_FILE)?;
@@ -191,9 +169,7 @@ impl Engine {
 
     /// The node and the store that the disk has.
     pub fn open<D: Disk>(alloc: Global, disk: &mut D) -> Result<(Identity, Engine), Stop>
-        ensures keeps { KeepsDisk D.is_honest D.failures disk.old disk.new (TellsDisk result) }
-        ensures reliable { StaysReliable (D.is_reliable disk.old) (D.is_reliable disk.new)
-            (TellsDisk result) ⊥ }
+        ensures kept { KeepsDisk D.Disk disk.old disk.new (TellsDisk result) ⊥ IsRecovered }
         ensures opened { (x epoch : ℕ) (ids : List ℕ) (list : List BatchContent) (floor kept : ℕ) →
             D.is_honest disk.old →
             DiskRepresents (contents (D.state disk.old)) x epoch ids list floor kept →
@@ -205,8 +181,6 @@ impl Engine {
         ensures blank { D.is_honest disk.old →
             IfErr result (λ e. TellsBlank e (IsBlank (contents (D.state disk.old)))) }
         ensures usable { IfOk result (λ it. IsUsable it.1) }
-        ensures crash { D.is_honest disk.old → LeavesNoMore (D.state disk.old) (D.state disk.new) }
-        ensures others { D.is_honest disk.old → KeepsOthers (D.state disk.old) (D.state disk.new) }
     {
         one_list();
         spellings_differ();
@@ -249,9 +223,8 @@ impl Engine {
     pub fn append<D: Disk>(&mut self, alloc: Global, disk: &mut D, batch: Batch) -> Result<(), Stop>
         requires usable { IsUsable self.old }
         requires room { engine_count self.old < MAX_NUMBER }
-        ensures keeps { KeepsDisk D.is_honest D.failures disk.old disk.new (TellsDisk result) }
-        ensures reliable { StaysReliable (D.is_reliable disk.old) (D.is_reliable disk.new)
-            (TellsDisk result) (IsNearlyFull self.old) }
+        ensures kept { KeepsDisk D.Disk disk.old disk.new (TellsDisk result) (IsNearlyFull self.old)
+            (KeepsOthersOf self.old) }
         ensures appended { (x epoch : ℕ) (ids : List ℕ) (list : List BatchContent)
             (floor kept : ℕ) → D.is_honest disk.old →
             EngineHolds (D.state disk.old) self.old x epoch ids list floor kept →
@@ -263,10 +236,6 @@ impl Engine {
             (floor kept : ℕ) → D.is_honest disk.old →
             EngineHolds (D.state disk.old) self.old x epoch ids list floor kept →
             KeepsOneOf (D.state disk.new) x epoch ids list (list ++ batch ∷ []) floor kept }
-        ensures others { (x epoch : ℕ) (ids : List ℕ) (list : List BatchContent)
-            (floor kept : ℕ) → D.is_honest disk.old →
-            EngineHolds (D.state disk.old) self.old x epoch ids list floor kept →
-            KeepsOthers (D.state disk.old) (D.state disk.new) }
         ensures usable { OnOk result (IsUsable self.new
             × (engine_count self.new ≡ engine_count self.old + 1)
             × (engine_kept self.new ≡ engine_kept self.old)) }
@@ -284,36 +253,24 @@ impl Engine {
     pub fn batch<D: Disk>(&self, disk: &mut D, number: Number) -> Result<Batch, Stop>
         requires usable { IsUsable self.now }
         requires there { (engine_kept self.now < number) × (number ≤ engine_count self.now) }
-        ensures keeps { KeepsDisk D.is_honest D.failures disk.old disk.new (TellsDisk result) }
-        ensures reliable { StaysReliable (D.is_reliable disk.old) (D.is_reliable disk.new)
-            (TellsDisk result) ⊥ }
+        ensures kept { KeepsDisk D.Disk disk.old disk.new (TellsDisk result) ⊥
+            (KeepsStore self.now) }
         ensures found { (x epoch : ℕ) (ids : List ℕ) (list : List BatchContent) (floor kept : ℕ) →
             D.is_honest disk.old →
             EngineHolds (D.state disk.old) self.now x epoch ids list floor kept →
             MatchResult result (λ batch. place list number ≡ Some batch) IsOfMachine }
-        ensures holds { (x epoch : ℕ) (ids : List ℕ) (list : List BatchContent) (floor kept : ℕ) →
-            D.is_honest disk.old →
-            EngineHolds (D.state disk.old) self.now x epoch ids list floor kept →
-            EngineHolds (D.state disk.new) self.now x epoch ids list floor kept }
-        ensures others { D.is_honest disk.old → KeepsOthers (D.state disk.old) (D.state disk.new) }
     {
         Ok(self.batches[number.get() as usize - 1].clone()?)
     }
 
     /// What the key has in the map of so many first batches.
     pub fn get<D: Disk>(&self, disk: &mut D, at: Number, key: &Key) -> Result<Option<Value>, Stop>
-        ensures keeps { KeepsDisk D.is_honest D.failures disk.old disk.new (TellsDisk result) }
-        ensures reliable { StaysReliable (D.is_reliable disk.old) (D.is_reliable disk.new)
-            (TellsDisk result) ⊥ }
+        ensures kept { KeepsDisk D.Disk disk.old disk.new (TellsDisk result) ⊥
+            (KeepsStore self.now) }
         ensures found { (x epoch : ℕ) (ids : List ℕ) (list : List BatchContent) (floor kept : ℕ) →
             D.is_honest disk.old →
             EngineHolds (D.state disk.old) self.now x epoch ids list floor kept → floor ≤ at →
             MatchResult result (λ value. value ≡ map_of (take at list) key.now) IsOfMachine }
-        ensures holds { (x epoch : ℕ) (ids : List ℕ) (list : List BatchContent) (floor kept : ℕ) →
-            D.is_honest disk.old →
-            EngineHolds (D.state disk.old) self.now x epoch ids list floor kept →
-            EngineHolds (D.state disk.new) self.now x epoch ids list floor kept }
-        ensures others { D.is_honest disk.old → KeepsOthers (D.state disk.old) (D.state disk.new) }
     {
         let first = self.batches.len().min(at.get() as usize);
         match value_at(&self.batches[..first], key) {

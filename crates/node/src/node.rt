@@ -1,24 +1,22 @@
 // A running node: its store, and the rules of a step over it.
 ghost use Rattle.std.specs.Prelude.{◌≡◌, ℕ, ◌+◌, ◌-◌, length, replicate};
-ghost use Rattle.std.specs.Prelude.{◌<◌, ◌≤◌, suc, OnOk, OnErr, IfOk, IfErr, MatchResult, IsErrAnd};
+ghost use Rattle.std.specs.Prelude.{◌<◌, ◌≤◌, suc, OnOk, IfOk, IfErr, MatchResult, IsErrAnd};
 ghost use Rattle.kv_types.specs.declared.bounds.TheConstants.{MAX_NUMBER};
 ghost use Rattle.disk.specs.State.{contents};
-ghost use Rattle.disk.specs.Calls.{StaysReliable};
+ghost use Rattle.disk.specs.Lent.{KeepsDisk};
 ghost use Rattle.chain_model.specs.Node.{created, started};
 ghost use Rattle.chain_model.specs.Rules.{accept, append, forwards, pass_on, resend, show};
 ghost use Rattle.node.specs.Engines.{EngineHolds, HasNumbersOf, IsUsable};
-ghost use Rattle.node.specs.Engines.{IsNearlyFull};
-ghost use Rattle.node.specs.Engines.{engine_count, engine_kept};
-ghost use Rattle.node.specs.Files.{KeepsOthers, LeavesNoMore};
-ghost use Rattle.node.specs.Starts.{IsStarted, Declines, KeepsTaken, disk_behind};
+ghost use Rattle.node.specs.Engines.{KeepsStore, engine_count, engine_kept};
+ghost use Rattle.node.specs.Files.{IsRecovered, KeepsOthers};
+ghost use Rattle.node.specs.Starts.{IsStarted, Declines, disk_behind};
 ghost use Rattle.chain_core.specs.States.{Machine, Is};
 ghost use Rattle.chain_core.specs.Decisions.{answer_to, done_of, rule_of};
 ghost use Rattle.chain_core.specs.Decisions.{AreFrames, HasRoomFor, IsReadOf};
 ghost use Rattle.chain_core.specs.declared.decision.Decision.{Decision};
-ghost use Rattle.node.specs.Steps.{Runs, AlwaysRests, Answers, StopsAs, MayStep};
-ghost use Rattle.node.specs.Steps.{disk_of, engine_of};
-ghost use Rattle.node.specs.Outputs.{Ends, Follows, HasAppended};
-ghost use Rattle.node.specs.Stops.{KeepsDisk, TellsDisk, IsOfMachine};
+ghost use Rattle.node.specs.Steps.{Runs, AlwaysRests, MayStep, disk_of};
+ghost use Rattle.node.specs.Outputs.{Ends, StepEnds, Follows, HasAppended, KeepsNode};
+ghost use Rattle.node.specs.Stops.{TellsDisk, IsOfMachine};
 
 use crate::engine::Engine;
 use crate::layout::Identity;
@@ -75,17 +73,12 @@ fn resent<D: Disk>(
     requires usable { IsUsable engine.now }
     requires count { core.now.count ≡ engine_count engine.now }
     requires kept { core.now.kept ≡ engine_kept engine.now }
-    ensures keeps { KeepsDisk D.is_honest D.failures disk.old disk.new (TellsDisk result) }
-    ensures reliable { StaysReliable (D.is_reliable disk.old) (D.is_reliable disk.new)
-        (TellsDisk result) ⊥ }
+    ensures kept { KeepsDisk D.Disk disk.old disk.new (TellsDisk result) ⊥
+        (KeepsStore engine.now) }
     ensures sent { (x : ℕ) (n : Machine) → Is core.now n → D.is_honest disk.old →
         EngineHolds (D.state disk.old) engine.now x n.epoch n.ids n.list n.floor n.kept →
         MatchResult result (λ sent. AreFrames sent.items
         (forwards core.now.id n n.successor_has 16)) IsOfMachine }
-    ensures holds { (x : ℕ) (n : Machine) → D.is_honest disk.old →
-        EngineHolds (D.state disk.old) engine.now x n.epoch n.ids n.list n.floor n.kept →
-        EngineHolds (D.state disk.new) engine.now x n.epoch n.ids n.list n.floor n.kept }
-    ensures others { D.is_honest disk.old → KeepsOthers (D.state disk.old) (D.state disk.new) }
 {
     one_by_one();
     let numbers = core.resends();
@@ -108,15 +101,11 @@ impl<D: Disk + Drop> Node<D> {
         config: &Config,
         limits: &Limits,
     ) -> Result<Node<D>, (Stop, D)>
-        ensures keeps { KeepsTaken D.is_honest D.failures disk result }
-        ensures reliable { StaysReliable (D.is_reliable disk)
-            (D.is_reliable (disk_behind result))
-            (IsErrAnd result (λ refused. refused.0 ≡ Stop.Disk)) ⊥ }
+        ensures kept { KeepsDisk D.Disk disk (disk_behind result)
+            (IsErrAnd result (λ refused. refused.0 ≡ Stop.Disk)) ⊥ KeepsOthers }
         ensures created { D.is_honest disk →
             MatchResult result (λ node. Runs D.is_honest D.state node id (created config.now))
             (λ refused. IsOfMachine refused.0) }
-        ensures others { D.is_honest disk →
-            KeepsOthers (D.state disk) (D.state (disk_behind result)) }
         ensures works { IfOk result MayStep }
     {
         let Ok(known) = config.clone() else {
@@ -135,10 +124,8 @@ impl<D: Disk + Drop> Node<D> {
 
     /// Runs the node that the disk has. A refusal hands the disk back.
     pub fn start(alloc: Global, mut disk: D, limits: &Limits) -> Result<Node<D>, (Stop, D)>
-        ensures keeps { KeepsTaken D.is_honest D.failures disk result }
-        ensures reliable { StaysReliable (D.is_reliable disk)
-            (D.is_reliable (disk_behind result))
-            (IsErrAnd result (λ refused. refused.0 ≡ Stop.Disk)) ⊥ }
+        ensures kept { KeepsDisk D.Disk disk (disk_behind result)
+            (IsErrAnd result (λ refused. refused.0 ≡ Stop.Disk)) ⊥ IsRecovered }
         ensures started { (x : ℕ) (n : Machine) → D.is_honest disk →
             AlwaysRests (D.state disk) x n →
             MatchResult result (λ node. Runs D.is_honest D.state node x (started x n))
@@ -146,10 +133,6 @@ impl<D: Disk + Drop> Node<D> {
         ensures told { D.is_honest disk →
             MatchResult result (IsStarted D.is_honest D.state disk)
             (λ refused. Declines refused.0 (contents (D.state disk))) }
-        ensures crash { D.is_honest disk →
-            LeavesNoMore (D.state disk) (D.state (disk_behind result)) }
-        ensures others { D.is_honest disk →
-            KeepsOthers (D.state disk) (D.state (disk_behind result)) }
         ensures works { IfOk result MayStep }
     {
         match Engine::open(alloc, &mut disk) {
@@ -168,18 +151,10 @@ impl<D: Disk + Drop> Node<D> {
         requires may { MayStep self.old }
         requires room { self.old.core.count < MAX_NUMBER }
         requires done { HasAppended done }
-        ensures keeps { KeepsDisk D.is_honest D.failures (disk_of self.old) (disk_of self.new)
-            (TellsDisk result) }
-        ensures reliable { StaysReliable (D.is_reliable (disk_of self.old))
-            (D.is_reliable (disk_of self.new)) (TellsDisk result)
-            (IsNearlyFull (engine_of self.old)) }
+        ensures kept { KeepsNode D.Disk self.old self.new result }
         ensures ends { (x : ℕ) (n : Machine) → Runs D.is_honest D.state self.old x n →
-            Ends D.is_honest D.state self.new x n (done_of x n batch done)
-            (λ due. Follows D.is_honest D.state self.new x (done_of x n batch done) due.items)
-            result }
-        ensures others { (x : ℕ) (n : Machine) → Runs D.is_honest D.state self.old x n →
-            KeepsOthers (D.state (disk_of self.old)) (D.state (disk_of self.new)) }
-        ensures works { OnOk result (MayStep self.new) }
+            let a = done_of x n batch done in Ends D.is_honest D.state self.new x n a
+            (λ due. Follows D.is_honest D.state self.new x a due.items) result }
     {
         steps_leave();
         self.engine.append(alloc, &mut self.disk, batch)?;
@@ -190,18 +165,9 @@ impl<D: Disk + Drop> Node<D> {
     fn accept(&mut self, alloc: Global, request: Number, batch: Batch) -> Result<Output, Stop>
         requires may { MayStep self.old }
         requires room { self.old.core.count < MAX_NUMBER }
-        ensures keeps { KeepsDisk D.is_honest D.failures (disk_of self.old) (disk_of self.new)
-            (TellsDisk result) }
-        ensures reliable { StaysReliable (D.is_reliable (disk_of self.old))
-            (D.is_reliable (disk_of self.new)) (TellsDisk result)
-            (IsNearlyFull (engine_of self.old)) }
+        ensures kept { KeepsNode D.Disk self.old self.new result }
         ensures ends { (x : ℕ) (n : Machine) (input : Input) →
-            Runs D.is_honest D.state self.old x n →
-            Ends D.is_honest D.state self.new x n (accept x n request batch)
-            (Answers D.is_honest D.state self.new x input (accept x n request batch)) result }
-        ensures others { (x : ℕ) (n : Machine) → Runs D.is_honest D.state self.old x n →
-            KeepsOthers (D.state (disk_of self.old)) (D.state (disk_of self.new)) }
-        ensures works { OnOk result (MayStep self.new) }
+            StepEnds D.Disk self.old self.new result x n input (accept x n request batch) }
     {
         steps_leave();
         stands_last();
@@ -215,19 +181,10 @@ impl<D: Disk + Drop> Node<D> {
     fn append(&mut self, alloc: Global, batch: Batch) -> Result<Output, Stop>
         requires may { MayStep self.old }
         requires room { self.old.core.count < MAX_NUMBER }
-        ensures keeps { KeepsDisk D.is_honest D.failures (disk_of self.old) (disk_of self.new)
-            (TellsDisk result) }
-        ensures reliable { StaysReliable (D.is_reliable (disk_of self.old))
-            (D.is_reliable (disk_of self.new)) (TellsDisk result)
-            (IsNearlyFull (engine_of self.old)) }
+        ensures kept { KeepsNode D.Disk self.old self.new result }
         ensures ends { (x : ℕ) (n : Machine) (input : Input) →
-            Runs D.is_honest D.state self.old x n →
-            Ends D.is_honest D.state self.new x n (append x n (suc (length n.list)) batch)
-            (Answers D.is_honest D.state self.new x input
-            (append x n (suc (length n.list)) batch)) result }
-        ensures others { (x : ℕ) (n : Machine) → Runs D.is_honest D.state self.old x n →
-            KeepsOthers (D.state (disk_of self.old)) (D.state (disk_of self.new)) }
-        ensures works { OnOk result (MayStep self.new) }
+            StepEnds D.Disk self.old self.new result x n input
+            (append x n (suc (length n.list)) batch) }
     {
         steps_leave();
         stands_last();
@@ -243,9 +200,7 @@ impl<D: Disk + Drop> Node<D> {
         requires there { (committed ≤ have) × (have ≤ self.old.core.count) }
         ensures disk { disk_of self.new ≡ disk_of self.old }
         ensures ends { (x : ℕ) (n : Machine) (input : Input) →
-            Runs D.is_honest D.state self.old x n →
-            Ends D.is_honest D.state self.new x n (pass_on x n committed have)
-            (Answers D.is_honest D.state self.new x input (pass_on x n committed have)) result }
+            StepEnds D.Disk self.old self.new result x n input (pass_on x n committed have) }
         ensures memory { IfErr result (λ e. e ≡ Stop.Memory) }
         ensures works { OnOk result (MayStep self.new) }
     {
@@ -259,18 +214,9 @@ impl<D: Disk + Drop> Node<D> {
     // What the successor is not known to have is sent again, and the predecessor told.
     fn resend(&mut self, alloc: Global) -> Result<Output, Stop>
         requires { MayStep self.old }
-        ensures keeps { KeepsDisk D.is_honest D.failures (disk_of self.old) (disk_of self.new)
-            (TellsDisk result) }
-        ensures reliable { StaysReliable (D.is_reliable (disk_of self.old))
-            (D.is_reliable (disk_of self.new)) (TellsDisk result)
-            (IsNearlyFull (engine_of self.old)) }
+        ensures kept { KeepsNode D.Disk self.old self.new result }
         ensures ends { (x : ℕ) (n : Machine) (input : Input) →
-            Runs D.is_honest D.state self.old x n →
-            Ends D.is_honest D.state self.new x n (resend x n)
-            (Answers D.is_honest D.state self.new x input (resend x n)) result }
-        ensures others { (x : ℕ) (n : Machine) → Runs D.is_honest D.state self.old x n →
-            KeepsOthers (D.state (disk_of self.old)) (D.state (disk_of self.new)) }
-        ensures works { OnOk result (MayStep self.new) }
+            StepEnds D.Disk self.old self.new result x n input (resend x n) }
     {
         sure_is_left();
         let sent = resent(alloc, &self.core, &self.engine, &mut self.disk)?;
@@ -280,19 +226,10 @@ impl<D: Disk + Drop> Node<D> {
     // The client is shown what the key has at a number.
     fn read(&mut self, alloc: Global, request: Number, key: Key, at: Number) -> Result<Output, Stop>
         requires { MayStep self.old }
-        ensures keeps { KeepsDisk D.is_honest D.failures (disk_of self.old) (disk_of self.new)
-            (TellsDisk result) }
-        ensures reliable { StaysReliable (D.is_reliable (disk_of self.old))
-            (D.is_reliable (disk_of self.new)) (TellsDisk result)
-            (IsNearlyFull (engine_of self.old)) }
+        ensures kept { KeepsNode D.Disk self.old self.new result }
         ensures ends { (x : ℕ) (n : Machine) (input : Input) →
-            Runs D.is_honest D.state self.old x n →
             IsReadOf n input (Decision.Show request key at) →
-            Ends D.is_honest D.state self.new x n (show n request at)
-            (Answers D.is_honest D.state self.new x input (show n request at)) result }
-        ensures others { (x : ℕ) (n : Machine) → Runs D.is_honest D.state self.old x n →
-            KeepsOthers (D.state (disk_of self.old)) (D.state (disk_of self.new)) }
-        ensures works { OnOk result (MayStep self.new) }
+            StepEnds D.Disk self.old self.new result x n input (show n request at) }
     {
         sure_is_left();
         let value = self.engine.get(&mut self.disk, at, &key)?;
@@ -303,18 +240,9 @@ impl<D: Disk + Drop> Node<D> {
     fn perform(&mut self, alloc: Global, decision: Decision) -> Result<Output, Stop>
         requires may { MayStep self.old }
         requires room { HasRoomFor self.old.core.count decision }
-        ensures keeps { KeepsDisk D.is_honest D.failures (disk_of self.old) (disk_of self.new)
-            (TellsDisk result) }
-        ensures reliable { StaysReliable (D.is_reliable (disk_of self.old))
-            (D.is_reliable (disk_of self.new)) (TellsDisk result)
-            (IsNearlyFull (engine_of self.old)) }
-        ensures ends { (x : ℕ) (n : Machine) (input : Input) →
-            Runs D.is_honest D.state self.old x n → IsReadOf n input decision →
-            Ends D.is_honest D.state self.new x n (rule_of x n decision)
-            (Answers D.is_honest D.state self.new x input (rule_of x n decision)) result }
-        ensures others { (x : ℕ) (n : Machine) → Runs D.is_honest D.state self.old x n →
-            KeepsOthers (D.state (disk_of self.old)) (D.state (disk_of self.new)) }
-        ensures works { OnOk result (MayStep self.new) }
+        ensures kept { KeepsNode D.Disk self.old self.new result }
+        ensures ends { (x : ℕ) (n : Machine) (input : Input) → IsReadOf n input decision →
+            StepEnds D.Disk self.old self.new result x n input (rule_of x n decision) }
     {
         sure_is_left();
         match decision {
@@ -333,20 +261,9 @@ impl<D: Disk + Drop> Node<D> {
     /// After a `Stop` the node is at its end: its disk is what is left of it.
     pub fn step(&mut self, alloc: Global, input: Input) -> Result<Output, Stop>
         requires { MayStep self.old }
-        ensures keeps { KeepsDisk D.is_honest D.failures (disk_of self.old) (disk_of self.new)
-            (TellsDisk result) }
-        ensures reliable { StaysReliable (D.is_reliable (disk_of self.old))
-            (D.is_reliable (disk_of self.new)) (TellsDisk result)
-            (IsNearlyFull (engine_of self.old)) }
-        ensures answered { (x : ℕ) (n : Machine) → Runs D.is_honest D.state self.old x n →
-            MatchResult result (λ output. Answers D.is_honest D.state self.new x input
-            (answer_to x n input) output) IsOfMachine }
-        ensures stopped { (x : ℕ) (n : Machine) → Runs D.is_honest D.state self.old x n →
-            OnErr result (D.is_honest (disk_of self.new)
-            × StopsAs (D.state (disk_of self.new)) x n (answer_to x n input)) }
-        ensures others { (x : ℕ) (n : Machine) → Runs D.is_honest D.state self.old x n →
-            KeepsOthers (D.state (disk_of self.old)) (D.state (disk_of self.new)) }
-        ensures works { OnOk result (MayStep self.new) }
+        ensures kept { KeepsNode D.Disk self.old self.new result }
+        ensures ends { (x : ℕ) (n : Machine) →
+            StepEnds D.Disk self.old self.new result x n input (answer_to x n input) }
     {
         let decision = decide(&self.core, input);
         self.perform(alloc, decision)

@@ -3,7 +3,7 @@ use Rattle.std.proofs.Common.{◌≡◌, ℕ, zero, suc, ◌+◌, ◌-◌, ◌^�
 use Rattle.std.proofs.Common.{length, take, drop, Some, Result, Ok, Err, Vec, Global}
 use Rattle.std.proofs.Common.{refl, sym, ap, subst, ◌∙◌, inl, inr, append_assoc, length-append}
 use Rattle.std.proofs.Common.{arith}
-use Rattle.std.specs.Prelude.{IsSomeAnd, IsNone, IfOk, IfErr, MatchResult, slice_get}
+use Rattle.std.specs.Prelude.{IsSomeAnd, IsNone, IfErr, MatchResult, slice_get}
 use Rattle.std.specs.Prelude.{slice_index_or, ◌⊎◌}
 use Rattle.std.specs.Int.{w32, to_be_bytes}
 use Rattle.std.proofs.lemmas.List.{take_at, drop_at, drop-drop, length-drop}
@@ -133,10 +133,10 @@ module _ (disk : State) (log : Log) (records : List (List ℕ)) (i begin len at 
 
   -- so what the read answers is what is promised of the record
   pub answers : (result : Result (Vec ℕ Global) LogError)
-      → IfOk result (λ v. IsPart disk log.file at len v.items)
-      → IfErr result (λ e. DeclinesBytes e (seen (disk log.file)) (at + len))
+      → MatchResult result (λ v. IsPart disk log.file at len v.items)
+      (λ e. DeclinesBytes e (seen (disk log.file)) (at + len))
       → IfErr result (λ e. IsOwn e → ⊥)
       → MatchResult result (λ v. slice_get records i ≡ Some v.items)
       (λ e. IsOfMachine e ⊎ (e ≡ log'.Failed))
-  answers (Ok v) read why own = given v.items read
-  answers (Err e) read why own = there e why own
+  answers (Ok v) read own = given v.items read
+  answers (Err e) why own = there e why own

@@ -1,8 +1,7 @@
 -- How a log tells what the disk told it.
-use Rattle.std.specs.Prelude.{◌≡◌, ◌↔◌, ℕ, Result, Err}
+use Rattle.std.specs.Prelude.{◌≡◌, Result, Err}
 use Rattle.disk.specs.declared.error.DiskError.{DiskError}
 use Rattle.disk.specs.declared.error.DiskError.TheVariants as disk
-use Rattle.disk.specs.Calls.{Rises}
 use Rattle.record_log.specs.declared.error.LogError.{LogError}
 use Rattle.record_log.specs.declared.error.LogError.TheVariants as log
 
@@ -16,10 +15,3 @@ log_error disk.Memory = log.Memory
 -- the device failed in this call
 abbrev pub TellsFailure : {T : Type 0} → Result T LogError → Type 0
 TellsFailure result = result ≡ Err (log.Disk disk.Failed)
-
--- What every call keeps: the disk's honesty, and the count of failures but where one is told.
-pub record Keeps {T : Type 0} (was_honest now_honest : Type 0) (before now : ℕ)
-    (result : Result T LogError) : Type 0 where
-  pub honest : now_honest ↔ was_honest
-  pub failed : TellsFailure result → Rises before now
-  pub others : (TellsFailure result → ⊥) → now ≡ before

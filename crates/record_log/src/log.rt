@@ -1,10 +1,10 @@
 // A log of records behind gates, in one file of a disk.
-ghost use Rattle.std.specs.Prelude.{◌≡◌, ◌≢◌, ◌↔◌, ◌⊎◌, ℕ, ◌+◌, ◌<◌, ◌≤◌, ◌^◌, ◌-◌, min, List, []};
+ghost use Rattle.std.specs.Prelude.{◌≡◌, ◌↔◌, ◌⊎◌, ℕ, ◌+◌, ◌<◌, ◌^◌, ◌-◌, min, List, []};
 ghost use Rattle.std.specs.Prelude.{◌∷◌, ◌++◌, length, slice_get, slice_index_or, Some, IfOk};
-ghost use Rattle.std.specs.Prelude.{IfErr, IsErrOf, IsTrue, OnOk, MatchResult};
-ghost use Rattle.disk.specs.State.{seen, IsSame, Leaves};
-ghost use Rattle.disk.specs.Calls.{StaysReliable};
-ghost use Rattle.record_log.specs.Error.{Keeps, TellsFailure};
+ghost use Rattle.std.specs.Prelude.{IfErr, IsErrOf, OnOk, MatchResult};
+ghost use Rattle.disk.specs.State.{seen, AddsNoOutcome, IsSame, IsSameBut};
+ghost use Rattle.disk.specs.Lent.{KeepsDisk};
+ghost use Rattle.record_log.specs.Error.{TellsFailure};
 ghost use Rattle.record_log.specs.Push.{IsSureOf, LeavesAt, behind_of, pushed};
 ghost use Rattle.record_log.specs.Stands.{Holds, HasRecords, IsAt, IsPart, IsRest, DeclinesBytes};
 ghost use Rattle.record_log.specs.Stands.{OpensOrDeclines, Answers, IsMet, IsOfMachine, IsOwn};
@@ -53,16 +53,11 @@ fn bytes_at<D: Disk>(
     at: u64,
     len: usize,
 ) -> Result<Vec<u8>, LogError>
-    ensures keeps { Keeps (D.is_honest disk.old) (D.is_honest disk.new)
-        (D.failures disk.old) (D.failures disk.new) result }
-    ensures reliable { StaysReliable (D.is_reliable disk.old) (D.is_reliable disk.new)
-        (TellsFailure result) ⊥ }
+    ensures kept { KeepsDisk D.Disk disk.old disk.new (TellsFailure result) ⊥ IsSame }
     ensures read { D.is_honest disk.old →
-        IfOk result (λ bytes. IsPart (D.state disk.old) file at len bytes.items) }
-    ensures refused { D.is_honest disk.old →
-        IfErr result (λ e. DeclinesBytes e (seen (D.state disk.old file)) (at + len)) }
+        MatchResult result (λ bytes. IsPart (D.state disk.old) file at len bytes.items)
+        (λ e. DeclinesBytes e (seen (D.state disk.old file)) (at + len)) }
     ensures not_own { IfErr result (λ e. IsOwn e → ⊥) }
-    ensures same { D.is_honest disk.old → IsSame (D.state disk.old) (D.state disk.new) }
 {
     let mut bytes = vec![in alloc; 0u8; len]?;
     disk.read(file, at, &mut bytes)?;
@@ -76,18 +71,10 @@ fn synced_from<D: Disk>(
     file: u64,
     start: u64,
 ) -> Result<Vec<u8>, LogError>
-    ensures keeps { Keeps (D.is_honest disk.old) (D.is_honest disk.new)
-        (D.failures disk.old) (D.failures disk.new) result }
-    ensures reliable { StaysReliable (D.is_reliable disk.old) (D.is_reliable disk.new)
-        (TellsFailure result) ⊥ }
-    ensures read { D.is_honest disk.old →
-        IfOk result (λ bytes. IsRest (D.state disk.old) file start (D.state disk.new) bytes.items) }
-    ensures refused { D.is_honest disk.old →
-        IfErr result (λ e. DeclinesBytes e (seen (D.state disk.old file)) start) }
-    ensures crash { D.is_honest disk.old → (left : _) → Leaves (D.state disk.new file) left →
-        Leaves (D.state disk.old file) left }
-    ensures others { (other : ℕ) → D.is_honest disk.old → other ≢ file →
-        D.state disk.new other ≡ D.state disk.old other }
+    ensures kept { KeepsDisk D.Disk disk.old disk.new (TellsFailure result) ⊥ (AddsNoOutcome file) }
+    ensures read { D.is_honest disk.old → MatchResult result
+        (λ bytes. IsRest (D.state disk.old) file start (D.state disk.new) bytes.items)
+        (λ e. DeclinesBytes e (seen (D.state disk.old file)) start) }
 {
     disk.sync(file)?;
     let length = disk.length(file)?;
@@ -102,18 +89,13 @@ impl Log {
     /// write, sync. A file that is there loses its first byte, and with it the records from there
     /// on. A refusal may leave the file changed.
     pub fn create<D: Disk>(alloc: Global, disk: &mut D, file: u64) -> Result<Log, LogError>
-        ensures keeps { Keeps (D.is_honest disk.old) (D.is_honest disk.new)
-            (D.failures disk.old) (D.failures disk.new) result }
-        ensures reliable { StaysReliable (D.is_reliable disk.old) (D.is_reliable disk.new)
-            (TellsFailure result) ⊥ }
+        ensures kept { KeepsDisk D.Disk disk.old disk.new (TellsFailure result) ⊥ (IsSameBut file) }
         ensures created { D.is_honest disk.old → EndsInRange (seen (D.state disk.old file)) →
             MatchResult result (λ log. Holds (D.state disk.new) log []) IsOfMachine }
         ensures spelled { D.is_honest disk.old →
             OnOk result (IsSureOf (D.state disk.new) file (begun (seen (D.state disk.old file)))) }
         ensures at { IfOk result (IsAt file 0) }
         ensures empty { IfOk result (λ log. (gate_of log ≡ 0) × (count_of log ≡ 0)) }
-        ensures others { (other : ℕ) → D.is_honest disk.old → other ≢ file →
-            D.state disk.new other ≡ D.state disk.old other }
     {
         disk.write_at(file, 0, &[0])?;
         disk.sync(file)?;
@@ -133,22 +115,14 @@ impl Log {
         file: u64,
         start: u64,
     ) -> Result<Log, LogError>
-        ensures keeps { Keeps (D.is_honest disk.old) (D.is_honest disk.new)
-            (D.failures disk.old) (D.failures disk.new) result }
-        ensures reliable { StaysReliable (D.is_reliable disk.old) (D.is_reliable disk.new)
-            (TellsFailure result) ⊥ }
+        ensures kept { KeepsDisk D.Disk disk.old disk.new (TellsFailure result) ⊥
+            (AddsNoOutcome file) }
         ensures at { IfOk result (IsAt file start) }
         ensures told { D.is_honest disk.old →
             OpensOrDeclines (D.state disk.old) file start result (D.state disk.new) }
         ensures opened { (records : List (List ℕ)) → D.is_honest disk.old →
             HasRecords (D.state disk.old) file start records →
             MatchResult result (λ log. Holds (D.state disk.new) log records) IsOfMachine }
-
-        // A crash leaves nothing that it could not have left before.
-        ensures crash { D.is_honest disk.old → (left : _) → Leaves (D.state disk.new file) left →
-            Leaves (D.state disk.old file) left }
-        ensures others { (other : ℕ) → D.is_honest disk.old → other ≢ file →
-            D.state disk.new other ≡ D.state disk.old other }
     {
         let bytes = synced_from(alloc, disk, file, start)?;
         let (ends, end) = scan(alloc, &bytes)?;
@@ -197,12 +171,9 @@ impl Log {
         disk: &mut D,
         bytes: &[u8],
     ) -> Result<(), LogError>
-        ensures keeps { Keeps (D.is_honest disk.old) (D.is_honest disk.new)
-            (D.failures disk.old) (D.failures disk.new) result }
-        ensures reliable { StaysReliable (D.is_reliable disk.old) (D.is_reliable disk.new)
-            (TellsFailure result) (HasNoRoom self.old bytes.now) }
-        ensures told { Answers MAX_RECORD result self.old self.new bytes.now
-            (disk.new ≡ disk.old) }
+        ensures kept { KeepsDisk D.Disk disk.old disk.new (TellsFailure result)
+            (HasNoRoom self.old bytes.now) (IsSameBut (file_of self.old)) }
+        ensures told { Answers MAX_RECORD result self.old self.new bytes.now (disk.new ≡ disk.old) }
         ensures appended { (records : List (List ℕ)) → D.is_honest disk.old →
             Holds (D.state disk.old) self.old records →
             MatchResult result
@@ -217,8 +188,6 @@ impl Log {
             Holds (D.state disk.old) self.old records →
             LeavesAt (D.state disk.new) (file_of self.old)
             (IsOldOrNew (start_of self.old) records bytes.now) }
-        ensures others { (other : ℕ) → D.is_honest disk.old → other ≢ file_of self.old →
-            D.state disk.new other ≡ D.state disk.old other }
     {
         if self.has_failed {
             return Err(LogError::Failed);
@@ -244,16 +213,12 @@ impl Log {
         index: usize,
     ) -> Result<Vec<u8>, LogError>
         requires { index < count_of self.now }
-        ensures keeps { Keeps (D.is_honest disk.old) (D.is_honest disk.new)
-            (D.failures disk.old) (D.failures disk.new) result }
-        ensures reliable { StaysReliable (D.is_reliable disk.old) (D.is_reliable disk.new)
-            (TellsFailure result) ⊥ }
+        ensures kept { KeepsDisk D.Disk disk.old disk.new (TellsFailure result) ⊥ IsSame }
         ensures failed { IsErrOf result LogError.Failed ↔ HasFailed self.now }
         ensures given { (records : List (List ℕ)) → D.is_honest disk.old →
             Holds (D.state disk.old) self.now records →
             MatchResult result (λ bytes. slice_get records index ≡ Some bytes.items)
             (λ e. IsOfMachine e ⊎ (e ≡ LogError.Failed)) }
-        ensures same { D.is_honest disk.old → IsSame (D.state disk.old) (D.state disk.new) }
     {
         if self.has_failed {
             return Err(LogError::Failed);

@@ -16,8 +16,8 @@ returns-in_err-identity-clause-opened g c = λ x ids honest had.
     let p = err_from_is_err_and result c.from_residual-in_err-identity.ensures.1 in
     let s0 = g.D.Disk.state c.args.disk.now in
     let s1 = g.D.Disk.state c.length_of.new.disk in
-    let same = c.length_of.ensures.same honest identity_file in
-    let honest1 = c.length_of.ensures.keeps.honest.1 honest in
+    let same = c.length_of.ensures.kept.files honest identity_file in
+    let honest1 = c.length_of.ensures.kept.honest.1 honest in
     let records = identity_records x ids in
     let stood = has_in s0 s1 identity_file records same had.identity in
     let why = c.in_err-identity.ensures.opened records honest1 stood in
@@ -32,32 +32,32 @@ returns-in_err-identity-clause-blank g c = λ honest.
     let has = has_bytes bytes c.in_ok-length_of.field-0 c.if-branch-eq0.false
     (c.in_ok-length_of.ensures.length honest) in
     let told = subst (λ (slot : Slot). log_stands.Declines e (seen slot) 0)
-    (c.length_of.ensures.same honest identity_file)
-    (c.in_err-identity.ensures.told (c.length_of.ensures.keeps.honest.1 honest)) in
+    (c.length_of.ensures.kept.files honest identity_file)
+    (c.in_err-identity.ensures.told (c.length_of.ensures.kept.honest.1 honest)) in
     rw (p.1, p.2) (blank_declined bytes e has told)
 
 pub returns-clause-found : goal.returns-clause-found
 returns-clause-found g c = λ honest.
-    let honest1 = c.length_of.ensures.keeps.honest.1 honest in
+    let honest1 = c.length_of.ensures.kept.honest.1 honest in
     let o = c.in_ok-identity.ensures.told honest1 in
-    let honest2 = c.open.ensures.keeps.honest.1 honest1 in
+    let honest2 = c.open.ensures.kept.honest.1 honest1 in
     found_id c.identity_in.result (g.D.Disk.state c.args.disk.now)
     (g.D.Disk.state c.length_of.new.disk) (g.D.Disk.state c.open.new.disk)
     (g.D.Disk.state c.identity_in.new.disk) c.in_ok-identity.identity
-    (c.length_of.ensures.same honest) (c.identity_in.ensures.same honest2)
+    (c.length_of.ensures.kept.files honest) (c.identity_in.ensures.kept.files honest2)
     c.in_ok-identity.ensures.at o c.identity_in.ensures.is
     (c.identity_in.ensures.found o.records honest2 o.holds)
 
 pub returns-clause-blank : goal.returns-clause-blank
 returns-clause-blank g c = λ honest.
-    let honest1 = c.length_of.ensures.keeps.honest.1 honest in
-    let honest2 = c.open.ensures.keeps.honest.1 honest1 in
+    let honest1 = c.length_of.ensures.kept.honest.1 honest in
+    let honest2 = c.open.ensures.kept.honest.1 honest1 in
     let o = c.in_ok-identity.ensures.told honest1 in
     let bytes = seen (g.D.Disk.state c.args.disk.now identity_file) in
     let has = has_bytes bytes c.in_ok-length_of.field-0 c.if-branch-eq0.false
     (c.in_ok-length_of.ensures.length honest) in
     let stood = subst (λ (slot : Slot). IsSomeAnd (seen slot) (λ it. StandsFor it o.records))
-    (c.length_of.ensures.same honest identity_file) o.stood in
+    (c.length_of.ensures.kept.files honest identity_file) o.stood in
     let told = c.identity_in.ensures.blank o.records honest2 o.holds in
     blank_read c.one_list.ensures c.identity_in.result bytes o.records has stood told
 
@@ -66,9 +66,9 @@ pub returns-clause-opened : goal.returns-clause-opened
 returns-clause-opened g c = λ x ids honest had.
     let s0 = g.D.Disk.state c.args.disk.now in
     let s1 = g.D.Disk.state c.length_of.new.disk in
-    let same = c.length_of.ensures.same honest identity_file in
-    let honest1 = c.length_of.ensures.keeps.honest.1 honest in
-    let honest2 = c.open.ensures.keeps.honest.1 honest1 in
+    let same = c.length_of.ensures.kept.files honest identity_file in
+    let honest1 = c.length_of.ensures.kept.honest.1 honest in
+    let honest2 = c.open.ensures.kept.honest.1 honest1 in
     let records = identity_records x ids in
     let stood = has_in s0 s1 identity_file records same had.identity in
     let holds = c.in_ok-identity.ensures.opened records honest1 stood in

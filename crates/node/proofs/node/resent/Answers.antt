@@ -3,6 +3,7 @@ use Rattle.std.specs.Prelude.{option_to_list}
 use Rattle.std.proofs.lemmas.Result.{err_from_is_err_and}
 use Rattle.chain_model.specs.Rules.{forward, forwards}
 use Rattle.chain_core.specs.Decisions.{AreFrames}
+use Rattle.node.proofs.Engines.{kept_on}
 use Rattle.node.proofs.Outputs.{both_sent, made_of}
 use Rattle.node.proofs.node.resent.Goals as goal
 
@@ -12,21 +13,36 @@ returns-in_err-batch-clause-sent g c = λ x n is honest s.
     let was = c.loop-number.invariant in
     let p = err_from_is_err_and c.from_residual.result c.from_residual.ensures.1 in
     let found = c.in_err-batch.ensures.found x n.epoch n.ids n.list n.floor n.kept
-    (was.honest.1 honest) (was.holds x n honest s) in
+    (was.honest.1 honest)
+    ((was.kept honest).holds x n.epoch n.ids n.list n.floor n.kept s) in
     rw (p.1, p.2) found
 
 -- the engine holds what it held
-pub returns-in_err-batch-clause-holds : goal.returns-in_err-batch-clause-holds
-returns-in_err-batch-clause-holds g c = λ x n honest s.
+pub returns-in_err-batch-clause-kept : goal.returns-in_err-batch-clause-kept
+returns-in_err-batch-clause-kept g c =
     let was = c.loop-number.invariant in
-    c.batch.ensures.holds x n.epoch n.ids n.list n.floor n.kept (was.honest.1 honest)
-    (was.holds x n honest s)
+    record {
+      honest = search rules;
+      failed = search rules;
+      count = search rules;
+      only = search rules;
+      reliable = search rules;
+      files = λ honest.
+          kept_on (was.kept honest) (c.batch.ensures.kept.files (was.honest.1 honest));
+    }
 
-pub returns-in_err-push_some-clause-holds : goal.returns-in_err-push_some-clause-holds
-returns-in_err-push_some-clause-holds g c = λ x n honest s.
+pub returns-in_err-push_some-clause-kept : goal.returns-in_err-push_some-clause-kept
+returns-in_err-push_some-clause-kept g c =
     let was = c.loop-number.invariant in
-    c.batch.ensures.holds x n.epoch n.ids n.list n.floor n.kept (was.honest.1 honest)
-    (was.holds x n honest s)
+    record {
+      honest = search rules;
+      failed = search rules;
+      count = search rules;
+      only = search rules;
+      reliable = search rules;
+      files = λ honest.
+          kept_on (was.kept honest) (c.batch.ensures.kept.files (was.honest.1 honest));
+    }
 
 -- the batch of one number more was sent
 pub loop-number-preserved : goal.loop-number-preserved
@@ -46,15 +62,14 @@ loop-number-preserved g c =
       honest = search rules;
       reliable = search rules;
       count = search rules;
-      holds = λ y n honest s.
-          c.batch.ensures.holds y n.epoch n.ids n.list n.floor n.kept (was.honest.1 honest)
-          (was.holds y n honest s);
-      others = search rules;
+      kept = λ honest.
+          kept_on (was.kept honest) (c.batch.ensures.kept.files (was.honest.1 honest));
       sent = λ y n is honest s.
           let made = made_of c.new.result _ at c.unwrap-number.result c.new.ensures
           c.unwrap-number.ensures in
           let there = c.in_ok-batch.ensures.found y n.epoch n.ids n.list n.floor n.kept
-          (was.honest.1 honest) (was.holds y n honest s) in
+          (was.honest.1 honest)
+          ((was.kept honest).holds y n.epoch n.ids n.list n.floor n.kept s) in
           let frame = option_to_list c.forward.result in
           let one = subst (λ i. AreFrames frame (forward x n i)) made
           (c.forward.ensures n is there) in

@@ -2,8 +2,7 @@ use Rattle.std.proofs.Common.{◌≡◌, ◌↔◌, ℕ, ◌-◌, ◌≤◌, max
 use Rattle.chain_model.specs.Rules.{forwards}
 use Rattle.chain_core.specs.States.{Machine, Is}
 use Rattle.chain_core.specs.Decisions.{AreFrames}
-use Rattle.node.specs.Engines.{EngineHolds}
-use Rattle.node.specs.Files.{KeepsOthers}
+use Rattle.node.specs.Engines.{EngineHolds, KeepsStore}
 use Rattle.node.proofs.node.resent.Given as goal
 
 -- the batches of the numbers that the loop has passed, of an engine that holds what it held
@@ -13,11 +12,8 @@ invariant-loop-number g l = record {
   honest : g.D.Disk.is_honest l.disk ↔ g.D.Disk.is_honest l.fn.disk;
   reliable : g.D.Disk.is_reliable l.fn.disk → g.D.Disk.is_reliable l.disk;
   count : g.D.Disk.failures l.disk ≡ g.D.Disk.failures l.fn.disk;
-  holds : (x : ℕ) (n : Machine) → g.D.Disk.is_honest l.fn.disk →
-      EngineHolds (g.D.Disk.state l.fn.disk) l.engine x n.epoch n.ids n.list n.floor n.kept →
-      EngineHolds (g.D.Disk.state l.disk) l.engine x n.epoch n.ids n.list n.floor n.kept;
-  others : g.D.Disk.is_honest l.fn.disk →
-      KeepsOthers (g.D.Disk.state l.fn.disk) (g.D.Disk.state l.disk);
+  kept : g.D.Disk.is_honest l.fn.disk →
+      KeepsStore l.engine (g.D.Disk.state l.fn.disk) (g.D.Disk.state l.disk);
   sent : (x : ℕ) (n : Machine) → Is l.core n → g.D.Disk.is_honest l.fn.disk →
       EngineHolds (g.D.Disk.state l.fn.disk) l.engine x n.epoch n.ids n.list n.floor n.kept →
       AreFrames l.sent.items

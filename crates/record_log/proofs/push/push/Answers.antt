@@ -20,26 +20,26 @@ returns-in_err-sync-clause-crash g c = λ bytes honest sure within.
     c.write_at.result old wrote sure (c.write_at.ensures.writes honest) in
     syncs_only (OnTheWay bytes c.args.gate c.args.behind.now) c.sync.result wrote
     (g.D.Disk.state c.sync.new.self) c.args.file
-    (c.sync.ensures.syncs (c.write_at.ensures.keeps.honest.1 honest)) first
+    (c.sync.ensures.syncs (c.write_at.ensures.kept.disk.honest.1 honest)) first
 
 -- the second write
 pub returns-in_err-write_at-2-clause-crash : goal.returns-in_err-write_at-2-clause-crash
 returns-in_err-write_at-2-clause-crash g c = λ bytes honest sure within.
     let state = g.D.Disk.state in
-    let honest' = c.write_at.ensures.keeps.honest.1 honest in
+    let honest' = c.write_at.ensures.kept.disk.honest.1 honest in
     let wrote = c.in_ok-write_at.ensures.writes honest in
     let kept = c.in_ok-sync.ensures.syncs honest' in
     second_write bytes c.args.gate c.args.behind.now within c.args.file c.write_at-2.result
     (state c.args.disk.now) (state c.write_at.new.self) (state c.sync.new.self)
     (state c.write_at-2.new.self) c.requires.some sure wrote.2.here kept.1.here
-    (c.write_at-2.ensures.writes (c.sync.ensures.keeps.honest.1 honest'))
+    (c.write_at-2.ensures.writes (c.sync.ensures.kept.disk.honest.1 honest'))
 
 -- the second sync
 pub returns-clause-crash : goal.returns-clause-crash
 returns-clause-crash g c = λ bytes honest sure within.
     let state = g.D.Disk.state in
-    let honest' = c.write_at.ensures.keeps.honest.1 honest in
-    let honest'' = c.sync.ensures.keeps.honest.1 honest' in
+    let honest' = c.write_at.ensures.kept.disk.honest.1 honest in
+    let honest'' = c.sync.ensures.kept.disk.honest.1 honest' in
     let wrote = c.in_ok-write_at.ensures.writes honest in
     let kept = c.in_ok-sync.ensures.syncs honest' in
     let opened = second_write bytes c.args.gate c.args.behind.now within c.args.file
@@ -48,4 +48,4 @@ returns-clause-crash g c = λ bytes honest sure within.
     kept.1.here (c.write_at-2.ensures.writes honest'') in
     syncs_only (OnTheWay bytes c.args.gate c.args.behind.now) c.sync-2.result
     (state c.write_at-2.new.self) (state c.sync-2.new.self) c.args.file
-    (c.sync-2.ensures.syncs (c.write_at-2.ensures.keeps.honest.1 honest'')) opened
+    (c.sync-2.ensures.syncs (c.write_at-2.ensures.kept.disk.honest.1 honest'')) opened

@@ -24,7 +24,7 @@ pub returns-in-Err-clause-started : goal.returns-in-Err-clause-started
 returns-in-Err-clause-started g c = λ x n is.
     let r = subst (λ m. Is g.D.Disk.is_honest g.D.Disk.state m x n) c.in-Resting.is is in
     let left = c.in-Err.ensures.started x n r.0 r.1 in
-    let honest = c.in-Err.ensures.keeps.honest.1 r.0 in
+    let honest = c.in-Err.ensures.kept.honest.1 r.0 in
     let rests = elim (c.ended.ensures.rests x n (silent n) honest
     (λ after now. inl (left.1 after now))) as
     (λ _. Is g.D.Disk.is_honest g.D.Disk.state c.ended.result x (stopped n)) [
@@ -35,10 +35,10 @@ returns-in-Err-clause-started g c = λ x n is.
 
 pub returns-in-Err-clause-disk : goal.returns-in-Err-clause-disk
 returns-in-Err-clause-disk g c = λ was.
-    let keeps = c.in-Err.ensures.keeps in
+    let keeps = c.in-Err.ensures.kept in
     let honest = subst (λ m. g.D.Disk.is_honest (disk_in m)) c.in-Resting.is was in
     subst (λ m. DiskEnds g.D.Disk.state g.D.Disk.failures c.in-Err.stop (disk_in m)
     (disk_in c.ended.result)) (sym c.in-Resting.is)
     (ends_by g.D.Disk.state g.D.Disk.failures c.in-Err.stop c.in-Resting.disk c.in-Err.disk
     c.ended.result (c.ended.ensures.crashes (keeps.honest.1 honest))
-    (λ is. keeps.failed is) (λ other. keeps.others other))
+    (λ is. keeps.failed is) (λ other. keeps.count other))

@@ -46,7 +46,7 @@ returns-in_err-append-clause-crash g c = λ x epoch ids list floor kept honest s
     c.args.batch is_batch (c.len.result + 1) (omega (arith, c.len.ensures)) in
     crashed c.sure_is_left.ensures old self x epoch ids list floor kept s c.args.batch is_batch
     c.deref.result.now (c.deref.ensures.value ∙ c.in_ok-record.ensures ∙ number) c.requires.room
-    (g.D.Disk.state c.append.new.disk) (λ other. c.append.ensures.others other honest)
+    (g.D.Disk.state c.append.new.disk) (c.append.ensures.kept.files honest)
     (c.append.ensures.crash (records_from 1 list) honest s.log)
 
 pub returns-clause-crash : goal.returns-clause-crash
@@ -58,7 +58,7 @@ returns-clause-crash g c = λ x epoch ids list floor kept honest s.
     c.args.batch is_batch (c.len.result + 1) (omega (arith, c.len.ensures)) in
     crashed c.sure_is_left.ensures old self x epoch ids list floor kept s c.args.batch is_batch
     c.deref.result.now (c.deref.ensures.value ∙ c.in_ok-record.ensures ∙ number) c.requires.room
-    (g.D.Disk.state c.append.new.disk) (λ other. c.append.ensures.others other honest)
+    (g.D.Disk.state c.append.new.disk) (c.append.ensures.kept.files honest)
     (c.append.ensures.crash (records_from 1 list) honest s.log)
 
 -- the record is in the log, and the batch in memory
@@ -82,5 +82,5 @@ returns-clause-appended g c = λ x epoch ids list floor kept honest s.
     rw (c.push_reserved.ensures.items, c.reserve.ensures.items) refl in
     appended c.sure_is_left.ensures old self x epoch ids list floor kept s batch is_batch
     c.deref.result.now (c.deref.ensures.value ∙ c.in_ok-record.ensures ∙ number) c.requires.room
-    (g.D.Disk.state c.append.new.disk) after (λ other. c.append.ensures.others other honest)
+    (g.D.Disk.state c.append.new.disk) after (c.append.ensures.kept.files honest)
     at batches (c.in_ok-append.ensures.appended (records_from 1 list) honest s.log)

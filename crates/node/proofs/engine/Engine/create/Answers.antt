@@ -13,10 +13,10 @@ use Rattle.node.proofs.engine.Engine.create.Goals as goal
 -- two new logs, and the node's record in one
 pub returns-clause-created : goal.returns-clause-created
 returns-clause-created g c = λ honest.
-    let honest_a = c.length_of.ensures.keeps.honest.1 honest in
-    let honest0 = c.length_of-2.ensures.keeps.honest.1 honest_a in
-    let honest1 = c.create.ensures.keeps.honest.1 honest0 in
-    let honest2 = c.create-2.ensures.keeps.honest.1 honest1 in
+    let honest_a = c.length_of.ensures.kept.honest.1 honest in
+    let honest0 = c.length_of-2.ensures.kept.honest.1 honest_a in
+    let honest1 = c.create.ensures.kept.honest.1 honest0 in
+    let honest2 = c.create-2.ensures.kept.honest.1 honest1 in
     let s1 = g.D.Disk.state c.create.new.disk in
     let s3 = g.D.Disk.state c.append.new.disk in
     let log = c.in_ok-log.log in
@@ -24,11 +24,11 @@ returns-clause-created g c = λ honest.
     let in_log = c.in_ok-log.ensures.at.in_file in
     let apart : identity_file ≡ batches_file → ⊥ = λ e. omega (arith, e) in
     let batches_end = subst (λ (slot : Slot). EndsInRange (seen slot))
-    (sym (c.length_of-2.ensures.same honest_a batches_file
-    ∙ c.length_of.ensures.same honest batches_file)) (c.in_ok-length_of.ensures.range honest) in
+    (sym (c.length_of-2.ensures.kept.files honest_a batches_file
+    ∙ c.length_of.ensures.kept.files honest batches_file)) (c.in_ok-length_of.ensures.range honest) in
     let identity_ends = subst (λ (slot : Slot). EndsInRange (seen slot))
-    (sym (c.create.ensures.others identity_file honest0 apart
-    ∙ c.length_of-2.ensures.same honest_a identity_file))
+    (sym (c.create.ensures.kept.files honest0 identity_file apart
+    ∙ c.length_of-2.ensures.kept.files honest_a identity_file))
     (c.in_ok-length_of-2.ensures.range honest_a) in
     let new = c.in_ok-identity.ensures.created honest1 identity_ends in
     let held = c.in_ok-append.ensures.appended [] honest2 new in
@@ -40,8 +40,8 @@ returns-clause-created g c = λ honest.
     let identity = c.in_ok-identity.identity in
     let other : log.file ≡ identity.file → ⊥ = λ e. omega (arith, e, in_log, is.in_file) in
     let back : log.file ≡ identity_file → ⊥ = λ e. omega (arith, e, in_log) in
-    let kept : s3 log.file ≡ s1 log.file = c.append.ensures.others log.file honest2 other
-    ∙ c.create-2.ensures.others log.file honest1 back in
+    let kept : s3 log.file ≡ s1 log.file = c.append.ensures.kept.files honest2 log.file other
+    ∙ c.create-2.ensures.kept.files honest1 log.file back in
     record {
       id = sure_of_id s3 c.append.new.self c.args.id c.args.config.now
           c.in_ok-record.ensures.id c.in_ok-record.ensures.config (told.file ∙ is.in_file)
@@ -57,16 +57,16 @@ returns-clause-created g c = λ honest.
 -- the log works and takes the record, so it tells of the machine alone
 pub returns-in_err-append-clause-created : goal.returns-in_err-append-clause-created
 returns-in_err-append-clause-created g c = λ honest.
-    let honest_a = c.length_of.ensures.keeps.honest.1 honest in
-    let honest0 = c.length_of-2.ensures.keeps.honest.1 honest_a in
-    let honest1 = c.create.ensures.keeps.honest.1 honest0 in
-    let honest2 = c.create-2.ensures.keeps.honest.1 honest1 in
+    let honest_a = c.length_of.ensures.kept.honest.1 honest in
+    let honest0 = c.length_of-2.ensures.kept.honest.1 honest_a in
+    let honest1 = c.create.ensures.kept.honest.1 honest0 in
+    let honest2 = c.create-2.ensures.kept.honest.1 honest1 in
     let result = c.from_residual-in_err-append.result in
     let p = err_from_is_err_and result c.from_residual-in_err-append.ensures.1 in
     let apart : identity_file ≡ batches_file → ⊥ = λ e. omega (arith, e) in
     let ends = subst (λ (slot : Slot). EndsInRange (seen slot))
-    (sym (c.create.ensures.others identity_file honest0 apart
-    ∙ c.length_of-2.ensures.same honest_a identity_file))
+    (sym (c.create.ensures.kept.files honest0 identity_file apart
+    ∙ c.length_of-2.ensures.kept.files honest_a identity_file))
     (c.in_ok-length_of-2.ensures.range honest_a) in
     let new = c.in_ok-identity.ensures.created honest1 ends in
     let one = c.deref.ensures.value ∙ c.in_ok-record.ensures.spelled in

@@ -1,16 +1,27 @@
-use Rattle.std.proofs.Common.{◌≡◌, ℕ, List, sym, subst, ◌∙◌, arith}
+use Rattle.std.proofs.Common.{rules, ◌≡◌, ℕ, List, sym, subst, ◌∙◌, arith}
 use Rattle.node.specs.Layout.{identity_file, batches_file, records_from}
 use Rattle.node.specs.Files.{IsSureOfId}
 use Rattle.node.proofs.Opens.{has_in, same_identity, same_batches}
 use Rattle.node.proofs.Engines.{holds_in, id_in}
 use Rattle.node.proofs.engine.Engine.open.Goals as goal
 
+-- the log's file was synced, and the identity file before it
+pub returns-in_err-log-clause-kept : goal.returns-in_err-log-clause-kept
+returns-in_err-log-clause-kept g c = record {
+  honest = search rules;
+  failed = search rules;
+  count = search rules;
+  only = search rules;
+  reliable = search rules;
+  files = λ honest. record { crash = search rules; others = search rules };
+}
+
 -- the disk had one node and one list, and they are those that were read
 pub returns-clause-opened : goal.returns-clause-opened
 returns-clause-opened g c = λ x epoch ids list floor kept honest represents.
     let had = represents.batches in
-    let honest1 = c.identity_on.ensures.keeps.honest.1 honest in
-    let honest2 = c.open.ensures.keeps.honest.1 honest1 in
+    let honest1 = c.identity_on.ensures.kept.honest.1 honest in
+    let honest2 = c.open.ensures.kept.honest.1 honest1 in
     let s0 = g.D.Disk.state c.args.disk.now in
     let s1 = g.D.Disk.state c.identity_on.new.disk in
     let s2 = g.D.Disk.state c.open.new.disk in
@@ -21,12 +32,13 @@ returns-clause-opened g c = λ x epoch ids list floor kept honest represents.
     let same = same_identity c.one_list.ensures _ it.id x it.config ids found.had had.id in
     let apart : identity_file ≡ batches_file → ⊥ = λ e. omega (arith, e) in
     let back : batches_file ≡ identity_file → ⊥ = λ e. omega (arith, e) in
-    let there = c.identity_on.ensures.others batches_file honest back in
+    let there = (c.identity_on.ensures.kept.files honest).others batches_file back in
     let stood = has_in s0 s1 batches_file records there had.batches in
     let holds = c.in_ok-log.ensures.opened records honest1 stood in
     let read = c.in_ok-batches.ensures.found records honest2 holds in
-    let after = c.batches_in.ensures.same honest2 in
-    let same_file = after identity_file ∙ c.open.ensures.others identity_file honest1 apart in
+    let after = c.batches_in.ensures.kept.files honest2 in
+    let log_kept = c.open.ensures.kept.files honest1 in
+    let same_file = after identity_file ∙ log_kept.others identity_file apart in
     let list' = c.in_ok-batches.batches.items in
     let sure = id_in s1 s3 it.id it.config same_file found.sure in
     record {

@@ -8,26 +8,26 @@ use Rattle.node.proofs.Running.{ends, ends_as}
 use Rattle.node.proofs.node.Node.perform.Goals as goal
 
 pub returns-in-Accept-clause-ends : goal.returns-in-Accept-clause-ends
-returns-in-Accept-clause-ends g c = λ x n input r read.
+returns-in-Accept-clause-ends g c = λ x n input read r.
     ends_as g.D.Disk.is_honest g.D.Disk.state c.accept.new.self x n input c.args.decision
     (decision.Accept c.in-Accept.request c.in-Accept.batch) c.accept.result c.in-Accept.is
     (c.accept.ensures.ends x n input r)
 
 pub returns-in-Append-clause-ends : goal.returns-in-Append-clause-ends
-returns-in-Append-clause-ends g c = λ x n input r read.
+returns-in-Append-clause-ends g c = λ x n input read r.
     ends_as g.D.Disk.is_honest g.D.Disk.state c.append.new.self x n input c.args.decision
     (decision.Append c.in-Append.batch) c.append.result c.in-Append.is
     (c.append.ensures.ends x n input r)
 
 pub returns-in-PassOn-clause-ends : goal.returns-in-PassOn-clause-ends
-returns-in-PassOn-clause-ends g c = λ x n input r read.
+returns-in-PassOn-clause-ends g c = λ x n input read r.
     ends_as g.D.Disk.is_honest g.D.Disk.state c.pass_on.new.self x n input c.args.decision
     (decision.PassOn c.in-PassOn.committed c.in-PassOn.have) c.pass_on.result c.in-PassOn.is
     (c.pass_on.ensures.ends x n input r)
 
 -- what changes nothing is told by the node's numbers and batches
 pub returns-in-TellAgain-clause-ends : goal.returns-in-TellAgain-clause-ends
-returns-in-TellAgain-clause-ends g c = λ x n input r read.
+returns-in-TellAgain-clause-ends g c = λ x n input read r.
     let tells = subst (λ (y : ℕ). IfOk c.tell_again.result (Tells input (tell_again y n))) r.id
     (c.tell_again.ensures.tells n input r.core) in
     ends_as g.D.Disk.is_honest g.D.Disk.state c.args.self.now x n input c.args.decision
@@ -36,20 +36,20 @@ returns-in-TellAgain-clause-ends g c = λ x n input r read.
     (tell_again x n) c.tell_again.result r tells c.tell_again.ensures.memory)
 
 pub returns-in-Show-clause-ends : goal.returns-in-Show-clause-ends
-returns-in-Show-clause-ends g c = λ x n input r read.
+returns-in-Show-clause-ends g c = λ x n input read r.
     let it = c.in-Show in
     let of_read = subst (λ d. IsReadOf n input d) it.is read in
     ends_as g.D.Disk.is_honest g.D.Disk.state c.read.new.self x n input c.args.decision
     (decision.Show it.request it.key it.at) c.read.result it.is
-    (c.read.ensures.ends x n input r of_read)
+    (c.read.ensures.ends x n input of_read r)
 
 pub returns-in-Resend-clause-ends : goal.returns-in-Resend-clause-ends
-returns-in-Resend-clause-ends g c = λ x n input r read.
+returns-in-Resend-clause-ends g c = λ x n input read r.
     ends_as g.D.Disk.is_honest g.D.Disk.state c.resend.new.self x n input c.args.decision
     decision.Resend c.resend.result c.in-Resend.is (c.resend.ensures.ends x n input r)
 
 pub returns-in-Refuse-clause-ends : goal.returns-in-Refuse-clause-ends
-returns-in-Refuse-clause-ends g c = λ x n input r read.
+returns-in-Refuse-clause-ends g c = λ x n input read r.
     let known = decision.Refuse c.in-Refuse.request c.in-Refuse.refusal in
     ends_as g.D.Disk.is_honest g.D.Disk.state c.args.self.now x n input c.args.decision known
     c.refuse.result c.in-Refuse.is (ends g.D.Disk.is_honest g.D.Disk.state
@@ -57,7 +57,7 @@ returns-in-Refuse-clause-ends g c = λ x n input r read.
     (c.refuse.ensures.tells n input) c.refuse.ensures.memory)
 
 pub returns-in-Drop-clause-ends : goal.returns-in-Drop-clause-ends
-returns-in-Drop-clause-ends g c = λ x n input r read.
+returns-in-Drop-clause-ends g c = λ x n input read r.
     let known = decision.Drop c.in-Drop.reason in
     ends_as g.D.Disk.is_honest g.D.Disk.state c.args.self.now x n input c.args.decision known
     (Ok c.drop_for.result) c.in-Drop.is (ends g.D.Disk.is_honest g.D.Disk.state

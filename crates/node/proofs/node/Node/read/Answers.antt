@@ -8,14 +8,15 @@ use Rattle.node.proofs.node.Node.read.Goals as goal
 
 -- the value could not be had, and the engine holds what it held
 pub returns-in_err-value-clause-ends : goal.returns-in_err-value-clause-ends
-returns-in_err-value-clause-ends g c = λ x n input r read.
+returns-in_err-value-clause-ends g c = λ x n input read r.
     let a = show n c.args.request c.args.at in
     let p = err_from_is_err_and c.from_residual.result c.from_residual.ensures.1 in
     let old = c.args.self.now in
     let node = with_engine old c.get.new.disk old.engine in
-    let holds = c.get.ensures.holds x n.epoch n.ids n.list n.floor n.kept r.honest r.store in
+    let holds = (c.get.ensures.kept.files r.honest).holds x n.epoch n.ids n.list n.floor n.kept
+    r.store in
     let runs = still_runs g.D.Disk.is_honest g.D.Disk.state old c.get.new.disk old.engine x n r
-    (c.get.ensures.keeps.honest.1 r.honest) holds in
+    (c.get.ensures.kept.honest.1 r.honest) holds in
     let found = c.in_err-value.ensures.found x n.epoch n.ids n.list n.floor n.kept r.honest r.store
     (readable n input c.args.request c.args.at c.args.key read) in
     ends_stopped g.D.Disk.is_honest g.D.Disk.state node x n a _ c.from_residual.result p.0 p.1
@@ -24,12 +25,13 @@ returns-in_err-value-clause-ends g c = λ x n input r read.
 
 -- what the key has is shown
 pub returns-clause-ends : goal.returns-clause-ends
-returns-clause-ends g c = λ x n input r read.
+returns-clause-ends g c = λ x n input read r.
     let old = c.args.self.now in
     let node = with_engine old c.get.new.disk old.engine in
-    let holds = c.get.ensures.holds x n.epoch n.ids n.list n.floor n.kept r.honest r.store in
+    let holds = (c.get.ensures.kept.files r.honest).holds x n.epoch n.ids n.list n.floor n.kept
+    r.store in
     let runs = still_runs g.D.Disk.is_honest g.D.Disk.state old c.get.new.disk old.engine x n r
-    (c.get.ensures.keeps.honest.1 r.honest) holds in
+    (c.get.ensures.kept.honest.1 r.honest) holds in
     let found = c.in_ok-value.ensures.found x n.epoch n.ids n.list n.floor n.kept r.honest r.store
     (readable n input c.args.request c.args.at c.args.key read) in
     let tells = tells_read n input c.args.request c.args.at c.args.key c.show.result read

@@ -21,14 +21,14 @@ returns-in-Ok-clause-started g c = λ x n honest rests.
       limits = c.args.limits.now;
     } in
     runs_opened g.D.Disk.is_honest g.D.Disk.state node c.in-Ok.identity c.core_of.ensures.is x n
-    (c.open.ensures.keeps.honest.1 honest) opened c.core_of.ensures.id
+    (c.open.ensures.kept.honest.1 honest) opened c.core_of.ensures.id
 
 pub returns-in-Err-clause-started : goal.returns-in-Err-clause-started
 returns-in-Err-clause-started g c = λ x n honest rests.
     let s0 = g.D.Disk.state c.args.disk in
     let read = rests (contents s0) (as_read s0) in (
       c.in-Err.ensures.opened x n.epoch n.ids n.list n.floor n.kept honest read,
-      λ left leaves. rests left (c.in-Err.ensures.crash honest left leaves),
+      λ left leaves. rests left ((c.in-Err.ensures.kept.files honest).crash left leaves),
     )
 
 -- what was opened the disk had
@@ -51,4 +51,4 @@ returns-in-Ok-clause-told g c = λ honest.
       limits = c.args.limits.now;
     } in
     starts g.D.Disk.is_honest g.D.Disk.state node it c.core_of.ensures.is c.args.disk n refl found.1
-    (c.open.ensures.keeps.honest.1 honest) opened c.core_of.ensures.id
+    (c.open.ensures.kept.honest.1 honest) opened c.core_of.ensures.id

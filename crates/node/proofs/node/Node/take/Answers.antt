@@ -1,4 +1,4 @@
-use Rattle.std.proofs.Common.{sym, subst, ℕ, inr, ◌∙◌}
+use Rattle.std.proofs.Common.{rules, sym, subst, ℕ, inr, ◌∙◌}
 use Rattle.std.proofs.lemmas.Result.{err_from_is_err_and}
 use Rattle.chain_core.specs.Decisions as core
 use Rattle.chain_core.specs.Decisions.{done_of}
@@ -21,11 +21,7 @@ returns-in_err-append-clause-ends g c = λ x n r.
     c.requires.done
     (c.append.ensures.crash x n.epoch n.ids n.list n.floor n.kept r.honest r.store) in
     ends_stopped g.D.Disk.is_honest g.D.Disk.state node x n a _ c.from_residual.result p.0 p.1
-    (subst IsOfMachine (sym p.2) appended) (c.append.ensures.keeps.honest.1 r.honest) stops
-
-pub returns-in_err-append-clause-others : goal.returns-in_err-append-clause-others
-returns-in_err-append-clause-others g c = λ x n r.
-    c.append.ensures.others x n.epoch n.ids n.list n.floor n.kept r.honest r.store
+    (subst IsOfMachine (sym p.2) appended) (c.append.ensures.kept.honest.1 r.honest) stops
 
 -- the batch is on the disk, and memory was wanted
 pub returns-in_err-after-clause-ends : goal.returns-in_err-after-clause-ends
@@ -40,11 +36,7 @@ returns-in_err-after-clause-ends g c = λ x n r.
     c.requires.done
     (c.append.ensures.crash x n.epoch n.ids n.list n.floor n.kept r.honest r.store) in
     ends_stopped g.D.Disk.is_honest g.D.Disk.state node x n a _ result p.0 p.1 (inr p.2)
-    (c.append.ensures.keeps.honest.1 r.honest) stops
-
-pub returns-in_err-after-clause-others : goal.returns-in_err-after-clause-others
-returns-in_err-after-clause-others g c = λ x n r.
-    c.append.ensures.others x n.epoch n.ids n.list n.floor n.kept r.honest r.store
+    (c.append.ensures.kept.honest.1 r.honest) stops
 
 -- it is the machine of the rule
 pub returns-clause-ends : goal.returns-clause-ends
@@ -60,17 +52,13 @@ returns-clause-ends g c = λ x n r.
     let holds = holds_appended (g.D.Disk.state node.disk) node.engine x n batch d c.requires.done
     (c.in_ok-append.ensures.appended x n.epoch n.ids n.list n.floor n.kept r.honest r.store) in
     let runs = goes_on g.D.Disk.is_honest g.D.Disk.state node x n batch d a leaves
-    (c.append.ensures.keeps.honest.1 r.honest) holds follows.is
+    (c.append.ensures.kept.honest.1 r.honest) holds follows.is
     (c.in_ok-after.ensures.same ∙ r.id) in
     record { done = record { runs = runs; replied = follows.replied }; stopped = tt }
 
-pub returns-clause-others : goal.returns-clause-others
-returns-clause-others g c = λ x n r.
-    c.append.ensures.others x n.epoch n.ids n.list n.floor n.kept r.honest r.store
-
 -- one batch more is counted, and none was given up
-pub returns-clause-works : goal.returns-clause-works
-returns-clause-works g c =
+pub returns-clause-kept : goal.returns-clause-kept
+returns-clause-kept g c =
     let usable = c.in_ok-append.ensures.usable in
     let old = c.args.self.now.core in
     let due = c.in_ok-after.field-0.items in
@@ -79,7 +67,10 @@ returns-clause-works g c =
     let kept = keeps_kept c.steps_leave.ensures old c.after.new.self c.args.done due
     c.in_ok-after.ensures.after in
     record {
-      usable = usable.0;
-      count = rw (usable.1, ← c.requires.may.count) count;
-      kept = kept ∙ c.requires.may.kept ∙ sym usable.2;
+      disk = search rules;
+      works = record {
+        usable = usable.0;
+        count = rw (usable.1, ← c.requires.may.count) count;
+        kept = kept ∙ c.requires.may.kept ∙ sym usable.2;
+      };
     }

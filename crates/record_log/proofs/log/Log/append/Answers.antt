@@ -51,7 +51,7 @@ returns-in_err-push-clause-appended g c = λ records honest h.
     let within =
     gate_within old c.args.self.now records c.args.bytes.now c.gate.result h (omega arith)
     c.gate.ensures.gate in
-    let why = c.in_err-push.ensures.refused h.bytes honest h.sure within in
+    let why = c.in_err-push.ensures.done h.bytes honest h.sure within in
     let p = err_from_is_err_and c.from_residual-in_err-push.result
     c.from_residual-in_err-push.ensures.1 in
     rw (p.1, p.2) (is_met c.in_err-push.field-0.0 why)

@@ -11,7 +11,7 @@ pub returns-in_err-bytes-clause-told : goal.returns-in_err-bytes-clause-told
 returns-in_err-bytes-clause-told g c = λ honest.
     let p = err_from_is_err_and c.from_residual.result c.from_residual.ensures.1 in
     let bytes = seen (g.D.Disk.state c.args.disk.now c.args.file) in
-    let why = c.in_err-bytes.ensures.refused honest in
+    let why = c.in_err-bytes.ensures.read honest in
     rw (p.1, p.2) (declines_bytes c.in_err-bytes.field-0.0 bytes c.args.start why)
 
 -- so a file that stands for records is refused for the machine's sake alone
@@ -20,7 +20,7 @@ returns-in_err-bytes-clause-opened g c = λ records honest stood.
     let p = err_from_is_err_and c.from_residual.result c.from_residual.ensures.1 in
     let bytes = seen (g.D.Disk.state c.args.disk.now c.args.file) in
     let why = declines_bytes c.in_err-bytes.field-0.0 bytes c.args.start
-    (c.in_err-bytes.ensures.refused honest) in
+    (c.in_err-bytes.ensures.read honest) in
     rw (p.1, p.2) (declined c.in_err-bytes.field-0.0 bytes c.args.start records why stood)
 
 -- what the scan found are the file's records

@@ -8,4 +8,4 @@ returns-clause-given g c = λ records honest h.
     answers disk c.args.self.now records c.args.index c.span-begin.result.0 c.span-begin.result.1
     c.saturating_add-at.result h c.requires c.span-begin.ensures.begin c.span-begin.ensures.len
     c.saturating_add-at.ensures c.bytes_at.result (c.bytes_at.ensures.read honest)
-    (c.bytes_at.ensures.refused honest) c.bytes_at.ensures.not_own
+    c.bytes_at.ensures.not_own
