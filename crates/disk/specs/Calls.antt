@@ -43,7 +43,7 @@ pub record KeepsBy {D : Type 0} (is_honest : D → Type 0) (state : D → State)
   -- the files of an honest disk are kept so
   pub files : is_honest old → IsKept (state old) (state new)
 
--- the disk's own calls keep this, and at the count's last value they answer nothing but a failure
+-- What a call of the disk itself keeps. At the count's last value it answers nothing but a failure.
 pub record CallKeeps {D T : Type 0} (is_honest : D → Type 0) (state : D → State)
     (failures : D → ℕ) (is_reliable : D → Type 0) (old new : D) (result : Result T DiskError)
     (cause : Type 0) (IsKept : State → State → Type 0) : Type 0 where

@@ -80,12 +80,12 @@ SureIsLeft = (disk : State) (left : Contents) (file : ℕ) → IsSure (disk file
 abbrev pub IsSame : State → State → Type 0
 IsSame old new = (file : ℕ) → new file ≡ old file
 
--- .. but for one file
+-- two disks that are the same in all files but one
 abbrev pub IsSameBut : ℕ → State → State → Type 0
 IsSameBut file old new = (other : ℕ) → other ≢ file → new other ≡ old other
 
--- a crash leaves nothing of this file that it could not have left before, and the others are as
--- they were
+-- a crash leaves nothing of this file that it could not have left before, and the other files are
+-- the same
 pub record AddsNoOutcome (file : ℕ) (old new : State) : Type 0 where
   pub crash : (left : Option (List ℕ)) → Leaves (new file) left → Leaves (old file) left
   pub others : IsSameBut file old new

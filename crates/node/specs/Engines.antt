@@ -65,11 +65,12 @@ pub record IsOpened (disk : State) (identity : Identity) (engine : Engine) (x ep
   pub config : identity.config ≡ ids
   pub holds : EngineHolds disk engine x epoch ids list floor kept
 
--- where its log is in its place, the files that are no node's are as they were
+-- Where the engine's log is in its place, the files that are no node's are as they were. The log of
+-- an engine that holds batches is (`EngineHolds`).
 abbrev pub KeepsOthersOf : Engine → State → State → Type 0
 KeepsOthersOf engine old new = file_of engine.log ≡ batches_file → KeepsOthers old new
 
--- so they are, and it holds what it held
+-- the files that are no node's are as they were, and the engine holds what it held
 pub record KeepsStore (engine : Engine) (old new : State) : Type 0 where
   pub others : KeepsOthers old new
   pub holds : (x epoch : ℕ) (ids : List ℕ) (list : List BatchContent) (floor kept : ℕ) →

@@ -79,7 +79,8 @@ KeepsOthers old new = (other : ℕ) → (IsOwnFile other → ⊥) → new other 
 abbrev pub LeavesNoMore : State → State → Type 0
 LeavesNoMore old new = (left : Contents) → MayLeave new left → MayLeave old left
 
--- recovery leaves no more, and keeps the files that are no node's
+-- what recovery leaves: a crash leaves no more than before, and the files that are no node's are as
+-- they were
 pub record IsRecovered (old new : State) : Type 0 where
   pub crash : LeavesNoMore old new
   pub others : KeepsOthers old new

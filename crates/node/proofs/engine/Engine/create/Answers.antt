@@ -25,7 +25,8 @@ returns-clause-created g c = λ honest.
     let apart : identity_file ≡ batches_file → ⊥ = λ e. omega (arith, e) in
     let batches_end = subst (λ (slot : Slot). EndsInRange (seen slot))
     (sym (c.length_of-2.ensures.kept.files honest_a batches_file
-    ∙ c.length_of.ensures.kept.files honest batches_file)) (c.in_ok-length_of.ensures.range honest) in
+    ∙ c.length_of.ensures.kept.files honest batches_file))
+    (c.in_ok-length_of.ensures.range honest) in
     let identity_ends = subst (λ (slot : Slot). EndsInRange (seen slot))
     (sym (c.create.ensures.kept.files honest0 identity_file apart
     ∙ c.length_of-2.ensures.kept.files honest_a identity_file))

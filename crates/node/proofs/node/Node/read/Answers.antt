@@ -13,8 +13,8 @@ returns-in_err-value-clause-ends g c = λ x n input read r.
     let p = err_from_is_err_and c.from_residual.result c.from_residual.ensures.1 in
     let old = c.args.self.now in
     let node = with_engine old c.get.new.disk old.engine in
-    let holds = (c.get.ensures.kept.files r.honest).holds x n.epoch n.ids n.list n.floor n.kept
-    r.store in
+    let files = c.get.ensures.kept.files r.honest in
+    let holds = files.holds x n.epoch n.ids n.list n.floor n.kept r.store in
     let runs = still_runs g.D.Disk.is_honest g.D.Disk.state old c.get.new.disk old.engine x n r
     (c.get.ensures.kept.honest.1 r.honest) holds in
     let found = c.in_err-value.ensures.found x n.epoch n.ids n.list n.floor n.kept r.honest r.store
@@ -28,8 +28,8 @@ pub returns-clause-ends : goal.returns-clause-ends
 returns-clause-ends g c = λ x n input read r.
     let old = c.args.self.now in
     let node = with_engine old c.get.new.disk old.engine in
-    let holds = (c.get.ensures.kept.files r.honest).holds x n.epoch n.ids n.list n.floor n.kept
-    r.store in
+    let files = c.get.ensures.kept.files r.honest in
+    let holds = files.holds x n.epoch n.ids n.list n.floor n.kept r.store in
     let runs = still_runs g.D.Disk.is_honest g.D.Disk.state old c.get.new.disk old.engine x n r
     (c.get.ensures.kept.honest.1 r.honest) holds in
     let found = c.in_ok-value.ensures.found x n.epoch n.ids n.list n.floor n.kept r.honest r.store

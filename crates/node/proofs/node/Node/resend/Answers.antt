@@ -14,8 +14,10 @@ returns-in_err-sent-clause-ends g c = λ x n input r.
     let p = err_from_is_err_and c.from_residual.result c.from_residual.ensures.1 in
     let old = c.args.self.now in
     let node = with_engine old c.resent.new.disk old.engine in
+    let files = c.resent.ensures.kept.files r.honest in
+    let holds = files.holds x n.epoch n.ids n.list n.floor n.kept r.store in
     let runs = still_runs g.D.Disk.is_honest g.D.Disk.state old c.resent.new.disk old.engine x n r
-    (c.resent.ensures.kept.honest.1 r.honest) ((c.resent.ensures.kept.files r.honest).holds x n.epoch n.ids n.list n.floor n.kept r.store) in
+    (c.resent.ensures.kept.honest.1 r.honest) holds in
     ends_stopped g.D.Disk.is_honest g.D.Disk.state node x n a _ c.from_residual.result p.0 p.1
     (subst IsOfMachine (sym p.2) (c.in_err-sent.ensures.sent x n r.core r.honest r.store))
     runs.honest (stops_before g.D.Disk.is_honest g.D.Disk.state c.sure_is_left.ensures node x n a
@@ -26,8 +28,10 @@ pub returns-clause-ends : goal.returns-clause-ends
 returns-clause-ends g c = λ x n input r.
     let old = c.args.self.now in
     let node = with_engine old c.resent.new.disk old.engine in
+    let files = c.resent.ensures.kept.files r.honest in
+    let holds = files.holds x n.epoch n.ids n.list n.floor n.kept r.store in
     let runs = still_runs g.D.Disk.is_honest g.D.Disk.state old c.resent.new.disk old.engine x n r
-    (c.resent.ensures.kept.honest.1 r.honest) ((c.resent.ensures.kept.files r.honest).holds x n.epoch n.ids n.list n.floor n.kept r.store) in
+    (c.resent.ensures.kept.honest.1 r.honest) holds in
     let sent = c.in_ok-sent.ensures.sent x n r.core r.honest r.store in
     let tells = subst (λ (y : ℕ). IfOk c.output_of.result (Tells input (resend y n))) r.id
     (c.output_of.ensures.says n _ r.core sent) in
