@@ -1,8 +1,8 @@
 -- Worked drops: what the first node of a new chain of two drops and refuses, and which of two
 -- reasons it gives. Batches are numbers here.
 use Rattle.std.specs.Prelude.{◌≡◌, ℕ, [], ◌∷◌, Some}
-use Rattle.chain_model.specs.DropReason as reason
-use Rattle.chain_model.specs.Refusal as refusal
+use Rattle.chain_model.specs.declared.drop_reason.DropReason.TheVariants as reason
+use Rattle.chain_model.specs.declared.refusal.Refusal.TheVariants as refusal
 use Rattle.chain_model.specs.Frames.{Forward, Ack}
 use Rattle.chain_model.specs.Node.{Node, created, dropped_for, refused}
 use Rattle.chain_model.specs.Rules.{receive, submit, read, notice, not_for_nodes, unreadable}

@@ -1,8 +1,8 @@
 -- Worked runs, which show what each event sends, replies and drops. Batches are numbers here.
 use Rattle.std.specs.Prelude.{◌≡◌, ℕ, List, [], ◌∷◌, take, Some, None, true}
 use Rattle.chain_model.specs.Configuration.{Configurations}
-use Rattle.chain_model.specs.Refusal as refusal
-use Rattle.chain_model.specs.DropReason as reason
+use Rattle.chain_model.specs.declared.refusal.Refusal.TheVariants as refusal
+use Rattle.chain_model.specs.declared.drop_reason.DropReason.TheVariants as reason
 use Rattle.chain_model.specs.Requests.{Submit, Read, Open, Close}
 use Rattle.chain_model.specs.World.{Event, Ask, Tick, Tend, Notice, Deliver, Start, Stop}
 use Rattle.chain_model.specs.World.{Answered, StoppedBefore, StoppedAfter, node_of}

@@ -15,6 +15,12 @@ ghost use Rattle.chain_model.specs.Maps.{GoesWithMap};
 ghost use Rattle.chain_model.specs.WorkedRuns.{WorkedRuns};
 ghost use Rattle.chain_model.specs.WorkedDrops.{WorkedDrops};
 
+mod drop_reason;
+mod refusal;
+
+pub use drop_reason::DropReason;
+pub use refusal::Refusal;
+
 /// For every lawful list of configurations and every list of events there is one list of batches,
 /// of which every read and acknowledgement speaks, and with which every last node's list begins.
 pub fn one_history<B>()

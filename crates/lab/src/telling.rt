@@ -1,7 +1,8 @@
 // The lines of a step, and the frames that it sends.
 ghost use Rattle.std.specs.Prelude.{◌≡◌, ◌+◌, [], ◌∷◌, ◌++◌, length, map, IfOk, OnOk};
 ghost use Rattle.lab.specs.declared.report.Line.{Line};
-ghost use Rattle.lab.specs.Comings.{sent_line, sent_lines, dropped_lines, did_lines, sent_by};
+ghost use Rattle.lab.specs.Comings.{sent_line, sent_lines, did_lines, sent_by};
+ghost use Rattle.lab.specs.Events.{dropped_lines};
 ghost use Rattle.lab.specs.Worlds.{Keeps};
 
 use crate::coming::Did;

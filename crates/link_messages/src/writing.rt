@@ -6,7 +6,7 @@ ghost use Rattle.kv_types.specs.Spelling.{spelling as batch_text};
 ghost use Rattle.link_messages.specs.Spelling.{u8, u16, u32, u64, at_text, kind, fields, spelling};
 ghost use Rattle.link_messages.specs.Spelling.{code, IsEpoch, IsNumber, HasBounds, IsFrame};
 
-use crate::fields::{put_at, put_config, put_epoch, put_found, put_id, put_number, put_range};
+use crate::fields::{put_at, put_epoch, put_found, put_id, put_number, put_range};
 use crate::rows::put_page;
 use crate::{Frame, Refusal};
 use byteorder::{BigEndian, ByteOrder};
@@ -103,7 +103,7 @@ fn put_link(out: &mut Vec<u8>, frame: &Frame) -> Result<(), AllocError>
         }
         Frame::Notice { epoch, config } => {
             put_epoch(out, *epoch)?;
-            put_config(out, config)
+            config.spell_into(out)
         }
         _ => Ok(()),
     }
