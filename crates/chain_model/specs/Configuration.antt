@@ -4,8 +4,8 @@ use Rattle.std.specs.Prelude.{Option, Some, None, Bool, true, false, if◌then�
 use Rattle.std.specs.Prelude.{nat_lt}
 use Rattle.chain_model.specs.Lists.{Part}
 
--- a list of configurations, which the master told one after another (van Renesse and Schneider
--- 2004, section 3)
+-- a list of configurations, which the configuration service (the papers' master) reports one after
+-- another (van Renesse and Schneider 2004, section 3)
 abbrev pub Configurations : Type 0
 Configurations = List (List ℕ)
 
@@ -37,12 +37,12 @@ successor [] x = None
 successor (y ∷ []) x = None
 successor (y ∷ z ∷ c) x = if y == x then Some z else successor (z ∷ c) x
 
--- x stands before y in it (van Renesse and Schneider 2004, section 3)
+-- x precedes y in the configuration (van Renesse and Schneider 2004, section 3)
 abbrev pub Before : List ℕ → ℕ → ℕ → Type 0
 Before [] x y = ⊥
 Before (z ∷ c) x y = ((z ≡ x) × (has c y ≡ true)) ⊎ Before c x y
 
--- no id stands in it twice (this store's profile)
+-- no id occurs twice in the list (this store's profile)
 abbrev pub AllDifferent : List ℕ → Type 0
 AllDifferent [] = Unit {0}
 AllDifferent (x ∷ c) = (has c x ≡ false) × AllDifferent c
@@ -80,8 +80,8 @@ pub record Shrinks (c d : List ℕ) : Type 0 where
   pub shorter : length d < length c
   pub not_empty : 0 < length d
 
--- a lawful list of configurations: 1 to 16 of them, the first of 1 to 16 different ids, each later
--- one with at least one node of the one before left out (this store's profile)
+-- A lawful list of configurations: 1 to 16 of them. The first has 1 to 16 different ids, and each
+-- later one leaves out at least one node of the one before (this store's profile).
 pub record Lawful (configurations : Configurations) : Type 0 where
   pub at_least_one : 1 ≤ length configurations
   pub at_most_16 : length configurations ≤ 16

@@ -1,8 +1,8 @@
--- Why what comes to a node is dropped.
+-- The reasons for which a node drops an input.
 
--- the reasons, each of which changes nothing; all but OtherNumber send nothing (this store's
--- profile). NotForNodes (a frame for clients) and Unreadable (bytes that are no frame) come up in
--- no run here, where each frame that is delivered was sent by a node.
+-- The drop reasons. A drop changes nothing, and sends nothing unless the reason is OtherNumber.
+-- NotForNodes (a frame for clients) and Unreadable (bytes that are no frame) occur in no run here,
+-- since each delivered frame was sent by a node. (this store's profile)
 pub data DropReason : Type 0 where
   NotRunning Running Removed OtherEpoch NotPredecessor NotSuccessor OtherNumber BadAck : DropReason
   OldNotice BadNotice NotForNodes Unreadable : DropReason

@@ -1,5 +1,5 @@
--- Why a client's request is refused.
+-- The reasons for which a client's request is refused.
 
--- the refusals, each of which changes nothing (this store's profile)
+-- The refusals. A refusal changes nothing. (this store's profile)
 pub data Refusal : Type 0 where
   NotRunning NotHead TooOld NotCommitted NoSuchSnapshot TooManySnapshots Removed Exhausted : Refusal

@@ -1,4 +1,4 @@
--- What a run shows, line by line: the frames, replies and drops of each event, in order.
+-- The trace of a run, line by line: the frames, replies and drops of each event, in order.
 use Rattle.std.specs.Prelude.{ℕ, List, [], ◌∷◌, ◌++◌, length, map, Option, Some, None, Bool, true}
 use Rattle.std.specs.Prelude.{false, not, if◌then◌else◌}
 use Rattle.chain_model.specs.Configuration.{Configurations}
@@ -68,7 +68,7 @@ change_lines (Deliver p went) at = []
 change_lines (Stop x) at = []
 change_lines Lost at = []
 
--- whether an event came through: it was not dropped and its node did not stop (this store's
+-- whether the event was handled: it was not dropped and its node did not stop (this store's
 -- profile)
 abbrev pub came_through : Option DropReason → Bool → Bool
 came_through None stopped = not stopped

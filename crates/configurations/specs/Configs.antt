@@ -1,4 +1,4 @@
--- What a configuration is. (Lists of them: `Lawful` of chain_model.)
+-- The configurations of a chain. (Lists of them: `Lawful` of chain_model.)
 use Rattle.std.specs.Prelude.{ℕ, ◌≤◌, List, length, All}
 use Rattle.chain_model.specs.Configuration.{IsId, AllDifferent}
 
