@@ -1,4 +1,4 @@
-/// Why what came to a node was dropped. It changed nothing.
+/// Why a node dropped an input. A drop changes nothing.
 #[derive(Clone, Copy, Debug, PartialEq, Eq)]
 pub enum DropReason {
     NotRunning = 1,

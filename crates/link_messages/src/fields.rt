@@ -107,7 +107,7 @@ pub fn put_config(out: &mut Vec<u8>, config: &Config) -> Result<(), AllocError>
     Ok(())
 }
 
-// ---- reading: from the front of the bytes, which are left at what is behind it
+// ---- reading: from the front of the bytes, which then hold the bytes behind the field
 
 #[tactic(auto, unfolding(crate::specs::Reading::epoch_at))]
 pub fn epoch_of(bytes: &mut &[u8]) -> Result<Epoch, FrameError>

@@ -1,4 +1,4 @@
-/// Why a client's request is refused. It changes nothing.
+/// Why a client's request is refused. A refusal changes nothing.
 #[derive(Clone, Copy, Debug, PartialEq, Eq)]
 pub enum Refusal {
     NotRunning = 1,

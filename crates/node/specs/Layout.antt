@@ -1,4 +1,4 @@
--- What a node's files hold, for now: a log with its id and configuration, and a log of batches.
+-- The layout of a node's files, for now: a log with its id and configuration, and a log of batches.
 use Rattle.std.specs.Prelude.{◌≡◌, ◌⊎◌, ℕ, suc, List, [], ◌∷◌, ◌++◌, length}
 use Rattle.std.specs.List.{flat_map}
 use Rattle.std.specs.Int.{w16, w64, to_be_bytes}
@@ -12,11 +12,11 @@ identity_file = 1
 abbrev pub batches_file : ℕ
 batches_file = 3
 
--- a file is one that a node writes
+-- the file is one that a node writes
 abbrev pub IsOwnFile : ℕ → Type 0
 IsOwnFile file = (file ≡ identity_file) ⊎ (file ≡ batches_file)
 
--- the record of a node's id and its configuration: the id, how many ids, and these
+-- the record of a node's id and its configuration: the id, the number of ids, and the ids
 abbrev pub identity_record : ℕ → List ℕ → List ℕ
 identity_record id ids =
     to_be_bytes w16 id ++ (length ids ∷ flat_map (λ other. to_be_bytes w16 other) ids)

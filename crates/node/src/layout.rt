@@ -20,7 +20,7 @@ pub const IDENTITY_FILE: u64 = 1;
 /// The file of the node's batches.
 pub const BATCHES_FILE: u64 = 3;
 
-/// What a node keeps besides its batches.
+/// The identity of a node: what it keeps besides its batches.
 #[derive(Debug, Drop)]
 pub struct Identity {
     pub id: NodeId,
@@ -43,7 +43,7 @@ pub fn identity_record(alloc: Global, id: NodeId, config: &Config) -> Result<Vec
     Ok(out)
 }
 
-// The ids that stand one behind another, where no byte is left over.
+// The ids in these bytes, one behind another, or `None` if a byte is left over.
 fn ids_in(alloc: Global, bytes: &[u8]) -> Result<Option<Vec<u16>>, AllocError>
     ensures found { IfOk result (λ found. IfSome found
         (λ ids. bytes.now ≡ flat_map (λ id. to_be_bytes w16 id) ids.items)) }
@@ -60,7 +60,7 @@ fn ids_in(alloc: Global, bytes: &[u8]) -> Result<Option<Vec<u16>>, AllocError>
     Ok(if rest.is_empty() { Some(ids) } else { None })
 }
 
-/// The id and configuration whose record this is.
+/// The identity that this record represents.
 pub fn identity_of(alloc: Global, bytes: &[u8]) -> Result<Identity, Stop>
     ensures found { IfOk result (λ it. bytes.now ≡ identity_record it.id it.config) }
     ensures is { IfOk result (λ it. IsId it.id × IsConfig it.config) }
@@ -93,7 +93,7 @@ pub fn batch_record(alloc: Global, number: u64, batch: &Batch) -> Result<Vec<u8>
     Ok(out)
 }
 
-/// The batch of a record, if that has this number.
+/// The batch of a record, if the record has this number.
 pub fn batch_of(alloc: Global, number: u64, bytes: &[u8]) -> Result<Batch, Stop>
     ensures found { IfOk result (λ batch. (bytes.now ≡ batch_record number batch) × IsBatch batch) }
     ensures damaged { IsErrOf result Stop.Damaged → (batch : BatchContent) → IsBatch batch →

@@ -1,4 +1,4 @@
-// Why a node ended.
+// The causes for which a node ends.
 ghost use Rattle.std.specs.Prelude.{◌≡◌};
 ghost use Rattle.node.specs.declared.stop.Stop.TheVariants.{Memory};
 ghost use Rattle.node.specs.Stops.{disk_stop, log_stop, config_stop};
@@ -10,12 +10,12 @@ use record_log::LogError;
 use std::alloc::{AllocError, AllocFailed};
 use thiserror::Error;
 
-/// Why a node ended. Only `start` brings it back.
+/// Why a node ended. Only `start` runs it again.
 #[derive(Clone, Copy, Debug, PartialEq, Eq, Error)]
 pub enum Stop {
     #[error("disk")]
     Disk = 1,
-    /// What the disk has is no node's layout.
+    /// The content of the disk is no node's layout.
     #[error("damaged")]
     Damaged,
     #[error("memory")]
@@ -52,7 +52,7 @@ impl From<LogError> for Stop {
 impl From<ConfigError> for Stop {
     ghost from_gives = { λ c e. e ≡ config_stop c };
 
-    // What was read is no configuration.
+    // The ids that were read are no configuration.
     fn from(e: ConfigError) -> Stop {
         match e {
             ConfigError::Memory => Stop::Memory,
