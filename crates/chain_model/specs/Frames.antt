@@ -1,5 +1,5 @@
 -- The frames between nodes. The type A is the unit of replication: a batch, or a batch with its
--- event's place.
+-- event's place. Definitions without a source are this store's profile.
 use Rattle.std.specs.Prelude.{ℕ}
 
 -- A Forward has a batch for the successor (van Renesse and Schneider 2004, section 3, the update
@@ -10,12 +10,12 @@ pub data Frame (A : Type 0) : Type 0 where
   Forward : (to epoch from number : ℕ) → (batch : A) → Frame A
   Ack : (to epoch from committed have : ℕ) → Frame A
 
--- the node that the frame is addressed to (this store's profile)
+-- the node that the frame is addressed to
 abbrev pub addressee : {A : Type 0} → Frame A → ℕ
 addressee (Forward to epoch from number batch) = to
 addressee (Ack to epoch from committed have) = to
 
--- the sender's epoch when it sent the frame (this store's profile)
+-- the sender's epoch when it sent the frame
 abbrev pub epoch_of : {A : Type 0} → Frame A → ℕ
 epoch_of (Forward to epoch from number batch) = epoch
 epoch_of (Ack to epoch from committed have) = epoch

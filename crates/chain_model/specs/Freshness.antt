@@ -1,10 +1,10 @@
--- Freshness of reads at the last tail.
+-- Freshness of reads at the last tail. Definitions without a source are this store's profile.
 use Rattle.std.specs.Prelude.{◌≡◌, ℕ, suc, ◌≤◌, List, [], ◌∷◌, length, None, true, All}
 use Rattle.chain_model.specs.Configuration.{Configurations, is_tail, last_of}
 use Rattle.chain_model.specs.Requests.{Read, Reply, Committed, Shows, Opened}
 use Rattle.chain_model.specs.World.{Event, Ask, Answered, reached, node_of, outcome}
 
--- the number of the reply's acknowledgement, read or snapshot is at most s (this store's profile)
+-- the number of the reply's acknowledgement, read or snapshot is at most s
 abbrev pub IsAtMost : {A : Type 0} → ℕ → Reply A → Type 0
 IsAtMost s (Committed i n) = n ≤ s
 IsAtMost s (Shows i n l) = n ≤ s
@@ -12,7 +12,7 @@ IsAtMost s (Opened i n) = n ≤ s
 IsAtMost s _ = Unit {0}
 
 -- Node t reads its full list without a number. No earlier acknowledgement, read or snapshot has a
--- number greater than its length (this store's profile).
+-- number greater than its length.
 pub record SeesAll {A : Type 0} (cs : Configurations) (events : List (Event A)) (t : ℕ) : Type 0
   where
     pub shows : (i : ℕ) → (outcome (reached cs events) cs (Ask t i (Read None) Answered)).replies

@@ -1,4 +1,5 @@
--- The order of lists along the chain, and the truth of frames.
+-- The order of lists along the chain, and the truth of frames. Definitions without a source are
+-- this store's profile.
 use Rattle.std.specs.Prelude.{◌≡◌, ◌⊎◌, ℕ, ◌<◌, ◌≤◌, List, ◌++◌, length, take, Some, true, All}
 use Rattle.chain_model.specs.Lists.{Begins, Part, place}
 use Rattle.chain_model.specs.Configuration.{Configurations, has, is_tail, leaves_out, Before}
@@ -19,11 +20,11 @@ pub record WasCommitted {A : Type 0} (cs : Configurations) (events : List (Event
   pub epoch : (node_of cs before tail).epoch ≡ e
   pub begins : Begins l (node_of cs before tail).list
 
--- epoch e or an earlier one committed l (this store's profile)
+-- epoch e or an earlier one committed l
 abbrev pub CommittedBy : {A : Type 0} → Configurations → List (Event A) → ℕ → List A → Type 0
 CommittedBy cs events e l = (earlier : ℕ) × ((earlier ≤ e) × WasCommitted cs events earlier l)
 
--- z is node `from`, or precedes it in configuration 0 and is kept by epoch e (this store's profile)
+-- z is node `from`, or precedes it in configuration 0 and is kept by epoch e
 abbrev pub IsUpTo : Configurations → (e from z : ℕ) → Type 0
 IsUpTo cs e from z = (z ≡ from) ⊎ (Before (at_epoch cs 0) z from × (has (at_epoch cs e) z ≡ true))
 
@@ -41,7 +42,7 @@ TellsCommitted cs events (Ack to e from committed have) =
     (l : List _) × ((length l ≡ committed) × CommittedBy cs events e l)
 TellsCommitted cs events (Forward to e from number batch) = Unit {0}
 
--- l is a sublist of the submitted batches: their places rise along it (this store's profile)
+-- l is a sublist of the submitted batches: their places rise along it
 abbrev pub IsTaken : {A : Type 0} → List (Event A) → List A → Type 0
 IsTaken events l =
     (placed : List (ℕ × _)) × (Part placed (handed_in 1 events) × (batches placed ≡ l))

@@ -1,15 +1,16 @@
--- Trimming of logs keeps every batch that may still be needed.
+-- Trimming of logs keeps every batch that may still be needed. Definitions without a source are
+-- this store's profile.
 use Rattle.std.specs.Prelude.{◌≡◌, ℕ, ◌<◌, ◌≤◌, List, [], ◌∷◌, length, true, false}
 use Rattle.chain_model.specs.Configuration.{Configurations, has, is_tail, at_epoch}
 use Rattle.chain_model.specs.Node.{Node, least}
 use Rattle.chain_model.specs.World.{Event, node_of}
 
--- the numbers of these pending requests are above k, and rise (this store's profile)
+-- the numbers of these pending requests are above k, and rise
 abbrev pub RisesFrom : ℕ → List (ℕ × ℕ) → Type 0
 RisesFrom k [] = Unit {0}
 RisesFrom k (p ∷ ps) = (k < p.0) × RisesFrom p.0 ps
 
--- the order of a node's numbers (this store's profile)
+-- the order of a node's numbers
 pub record IsOrdered {A : Type 0} (n : Node A) : Type 0 where
   pub kept : n.kept ≤ n.floor
   pub floor : n.floor ≤ n.committed

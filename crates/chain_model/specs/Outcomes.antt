@@ -1,4 +1,4 @@
--- A run as the list of its events' outcomes.
+-- A run as the list of its events' outcomes. Definitions without a source are this store's profile.
 use Rattle.std.specs.Prelude.{◌≡◌, ℕ, List, length, flat_map, Some, None}
 use Rattle.chain_model.specs.Configuration.{Configurations}
 use Rattle.chain_model.specs.Node.{Node}
@@ -6,7 +6,6 @@ use Rattle.chain_model.specs.World.{Event, Outcome, outcome, happens, reached, n
 use Rattle.chain_model.specs.World.{beginning}
 
 -- Each event has one outcome. The frames and replies of a run are those of the outcomes, in order.
--- (this store's profile)
 pub record MadeOfOutcomes {A : Type 0} (cs : Configurations) (events : List (Event A)) : Type 0
   where
     pub one_each : length (outcomes cs events (beginning cs)) ≡ length events

@@ -1,5 +1,5 @@
 -- The rules of a step of a running node x. The tests of a request or a frame are listed in the
--- order in which they are made.
+-- order in which they are made. Definitions without a source are this store's profile.
 use Rattle.std.specs.Prelude.{ℕ, zero, suc, ◌-◌, ◌^◌, List, [], ◌∷◌, ◌++◌, length, take, min, max}
 use Rattle.std.specs.Prelude.{Option, Some, None, Bool, true, false, ◌&&◌, not, if◌then◌else◌}
 use Rattle.std.specs.Prelude.{◌==◌, nat_lt, nat_le}
@@ -13,7 +13,7 @@ use Rattle.chain_model.specs.Requests.{Request, Submit, Read, Open, Close, Shows
 use Rattle.chain_model.specs.Node.{Node, Answer, silent, dropped_for, refused, replied, due}
 use Rattle.chain_model.specs.Node.{not_due, is_open, without, least}
 
--- whether the option holds node x (this store's profile)
+-- whether the option holds node x
 abbrev pub is_some_of : Option ℕ → ℕ → Bool
 is_some_of None x = false
 is_some_of (Some y) x = y == x
@@ -41,24 +41,24 @@ acknowledge n frames = record {
   dropped = None;
 }
 
--- the number of a read: as requested, or else the committed number (this store's profile)
+-- the number of a read: as requested, or else the committed number
 abbrev pub number_read : {A : Type 0} → Node A → Option ℕ → ℕ
 number_read n None = n.committed
 number_read n (Some at) = at
 
 -- A turn of tidying. It may raise the floor to the least number that may still be asked for. If it
--- does, it trims batches `gives_up` and before, as far as the floor allows (this store's profile).
+-- does, it trims batches `gives_up` and before, as far as the floor allows.
 abbrev pub tend : {A : Type 0} → Node A → Bool → ℕ → Answer A
 tend n false gives_up = silent n
 tend n true gives_up =
     let floor = max n.floor (least n.committed n.snapshots) in
     silent (record n { floor = floor; kept = max n.kept (min floor gives_up) })
 
--- the input is a frame for clients (this store's profile)
+-- the input is a frame for clients
 abbrev pub not_for_nodes : {A : Type 0} → Node A → Answer A
 not_for_nodes n = dropped_for n reason.NotForNodes
 
--- the input is bytes that are no frame (this store's profile)
+-- the input is bytes that are no frame
 abbrev pub unreadable : {A : Type 0} → Node A → Answer A
 unreadable n = dropped_for n reason.Unreadable
 
@@ -82,16 +82,16 @@ told n committed have = record n {
 abbrev pub show : {A : Type 0} → Node A → ℕ → ℕ → Answer A
 show n i s = replied n (Shows i s (take s n.list))
 
--- opens one more snapshot, at s (this store's profile)
+-- opens one more snapshot, at s
 abbrev pub open_at : {A : Type 0} → Node A → ℕ → ℕ → Answer A
 open_at n i s = replied (record n { snapshots = s ∷ n.snapshots }) (Opened i s)
 
--- opens a snapshot at s if fewer than 64 are open (this store's profile)
+-- opens a snapshot at s if fewer than 64 are open
 abbrev pub open_if_room : {A : Type 0} → Node A → ℕ → ℕ → Answer A
 open_if_room n i s =
     if length n.snapshots == 64 then refused n i refusal.TooManySnapshots else open_at n i s
 
--- closes one snapshot at s (this store's profile)
+-- closes one snapshot at s
 abbrev pub close_at : {A : Type 0} → Node A → ℕ → ℕ → Answer A
 close_at n i s = replied (record n { snapshots = without s n.snapshots }) (Closed i s)
 
@@ -144,7 +144,7 @@ module _ {A : Type 0} (x : ℕ) where
       }
 
   -- A batch with an unexpected number is dropped, and the node acknowledges again to its
-  -- predecessor (this store's profile).
+  -- predecessor.
   abbrev pub tell_again : Node A → Answer A
   tell_again n =
       record { node = n; frames = ack n; replies = []; dropped = Some reason.OtherNumber }
@@ -161,7 +161,7 @@ module _ {A : Type 0} (x : ℕ) where
       let m = told n committed have in
       acknowledge m (if nat_lt n.committed committed then ack m else [])
 
-  -- an acknowledgement that can be true is applied (this store's profile)
+  -- an acknowledgement that can be true is applied
   abbrev pub take_ack : Node A → ℕ → ℕ → Answer A
   take_ack n committed have =
       if nat_le committed have && nat_le have (length n.list) then pass_on n committed have
@@ -223,12 +223,11 @@ module _ {A : Type 0} (x : ℕ) where
     dropped = None;
   }
 
-  -- a tick: the turn to send again (this store's profile)
+  -- a tick: the turn to send again
   abbrev pub tick : Node A → Answer A
   tick n = if has n.ids x then resend n else dropped_for n reason.Removed
 
-  -- this answer if the number lies between the floor and the committed number, else a refusal (this
-  -- store's profile)
+  -- this answer if the number lies between the floor and the committed number, else a refusal
   abbrev pub if_readable : Node A → ℕ → ℕ → Answer A → Answer A
   if_readable n i at answer =
       if not (has n.ids x) then refused n i refusal.Removed
@@ -241,11 +240,11 @@ module _ {A : Type 0} (x : ℕ) where
   abbrev pub read : Node A → ℕ → Option ℕ → Answer A
   read n i at = if_readable n i (number_read n at) (show n i (number_read n at))
 
-  -- a snapshot is opened (this store's profile)
+  -- a snapshot is opened
   abbrev pub open_snapshot : Node A → ℕ → Option ℕ → Answer A
   open_snapshot n i at = if_readable n i (number_read n at) (open_if_room n i (number_read n at))
 
-  -- a snapshot is closed, if one is open at this number (this store's profile)
+  -- a snapshot is closed, if one is open at this number
   abbrev pub close_snapshot : Node A → ℕ → ℕ → Answer A
   close_snapshot n i s =
       if not (has n.ids x) then refused n i refusal.Removed

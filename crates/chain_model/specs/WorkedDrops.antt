@@ -1,5 +1,6 @@
 -- Worked drops: the inputs that the first node of a new chain of two drops or refuses, with the
--- first reason that applies. Batches are numbers here.
+-- first reason that applies. Batches are numbers here. Definitions without a source are this
+-- store's profile.
 use Rattle.std.specs.Prelude.{◌≡◌, ℕ, [], ◌∷◌, Some}
 use Rattle.chain_model.specs.DropReason as reason
 use Rattle.chain_model.specs.Refusal as refusal
@@ -7,16 +8,15 @@ use Rattle.chain_model.specs.Frames.{Forward, Ack}
 use Rattle.chain_model.specs.Node.{Node, created, dropped_for, refused}
 use Rattle.chain_model.specs.Rules.{receive, submit, read, notice, not_for_nodes, unreadable}
 
--- node 1 of the chain of nodes 1 and 2 at its creation (this store's profile)
+-- node 1 of the chain of nodes 1 and 2 at its creation
 abbrev pub first : Node ℕ
 first = created (1 ∷ 2 ∷ [])
 
--- a node whose floor is above its committed number, which no run reaches (this store's profile)
+-- a node whose floor is above its committed number, which no run reaches
 abbrev pub floor_above : Node ℕ
 floor_above = record first { floor = 2 }
 
--- The node's drops and refusals, with their reasons. Its configuration lacks node 9 (this store's
--- profile).
+-- The node's drops and refusals, with their reasons. Its configuration lacks node 9.
 pub record WorkedDrops : Type 0 where
   -- the reported length is greater than that of any list that was sent
   pub too_much : receive 1 first (Ack 1 0 2 1 1) ≡ dropped_for first reason.BadAck

@@ -1,4 +1,5 @@
--- Worked runs, with each event's frames, replies and drops. Batches are numbers here.
+-- Worked runs, with each event's frames, replies and drops. Batches are numbers here. Definitions
+-- without a source are this store's profile.
 use Rattle.std.specs.Prelude.{◌≡◌, ℕ, List, [], ◌∷◌, take, Some, None, true}
 use Rattle.chain_model.specs.Configuration.{Configurations}
 use Rattle.chain_model.specs.Refusal as refusal
@@ -9,30 +10,30 @@ use Rattle.chain_model.specs.World.{Answered, StoppedBefore, StoppedAfter, node_
 use Rattle.chain_model.specs.Trace.{Line, Forwards, Acks, Commits, Reads, Refuses, Drops, Adopts}
 use Rattle.chain_model.specs.Trace.{Opens, Starts, Stops, trace}
 
--- the events of a run, each with its expected lines (this store's profile)
+-- the events of a run, each with its expected lines
 abbrev pub Run : Type 0
 Run = List (Event ℕ × List (Line ℕ))
 
--- the events of a run (this store's profile)
+-- the events of a run
 abbrev pub events_of : Run → List (Event ℕ)
 events_of [] = []
 events_of (step ∷ run) = step.0 ∷ events_of run
 
--- the expected lines of a run (this store's profile)
+-- the expected lines of a run
 abbrev pub lines_of : Run → List (List (Line ℕ))
 lines_of [] = []
 lines_of (step ∷ run) = step.1 ∷ lines_of run
 
--- the run of these configurations and events has these lines (this store's profile)
+-- the run of these configurations and events has these lines
 abbrev pub ShowsThat : Configurations → Run → Type 0
 ShowsThat cs run = trace cs (events_of run) ≡ lines_of run
 
--- the pending requests of node x after these events, with their numbers (this store's profile)
+-- the pending requests of node x after these events, with their numbers
 abbrev pub pending_after : Configurations → Run → ℕ → List (ℕ × ℕ)
 pending_after cs run x = (node_of cs (events_of run) x).pending
 
 -- Three nodes. The frame of the first batch is delivered to node 2 twice, and the second time node
--- 2 acknowledges again (this store's profile).
+-- 2 acknowledges again.
 abbrev pub a_repeated_forward_is_dropped : Run
 a_repeated_forward_is_dropped =
     (Ask 1 1 (Submit 101) Answered, Forwards 1 2 0 1 ∷ []) ∷
@@ -44,8 +45,7 @@ a_repeated_forward_is_dropped =
     []
 
 -- Two nodes. The first frame is lost, the second is delivered and dropped, and a tick sends both
--- again. The acknowledgements arrive in the wrong order, and the older one changes nothing (this
--- store's profile).
+-- again. The acknowledgements arrive in the wrong order, and the older one changes nothing.
 abbrev pub a_lost_forward_is_sent_again : Run
 a_lost_forward_is_sent_again =
     (Ask 1 1 (Submit 101) Answered, Forwards 1 2 0 1 ∷ []) ∷
@@ -60,7 +60,7 @@ a_lost_forward_is_sent_again =
     []
 
 -- Three nodes. Node 2 has a second batch that is not committed, so it cannot be read. Node 2 is not
--- the head, so it accepts no batch of a client (this store's profile).
+-- the head, so it accepts no batch of a client.
 abbrev pub only_what_is_committed_is_read : Run
 only_what_is_committed_is_read =
     (Ask 1 1 (Submit 101) Answered, Forwards 1 2 0 1 ∷ []) ∷
@@ -76,7 +76,7 @@ only_what_is_committed_is_read =
     []
 
 -- The head is removed and does not know it. Its successor accepts none of its batches, and the new
--- head proceeds. The old head can still read the committed batches (this store's profile).
+-- head proceeds. The old head can still read the committed batches.
 abbrev pub an_unaware_head_commits_nothing : Run
 an_unaware_head_commits_nothing =
     (Ask 1 1 (Submit 101) Answered, Forwards 1 2 0 1 ∷ []) ∷
@@ -97,7 +97,7 @@ an_unaware_head_commits_nothing =
     []
 
 -- The middle node stops and is removed before it forwards a batch. The head sends the batch to the
--- tail (this store's profile).
+-- tail.
 abbrev pub a_middle_node_is_left_out : Run
 a_middle_node_is_left_out =
     (Ask 1 1 (Submit 101) Answered, Forwards 1 2 0 1 ∷ []) ∷
@@ -117,8 +117,7 @@ a_middle_node_is_left_out =
     (Deliver 9 Answered, Commits 6 2 ∷ []) ∷
     []
 
--- The tail is removed. The node before it becomes the tail, and commits its list (this store's
--- profile).
+-- The tail is removed. The node before it becomes the tail, and commits its list.
 abbrev pub a_new_tail_commits : Run
 a_new_tail_commits =
     (Ask 1 1 (Submit 101) Answered, Forwards 1 2 0 1 ∷ []) ∷
@@ -128,8 +127,7 @@ a_new_tail_commits =
     (Deliver 3 Answered, Commits 1 1 ∷ []) ∷
     []
 
--- Node 2 skips an epoch and drops the late notice of it. Node 1 learns that it is removed (this
--- store's profile).
+-- Node 2 skips an epoch and drops the late notice of it. Node 1 learns that it is removed.
 abbrev pub epochs_are_skipped : Run
 epochs_are_skipped =
     (Notice 2 2 Answered, Adopts 2 2 ∷ []) ∷
@@ -139,7 +137,7 @@ epochs_are_skipped =
     []
 
 -- A node that does not run refuses requests and drops other inputs, and starts with its synced
--- state. A frame that was never sent is no event of any node (this store's profile).
+-- state. A frame that was never sent is no event of any node.
 abbrev pub a_stopped_node_says_so : Run
 a_stopped_node_says_so =
     (Ask 1 1 (Submit 101) Answered, Commits 1 1 ∷ []) ∷
@@ -161,8 +159,7 @@ a_stopped_node_says_so =
     []
 
 -- Two nodes. The floor rises to the open snapshot and no further. A started node knows only the
--- floor to be committed and has no snapshots, and a tick sends again from there (this store's
--- profile).
+-- floor to be committed and has no snapshots, and a tick sends again from there.
 abbrev pub the_floor_waits_for_snapshots : Run
 the_floor_waits_for_snapshots =
     (Ask 1 1 (Submit 101) Answered, Forwards 1 2 0 1 ∷ []) ∷
@@ -182,7 +179,7 @@ the_floor_waits_for_snapshots =
     []
 
 -- The middle node reports that it has a batch, and is removed. The head does not know what its new
--- successor has, so a tick sends from the committed number on (this store's profile).
+-- successor has, so a tick sends from the committed number on.
 abbrev pub a_new_successor_is_sent_all : Run
 a_new_successor_is_sent_all =
     (Ask 1 1 (Submit 101) Answered, Forwards 1 2 0 1 ∷ []) ∷
@@ -198,7 +195,7 @@ a_new_successor_is_sent_all =
     []
 
 -- The head learns that it is removed, and forgets the pending request. The batch is committed, and
--- no client is answered (this store's profile).
+-- no client is answered.
 abbrev pub a_removed_head_answers_nobody : Run
 a_removed_head_answers_nobody =
     (Ask 1 1 (Submit 101) Answered, Forwards 1 2 0 1 ∷ []) ∷
@@ -210,7 +207,7 @@ a_removed_head_answers_nobody =
     (Deliver 4 Answered, Drops reason.Removed ∷ []) ∷
     []
 
--- the worked runs have the expected lines (this store's profile)
+-- the worked runs have the expected lines
 pub record WorkedRuns : Type 0 where
   pub repeated : ShowsThat ((1 ∷ 2 ∷ 3 ∷ []) ∷ []) a_repeated_forward_is_dropped
   pub resent : ShowsThat ((1 ∷ 2 ∷ []) ∷ []) a_lost_forward_is_sent_again
