@@ -1,5 +1,5 @@
--- Filters over keys (Bloom 1970): seven probes a key, made of two hashes (Kirsch and Mitzenmacher
--- 2006).
+-- Filters over keys (Bloom 1970), with seven probes a key, computed from two hashes (Kirsch and
+-- Mitzenmacher 2006).
 use Rattle.std.specs.Prelude.{◌≡◌, ◌⊎◌, ◌↔◌, ℕ, ◌+◌, ◌*◌, ◌/◌, ◌%◌, ◌<◌, max, List, [], length}
 use Rattle.std.specs.Prelude.{take, drop, get_or, Contains, All}
 use Rattle.std.specs.Int.{w64, from_be_bytes, IsBitSet}
@@ -12,15 +12,16 @@ first_hash key = from_be_bytes w64 (take 8 (sha256 key))
 abbrev pub second_hash : List ℕ → ℕ
 second_hash key = from_be_bytes w64 (take 8 (drop 8 (sha256 key)))
 
--- probe i of a key among so many bits
+-- probe i of a key among this many bits
 abbrev pub probe : ℕ → List ℕ → ℕ → ℕ
 probe bits key i = (first_hash key + i * second_hash key) % bits
 
--- bit p of some bytes is set: bit p mod 8, from the lowest, of byte p / 8
+-- bit p of the bytes is set: bit p mod 8, from the lowest, of byte p / 8
 abbrev pub HasBit : List ℕ → ℕ → Type 0
 HasBit bytes p = IsBitSet (get_or bytes (p / 8) 0) (p % 8)
 
--- how many bytes a filter of n keys has: ten bits a key in whole bytes, and at least 64 bits
+-- the length in bytes of a filter of n keys: ten bits a key, rounded up to a byte, and at least 64
+-- bits
 abbrev pub bytes_for : ℕ → ℕ
 bytes_for n = max 8 ((10 * n + 7) / 8)
 
@@ -28,11 +29,12 @@ bytes_for n = max 8 ((10 * n + 7) / 8)
 abbrev pub IsProbeOf : ℕ → List ℕ → ℕ → Type 0
 IsProbeOf bits key p = (i : ℕ) × (i < 7) × (p ≡ probe bits key i)
 
--- .. of one of these keys
+-- p is a probe of one of these keys
 abbrev pub IsProbe : ℕ → List (List ℕ) → ℕ → Type 0
 IsProbe bits keys p = (key : List ℕ) × Contains keys key × IsProbeOf bits key p
 
--- the filter of these keys: it has their length, and exactly the bits that are their probes
+-- the filter of these keys: its length follows from their number, and its set bits are exactly
+-- their probes
 pub record IsFilter (keys : List (List ℕ)) (filter : List ℕ) : Type 0 where
   pub len : length filter ≡ bytes_for (length keys)
   pub exact : (p : ℕ) → p < 8 * length filter →

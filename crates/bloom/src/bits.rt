@@ -1,8 +1,8 @@
-// Bits of a byte string, by their place.
+// Bits of a byte string, by their index.
 ghost use Rattle.std.specs.Prelude.{◌≡◌, ◌⊎◌, ◌↔◌, ◌*◌, ◌<◌, ℕ, length, IsTrue};
 ghost use Rattle.bloom.specs.Filters.{HasBit};
 
-/// How many bits so many bytes have.
+/// The number of bits in the bytes.
 pub fn bits_of(bytes: &[u8]) -> u128
     ensures { result ≡ 8 * length bytes.now }
 {

@@ -1,4 +1,4 @@
-// Why a filter was not built.
+// The errors of building a filter.
 ghost use Rattle.std.specs.Prelude.{◌≡◌};
 ghost use Rattle.bloom.specs.declared.error.BloomError.TheVariants.{Memory};
 

@@ -1,4 +1,4 @@
-// The filter of some keys: how it is built, and how it is asked.
+// The filter of a list of keys: its construction and its lookup.
 ghost use Rattle.std.specs.Prelude.{◌≡◌, ◌⊎◌, ◌↔◌, ◌*◌, ◌<◌, ◌^◌, ℕ, length, IfOk, IsTrue};
 ghost use Rattle.bloom.specs.Filters.{HasBit, IsProbeOf, IsFilter, Covers, CoversAll, bytes_for};
 
@@ -8,10 +8,10 @@ use crate::hashes::Hashes;
 use kv_types::Key;
 use std::alloc::Global;
 
-/// How many probes a key has.
+/// The number of probes of a key.
 const PROBES: u8 = 7;
 
-/// How many bytes a filter of so many keys has: ten bits a key, and at least 64.
+/// The length in bytes of a filter of this many keys: ten bits a key, and at least 64 bits.
 fn bytes_for(keys: usize) -> usize
     requires { keys < 2 ^ 63 }
     ensures { result ≡ bytes_for keys }
@@ -19,7 +19,7 @@ fn bytes_for(keys: usize) -> usize
     (keys + keys.div_ceil(4)).max(8)
 }
 
-// Puts a key into a filter.
+// Inserts a key into a filter.
 fn put(filter: &mut [u8], key: &[u8])
     requires { 0 < length filter.old }
     ensures len { length filter.new ≡ length filter.old }
@@ -32,7 +32,8 @@ fn put(filter: &mut [u8], key: &[u8])
     }
 }
 
-/// The filter of these keys. It goes by how many there are, so none should come twice.
+/// Builds the filter of these keys. Its size follows from their number, so no key should occur
+/// twice.
 pub fn build(alloc: Global, keys: &[Key]) -> Result<Vec<u8>, BloomError>
     ensures filter { IfOk result (λ filter. IsFilter keys.now filter.items) }
     ensures covers { IfOk result (λ filter. CoversAll filter.items keys.now) }
@@ -44,7 +45,8 @@ pub fn build(alloc: Global, keys: &[Key]) -> Result<Vec<u8>, BloomError>
     Ok(filter)
 }
 
-/// Whether the filter may hold the key: one that it was built from, it does. Takes no memory.
+/// Whether the filter may hold the key. It never denies a key that it was built from, and it
+/// allocates no memory.
 pub fn may_hold(filter: &[u8], key: &[u8]) -> bool
     ensures { IsTrue result ↔ Covers filter.now key.now }
 {

@@ -1,4 +1,4 @@
-// A key's two hashes, and the probes that they give.
+// The two hashes of a key, and the probes computed from them.
 ghost use Rattle.std.specs.Prelude.{◌≡◌, ◌<◌, ◌+◌, ◌*◌, ◌%◌};
 ghost use Rattle.bloom.specs.Filters.{first_hash, second_hash, probe};
 
@@ -24,7 +24,7 @@ impl Hashes {
         }
     }
 
-    /// Probe `i` among so many bits.
+    /// Probe `i` among this many bits.
     pub fn probe(self, bits: u128, i: u8) -> u128
         requires some { 0 < bits }
         requires few { i < 7 }

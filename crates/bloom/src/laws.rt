@@ -1,4 +1,5 @@
-//! What holds of the words of contracts. The functions do nothing: their clauses are the laws.
+//! Laws of the definitions that contracts use. The functions do nothing: their clauses are the
+//! laws.
 ghost use Rattle.bloom.specs.Filters.{FiltersCover};
 ghost use Rattle.bloom.specs.Examples.{Examples};
 

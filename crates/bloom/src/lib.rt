@@ -1,4 +1,4 @@
-//! Filters over keys: what was put in is never denied.
+//! Bloom filters over keys, without false negatives.
 #![tactic(auto)]
 
 mod bits;

@@ -1,4 +1,4 @@
--- What contracts see of a node's numbers.
+-- The numbers of a node as contracts see them.
 use Rattle.chain_core.specs.declared.state.CoreState.TheInside.{Inside}
 use Rattle.chain_core.specs.States.{Core}
 

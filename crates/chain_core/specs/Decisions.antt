@@ -1,4 +1,4 @@
--- What is decided of an input, and what is done: the rules of the chain's model by name.
+-- Decisions on inputs, and their execution: the rules of the chain's model by name.
 use Rattle.std.specs.Prelude.{◌≡◌, ◌≤◌, ◌<◌, ℕ, suc, List, length, map, Option}
 use Rattle.std.specs.Prelude.{Some, None}
 use Rattle.kv_types.specs.declared.bounds.TheConstants.{MAX_NUMBER}
@@ -20,7 +20,7 @@ use Rattle.chain_core.specs.declared.sending.Sent.{Sent}
 use Rattle.chain_core.specs.declared.waiting.Waiting.{Waiting}
 use Rattle.chain_core.specs.States.{Machine, Core, Is, replies_of}
 
--- what the machine of node x answers to an input
+-- the answer of the machine of node x to an input
 abbrev pub answer_to : ℕ → Machine → Input → Answer BatchContent
 answer_to x n (input.Submit request batch) = ask x n request (model_request.Submit batch)
 answer_to x n (input.Get request key at) = ask x n request (model_request.Read at)
@@ -41,7 +41,7 @@ rule_of x n decision.Resend = resend x n
 rule_of x n (decision.Refuse request why) = refused n request why
 rule_of x n (decision.Drop why) = dropped_for n why
 
--- a read is of the key that was asked for, at a number from the floor to what is committed
+-- the read is of the requested key, at a number from the floor to the committed number
 abbrev pub IsReadOf : Machine → Input → Decision → Type 0
 IsReadOf n (input.Get request key at) (decision.Show same other s) =
     (other ≡ key) × (n.floor ≤ s) × (s ≤ n.committed)
@@ -53,32 +53,32 @@ pub record Decides (x : ℕ) (n : Machine) (input : Input) (decision : Decision)
   pub rule : answer_to x n input ≡ rule_of x n decision
   pub read : IsReadOf n input decision
 
--- the rule whose store's part was done, with this batch where one was appended
+-- the rule that was done, with this batch if one was appended
 abbrev pub done_of : ℕ → Machine → BatchContent → Done → Answer BatchContent
 done_of x n batch (done.Accepted request) = accept x n request batch
 done_of x n batch done.Appended = append x n (suc (length n.list)) batch
 done_of x n batch (done.Told committed have) = pass_on x n committed have
 
--- what the count allows of a decision: a number is left for a batch, and a successor tells no more
--- committed than it has, and no more than there is
+-- The bounds of a decision by the count. A number is left for a batch. A successor reports at most
+-- as many batches committed as it has, and has at most as many as the node.
 abbrev pub HasRoomFor : ℕ → Decision → Type 0
 HasRoomFor count (decision.Accept request batch) = count < MAX_NUMBER
 HasRoomFor count (decision.Append batch) = count < MAX_NUMBER
 HasRoomFor count (decision.PassOn committed have) = (committed ≤ have) × (have ≤ count)
 HasRoomFor count _ = Unit {0}
 
--- what the count allows of what was done
+-- the bounds of a step's store part by the count
 abbrev pub HasRoom : ℕ → Done → Type 0
 HasRoom count (done.Accepted request) = count < MAX_NUMBER
 HasRoom count done.Appended = count < MAX_NUMBER
 HasRoom count (done.Told committed have) = (committed ≤ have) × (have ≤ count)
 
--- what a node knows is what the machine of an answer has, and these requests have its replies
+-- the state refines the machine of the answer, and these requests have its replies
 pub record Follows (new : Core) (answer : Answer BatchContent) (due : List Waiting) : Type 0 where
   pub is : Is new answer.node
   pub replied : answer.replies ≡ replies_of due
 
--- a frame to a node, as the model has it, where it is one between nodes
+-- the model's frame of a frame between nodes
 abbrev pub frame_as : ℕ → Frame → Option (model_frame.Frame BatchContent)
 frame_as to (frame.Forward epoch from number batch) =
     Some (model_frame.Forward to epoch from number batch)
@@ -86,6 +86,6 @@ frame_as to (frame.Ack epoch from committed have) =
     Some (model_frame.Ack to epoch from committed have)
 frame_as to _ = None
 
--- what is sent is these frames of the model, one by one
+-- the sent frames are these frames of the model, one by one
 abbrev pub AreFrames : List Sent → List (model_frame.Frame BatchContent) → Type 0
 AreFrames sent frames = map (λ it. frame_as it.to it.frame) sent ≡ map Some frames

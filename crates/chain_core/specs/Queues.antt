@@ -1,13 +1,13 @@
--- What private functions promise one another of the requests that wait.
+-- The queue of pending requests, as private functions promise it to one another.
 use Rattle.std.specs.Prelude.{ℕ, List, [], ◌∷◌, nat_le, if◌then◌else◌}
 use Rattle.chain_core.specs.declared.waiting.Waiting.{Waiting}
 
--- those at the front with numbers up to k
+-- the requests at the front with numbers up to k
 abbrev pub front : ℕ → List Waiting → List Waiting
 front k [] = []
 front k (it ∷ rest) = if nat_le it.number k then it ∷ front k rest else []
 
--- .. and those behind them
+-- the requests behind those at the front with numbers up to k
 abbrev pub behind : ℕ → List Waiting → List Waiting
 behind k [] = []
 behind k (it ∷ rest) = if nat_le it.number k then behind k rest else it ∷ rest

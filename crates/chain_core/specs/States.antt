@@ -1,4 +1,4 @@
--- The numbers of a node, without its batches, and the machine of the chain's model that has them.
+-- The numbers of a node without its batches, and the machine of the chain's model with them.
 use Rattle.std.specs.Prelude.{◌≡◌, ◌≤◌, ◌<◌, ℕ, List, [], ◌∷◌, length, map, true, false}
 use Rattle.kv_types.specs.Content.{BatchContent}
 use Rattle.chain_model.specs.Configuration.{is_tail}
@@ -7,11 +7,11 @@ use Rattle.chain_model.specs.Requests.{Reply, Committed}
 use Rattle.chain_core.specs.declared.waiting.Waiting.{Waiting}
 use Rattle.chain_core.specs.declared.at_rest.AtRest.{AtRest}
 
--- the machine of a node that takes batches of edits
+-- the machine of a node whose batches are lists of edits
 abbrev pub Machine : Type 0
 Machine = model.Node BatchContent
 
--- what a node knows besides its batches
+-- the state of a node besides its batches
 pub record Core : Type 0 where
   pub id : ℕ
   pub epoch : ℕ
@@ -24,7 +24,7 @@ pub record Core : Type 0 where
   pub snapshots : List ℕ
   pub pending : List Waiting
 
--- requests as the model has them
+-- pending requests as the model has them
 abbrev pub waiting : List Waiting → List (ℕ × ℕ)
 waiting pending = map (λ it. (it.number, it.request)) pending
 
@@ -41,7 +41,7 @@ pub record Is (core : Core) (n : Machine) : Type 0 where
   pub pending : n.pending ≡ waiting core.pending
   pub running : n.running ≡ true
 
--- a machine that rests has these numbers, which outlive its stop
+-- a stopped machine has these numbers, which are persistent
 pub record IsAtRest (rest : AtRest) (n : Machine) : Type 0 where
   pub epoch : n.epoch ≡ rest.epoch
   pub ids : n.ids ≡ rest.config
@@ -49,22 +49,22 @@ pub record IsAtRest (rest : AtRest) (n : Machine) : Type 0 where
   pub floor : n.floor ≡ rest.floor
   pub kept : n.kept ≡ rest.kept
 
--- the numbers waited for rise, each above the first and at most the second number given
+-- the numbers of the requests rise, each above the first bound and at most the second
 abbrev pub IsInOrder : (above most : ℕ) → List Waiting → Type 0
 IsInOrder above most [] = Unit {0}
 IsInOrder above most (it ∷ rest) =
     (above < it.number) × (it.number ≤ most) × IsInOrder it.number most rest
 
--- the numbers of a node stand in this order, and those waited for rise
+-- the order of a node's numbers, with pending requests of rising numbers
 pub record HasOrderedNumbers (core : Core) : Type 0 where
   pub kept : core.kept ≤ core.floor
   pub floor : core.floor ≤ core.committed
   pub committed : core.committed ≤ core.count
-  -- its successor has all that it knows to be committed; a tail has no successor
+  -- the successor has every batch that the node knows to be committed; a tail has no successor
   pub successor_has : is_tail core.ids core.id ≡ false → core.committed ≤ core.successor_has
   pub sent : core.successor_has ≤ core.count
   pub pending : IsInOrder 0 core.count core.pending
 
--- each request is told that its batch is committed
+-- each request is acknowledged: its batch is committed
 abbrev pub replies_of : List Waiting → List (Reply BatchContent)
 replies_of due = map (λ it. Committed it.request it.number) due

@@ -1,4 +1,4 @@
--- What a step leaves and sends once the store's part is done. (The words of `laws`.)
+-- The persistent state and the frames of a step whose store part is done, for the laws of `laws`.
 use Rattle.std.specs.Prelude.{◌≡◌, ℕ, suc, ◌+◌, List, [], ◌∷◌, ◌++◌, length, Some, None}
 use Rattle.std.specs.Prelude.{if◌then◌else◌, nat_lt}
 use Rattle.kv_types.specs.Content.{BatchContent}
@@ -12,37 +12,37 @@ use Rattle.chain_core.specs.declared.done.Done.TheVariants as done
 use Rattle.chain_core.specs.States.{Machine}
 use Rattle.chain_core.specs.Decisions.{done_of}
 
--- its batches afterwards
+-- the batches after the step
 abbrev pub list_after : Machine → BatchContent → Done → List BatchContent
 list_after n batch (done.Accepted request) = n.list ++ batch ∷ []
 list_after n batch done.Appended = n.list ++ batch ∷ []
 list_after n batch (done.Told committed have) = n.list
 
--- its epoch afterwards
+-- the epoch after the step
 abbrev pub epoch_after : Machine → Done → ℕ
 epoch_after n (done.Accepted request) = n.epoch
 epoch_after n done.Appended = n.epoch
 epoch_after n (done.Told committed have) = n.epoch
 
--- its configuration afterwards
+-- the configuration after the step
 abbrev pub ids_after : Machine → Done → List ℕ
 ids_after n (done.Accepted request) = n.ids
 ids_after n done.Appended = n.ids
 ids_after n (done.Told committed have) = n.ids
 
--- its floor afterwards
+-- the floor after the step
 abbrev pub floor_after : Machine → Done → ℕ
 floor_after n (done.Accepted request) = n.floor
 floor_after n done.Appended = n.floor
 floor_after n (done.Told committed have) = n.floor
 
--- its kept number afterwards
+-- the kept number after the step
 abbrev pub kept_after : Machine → Done → ℕ
 kept_after n (done.Accepted request) = n.kept
 kept_after n done.Appended = n.kept
 kept_after n (done.Told committed have) = n.kept
 
--- what it sends, by what the new machine has
+-- the frames of the step, by the state of the new machine
 abbrev pub frames_after : ℕ → Machine → Done → Machine → List (Frame BatchContent)
 frames_after x old (done.Accepted request) new = forward x new (suc (length old.list))
 frames_after x old done.Appended new =
@@ -50,7 +50,7 @@ frames_after x old done.Appended new =
 frames_after x old (done.Told committed have) new =
     if nat_lt old.committed committed then ack x new else []
 
--- what outlives a stop is what each kind of step leaves of it, and these frames are sent
+-- the persistent state is the one that each kind of step leaves, and these frames are sent
 pub record Leaves (x : ℕ) (n : Machine) (batch : BatchContent) (d : Done) (a : Answer BatchContent)
     : Type 0 where
   pub list : a.node.list ≡ list_after n batch d
@@ -65,12 +65,12 @@ abbrev pub StepsLeave : Type 0
 StepsLeave = (x : ℕ) (n : Machine) (batch : BatchContent) (d : Done) →
     Leaves x n batch d (done_of x n batch d)
 
--- a batch that is taken stands at the next place
+-- an appended batch is at the next place
 abbrev pub StandsLast : Type 0
 StandsLast = (list : List BatchContent) (batch : BatchContent) →
     place (list ++ batch ∷ []) (suc (length list)) ≡ Some batch
 
--- of the batches that are sent again the last comes last
+-- the last of the batches that are sent again is sent last
 abbrev pub OneByOne : Type 0
 OneByOne = (x : ℕ) (n : Machine) (k m : ℕ) →
     forwards x n k (suc m) ≡ forwards x n k m ++ forward x n (suc (k + m))

@@ -1,10 +1,10 @@
-//! What a node starts from.
+//! The persistent state of a node besides its batches, from which it starts.
 ghost use Rattle.std.specs.Prelude.{◌≤◌};
 
 use configurations::{Config, Epoch, NodeId};
 use kv_types::Number;
 
-/// What outlives a stop of a node, besides its batches.
+/// The persistent state of a node, besides its batches.
 #[derive(Debug, Drop)]
 pub struct AtRest {
     pub id: NodeId,

@@ -1,4 +1,4 @@
-// The rule for each input, by the numbers of the node that gets it.
+// The rule for each input, by the numbers of the node that receives it.
 ghost use Rattle.std.specs.Prelude.{◌≡◌};
 ghost use Rattle.chain_core.specs.States.{Machine, Is};
 ghost use Rattle.chain_core.specs.Decisions.{Decides, HasRoomFor};
@@ -117,7 +117,7 @@ fn of_tick(state: &CoreState) -> Decision
     Decision::Resend
 }
 
-/// What a node does with an input. It changes nothing.
+/// Decides what a node does with an input. It changes nothing.
 pub fn decide(state: &CoreState, input: Input) -> Decision
     ensures decides { (n : Machine) → Is state.now n → Decides state.now.id n input result }
     ensures room { HasRoomFor state.now.count result }

@@ -1,34 +1,35 @@
-// What is decided of an input: the rule, with what it needs.
+// The decision on an input: the rule, with its arguments.
 use crate::DropReason;
 use kv_types::{Batch, Key, Number};
 use link_messages::Refusal;
 
-/// What a node does with an input.
+/// The action of a node on an input.
 #[derive(Debug, Drop)]
 pub enum Decision {
-    /// The head appends the batch, forwards it, and its client waits.
+    /// The head appends and forwards the client's batch, and its acknowledgement is pending.
     Accept {
         request: Number,
         batch: Batch,
     },
-    /// The next batch is appended and forwarded; a tail commits it and tells its predecessor.
+    /// The node appends and forwards the next batch; a tail commits it and acknowledges it.
     Append {
         batch: Batch,
     },
-    /// Another batch came: it is dropped, and the predecessor told again what is there.
+    /// The node drops a batch with an unexpected number, and acknowledges again to its predecessor.
     TellAgain,
-    /// What the successor tells is taken, and passed on if more is committed.
+    /// The node applies its successor's report, and reports to its predecessor if more is
+    /// committed.
     PassOn {
         committed: Number,
         have: Number,
     },
-    /// The client is shown what the key has at this number.
+    /// The node answers the client with the value of the key at this number.
     Show {
         request: Number,
         key: Key,
         at: Number,
     },
-    /// What the successor is not known to have is sent again, and the predecessor told.
+    /// The node sends again the batches that its successor may lack, and acknowledges again.
     Resend,
     Refuse {
         request: Number,

@@ -1,14 +1,14 @@
-// What the store's part of a step did.
+// The store's part of a step, once it is done.
 use kv_types::Number;
 
-/// What was done of a decision that changes what a node knows: the store has the batch, where there
-/// is one.
+/// The store's part of a decision that changes the state of a node. The store already has the
+/// batch, if there is one.
 #[derive(Clone, Copy, Debug)]
 pub enum Done {
     /// A batch of this request was appended.
     Accepted { request: Number },
     /// The predecessor's batch was appended.
     Appended,
-    /// The successor told this.
+    /// The successor reported these numbers.
     Told { committed: Number, have: Number },
 }

@@ -1,11 +1,11 @@
-// Why a state could not change.
+// The errors of a change of state.
 ghost use Rattle.std.specs.Prelude.{◌≡◌};
 ghost use Rattle.chain_core.specs.declared.error.CoreError.TheVariants.{Memory};
 
 use std::alloc::{AllocError, AllocFailed};
 use thiserror::Error;
 
-/// Why a node could not go on. What it knows is as it was.
+/// Why a node could not continue. Its state is unchanged.
 #[derive(Clone, Copy, Debug, PartialEq, Eq, Error)]
 pub enum CoreError {
     #[error("out of memory")]

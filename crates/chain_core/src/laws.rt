@@ -1,17 +1,18 @@
-//! What holds of the words of contracts. The functions do nothing: their clauses are the laws.
+//! Laws of the definitions that contracts use. The functions do nothing: their clauses are the
+//! laws.
 ghost use Rattle.chain_core.specs.Steps.{StepsLeave, StandsLast, OneByOne};
 
-/// What a step leaves of what outlives a stop, and what it sends.
+/// The persistent state after a step, and the frames that the step sends.
 pub fn steps_leave()
     ensures { StepsLeave }
 {}
 
-/// A batch that is taken has the next number.
+/// An appended batch has the next number.
 pub fn stands_last()
     ensures { StandsLast }
 {}
 
-/// What is sent again is sent one by one, in order of number.
+/// Batches are sent again one by one, in order of number.
 pub fn one_by_one()
     ensures { OneByOne }
 {}

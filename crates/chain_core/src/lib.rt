@@ -1,4 +1,4 @@
-//! The rules of a step of a node: what is decided of an input, and what a node knows after it.
+//! The rules of a step of a node: the decision on an input, and the state after it.
 #![tactic(auto)]
 
 mod at_rest;

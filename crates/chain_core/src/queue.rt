@@ -1,4 +1,4 @@
-// The requests that wait for their batches to be committed, in order of number.
+// The queue of requests whose batches are not yet committed, in order of number.
 ghost use Rattle.std.specs.Prelude.{◌≡◌, ◌≤◌, ◌+◌, ◌++◌, length};
 ghost use Rattle.std.specs.Vec.{vec_len, vec_capacity};
 ghost use Rattle.chain_core.specs.Queues.{front, behind};
@@ -7,7 +7,7 @@ use crate::Waiting;
 use kv_types::Number;
 use std::collections::VecDeque;
 
-// How many requests at the front have numbers up to this one.
+// The number of requests at the front with numbers up to this one.
 pub(crate) fn count_due(pending: &VecDeque<Waiting>, upto: Number) -> usize
     ensures { result ≡ length (front upto pending.now.items) }
 {
@@ -21,7 +21,7 @@ pub(crate) fn count_due(pending: &VecDeque<Waiting>, upto: Number) -> usize
     count
 }
 
-// Moves the requests at the front with numbers up to this one behind those in `due`.
+// Moves the requests at the front with numbers up to this one to the end of `due`.
 pub(crate) fn move_due(pending: &mut VecDeque<Waiting>, due: &mut Vec<Waiting>, upto: Number)
     requires { vec_len due.old + length (front upto pending.old.items) ≤ vec_capacity due.old }
     ensures due { due.new.items ≡ due.old.items ++ front upto pending.old.items }

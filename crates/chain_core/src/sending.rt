@@ -13,7 +13,7 @@ use kv_types::{Batch, Number};
 use link_messages::Frame;
 use std::ops::Range;
 
-/// The most batches that one tick sends again.
+/// The greatest number of batches that one tick sends again.
 const MAX_RESENT: u64 = 16;
 
 /// A frame for a node.
@@ -24,7 +24,7 @@ pub struct Sent {
 }
 
 impl CoreState {
-    /// What is committed and what it has, for its predecessor.
+    /// The acknowledgement for the predecessor: the committed number and the number of batches.
     pub fn ack(&self) -> Option<Sent>
         ensures { (n : Machine) → Is self.now n →
             AreFrames (option_to_list result) (ack self.now.id n) }
@@ -39,7 +39,7 @@ impl CoreState {
         Some(Sent { to, frame })
     }
 
-    /// A batch that it has, for its successor.
+    /// The frame of a batch for the successor.
     pub fn forward(&self, number: Number, batch: Batch) -> Option<Sent>
         ensures { (n : Machine) → Is self.now n → place n.list number ≡ Some batch →
             AreFrames (option_to_list result) (forward self.now.id n number) }
@@ -66,9 +66,9 @@ impl CoreState {
             forwards self.now.id n n.successor_has 16
             ≡ forwards self.now.id n n.successor_has (result.end - result.start) }
     {
-        // law: its numbers stand in order
+        // law: the node's numbers are in order
         let _ = self.committed();
-        // law: its ids differ, so with a successor it is no tail
+        // law: the node's ids differ, so a node with a successor is no tail
         let _ = self.config().ids();
         let has = self.successor_has().get();
         if self.successor().is_none() {

@@ -1,4 +1,4 @@
-// What a node knows besides its batches, and how each step changes it.
+// The state of a node besides its batches, and the change of it by each step.
 ghost use Rattle.std.specs.Prelude.{◌≡◌, ◌<◌, ◌≤◌, suc, length, max, not};
 ghost use Rattle.std.specs.Prelude.{if◌then◌else◌};
 ghost use Rattle.std.specs.Prelude.{IfOk, OnErr};
@@ -18,7 +18,8 @@ use std::alloc::Global;
 use std::collections::VecDeque;
 use std::marker::Model;
 
-/// What a node knows besides its batches: its numbers, its configuration, and who waits.
+/// The state of a node besides its batches: its numbers, its configuration, and its pending
+/// requests.
 #[derive(Debug, Drop)]
 pub struct CoreState {
     id: NodeId,
@@ -64,7 +65,7 @@ fn greater(a: Number, b: Number) -> Number
 }
 
 impl CoreState {
-    /// A node as it is created, with configuration 0.
+    /// A node at its creation, with configuration 0.
     pub fn created(alloc: Global, id: NodeId, config: Config) -> CoreState
         ensures id { result.id ≡ id }
         ensures is { Is result (created config) }
@@ -83,7 +84,7 @@ impl CoreState {
         }
     }
 
-    /// A node as it starts from what outlived its stop.
+    /// Starts a node from its persistent state.
     pub fn started(alloc: Global, rest: AtRest) -> CoreState
         ensures id { result.id ≡ rest.id }
         ensures is { (n : Machine) → IsAtRest rest n → Is result (started rest.id n) }
@@ -125,14 +126,14 @@ impl CoreState {
         &self.config
     }
 
-    /// How many batches the node has.
+    /// The number of batches of the node.
     pub fn count(&self) -> Number
         ensures { result ≡ self.now.count }
     {
         self.count
     }
 
-    /// How many of them it knows to be committed.
+    /// The number of batches that it knows to be committed.
     pub fn committed(&self) -> Number
         ensures same { result ≡ self.now.committed }
         ensures ordered { HasOrderedNumbers self.now }
@@ -140,21 +141,22 @@ impl CoreState {
         self.committed
     }
 
-    /// The least number that it can be read at.
+    /// The least number at which it can be read.
     pub fn floor(&self) -> Number
         ensures { result ≡ self.now.floor }
     {
         self.floor
     }
 
-    /// So many of its first batches it cannot send again.
+    /// The number of batches trimmed from the front of its logs: those from `kept + 1` on can still
+    /// be sent again.
     pub fn kept(&self) -> Number
         ensures { result ≡ self.now.kept }
     {
         self.kept
     }
 
-    /// So many batches it knows its successor to have.
+    /// The number of batches that it knows its successor to have.
     pub fn successor_has(&self) -> Number
         ensures { result ≡ self.now.successor_has }
     {
@@ -175,7 +177,7 @@ impl CoreState {
         self.config.after(self.id)
     }
 
-    // What is committed once it has so many batches: at a tail, all.
+    // The committed number of a node with this many batches: at a tail, all of them.
     fn committed_with(&self, number: Number) -> Number
         ensures { result ≡ (if is_tail self.now.ids self.now.id then number
             else self.now.committed) }
@@ -187,7 +189,7 @@ impl CoreState {
         }
     }
 
-    // Whether its configuration does not have it.
+    // Whether its configuration lacks it.
     pub(crate) fn is_removed(&self) -> bool
         ensures { result ≡ not (has self.now.ids self.now.id) }
     {
@@ -207,7 +209,7 @@ impl CoreState {
         is_tail(&self.config, self.id)
     }
 
-    // The head has one more batch, for which a request waits. A tail commits it.
+    // Accepts one more batch at the head, for a pending request. A tail commits it.
     fn accept(&mut self, alloc: Global, request: Number) -> Result<Vec<Waiting>, CoreError>
         requires { self.old.count < MAX_NUMBER }
         ensures after { (n : Machine) (batch : BatchContent) → Is self.old n →
@@ -228,7 +230,7 @@ impl CoreState {
         Ok(due)
     }
 
-    // The node has one more batch of its predecessor. A tail commits it.
+    // Appends one more batch of the predecessor. A tail commits it.
     fn append(&mut self)
         requires { self.old.count < MAX_NUMBER }
         ensures after { (n : Machine) (batch : BatchContent) → Is self.old n →
@@ -241,7 +243,7 @@ impl CoreState {
         self.count = number;
     }
 
-    // What the successor told is taken.
+    // Applies the report of the successor.
     fn pass_on(
         &mut self,
         alloc: Global,
@@ -264,7 +266,7 @@ impl CoreState {
         Ok(due)
     }
 
-    /// What a node knows after the store's part is done, and the requests whose batches are now
+    /// Applies the store's part of a step to the state. Returns the requests whose batches are now
     /// committed, in order of number.
     pub fn after(&mut self, alloc: Global, done: Done) -> Result<Vec<Waiting>, CoreError>
         requires { HasRoom self.old.count done }

@@ -1,7 +1,7 @@
-// A request that waits for its batch to be committed.
+// A request whose batch is not yet committed.
 use kv_types::Number;
 
-/// A request whose batch has this number.
+/// A pending request, whose batch has this number.
 #[derive(Clone, Copy, Debug, PartialEq, Eq)]
 pub struct Waiting {
     pub number: Number,

@@ -1,11 +1,12 @@
 -- Configurations (lists of node ids, from head to tail), neighbours in them, and lists of them.
+-- Definitions without a source are this store's profile.
 use Rattle.std.specs.Prelude.{◌≡◌, ◌⊎◌, ℕ, zero, suc, ◌<◌, ◌≤◌, List, [], ◌∷◌, length, All}
 use Rattle.std.specs.Prelude.{Option, Some, None, Bool, true, false, if◌then◌else◌, ◌==◌, ◌&&◌}
 use Rattle.std.specs.Prelude.{nat_lt}
 use Rattle.chain_model.specs.Lists.{Part}
 
--- a list of configurations, which the master told one after another (van Renesse and Schneider
--- 2004, section 3)
+-- a list of configurations, which the configuration service (the papers' master) reports one after
+-- another (van Renesse and Schneider 2004, section 3)
 abbrev pub Configurations : Type 0
 Configurations = List (List ℕ)
 
@@ -37,51 +38,51 @@ successor [] x = None
 successor (y ∷ []) x = None
 successor (y ∷ z ∷ c) x = if y == x then Some z else successor (z ∷ c) x
 
--- x stands before y in it (van Renesse and Schneider 2004, section 3)
+-- x precedes y in the configuration (van Renesse and Schneider 2004, section 3)
 abbrev pub Before : List ℕ → ℕ → ℕ → Type 0
 Before [] x y = ⊥
 Before (z ∷ c) x y = ((z ≡ x) × (has c y ≡ true)) ⊎ Before c x y
 
--- no id stands in it twice (this store's profile)
+-- no id occurs twice in the list
 abbrev pub AllDifferent : List ℕ → Type 0
 AllDifferent [] = Unit {0}
 AllDifferent (x ∷ c) = (has c x ≡ false) × AllDifferent c
 
--- whether d is c with some nodes left out, order kept (this store's profile)
+-- whether d is c with some nodes left out, order kept
 abbrev pub is_part : List ℕ → List ℕ → Bool
 is_part [] c = true
 is_part (x ∷ d) [] = false
 is_part (x ∷ d) (y ∷ c) = if x == y then is_part d c else is_part (x ∷ d) c
 
--- whether d is c with at least one node left out, order kept (this store's profile)
+-- whether d is c with at least one node left out, order kept
 abbrev pub leaves_out : List ℕ → List ℕ → Bool
 leaves_out d c = is_part d c && nat_lt (length d) (length c)
 
 -- the configuration of an epoch, which is its place in the list of configurations, from 0; beyond
--- the list it has no node (this store's profile)
+-- the list it has no node
 abbrev pub at_epoch : Configurations → ℕ → List ℕ
 at_epoch [] e = []
 at_epoch (c ∷ cs) zero = c
 at_epoch (c ∷ cs) (suc e) = at_epoch cs e
 
--- the last configuration (this store's profile)
+-- the last configuration
 abbrev pub last_of : Configurations → List ℕ
 last_of [] = []
 last_of (c ∷ []) = c
 last_of (c ∷ d ∷ cs) = last_of (d ∷ cs)
 
--- a node's id is from 1 to 65,535 (this store's profile)
+-- a node's id is from 1 to 65,535
 abbrev pub IsId : ℕ → Type 0
 IsId x = (1 ≤ x) × (x ≤ 65535)
 
--- d is c with at least one node left out, order kept, and is not empty (this store's profile)
+-- d is c with at least one node left out, order kept, and is not empty
 pub record Shrinks (c d : List ℕ) : Type 0 where
   pub part : Part d c
   pub shorter : length d < length c
   pub not_empty : 0 < length d
 
--- a lawful list of configurations: 1 to 16 of them, the first of 1 to 16 different ids, each later
--- one with at least one node of the one before left out (this store's profile)
+-- A lawful list of configurations: 1 to 16 of them. The first has 1 to 16 different ids, and each
+-- later one leaves out at least one node of the one before.
 pub record Lawful (configurations : Configurations) : Type 0 where
   pub at_least_one : 1 ≤ length configurations
   pub at_most_16 : length configurations ≤ 16

@@ -1,20 +1,21 @@
--- What nodes send each other. A is what is taken as one: a batch, or a batch with its event's
--- place.
+-- The frames between nodes. The type A is the unit of replication: a batch, or a batch with its
+-- event's place. Definitions without a source are this store's profile.
 use Rattle.std.specs.Prelude.{ℕ}
 
--- a batch for the successor (van Renesse and Schneider 2004, section 3, the update that is passed
--- on); and what the predecessor may know: how many batches the sender knows to be committed, and
--- how many it has (there, the acknowledgement; epoch and numbers are this store's profile)
+-- A Forward has a batch for the successor (van Renesse and Schneider 2004, section 3, the update
+-- that is passed on). An Ack reports to the predecessor how many batches the sender knows to be
+-- committed, and how many it has (there, the acknowledgement). The epoch and the numbers are this
+-- store's profile.
 pub data Frame (A : Type 0) : Type 0 where
   Forward : (to epoch from number : ℕ) → (batch : A) → Frame A
   Ack : (to epoch from committed have : ℕ) → Frame A
 
--- the node that a frame is for (this store's profile)
+-- the node that the frame is addressed to
 abbrev pub addressee : {A : Type 0} → Frame A → ℕ
 addressee (Forward to epoch from number batch) = to
 addressee (Ack to epoch from committed have) = to
 
--- the sender's epoch as it sent the frame (this store's profile)
+-- the sender's epoch when it sent the frame
 abbrev pub epoch_of : {A : Type 0} → Frame A → ℕ
 epoch_of (Forward to epoch from number batch) = epoch
 epoch_of (Ack to epoch from committed have) = epoch

@@ -1,26 +1,26 @@
--- What a read at the last tail sees.
+-- Freshness of reads at the last tail. Definitions without a source are this store's profile.
 use Rattle.std.specs.Prelude.{◌≡◌, ℕ, suc, ◌≤◌, List, [], ◌∷◌, length, None, true, All}
 use Rattle.chain_model.specs.Configuration.{Configurations, is_tail, last_of}
 use Rattle.chain_model.specs.Requests.{Read, Reply, Committed, Shows, Opened}
 use Rattle.chain_model.specs.World.{Event, Ask, Answered, reached, node_of, outcome}
 
--- what was acknowledged, read or opened as a snapshot is at a number up to s (this store's profile)
+-- the number of the reply's acknowledgement, read or snapshot is at most s
 abbrev pub IsAtMost : {A : Type 0} → ℕ → Reply A → Type 0
 IsAtMost s (Committed i n) = n ≤ s
 IsAtMost s (Shows i n l) = n ≤ s
 IsAtMost s (Opened i n) = n ≤ s
 IsAtMost s _ = Unit {0}
 
--- node t shows its whole list to a read without a number, and nothing that was acknowledged, read
--- or opened before is at a greater number than its length (this store's profile)
+-- Node t reads its full list without a number. No earlier acknowledgement, read or snapshot has a
+-- number greater than its length.
 pub record SeesAll {A : Type 0} (cs : Configurations) (events : List (Event A)) (t : ℕ) : Type 0
   where
     pub shows : (i : ℕ) → (outcome (reached cs events) cs (Ask t i (Read None) Answered)).replies
         ≡ Shows i (length (node_of cs events t).list) (node_of cs events t).list ∷ []
     pub before : All (IsAtMost (length (node_of cs events t).list)) (reached cs events).replies
 
--- so it is at the last configuration's tail, while it runs and is at that epoch (van Renesse and
--- Schneider 2004, section 3, where the tail answers queries; the rest is this store's profile)
+-- The last configuration's tail sees all of this, while it runs at that epoch (van Renesse and
+-- Schneider 2004, section 3, where the tail answers queries; the rest is this store's profile).
 abbrev pub ReadsFresh : {A : Type 0} → Configurations → List (Event A) → Type 0
 ReadsFresh cs events =
     (t : ℕ) → is_tail (last_of cs) t ≡ true → suc (node_of cs events t).epoch ≡ length cs

@@ -1,4 +1,4 @@
--- What outlives a stop only grows.
+-- Growth of the persistent state. Definitions without a source are this store's profile.
 use Rattle.std.specs.Prelude.{◌≡◌, ℕ, ◌≤◌, List, ◌++◌, Bool}
 use Rattle.chain_model.specs.Configuration.{Configurations}
 use Rattle.chain_model.specs.Lists.{Begins}
@@ -8,20 +8,19 @@ use Rattle.chain_model.specs.Node.{Node, Answer}
 use Rattle.chain_model.specs.Rules.{ask, receive, notice, tick, tend}
 use Rattle.chain_model.specs.World.{Event, reached, node_of}
 
--- m is node n later: its list goes on, and its epoch, floor and kept number never fall (this
--- store's profile)
+-- m is node n later: its list extends n's, and its epoch, floor and kept number are no smaller
 pub record Grows {A : Type 0} (n m : Node A) : Type 0 where
   pub list : Begins n.list m.list
   pub epoch : n.epoch ≤ m.epoch
   pub floor : n.floor ≤ m.floor
   pub kept : n.kept ≤ m.kept
 
--- an answer of node n leaves it running, and later (this store's profile)
+-- an answer of node n leaves it running, in a later state
 pub record GoesOn {A : Type 0} (n : Node A) (a : Answer A) : Type 0 where
   pub grows : Grows n a.node
   pub running : a.node.running ≡ n.running
 
--- so does the answer of each rule (this store's profile)
+-- the answer of each rule has this property
 pub record StepsGoOn (A : Type 0) : Type 0 where
   pub asked : (x i : ℕ) (n : Node A) (request : Request A) → GoesOn n (ask x n i request)
   pub received : (x : ℕ) (n : Node A) (frame : Frame A) → GoesOn n (receive x n frame)
@@ -30,7 +29,7 @@ pub record StepsGoOn (A : Type 0) : Type 0 where
   pub tended : (n : Node A) (rises : Bool) (gives_up : ℕ)
       → GoesOn n (tend n rises gives_up)
 
--- what a run led to, a longer run has: nothing sent or replied is taken back (this store's profile)
+-- A longer run has all that a shorter run led to: its frames and replies, and its nodes later on.
 pub record OnlyGrows {A : Type 0} (cs : Configurations) (events later : List (Event A)) : Type 0
   where
     pub nodes : (x : ℕ) → Grows (node_of cs events x) (node_of cs (events ++ later) x)

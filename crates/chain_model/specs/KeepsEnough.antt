@@ -1,27 +1,28 @@
--- That nothing is given up which may be needed.
+-- Trimming of logs keeps every batch that may still be needed. Definitions without a source are
+-- this store's profile.
 use Rattle.std.specs.Prelude.{◌≡◌, ℕ, ◌<◌, ◌≤◌, List, [], ◌∷◌, length, true, false}
 use Rattle.chain_model.specs.Configuration.{Configurations, has, is_tail, at_epoch}
 use Rattle.chain_model.specs.Node.{Node, least}
 use Rattle.chain_model.specs.World.{Event, node_of}
 
--- the numbers of these pending requests are above k, and rise (this store's profile)
+-- the numbers of these pending requests are above k, and rise
 abbrev pub RisesFrom : ℕ → List (ℕ × ℕ) → Type 0
 RisesFrom k [] = Unit {0}
 RisesFrom k (p ∷ ps) = (k < p.0) × RisesFrom p.0 ps
 
--- the numbers of a node stand in this order (this store's profile)
+-- the order of a node's numbers
 pub record IsOrdered {A : Type 0} (n : Node A) : Type 0 where
   pub kept : n.kept ≤ n.floor
   pub floor : n.floor ≤ n.committed
   pub committed : n.committed ≤ length n.list
-  -- a floor that rises is this number, so it never falls
+  -- the floor is at most the number that it may rise to, so it never falls
   pub readable : n.floor ≤ least n.committed n.snapshots
-  -- requests wait in order of number, so they are replied to in that order
+  -- requests are pending in order of number, so they are replied to in that order
   pub pending : RisesFrom 0 n.pending
 
--- what a node can no longer send, every node that its epoch keeps has, and its successor is known
--- to have (van Renesse and Schneider 2004, section 3; floor and kept number are this store's
--- profile)
+-- Every node that the epoch keeps has the batches that a node has trimmed, and the node knows so of
+-- its successor (van Renesse and Schneider 2004, section 3; floor and kept number are this store's
+-- profile).
 pub record KeepsEnough {A : Type 0} (cs : Configurations) (events : List (Event A)) : Type 0 where
   pub others : (x y : ℕ) → has (at_epoch cs (node_of cs events x).epoch) y ≡ true
       → (node_of cs events x).kept ≤ length (node_of cs events y).list

@@ -1,18 +1,18 @@
--- Words for lists.
+-- Prefixes, sublists and places of lists. Definitions without a source are this store's profile.
 use Rattle.std.specs.Prelude.{◌≡◌, ◌⊎◌, ℕ, zero, suc, List, [], ◌∷◌, ◌++◌, Option, Some, None}
 
--- m is l followed by something: l is a prefix of m (van Renesse and Schneider 2004, section 3)
+-- l is a prefix of m (van Renesse and Schneider 2004, section 3)
 pub record Begins {A : Type 0} (l m : List A) : Type 0 where
   pub rest : List A
   pub whole : l ++ rest ≡ m
 
--- l is m with some places left out, order kept (this store's profile)
+-- l is a sublist of m: m with some places left out, order kept
 abbrev pub Part : {A : Type 0} → List A → List A → Type 0
 Part [] m = Unit {0}
 Part (x ∷ l) [] = ⊥
 Part (x ∷ l) (y ∷ m) = ((x ≡ y) × Part l m) ⊎ Part (x ∷ l) m
 
--- what stands at place n of a list, the first place being 1 (this store's profile)
+-- the element at place n of a list, the first place being 1
 abbrev pub place : {A : Type 0} → List A → ℕ → Option A
 place [] n = None
 place (x ∷ l) zero = None

@@ -1,6 +1,6 @@
--- The machine at another type: each batch replaced by its image. A step does not look into
--- batches, so a run goes with every such map; and so the run over plain batches has the theorems
--- of the run over batches with places.
+-- The machine at another type: each batch replaced by its image. A step does not inspect batches,
+-- so a run commutes with every such map. So the theorems of runs over batches with places hold of
+-- runs over plain batches. Definitions without a source are this store's profile.
 use Rattle.std.specs.Prelude.{◌≡◌, ℕ, List, map, Option, Some, None}
 use Rattle.chain_model.specs.Configuration.{Configurations}
 use Rattle.chain_model.specs.Frames.{Frame, Forward, Ack}
@@ -10,7 +10,7 @@ use Rattle.chain_model.specs.Node.{Node, Answer}
 use Rattle.chain_model.specs.World.{Event, Ask, Tick, Tend, Notice, Deliver, Start, Stop, Lost}
 use Rattle.chain_model.specs.World.{Outcome, World, reached, outcomes, beginning}
 
--- of a node (this store's profile)
+-- the image of a node
 abbrev pub node_map : {A B : Type 0} → (A → B) → Node A → Node B
 node_map f n = record {
   list = map f n.list;
@@ -25,12 +25,12 @@ node_map f n = record {
   running = n.running;
 }
 
--- of a frame (this store's profile)
+-- the image of a frame
 abbrev pub frame_map : {A B : Type 0} → (A → B) → Frame A → Frame B
 frame_map f (Forward to e from k b) = Forward to e from k (f b)
 frame_map f (Ack to e from c have) = Ack to e from c have
 
--- of a reply (this store's profile)
+-- the image of a reply
 abbrev pub reply_map : {A B : Type 0} → (A → B) → Reply A → Reply B
 reply_map f (Committed i n) = Committed i n
 reply_map f (Shows i s l) = Shows i s (map f l)
@@ -38,14 +38,14 @@ reply_map f (Opened i s) = Opened i s
 reply_map f (Closed i s) = Closed i s
 reply_map f (Refused i why) = Refused i why
 
--- of a request (this store's profile)
+-- the image of a request
 abbrev pub request_map : {A B : Type 0} → (A → B) → Request A → Request B
 request_map f (Submit b) = Submit (f b)
 request_map f (Read at) = Read at
 request_map f (Open at) = Open at
 request_map f (Close s) = Close s
 
--- of an answer (this store's profile)
+-- the image of an answer
 abbrev pub answer_map : {A B : Type 0} → (A → B) → Answer A → Answer B
 answer_map f a = record {
   node = node_map f a.node;
@@ -54,7 +54,7 @@ answer_map f a = record {
   dropped = a.dropped;
 }
 
--- of an event (this store's profile)
+-- the image of an event
 abbrev pub event_map : {A B : Type 0} → (A → B) → Event A → Event B
 event_map f (Ask x i q went) = Ask x i (request_map f q) went
 event_map f (Tick x went) = Tick x went
@@ -65,12 +65,12 @@ event_map f (Start x went) = Start x went
 event_map f (Stop x) = Stop x
 event_map f Lost = Lost
 
--- of the node that an event came to (this store's profile)
+-- the image of the node that handled an event
 abbrev pub place_map : {A B : Type 0} → (A → B) → Option (ℕ × Node A) → Option (ℕ × Node B)
 place_map f None = None
 place_map f (Some at) = Some (at.0, node_map f at.1)
 
--- of an outcome (this store's profile)
+-- the image of an outcome
 abbrev pub outcome_map : {A B : Type 0} → (A → B) → Outcome A → Outcome B
 outcome_map f o = record {
   came_to = place_map f o.came_to;
@@ -80,7 +80,7 @@ outcome_map f o = record {
   stopped = o.stopped;
 }
 
--- of a world (this store's profile)
+-- the image of a world
 abbrev pub world_map : {A B : Type 0} → (A → B) → World A → World B
 world_map f w = record {
   nodes = λ x. node_map f (w.nodes x);
@@ -88,7 +88,7 @@ world_map f w = record {
   replies = map (reply_map f) w.replies;
 }
 
--- a run of images is the image of the run (this store's profile)
+-- a run of images is the image of the run
 pub record GoesWithMap {A B : Type 0} (f : A → B) (cs : Configurations) (events : List (Event A))
     : Type 0 where
   pub world : world_map f (reached cs events) ≡ reached cs (map (event_map f) events)

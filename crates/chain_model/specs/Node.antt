@@ -1,4 +1,5 @@
--- The state of one node, and what a step answers.
+-- The state of one node, and the answer of a step. Definitions without a source are this store's
+-- profile.
 use Rattle.std.specs.Prelude.{ℕ, List, [], ◌∷◌, length, Option, Some, None, Bool, true, false}
 use Rattle.std.specs.Prelude.{if◌then◌else◌, ◌==◌, nat_le, min}
 use Rattle.chain_model.specs.Configuration.{is_tail}
@@ -7,78 +8,78 @@ use Rattle.chain_model.specs.declared.drop_reason.DropReason.{DropReason}
 use Rattle.chain_model.specs.Frames.{Frame}
 use Rattle.chain_model.specs.Requests.{Reply, Committed, Refused}
 
--- a node (its history, the updates sent on and not known to be everywhere, and its place in the
+-- a node (its history, the updates sent on and not known to be at every node, and its place in the
 -- chain: van Renesse and Schneider 2004, section 3; the numbers are this store's profile)
 pub record Node (A : Type 0) : Type 0 where
-  -- every batch that it ever took
+  -- every batch that it has accepted or appended
   pub list : List A
-  -- the newest epoch that it was told of, and the configuration of that epoch
+  -- the newest epoch that was reported to it, and the configuration of that epoch
   pub epoch : ℕ
   pub ids : List ℕ
-  -- so many batches it knows to be held by every node of that configuration
+  -- the number of batches that it knows every node of that configuration to have
   pub committed : ℕ
-  -- the least number that it can be read at
+  -- the least number at which it can be read
   pub floor : ℕ
-  -- so many batches it cannot send again
+  -- the number of batches trimmed from the front of its logs, which it cannot send again
   pub kept : ℕ
-  -- so many batches it knows its successor to have
+  -- the number of batches that it knows its successor to have
   pub successor_has : ℕ
   -- the numbers of its open snapshots
   pub snapshots : List ℕ
-  -- numbers, and the requests that wait for them
+  -- the pending requests, each with the number of its batch
   pub pending : List (ℕ × ℕ)
   pub running : Bool
 
--- a node after a step, what it sends and replies, and why it dropped what came, if it did (this
--- store's profile)
+-- The answer of a step: the node after it, its frames and replies, and the reason of a drop, if the
+-- input was dropped.
 pub record Answer (A : Type 0) : Type 0 where
   pub node : Node A
   pub frames : List (Frame A)
   pub replies : List (Reply A)
   pub dropped : Option DropReason
 
--- nothing is sent and replied (this store's profile)
+-- nothing is sent or replied
 abbrev pub silent : {A : Type 0} → Node A → Answer A
 silent n = record { node = n; frames = []; replies = []; dropped = None }
 
--- what came is dropped (this store's profile)
+-- the input is dropped
 abbrev pub dropped_for : {A : Type 0} → Node A → DropReason → Answer A
 dropped_for n reason = record { node = n; frames = []; replies = []; dropped = Some reason }
 
--- a request is refused (this store's profile)
+-- a request is refused
 abbrev pub refused : {A : Type 0} → Node A → ℕ → Refusal → Answer A
 refused n i why = record { node = n; frames = []; replies = Refused i why ∷ []; dropped = None }
 
--- a request gets this reply (this store's profile)
+-- a request is answered with this reply
 abbrev pub replied : {A : Type 0} → Node A → Reply A → Answer A
 replied n reply = record { node = n; frames = []; replies = reply ∷ []; dropped = None }
 
--- the replies to pending requests of the numbers up to k, in order (this store's profile)
+-- the replies to pending requests of the numbers up to k, in order
 abbrev pub due : {A : Type 0} → ℕ → List (ℕ × ℕ) → List (Reply A)
 due k [] = []
 due k (p ∷ ps) = if nat_le p.0 k then Committed p.1 p.0 ∷ due k ps else due k ps
 
--- the pending requests of greater numbers (this store's profile)
+-- the pending requests of greater numbers
 abbrev pub not_due : ℕ → List (ℕ × ℕ) → List (ℕ × ℕ)
 not_due k [] = []
 not_due k (p ∷ ps) = if nat_le p.0 k then not_due k ps else p ∷ not_due k ps
 
--- whether a snapshot of number s is open (this store's profile)
+-- whether a snapshot of number s is open
 abbrev pub is_open : ℕ → List ℕ → Bool
 is_open s [] = false
 is_open s (t ∷ ts) = if s == t then true else is_open s ts
 
--- the first s is left out (this store's profile)
+-- the list without the first s
 abbrev pub without : ℕ → List ℕ → List ℕ
 without s [] = []
 without s (t ∷ ts) = if s == t then ts else t ∷ without s ts
 
--- the least of a number and the open snapshots (this store's profile)
+-- the least of a number and the open snapshots
 abbrev pub least : ℕ → List ℕ → ℕ
 least m [] = m
 least m (t ∷ ts) = least (min m t) ts
 
--- a node as it is created, with configuration 0 (this store's profile)
+-- a node at its creation, with configuration 0
 abbrev pub created : {A : Type 0} → List ℕ → Node A
 created ids = record {
   list = [];
@@ -93,17 +94,17 @@ created ids = record {
   running = true;
 }
 
--- a node that does not run: its list, epoch, configuration, floor and kept number outlive the
--- stop, and what else stands here is overwritten by a start (this store's profile)
+-- A node that does not run. Its list, epoch, configuration, floor and kept number are persistent; a
+-- start overwrites the rest.
 abbrev pub stopped : {A : Type 0} → Node A → Node A
 stopped n = record n { running = false }
 
--- what a node takes for committed as it starts: a tail its whole list, another one its floor (this
--- store's profile)
+-- The number of batches that a node knows as committed when it starts: for a tail its list's
+-- length, for others the floor.
 abbrev pub committed_at_start : {A : Type 0} → ℕ → Node A → ℕ
 committed_at_start x n = if is_tail n.ids x then length n.list else n.floor
 
--- node x after a start (this store's profile)
+-- node x after a start
 abbrev pub started : {A : Type 0} → ℕ → Node A → Node A
 started x n = record n {
   committed = committed_at_start x n;

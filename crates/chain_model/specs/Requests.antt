@@ -1,18 +1,18 @@
--- What clients ask of a node, and what it replies.
+-- The requests of clients, and the replies of nodes.
 use Rattle.std.specs.Prelude.{ℕ, List, Option}
 use Rattle.chain_model.specs.declared.refusal.Refusal.{Refusal}
 
--- an update and queries (van Renesse and Schneider 2004, section 2; snapshots and the numbers that
--- are read at are this store's profile)
+-- an update and queries (van Renesse and Schneider 2004, section 2; snapshots and the numbers of
+-- reads are this store's profile)
 pub data Request (A : Type 0) : Type 0 where
   Submit : (batch : A) → Request A
-  -- of a key or of rows, at this number, or at the committed number
+  -- a read of a key or of rows, at this number or at the committed number
   Read : (at : Option ℕ) → Request A
   Open : (at : Option ℕ) → Request A
   Close : (number : ℕ) → Request A
 
--- replies, each to the request of a number (van Renesse and Schneider 2004, section 2; Opened,
--- Closed and Refused are this store's profile). A read shows a function of the batches up to its
+-- Replies, each to the request of a number (van Renesse and Schneider 2004, section 2; Opened,
+-- Closed and Refused are this store's profile). A read returns a function of the batches up to its
 -- number.
 pub data Reply (A : Type 0) : Type 0 where
   Committed : (request number : ℕ) → Reply A

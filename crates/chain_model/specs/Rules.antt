@@ -1,5 +1,5 @@
--- The rules of a step of a running node. The tests of a request or a frame stand in the order in
--- which they are made. x is the node's id.
+-- The rules of a step of a running node x. The tests of a request or a frame are listed in the
+-- order in which they are made. Definitions without a source are this store's profile.
 use Rattle.std.specs.Prelude.{ℕ, zero, suc, ◌-◌, ◌^◌, List, [], ◌∷◌, ◌++◌, length, take, min, max}
 use Rattle.std.specs.Prelude.{Option, Some, None, Bool, true, false, ◌&&◌, not, if◌then◌else◌}
 use Rattle.std.specs.Prelude.{◌==◌, nat_lt, nat_le}
@@ -13,25 +13,26 @@ use Rattle.chain_model.specs.Requests.{Request, Submit, Read, Open, Close, Shows
 use Rattle.chain_model.specs.Node.{Node, Answer, silent, dropped_for, refused, replied, due}
 use Rattle.chain_model.specs.Node.{not_due, is_open, without, least}
 
--- whether this is node x (this store's profile)
+-- whether the option holds node x
 abbrev pub is_some_of : Option ℕ → ℕ → Bool
 is_some_of None x = false
 is_some_of (Some y) x = y == x
 
--- batch k for the successor, if there are both (van Renesse and Schneider 2004, section 3)
+-- the frame with batch k for the successor, if both exist (van Renesse and Schneider 2004, section
+-- 3)
 abbrev pub forward_to : {A : Type 0} → Option ℕ → ℕ → Node A → ℕ → Option A → List (Frame A)
 forward_to None x n k batch = []
 forward_to (Some s) x n k None = []
 forward_to (Some s) x n k (Some batch) = Forward s n.epoch x k batch ∷ []
 
--- what is committed and what it has, for the predecessor, if there is one (van Renesse and
--- Schneider 2004, section 3)
+-- the frame with the committed number and the length of the list for the predecessor, if there is
+-- one (van Renesse and Schneider 2004, section 3)
 abbrev pub ack_to : {A : Type 0} → Option ℕ → ℕ → Node A → List (Frame A)
 ack_to None x n = []
 ack_to (Some p) x n = Ack p n.epoch x n.committed (length n.list) ∷ []
 
--- the pending requests that are committed are replied to, and these frames sent (van Renesse and
--- Schneider 2004, section 3)
+-- the answer that sends these frames and replies to the pending requests that are committed (van
+-- Renesse and Schneider 2004, section 3)
 abbrev pub acknowledge : {A : Type 0} → Node A → List (Frame A) → Answer A
 acknowledge n frames = record {
   node = record n { pending = not_due n.committed n.pending };
@@ -40,88 +41,89 @@ acknowledge n frames = record {
   dropped = None;
 }
 
--- the number that a read is at: as asked, or what is committed (this store's profile)
+-- the number of a read: as requested, or else the committed number
 abbrev pub number_read : {A : Type 0} → Node A → Option ℕ → ℕ
 number_read n None = n.committed
 number_read n (Some at) = at
 
--- a turn to tidy up, which may make the floor the least number that may still be asked for, and
--- then give up batches `gives_up` and before, as far as the floor allows (this store's profile)
+-- A turn of tidying. It may raise the floor to the least number that may still be asked for. If it
+-- does, it trims batches `gives_up` and before, as far as the floor allows.
 abbrev pub tend : {A : Type 0} → Node A → Bool → ℕ → Answer A
 tend n false gives_up = silent n
 tend n true gives_up =
     let floor = max n.floor (least n.committed n.snapshots) in
     silent (record n { floor = floor; kept = max n.kept (min floor gives_up) })
 
--- what comes is a frame for clients (this store's profile)
+-- the input is a frame for clients
 abbrev pub not_for_nodes : {A : Type 0} → Node A → Answer A
 not_for_nodes n = dropped_for n reason.NotForNodes
 
--- what comes are bytes that are no frame (this store's profile)
+-- the input is bytes that are no frame
 abbrev pub unreadable : {A : Type 0} → Node A → Answer A
 unreadable n = dropped_for n reason.Unreadable
 
--- one more batch at the head, for which request i waits (van Renesse and Schneider 2004,
--- section 3)
+-- the head with one more batch, whose acknowledgement request i awaits (van Renesse and Schneider
+-- 2004, section 3)
 abbrev pub longer_for : {A : Type 0} → Node A → ℕ → A → Node A
 longer_for n i batch = record n {
   list = n.list ++ batch ∷ [];
   pending = n.pending ++ (suc (length n.list), i) ∷ [];
 }
 
--- a node after what its successor told, where that is greater than what it knew (van Renesse and
--- Schneider 2004, section 3; the numbers are this store's profile)
+-- the node after its successor's report, if that exceeds what it knew (van Renesse and Schneider
+-- 2004, section 3; the numbers are this store's profile)
 abbrev pub told : {A : Type 0} → Node A → ℕ → ℕ → Node A
 told n committed have = record n {
   committed = max n.committed committed;
   successor_has = max n.successor_has have;
 }
 
--- a reply that shows the first s batches (van Renesse and Schneider 2004, section 2)
+-- a reply to a read of the first s batches (van Renesse and Schneider 2004, section 2)
 abbrev pub show : {A : Type 0} → Node A → ℕ → ℕ → Answer A
 show n i s = replied n (Shows i s (take s n.list))
 
--- one more snapshot, at s (this store's profile)
+-- opens one more snapshot, at s
 abbrev pub open_at : {A : Type 0} → Node A → ℕ → ℕ → Answer A
 open_at n i s = replied (record n { snapshots = s ∷ n.snapshots }) (Opened i s)
 
--- .. if fewer than 64 are open (this store's profile)
+-- opens a snapshot at s if fewer than 64 are open
 abbrev pub open_if_room : {A : Type 0} → Node A → ℕ → ℕ → Answer A
 open_if_room n i s =
     if length n.snapshots == 64 then refused n i refusal.TooManySnapshots else open_at n i s
 
--- one snapshot at s less (this store's profile)
+-- closes one snapshot at s
 abbrev pub close_at : {A : Type 0} → Node A → ℕ → ℕ → Answer A
 close_at n i s = replied (record n { snapshots = without s n.snapshots }) (Closed i s)
 
--- with the node's id x
+-- the rules of the node with id x
 module _ {A : Type 0} (x : ℕ) where
-  -- its batch k for its successor (van Renesse and Schneider 2004, section 3)
+  -- the frame with batch k for the node's successor (van Renesse and Schneider 2004, section 3)
   abbrev pub forward : Node A → ℕ → List (Frame A)
   forward n k = forward_to (successor n.ids x) x n k (place n.list k)
 
-  -- the `count` batches after k, as far as it has them (van Renesse and Schneider 2004, section 3)
+  -- the frames of the `count` batches after k, as far as the node has them (van Renesse and
+  -- Schneider 2004, section 3)
   abbrev pub forwards : Node A → ℕ → ℕ → List (Frame A)
   forwards n k zero = []
   forwards n k (suc count) = forward n (suc k) ++ forwards n (suc k) count
 
-  -- its acknowledgement for its predecessor (van Renesse and Schneider 2004, section 3)
+  -- the node's acknowledgement for its predecessor (van Renesse and Schneider 2004, section 3)
   abbrev pub ack : Node A → List (Frame A)
   ack n = ack_to (predecessor n.ids x) x n
 
-  -- a tail commits its whole list (van Renesse and Schneider 2004, section 3)
+  -- a tail commits its full list (van Renesse and Schneider 2004, section 3)
   abbrev pub tail_commits : Node A → Node A
   tail_commits n = if is_tail n.ids x then record n { committed = length n.list } else n
 
-  -- the head takes a batch: it is forwarded, and where the head is the tail too it is committed and
-  -- acknowledged (van Renesse and Schneider 2004, section 3)
+  -- The head accepts a batch and forwards it. A head that is the tail too commits and acknowledges
+  -- it (van Renesse and Schneider 2004, section 3).
   abbrev pub accept : Node A → ℕ → A → Answer A
   accept n i batch =
       let m = tail_commits (longer_for n i batch) in
       acknowledge m (forward m (suc (length n.list)))
 
-  -- a batch is submitted (van Renesse and Schneider 2004, section 3; the refusals are this store's
-  -- profile)
+  -- a batch is submitted by a client (van Renesse and Schneider 2004, section 3; the refusals are
+  -- this store's profile)
   abbrev pub submit : Node A → ℕ → A → Answer A
   submit n i batch =
       if not (has n.ids x) then refused n i refusal.Removed
@@ -129,8 +131,8 @@ module _ {A : Type 0} (x : ℕ) where
       else if length n.list == 2 ^ 63 - 1 then refused n i refusal.Exhausted
       else accept n i batch
 
-  -- one more batch, number k, which is forwarded; a tail commits and acknowledges it (van Renesse
-  -- and Schneider 2004, section 3)
+  -- A node appends batch k and forwards it. A tail commits and acknowledges it (van Renesse and
+  -- Schneider 2004, section 3).
   abbrev pub append : Node A → ℕ → A → Answer A
   append n k batch =
       let m = tail_commits (record n { list = n.list ++ batch ∷ [] }) in
@@ -141,32 +143,32 @@ module _ {A : Type 0} (x : ℕ) where
         dropped = None;
       }
 
-  -- a batch that is not the next one is dropped, and the predecessor told again what is there (this
-  -- store's profile)
+  -- A batch with an unexpected number is dropped, and the node acknowledges again to its
+  -- predecessor.
   abbrev pub tell_again : Node A → Answer A
   tell_again n =
       record { node = n; frames = ack n; replies = []; dropped = Some reason.OtherNumber }
 
-  -- the next batch is taken, and no other (van Renesse and Schneider 2004, section 3; links that
-  -- lose, repeat and reorder are this store's profile)
+  -- A node appends the next batch, and no other (van Renesse and Schneider 2004, section 3; links
+  -- that lose, repeat and reorder are this store's profile).
   abbrev pub take_forward : Node A → ℕ → A → Answer A
   take_forward n k batch = if k == suc (length n.list) then append n k batch else tell_again n
 
-  -- what the successor tells is taken, and passed on if more is committed than was known (van
-  -- Renesse and Schneider 2004, section 3)
+  -- A node applies its successor's report, and reports to its predecessor if more is committed than
+  -- it knew (van Renesse and Schneider 2004, section 3).
   abbrev pub pass_on : Node A → ℕ → ℕ → Answer A
   pass_on n committed have =
       let m = told n committed have in
       acknowledge m (if nat_lt n.committed committed then ack m else [])
 
-  -- an acknowledgement that can be true is taken (this store's profile)
+  -- an acknowledgement that can be true is applied
   abbrev pub take_ack : Node A → ℕ → ℕ → Answer A
   take_ack n committed have =
       if nat_le committed have && nat_le have (length n.list) then pass_on n committed have
       else dropped_for n reason.BadAck
 
-  -- a frame comes (van Renesse and Schneider 2004, section 3; the drop reasons are this store's
-  -- profile)
+  -- a frame is received (van Renesse and Schneider 2004, section 3; the drop reasons are this
+  -- store's profile)
   abbrev pub receive : Node A → Frame A → Answer A
   receive n (Forward to epoch from number batch) =
       if not (has n.ids x) then dropped_for n reason.Removed
@@ -179,8 +181,8 @@ module _ {A : Type 0} (x : ℕ) where
       else if is_some_of (successor n.ids x) from then take_ack n committed have
       else dropped_for n reason.NotSuccessor
 
-  -- a node at another epoch, before a tail commits; a removed one forgets who waits (van Renesse
-  -- and Schneider 2004, section 3; epochs are this store's profile)
+  -- A node moved to another epoch, before a tail commits. A removed node forgets its pending
+  -- requests (van Renesse and Schneider 2004, section 3; epochs are this store's profile).
   abbrev pub moved : Node A → ℕ → List ℕ → Node A
   moved n epoch ids = record n {
     epoch = epoch;
@@ -188,31 +190,31 @@ module _ {A : Type 0} (x : ℕ) where
     pending = if has ids x then n.pending else [];
   }
 
-  -- a node after it adopted a configuration: a tail has committed, and another one knows of its
-  -- new successor that it has what is committed (van Renesse and Schneider 2004, section 3)
+  -- A node after it adopted a configuration: a tail has committed its list. Another node knows that
+  -- its new successor has the committed batches (van Renesse and Schneider 2004, section 3).
   abbrev pub adopted : Node A → ℕ → List ℕ → Node A
   adopted n epoch ids =
       let m = tail_commits (moved n epoch ids) in
       record m { successor_has = m.committed }
 
-  -- a configuration is adopted, and the new predecessor told what is there (van Renesse and
+  -- a configuration is adopted, and the node acknowledges to its new predecessor (van Renesse and
   -- Schneider 2004, section 3)
   abbrev pub adopt : Node A → ℕ → List ℕ → Answer A
   adopt n epoch ids =
       let m = adopted n epoch ids in
       acknowledge m (ack m)
 
-  -- the master tells of a configuration (van Renesse and Schneider 2004, section 3; epochs are this
-  -- store's profile)
+  -- the configuration service (the papers' master) reports a configuration (van Renesse and
+  -- Schneider 2004, section 3; epochs are this store's profile)
   abbrev pub notice : Node A → ℕ → List ℕ → Answer A
   notice n epoch ids =
       if not (nat_lt n.epoch epoch) then dropped_for n reason.OldNotice
       else if leaves_out ids n.ids then adopt n epoch ids
       else dropped_for n reason.BadNotice
 
-  -- what the successor is not known to have, at most 16 batches, is sent again, and the
-  -- predecessor told what is there (van Renesse and Schneider 2004, section 3; the bound is this
-  -- store's profile)
+  -- The node sends again the batches that its successor may lack, at most 16, and acknowledges
+  -- again to its predecessor (van Renesse and Schneider 2004, section 3; the bound is this store's
+  -- profile).
   abbrev pub resend : Node A → Answer A
   resend n = record {
     node = n;
@@ -221,12 +223,11 @@ module _ {A : Type 0} (x : ℕ) where
     dropped = None;
   }
 
-  -- a turn to send again (this store's profile)
+  -- a tick: the turn to send again
   abbrev pub tick : Node A → Answer A
   tick n = if has n.ids x then resend n else dropped_for n reason.Removed
 
-  -- an answer at a number from the floor to what is committed, else a refusal (this store's
-  -- profile)
+  -- this answer if the number lies between the floor and the committed number, else a refusal
   abbrev pub if_readable : Node A → ℕ → ℕ → Answer A → Answer A
   if_readable n i at answer =
       if not (has n.ids x) then refused n i refusal.Removed
@@ -234,23 +235,23 @@ module _ {A : Type 0} (x : ℕ) where
       else if nat_le at n.committed then answer
       else refused n i refusal.NotCommitted
 
-  -- a read (van Renesse and Schneider 2004, section 2; any node answers, which is this store's
-  -- profile)
+  -- A read (van Renesse and Schneider 2004, section 2; any node answers, which is this store's
+  -- profile).
   abbrev pub read : Node A → ℕ → Option ℕ → Answer A
   read n i at = if_readable n i (number_read n at) (show n i (number_read n at))
 
-  -- a snapshot is opened (this store's profile)
+  -- a snapshot is opened
   abbrev pub open_snapshot : Node A → ℕ → Option ℕ → Answer A
   open_snapshot n i at = if_readable n i (number_read n at) (open_if_room n i (number_read n at))
 
-  -- a snapshot is closed, if one is open at this number (this store's profile)
+  -- a snapshot is closed, if one is open at this number
   abbrev pub close_snapshot : Node A → ℕ → ℕ → Answer A
   close_snapshot n i s =
       if not (has n.ids x) then refused n i refusal.Removed
       else if is_open s n.snapshots then close_at n i s
       else refused n i refusal.NoSuchSnapshot
 
-  -- request i of a client comes (van Renesse and Schneider 2004, section 2)
+  -- request i of a client is received (van Renesse and Schneider 2004, section 2)
   abbrev pub ask : Node A → ℕ → Request A → Answer A
   ask n i (Submit batch) = submit n i batch
   ask n i (Read at) = read n i at

@@ -1,4 +1,5 @@
--- Worked runs, which show what each event sends, replies and drops. Batches are numbers here.
+-- Worked runs, with each event's frames, replies and drops. Batches are numbers here. Definitions
+-- without a source are this store's profile.
 use Rattle.std.specs.Prelude.{◌≡◌, ℕ, List, [], ◌∷◌, take, Some, None, true}
 use Rattle.chain_model.specs.Configuration.{Configurations}
 use Rattle.chain_model.specs.declared.refusal.Refusal.TheVariants as refusal
@@ -9,30 +10,30 @@ use Rattle.chain_model.specs.World.{Answered, StoppedBefore, StoppedAfter, node_
 use Rattle.chain_model.specs.Trace.{Line, Forwards, Acks, Commits, Reads, Refuses, Drops, Adopts}
 use Rattle.chain_model.specs.Trace.{Opens, Starts, Stops, trace}
 
--- each event of a run with the lines that it shows (this store's profile)
+-- the events of a run, each with its expected lines
 abbrev pub Run : Type 0
 Run = List (Event ℕ × List (Line ℕ))
 
--- the events of a run (this store's profile)
+-- the events of a run
 abbrev pub events_of : Run → List (Event ℕ)
 events_of [] = []
 events_of (step ∷ run) = step.0 ∷ events_of run
 
--- the lines that they are to show (this store's profile)
+-- the expected lines of a run
 abbrev pub lines_of : Run → List (List (Line ℕ))
 lines_of [] = []
 lines_of (step ∷ run) = step.1 ∷ lines_of run
 
--- these configurations and events show these lines (this store's profile)
+-- the run of these configurations and events has these lines
 abbrev pub ShowsThat : Configurations → Run → Type 0
 ShowsThat cs run = trace cs (events_of run) ≡ lines_of run
 
--- the numbers and requests that wait at node x after these events (this store's profile)
+-- the pending requests of node x after these events, with their numbers
 abbrev pub pending_after : Configurations → Run → ℕ → List (ℕ × ℕ)
 pending_after cs run x = (node_of cs (events_of run) x).pending
 
--- three nodes; the frame of the first batch comes to node 2 twice, and the second time node 2 tells
--- again what it has (this store's profile)
+-- Three nodes. The frame of the first batch is delivered to node 2 twice, and the second time node
+-- 2 acknowledges again.
 abbrev pub a_repeated_forward_is_dropped : Run
 a_repeated_forward_is_dropped =
     (Ask 1 1 (Submit 101) Answered, Forwards 1 2 0 1 ∷ []) ∷
@@ -43,9 +44,8 @@ a_repeated_forward_is_dropped =
     (Deliver 5 Answered, Commits 1 1 ∷ []) ∷
     []
 
--- two nodes; the first frame is lost, the second comes and is dropped, a tick sends both again;
--- the acknowledgements come in the wrong order, and the older one changes nothing (this store's
--- profile)
+-- Two nodes. The first frame is lost, the second is delivered and dropped, and a tick sends both
+-- again. The acknowledgements arrive in the wrong order, and the older one changes nothing.
 abbrev pub a_lost_forward_is_sent_again : Run
 a_lost_forward_is_sent_again =
     (Ask 1 1 (Submit 101) Answered, Forwards 1 2 0 1 ∷ []) ∷
@@ -59,8 +59,8 @@ a_lost_forward_is_sent_again =
     (Ask 1 9 (Read None) Answered, Reads 9 2 (101 ∷ 102 ∷ []) ∷ []) ∷
     []
 
--- three nodes; node 2 has a second batch that is not committed: it is not read, and node 2, which
--- is not the head, takes no batch of a client (this store's profile)
+-- Three nodes. Node 2 has a second batch that is not committed, so it cannot be read. Node 2 is not
+-- the head, so it accepts no batch of a client.
 abbrev pub only_what_is_committed_is_read : Run
 only_what_is_committed_is_read =
     (Ask 1 1 (Submit 101) Answered, Forwards 1 2 0 1 ∷ []) ∷
@@ -75,8 +75,8 @@ only_what_is_committed_is_read =
     (Ask 2 10 (Submit 110) Answered, Refuses 10 refusal.NotHead ∷ []) ∷
     []
 
--- the head is removed and does not know it: its successor takes none of its batches, and the new
--- head goes on; the old one still shows what was committed (this store's profile)
+-- The head is removed and does not know it. Its successor accepts none of its batches, and the new
+-- head proceeds. The old head can still read the committed batches.
 abbrev pub an_unaware_head_commits_nothing : Run
 an_unaware_head_commits_nothing =
     (Ask 1 1 (Submit 101) Answered, Forwards 1 2 0 1 ∷ []) ∷
@@ -96,8 +96,8 @@ an_unaware_head_commits_nothing =
     (Ask 1 15 (Read None) Answered, Reads 15 1 (101 ∷ []) ∷ []) ∷
     []
 
--- the middle node stops and is removed with a batch that it passed on to nobody; the head sends
--- it to the tail (this store's profile)
+-- The middle node stops and is removed before it forwards a batch. The head sends the batch to the
+-- tail.
 abbrev pub a_middle_node_is_left_out : Run
 a_middle_node_is_left_out =
     (Ask 1 1 (Submit 101) Answered, Forwards 1 2 0 1 ∷ []) ∷
@@ -117,8 +117,7 @@ a_middle_node_is_left_out =
     (Deliver 9 Answered, Commits 6 2 ∷ []) ∷
     []
 
--- the tail is removed; the node before it is the tail then, and commits what it has (this store's
--- profile)
+-- The tail is removed. The node before it becomes the tail, and commits its list.
 abbrev pub a_new_tail_commits : Run
 a_new_tail_commits =
     (Ask 1 1 (Submit 101) Answered, Forwards 1 2 0 1 ∷ []) ∷
@@ -128,8 +127,7 @@ a_new_tail_commits =
     (Deliver 3 Answered, Commits 1 1 ∷ []) ∷
     []
 
--- node 2 skips an epoch and drops the notice of it that comes late; node 1 learns that it is
--- removed (this store's profile)
+-- Node 2 skips an epoch and drops the late notice of it. Node 1 learns that it is removed.
 abbrev pub epochs_are_skipped : Run
 epochs_are_skipped =
     (Notice 2 2 Answered, Adopts 2 2 ∷ []) ∷
@@ -138,8 +136,8 @@ epochs_are_skipped =
     (Ask 1 4 (Read None) Answered, Refuses 4 refusal.Removed ∷ []) ∷
     []
 
--- a node that does not run refuses requests and drops the rest, and starts with what it synced; a
--- frame that was never sent is no event of any node (this store's profile)
+-- A node that does not run refuses requests and drops other inputs, and starts with its synced
+-- state. A frame that was never sent is no event of any node.
 abbrev pub a_stopped_node_says_so : Run
 a_stopped_node_says_so =
     (Ask 1 1 (Submit 101) Answered, Commits 1 1 ∷ []) ∷
@@ -160,8 +158,8 @@ a_stopped_node_says_so =
     (Start 1 Answered, Starts 1 0 2 2 ∷ []) ∷
     []
 
--- two nodes; the floor rises to the open snapshot and no further; a start knows only the floor to
--- be committed, forgets the snapshot, and a tick sends again from there (this store's profile)
+-- Two nodes. The floor rises to the open snapshot and no further. A started node knows only the
+-- floor to be committed and has no snapshots, and a tick sends again from there.
 abbrev pub the_floor_waits_for_snapshots : Run
 the_floor_waits_for_snapshots =
     (Ask 1 1 (Submit 101) Answered, Forwards 1 2 0 1 ∷ []) ∷
@@ -180,8 +178,8 @@ the_floor_waits_for_snapshots =
     (Tick 1 Answered, Forwards 1 2 0 2 ∷ []) ∷
     []
 
--- the middle node tells that it has a batch, and is removed; the head knows nothing of what its new
--- successor has, so a tick sends from the committed number on (this store's profile)
+-- The middle node reports that it has a batch, and is removed. The head does not know what its new
+-- successor has, so a tick sends from the committed number on.
 abbrev pub a_new_successor_is_sent_all : Run
 a_new_successor_is_sent_all =
     (Ask 1 1 (Submit 101) Answered, Forwards 1 2 0 1 ∷ []) ∷
@@ -196,8 +194,8 @@ a_new_successor_is_sent_all =
     (Deliver 6 Answered, Commits 1 1 ∷ []) ∷
     []
 
--- the head learns that it is removed, and forgets the request that waits: the batch is committed,
--- and nobody is answered (this store's profile)
+-- The head learns that it is removed, and forgets the pending request. The batch is committed, and
+-- no client is answered.
 abbrev pub a_removed_head_answers_nobody : Run
 a_removed_head_answers_nobody =
     (Ask 1 1 (Submit 101) Answered, Forwards 1 2 0 1 ∷ []) ∷
@@ -209,7 +207,7 @@ a_removed_head_answers_nobody =
     (Deliver 4 Answered, Drops reason.Removed ∷ []) ∷
     []
 
--- the worked runs show what they are to show (this store's profile)
+-- the worked runs have the expected lines
 pub record WorkedRuns : Type 0 where
   pub repeated : ShowsThat ((1 ∷ 2 ∷ 3 ∷ []) ∷ []) a_repeated_forward_is_dropped
   pub resent : ShowsThat ((1 ∷ 2 ∷ []) ∷ []) a_lost_forward_is_sent_again
@@ -222,7 +220,7 @@ pub record WorkedRuns : Type 0 where
   pub floor : ShowsThat ((1 ∷ 2 ∷ []) ∷ []) the_floor_waits_for_snapshots
   pub new_successor : ShowsThat ((1 ∷ 2 ∷ 3 ∷ []) ∷ (1 ∷ 3 ∷ []) ∷ []) a_new_successor_is_sent_all
   pub removed : ShowsThat ((1 ∷ 2 ∷ 3 ∷ []) ∷ (2 ∷ 3 ∷ []) ∷ []) a_removed_head_answers_nobody
-  -- a request waits after the first event, and none after the notice
+  -- one request is pending after the first event, and none after the notice
   pub waits : pending_after ((1 ∷ 2 ∷ 3 ∷ []) ∷ (2 ∷ 3 ∷ []) ∷ [])
       (take 1 a_removed_head_answers_nobody) 1 ≡ (1, 1) ∷ []
   pub forgets : pending_after ((1 ∷ 2 ∷ 3 ∷ []) ∷ (2 ∷ 3 ∷ []) ∷ [])

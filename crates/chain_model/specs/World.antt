@@ -1,4 +1,5 @@
--- A world of nodes, and what events do to it. An event is one step of one node, handled to its end.
+-- A world of nodes, and the effects of events on it. An event is one complete step of one node.
+-- Definitions without a source are this store's profile.
 use Rattle.std.specs.Prelude.{ℕ, List, [], ◌∷◌, ◌++◌, length, Option, Some, None, Bool, true}
 use Rattle.std.specs.Prelude.{false, if◌then◌else◌, ◌==◌, nat_lt}
 use Rattle.chain_model.specs.Lists.{place}
@@ -12,52 +13,52 @@ use Rattle.chain_model.specs.Node.{Node, Answer, silent, dropped_for, refused, c
 use Rattle.chain_model.specs.Node.{started}
 use Rattle.chain_model.specs.Rules.{ask, receive, notice, tick, tend}
 
--- how a step went: it answered, or the node stopped in it, with what outlives a stop as before the
--- step or as after it (this store's profile)
+-- How a step ended: it answered, or the node stopped in it. A stopped node has the persistent state
+-- of before the step or of after it.
 pub data Went : Type 0 where
   Answered StoppedBefore StoppedAfter : Went
 
--- events (van Renesse and Schneider 2004, section 3; stops and starts, and frames that are
--- delivered late, again or never, are this store's profile). What is left to the code stands in
--- the event: how the step went, and what a tend does. A node that is not of configuration 0
--- counts as removed by it; a notice of an epoch beyond the list, and a place that no frame has
--- yet, do nothing.
+-- Events (van Renesse and Schneider 2004, section 3; stops and starts, and frames that are
+-- delivered late, again or never, are this store's profile). An event has the choices that are left
+-- to the code: how the step ended, and the effect of a tend. A node outside configuration 0 counts
+-- as removed by it. A notice of an epoch beyond the list does nothing, nor does a place without a
+-- frame.
 pub data Event (A : Type 0) : Type 0 where
   -- request `number` of a client
   Ask : (node number : ℕ) → (request : Request A) → (went : Went) → Event A
   Tick : (node : ℕ) → (went : Went) → Event A
   Tend : (node : ℕ) → (rises : Bool) → (gives_up : ℕ) → (went : Went) → Event A
   Notice : (node epoch : ℕ) → (went : Went) → Event A
-  -- the frame at a place, from 1, among all that were ever sent
+  -- the frame at a place, from 1, among all frames that were ever sent
   Deliver : (place : ℕ) → (went : Went) → Event A
   Start : (node : ℕ) → (went : Went) → Event A
   Stop : (node : ℕ) → Event A
-  -- an event whose request or frame was lost on its way: it keeps its place
+  -- an event whose request or frame was lost on its way; it keeps its place
   Lost : Event A
 
--- nodes by their ids, and every frame and every reply so far (this store's profile)
+-- nodes by their ids, and every frame and every reply so far
 pub record World (A : Type 0) : Type 0 where
   pub nodes : ℕ → Node A
   pub frames : List (Frame A)
   pub replies : List (Reply A)
 
--- what an event did (this store's profile)
+-- the outcome of an event
 pub record Outcome (A : Type 0) : Type 0 where
-  -- the node that it came to, and how the event left it; none where there was nothing to do
+  -- the node that handled the event, and its state after it; none where there was nothing to do
   pub came_to : Option (ℕ × Node A)
-  -- what was sent by it, each frame with its addressee, and replied
+  -- the frames that it sent, with their addressees, and its replies
   pub frames : List (Frame A)
   pub replies : List (Reply A)
-  -- why what came was dropped, if it was
+  -- why the input was dropped, if it was
   pub dropped : Option DropReason
-  -- whether the node stopped in it
+  -- whether the node stopped in the event
   pub stopped : Bool
 
--- there was nothing to do (this store's profile)
+-- there was nothing to do
 abbrev pub nothing : {A : Type 0} → Outcome A
 nothing = record { came_to = None; frames = []; replies = []; dropped = None; stopped = false }
 
--- node x answers (this store's profile)
+-- node x answers
 abbrev pub answers : {A : Type 0} → ℕ → Answer A → Outcome A
 answers x a = record {
   came_to = Some (x, a.node);
@@ -67,7 +68,7 @@ answers x a = record {
   stopped = false;
 }
 
--- node x, being n, stops: it sends and replies nothing (this store's profile)
+-- node x, being n, stops: it sends and replies nothing
 abbrev pub stops : {A : Type 0} → ℕ → Node A → Outcome A
 stops x n = record {
   came_to = Some (x, stopped n);
@@ -77,30 +78,30 @@ stops x n = record {
   stopped = true;
 }
 
--- node x, being n, takes a step that would answer a, as it went (this store's profile)
+-- node x, with state n, makes a step with answer a, which ended so
 abbrev pub as_it_went : {A : Type 0} → ℕ → Node A → Answer A → Went → Outcome A
 as_it_went x n a Answered = answers x a
 as_it_went x n a StoppedBefore = stops x n
 as_it_went x n a StoppedAfter = stops x a.node
 
 module _ {A : Type 0} (w : World A) where
-  -- a step of node x if it runs, else what is said of a node that does not (this store's profile)
+  -- the step of node x if it runs, else the answer of a node that does not
   abbrev pub if_running : ℕ → (Node A → Answer A) → (Node A → Answer A) → Went → Outcome A
   if_running x step otherwise went =
       if (w.nodes x).running then as_it_went x (w.nodes x) (step (w.nodes x)) went
       else answers x (otherwise (w.nodes x))
 
-  -- a step that is dropped by a node that does not run (this store's profile)
+  -- a step that a node drops if it does not run
   abbrev pub takes : ℕ → (Node A → Answer A) → Went → Outcome A
   takes x step went = if_running x step (λ n. dropped_for n reason.NotRunning) went
 
-  -- a frame goes to its addressee (this store's profile)
+  -- a frame is delivered to its addressee
   abbrev pub delivered : Option (Frame A) → Went → Outcome A
   delivered None went = nothing
   delivered (Some frame) went =
       takes (addressee frame) (λ n. receive (addressee frame) n frame) went
 
-  -- what an event does in this world (this store's profile)
+  -- the outcome of an event in this world
   abbrev pub outcome : Configurations → Event A → Outcome A
   outcome cs (Ask x i request went) =
       if_running x (λ n. ask x n i request) (λ n. refused n i refusal.NotRunning) went
@@ -117,12 +118,12 @@ module _ {A : Type 0} (w : World A) where
       else answers x (dropped_for (w.nodes x) reason.NotRunning)
   outcome cs Lost = nothing
 
--- the nodes with one of them as it is now (this store's profile)
+-- the nodes with one of them replaced
 abbrev pub with_node : {A : Type 0} → (ℕ → Node A) → Option (ℕ × Node A) → ℕ → Node A
 with_node nodes None y = nodes y
 with_node nodes (Some at) y = if at.0 == y then at.1 else nodes y
 
--- the world after an outcome: what was sent and replied stays (this store's profile)
+-- the world after an outcome, with all earlier frames and replies
 abbrev pub after : {A : Type 0} → World A → Outcome A → World A
 after w o = record {
   nodes = with_node w.nodes o.came_to;
@@ -130,28 +131,28 @@ after w o = record {
   replies = w.replies ++ o.replies;
 }
 
--- the world after an event (this store's profile)
+-- the world after an event
 abbrev pub happens : {A : Type 0} → Configurations → World A → Event A → World A
 happens cs w e = after w (outcome w cs e)
 
--- the world after these events (this store's profile)
+-- the world after these events
 abbrev pub run : {A : Type 0} → Configurations → List (Event A) → World A → World A
 run cs [] w = w
 run cs (e ∷ es) w = run cs es (happens cs w e)
 
--- what each of these events does, one outcome for each (this store's profile)
+-- the outcomes of these events, one for each
 abbrev pub outcomes : {A : Type 0} → Configurations → List (Event A) → World A → List (Outcome A)
 outcomes cs [] w = []
 outcomes cs (e ∷ es) w = outcome w cs e ∷ outcomes cs es (happens cs w e)
 
--- the world as its nodes are created, each with configuration 0 (this store's profile)
+-- the world at the creation of its nodes, each with configuration 0
 abbrev pub beginning : {A : Type 0} → Configurations → World A
 beginning cs = record { nodes = λ x. created (at_epoch cs 0); frames = []; replies = [] }
 
--- the world that these events lead to from the beginning (this store's profile)
+-- the world after these events from the beginning
 abbrev pub reached : {A : Type 0} → Configurations → List (Event A) → World A
 reached cs events = run cs events (beginning cs)
 
--- a node of that world (this store's profile)
+-- a node of that world
 abbrev pub node_of : {A : Type 0} → Configurations → List (Event A) → ℕ → Node A
 node_of cs events x = (reached cs events).nodes x

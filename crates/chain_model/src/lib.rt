@@ -1,4 +1,5 @@
-//! The chain as a pure machine: what holds of every run, whatever stops, is lost, repeated or late.
+//! The chain as a pure state machine: theorems about every run, with stops, losses, repetitions and
+//! delays.
 #![tactic(auto)]
 
 ghost use Rattle.std.specs.Prelude.{◌≡◌, ◌↔◌, ℕ, List, true};
@@ -27,55 +28,55 @@ pub fn one_history<B>()
     ensures { (cs : Configurations) (events : List (Event B)) → Lawful cs → OneList cs events }
 {}
 
-/// Lists begin one another along the chain, frames tell the truth, and what the tail of an epoch
-/// had while it was at that epoch is never lost.
+/// Along the chain each later list is a prefix of the earlier ones, and frames are true. The list
+/// of an epoch's tail at that epoch is never lost.
 pub fn in_order<B>()
     ensures { (cs : Configurations) (events : List (Event B)) → Lawful cs → InOrder cs events }
 {}
 
-/// A read at the last configuration's tail, once it knows of it, sees all that was ever
-/// acknowledged or read.
+/// A read at the last configuration's tail, once it is at that epoch, sees every batch that was
+/// ever acknowledged or read.
 pub fn reads_fresh<B>()
     ensures { (cs : Configurations) (events : List (Event B)) → Lawful cs → ReadsFresh cs events }
 {}
 
-/// No node gives up a batch that another one may still need from it.
+/// No node trims a batch from its logs that another one may still need from it.
 pub fn keeps_enough<B>()
     ensures { (cs : Configurations) (events : List (Event B)) → Lawful cs → KeepsEnough cs events }
 {}
 
-/// Each event has one outcome, and what a run sends and replies is what its events send and reply.
+/// Each event has one outcome, and the run sends and replies what these outcomes do.
 pub fn made_of_outcomes<B>()
     ensures { (cs : Configurations) (events : List (Event B)) → MadeOfOutcomes cs events }
 {}
 
-/// A step that answers leaves its node running, with its list, epoch, floor and kept number as they
-/// were or greater.
+/// A step that answers leaves its node running. The node's list, epoch, floor and kept number stay
+/// or grow.
 pub fn steps_go_on<B>()
     ensures { StepsGoOn B }
 {}
 
-/// A longer run takes nothing back of a shorter one: no batch, no epoch, no frame and no reply.
+/// A longer run extends a shorter one: it keeps every batch, epoch, frame and reply.
 pub fn only_grows<B>()
     ensures { (cs : Configurations) (events later : List (Event B)) → OnlyGrows cs events later }
 {}
 
-/// A run does not look into batches: it goes with every map of them, event by event.
+/// A run does not inspect batches: it commutes with every map of them, event by event.
 pub fn goes_with_maps<A, B>()
     ensures { (f : A → B) (cs : Configurations) (es : List (Event A)) → GoesWithMap f cs es }
 {}
 
-/// Eleven small runs show, event by event, the frames, replies and drops that they are to show.
+/// Eleven small runs show the expected frames, replies and drops, event by event.
 pub fn worked_runs()
     ensures { WorkedRuns }
 {}
 
-/// What a new node drops and refuses, and for which reason.
+/// The drops and refusals of a new node, each with its reason.
 pub fn worked_drops()
     ensures { WorkedDrops }
 {}
 
-/// The test for a part is passed by exactly the parts.
+/// The decision procedure for sublists accepts exactly the sublists.
 pub fn is_part_decides()
     ensures { (d c : List ℕ) → (is_part d c ≡ true) ↔ Part d c }
 {}

@@ -1,4 +1,4 @@
-//! Tests of whole runs: what each event shows, in words from outside.
+//! Tests of complete runs: the trace of each event, with expected values from the rules.
 #![tactic(auto)]
 
 #[cfg(test)]

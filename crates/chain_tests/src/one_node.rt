@@ -1,4 +1,4 @@
-// Runs of one node: what each event gives, by the rules of a step.
+// Runs of one node: the result of each event, by the rules of a step.
 use crate::courses::{ONE, Step, TWO, report_of, shown};
 use std::test::Fail;
 

@@ -1,4 +1,4 @@
-// Runs of a chain of nodes 1, 2 and 3: what each event shows, by the rules of a step.
+// Runs of a chain of nodes 1, 2 and 3: the trace of each event, by the rules of a step.
 use crate::courses::{
     ONE, Step, TWO, nodes_text, report_of, sent_after, shown, shown_on_the_way, stops_in,
 };
@@ -45,7 +45,7 @@ node 3 count 1 committed 1
     Ok(())
 }
 
-// A Forward that comes again is dropped, and the predecessor told again. An old Ack does nothing.
+// A repeated Forward is dropped, and acknowledged again. An old Ack changes nothing.
 #[test]
 fn frames_come_again_and_late(rt: HostRuntime) -> Result<(), Fail> {
     let steps = [
@@ -79,7 +79,7 @@ dropped OtherNumber / #6 3>2 ack 0 1 1
     Ok(())
 }
 
-// A batch that comes before the one it follows is dropped, and sent again at a tick.
+// A batch that arrives before the one it follows is dropped, and sent again at a tick.
 #[test]
 fn a_tick_sends_again(rt: HostRuntime) -> Result<(), Fail> {
     let steps = [
@@ -111,7 +111,7 @@ dropped OtherNumber / #3 2>1 ack 0 0 0
     Ok(())
 }
 
-// Node 2 stops, and again, starts, and stops.
+// Node 2 stops twice, starts, and stops.
 const RESTS: &[Step] = &[
     Step::Submit(1, ONE),
     Step::Stop(2, b""),
@@ -183,7 +183,7 @@ nothing
     Ok(())
 }
 
-// An event that names a node which the chain lacks is no step.
+// An event that names an unknown node is no step.
 #[test]
 fn a_world_is_stepped(rt: HostRuntime) -> Result<(), Fail> {
     let none = sent_after(rt.alloc(), CHAIN, &[])?;
@@ -202,7 +202,7 @@ fn no_node_stops_by_itself(rt: HostRuntime) -> Result<(), Fail> {
     Ok(())
 }
 
-// An event of an unknown node is not taken, and one without a frame is.
+// An event of an unknown node is no step, and one without a frame is a step.
 #[test]
 fn a_world_that_goes_on_shows_what_it_did(rt: HostRuntime) -> Result<(), Fail> {
     let steps = [

@@ -1,11 +1,11 @@
--- Why ids are no configuration, and configurations no list of a master.
+-- The reasons for which ids are no configuration, or configurations no lawful list.
 use Rattle.std.specs.Prelude.{◌≡◌, ℕ, suc, ◌<◌, ◌≤◌, List, [], length, All}
 use Rattle.chain_model.specs.Configuration.{Configurations, IsId, AllDifferent, at_epoch}
 use Rattle.chain_model.specs.Lists.{Part}
 use Rattle.configurations.specs.declared.error.ConfigError.{ConfigError}
 use Rattle.configurations.specs.declared.error.ConfigError.TheVariants as fault
 
--- what is wrong with a list of ids
+-- the refusal applies to a list of ids
 abbrev pub IdsHave : ConfigError → List ℕ → Type 0
 IdsHave fault.Empty ids = ids ≡ []
 IdsHave fault.Repeated ids = AllDifferent ids → ⊥
@@ -15,11 +15,11 @@ IdsHave fault.TooMany ids = 16 < length ids
 IdsHave fault.BadId ids = All IsId ids → ⊥
 IdsHave fault.Memory ids = ⊥
 
--- there is a configuration that is such with the one after it
+-- the relation holds of some configuration and the next one
 abbrev pub HasPair : Configurations → (List ℕ → List ℕ → Type 0) → Type 0
 HasPair cs Are = (e : ℕ) × (suc e < length cs) × Are (at_epoch cs e) (at_epoch cs (suc e))
 
--- what is wrong with a list of configurations
+-- the refusal applies to a list of configurations
 abbrev pub ListHas : ConfigError → Configurations → Type 0
 ListHas fault.Empty cs = cs ≡ []
 ListHas fault.Repeated cs = ⊥
@@ -29,7 +29,7 @@ ListHas fault.TooMany cs = 16 < length cs
 ListHas fault.BadId cs = ⊥
 ListHas fault.Memory cs = ⊥
 
--- the place of a fault among all
+-- the place of a refusal in the order of tests
 abbrev pub code : ConfigError → ℕ
 code fault.Empty = 1
 code fault.Repeated = 2
@@ -39,7 +39,7 @@ code fault.TooMany = 5
 code fault.BadId = 6
 code fault.Memory = 7
 
--- it is a fault, and none of a lesser number is
+-- the refusal applies, and none of a lesser place does
 pub record IsLeast (Has : ConfigError → Type 0) (e : ConfigError) : Type 0 where
   pub has : Has e
   pub least : (other : ConfigError) → code other < code e → Has other → ⊥

@@ -32,7 +32,7 @@ impl Model for Config {
     ghost invariant = { λ config. IsConfig config.ids.items };
 }
 
-// Whether an id stands in the list twice.
+// Whether an id occurs twice in the list.
 fn has_repeated(ids: &[u16]) -> bool
     ensures { IsFalse result ↔ AllDifferent ids.now }
 {
@@ -63,7 +63,7 @@ fn after_in(ids: &[NodeId], id: NodeId) -> Option<NodeId>
 }
 
 impl Config {
-    /// The configuration of these ids, the head first.
+    /// Checks and builds a configuration of these ids, the head first.
     pub fn new(alloc: Global, ids: Vec<u16>) -> Result<Config, ConfigError>
         ensures made { IfOk result (λ config. (config ≡ ids.items) × IsConfig config) }
         ensures refused { IfErr result (λ e.
@@ -111,21 +111,21 @@ impl Config {
         ids[ids.len() - 1]
     }
 
-    /// The node just before this one, its predecessor.
+    /// The predecessor of this node, just before it in the chain.
     pub fn before(&self, id: NodeId) -> Option<NodeId>
         ensures { result ≡ predecessor self.now id }
     {
         before_in(&self.ids, id)
     }
 
-    /// The node just after this one, its successor.
+    /// The successor of this node, just after it in the chain.
     pub fn after(&self, id: NodeId) -> Option<NodeId>
         ensures { result ≡ successor self.now id }
     {
         after_in(&self.ids, id)
     }
 
-    /// Whether the node stands in it.
+    /// Whether the configuration has this node.
     pub fn has(&self, id: NodeId) -> bool
         ensures { result ≡ has self.now id }
     {

@@ -1,4 +1,4 @@
-// The configuration service's list: each configuration has fewer nodes than the last.
+// The configuration service's list: each configuration has fewer nodes than the one before.
 ghost use Rattle.std.specs.Prelude.{◌≡◌, ◌<◌, ◌≤◌, length, nat_lt};
 ghost use Rattle.std.specs.Prelude.{IfOk, IfErr, IsTrue, MatchOption};
 ghost use Rattle.chain_model.specs.Configuration.{Lawful, at_epoch, is_part};
@@ -12,7 +12,7 @@ use std::marker::Model;
 /// The greatest number of configurations.
 const MAX_CONFIGS: usize = 16;
 
-/// The master's list of configurations: 1 to 16 of them, each later one with nodes left out.
+/// The configuration service's list: 1 to 16 configurations, each later one with nodes left out.
 #[derive(Debug, Drop)]
 pub struct Configs {
     configs: Vec<Config>,
@@ -41,7 +41,7 @@ fn all_smaller(configs: &[Config]) -> bool
     }
 }
 
-// Whether some of the ids are a part of the others, order kept.
+// Whether the ids are a sublist of the others.
 fn is_part(ids: &[NodeId], others: &[NodeId]) -> bool
     ensures { result ≡ is_part ids.now others.now }
 {
@@ -66,7 +66,7 @@ fn all_in_order(configs: &[Config]) -> bool
 }
 
 impl Configs {
-    /// The list of these configurations, the first first.
+    /// Checks and builds a list of these configurations, that of epoch 0 first.
     pub fn new(configs: Vec<Config>) -> Result<Configs, ConfigError>
         ensures made { IfOk result (λ it. (it ≡ configs.items) × Lawful configs.items) }
         ensures refused { IfErr result (IsLeast (λ fault. ListHas fault configs.items)) }
@@ -88,7 +88,7 @@ impl Configs {
         Ok(Configs { configs })
     }
 
-    /// The configuration that nodes are created with.
+    /// The configuration of epoch 0, with which nodes are created.
     pub fn first(&self) -> &Config
         ensures first { result.now ≡ at_epoch self.now 0 }
         ensures lawful { Lawful self.now }

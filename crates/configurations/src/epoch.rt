@@ -3,7 +3,7 @@ ghost use Rattle.std.specs.Prelude.{◌≡◌, ◌≤◌, SomeIff};
 
 use std::marker::Model;
 
-/// The place of a configuration in the master's list: 0 to 15.
+/// The place of a configuration in the configuration service's list: 0 to 15.
 #[derive(Clone, Copy, Debug, PartialEq, Eq, PartialOrd, Ord)]
 pub struct Epoch {
     epoch: u32,

@@ -1,11 +1,11 @@
-// The faults of a configuration, and of a list of them.
+// The refusals of a configuration, and of a list of them.
 ghost use Rattle.std.specs.Prelude.{◌≡◌};
 ghost use Rattle.configurations.specs.declared.error.ConfigError.TheVariants.{Memory};
 
 use std::alloc::{AllocError, AllocFailed};
 use thiserror::Error;
 
-/// Why ids are no configuration, or configurations no list of a master: the first that applies.
+/// Why ids are no configuration, or configurations no lawful list: the first reason that applies.
 #[derive(Clone, Copy, Debug, PartialEq, Eq, Error)]
 pub enum ConfigError {
     #[error("there is none")]

@@ -1,4 +1,4 @@
--- What the calls of a disk answer, and what they do to it.
+-- The answers of a disk's calls, and their effects on its state.
 use Rattle.std.specs.Prelude.{◌≡◌, ℕ, ◌+◌, ◌-◌, ◌^◌, ◌<◌, ◌≤◌, ◌↔◌, ◌⊎◌}
 use Rattle.std.specs.Prelude.{List, length, take, drop, Contains}
 use Rattle.std.specs.Prelude.{Option, Some, None, IsSome, IsNone, IsSomeAnd}
@@ -10,13 +10,13 @@ use Rattle.disk.specs.declared.error.DiskError.TheVariants.{Failed, NoFile, Shor
 use Rattle.disk.specs.State.{State, Slot, seen, IsSame, Changes, MayHave}
 use Rattle.disk.specs.State.{written, cut_to, synced, removed}
 
--- a write of so many bytes from this place on would end past the greatest place of a file
+-- a write of this length from this place on would end past the greatest place of a file
 abbrev pub EndsOutOfRange : ℕ → ℕ → Type 0
 EndsOutOfRange at len = 2 ^ 63 ≤ at + len
 
--- ---- what every call keeps
+-- ---- the clause that every call keeps
 
--- A count of failures has risen. At its last value it stays, and each call counts.
+-- The count of failures has risen. Its last value counts as risen too.
 abbrev pub HasRisen : ℕ → ℕ → Type 0
 HasRisen before now = before < 2 ^ 64 - 1 → before < now
 
@@ -25,25 +25,25 @@ pub record Rises (before now : ℕ) : Type 0 where
   pub below : before < 2 ^ 64 - 1 → now ≡ before + 1
   pub last : 2 ^ 64 - 1 ≤ before → now ≡ before
 
--- What a call keeps of a disk with these ghost members, of an honest one and of any other. The call
--- `has_failed` where it answers that the device failed.
+-- The effect of a call on a disk with these ghost members, honest or not. `has_failed` says that
+-- the call reports a failure of the device.
 pub record KeepsBy {D : Type 0} (is_honest : D → Type 0) (state : D → State) (failures : D → ℕ)
     (is_reliable : D → Type 0) (old new : D) (has_failed cause : Type 0)
     (IsKept : State → State → Type 0) : Type 0 where
-  -- the disk is honest now exactly if it was
+  -- the disk is honest after the call exactly if it was before
   pub honest : is_honest new ↔ is_honest old
-  -- a failure is answered only where the count rises
+  -- a failure is reported only where the count rises
   pub failed : has_failed → Rises (failures old) (failures new)
-  -- the count doesn't change otherwise
+  -- otherwise the count stays the same
   pub count : (has_failed → ⊥) → failures new ≡ failures old
   -- a reliable disk fails only for this cause
   pub only : is_reliable old → has_failed → cause
-  -- it is reliable after a call that has not failed
+  -- the disk stays reliable after a call that has not failed
   pub reliable : is_reliable old → (has_failed → ⊥) → is_reliable new
-  -- the files of an honest disk are kept so
+  -- the files of an honest disk keep this relation
   pub files : is_honest old → IsKept (state old) (state new)
 
--- What a call of the disk itself keeps. At the count's last value it answers nothing but a failure.
+-- The effect of one of the disk's own calls. At the last value of the count it only fails.
 pub record CallKeeps {D T : Type 0} (is_honest : D → Type 0) (state : D → State)
     (failures : D → ℕ) (is_reliable : D → Type 0) (old new : D) (result : Result T DiskError)
     (cause : Type 0) (IsKept : State → State → Type 0) : Type 0 where
@@ -53,30 +53,30 @@ pub record CallKeeps {D T : Type 0} (is_honest : D → Type 0) (state : D → St
 
 -- ---- the calls that read
 
--- the refusals of a call that needs a file, and so many bytes of it
+-- the refusals of a call that needs a file of at least this length
 abbrev pub Refuses : DiskError → State → ℕ → ℕ → Type 0
 Refuses Failed disk file len = Unit {0}
 Refuses NoFile disk file len = IsNone (seen (disk file))
 Refuses Short disk file len = IsSomeAnd (seen (disk file)) (λ bytes. length bytes < len)
 Refuses Memory disk file len = Unit {0}
 
--- the numbers of the files that are there, rising
+-- the list has the numbers of the existing files, in ascending order
 pub record Lists (disk : State) (files : List ℕ) : Type 0 where
   pub rising : IsStrictlyIncreasing files
   pub exact : (file : ℕ) → Contains files file ↔ IsSome (seen (disk file))
 
--- what `files` answers
+-- the answers of `files`
 abbrev pub Files : State → Result (Vec ℕ) DiskError → Type 0
 Files disk (Ok files) = Lists disk files.items
 Files disk (Err e) = (e ≡ Failed) ⊎ (e ≡ Memory)
 
--- what `length` answers; no file is shorter than 0
+-- the answers of `length`; lengths are at least 0
 abbrev pub Lengths : State → ℕ → Result ℕ DiskError → Type 0
 Lengths disk file (Ok len) =
     IsSomeAnd (seen (disk file)) (λ bytes. (len ≡ length bytes) × (len < 2 ^ 63))
 Lengths disk file (Err e) = Refuses e disk file 0
 
--- what `read` answers, and leaves in its buffer of so many bytes
+-- the answers of `read`, and the content of its buffer of this length
 abbrev pub Reads : {T : Type 0} → State → ℕ → ℕ → ℕ → Result T DiskError → List ℕ → Type 0
 Reads disk file at len (Ok _) into =
     IsSomeAnd (seen (disk file))
@@ -85,27 +85,27 @@ Reads disk file at len (Err e) into = Refuses e disk file (at + len)
 
 -- ---- the calls that change
 
--- what a failed call that goes to this slot leaves, and one that was refused
+-- the state after a call for this slot that failed or was refused
 abbrev pub Fails : DiskError → State → ℕ → Slot → State → Type 0
 Fails Failed old file slot new = MayHave old new file slot
 Fails NoFile old file slot new = IsSame old new
 Fails Short old file slot new = IsSame old new
 Fails Memory old file slot new = IsSame old new
 
--- a place where a write of the file may begin: 0 makes the file
+-- a place where a write of the file may begin: place 0 creates the file
 abbrev pub CanBegin : Option (List ℕ) → ℕ → Type 0
 CanBegin None at = at ≡ 0
 CanBegin (Some bytes) at = at ≤ length bytes
 
--- The refusals that name no failure come only to a write that fits, and the want of a file only
--- to one that doesn't make it.
+-- Only a failure of the device refuses a write that ends out of range. The file's absence refuses
+-- only a write that does not create it.
 abbrev pub CanRefuse : DiskError → ℕ → ℕ → Type 0
 CanRefuse Failed at len = Unit {0}
 CanRefuse NoFile at len = (0 < at) × (at + len < 2 ^ 63)
 CanRefuse Short at len = at + len < 2 ^ 63
 CanRefuse Memory at len = at + len < 2 ^ 63
 
--- what `write_at` answers and leaves
+-- the answers of `write_at`, and the state after it
 abbrev pub Writes : {T : Type 0} → State → ℕ → ℕ → List ℕ → Result T DiskError → State → Type 0
 Writes old file at bytes (Ok _) new =
     CanBegin (seen (old file)) at
@@ -116,7 +116,7 @@ Writes old file at bytes (Err e) new =
     × Refuses e old file at
     × CanRefuse e at (length bytes)
 
--- what `cut` answers and leaves
+-- the answers of `cut`, and the state after it
 abbrev pub Cuts : {T : Type 0} → State → ℕ → ℕ → Result T DiskError → State → Type 0
 Cuts old file len (Ok _) new =
     IsSomeAnd (seen (old file)) (λ bytes. len ≤ length bytes)
@@ -124,12 +124,12 @@ Cuts old file len (Ok _) new =
 Cuts old file len (Err e) new =
     Fails e old file (cut_to len (old file)) new × Refuses e old file len
 
--- what `sync` answers and leaves; where it failed, what it was
+-- the answers of `sync`, and the state after it; a failed sync adds no crash outcome
 abbrev pub Syncs : {T : Type 0} → State → ℕ → Result T DiskError → State → Type 0
 Syncs old file (Ok _) new = IsSome (seen (old file)) × Changes old new file (synced (old file))
 Syncs old file (Err e) new = Fails e old file (old file) new × Refuses e old file 0
 
--- what `remove` answers and leaves
+-- the answers of `remove`, and the state after it
 abbrev pub Removes : {T : Type 0} → State → ℕ → Result T DiskError → State → Type 0
 Removes old file (Ok _) new = IsSome (seen (old file)) × Changes old new file (removed (old file))
 Removes old file (Err e) new = Fails e old file (removed (old file)) new × Refuses e old file 0

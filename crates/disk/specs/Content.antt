@@ -1,8 +1,8 @@
--- A file that was synced before.
+-- A file that has been synced at least once.
 use Rattle.std.specs.Prelude.{ℕ, List}
 use Rattle.disk.specs.declared.touch.Touch.{Touch}
 
--- what a read gives, what the last sync kept, and what was done since
+-- the bytes that a read returns, the synced bytes, and the writes and cuts since
 pub record Content : Type 0 where
   pub bytes : List ℕ
   pub kept : List ℕ

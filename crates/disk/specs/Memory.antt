@@ -5,31 +5,31 @@ use Rattle.std.specs.BTreeMap.{is_at}
 use Rattle.std.specs.Ordering.{nat_cmp}
 use Rattle.disk.specs.State.{Slot, Absent, Fresh, Kept, State, AgreesOff}
 
--- the slots by number, and how often a call failed
+-- the slots by number, and the count of failed calls
 pub record Slots : Type 0 where
   pub slots : List (ℕ × Slot)
   pub failures : ℕ
 
--- a call that fits does not fail: the count of failures is below its last value
+-- a call with valid arguments does not fail: the count of failures is below its last value
 abbrev pub IsReliable : Slots → Type 0
 IsReliable disk = disk.failures < 2 ^ 64 - 1
 
--- what stands under no number was never there
+-- the slot of a number: absent where the list has none
 abbrev pub slot_found : Option Slot → Slot
 slot_found None = Absent None
 slot_found (Some slot) = slot
 
--- a disk in memory, by file number
+-- a disk in memory, as a state by file number
 abbrev pub state_of : List (ℕ × Slot) → State
 state_of slots file = slot_found (lookup (is_at (nat_cmp file)) slots)
 
--- What the last sync kept agrees with what a read gives, in the places that are not loose. In every
--- state that calls reach it does.
+-- The synced bytes agree with the bytes that a read returns, in all synced places. Every reachable
+-- state has this property.
 abbrev pub Agrees : Slot → Type 0
 Agrees (Absent back) = Unit {0}
 Agrees (Fresh bytes back) = Unit {0}
 Agrees (Kept bytes kept touches) = AgreesOff (length kept) touches kept bytes
 
--- so it is under every number
+-- this holds under every number
 abbrev pub AllAgree : State → Type 0
 AllAgree disk = (file : ℕ) → Agrees (disk file)

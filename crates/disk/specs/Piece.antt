@@ -1,7 +1,7 @@
--- Some bytes of a buffer.
+-- A run of bytes in a buffer.
 use Rattle.std.specs.Prelude.{ℕ, List}
 
--- the bytes from this place on
+-- the bytes of a buffer from this place on
 pub record Piece : Type 0 where
   pub at : ℕ
   pub bytes : List ℕ

@@ -1,4 +1,4 @@
-// The buffer of a file, and the bytes of it that writes have covered.
+// The buffer of a file, and the bytes in it that writes have overwritten.
 ghost use Rattle.std.specs.Prelude.{◌≡◌, ◌≤◌, ◌+◌, [], length, take, drop, OnOk, OnErr, IfOk};
 ghost use Rattle.disk.specs.State.{overwritten};
 ghost use Rattle.disk.specs.Buffer.{uncovered, AllWithin};
@@ -6,7 +6,7 @@ ghost use Rattle.disk.specs.Buffer.{uncovered, AllWithin};
 use std::alloc::{AllocError, Global};
 use std::marker::Model;
 
-// Bytes of a buffer that a write has covered, by the place where they began.
+// Bytes of a buffer that a write has overwritten, and the place where they began.
 #[derive(Debug, Drop)]
 pub struct Covered {
     at: usize,
@@ -42,7 +42,7 @@ pub fn clone_all(alloc: Global, covered: &[Covered]) -> Result<Vec<Covered>, All
     Ok(all)
 }
 
-// What a write of so many bytes covers in the buffer.
+// The bytes of the buffer that a write of this length overwrites.
 pub fn covered_by(
     alloc: Global,
     buffer: &[u8],
@@ -58,7 +58,7 @@ pub fn covered_by(
     Ok(Covered { at, bytes })
 }
 
-// Puts bytes over those from a place on, and past their end.
+// Overwrites the buffer from a place on, and extends it where the bytes end past its end.
 pub fn overwrite(old: &mut Vec<u8>, at: usize, bytes: &[u8]) -> Result<(), AllocError>
     requires { at ≤ length old.old.items }
     ensures ok { OnOk result (old.new.items ≡ overwritten old.old.items at bytes.now) }
@@ -70,7 +70,7 @@ pub fn overwrite(old: &mut Vec<u8>, at: usize, bytes: &[u8]) -> Result<(), Alloc
     Ok(())
 }
 
-// Puts bytes over as many from a place on.
+// Overwrites bytes of the buffer within its length.
 fn put_over(old: &mut Vec<u8>, at: usize, bytes: &[u8])
     requires { at + length bytes.now ≤ length old.old.items }
     ensures { old.new.items ≡ overwritten old.old.items at bytes.now }
@@ -79,7 +79,7 @@ fn put_over(old: &mut Vec<u8>, at: usize, bytes: &[u8])
     place.copy_from_slice(bytes);
 }
 
-// Puts the covered bytes back, the latest first.
+// Restores the overwritten bytes, the latest first.
 pub fn uncover(buffer: &mut Vec<u8>, covered: &mut Vec<Covered>)
     requires { AllWithin (length buffer.old.items) covered.old.items }
     ensures back { buffer.new.items ≡ uncovered buffer.old.items covered.old.items }

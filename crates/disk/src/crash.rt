@@ -1,13 +1,13 @@
-// A disk that can be made to fail and to crash.
+// Disks that can be made to fail and to crash.
 ghost use Rattle.std.specs.Prelude.{◌≡◌, ◌↔◌};
 ghost use Rattle.disk.specs.State.{IsSame, MayLeave, contents};
 ghost use Rattle.disk.specs.Crashes.{Crashes};
 
 use crate::{Disk, Fault, Junk};
 
-/// A disk that can be made to fail and to crash.
+/// A disk that can be made to fail and to crash, for tests and simulation.
 pub trait Crash: Disk {
-    /// Readies a fault for the calls to come. It has no effect yet.
+    /// Arms a fault for the next calls. It has no effect yet.
     fn arm(&mut self, fault: Fault)
         ensures honest { Self.is_honest self.new ↔ Self.is_honest self.old }
         ensures count { Self.failures self.new ≡ Self.failures self.old }
@@ -16,7 +16,7 @@ pub trait Crash: Disk {
         ensures same { Self.is_honest self.old →
             IsSame (Self.state self.old) (Self.state self.new) };
 
-    /// Stops the machine and starts it again. It takes no memory.
+    /// Crashes and restarts the machine. It allocates no memory.
     fn crash(&mut self, junk: Junk)
         ensures honest { Self.is_honest self.new ↔ Self.is_honest self.old }
         ensures count { Self.failures self.new ≡ Self.failures self.old }

@@ -1,5 +1,5 @@
-// A disk, by what an honest one does. Whether a disk is honest is a fact that a proof may have of
-// it or not.
+// The interface of a disk, by the behaviour of an honest one. Whether a given disk is honest is an
+// assumption of its user.
 ghost use Rattle.std.specs.Prelude.{ℕ, length, IsErrOf};
 ghost use Rattle.disk.specs.State.{State, IsSame, IsSameBut};
 ghost use Rattle.disk.specs.Calls.{CallKeeps, EndsOutOfRange, Files, Lengths, Reads};
@@ -7,39 +7,40 @@ ghost use Rattle.disk.specs.Calls.{Writes, Cuts, Syncs, Removes};
 
 use crate::DiskError;
 
-/// Files by number, and what a crash may leave of them.
+/// A device with numbered files, and the outcomes that a crash may leave of them.
 pub trait Disk {
-    /// The disk does what is said here. But for `kept` and `memory`, no clause says anything
-    /// without it.
+    /// The disk behaves as its contracts say. Without this fact only `kept` and `memory` say
+    /// anything.
     ghost is_honest: { Self → Type 0 };
 
-    /// What reads give, and what a crash at this moment may leave.
+    /// The content that reads return, and the outcomes of a crash at this moment.
     ghost state: { Self → State };
 
-    /// How often the device has failed.
+    /// The number of failures of the device so far.
     ghost failures: { Self → ℕ };
 
-    /// No fault awaits the disk, and its count of failures is below its last value: so a call that
-    /// fits does not fail. A disk of which nothing is known never claims it.
+    /// No fault is armed, and the count of failures is below its last value. So a call with valid
+    /// arguments does not fail. A disk of which nothing is known is never reliable.
     ghost is_reliable: { Self → Type 0 };
 
-    /// `length`, `read`, `sync` and `remove` may allocate, as `files`, `write_at` and `cut` may.
+    /// Whether `length`, `read`, `sync` and `remove` may allocate memory; `files`, `write_at` and
+    /// `cut` always may.
     ghost allocates: { Type 0 };
 
-    /// The numbers of the files that are there, rising.
+    /// The numbers of the existing files, in ascending order.
     fn files(&mut self) -> Result<Vec<u64>, DiskError>
         ensures kept { CallKeeps is_honest state failures is_reliable self.old self.new
             result ⊥ IsSame }
         ensures files { is_honest self.old → Files (state self.old) result };
 
-    /// How many bytes the file has.
+    /// The length of the file in bytes.
     fn length(&mut self, file: u64) -> Result<u64, DiskError>
         ensures kept { CallKeeps is_honest state failures is_reliable self.old self.new
             result ⊥ IsSame }
         ensures memory { IsErrOf result DiskError.Memory → allocates }
         ensures length { is_honest self.old → Lengths (state self.old) file result };
 
-    /// Fills the buffer with the bytes from a place on. A refusal may leave anything in it.
+    /// Fills the buffer with the bytes from a place on. After a refusal its content is unspecified.
     fn read(&mut self, file: u64, at: u64, into: &mut [u8]) -> Result<(), DiskError>
         ensures kept { CallKeeps is_honest state failures is_reliable self.old self.new
             result ⊥ IsSame }
@@ -47,8 +48,9 @@ pub trait Disk {
         ensures reads { is_honest self.old →
             Reads (state self.old) file at (length into.old) result into.new };
 
-    /// Writes over what is there, and past its end. At place 0 it makes a file that is absent.
-    /// A write that would end past place 2^63 - 1 fails, and leaves a reliable disk as it was.
+    /// Overwrites bytes from a place on, and extends the file. At place 0 it creates an absent
+    /// file. A write that would end past place 2^63 - 1 fails, and leaves a reliable disk as it
+    /// was.
     fn write_at(&mut self, file: u64, at: u64, bytes: &[u8]) -> Result<(), DiskError>
         ensures kept { CallKeeps is_honest state failures is_reliable self.old self.new
             result (EndsOutOfRange at (length bytes.now)) (IsSameBut file) }
@@ -57,14 +59,14 @@ pub trait Disk {
         ensures writes { is_honest self.old →
             Writes (state self.old) file at bytes.now result (state self.new) };
 
-    /// Leaves the file its first so many bytes.
+    /// Truncates the file to a length.
     fn cut(&mut self, file: u64, length: u64) -> Result<(), DiskError>
         ensures kept { CallKeeps is_honest state failures is_reliable self.old self.new
             result ⊥ (IsSameBut file) }
         ensures cuts { is_honest self.old →
             Cuts (state self.old) file length result (state self.new) };
 
-    /// After it, a crash leaves of the file what a read gives.
+    /// Makes the file durable: a crash leaves exactly the bytes that a read returns.
     fn sync(&mut self, file: u64) -> Result<(), DiskError>
         ensures kept { CallKeeps is_honest state failures is_reliable self.old self.new
             result ⊥ (IsSameBut file) }
@@ -72,7 +74,7 @@ pub trait Disk {
         ensures syncs { is_honest self.old →
             Syncs (state self.old) file result (state self.new) };
 
-    /// Takes the file away. Until the next crash, one that was synced may be back after it.
+    /// Removes the file. Until the next crash, a file that was synced may reappear after a crash.
     fn remove(&mut self, file: u64) -> Result<(), DiskError>
         ensures kept { CallKeeps is_honest state failures is_reliable self.old self.new
             result ⊥ (IsSameBut file) }

@@ -1,10 +1,10 @@
-// What goes wrong with a device.
+// Faults of a device.
 ghost use Rattle.std.specs.Prelude.{◌≡◌, IfOk};
 
 use crate::Junk;
 use std::alloc::AllocError;
 
-/// What goes wrong with a device, by the number of the call, counted from 1.
+/// A fault of a device at a call, counted from 1.
 #[derive(Debug, Drop)]
 pub enum Fault {
     None,

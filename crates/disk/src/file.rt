@@ -1,4 +1,4 @@
-// A file of a disk in memory that was synced before.
+// A file of a disk in memory that has been synced at least once.
 ghost use Rattle.std.specs.Prelude.{◌≡◌, ◌≤◌, ◌+◌, [], ◌∷◌, ◌++◌, length, take, OnOk, OnErr, IfOk};
 ghost use Rattle.disk.specs.State.{overwritten};
 ghost use Rattle.disk.specs.Crashes.{torn};
@@ -9,8 +9,8 @@ use crate::tear::tear;
 use std::alloc::{AllocError, Global};
 use std::marker::Model;
 
-// The file's bytes are the first `len` of the buffer, which is cut by a sync alone. What a write
-// covers is saved, so that the synced bytes can be had back without a copy of them.
+// The file's bytes are the first `len` of the buffer, which only a sync shortens. Bytes that a
+// write overwrites are saved, so that the synced content can be restored without a copy.
 #[derive(Debug, Drop)]
 pub struct MemFile {
     buffer: Vec<u8>,
@@ -65,7 +65,7 @@ impl MemFile {
         &self.buffer[..self.len]
     }
 
-    /// Puts bytes over those from a place on, and past their end.
+    /// Overwrites bytes from a place on, and extends the file where they end past its end.
     pub fn write(&mut self, alloc: Global, at: usize, bytes: &[u8]) -> Result<(), AllocError>
         requires { at ≤ length self.old.bytes }
         ensures ok { OnOk result (self.new ≡ record {
@@ -90,7 +90,7 @@ impl MemFile {
         Ok(())
     }
 
-    /// The buffer stays, since what is cut may have to come back.
+    /// Truncates the file. The buffer stays, since a crash may restore the bytes behind the cut.
     pub fn cut(&mut self, len: usize) -> Result<(), AllocError>
         requires { len ≤ length self.old.bytes }
         ensures ok { OnOk result (self.new ≡ record {
@@ -105,7 +105,7 @@ impl MemFile {
         Ok(())
     }
 
-    /// What was written is kept from now on. Nothing is copied.
+    /// Makes the written bytes the synced content. Nothing is copied.
     pub fn sync(&mut self)
         ensures { self.new ≡
             record { bytes = self.old.bytes; kept = self.old.bytes; touches = [] } }
@@ -116,7 +116,7 @@ impl MemFile {
         self.touches.clear();
     }
 
-    /// The bytes as the last sync kept them.
+    /// The synced content.
     pub fn into_kept(self) -> Vec<u8>
         ensures { result.items ≡ self.kept }
     {
@@ -132,7 +132,7 @@ impl MemFile {
         buffer
     }
 
-    /// The bytes as they were written.
+    /// The written content.
     pub fn into_bytes(self) -> Vec<u8>
         ensures { result.items ≡ self.bytes }
     {
@@ -147,7 +147,7 @@ impl MemFile {
         buffer
     }
 
-    /// The bytes as they were written, with junk in the loose places.
+    /// The written content, with junk in the unsynced places.
     pub fn into_torn(self, junk: &[u8]) -> Vec<u8>
         ensures { result.items ≡ torn (length self.kept) self.touches junk.now self.bytes }
     {

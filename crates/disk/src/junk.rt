@@ -1,10 +1,10 @@
-// Which of the allowed outcomes a crash takes.
+// The choice among the allowed outcomes of a crash.
 ghost use Rattle.std.specs.Prelude.{◌≡◌, IfOk};
 
 use std::alloc::AllocError;
 use std::marker::Model;
 
-/// The bytes that a crash puts into loose places, from the first on, and from the first again.
+/// The bytes that a crash writes to the unsynced places, in order and repeated.
 #[derive(Debug, Drop)]
 pub struct JunkBytes {
     bytes: Vec<u8>,
@@ -40,14 +40,14 @@ impl JunkBytes {
     }
 }
 
-/// Which of the allowed outcomes a crash takes.
+/// The choice among the allowed outcomes of a crash.
 #[derive(Debug, Drop)]
 pub enum Junk {
-    /// Each file is as its last sync left it, and removed ones are back.
+    /// Each file has its synced content, and removed files reappear.
     Old,
-    /// Each file is as it was written, and removed ones are gone.
+    /// Each file has its written content, and removed files are gone.
     New,
-    /// As written, but the loose places of each file hold these bytes.
+    /// Each file has its written content, with these bytes in its unsynced places.
     Bytes(JunkBytes),
 }
 

@@ -1,4 +1,4 @@
-//! A disk as the layers above see it, and one in memory.
+//! The interface of a disk with its crash outcomes, and a disk in memory.
 #![tactic(auto)]
 
 mod buffer;

@@ -36,7 +36,7 @@ impl Model for MemDisk {
 const MAX_LEN: u64 = (1 << 63) - 1;
 
 impl MemDisk {
-    /// A disk with no files.
+    /// A disk without files.
     pub fn new(alloc: Global) -> MemDisk
         ensures empty { (file : ℕ) → state_of result.slots file ≡ Absent None }
         ensures count { result.failures ≡ 0 }
@@ -49,7 +49,7 @@ impl MemDisk {
         }
     }
 
-    // At the last value of the count each call fails.
+    // Fails where the count of failures is at its last value.
     fn at_work(&self) -> Result<(), DiskError>
         ensures ok { OnOk result (self.now.failures < 2 ^ 64 - 1) }
         ensures last { OnErr result (2 ^ 64 - 1 ≤ self.now.failures) }
@@ -61,7 +61,7 @@ impl MemDisk {
         Ok(())
     }
 
-    /// A disk with the same slots, and with the same failures behind it.
+    /// A disk with the same slots and the same count of failures.
     pub fn clone(&self) -> Result<MemDisk, AllocError>
         ensures same { IfOk result (λ disk.
             IsSame (state_of self.now.slots) (state_of disk.slots)) }
@@ -254,7 +254,7 @@ fn crash_in(alloc: Global, slots: &mut BTreeMap<u64, MemSlot>, junk: &Junk)
         slot.crash(alloc, junk);
         true
     });
-    // What is gone is forgotten.
+    // Drops the slots without a file.
     slots.retain(|_file, slot| slot.bytes().is_some());
 }
 

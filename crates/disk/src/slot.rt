@@ -1,4 +1,4 @@
-// What a disk in memory has under one file number.
+// The slot of a disk in memory under one file number.
 ghost use Rattle.std.specs.Prelude.{◌≡◌, ◌≤◌, length, None, option_map};
 ghost use Rattle.std.specs.Prelude.{OnOk, OnErr, IfOk, IsSomeAnd};
 ghost use Rattle.disk.specs.State.{Fresh, seen, written, cut_to, synced, removed};
@@ -47,7 +47,7 @@ impl MemSlot {
         }
     }
 
-    /// A file that was never there before.
+    /// A file that has not been synced, under a number without an earlier file.
     pub fn fresh(bytes: Vec<u8>) -> MemSlot
         ensures { result ≡ Fresh bytes.items None }
     {
@@ -124,7 +124,7 @@ impl MemSlot {
         };
     }
 
-    /// What a crash with this junk leaves.
+    /// Replaces the slot by the crash outcome of this junk.
     pub fn crash(&mut self, alloc: Global, junk: &Junk)
         ensures { self.new ≡ crashed junk.now self.old }
     {
@@ -151,7 +151,7 @@ fn clone_back(back: &Option<Vec<u8>>) -> Result<Option<Vec<u8>>, AllocError>
     }
 }
 
-// What the last sync left.
+// The content of the last sync.
 fn left_old(held: Held) -> Option<Vec<u8>>
     ensures { option_map (λ bytes. bytes.items) result ≡ left_by Junk.Old (slot_of held) }
 {
@@ -162,7 +162,7 @@ fn left_old(held: Held) -> Option<Vec<u8>>
     }
 }
 
-// What was written.
+// The written content.
 fn left_new(held: Held) -> Option<Vec<u8>>
     ensures { option_map (λ bytes. bytes.items) result ≡ left_by Junk.New (slot_of held) }
 {
@@ -173,7 +173,7 @@ fn left_new(held: Held) -> Option<Vec<u8>>
     }
 }
 
-// What was written, with junk in the loose places.
+// The written content, with junk in the unsynced places.
 fn left_torn(held: Held, junk: &[u8]) -> Option<Vec<u8>>
     ensures { option_map (λ bytes. bytes.items) result ≡
         left_by (Junk.Bytes junk.now) (slot_of held) }

@@ -1,4 +1,4 @@
-// Junk in the loose places of a file.
+// Junk in the unsynced places of a file.
 ghost use Rattle.std.specs.Prelude.{◌≡◌};
 ghost use Rattle.disk.specs.Crashes.{loosens, is_loose, torn};
 
@@ -21,7 +21,7 @@ fn is_loose(end: usize, touches: &[Touch], place: usize) -> bool
         .any(|touch| loosens(*touch, end as u64, place as u64))
 }
 
-// Puts the repeated junk into the loose places.
+// Writes the repeated junk to the unsynced places.
 pub fn tear(bytes: &mut [u8], end: usize, touches: &[Touch], junk: &[u8])
     ensures { bytes.new ≡ torn end touches.now junk.now bytes.old }
 {

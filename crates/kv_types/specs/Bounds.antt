@@ -4,7 +4,7 @@ use Rattle.kv_types.specs.declared.bounds.TheConstants.{MAX_KEY, MAX_VALUE, MAX_
 use Rattle.kv_types.specs.declared.bounds.TheConstants.{MAX_ROWS, MAX_PAGE, ROW_OVERHEAD}
 use Rattle.kv_types.specs.declared.bounds.TheConstants.{MAX_NUMBER}
 
--- lengths in bytes, but of the edits of a batch and of the rows of a page their number
+-- lengths in bytes, but the edits of a batch and the rows of a page are counted
 pub record BoundsAre : Type 0 where
   pub key : MAX_KEY ≡ 1024
   pub value : MAX_VALUE ≡ 16384

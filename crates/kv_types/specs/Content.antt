@@ -1,8 +1,8 @@
--- What a batch holds.
+-- The content of a batch.
 use Rattle.std.specs.Prelude.{List}
 use Rattle.kv_types.specs.declared.edit.Edit.{Edit}
 
--- what a batch holds: its edits in order, and nothing else
+-- the content of a batch: its edits in order
 abbrev pub BatchContent : Type 0
 BatchContent = List Edit
 

@@ -1,7 +1,7 @@
--- What limits a store may have.
+-- The ranges of a store's limits.
 use Rattle.std.specs.Prelude.{ℕ, ◌≤◌, ◌^◌}
 
--- each limit in its range: of a log, of level 0, of a table, of level 1 and of the cache
+-- each limit lies in its range: of a log, of level 0, of a table, of level 1 and of the cache
 pub record IsInRange (log l0 table level cache : ℕ) : Type 0 where
   pub log_range : (16 ≤ log) × (log ≤ 2 ^ 30)
   pub l0_range : l0 ≤ 64

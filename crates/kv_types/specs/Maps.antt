@@ -1,4 +1,4 @@
--- The map that a list of batches makes.
+-- The map that a list of batches builds.
 use Rattle.std.specs.Prelude.{◌≡◌, ◌≢◌, ◌↔◌, ℕ, List, [], ◌∷◌, ◌++◌, Option, Some, None}
 use Rattle.std.specs.Prelude.{if◌then◌else◌}
 use Rattle.std.specs.List.{flat_map, All}
@@ -13,7 +13,7 @@ abbrev pub key_of : Edit → List ℕ
 key_of (Put key value) = key
 key_of (Delete key) = key
 
--- what it leaves there: a put its value, a deletion nothing
+-- the value of the key after an edit: a put leaves its value, a deletion none
 abbrev pub left_by : Edit → Option (List ℕ)
 left_by (Put key value) = Some value
 left_by (Delete key) = None
@@ -22,7 +22,7 @@ left_by (Delete key) = None
 abbrev pub joined : List BatchContent → List Edit
 joined batches = flat_map edits_of batches
 
--- this is the last edit of the key
+-- the edit is the last one of the key
 pub record IsLastEdit (edits : List Edit) (key : List ℕ) (edit : Edit) : Type 0 where
   pub before : List Edit
   pub after : List Edit
@@ -30,11 +30,11 @@ pub record IsLastEdit (edits : List Edit) (key : List ℕ) (edit : Edit) : Type 
   pub of_key : key_of edit ≡ key
   pub none_later : All (λ later. key_of later ≢ key) after
 
--- the batches give the key this value: its last edit puts it
+-- the batches map the key to this value: its last edit puts it
 abbrev pub HasValue : List BatchContent → List ℕ → List ℕ → Type 0
 HasValue batches key value = IsLastEdit (joined batches) key (Put key value)
 
--- what the last edit of the key leaves, if the key has an edit
+-- the result of the key's last edit, if the key has an edit
 abbrev pub last_edit : List Edit → List ℕ → Option (Option (List ℕ))
 last_edit [] key = None
 last_edit (edit ∷ edits) key =
@@ -45,7 +45,7 @@ last_edit (edit ∷ edits) key =
 abbrev pub map_of : List BatchContent → List ℕ → Option (List ℕ)
 map_of batches key = option_flatten (last_edit (joined batches) key)
 
--- the function gives exactly the values that the batches give
+-- the function has exactly the values that the batches put
 abbrev pub MapsAgree : Type 0
 MapsAgree = (batches : List BatchContent) (key value : List ℕ) →
     (map_of batches key ≡ Some value) ↔ HasValue batches key value

@@ -1,4 +1,4 @@
--- The rows of a map in a range, and the page of them that an answer holds.
+-- The rows of a map in a range, and the page of them in an answer.
 use Rattle.std.specs.Prelude.{◌≡◌, ◌≢◌, ◌⊎◌, ◌↔◌, ◌≤◌, ◌+◌, ◌-◌, ℕ, zero, suc, List, [], ◌∷◌, ◌++◌}
 use Rattle.std.specs.Prelude.{length, reverse, Bool, true, false, not, ◌&&◌, IsTrue, nat_lt, nat_le}
 use Rattle.std.specs.Prelude.{if◌then◌else◌, Option, Some, None, IfSome}
@@ -14,44 +14,44 @@ use Rattle.kv_types.specs.Order.{IsBelow}
 use Rattle.kv_types.specs.Maps.{key_of, joined, map_of}
 use Rattle.kv_types.specs.Spans.{Span, Rows}
 
--- a map gives a key its value, or none
+-- a map: the value of each key, or none
 abbrev pub Map : Type 0
 Map = List ℕ → Option (List ℕ)
 
--- from <= key < to
+-- the key lies in the range: from <= key < to
 abbrev pub IsWithin : Span → List ℕ → Type 0
 IsWithin range key =
     ((range.from ≡ key) ⊎ IsBelow range.from key) × IfSome range.to (λ to. IsBelow key to)
 
--- the row is one of the map's, and its key lies in the range
+-- the row is one of the map, and its key lies in the range
 abbrev pub IsRowOf : Map → Span → Row → Type 0
 IsRowOf map range row = (map row.key ≡ Some row.value) × IsWithin range row.key
 
--- a walk forward meets lesser keys first, a walk backward greater ones
+-- a forward walk visits lesser keys first, a backward walk greater keys
 abbrev pub ComesBefore : Bool → Row → Row → Type 0
 ComesBefore false a b = IsBelow a.key b.key
 ComesBefore true a b = IsBelow b.key a.key
 
--- these are all rows of the map in the range, in the order of the walk
+-- the rows are all rows of the map in the range, in the order of the walk
 pub record IsWalk (map : Map) (range : Span) (rows : List Row) : Type 0 where
   pub each : All (IsRowOf map range) rows
   pub all : (row : Row) → IsRowOf map range row → Contains rows row
   pub ordered : AllPairs (ComesBefore range.backward) rows
 
--- a row counts the bytes of its key and of its value, and a few more
+-- the size of a row: the bytes of its key and its value, and a fixed overhead
 abbrev pub row_size : Row → ℕ
 row_size row = length row.key + length row.value + ROW_OVERHEAD
 
--- the rows are so many at most, and of so many bytes at most
+-- the rows stay within the limits on their number and their bytes
 abbrev pub KeepsLimits : ℕ → ℕ → List Row → Type 0
 KeepsLimits limit size rows = (length rows ≤ limit) × (sum_by row_size rows ≤ size)
 
--- with the next of the rows left, the limits are not kept
+-- the next row would exceed the limits
 abbrev pub IsFull : ℕ → ℕ → List Row → List Row → Type 0
 IsFull limit size rows [] = Unit {0}
 IsFull limit size rows (next ∷ left) = KeepsLimits limit size (rows ++ next ∷ []) → ⊥
 
--- the longest beginning of the walk that keeps the limits, and whether rows were left
+-- the longest prefix of the walk within the limits, and whether rows remain behind it
 pub record IsPage (map : Map) (range : Span) (page : Rows) : Type 0 where
   pub left : List Row
   pub walk : IsWalk map range (page.rows ++ left)
@@ -61,7 +61,7 @@ pub record IsPage (map : Map) (range : Span) (page : Rows) : Type 0 where
 
 -- ---- the page as a function
 
--- the keys in byte order with one more, which stands there once
+-- inserts a key into keys in byte order, unless it is there already
 abbrev pub with_key : List ℕ → List (List ℕ) → List (List ℕ)
 with_key key [] = key ∷ []
 with_key key (first ∷ keys) =
@@ -73,13 +73,13 @@ abbrev pub keys_of : List Edit → List (List ℕ)
 keys_of [] = []
 keys_of (edit ∷ edits) = with_key (key_of edit) (keys_of edits)
 
--- the test of `IsWithin`
+-- the decision procedure of `IsWithin`
 abbrev pub is_within : Span → List ℕ → Bool
 is_within range key =
     not (is_lt (slice_cmp nat_cmp key range.from)) && option_map_or
     (λ to. is_lt (slice_cmp nat_cmp key to)) range.to true
 
--- the row of a key in the range that has a value
+-- the row of a key that lies in the range and has a value
 abbrev pub row_at : List BatchContent → Span → List ℕ → Option Row
 row_at batches range key =
     if is_within range key then option_map (λ value. record { key = key; value = value })
@@ -91,7 +91,7 @@ walk_of batches range =
     let rows = filter_map (row_at batches range) (keys_of (joined batches)) in
     if range.backward then reverse rows else rows
 
--- the longest beginning that keeps the limits
+-- the longest prefix of the rows within the limits
 abbrev pub beginning : ℕ → ℕ → List Row → List Row
 beginning zero size rows = []
 beginning (suc limit) size [] = []
@@ -105,11 +105,11 @@ page_of batches range =
     let rows = beginning range.limit MAX_PAGE walk in
     record { rows = rows; more = nat_lt (length rows) (length walk) }
 
--- the function gives a page of the map of the batches
+-- the function returns a page of the map of the batches
 abbrev pub PagesAgree : Type 0
 PagesAgree = (batches : List BatchContent) (range : Span)
     → IsPage (map_of batches) range (page_of batches range)
 
--- a map has one page in a range
+-- a map has at most one page in a range
 abbrev pub OnePage : Type 0
 OnePage = (map : Map) (range : Span) (p q : Rows) → IsPage map range p → IsPage map range q → p ≡ q

@@ -9,36 +9,36 @@ use Rattle.kv_types.specs.declared.error.KvError.{KvError}
 use Rattle.kv_types.specs.declared.error.KvError.TheVariants.{BadBytes, Memory}
 use Rattle.kv_types.specs.Content.{BatchContent}
 
--- one reading after another
+-- one reading after another, or failure
 infixl 10 ◌>>=◌
 abbrev pub ◌>>=◌ : {A B : Type 0} → Option A → (A → Option B) → Option B
 (Some x) >>= f = f x
 None >>= f = None
 
--- a refusal: BadBytes only where nothing is read
+-- the cause of a refusal: `BadBytes` only where nothing can be read
 abbrev pub Fails : {Y : Type 0} → KvError → Option Y → Type 0
 Fails BadBytes read = read ≡ None
 Fails Memory read = Unit {0}
 Fails _ read = ⊥
 
--- what a function returned, seen by view, is what was read, unless memory ran out
+-- a function's result, seen by `view`, is what was read, unless memory ran out
 abbrev pub Gives : {X Y : Type 0} → (X → Y) → Result X KvError → Option Y → Type 0
 Gives view (Ok x) read = read ≡ Some (view x)
 Gives view (Err e) read = Fails e read
 
--- a number of two bytes, and the bytes after it
+-- a number of two bytes, and the bytes behind it
 abbrev pub number_at : List ℕ → Option (ℕ × List ℕ)
 number_at bytes =
     if nat_lt (length bytes) 2 then None else Some (from_be_bytes w16 (take 2 bytes), drop 2 bytes)
 
--- the bytes behind their length, which is at most the limit, and the bytes after them
+-- the bytes behind their length, if it is at most the limit, and the bytes behind them
 unfoldable pub text_at : ℕ → List ℕ → Option (List ℕ × List ℕ)
 text_at limit bytes = do
   n ← number_at bytes
   if nat_lt limit n.0 then None else
       (if nat_lt (length n.1) n.0 then None else Some (take n.0 n.1, drop n.0 n.1))
 
--- an edit, by its first byte, and the bytes after it
+-- an edit, by its first byte, and the bytes behind it
 unfoldable pub edit_at : List ℕ → Option (Edit × List ℕ)
 edit_at [] = None
 edit_at (zero ∷ rest) = None
@@ -51,7 +51,7 @@ edit_at (suc (suc zero) ∷ rest) = do
   Some (Delete key.0, key.1)
 edit_at (suc (suc (suc b)) ∷ rest) = None
 
--- so many edits, and the bytes after them
+-- a given number of edits, and the bytes behind them
 unfoldable pub edits_at : ℕ → List ℕ → Option (List Edit × List ℕ)
 edits_at zero bytes = Some ([], bytes)
 edits_at (suc n) bytes = do
@@ -59,7 +59,7 @@ edits_at (suc n) bytes = do
   others ← edits_at n first.1
   Some (first.0 ∷ others.0, others.1)
 
--- the edits of a batch, spelled within the limit, and the bytes after them
+-- the edits of a batch, spelled within the limit, and the bytes behind them
 unfoldable pub batch_at : List ℕ → Option (BatchContent × List ℕ)
 batch_at bytes = do
   n ← number_at bytes
@@ -67,7 +67,7 @@ batch_at bytes = do
     edits ← edits_at n.0 n.1
     if nat_lt MAX_BATCH (length bytes - length edits.1) then None else Some edits)
 
--- the edits of a batch, where nothing is behind them
+-- the edits of a batch, if no bytes are left behind them
 unfoldable pub batch_of : List ℕ → Option BatchContent
 batch_of bytes =
     if nat_lt MAX_BATCH (length bytes) then None else do

@@ -1,4 +1,4 @@
--- What a batch is, and its one spelling.
+-- The batches, and the one spelling of each.
 use Rattle.std.specs.Prelude.{◌≡◌, ℕ, ◌≤◌, List, [], ◌∷◌, ◌++◌, length}
 use Rattle.std.specs.List.{flat_map, All}
 use Rattle.std.specs.Int.{w16, to_be_bytes}
@@ -7,7 +7,7 @@ use Rattle.kv_types.specs.declared.edit.Edit.{Edit}
 use Rattle.kv_types.specs.declared.edit.Edit.TheVariants.{Put, Delete}
 use Rattle.kv_types.specs.Content.{BatchContent, edits_of}
 
--- two bytes of length, and that many bytes
+-- a length in two bytes, and that many bytes
 abbrev pub text : List ℕ → List ℕ
 text bytes = to_be_bytes w16 (length bytes) ++ bytes
 
@@ -15,7 +15,7 @@ abbrev pub edit_text : Edit → List ℕ
 edit_text (Put key value) = 1 ∷ text key ++ text value
 edit_text (Delete key) = 2 ∷ text key
 
--- two bytes that count the edits, and the edits in order
+-- the number of edits in two bytes, and the edits in order
 abbrev pub spelling : BatchContent → List ℕ
 spelling batch =
     to_be_bytes w16 (length (edits_of batch)) ++ flat_map edit_text (edits_of batch)
@@ -32,7 +32,7 @@ pub record IsBatch (batch : BatchContent) : Type 0 where
   pub short : length (spelling batch) ≤ MAX_BATCH
   pub each : All IsEdit (edits_of batch)
 
--- no spelling begins another, and no two batches have one spelling
+-- no spelling is a prefix of another, and no two batches have the same spelling
 abbrev pub SpellingsDiffer : Type 0
 SpellingsDiffer = (a b : BatchContent) (rest : List ℕ) → IsBatch a → IsBatch b →
     spelling a ++ rest ≡ spelling b → (a ≡ b) × (rest ≡ [])

@@ -9,7 +9,7 @@ use crate::{Edit, KvError};
 use std::alloc::{AllocError, Global};
 use std::marker::Model;
 
-/// 1 to 256 edits in order, spelled in at most 65,536 bytes.
+/// A batch: 1 to 256 edits in order, spelled in at most 65,536 bytes.
 #[derive(Debug, Drop)]
 pub struct Batch {
     edits: Vec<Edit>,
@@ -61,7 +61,7 @@ impl Batch {
         &self.edits
     }
 
-    /// Spells the batch behind what `out` holds.
+    /// Appends the spelling of the batch to `out`.
     pub fn spell_into(&self, out: &mut Vec<u8>) -> Result<(), AllocError>
         ensures spelled { OnOk result (out.new.items ≡ out.old.items ++ spelling self.now) }
         ensures batch { IsBatch self.now }
@@ -69,7 +69,7 @@ impl Batch {
         put_edits(out, &self.edits)
     }
 
-    /// The batch at the front of the bytes, and the bytes behind it.
+    /// Reads the batch at the front of the bytes, and returns it with the bytes behind it.
     pub fn read_from(alloc: Global, bytes: &[u8]) -> Result<(Batch, &[u8]), KvError>
         ensures found { IfOk result (λ x. (bytes.now ≡ spelling x.0 ++ x.1.now) × IsBatch x.0) }
         ensures bad { IsErrOf result KvError.BadBytes → (batch : BatchContent) (rest : List ℕ)
@@ -81,7 +81,7 @@ impl Batch {
         Ok((Batch { edits }, rest))
     }
 
-    /// The one spelling of the batch.
+    /// The one spelling of the batch in bytes.
     pub fn to_bytes(&self, alloc: Global) -> Result<Vec<u8>, AllocError>
         ensures { IfOk result (λ bytes. bytes.items ≡ spelling self.now) }
     {
@@ -90,7 +90,7 @@ impl Batch {
         Ok(out)
     }
 
-    /// The batch that the bytes spell.
+    /// Reads the batch that exactly these bytes spell.
     pub fn from_bytes(alloc: Global, bytes: &[u8]) -> Result<Batch, KvError>
         ensures spelled { IfOk result (λ batch. bytes.now ≡ spelling batch) }
         ensures bad { IsErrOf result KvError.BadBytes →

@@ -16,7 +16,7 @@ pub const MAX_ROWS: u32 = 1024;
 /// The greatest size of a page, in bytes.
 pub const MAX_PAGE: usize = 98304;
 
-/// What a row counts for in a page besides the bytes of its key and value.
+/// The bytes that a row counts in a page besides its key and value.
 pub const ROW_OVERHEAD: usize = 4;
 
 /// The greatest number of a batch, a request or a file: 2^63 - 1.

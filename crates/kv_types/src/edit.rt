@@ -4,7 +4,7 @@ ghost use Rattle.std.specs.Prelude.{◌≡◌, IfOk, option_copied};
 use crate::{Key, Value};
 use std::alloc::AllocError;
 
-/// One change of a map.
+/// One change of a map: a put or a deletion.
 #[derive(Debug, Drop)]
 pub enum Edit {
     Put(Key, Value),
@@ -23,7 +23,7 @@ impl Edit {
         }
     }
 
-    /// The value that a put leaves. A deletion leaves none.
+    /// The value that a put writes, or `None` for a deletion.
     pub fn value(&self) -> Option<&Value>
         ensures { option_copied result ≡ left_by self.now }
     {

@@ -54,7 +54,7 @@ impl Key {
         &self.bytes
     }
 
-    /// Spells the key behind what `out` holds.
+    /// Appends the spelling of the key to `out`.
     pub fn spell_into(&self, out: &mut Vec<u8>) -> Result<(), AllocError>
         ensures spelled { OnOk result (out.new.items ≡ out.old.items ++ text self.now) }
         ensures limit { length self.now ≤ MAX_KEY }
@@ -62,7 +62,7 @@ impl Key {
         put_text(out, &self.bytes)
     }
 
-    /// The key at the front of the bytes, and the bytes behind it.
+    /// Reads the key at the front of the bytes, and returns it with the bytes behind it.
     pub fn read_from(alloc: Global, bytes: &[u8]) -> Result<(Key, &[u8]), KvError>
         ensures found { IfOk result (λ x. (bytes.now ≡ text x.0 ++ x.1.now)
             × (length x.0 ≤ MAX_KEY)) }

@@ -1,5 +1,5 @@
-//! What holds of the words of contracts. The functions do nothing, or give a constant: their
-//! clauses are the laws.
+//! Laws of the definitions that contracts use. The functions do nothing, or return a constant:
+//! their clauses are the laws.
 ghost use Rattle.std.specs.Prelude.{◌≡◌};
 ghost use Rattle.kv_types.specs.Order.{IsBelow, IsStrictOrder, LessIsBelow};
 ghost use Rattle.kv_types.specs.Spelling.{SpellingsDiffer};
@@ -10,29 +10,29 @@ ghost use Rattle.kv_types.specs.Examples.{Examples};
 
 use crate::Number;
 
-/// Byte order is a strict order of all keys, and the order in which keys compare.
+/// Byte order is a strict order of all keys, and it is the order in which keys compare.
 pub fn byte_order_is_strict()
     ensures strict { IsStrictOrder IsBelow }
     ensures less { LessIsBelow }
 {}
 
-/// No spelling begins another, and no two batches have one spelling.
+/// No spelling is a prefix of another, and no two batches have the same spelling.
 pub fn spellings_differ()
     ensures { SpellingsDiffer }
 {}
 
-/// The map as a function gives what the last edits give.
+/// The map as a function has exactly the values that the last edits put.
 pub fn maps_agree()
     ensures { MapsAgree }
 {}
 
-/// A map has one page in a range, and the page as a function is that one.
+/// A map has exactly one page in a range, and the page as a function is that one.
 pub fn pages_agree()
     ensures agree { PagesAgree }
     ensures one { OnePage }
 {}
 
-/// Each bound as a number.
+/// The value of each bound as a number.
 // law: of the constants in `bounds`
 pub fn bounds_are()
     ensures { BoundsAre }

@@ -4,24 +4,25 @@ ghost use Rattle.kv_types.specs.Limits.{IsInRange};
 
 use crate::KvError;
 
-/// When a store flushes and merges, and how many blocks it keeps in memory.
+/// Limits of a store: when it flushes and merges, and how many blocks it keeps in memory.
 #[derive(Clone, Copy, Debug)]
 pub struct Limits {
-    /// Bytes of a log file that make a flush due when they are passed.
+    /// Size of a log file in bytes above which a flush is due.
     pub log: u64,
-    /// Tables in level 0 that make a merge due when they are passed.
+    /// Number of tables in level 0 above which a merge is due.
     pub l0: u64,
     /// Bytes of data at which a merge begins a new table.
     pub table: u64,
-    /// Bytes of level 1 that make a merge due when they are passed: ten times more a level deeper.
+    /// Size of level 1 in bytes above which a merge is due. The limit of each deeper level is ten
+    /// times higher.
     pub level: u64,
-    /// Blocks that are kept in memory.
+    /// Number of blocks that are kept in memory.
     pub cache: u64,
     ghost in_range: { IsInRange log l0 table level cache },
 }
 
 impl Limits {
-    /// `level` is the limit of level 1.
+    /// Checks and builds limits; `level` is the limit of level 1.
     pub fn new(log: u64, l0: u64, table: u64, level: u64, cache: u64) -> Result<Limits, KvError>
         ensures made { IfOk result (λ limits. (limits.log ≡ log) × (limits.l0 ≡ l0)
             × (limits.table ≡ table) × (limits.level ≡ level) × (limits.cache ≡ cache)) }

@@ -42,7 +42,7 @@ impl Number {
         self.value
     }
 
-    /// The number one higher. The greatest has none.
+    /// The next higher number, or `None` for the greatest.
     pub fn next(self) -> Option<Number>
         ensures { SomeIff result (self < MAX_NUMBER) (self + 1) }
     {

@@ -7,7 +7,7 @@ use crate::{Key, KvError};
 use std::alloc::AllocError;
 use std::marker::Model;
 
-/// The keys from one on and below another, which way to walk them, and how many rows to give.
+/// A range of keys, with the direction of its walk and the greatest number of rows in an answer.
 #[derive(Debug, Drop)]
 pub struct Range {
     from: Key,

@@ -5,7 +5,7 @@ use crate::bounds::ROW_OVERHEAD;
 use crate::{Key, Value};
 use std::alloc::AllocError;
 
-/// A key with the value that a map gives it.
+/// A key with its value in a map.
 #[derive(Debug, Drop)]
 pub struct Row {
     pub key: Key,
@@ -15,7 +15,7 @@ pub struct Row {
 impl Row {
     ghost use Rattle.kv_types.specs.Pages.{row_size};
 
-    /// What the row counts for in a page, in bytes.
+    /// The bytes that the row counts in a page.
     pub fn size(&self) -> usize
         ensures { result ≡ row_size self.now }
     {

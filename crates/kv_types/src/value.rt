@@ -47,7 +47,7 @@ impl Value {
         &self.bytes
     }
 
-    /// Spells the value behind what `out` holds.
+    /// Appends the spelling of the value to `out`.
     pub fn spell_into(&self, out: &mut Vec<u8>) -> Result<(), AllocError>
         ensures spelled { OnOk result (out.new.items ≡ out.old.items ++ text self.now) }
         ensures limit { length self.now ≤ MAX_VALUE }
@@ -55,7 +55,7 @@ impl Value {
         put_text(out, &self.bytes)
     }
 
-    /// The value at the front of the bytes, and the bytes behind it.
+    /// Reads the value at the front of the bytes, and returns it with the bytes behind it.
     pub fn read_from(alloc: Global, bytes: &[u8]) -> Result<(Value, &[u8]), KvError>
         ensures found { IfOk result (λ x. (bytes.now ≡ text x.0 ++ x.1.now)
             × (length x.0 ≤ MAX_VALUE)) }

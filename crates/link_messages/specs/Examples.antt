@@ -11,11 +11,11 @@ use Rattle.link_messages.specs.Spelling.{spelling}
 abbrev pub one_put : BatchContent
 one_put = Put (codes "a") (codes "1") ∷ []
 
--- in epoch 0, node 1 gives batch 1
+-- node 1 forwards batch 1 in epoch 0
 abbrev pub first_forward : Frame
 first_forward = frame.Forward 0 1 1 one_put
 
--- in epoch 0, node 3 has batch 1 and knows it to be committed
+-- node 3 has batch 1 in epoch 0, and knows it to be committed
 abbrev pub first_ack : Frame
 first_ack = frame.Ack 0 3 1 1
 

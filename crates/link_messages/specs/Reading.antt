@@ -21,31 +21,31 @@ use Rattle.link_messages.specs.declared.error.FrameError.{FrameError}
 use Rattle.link_messages.specs.declared.error.FrameError.TheVariants as fault
 use Rattle.link_messages.specs.Stream.{length_field}
 
--- reads something from the front of bytes: it, and the bytes after it
+-- a reader: a value from the front of bytes, and the bytes behind it
 abbrev pub Reader : Type 0 → Type 0
 Reader A = List ℕ → Option (A × List ℕ)
 
--- ---- readers made of others
+-- ---- combinators of readers
 
--- one, and then another behind it
+-- one reading, and then another behind it
 abbrev pub both : {A B : Type 0} → Reader A → Reader B → Reader (A × B)
 both first second bytes = first bytes >>= λ a. second a.1 >>= λ b. Some ((a.0, b.0), b.1)
 
--- what is read, made into something else
+-- a reading with a function applied to its value
 abbrev pub made : {A B : Type 0} → (A → B) → Reader A → Reader B
 made make read bytes = read bytes >>= λ a. Some (make a.0, a.1)
 
--- only what passes a test
+-- a reading whose value passes a test
 abbrev pub only : {A : Type 0} → (A → Bool) → Reader A → Reader A
 only test read bytes = read bytes >>= λ a. if test a.0 then Some a else None
 
--- so many, one behind the other
+-- a given number of readings, one behind the other
 unfoldable pub many : {A : Type 0} → Reader A → ℕ → Reader (List A)
 many read zero bytes = Some ([], bytes)
 many read (suc n) bytes = read bytes >>= λ first. many read n first.1 >>= λ others. Some
     (first.0 ∷ others.0, others.1)
 
--- their number, and so many
+-- a number, and that many readings
 abbrev pub counted : {A : Type 0} → Reader ℕ → Reader A → Reader (List A)
 counted count read bytes = count bytes >>= λ n. many read n.0 n.1
 
@@ -76,7 +76,7 @@ id_at bytes = only (λ n. nat_le 1 n) (number_at w16) bytes
 unfoldable pub count_at : Reader ℕ
 count_at bytes = only (λ n. nat_le n MAX_NUMBER) (number_at w64) bytes
 
--- a number of a batch that is there
+-- the number of a batch, from 1
 unfoldable pub place_at : Reader ℕ
 place_at bytes = only (λ n. nat_le 1 n) count_at bytes
 
@@ -111,7 +111,7 @@ row_at bytes = made as_row (both (text_at MAX_KEY) (text_at MAX_VALUE)) bytes
 abbrev pub as_page : Bool × List Row → Rows
 as_page x = record { rows = x.1; more = x.0 }
 
--- as many rows as a page may have
+-- at most as many rows as a page may have
 unfoldable pub rows_at : Reader (List Row)
 rows_at bytes = counted (only (λ n. nat_le n MAX_ROWS) (number_at w16)) row_at bytes
 
@@ -189,7 +189,7 @@ refused_at bytes = made (λ x. frame.Refused x.0 x.1) (both count_at refusal_at)
 unfoldable pub closed_at : Reader Frame
 closed_at bytes = made (λ x. frame.Closed x.0 x.1) (both count_at count_at) bytes
 
--- the readers in order of their kinds, from 1
+-- the readers in the order of their kinds, from 1
 abbrev pub readers : List (Reader Frame)
 readers =
     forward_at ∷ ack_at ∷ notice_at ∷ submit_at ∷ get_at ∷ rows_frame_at ∷ open_at ∷ close_at
@@ -206,7 +206,7 @@ reader_of (suc n) = nth readers n
 
 -- ---- the content of a frame, and a frame in a stream
 
--- a frame that is all of the bytes that were read for it
+-- the frame, if no bytes are left behind it
 abbrev pub ended : Option (Frame × List ℕ) → Result Frame FrameError
 ended None = Err fault.BadField
 ended (Some (f, [])) = Ok f
@@ -232,36 +232,36 @@ answer_at bytes =
     (if nat_lt (length (drop 4 bytes)) (length_field bytes) then Ok None else as_answer
     (content_at (take (length_field bytes) (drop 4 bytes))))))
 
--- ---- what functions return
+-- ---- results of functions
 
--- a refusal of a field: BadField only where nothing is read
+-- the cause of a field's refusal: `BadField` only where nothing can be read
 abbrev pub Fails : {Y : Type 0} → FrameError → Option Y → Type 0
 Fails fault.BadField read = read ≡ None
 Fails fault.Memory read = Unit {0}
 Fails _ read = ⊥
 
--- what a function returned is what was read, with the bytes after it, unless memory ran out
+-- a function's result is what was read, with the bytes behind it, unless memory ran out
 abbrev pub GivesAt : {X : Type 0} → Result X FrameError → List ℕ → Option (X × List ℕ) → Type 0
 GivesAt (Ok x) rest read = read ≡ Some (x, rest)
 GivesAt (Err e) rest read = Fails e read
 
--- the same of a frame of a kind that may be unknown
+-- the same for a frame of a kind that may be unknown
 abbrev pub GivesKind : Result Frame FrameError → List ℕ → Option (Reader Frame) → List ℕ → Type 0
 GivesKind result rest (Some read) bytes = GivesAt result rest (read bytes)
 GivesKind result rest None bytes = result ≡ Err fault.BadKind
 
--- a function returned this, unless memory ran out
+-- the function returned this result, unless memory ran out
 abbrev pub IsOr : Result Frame FrameError → Result Frame FrameError → Type 0
 IsOr (Ok f) told = told ≡ Ok f
 IsOr (Err fault.Memory) told = Unit {0}
 IsOr (Err e) told = told ≡ Err e
 
--- a list with what stands in it
+-- a result of a vector as a result of its list
 abbrev pub items_of : {A E : Type 0} → Result (Vec A) E → Result (List A) E
 items_of (Ok v) = Ok v.items
 items_of (Err e) = Err e
 
--- an answer with how many bytes it takes, as an answer and what it leaves
+-- the answer with the length of the frame, as an answer with the bytes behind the frame
 abbrev pub told_by : Result (Option (Frame × ℕ)) FrameError → Result (Option Frame) FrameError
 told_by (Ok None) = Ok None
 told_by (Ok (Some x)) = Ok (Some x.0)

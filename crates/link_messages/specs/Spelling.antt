@@ -1,4 +1,4 @@
--- What a frame is, and its one spelling.
+-- The frames, and the one spelling of each.
 use Rattle.std.specs.Prelude.{ℕ, ◌≤◌, List, [], ◌∷◌, ◌++◌, length, Bool, true, false, Option}
 use Rattle.std.specs.Prelude.{Some, None, IfSome, All}
 use Rattle.std.specs.List.{flat_map}
@@ -38,12 +38,12 @@ abbrev pub truth : Bool → List ℕ
 truth false = 0 ∷ []
 truth true = 1 ∷ []
 
--- what may be there: the byte 0, or the byte 1 and what is there
+-- an optional value: the byte 0, or the byte 1 and the value
 abbrev pub optional : {A : Type 0} → (A → List ℕ) → Option A → List ℕ
 optional spell None = 0 ∷ []
 optional spell (Some x) = 1 ∷ spell x
 
--- the number at which to read, if one is given
+-- the number of a read, if the request has one
 abbrev pub at_text : Option ℕ → List ℕ
 at_text at = optional u64 at
 
@@ -55,7 +55,7 @@ range_text range =
 abbrev pub row_text : Row → List ℕ
 row_text row = text row.key ++ text row.value
 
--- whether more were left, two bytes that count the rows, and the rows
+-- whether the range has more rows, the number of rows in two bytes, and the rows
 abbrev pub page_text : Rows → List ℕ
 page_text page = truth page.more ++ (u16 (length page.rows) ++ flat_map row_text page.rows)
 
@@ -112,7 +112,7 @@ fields (frame.Closed request number) = u64 request ++ u64 number
 abbrev pub body : Frame → List ℕ
 body f = kind f ∷ fields f
 
--- four bytes of length, and that many bytes
+-- the length in four bytes, and that many bytes
 abbrev pub spelling : Frame → List ℕ
 spelling f = u32 (length (body f)) ++ body f
 
@@ -168,7 +168,7 @@ IsFrame (frame.Opened request number) = IsNumber request × IsNumber number
 IsFrame (frame.Refused request refusal) = IsNumber request
 IsFrame (frame.Closed request number) = IsNumber request × IsNumber number
 
--- what the types of the fields leave open
+-- the bounds that the types of the fields do not imply
 abbrev pub HasBounds : Frame → Type 0
 HasBounds (frame.Forward epoch from number batch) = 1 ≤ number
 HasBounds (frame.RowsAre request number page) = KeepsLimits MAX_ROWS MAX_PAGE page.rows

@@ -1,4 +1,4 @@
--- A stream of frames: what the next read of it answers, and which frames it has.
+-- A stream of frames: the answer of its next read, and the frames that it spells.
 use Rattle.std.specs.Prelude.{◌≡◌, ◌⊎◌, ℕ, ◌+◌, ◌<◌, ◌≤◌, List, [], ◌∷◌, ◌++◌, length, take, All}
 use Rattle.std.specs.Prelude.{Option, Some, None, Result, Ok, Err}
 use Rattle.std.specs.List.{flat_map}
@@ -9,7 +9,7 @@ use Rattle.link_messages.specs.declared.frame.Frame.{Frame}
 use Rattle.link_messages.specs.declared.frame.TheConstants.{MAX_FRAME}
 use Rattle.link_messages.specs.Spelling.{u32, body, spelling, IsFrame}
 
--- the length that the first four bytes tell
+-- the length in the first four bytes
 abbrev pub length_field : List ℕ → ℕ
 length_field bytes = from_be_bytes w32 (take 4 bytes)
 
@@ -20,7 +20,7 @@ pub record LacksBytes (bytes : List ℕ) : Type 0 where
   pub few : length_field bytes ≤ MAX_FRAME
   pub lacking : length bytes < 4 + length_field bytes
 
--- less than a whole frame: no whole length, or fewer bytes than it tells
+-- an incomplete frame: an incomplete length, or fewer bytes than the length says
 abbrev pub IsPartial : List ℕ → Type 0
 IsPartial bytes = (length bytes < 4) ⊎ LacksBytes bytes
 
@@ -36,7 +36,7 @@ abbrev pub HasKind : List ℕ → Type 0
 HasKind [] = ⊥
 HasKind (k ∷ rest) = (1 ≤ k) × (k ≤ 14)
 
--- a frame in range, and what stands behind it
+-- a frame in range, and the bytes behind it
 pub record Begins (content : List ℕ) (f : Frame) (behind : List ℕ) : Type 0 where
   pub frame : IsFrame f
   pub parts : content ≡ body f ++ behind
@@ -46,14 +46,14 @@ pub record IsMalformed (content : List ℕ) : Type 0 where
   pub known : HasKind content
   pub none : (f : Frame) (behind : List ℕ) → Begins content f behind → ⊥
 
--- content with one byte more, or several, behind a frame in range
+-- content with one or more bytes behind a frame in range
 pub record IsTooMuch (content : List ℕ) : Type 0 where
   pub frame : Frame
   pub byte : ℕ
   pub more : List ℕ
   pub begins : Begins content frame (byte ∷ more)
 
--- the fault that stands at the front of the bytes
+-- the error at the front of the bytes
 abbrev pub HasFault : FrameError → List ℕ → Type 0
 HasFault fault.TooLong bytes = (4 ≤ length bytes) × (MAX_FRAME < length_field bytes)
 HasFault fault.BadKind bytes = (content : List ℕ) × IsWhole bytes content × (HasKind content → ⊥)
@@ -63,8 +63,9 @@ HasFault fault.BadField bytes =
 HasFault fault.Trailing bytes = (content : List ℕ) × IsWhole bytes content × IsTooMuch content
 HasFault fault.Memory bytes = ⊥
 
--- a frame is at the front, and the rest stays; or it is not whole yet; or it is whole, and memory
--- ran out; or there is a fault. Without a frame all bytes stay.
+-- The answers of a read. There is a frame at the front, and the bytes behind it remain. Or the
+-- frame is incomplete, or it is complete and memory ran out, or there is an error. Without a frame
+-- all bytes remain.
 abbrev pub Answers : Result (Option Frame) FrameError → List ℕ → List ℕ → Type 0
 Answers (Ok (Some f)) old new = IsFrame f × (old ≡ spelling f ++ new)
 Answers (Ok None) old new = IsPartial old × (new ≡ old)
@@ -72,7 +73,7 @@ Answers (Err fault.Memory) old new =
     ((content : List ℕ) × IsWhole old content) × (new ≡ old)
 Answers (Err e) old new = HasFault e old × (new ≡ old)
 
--- the stream is these frames, and then less than a whole one
+-- the stream is these frames, and then an incomplete one
 pub record Splits (stream : List ℕ) (frames : List Frame) (rest : List ℕ) : Type 0 where
   pub whole : stream ≡ flat_map spelling frames ++ rest
   pub each : All IsFrame frames
@@ -80,12 +81,12 @@ pub record Splits (stream : List ℕ) (frames : List Frame) (rest : List ℕ) : 
 
 -- ---- laws
 
--- no spelling begins another, and no two frames have one spelling
+-- no spelling is a prefix of another, and no two frames have the same spelling
 abbrev pub OneSpelling : Type 0
 OneSpelling = (f g : Frame) (x y : List ℕ) → IsFrame f → IsFrame g
     → spelling f ++ x ≡ spelling g ++ y → (f ≡ g) × (x ≡ y)
 
--- it is an answer about the bytes, and not that memory ran out
+-- the answer is about the bytes, and memory did not run out
 abbrev pub Tells : Result (Option Frame) FrameError → List ℕ → List ℕ → Type 0
 Tells (Err fault.Memory) old new = ⊥
 Tells answer old new = Answers answer old new
@@ -95,7 +96,7 @@ abbrev pub OneAnswer : Type 0
 OneAnswer = (a b : Result (Option Frame) FrameError) (old new other : List ℕ)
     → Tells a old new → Tells b old other → (a ≡ b) × (new ≡ other)
 
--- a fault stays, whatever comes
+-- an error stays, whatever bytes follow
 abbrev pub FaultsStay : Type 0
 FaultsStay = (e : FrameError) (bytes more : List ℕ) → HasFault e bytes → HasFault e (bytes ++ more)
 

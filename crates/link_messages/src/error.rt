@@ -1,11 +1,11 @@
-// The faults of a stream of frames.
+// The errors of a stream of frames.
 ghost use Rattle.std.specs.Prelude.{◌≡◌};
 ghost use Rattle.link_messages.specs.declared.error.FrameError.TheVariants.{Memory};
 
 use std::alloc::{AllocError, AllocFailed};
 use thiserror::Error;
 
-/// Why bytes are no frame. After any but `Memory` the reader answers the same again.
+/// Why bytes are no frame. After any error but `Memory` the reader answers the same again.
 #[derive(Clone, Copy, Debug, PartialEq, Eq, Error)]
 pub enum FrameError {
     #[error("a frame is longer than 131,072 bytes")]

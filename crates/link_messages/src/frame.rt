@@ -1,4 +1,4 @@
-// The 14 kinds of frame, and the most bytes that one may have.
+// The 14 kinds of frame, and the greatest length of a frame.
 use crate::Refusal;
 use configurations::{Config, Epoch, NodeId};
 use kv_types::{Batch, Key, Number, Page, Range, Value};
@@ -6,24 +6,24 @@ use kv_types::{Batch, Key, Number, Page, Range, Value};
 /// The greatest length of a frame, in bytes, without its length field.
 pub const MAX_FRAME: usize = 131072;
 
-/// What one side of a link tells the other.
+/// A message from one side of a link to the other.
 #[derive(Debug, Drop)]
 pub enum Frame {
-    /// A node gives its successor the batch of this number.
+    /// Sends the batch of this number to the sender's successor.
     Forward {
         epoch: Epoch,
         from: NodeId,
         number: Number,
         batch: Batch,
     },
-    /// A node tells its predecessor what it knows to be committed, and how many batches it has.
+    /// Acknowledges to the predecessor the sender's committed number and its number of batches.
     Ack {
         epoch: Epoch,
         from: NodeId,
         committed: Number,
         have: Number,
     },
-    /// The master tells a node the configuration of an epoch.
+    /// Reports the configuration of an epoch to a node, from the configuration service.
     Notice {
         epoch: Epoch,
         config: Config,
@@ -32,7 +32,7 @@ pub enum Frame {
         request: Number,
         batch: Batch,
     },
-    /// A read at a number, or else at the committed number.
+    /// Reads at a number, or else at the committed number.
     Get {
         request: Number,
         at: Option<Number>,
@@ -43,22 +43,22 @@ pub enum Frame {
         at: Option<Number>,
         range: Range,
     },
-    /// Asks for a snapshot at a number, or else at the committed number.
+    /// Opens a snapshot at a number, or else at the committed number.
     Open {
         request: Number,
         at: Option<Number>,
     },
-    /// Gives a snapshot at a number back.
+    /// Closes a snapshot at a number.
     Close {
         request: Number,
         number: Number,
     },
-    /// The batch has this number, and is committed.
+    /// The number of the client's batch, which is committed.
     Committed {
         request: Number,
         number: Number,
     },
-    /// What the key has at this number.
+    /// The value of the key at this number.
     Value {
         request: Number,
         number: Number,

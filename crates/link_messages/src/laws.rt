@@ -1,22 +1,24 @@
-//! What holds of the words of contracts. The functions do nothing: their clauses are the laws.
+//! Laws of the definitions that contracts use. The functions do nothing: their clauses are the
+//! laws.
 ghost use Rattle.link_messages.specs.Stream.{OneSpelling, OneAnswer, FaultsStay, OneSplit};
 ghost use Rattle.link_messages.specs.Stream.{FramesFit, FrameBoundIs};
 ghost use Rattle.link_messages.specs.Examples.{Examples};
 
-/// No spelling begins another, no two frames have one spelling, and each keeps the limit.
+/// No spelling is a prefix of another, no two frames have one spelling, and each spelling keeps the
+/// limit.
 pub fn one_spelling()
     ensures one { OneSpelling }
     ensures fit { FramesFit }
 {}
 
-/// The contract of `FrameReader::next` leaves no choice, but that memory may run out; and a fault
-/// stays, fed or not.
+/// The contract of `FrameReader::next` determines its answer, unless memory runs out. An error
+/// stays, whatever bytes follow.
 pub fn one_answer()
     ensures one { OneAnswer }
     ensures stays { FaultsStay }
 {}
 
-/// A stream is one list of frames and one rest, however it was cut into pieces.
+/// A stream has one list of frames and one rest, however it is cut into pieces.
 pub fn one_split()
     ensures { OneSplit }
 {}

@@ -1,4 +1,4 @@
-//! Frames, which nodes and clients send each other, and the one spelling of a frame.
+//! The frames between nodes and clients, and the one spelling of each frame.
 #![tactic(auto)]
 
 mod error;

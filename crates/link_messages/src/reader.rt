@@ -10,7 +10,7 @@ use bytes::BytesMut;
 use std::alloc::{AllocError, Global};
 use std::marker::Model;
 
-/// Takes bytes in any pieces, and gives the frames that they spell.
+/// A reader that accepts bytes in any pieces, and returns the frames that they spell.
 #[derive(Drop)]
 pub struct FrameReader {
     buffer: BytesMut,
@@ -24,7 +24,7 @@ impl Model for FrameReader {
     ghost view = { λ reader. reader.buffer.items };
 }
 
-// The frame at the front of the bytes, and how many bytes spell it. `None` where it is not whole.
+// The frame at the front of the bytes, and the length of its spelling. `None` if it is incomplete.
 fn front_of(alloc: Global, bytes: &[u8]) -> Result<Option<(Frame, usize)>, FrameError>
     ensures answer { Answers (told_by result) bytes.now (left_by result bytes.now) }
     ensures len { IfOk result (λ front. IfSome front (λ x. x.1 ≤ length bytes.now)) }
@@ -56,7 +56,7 @@ impl FrameReader {
         }
     }
 
-    /// Takes the next piece of the stream.
+    /// Accepts the next piece of the stream.
     pub fn feed(&mut self, piece: &[u8]) -> Result<(), AllocError>
         ensures ok { OnOk result (self.new ≡ self.old ++ piece.now) }
         ensures err { OnErr result (self.new ≡ self.old) }
@@ -64,7 +64,7 @@ impl FrameReader {
         self.buffer.extend_from_slice(piece)
     }
 
-    /// The next frame. `None` where it has not come whole, and no fault is there yet.
+    /// The next frame, or `None` if its bytes are incomplete and have no error so far.
     pub fn next(&mut self) -> Result<Option<Frame>, FrameError>
         ensures { Answers result self.old self.new }
     {

@@ -179,7 +179,7 @@ fn closed_of(bytes: &mut &[u8]) -> Result<Frame, FrameError>
     })
 }
 
-// A frame of this kind.
+// Reads the fields of a frame of this kind.
 fn frame_of(alloc: Global, kind: u8, bytes: &mut &[u8]) -> Result<Frame, FrameError>
     ensures { GivesKind result bytes.new.now (reader_of kind) bytes.old.now }
 {
@@ -202,7 +202,7 @@ fn frame_of(alloc: Global, kind: u8, bytes: &mut &[u8]) -> Result<Frame, FrameEr
     }
 }
 
-/// The frame that is all of the content.
+/// The frame whose content is all of these bytes.
 #[tactic(auto, unfolding(crate::specs::Reading::content_at))]
 pub fn content_of(alloc: Global, content: &[u8]) -> Result<Frame, FrameError>
     ensures { IsOr result (content_at content.now) }

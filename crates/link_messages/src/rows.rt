@@ -41,7 +41,7 @@ pub fn put_page(out: &mut Vec<u8>, page: &Page) -> Result<(), AllocError>
     put_rows(out, page.rows())
 }
 
-// ---- reading: from the front of the bytes, which are left at what is behind it
+// ---- reading: from the front of the bytes, which then hold the bytes behind the field
 
 #[tactic(auto, unfolding(crate::specs::Reading::row_at))]
 fn row_of(alloc: Global, bytes: &mut &[u8]) -> Result<Row, FrameError>
@@ -73,7 +73,7 @@ fn rows_of(alloc: Global, bytes: &mut &[u8]) -> Result<Vec<Row>, FrameError>
     rows_in(alloc, count, bytes)
 }
 
-// Whether the rows keep the size of a page.
+// Whether the rows keep the limit of a page.
 fn are_small(rows: &[Row]) -> bool
     ensures { result ≡ nat_le (sum_by row_size rows.now) MAX_PAGE }
 {

@@ -35,7 +35,7 @@ fn kind_of(frame: &Frame) -> u8
     }
 }
 
-// Which node sends in which epoch.
+// The sender and its epoch.
 fn put_from(out: &mut Vec<u8>, epoch: Epoch, from: NodeId) -> Result<(), AllocError>
     ensures spelled { OnOk result (out.new.items ≡ out.old.items ++ (u32 epoch ++ u16 from)) }
     ensures is { OnOk result (IsEpoch epoch × IsId from) }
@@ -52,7 +52,7 @@ fn put_two(out: &mut Vec<u8>, first: Number, second: Number) -> Result<(), Alloc
     put_number(out, second)
 }
 
-// A request that asks at a number, or else at the committed number.
+// The fields of a request at a number, or else at the committed number.
 fn put_asked(out: &mut Vec<u8>, request: Number, at: Option<Number>) -> Result<(), AllocError>
     ensures spelled { OnOk result (out.new.items ≡ out.old.items ++ (u64 request ++ at_text at)) }
     ensures is { OnOk result (IsNumber request × IfSome at IsNumber) }
@@ -109,7 +109,7 @@ fn put_link(out: &mut Vec<u8>, frame: &Frame) -> Result<(), AllocError>
     }
 }
 
-// The fields of what a client asks.
+// The fields of a client's request.
 fn put_request(out: &mut Vec<u8>, frame: &Frame) -> Result<(), AllocError>
     requires { (4 ≤ kind frame.now) × (kind frame.now ≤ 8) }
     ensures spelled { OnOk result (out.new.items ≡ out.old.items ++ fields frame.now) }
@@ -131,7 +131,7 @@ fn put_request(out: &mut Vec<u8>, frame: &Frame) -> Result<(), AllocError>
     }
 }
 
-// The fields of what a client is told.
+// The fields of a reply to a client.
 fn put_reply(out: &mut Vec<u8>, frame: &Frame) -> Result<(), AllocError>
     requires { 9 ≤ kind frame.now }
     ensures spelled { OnOk result (out.new.items ≡ out.old.items ++ fields frame.now) }
@@ -176,7 +176,7 @@ fn put_fields(out: &mut Vec<u8>, frame: &Frame) -> Result<(), AllocError>
     }
 }
 
-/// The one spelling of the frame.
+/// The one spelling of the frame in bytes.
 pub fn write(alloc: Global, frame: &Frame) -> Result<Vec<u8>, AllocError>
     ensures spelled { IfOk result (λ bytes. bytes.items ≡ spelling frame.now) }
     ensures lawful { IfOk result (λ _. HasBounds frame.now → IsFrame frame.now) }

@@ -1,9 +1,9 @@
-//! Frames in bytes, and bytes that are none.
+//! Frames in bytes, and bytes that are no frame.
 use link_messages::{FrameError, FrameReader, Refusal};
 use std::alloc::Global;
 use std::test::Fail;
 
-/// How many frames are answered, fed in pieces of this size, and the fault that ends them.
+/// The number of frames that are read from pieces of this size, and the error behind them.
 fn answers_of(alloc: Global, bytes: &[u8], size: usize) -> (usize, Option<FrameError>) {
     let mut reader = FrameReader::new(alloc);
     let mut frames: usize = 0;
@@ -31,11 +31,11 @@ const ACK: [u8; 27] = [
     0, 0, 0, 23, 2, 0, 0, 0, 0, 0, 3, 0, 0, 0, 0, 0, 0, 0, 1, 0, 0, 0, 0, 0, 0, 0, 1,
 ];
 
-/// Bytes, how many frames they have, and the fault that ends them.
+/// Bytes, the number of their frames, and the error behind them.
 static ANSWERS: [(&[u8], usize, Option<FrameError>); 15] = [
     (&FORWARD, 1, None),
     (&ACK, 1, None),
-    // One byte more, and told so.
+    // One byte more, and the length says so.
     (
         &[
             0, 0, 0, 24, 2, 0, 0, 0, 0, 0, 3, 0, 0, 0, 0, 0, 0, 0, 1, 0, 0, 0, 0, 0, 0, 0, 1, 0,
@@ -43,7 +43,7 @@ static ANSWERS: [(&[u8], usize, Option<FrameError>); 15] = [
         0,
         Some(FrameError::Trailing),
     ),
-    // One byte less, and told so.
+    // One byte less, and the length says so.
     (
         &[
             0, 0, 0, 22, 2, 0, 0, 0, 0, 0, 3, 0, 0, 0, 0, 0, 0, 0, 1, 0, 0, 0, 0, 0, 0, 0,
@@ -51,7 +51,7 @@ static ANSWERS: [(&[u8], usize, Option<FrameError>); 15] = [
         0,
         Some(FrameError::BadField),
     ),
-    // Epoch 16.
+    // Epoch 16 is out of range.
     (
         &[
             0, 0, 0, 23, 2, 0, 0, 0, 16, 0, 3, 0, 0, 0, 0, 0, 0, 0, 1, 0, 0, 0, 0, 0, 0, 0, 1,
@@ -66,19 +66,19 @@ static ANSWERS: [(&[u8], usize, Option<FrameError>); 15] = [
     (&[0, 0, 0, 1, 0], 0, Some(FrameError::BadKind)),
     // A known kind that needs fields.
     (&[0, 0, 0, 1, 14], 0, Some(FrameError::BadField)),
-    // An id twice.
+    // An id occurs twice.
     (
         &[0, 0, 0, 10, 3, 0, 0, 0, 1, 2, 0, 2, 0, 2],
         0,
         Some(FrameError::BadField),
     ),
-    // No edit.
+    // A batch without edits.
     (
         &[0, 0, 0, 11, 4, 0, 0, 0, 0, 0, 0, 0, 1, 0, 0],
         0,
         Some(FrameError::BadField),
     ),
-    // Neither given nor not.
+    // An option whose byte is neither 0 nor 1.
     (
         &[0, 0, 0, 12, 5, 0, 0, 0, 0, 0, 0, 0, 1, 2, 0, 0],
         0,
@@ -107,7 +107,7 @@ fn each_answer_whole_and_byte_by_byte(rt: HostRuntime) {
     }
 }
 
-/// Whether the reader answers the fault, and again, and again when it is fed more.
+/// Whether the reader answers the error, then again, and again after more bytes.
 fn stays(alloc: Global, bytes: &[u8], fault: FrameError) -> bool {
     let mut reader = FrameReader::new(alloc);
     let fed = reader.feed(bytes).is_ok();

@@ -6,7 +6,7 @@ use std::test::Fail;
 
 const BAD: Option<FrameError> = Some(FrameError::BadField);
 
-/// The fault of these bytes, if they are no frame.
+/// The error of these bytes, if they are no frame.
 fn fault_of(alloc: Global, bytes: &[u8]) -> Result<Option<FrameError>, Fail> {
     let mut reader = FrameReader::new(alloc);
     reader.feed(bytes)?;
@@ -20,7 +20,7 @@ fn fault_of(alloc: Global, bytes: &[u8]) -> Result<Option<FrameError>, Fail> {
     }
 }
 
-/// The fault of a frame of this content, if it is none.
+/// The error of a frame of this content, if it is none.
 fn content_fault(alloc: Global, content: &[u8]) -> Result<Option<FrameError>, Fail> {
     let len = u32::try_from(content.len()).or(Err("a length of four bytes"))?;
     let mut bytes = len.to_be_bytes().to_vec(alloc)?;
@@ -28,7 +28,7 @@ fn content_fault(alloc: Global, content: &[u8]) -> Result<Option<FrameError>, Fa
     fault_of(alloc, &bytes)
 }
 
-/// The kind and the fields of a frame, and its fault.
+/// The kind and the fields of a frame, and its error.
 static FIELDS: [(&[u8], Option<FrameError>); 15] = [
     // Forward: the number.
     (
@@ -39,7 +39,7 @@ static FIELDS: [(&[u8], Option<FrameError>); 15] = [
         &[1, 0, 0, 0, 0, 0, 1, 0, 0, 0, 0, 0, 0, 0, 1, 0, 1, 2, 0, 0],
         None,
     ),
-    // Ack: the node, and how many batches it has.
+    // Ack: the node, and the number of its batches.
     (
         &[
             2, 0, 0, 0, 0, 0, 0, 0, 0, 0, 0, 0, 0, 0, 0, 0, 0, 0, 0, 0, 0, 0, 1,
@@ -68,7 +68,7 @@ static FIELDS: [(&[u8], Option<FrameError>); 15] = [
         ],
         BAD,
     ),
-    // Rows: how many.
+    // Rows: their number.
     (&[6, 0, 0, 0, 0, 0, 0, 0, 1, 0, 0, 0, 0, 0, 0, 0, 0, 0], BAD),
     (
         &[6, 0, 0, 0, 0, 0, 0, 0, 1, 0, 0, 0, 0, 0, 0, 0, 4, 0],
@@ -90,7 +90,7 @@ fn fields_at_their_bounds(rt: HostRuntime) -> Result<(), Fail> {
     Ok(())
 }
 
-/// Puts so many bytes behind their length.
+/// Appends this many bytes behind their length.
 fn put_text(bytes: &mut Vec<u8>, len: u16) -> Result<(), Fail> {
     bytes.extend_from_slice(&len.to_be_bytes())?;
     for _ in 0..len {
@@ -99,7 +99,7 @@ fn put_text(bytes: &mut Vec<u8>, len: u16) -> Result<(), Fail> {
     Ok(())
 }
 
-/// What stands before a key of a Get or a value of a Value, its length, and the fault.
+/// The bytes before a key of a Get or a value of a Value, its length, and the error.
 static TEXTS: [(&[u8], u16, Option<FrameError>); 4] = [
     (&[5, 0, 0, 0, 0, 0, 0, 0, 1, 0], 1024, None),
     (&[5, 0, 0, 0, 0, 0, 0, 0, 1, 0], 1025, BAD),
@@ -126,14 +126,14 @@ fn keys_and_values_at_their_limits(rt: HostRuntime) -> Result<(), Fail> {
     Ok(())
 }
 
-/// Puts a put with a key and a value of these lengths.
+/// Appends a put with a key and a value of these lengths.
 fn put_edit(bytes: &mut Vec<u8>, key: u16, value: u16) -> Result<(), Fail> {
     bytes.push(1)?;
     put_text(bytes, key)?;
     put_text(bytes, value)
 }
 
-/// A Submit of so many puts with a key and a value of these lengths, and one with this value.
+/// A Submit of this many puts with a key and a value of these lengths, and one with this value.
 fn submit_of(alloc: Global, count: u16, key: u16, value: u16, last: u16) -> Result<Vec<u8>, Fail> {
     let mut bytes = [4, 0, 0, 0, 0, 0, 0, 0, 1].to_vec(alloc)?;
     bytes.extend_from_slice(&count.saturating_add(1).to_be_bytes())?;
@@ -144,7 +144,7 @@ fn submit_of(alloc: Global, count: u16, key: u16, value: u16, last: u16) -> Resu
     Ok(bytes)
 }
 
-/// Puts, as `submit_of` takes them, and the fault.
+/// Arguments of `submit_of`, and the error.
 static BATCHES: [(u16, u16, u16, u16, Option<FrameError>); 6] = [
     // 256 edits, and 257.
     (255, 0, 0, 0, None),
@@ -177,8 +177,8 @@ fn row_of(alloc: Global, key: usize, value: usize) -> Result<Row, Fail> {
     Ok(Row { key, value })
 }
 
-/// The fault of a page of so many rows of a key and a value of these lengths, and one with this
-/// value.
+/// The error of a page of this many rows with a key and a value of these lengths, and one row with
+/// this value.
 fn page_fault(
     alloc: Global,
     count: usize,
@@ -199,7 +199,7 @@ fn page_fault(
     fault_of(alloc, &write(alloc, &frame)?)
 }
 
-/// Rows, as `page_fault` takes them, and the fault.
+/// Arguments of `page_fault`, and the error.
 static PAGES: [(usize, usize, usize, usize, Option<FrameError>); 4] = [
     // 98,304 bytes, and 98,305: a row counts its key, its value and 4.
     (5, 1024, 16384, 11240, None),

@@ -34,10 +34,10 @@ fn value_of(alloc: Global, len: usize) -> Result<Value, Fail> {
     Ok(Value::new(vec![in alloc; 118u8; len]?)?)
 }
 
-/// Lengths of keys and values, with which a batch is spelled in 65,536 bytes.
+/// The lengths of keys and values in a batch that is spelled in 65,536 bytes.
 const BATCH: [(usize, usize); 4] = [(1024, 16384), (1024, 16384), (1024, 16384), (0, 13290)];
 
-/// The same of rows, which make a page of 98,304 bytes.
+/// The lengths of keys and values in rows of a page of 98,304 bytes.
 const PAGE: [(usize, usize); 6] = [
     (1024, 16384),
     (1024, 16384),
@@ -115,7 +115,7 @@ fn add_links(alloc: Global, frames: &mut Vec<Frame>, big: bool) -> Result<(), Fa
     Ok(frames.push(Frame::Notice { epoch, config })?)
 }
 
-/// What clients ask.
+/// The requests of clients.
 fn add_requests(alloc: Global, frames: &mut Vec<Frame>, big: bool) -> Result<(), Fail> {
     let (request, at) = (number_of(big)?, at_of(big)?);
     let batch = batch_of(alloc, big)?;
@@ -129,7 +129,7 @@ fn add_requests(alloc: Global, frames: &mut Vec<Frame>, big: bool) -> Result<(),
     Ok(frames.push(Frame::Close { request, number })?)
 }
 
-/// What clients are told.
+/// The replies to clients.
 fn add_replies(alloc: Global, frames: &mut Vec<Frame>, big: bool) -> Result<(), Fail> {
     let request = number_of(big)?;
     let number = request;
@@ -164,7 +164,7 @@ fn frames_of(alloc: Global, big: bool) -> Result<Vec<Frame>, Fail> {
     Ok(frames)
 }
 
-/// What the frame is read and written as.
+/// The results of writing and reading the frame.
 fn again(alloc: Global, bytes: &[u8]) -> Result<Vec<u8>, Fail> {
     let mut reader = FrameReader::new(alloc);
     reader.feed(bytes)?;
@@ -172,7 +172,7 @@ fn again(alloc: Global, bytes: &[u8]) -> Result<Vec<u8>, Fail> {
     Ok(write(alloc, &frame)?)
 }
 
-/// The lengths of the frames, by what their fields take, without the length field.
+/// The lengths of the frames by the sizes of their fields, without the length field.
 const SMALLEST: [u32; 14] = [20, 23, 8, 14, 12, 18, 10, 17, 17, 18, 20, 17, 10, 17];
 
 const LARGEST: [u32; 14] = [

@@ -1,4 +1,4 @@
--- An open engine over a node's files: its numbers, and what it holds.
+-- An open engine over a node's files: its numbers, and the batches that it holds.
 use Rattle.std.specs.Prelude.{◌≡◌, ℕ, ◌+◌, ◌≤◌, List, length, All}
 use Rattle.kv_types.specs.declared.bounds.TheConstants.{MAX_NUMBER}
 use Rattle.kv_types.specs.Content.{BatchContent}
@@ -13,7 +13,7 @@ use Rattle.node.specs.declared.layout.Identity.{Identity}
 use Rattle.node.specs.Layout.{batches_file, records_from}
 use Rattle.node.specs.Files.{HasPlainNumbers, IsSureOfId, KeepsOthers}
 
--- how many batches it has
+-- the number of its batches
 abbrev pub engine_count : Engine → ℕ
 engine_count engine = length engine.batches.items
 
@@ -21,15 +21,15 @@ engine_count engine = length engine.batches.items
 abbrev pub engine_epoch : Engine → ℕ
 engine_epoch engine = 0
 
--- the least number that it can be read at
+-- the least number at which it can be read
 abbrev pub engine_floor : Engine → ℕ
 engine_floor engine = 0
 
--- so many of its first batches it has given up
+-- the number of batches trimmed from the front of its logs
 abbrev pub engine_kept : Engine → ℕ
 engine_kept engine = 0
 
--- no append of it failed, and its numbers are in order
+-- none of its appends failed, and its numbers are in order
 pub record IsUsable (engine : Engine) : Type 0 where
   pub works : HasFailed engine.log → ⊥
   pub kept : engine_kept engine ≤ engine_floor engine
@@ -40,7 +40,7 @@ pub record IsUsable (engine : Engine) : Type 0 where
 abbrev pub IsNearlyFull : Engine → Type 0
 IsNearlyFull engine = EndsOutOfRange (gate_of engine.log) (MAX_RECORD + 6)
 
--- an open engine holds what the disk represents: it is there, and a crash leaves it
+-- an open engine holds the state that the disk durably represents
 pub record EngineHolds (disk : State) (engine : Engine) (x epoch : ℕ) (ids : List ℕ)
     (list : List BatchContent) (floor kept : ℕ) : Type 0 where
   pub id : IsSureOfId disk x ids
@@ -58,19 +58,19 @@ pub record HasNumbersOf (engine : Engine) (n : Machine) : Type 0 where
   pub floor : n.floor ≡ engine_floor engine
   pub kept : n.kept ≡ engine_kept engine
 
--- what was opened is the engine of node x with this configuration and these batches
+-- the result of opening is the engine of node x with this configuration and these batches
 pub record IsOpened (disk : State) (identity : Identity) (engine : Engine) (x epoch : ℕ)
     (ids : List ℕ) (list : List BatchContent) (floor kept : ℕ) : Type 0 where
   pub id : identity.id ≡ x
   pub config : identity.config ≡ ids
   pub holds : EngineHolds disk engine x epoch ids list floor kept
 
--- Where the engine's log is in its place, the files that are no node's are as they were. The log of
--- an engine that holds batches is (`EngineHolds`).
+-- Where the engine's log is in its place, the files outside the node's layout are unchanged. The
+-- log of an engine that holds batches is in its place (`EngineHolds`).
 abbrev pub KeepsOthersOf : Engine → State → State → Type 0
 KeepsOthersOf engine old new = file_of engine.log ≡ batches_file → KeepsOthers old new
 
--- the files that are no node's are as they were, and the engine holds what it held
+-- the files outside the node's layout are unchanged, and the engine holds the same state
 pub record KeepsStore (engine : Engine) (old new : State) : Type 0 where
   pub others : KeepsOthers old new
   pub holds : (x epoch : ℕ) (ids : List ℕ) (list : List BatchContent) (floor kept : ℕ) →

@@ -1,4 +1,4 @@
--- The files of a node: what their contents represent, and what a crash leaves of them.
+-- The files of a node: the state that their contents represent, and their crash outcomes.
 use Rattle.std.specs.Prelude.{◌≡◌, ◌⊎◌, ◌≤◌, ℕ, List, [], length, Option, All}
 use Rattle.std.specs.Prelude.{IsSomeAnd, MatchOption}
 use Rattle.kv_types.specs.declared.bounds.TheConstants.{MAX_NUMBER}
@@ -12,7 +12,7 @@ use Rattle.configurations.specs.Configs.{IsConfig}
 use Rattle.node.specs.Layout.{identity_file, batches_file, identity_records, records_from}
 use Rattle.node.specs.Layout.{IsOwnFile}
 
--- a file is there, and is a log of these records
+-- the file exists, and is a log of these records
 abbrev pub IsLog : Option (List ℕ) → List (List ℕ) → Type 0
 IsLog file records = IsSomeAnd file (λ bytes. StandsFor bytes records)
 
@@ -24,13 +24,13 @@ IsBlankFile file = MatchOption file (Unit {0}) (λ bytes. (bytes ≡ []) ⊎ Sta
 abbrev pub IsBlank : Contents → Type 0
 IsBlank left = IsBlankFile (left identity_file)
 
--- what a disk has of the identity file stands for node x with this configuration
+-- the identity file represents node x with this configuration
 pub record HasId (left : Contents) (x : ℕ) (ids : List ℕ) : Type 0 where
   pub id : IsId x
   pub config : IsConfig ids
   pub identity : IsLog (left identity_file) (identity_records x ids)
 
--- what a disk has stands for node x with this configuration and these batches
+-- the disk represents node x with this configuration and these batches
 pub record HasBatches (left : Contents) (x : ℕ) (ids : List ℕ) (list : List BatchContent) : Type 0
   where
     pub id : HasId left x ids
@@ -38,27 +38,27 @@ pub record HasBatches (left : Contents) (x : ℕ) (ids : List ℕ) (list : List 
     pub each : All IsBatch list
     pub few : length list ≤ MAX_NUMBER
 
--- The numbers of a node that this layout has room for: its configuration is the first one, and
--- neither its floor nor its kept number ever rose.
+-- The numbers that this layout can represent: the configuration is the first one, and neither the
+-- floor nor the kept number ever rose.
 pub record HasPlainNumbers (epoch floor kept : ℕ) : Type 0 where
   pub first : epoch ≡ 0
   pub not_raised : floor ≡ 0
   pub none_dropped : kept ≡ 0
 
--- what a disk has represents node x: its configuration, number `epoch` in the list of
--- configurations, its batches, its floor and its kept number
+-- The disk's content represents node x: its configuration, number `epoch` in the list of
+-- configurations, its batches, its floor and its kept number.
 pub record DiskRepresents (left : Contents) (x epoch : ℕ) (ids : List ℕ) (list : List BatchContent)
     (floor kept : ℕ) : Type 0 where
   pub batches : HasBatches left x ids list
   pub numbers : HasPlainNumbers epoch floor kept
 
--- what a disk has is neither blank nor a node's
+-- the disk is neither blank nor represents a node
 pub record IsDamaged (left : Contents) : Type 0 where
   pub created : IsBlank left → ⊥
   pub no_node : (x epoch : ℕ) (ids : List ℕ) (list : List BatchContent) (floor kept : ℕ) →
       DiskRepresents left x epoch ids list floor kept → ⊥
 
--- the identity file is that of node x with this configuration, and a crash leaves it as it is
+-- the identity file represents node x with this configuration, and is durable
 pub record IsSureOfId (disk : State) (x : ℕ) (ids : List ℕ) : Type 0 where
   pub id : IsId x
   pub config : IsConfig ids
@@ -66,26 +66,26 @@ pub record IsSureOfId (disk : State) (x : ℕ) (ids : List ℕ) : Type 0 where
   pub sure : IsSureOf disk identity_file bytes
   pub identity : StandsFor bytes (identity_records x ids)
 
--- it was that of node x, and a crash leaves it as it is
+-- the identity file represented node x with this configuration, and is now durable
 pub record IsSureId (old new : State) (x : ℕ) (ids : List ℕ) : Type 0 where
   pub had : HasId (contents old) x ids
   pub sure : IsSureOfId new x ids
 
--- the files that are no node's are as they were
+-- the files outside the node's layout are unchanged
 abbrev pub KeepsOthers : State → State → Type 0
 KeepsOthers old new = (other : ℕ) → (IsOwnFile other → ⊥) → new other ≡ old other
 
--- a crash leaves nothing now that it could not have left before
+-- every crash outcome was possible before
 abbrev pub LeavesNoMore : State → State → Type 0
 LeavesNoMore old new = (left : Contents) → MayLeave new left → MayLeave old left
 
--- what recovery leaves: a crash leaves no more than before, and the files that are no node's are as
--- they were
+-- The state after recovery: every crash outcome was possible before, and the files outside the
+-- node's layout are unchanged.
 pub record IsRecovered (old new : State) : Type 0 where
   pub crash : LeavesNoMore old new
   pub others : KeepsOthers old new
 
--- whatever a crash leaves of a disk represents node x with one of two lists of batches
+-- every crash outcome of the disk represents node x with one of two lists of batches
 abbrev pub KeepsOneOf : State → (x epoch : ℕ) → List ℕ → (list more : List BatchContent) →
     (floor kept : ℕ) → Type 0
 KeepsOneOf disk x epoch ids list more floor kept = (left : Contents) → MayLeave disk left →

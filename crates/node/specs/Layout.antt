@@ -12,7 +12,7 @@ identity_file = 1
 abbrev pub batches_file : ℕ
 batches_file = 3
 
--- a file is one that a node writes
+-- the file is one that a node writes
 abbrev pub IsOwnFile : ℕ → Type 0
 IsOwnFile file = (file ≡ identity_file) ⊎ (file ≡ batches_file)
 

@@ -1,4 +1,4 @@
--- What the calls that take a disk answer: a node, or why not.
+-- The answers of the calls that receive a disk: a node, or a refusal.
 use Rattle.std.specs.Prelude.{ℕ, Result, Ok, Err}
 use Rattle.disk.specs.State.{State, Contents, contents}
 use Rattle.chain_model.specs.Node.{started}
@@ -9,7 +9,7 @@ use Rattle.node.specs.Files.{IsBlank, IsDamaged}
 use Rattle.chain_core.specs.States.{Machine}
 use Rattle.node.specs.Steps.{Rests, Runs}
 
--- a node that was started runs as a node that its disk stood for
+-- the started node refines a machine that its disk represented
 pub record IsStarted {D : Type 0} (is_honest : D → Type 0) (state : D → State) (disk : D)
     (node : Node D) : Type 0 where
   pub x : ℕ
@@ -17,14 +17,14 @@ pub record IsStarted {D : Type 0} (is_honest : D → Type 0) (state : D → Stat
   pub stood : Rests (contents (state disk)) x n
   pub runs : Runs is_honest state node x (started x n)
 
--- why a disk was not started, by what it has
+-- why no node was started from a disk, by its content
 abbrev pub Declines : Stop → Contents → Type 0
 Declines stop.Disk left = Unit {0}
 Declines stop.Damaged left = IsDamaged left
 Declines stop.Memory left = Unit {0}
 Declines stop.NotCreated left = IsBlank left
 
--- the disk that a call took: the node has it, or the refusal hands it back
+-- the disk that a call received: the node has it, or the refusal returns it
 abbrev pub disk_behind : {D : Type 0} → Result (Node D) (Stop × D) → D
 disk_behind (Ok node) = node.disk
 disk_behind (Err refused) = refused.1

@@ -19,11 +19,11 @@ use Rattle.node.specs.declared.output.Reply.TheVariants as reply
 use Rattle.node.specs.Files.{DiskRepresents}
 use Rattle.node.specs.Engines.{EngineHolds, IsUsable, engine_count, engine_kept}
 
--- what a disk has represents node x with this machine's configuration, batches and numbers
+-- the disk's content represents node x with this machine's configuration, batches and numbers
 abbrev pub Rests : Contents → ℕ → Machine → Type 0
 Rests left x n = DiskRepresents left x n.epoch n.ids n.list n.floor n.kept
 
--- .. as it reads, and whatever a crash leaves of it
+-- the disk represents node x with this machine, as it reads and in every crash outcome
 abbrev pub AlwaysRests : State → ℕ → Machine → Type 0
 AlwaysRests disk x n = (left : Contents) → MayLeave disk left → Rests left x n
 
@@ -35,8 +35,8 @@ disk_of node = node.disk
 abbrev pub engine_of : {D : Type 0} → Node D → Engine
 engine_of node = node.engine
 
--- a running node is node x, running as this machine: it has its numbers, and its batches are on
--- its disk
+-- The running node is node x and refines this machine: it has its numbers, and its batches are on
+-- its disk.
 pub record Runs {D : Type 0} (is_honest : D → Type 0) (state : D → State) (node : Node D) (x : ℕ)
     (n : Machine) : Type 0 where
   pub honest : is_honest node.disk
@@ -44,7 +44,7 @@ pub record Runs {D : Type 0} (is_honest : D → Type 0) (state : D → State) (n
   pub core : Is node.core n
   pub id : node.core.id ≡ x
 
--- its engine is usable and has the numbers that the node knows, so a step may follow
+-- its engine is usable and has the numbers of the node's state, so another step can follow
 pub record MayStep {D : Type 0} (node : Node D) : Type 0 where
   pub usable : IsUsable node.engine
   pub count : node.core.count ≡ engine_count node.engine
@@ -59,7 +59,7 @@ value_for (input.Forward epoch from number batch) i s batches = []
 value_for (input.Ack epoch from committed have) i s batches = []
 value_for input.Tick i s batches = []
 
--- what a client is told where the machine replies. (No input asks for the other replies yet.)
+-- the reply to a client for a reply of the machine (no input requests the other replies yet)
 abbrev pub told_as : Input → model_request.Reply BatchContent → List Reply
 told_as input (model_request.Committed i k) = reply.Committed i k ∷ []
 told_as input (model_request.Shows i s batches) = value_for input i s batches
@@ -74,8 +74,8 @@ replies_of input replies = flat_map (told_as input) replies
 abbrev pub AreReplies : Input → List (model_request.Reply BatchContent) → List Reply → Type 0
 AreReplies input of_machine replies = replies ≡ replies_of input of_machine
 
--- a node that answered is the machine after the step, and has dropped, sent and replied what that
--- does
+-- A node that answered refines the machine after the step. Its drop, frames and replies are those
+-- of the machine.
 pub record Answers {D : Type 0} (is_honest : D → Type 0) (state : D → State) (new : Node D) (x : ℕ)
     (input : Input) (a : model.Answer BatchContent) (output : Output) : Type 0 where
   pub runs : Runs is_honest state new x a.node
@@ -83,7 +83,6 @@ pub record Answers {D : Type 0} (is_honest : D → Type 0) (state : D → State)
   pub frames : AreFrames output.frames.items a.frames
   pub replied : AreReplies input a.replies output.replies.items
 
--- a node that stopped in a step leaves a disk that stands for the machine as before the step or as
--- after it
+-- The disk of a node that stopped in a step represents the machine before the step or after it.
 abbrev pub StopsAs : State → ℕ → Machine → model.Answer BatchContent → Type 0
 StopsAs disk x n a = (left : Contents) → MayLeave disk left → Rests left x n ⊎ Rests left x a.node

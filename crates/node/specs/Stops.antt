@@ -1,4 +1,4 @@
--- How a node tells what its disk and its log told it.
+-- The node's report of the errors of its disk and its log.
 use Rattle.std.specs.Prelude.{◌≡◌, ◌⊎◌, Result, Err}
 use Rattle.disk.specs.declared.error.DiskError.{DiskError}
 use Rattle.disk.specs.declared.error.DiskError.TheVariants as disk
@@ -21,15 +21,15 @@ log_stop log.TooLong = stop.Damaged
 log_stop log.Failed = stop.Damaged
 
 
--- a call stops the node for the disk
+-- the call stops the node because of the disk
 abbrev pub TellsDisk : {T : Type 0} → Result T Stop → Type 0
 TellsDisk result = result ≡ Err stop.Disk
 
--- the causes that say nothing of what the disk has
+-- the causes that say nothing of the disk's content
 abbrev pub IsOfMachine : Stop → Type 0
 IsOfMachine e = (e ≡ stop.Disk) ⊎ (e ≡ stop.Memory)
 
--- what a stop says of whether a node was ever created on the disk
+-- what a stop says about whether a node was ever created on the disk
 abbrev pub TellsBlank : Stop → Type 0 → Type 0
 TellsBlank stop.Disk is_blank = Unit {0}
 TellsBlank stop.Damaged is_blank = is_blank → ⊥

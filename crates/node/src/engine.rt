@@ -1,4 +1,4 @@
-// A node's store on its disk: a log of batches, and the batches in memory.
+// The store of a node on its disk: a log of batches, and the batches in memory.
 ghost use Rattle.std.specs.Prelude.{◌≡◌, ◌≢◌, ℕ, ◌+◌, ◌<◌, [], ◌∷◌, ◌++◌};
 ghost use Rattle.std.specs.Prelude.{◌≤◌, List, length, take, slice_get, All, Some, MatchOption};
 ghost use Rattle.std.specs.Prelude.{IfOk, IfErr, OnOk, MatchResult};
@@ -33,14 +33,14 @@ use kv_types::{Batch, Key, Number, Value, value_at};
 use record_log::{Log, one_list};
 use std::alloc::Global;
 
-/// The store of a node: its batches in a log, and in memory. The disk is lent to it at each call.
+/// The store of a node: its batches in a log, and in memory. Each call borrows the disk.
 #[derive(Debug, Drop)]
 pub struct Engine {
     log: Log,
     batches: Vec<Batch>,
 }
 
-/// The batch of a log's record, which has the number that the record's place gives it.
+/// The batch of a log's record, whose number follows from the record's place.
 fn batch_at<D: Disk>(alloc: Global, disk: &mut D, log: &Log, index: usize) -> Result<Batch, Stop>
     requires works { HasFailed log.now → ⊥ }
     requires within { index < count_of log.now }
@@ -58,7 +58,7 @@ fn batch_at<D: Disk>(alloc: Global, disk: &mut D, log: &Log, index: usize) -> Re
     batch_of(alloc, index as u64 + 1, &record)
 }
 
-/// The batches that a log has, in order of number.
+/// The batches of a log, in order of number.
 fn batches_in<D: Disk>(alloc: Global, disk: &mut D, log: &Log) -> Result<Vec<Batch>, Stop>
     requires { HasFailed log.now → ⊥ }
     ensures kept { KeepsDisk D.Disk disk.old disk.new (TellsDisk result) ⊥ IsSame }
@@ -82,7 +82,7 @@ fn batches_in<D: Disk>(alloc: Global, disk: &mut D, log: &Log) -> Result<Vec<Bat
     Ok(batches)
 }
 
-/// The node that a log's only record names.
+/// The identity in a log's only record.
 fn identity_in<D: Disk>(alloc: Global, disk: &mut D, log: &Log) -> Result<Identity, Stop>
     requires { HasFailed log.now → ⊥ }
     ensures kept { KeepsDisk D.Disk disk.old disk.new (TellsDisk result) ⊥ IsSame }
@@ -107,7 +107,7 @@ fn identity_in<D: Disk>(alloc: Global, disk: &mut D, log: &Log) -> Result<Identi
     identity_of(alloc, &record)
 }
 
-/// How many bytes a file has: none where it is absent.
+/// The length of a file in bytes, or 0 if it is absent.
 fn length_of<D: Disk>(disk: &mut D, file: u64) -> Result<u64, Stop>
     ensures kept { KeepsDisk D.Disk disk.old disk.new (TellsDisk result) ⊥ IsSame }
     ensures length { D.is_honest disk.old → MatchResult result
@@ -122,7 +122,7 @@ fn length_of<D: Disk>(disk: &mut D, file: u64) -> Result<u64, Stop>
     }
 }
 
-/// The node whose identity is on the disk.
+/// The identity of the node on the disk.
 fn identity_on<D: Disk>(alloc: Global, disk: &mut D) -> Result<Identity, Stop>
     ensures kept { KeepsDisk D.Disk disk.old disk.new (TellsDisk result) ⊥
         (AddsNoOutcome identity_file) }
@@ -142,7 +142,7 @@ fn identity_on<D: Disk>(alloc: Global, disk: &mut D) -> Result<Identity, Stop>
 }
 
 impl Engine {
-    /// Makes the files of a node that has no batches, or begins anew those that are there.
+    /// Creates the files of a node without batches, or overwrites existing ones.
     pub fn create<D: Disk>(
         alloc: Global,
         disk: &mut D,
@@ -167,7 +167,7 @@ impl Engine {
         Ok(Engine { log, batches })
     }
 
-    /// The node and the store that the disk has.
+    /// Opens the node and the store of the disk.
     pub fn open<D: Disk>(alloc: Global, disk: &mut D) -> Result<(Identity, Engine), Stop>
         ensures kept { KeepsDisk D.Disk disk.old disk.new (TellsDisk result) ⊥ IsRecovered }
         ensures opened { (x epoch : ℕ) (ids : List ℕ) (list : List BatchContent) (floor kept : ℕ) →
@@ -190,7 +190,7 @@ impl Engine {
         Ok((identity, Engine { log, batches }))
     }
 
-    /// How many batches it has.
+    /// The number of batches.
     pub fn count(&self) -> Number
         requires { IsUsable self.now }
         ensures { result ≡ engine_count self.now }
@@ -198,28 +198,28 @@ impl Engine {
         Number::new(self.batches.len() as u64).unwrap()
     }
 
-    /// The place of its configuration in the list of configurations.
+    /// The place of the node's configuration in the list of configurations.
     pub fn epoch(&self) -> Epoch
         ensures { result ≡ engine_epoch self.now }
     {
         Epoch::FIRST
     }
 
-    /// The least number that it can be read at.
+    /// The least number at which the store can be read.
     pub fn floor(&self) -> Number
         ensures { result ≡ engine_floor self.now }
     {
         Number::ZERO
     }
 
-    /// So many of its first batches it has given up.
+    /// The number of batches trimmed from the front of its logs.
     pub fn kept(&self) -> Number
         ensures { result ≡ engine_kept self.now }
     {
         Number::ZERO
     }
 
-    /// Adds a batch. Four device calls.
+    /// Appends a batch. It needs four device calls.
     pub fn append<D: Disk>(&mut self, alloc: Global, disk: &mut D, batch: Batch) -> Result<(), Stop>
         requires usable { IsUsable self.old }
         requires room { engine_count self.old < MAX_NUMBER }
@@ -231,7 +231,7 @@ impl Engine {
             MatchResult result (λ _. EngineHolds (D.state disk.new) self.new x epoch ids
             (list ++ batch ∷ []) floor kept) IsOfMachine }
 
-        // A crash now, whatever the answer, leaves the old batches, with the new one or without.
+        // A crash now, whatever the answer, leaves the old batches, with or without the new one.
         ensures crash { (x epoch : ℕ) (ids : List ℕ) (list : List BatchContent)
             (floor kept : ℕ) → D.is_honest disk.old →
             EngineHolds (D.state disk.old) self.old x epoch ids list floor kept →
@@ -263,7 +263,7 @@ impl Engine {
         Ok(self.batches[number.get() as usize - 1].clone()?)
     }
 
-    /// What the key has in the map of so many first batches.
+    /// The value of the key in the map of the first `at` batches.
     pub fn get<D: Disk>(&self, disk: &mut D, at: Number, key: &Key) -> Result<Option<Value>, Stop>
         ensures kept { KeepsDisk D.Disk disk.old disk.new (TellsDisk result) ⊥
             (KeepsStore self.now) }

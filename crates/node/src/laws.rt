@@ -1,4 +1,5 @@
-//! What holds of the words of contracts. The functions do nothing: their clauses are the laws.
+//! Laws of the definitions that contracts use. The functions do nothing: their clauses are the
+//! laws.
 ghost use Rattle.std.specs.Prelude.{ℕ};
 ghost use Rattle.chain_core.specs.States.{Machine};
 ghost use Rattle.node.specs.declared.node.Node.{Node};
@@ -7,7 +8,7 @@ ghost use Rattle.node.specs.Steps.{Runs, AlwaysRests, disk_of};
 use disk::Disk;
 use disk::laws::sure_is_left;
 
-/// The disk of a running node represents it, as it reads and whatever a crash leaves.
+/// The disk of a running node represents it, as it reads and in every crash outcome.
 pub fn disks_represent<D: Disk + Drop>()
     ensures { (node : Node D) (x : ℕ) (n : Machine) → Runs D.is_honest D.state node x n →
         AlwaysRests (D.state (disk_of node)) x n }

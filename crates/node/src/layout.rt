@@ -17,7 +17,7 @@ pub const IDENTITY_FILE: u64 = 1;
 /// The file of the node's batches.
 pub const BATCHES_FILE: u64 = 3;
 
-/// What a node keeps besides its batches.
+/// The identity of a node: what it keeps besides its batches.
 #[derive(Debug, Drop)]
 pub struct Identity {
     pub id: NodeId,
@@ -70,7 +70,7 @@ pub fn batch_record(alloc: Global, number: u64, batch: &Batch) -> Result<Vec<u8>
     Ok(out)
 }
 
-/// The batch of a record, if that has this number.
+/// The batch of a record, if the record has this number.
 pub fn batch_of(alloc: Global, number: u64, bytes: &[u8]) -> Result<Batch, Stop>
     ensures found { IfOk result (λ batch. (bytes.now ≡ batch_record number batch) × IsBatch batch) }
     ensures damaged { IsErrOf result Stop.Damaged → (batch : BatchContent) → IsBatch batch →

@@ -41,7 +41,7 @@ pub struct Node<D: Disk + Drop> {
     limits: Limits,
 }
 
-// What a node knows as it starts with an engine.
+// The state of a node that starts with an engine.
 fn core_of(alloc: Global, identity: Identity, engine: &Engine) -> CoreState
     requires { IsUsable engine.now }
     ensures id { result.id ≡ identity.id }
@@ -92,8 +92,8 @@ fn resent<D: Disk>(
 }
 
 impl<D: Disk + Drop> Node<D> {
-    /// Makes a node's files on a disk, or begins anew those that are there, and runs it. A refusal
-    /// hands the disk back, with none, one or both of them begun.
+    /// Creates a node's files on a disk, or overwrites existing ones, and runs the node. A refusal
+    /// returns the disk, with none, one or both of the files begun.
     pub fn create(
         alloc: Global,
         mut disk: D,
@@ -122,7 +122,7 @@ impl<D: Disk + Drop> Node<D> {
         }
     }
 
-    /// Runs the node that the disk has. A refusal hands the disk back.
+    /// Runs the node of the disk. A refusal returns the disk.
     pub fn start(alloc: Global, mut disk: D, limits: &Limits) -> Result<Node<D>, (Stop, D)>
         ensures kept { KeepsDisk D.Disk disk (disk_behind result)
             (IsErrAnd result (λ refused. refused.0 ≡ Stop.Disk)) ⊥ IsRecovered }
@@ -146,7 +146,7 @@ impl<D: Disk + Drop> Node<D> {
         }
     }
 
-    // A batch is appended, and the node knows of it.
+    // Appends a batch to the store, and then to the node's state.
     fn take(&mut self, alloc: Global, batch: Batch, done: Done) -> Result<Vec<Waiting>, Stop>
         requires may { MayStep self.old }
         requires room { self.old.core.count < MAX_NUMBER }
@@ -161,7 +161,7 @@ impl<D: Disk + Drop> Node<D> {
         Ok(self.core.after(alloc, done)?)
     }
 
-    // The head takes a batch: it is on the disk before it is forwarded or acknowledged.
+    // Accepts a client's batch at the head: it is durable before it is forwarded or acknowledged.
     fn accept(&mut self, alloc: Global, request: Number, batch: Batch) -> Result<Output, Stop>
         requires may { MayStep self.old }
         requires room { self.old.core.count < MAX_NUMBER }
@@ -177,7 +177,7 @@ impl<D: Disk + Drop> Node<D> {
         output_taken(alloc, &self.core, copy, false, &due)
     }
 
-    // The next batch of the predecessor is taken. A tail commits it, and acknowledges it.
+    // Appends the next batch of the predecessor. A tail commits it, and acknowledges it.
     fn append(&mut self, alloc: Global, batch: Batch) -> Result<Output, Stop>
         requires may { MayStep self.old }
         requires room { self.old.core.count < MAX_NUMBER }
@@ -194,7 +194,7 @@ impl<D: Disk + Drop> Node<D> {
         output_taken(alloc, &self.core, copy, self.core.is_tail(), &due)
     }
 
-    // What the successor tells is taken, and passed on where more is committed.
+    // Applies the successor's report, and reports to the predecessor if more is committed.
     fn pass_on(&mut self, alloc: Global, committed: Number, have: Number) -> Result<Output, Stop>
         requires may { MayStep self.old }
         requires there { (committed ≤ have) × (have ≤ self.old.core.count) }
@@ -211,7 +211,7 @@ impl<D: Disk + Drop> Node<D> {
         output_of(alloc, &self.core, Vec::new(alloc), grows, &due)
     }
 
-    // What the successor is not known to have is sent again, and the predecessor told.
+    // Sends again the batches that the successor may lack, and acknowledges again.
     fn resend(&mut self, alloc: Global) -> Result<Output, Stop>
         requires { MayStep self.old }
         ensures kept { KeepsNode D.Disk self.old self.new result }
@@ -223,7 +223,7 @@ impl<D: Disk + Drop> Node<D> {
         output_of(alloc, &self.core, sent, true, &[])
     }
 
-    // The client is shown what the key has at a number.
+    // Answers the client with the value of the key at a number.
     fn read(&mut self, alloc: Global, request: Number, key: Key, at: Number) -> Result<Output, Stop>
         requires { MayStep self.old }
         ensures kept { KeepsNode D.Disk self.old self.new result }
@@ -236,7 +236,7 @@ impl<D: Disk + Drop> Node<D> {
         show(alloc, request, at, value)
     }
 
-    // What was decided is done.
+    // Executes a decision.
     fn perform(&mut self, alloc: Global, decision: Decision) -> Result<Output, Stop>
         requires may { MayStep self.old }
         requires room { HasRoomFor self.old.core.count decision }
@@ -257,8 +257,8 @@ impl<D: Disk + Drop> Node<D> {
         }
     }
 
-    /// Handles an input to its end. A batch is on the disk before it is sent on or acknowledged.
-    /// After a `Stop` the node is at its end: its disk is what is left of it.
+    /// Handles an input completely. A batch is durable before it is forwarded or acknowledged.
+    /// After a `Stop` the node has ended, and only its disk remains of use.
     pub fn step(&mut self, alloc: Global, input: Input) -> Result<Output, Stop>
         requires { MayStep self.old }
         ensures kept { KeepsNode D.Disk self.old self.new result }
@@ -276,7 +276,7 @@ impl<D: Disk + Drop> Node<D> {
         self.core.id()
     }
 
-    /// The place of its configuration in the master's list.
+    /// The place of its configuration in the configuration service's list.
     pub fn epoch(&self) -> Epoch
         ensures { (x : ℕ) (n : Machine) → Runs D.is_honest D.state self.now x n →
             result ≡ n.epoch }
@@ -292,7 +292,7 @@ impl<D: Disk + Drop> Node<D> {
         self.core.config()
     }
 
-    /// How many batches the node has.
+    /// The number of batches of the node.
     pub fn count(&self) -> Number
         ensures { (x : ℕ) (n : Machine) → Runs D.is_honest D.state self.now x n →
             result ≡ length n.list }
@@ -300,7 +300,7 @@ impl<D: Disk + Drop> Node<D> {
         self.core.count()
     }
 
-    /// How many of them are committed.
+    /// The number of batches that it knows to be committed.
     pub fn committed(&self) -> Number
         ensures { (x : ℕ) (n : Machine) → Runs D.is_honest D.state self.now x n →
             result ≡ n.committed }
@@ -308,7 +308,7 @@ impl<D: Disk + Drop> Node<D> {
         self.core.committed()
     }
 
-    /// The least number that it can be read at.
+    /// The least number at which it can be read.
     pub fn floor(&self) -> Number
         ensures { (x : ℕ) (n : Machine) → Runs D.is_honest D.state self.now x n →
             result ≡ n.floor }
@@ -316,7 +316,8 @@ impl<D: Disk + Drop> Node<D> {
         self.core.floor()
     }
 
-    /// So many of its first batches it has given up.
+    /// The number of batches trimmed from the front of its logs: those from `kept + 1` on can still
+    /// be sent again.
     pub fn kept(&self) -> Number
         ensures { (x : ℕ) (n : Machine) → Runs D.is_honest D.state self.now x n →
             result ≡ n.kept }
@@ -324,14 +325,14 @@ impl<D: Disk + Drop> Node<D> {
         self.core.kept()
     }
 
-    /// How many tables each level has.
+    /// The number of tables of each level.
     pub fn tables(&self) -> [u64; 7]
         ensures { result ≡ replicate 7 0 }
     {
         [0; 7]
     }
 
-    /// The disk of a node that is at its end.
+    /// Returns the disk of a node that has ended.
     pub fn into_disk(self) -> D
         ensures disk { result ≡ disk_of self }
         ensures rests { (x : ℕ) (n : Machine) → Runs D.is_honest D.state self x n →

@@ -1,17 +1,17 @@
-// What a step answers: frames for other nodes, replies for clients.
+// The outputs of a step: frames for other nodes, replies for clients.
 use chain_core::{DropReason, Sent};
 use kv_types::{Number, Value};
 use link_messages::Refusal;
 
-/// What a client is told of a request.
+/// A reply to a client's request.
 #[derive(Debug, Drop)]
 pub enum Reply {
-    /// The batch has this number, and is committed.
+    /// The number of the client's batch, which is committed.
     Committed {
         request: Number,
         number: Number,
     },
-    /// What the key has at this number.
+    /// The value of the key at this number.
     Value {
         request: Number,
         number: Number,
@@ -23,13 +23,13 @@ pub enum Reply {
     },
 }
 
-/// What a step answers.
+/// The answer of a step.
 #[derive(Debug, Drop)]
 pub struct Output {
-    /// Why what came was dropped, if it was.
+    /// Why the input was dropped, if it was.
     pub dropped: Option<DropReason>,
-    /// What is sent to other nodes, in order.
+    /// The frames for other nodes, in order.
     pub frames: Vec<Sent>,
-    /// What clients are told, in order.
+    /// The replies for clients, in order.
     pub replies: Vec<Reply>,
 }

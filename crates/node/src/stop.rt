@@ -1,4 +1,4 @@
-// Why a node ended.
+// The causes for which a node ends.
 ghost use Rattle.std.specs.Prelude.{◌≡◌};
 ghost use Rattle.node.specs.declared.stop.Stop.TheVariants.{Memory};
 ghost use Rattle.node.specs.Stops.{disk_stop, log_stop};
@@ -9,12 +9,12 @@ use record_log::LogError;
 use std::alloc::{AllocError, AllocFailed};
 use thiserror::Error;
 
-/// Why a node ended. Only `start` brings it back.
+/// Why a node ended. Only `start` runs it again.
 #[derive(Clone, Copy, Debug, PartialEq, Eq, Error)]
 pub enum Stop {
     #[error("disk")]
     Disk = 1,
-    /// What the disk has is no node's layout.
+    /// The content of the disk is no node's layout.
     #[error("damaged")]
     Damaged,
     #[error("memory")]

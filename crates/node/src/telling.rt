@@ -1,4 +1,4 @@
-// What a step answers, from a node's numbers and what the store gave.
+// The output of a step, from a node's numbers and the results of its store.
 ghost use Rattle.std.specs.Prelude.{◌≡◌, ℕ, [], ◌∷◌, ◌++◌, List, map, take, Option};
 ghost use Rattle.std.specs.Prelude.{IfOk, IfErr, OnOk, option_to_list, if◌then◌else◌, Some};
 ghost use Rattle.kv_types.specs.Content.{BatchContent};
@@ -47,7 +47,7 @@ fn ack_where(core: &CoreState, acks: bool) -> Option<Sent>
     if acks { core.ack() } else { None }
 }
 
-// The last batch for the successor, if this is a copy of it.
+// The frame of the last batch for the successor, if this is a copy of it.
 fn forward_last(core: &CoreState, copy: Option<Batch>) -> Option<Sent>
     ensures { (n : Machine) (batch : BatchContent) → Is core.now n →
         place n.list core.now.count ≡ Some batch →
@@ -57,7 +57,7 @@ fn forward_last(core: &CoreState, copy: Option<Batch>) -> Option<Sent>
     core.forward(core.count(), copy?)
 }
 
-// Each of these requests is told that its batch is committed.
+// The acknowledgements of these requests, whose batches are committed.
 fn replies_to(alloc: Global, due: &[Waiting]) -> Result<Vec<Reply>, AllocError>
     ensures { IfOk result (λ replies. replies.items ≡ map told_to due.now) }
 {
@@ -84,8 +84,8 @@ fn replying(alloc: Global, reply: Reply) -> Result<Output, Stop>
     })
 }
 
-/// What a node sends and replies: these frames, where `acks` what it has for its predecessor, and
-/// an answer to each request that is due.
+/// The output of a step: these frames, where `acks` the acknowledgement for the predecessor, and a
+/// reply to each request that is due.
 pub(crate) fn output_of(
     alloc: Global,
     core: &CoreState,
@@ -108,7 +108,7 @@ pub(crate) fn output_of(
     })
 }
 
-/// .. once a batch was taken: it is forwarded, if this is a copy of it.
+/// The output after an append: the batch is forwarded, if this is a copy of it.
 pub(crate) fn output_taken(
     alloc: Global,
     core: &CoreState,
@@ -128,7 +128,8 @@ pub(crate) fn output_taken(
     output_of(alloc, core, sent, acks, due)
 }
 
-/// Another batch came than the next one: the predecessor is told again what is there.
+/// The output after a batch with an unexpected number: the node acknowledges again to its
+/// predecessor.
 pub(crate) fn tell_again(alloc: Global, core: &CoreState) -> Result<Output, Stop>
     ensures tells { (n : Machine) (input : Input) → Is core.now n →
         IfOk result (Tells input (tell_again core.now.id n)) }
@@ -143,7 +144,7 @@ pub(crate) fn tell_again(alloc: Global, core: &CoreState) -> Result<Output, Stop
     })
 }
 
-/// What the key has at this number is shown.
+/// The output of a read: the value of the key at this number.
 pub(crate) fn show(
     alloc: Global,
     request: Number,

@@ -1,5 +1,5 @@
-// What a node sends and replies, from its creation on. The lines and what is printed are a
-// script's: the node is created at line 1, and a request has its line's number.
+// The frames and replies of a node, from its creation on. Lines and outputs are those of a script:
+// the node is created at line 1, and a request has its line's number.
 use crate::running::{Line, Running, batch_of, created_in, number, started};
 use configurations::{Epoch, NodeId};
 use disk::{Crash, Junk, JunkBytes};
@@ -143,7 +143,7 @@ fn text_of(alloc: Global, output: &Output) -> Result<String, AllocError> {
     Ok(text)
 }
 
-/// The machine stops and starts, and the node is started.
+/// Stops and starts the machine and the node.
 fn restarted(alloc: Global, running: Running, junk: &[u8]) -> Result<Running, Fail> {
     let mut disk = running.node.into_disk();
     disk.crash(Junk::Bytes(JunkBytes::new(junk.to_vec(alloc)?)));
@@ -157,7 +157,7 @@ fn stepped(alloc: Global, running: Running, input: Input) -> Result<(Running, St
     Ok((Running { node }, text))
 }
 
-/// A node after a line, and what is printed for it.
+/// The node after a line, and the output of the line.
 fn done(
     alloc: Global,
     running: Running,
@@ -176,7 +176,7 @@ fn done(
     Ok((running, text))
 }
 
-/// What is printed for each line of a node with this configuration.
+/// The output of each line for a node with this configuration.
 fn printed(
     alloc: Global,
     id: u16,
@@ -294,7 +294,7 @@ const MIDDLE: &[(u64, Line, &'static str)] = &[
     (10, Line::Submit(A1), "10: refused 2 NotHead"),
     (11, Line::Get("a", None), "11: value 1 at 1"),
     (12, Line::Tick, "2>1 ack 0 1 1"),
-    // It knows its configuration again, and of no commitment.
+    // It recovers its configuration, and knows of no commitment.
     (13, Line::Restart(&[]), "13: count 1 committed 0"),
     (14, Line::Tick, "2>3 forward 0 1 / 2>1 ack 0 0 1"),
     (15, Line::Forward(0, 1, 2), "2>3 forward 0 2"),
@@ -316,7 +316,7 @@ const TAIL: &[(u64, Line, &'static str)] = &[
     (8, Line::Tick, "3>2 ack 0 1 1"),
 ];
 
-// Node 4 is not in it.
+// Node 4 is not in the configuration.
 const REMOVED: &[(u64, Line, &'static str)] = &[
     (2, Line::Submit(A1), "2: refused 7 Removed"),
     (3, Line::Get("a", None), "3: refused 7 Removed"),
@@ -340,7 +340,7 @@ fn nodes_of_three(rt: HostRuntime) -> Result<(), Fail> {
     Ok(())
 }
 
-/// What a tick sends of a head that took so many batches.
+/// The frames of a tick at a head that accepted this many batches.
 fn resent(alloc: Global, batches: u64) -> Result<Vec<String>, Fail> {
     let mut running = created_in(alloc, 1, &[1, 2])?;
     for _ in 0..batches {

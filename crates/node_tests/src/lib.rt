@@ -1,4 +1,5 @@
-//! Tests of a node: what a client is told, which disks are started, what stands on them.
+//! Tests of a node: its replies to clients, the disks on which it starts, and the bytes of its
+//! disk.
 #![tactic(auto)]
 
 #[cfg(test)]

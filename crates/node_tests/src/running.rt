@@ -1,4 +1,4 @@
-// A running node, as the tests drive it.
+// A running node with the interface of the tests.
 use configurations::{Config, NodeId};
 use disk::MemDisk;
 use kv_types::{Batch, Edit, Key, KvError, Limits, Number, Value};
@@ -25,16 +25,16 @@ impl Model for Running {
 /// A put of one key, or its deletion where there is no value.
 pub type Change = (&'static str, Option<&'static str>);
 
-/// What comes to a node, or is done to it.
+/// An input or a stop of a node.
 pub enum Line {
     Submit(&'static [Change]),
     Get(&'static str, Option<u64>),
-    /// A batch that has this epoch, sender and number.
+    /// A Forward with this epoch, sender and number.
     Forward(u32, u16, u64),
-    /// An acknowledgement of this epoch and sender: what is committed, and what it has.
+    /// An Ack with this epoch, sender, committed number and number of batches.
     Ack(u32, u16, u64, u64),
     Tick,
-    /// The machine stops, with these bytes in the loose places, and the node is started again.
+    /// A crash with these bytes in the unsynced places, and a start of the node.
     Restart(&'static [u8]),
 }
 
@@ -74,7 +74,7 @@ pub fn created(alloc: Global) -> Result<Running, Stop> {
     created_in(alloc, 1, &[1])
 }
 
-/// The node that the disk has.
+/// The node that starts from the disk.
 pub fn started(alloc: Global, disk: MemDisk) -> Result<Running, Stop> {
     match Node::start(alloc, disk, &Limits::default()) {
         Ok(node) => Ok(Running { node }),

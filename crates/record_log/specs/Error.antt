@@ -1,17 +1,17 @@
--- How a log tells what the disk told it.
+-- The log's report of the disk's errors.
 use Rattle.std.specs.Prelude.{◌≡◌, Result, Err}
 use Rattle.disk.specs.declared.error.DiskError.{DiskError}
 use Rattle.disk.specs.declared.error.DiskError.TheVariants as disk
 use Rattle.record_log.specs.declared.error.LogError.{LogError}
 use Rattle.record_log.specs.declared.error.LogError.TheVariants as log
 
--- the disk's want of memory is the log's
+-- the disk's errors as errors of the log
 abbrev pub log_error : DiskError → LogError
 log_error disk.Failed = log.Disk disk.Failed
 log_error disk.NoFile = log.Disk disk.NoFile
 log_error disk.Short = log.Disk disk.Short
 log_error disk.Memory = log.Memory
 
--- the device failed in this call
+-- the call reports a failure of the device
 abbrev pub TellsFailure : {T : Type 0} → Result T LogError → Type 0
 TellsFailure result = result ≡ Err (log.Disk disk.Failed)

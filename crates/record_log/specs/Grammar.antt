@@ -1,35 +1,35 @@
--- Which records bytes stand for.
+-- The list of records that bytes represent.
 use Rattle.std.specs.Prelude.{◌≡◌, ◌≢◌, ℕ, ◌+◌, ◌<◌, ◌^◌, List, [], ◌∷◌, ◌++◌, length}
 use Rattle.std.specs.Int.{w32, to_be_bytes}
 
--- an open gate, the length, and the bytes
+-- the bytes of a record: an open gate, the length, and the record
 abbrev pub entry : List ℕ → List ℕ
 entry one = 1 ∷ to_be_bytes w32 (length one) ++ one
 
--- a closed gate, whatever follows it
+-- the bytes begin with a closed gate
 abbrev pub IsClosed : List ℕ → Type 0
 IsClosed bytes = (gate : ℕ) × (rest : List ℕ) × (gate ≢ 1) × (bytes ≡ gate ∷ rest)
 
--- A closed gate ends the records, whatever follows it. Behind an open one stand a record and the
--- bytes of the others.
+-- The bytes represent these records. A closed gate ends the list, whatever follows it. Behind an
+-- open gate follow a record and the bytes of the others.
 abbrev pub StandsFor : List ℕ → List (List ℕ) → Type 0
 StandsFor bytes [] = IsClosed bytes
 StandsFor bytes (first ∷ others) =
     (rest : List ℕ) × (length first < 2 ^ 32) × (bytes ≡ entry first ++ rest)
     × StandsFor rest others
 
--- the places behind each record, where the first begins at this place
+-- the places where the records end, if the first begins at this place
 abbrev pub ends_from : ℕ → List (List ℕ) → List ℕ
 ends_from at [] = []
 ends_from at (first ∷ others) =
     (at + 5 + length first) ∷ ends_from (at + 5 + length first) others
 
--- the place behind the last
+-- the place where the last record ends
 abbrev pub end_of : ℕ → List (List ℕ) → ℕ
 end_of at [] = at
 end_of at (first ∷ others) = end_of (at + 5 + length first) others
 
--- bytes stand for one list of records at most
+-- bytes represent at most one list of records
 abbrev pub OneList : Type 0
 OneList = (bytes : List ℕ) (records others : List (List ℕ)) →
     StandsFor bytes records → StandsFor bytes others → records ≡ others

@@ -7,19 +7,19 @@ use disk::DiskError;
 use std::alloc::{AllocError, AllocFailed};
 use thiserror::Error;
 
-/// Why a log refused. After `Disk` or `Memory` in `append` it answers `Failed` until it is opened
-/// again; then it has the old records, with the new one or without it.
+/// Why a log refused. After `Disk` or `Memory` in `append` every call answers `Failed` until the
+/// log is opened again. Then it has the old records, with or without the new one.
 #[derive(Clone, Copy, Debug, PartialEq, Eq, Error)]
 pub enum LogError {
-    /// The device failed, there is no such file, or the file stands for no records (`Short`).
+    /// The device failed, the file does not exist, or its bytes represent no records (`Short`).
     #[error("disk: {0}")]
     Disk(DiskError),
-    /// A record is longer than 16,777,216 bytes. The log is as it was.
+    /// A record is longer than 16,777,216 bytes. The log is unchanged.
     #[error("a record is longer than 16,777,216 bytes")]
     TooLong,
     #[error("out of memory")]
     Memory,
-    /// An earlier `append` failed. The log is as it was.
+    /// An earlier `append` failed. The log is unchanged.
     #[error("the log has to be opened again")]
     Failed,
 }

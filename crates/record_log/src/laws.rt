@@ -1,8 +1,9 @@
-//! What holds of the words of contracts. The functions do nothing: their clauses are the laws.
+//! Laws of the definitions that contracts use. The functions do nothing: their clauses are the
+//! laws.
 ghost use Rattle.record_log.specs.Grammar.{OneList};
 ghost use Rattle.record_log.specs.Stands.{RecordBoundIs};
 
-/// Bytes stand for one list of records at most.
+/// Bytes represent at most one list of records.
 pub fn one_list()
     ensures { OneList }
 {}

@@ -1,5 +1,5 @@
-//! A file stands for a list of records: `append` makes one more, and a crash leaves the list with
-//! it or without it.
+//! An append-only log of records in a file: `append` adds one, and a crash in it leaves the list
+//! with or without the new record.
 #![tactic(auto)]
 
 mod error;

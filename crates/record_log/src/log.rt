@@ -17,23 +17,23 @@ use crate::scan::scan;
 use disk::{Disk, DiskError};
 use std::alloc::{AllocError, Global};
 
-/// The greatest length of a record.
+/// The greatest length of a record in bytes.
 pub const MAX_RECORD: usize = 16_777_216;
 
-/// A list of records in a file, from a place of the file on. It knows where each record ends, and
-/// keeps none of their bytes. The disk is lent to it at each call.
+/// An append-only log of records in a file, from a place of the file on. It keeps the places where
+/// records end, and none of their bytes. Each call borrows the disk.
 #[derive(Debug, Drop)]
 pub struct Log {
     file: u64,
     start: u64,
-    // Behind each record, counted from the start.
+    // The places where the records end, counted from the start.
     ends: Vec<usize>,
-    // Behind the last.
+    // The place where the last record ends.
     end: usize,
     has_failed: bool,
 }
 
-// What is put behind the closed gate: the length, the record, and a closed gate.
+// The bytes behind the closed gate of an append: the length, the record, and a closed gate.
 fn bytes_behind(alloc: Global, bytes: &[u8]) -> Result<Vec<u8>, AllocError>
     requires { length bytes.now < 2 ^ 32 }
     ensures { IfOk result (λ v. v.items ≡ behind_of bytes.now) }
@@ -45,7 +45,7 @@ fn bytes_behind(alloc: Global, bytes: &[u8]) -> Result<Vec<u8>, AllocError>
     Ok(out)
 }
 
-// So many bytes of a file from a place on.
+// The bytes of a file from a place on, of the buffer's length.
 fn bytes_at<D: Disk>(
     alloc: Global,
     disk: &mut D,
@@ -64,7 +64,7 @@ fn bytes_at<D: Disk>(
     Ok(bytes)
 }
 
-// The bytes of a file from a place on, when they are on the disk.
+// The bytes of a file from a place on, after a sync.
 fn synced_from<D: Disk>(
     alloc: Global,
     disk: &mut D,
@@ -85,9 +85,9 @@ fn synced_from<D: Disk>(
 }
 
 impl Log {
-    /// A log of no records, from the first place of a file on: a closed gate. Two device calls:
-    /// write, sync. A file that is there loses its first byte, and with it the records from there
-    /// on. A refusal may leave the file changed.
+    /// Creates a log without records from the first place of a file on: a closed gate. It needs two
+    /// device calls: write and sync. An existing file loses its first byte, and with it the records
+    /// from there on. A refusal may leave the file changed.
     pub fn create<D: Disk>(alloc: Global, disk: &mut D, file: u64) -> Result<Log, LogError>
         ensures kept { KeepsDisk D.Disk disk.old disk.new (TellsFailure result) ⊥ (IsSameBut file) }
         ensures created { D.is_honest disk.old → EndsInRange (seen (D.state disk.old file)) →
@@ -108,7 +108,7 @@ impl Log {
         })
     }
 
-    /// The log that a file has from a place on. The file is synced before it is read.
+    /// Opens the log of a file from a place on. The file is synced before it is read.
     pub fn open<D: Disk>(
         alloc: Global,
         disk: &mut D,
@@ -135,14 +135,14 @@ impl Log {
         })
     }
 
-    /// How many records the log has. Of a log that failed, how many it had.
+    /// The number of records; for a failed log, the number before the failure.
     pub fn len(&self) -> usize
         ensures { result ≡ count_of self.now }
     {
         self.ends.len()
     }
 
-    // The place of the closed gate, where that is no place past all.
+    // The place of the closed gate. It is at most 2^64 - 2.
     fn gate(&self) -> u64
         ensures below { result + 1 < 2 ^ 64 }
         ensures gate { self.now.start + self.now.end + 1 < 2 ^ 64 →
@@ -151,7 +151,7 @@ impl Log {
         self.start.saturating_add(self.end as u64).min(u64::MAX - 1)
     }
 
-    // Where the bytes of a record begin, counted from the start, and how many there are.
+    // The place where a record's bytes begin, counted from the start, and their length.
     fn span(&self, index: usize) -> (usize, usize)
         requires { index < length self.now.ends.items }
         ensures begin { result.0 ≡
@@ -163,8 +163,8 @@ impl Log {
         (begin, self.ends[index].saturating_sub(begin))
     }
 
-    /// Adds a record. Four device calls: it writes the record behind the closed gate, syncs, opens
-    /// the gate, and syncs.
+    /// Appends a record. It needs four device calls: it writes the record behind the closed gate,
+    /// syncs, opens the gate, and syncs.
     pub fn append<D: Disk>(
         &mut self,
         alloc: Global,
@@ -183,7 +183,7 @@ impl Log {
             OnOk result (IsSureOf (D.state disk.new) (file_of self.old)
             (pushed held.bytes (gate_of self.old) (behind_of bytes.now))) }
 
-        // A crash now, whatever the answer, leaves the old records, with the new one or without.
+        // A crash now, whatever the answer, leaves the old records, with or without the new one.
         ensures crash { (records : List (List ℕ)) → D.is_honest disk.old →
             Holds (D.state disk.old) self.old records →
             LeavesAt (D.state disk.new) (file_of self.old)

@@ -7,7 +7,7 @@ ghost use Rattle.record_log.specs.Push.{pushed, IsOnTheWay, IsSureOf, LeavesAt};
 
 use disk::{Disk, DiskError};
 
-/// Puts bytes behind a closed gate, and opens the gate when they are on the disk.
+/// Writes bytes behind a closed gate, and opens the gate when they are durable.
 pub fn push<D: Disk>(disk: &mut D, file: u64, gate: u64, behind: &[u8]) -> Result<(), DiskError>
     requires room { gate + 1 < 2 ^ 64 }
     requires some { 0 < length behind.now }
@@ -19,7 +19,7 @@ pub fn push<D: Disk>(disk: &mut D, file: u64, gate: u64, behind: &[u8]) -> Resul
         × (gate + 1 + length behind.now < 2 ^ 63))
         (λ e. (e ≡ DiskError.Failed) ⊎ (e ≡ DiskError.Memory)) }
 
-    // A crash now, whatever the answer.
+    // The outcomes of a crash now, whatever the answer.
     ensures crash { (bytes : List ℕ) → D.is_honest disk.old →
         IsSureOf (D.state disk.old) file bytes → gate < length bytes →
         LeavesAt (D.state disk.new) file (IsOnTheWay bytes gate behind.now) }

@@ -1,4 +1,4 @@
-// The records of a file, found from its bytes.
+// Recovery of a log: the records in the bytes of a file.
 ghost use Rattle.std.specs.Prelude.{◌≡◌, ◌≤◌, ◌++◌, ◌<◌, ◌^◌, List, ℕ, length, ◌⊎◌, IfOk, IfErr};
 ghost use Rattle.std.specs.Prelude.{Err, IsErr, MatchOption};
 ghost use Rattle.record_log.specs.Grammar.{IsClosed, StandsFor, entry, ends_from, end_of};
@@ -7,11 +7,11 @@ use crate::LogError;
 use disk::DiskError;
 use std::alloc::{AllocError, Global};
 
-/// What stands for no records, however they are.
+/// Bytes that represent no records.
 #[derive(Clone, Copy, Debug)]
 struct Malformed;
 
-/// The record at the front and what follows it, or nothing where the gate is closed.
+/// The record at the front and the bytes behind it, or `None` where the gate is closed.
 fn first_of(bytes: &[u8]) -> Result<Option<(&[u8], &[u8])>, Malformed>
     ensures first { IfOk result (λ found. MatchOption found (IsClosed bytes.now)
         (λ x. (length x.0.now < 2 ^ 32) × (bytes.now ≡ entry x.0.now ++ x.1.now))) }
@@ -35,7 +35,7 @@ fn first_of(bytes: &[u8]) -> Result<Option<(&[u8], &[u8])>, Malformed>
     Ok(Some(tail.split_at(len)))
 }
 
-/// The places behind the records that the bytes stand for, and the place behind the last.
+/// The places where the records of the bytes end, and the place where the last ends.
 pub fn scan(alloc: Global, bytes: &[u8]) -> Result<(Vec<usize>, usize), LogError>
     ensures found { IfOk result (λ found. (records : List (List ℕ)) × StandsFor bytes.now records
         × (found.0.items ≡ ends_from 0 records) × (found.1 ≡ end_of 0 records)) }

@@ -1,4 +1,4 @@
-// Batches in bytes both ways, and limits at their edges.
+// Batches written and read as bytes, and limits at their edges.
 use kv_types::{Batch, Edit, Key, KvError, Limits, Number, Page, Range, Row, Value, value_at};
 use std::alloc::Global;
 use std::test::Fail;
@@ -41,7 +41,7 @@ fn is_edit(batch: &Batch, key: &[u8], value: Option<&[u8]>) -> bool {
     }
 }
 
-/// How a batch of one edit of the key `a` is spelled.
+/// The spelling of a batch of one edit of the key `a`.
 fn spelled(alloc: Global, value: Option<&[u8]>) -> Result<Vec<u8>, KvError> {
     Ok(batch_of(alloc, &[(b"a", value)])?.to_bytes(alloc)?)
 }
@@ -64,7 +64,7 @@ fn one_edit_is_spelled_so(rt: HostRuntime) -> Result<(), Fail> {
     Ok(())
 }
 
-/// Why there is no batch, if there is none. Want of memory ends the test.
+/// The refusal of a batch, if it is refused. Want of memory ends the test.
 fn refusal(answer: Result<Batch, KvError>) -> Result<Option<KvError>, KvError> {
     match answer {
         Ok(_) => Ok(None),
@@ -77,7 +77,7 @@ fn refusal_of(alloc: Global, bytes: &[u8]) -> Result<Option<KvError>, KvError> {
     refusal(Batch::from_bytes(alloc, bytes))
 }
 
-/// What spells no batch.
+/// Bytes that spell no batch.
 static NO_BATCHES: [&[u8]; 10] = [
     &[],
     &[0],
@@ -159,7 +159,7 @@ fn keys_and_values_at_their_limits(rt: HostRuntime) -> Result<(), Fail> {
     Ok(())
 }
 
-/// What a batch of so many deletions is refused with.
+/// The refusal of a batch of this many deletions.
 fn count_refusal(alloc: Global, count: usize) -> Result<Option<KvError>, KvError> {
     let mut edits = Vec::new(alloc);
     for _ in 0..count {
@@ -168,7 +168,7 @@ fn count_refusal(alloc: Global, count: usize) -> Result<Option<KvError>, KvError
     Ok(Batch::new(edits).err())
 }
 
-/// How many edits there are, and the refusal.
+/// The number of edits, and the refusal.
 static COUNTS: [(usize, Option<KvError>); 4] = [
     (0, Some(KvError::NoEdits)),
     (1, None),
@@ -195,14 +195,14 @@ fn long_batch(alloc: Global, last: usize) -> Result<Batch, KvError> {
     Batch::new(edits)
 }
 
-/// The length of its spelling, if the bytes are read again.
+/// The length of the batch's spelling, if the bytes are read back.
 fn spelled_len(alloc: Global, batch: &Batch) -> Result<usize, KvError> {
     let bytes = batch.to_bytes(alloc)?;
     let again = Batch::from_bytes(alloc, &bytes)?;
     Ok(again.to_bytes(alloc)?.len())
 }
 
-/// The length of the spelling of such a batch, if it may be one.
+/// The length of the spelling of such a batch, if it is a batch.
 fn long_batch_len(alloc: Global, last: usize) -> Result<usize, KvError> {
     spelled_len(alloc, &long_batch(alloc, last)?)
 }
@@ -223,7 +223,7 @@ fn range_refusal(alloc: Global, limit: u32) -> Result<Option<KvError>, KvError> 
 
 const BAD_LIMIT: Option<KvError> = Some(KvError::BadLimit);
 
-/// How many rows are asked for, and the refusal.
+/// The number of requested rows, and the refusal.
 static LIMITS: [(u32, Option<KvError>); 5] = [
     (0, BAD_LIMIT),
     (1, None),
@@ -284,7 +284,7 @@ fn default_limits(rt: HostRuntime) {
 
 const GREATEST: u64 = (1 << 63) - 1;
 
-/// A value, whether it is a number, and whether a number follows it.
+/// A value, whether it is a number, and whether a next number follows it.
 static NUMBERS: [(u64, bool, bool); 4] = [
     (0, true, true),
     (GREATEST - 1, true, true),
@@ -306,7 +306,7 @@ fn numbers_up_to_the_greatest(rt: HostRuntime) {
     assert_eq!(rt; Number::ZERO.get(), 0);
 }
 
-/// The value that two batches give a key: `a=1 -a a=2 b=1`, then `-b`.
+/// The value of a key after two batches: `a=1 -a a=2 b=1`, then `-b`.
 fn found(alloc: Global, key: &[u8]) -> Result<Option<Vec<u8>>, KvError> {
     let first: [(&[u8], Option<&[u8]>); 4] = [
         (b"a", Some(b"1")),
@@ -398,7 +398,7 @@ fn a_range_ends_before_its_bound(rt: HostRuntime) -> Result<(), Fail> {
     Ok(())
 }
 
-/// Whether a copy begins there and ends there, whether it goes backward, and its limit.
+/// The bounds of a copy of the range, its direction, and its limit.
 fn copied_range(alloc: Global) -> Result<(bool, bool, bool, u32), KvError> {
     let range = bounded(alloc, true, 2)?.clone()?;
     let is_from = range.from().as_bytes() == b"b".as_slice();
@@ -424,7 +424,7 @@ fn row_of(alloc: Global, key: &[u8], value: &[u8]) -> Result<Row, KvError> {
     Ok(Row { key, value })
 }
 
-/// A row's size, and of a page of its copy how many rows it has, and whether there are more.
+/// A row's size; for a page of its copy the number of rows, and whether the range has more.
 fn copied_row(alloc: Global) -> Result<(usize, usize, bool), KvError> {
     let row = row_of(alloc, b"a", b"1")?;
     let page = Page::new(vec![in alloc; row.clone()?]?, true);

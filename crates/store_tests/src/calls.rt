@@ -1,4 +1,4 @@
-// The calls that a log makes of its disk, in their order.
+// The device calls of a log, in their order.
 ghost use Rattle.std.specs.Prelude.{None};
 ghost use Rattle.disk.specs.State.{Absent};
 ghost use Rattle.disk.specs.Memory.{IsReliable};
@@ -16,7 +16,7 @@ enum Called {
     Other,
 }
 
-// A disk in memory that notes its first calls. It claims nothing of what it does.
+// A disk in memory that records its first calls. It promises nothing.
 #[derive(Drop)]
 struct NotingDisk {
     disk: MemDisk,
@@ -33,7 +33,7 @@ impl NotingDisk {
         }
     }
 
-    // The calls since the last time that this was asked.
+    // The calls since the last question.
     fn taken(&mut self) -> &[Called] {
         let count = self.count.min(8);
         self.count = 0;
@@ -95,7 +95,7 @@ impl Disk for NotingDisk {
     }
 }
 
-// The calls of a log, without what they promise.
+// The calls of a log, without their contracts.
 fn create(alloc: Global, disk: &mut NotingDisk) -> Result<Log, LogError> {
     Log::create(alloc, disk, 3)
 }

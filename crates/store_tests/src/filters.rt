@@ -1,4 +1,4 @@
-// The bytes of whole filters, and what they deny.
+// The bytes of complete filters, and the keys that they deny.
 use bloom::{BloomError, build, may_hold};
 use kv_types::{Key, KvError};
 use std::alloc::Global;

@@ -1,4 +1,4 @@
-//! Tests of what no clause says: bytes from outside, limits at their edges, calls that succeed.
+//! Tests beyond the contracts: bytes from outside, limits at their edges, calls that succeed.
 #![tactic(auto)]
 
 #[cfg(test)]
