@@ -14,6 +14,6 @@ mod writing;
 
 pub use error::FrameError;
 pub use frame::{Frame, MAX_FRAME};
-pub use reader::FrameReader;
+pub use reader::{FrameReader, read};
 pub use refusal::Refusal;
 pub use writing::write;
