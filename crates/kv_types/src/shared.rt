@@ -6,7 +6,7 @@ use crate::Edit;
 use std::alloc::AllocError;
 use std::rc::Rc;
 
-// Edits that never change. Where memory for the count of their owners was wanting, they have one owner.
+// Edits that never change. Where memory for the count of owners was wanting, they have one owner.
 #[derive(Debug, Drop)]
 pub enum SharedEdits {
     Counted(Rc<Vec<Edit>>),

@@ -176,7 +176,7 @@ fn put_fields(out: &mut Vec<u8>, frame: &Frame) -> Result<(), AllocError>
     }
 }
 
-// Room for a frame. One with a batch or of numbers alone is written into it with no second allocation.
+// Room for a frame. One with a batch, or of numbers alone, is written with no second allocation.
 fn room_for(frame: &Frame) -> usize {
     match frame {
         Frame::Forward { batch, .. } | Frame::Submit { batch, .. } => 19 + batch.spelled_len(),
