@@ -14,5 +14,5 @@ mod writing;
 pub use chain_model::Refusal;
 pub use error::FrameError;
 pub use frame::{Frame, MAX_FRAME};
-pub use reader::FrameReader;
+pub use reader::{FrameReader, read};
 pub use writing::write;

@@ -176,12 +176,20 @@ fn put_fields(out: &mut Vec<u8>, frame: &Frame) -> Result<(), AllocError>
     }
 }
 
-/// The one spelling of the frame in bytes.
+// Room for a frame. One with a batch, or of numbers alone, is written with no second allocation.
+fn room_for(frame: &Frame) -> usize {
+    match frame {
+        Frame::Forward { batch, .. } | Frame::Submit { batch, .. } => 19 + batch.spelled_len(),
+        _ => 27,
+    }
+}
+
+/// The one spelling of the frame.
 pub fn write(alloc: Global, frame: &Frame) -> Result<Vec<u8>, AllocError>
     ensures spelled { IfOk result (λ bytes. bytes.items ≡ spelling frame.now) }
     ensures lawful { IfOk result (λ _. HasBounds frame.now → IsFrame frame.now) }
 {
-    let mut out = Vec::new(alloc);
+    let mut out = Vec::with_capacity(alloc, room_for(frame))?;
     out.extend_from_slice(&[0; 4])?;
     out.push(kind_of(frame))?;
     put_fields(&mut out, frame)?;

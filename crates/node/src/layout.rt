@@ -64,9 +64,9 @@ pub fn identity_of(alloc: Global, bytes: &[u8]) -> Result<Identity, Stop>
 pub fn batch_record(alloc: Global, number: u64, batch: &Batch) -> Result<Vec<u8>, AllocError>
     ensures { IfOk result (λ bytes. bytes.items ≡ batch_record number batch.now) }
 {
-    let mut out = Vec::new(alloc);
+    let mut out = Vec::with_capacity(alloc, 8 + batch.spelled_len())?;
     out.extend_from_slice(&number.to_be_bytes())?;
-    out.extend_from_slice(&batch.to_bytes(alloc)?)?;
+    batch.spell_into(&mut out)?;
     Ok(out)
 }
 
