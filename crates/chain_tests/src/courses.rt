@@ -89,8 +89,8 @@ fn events_of(alloc: Global, steps: &[Step]) -> Result<Vec<Event>, KvError> {
     Ok(events)
 }
 
-// The list of one configuration, of these nodes.
-fn configs(alloc: Global, ids: &[u16]) -> Result<Configs, ConfigError> {
+/// The list of one configuration, of these nodes.
+pub fn configs(alloc: Global, ids: &[u16]) -> Result<Configs, ConfigError> {
     let mut configs = Vec::new(alloc);
     configs.push(Config::new(alloc, ids.to_vec(alloc)?)?)?;
     Configs::new(configs)
@@ -104,6 +104,18 @@ pub fn report_of(alloc: Global, ids: &[u16], steps: &[Step]) -> Result<Option<Re
         return Ok(None);
     }
     Ok(Some(run(alloc, &configs, &events, &Limits::default())?))
+}
+
+/// What every event of this run shows, an event a line.
+pub fn shown_of(alloc: Global, ids: &[u16], steps: &[Step]) -> Result<String, Fail> {
+    let report = report_of(alloc, ids, steps)?.ok_or("no node")?;
+    Ok(shown(alloc, &report)?)
+}
+
+/// What the report of this run tells of each node, a node a line.
+pub fn nodes_of(alloc: Global, ids: &[u16], steps: &[Step]) -> Result<String, Fail> {
+    let report = report_of(alloc, ids, steps)?.ok_or("no node")?;
+    Ok(nodes_text(alloc, &report)?)
 }
 
 fn stepped(alloc: Global, world: &mut World, events: &[Event]) -> Result<(), LabError> {
@@ -264,8 +276,8 @@ pub fn stops_in(report: &Report) -> (u64, u64) {
     (all, own)
 }
 
-/// What a report tells of each node, a node a line.
-pub fn nodes_text(alloc: Global, report: &Report) -> Result<String, AllocError> {
+// What a report tells of each node, a node a line.
+fn nodes_text(alloc: Global, report: &Report) -> Result<String, AllocError> {
     let mut text = String::new(alloc);
     for node in &report.nodes {
         let id = node.id.get();
