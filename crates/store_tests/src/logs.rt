@@ -28,11 +28,12 @@ const BOTH: &[u8] = &[
     0, 0, 0, 0, 0, 0, 2, 0, 1, 1, 0, 1, b'a', 0, 1, b'2', 0,
 ];
 
-fn content(alloc: Global, disk: &mut MemDisk) -> Result<Vec<u8>, DiskError> {
+// Whether this is the file's content.
+fn is_content(alloc: Global, disk: &mut MemDisk, want: &[u8]) -> Result<bool, DiskError> {
     let len = disk.length(FILE)?;
     let mut bytes = vec![in alloc; 0u8; len as usize]?;
     disk.read(FILE, 0, bytes.as_mut_slice())?;
-    Ok(bytes)
+    Ok(bytes.as_slice() == want)
 }
 
 fn log_of(alloc: Global, disk: &mut MemDisk, records: &[&[u8]]) -> Result<Log, LogError> {
@@ -66,8 +67,8 @@ fn crash(disk: &mut MemDisk, junk: Junk) {
     disk.crash(junk);
 }
 
-fn junk_of(alloc: Global, bytes: &[u8]) -> Result<Junk, AllocError> {
-    Ok(Junk::Bytes(JunkBytes::new(bytes.to_vec(alloc)?)))
+fn junk_of(alloc: Global, byte: u8) -> Result<Junk, AllocError> {
+    Ok(Junk::Bytes(JunkBytes::new(vec![in alloc; byte; 1]?)))
 }
 
 // Whether the log has these records and no others.
@@ -99,21 +100,23 @@ static LOGS: [(&[&[u8]], &[u8]); 5] = [
 ];
 
 // Whether such a log has its records, also when it is opened, and its bytes.
-fn logged(alloc: Global, records: &[&[u8]]) -> Result<(bool, Vec<u8>), LogError> {
+fn is_logged(
+    alloc: Global,
+    records: &[&[u8]],
+    want: &[u8],
+) -> Result<(bool, bool, bool), LogError> {
     let mut disk = MemDisk::new(alloc);
     let log = log_of(alloc, &mut disk, records)?;
     let has_them = has(alloc, &mut disk, &log, records)?;
     let is_opened = opens(alloc, &mut disk, records)?;
-    Ok((has_them && is_opened, content(alloc, &mut disk)?))
+    Ok((has_them, is_opened, is_content(alloc, &mut disk, want)?))
 }
 
 #[test]
 fn bytes_of_a_log(rt: HostRuntime) -> Result<(), Fail> {
-    let alloc = rt.alloc();
     for (records, want) in &LOGS {
-        let (has_them, bytes) = logged(alloc, records)?;
-        assert!(rt; has_them, "{records:?}");
-        assert_eq!(rt; bytes.as_slice(), *want);
+        let found = is_logged(rt.alloc(), *records, *want)?;
+        assert!(rt; found == (true, true, true), "{found:?} of {records:?}");
     }
     Ok(())
 }
@@ -127,27 +130,23 @@ fn on_the_way(alloc: Global) -> Result<MemDisk, LogError> {
 }
 
 // The log of the first, and junk in place of the next.
-fn stopped(alloc: Global) -> Result<Vec<u8>, AllocError> {
-    let mut want = LOG[..22].to_vec(alloc)?;
-    want.push(0)?;
-    want.extend_from_slice(&[1; 22])?;
-    Ok(want)
-}
+const STOPPED: &[u8] = &[
+    1, 0, 0, 0, 0x11, 0, 0, 0, 0, 0, 0, 0, 1, 0, 1, 1, 0, 1, b'a', 0, 1, b'1', 0, //
+    1, 1, 1, 1, 1, 1, 1, 1, 1, 1, 1, 1, 1, 1, 1, 1, 1, 1, 1, 1, 1, 1,
+];
 
-// What a stop then leaves, and how many records that log has.
-fn left_on_the_way(alloc: Global) -> Result<(Vec<u8>, usize), LogError> {
+// Whether a stop then leaves these bytes, and how many records that log has.
+fn left_on_the_way(alloc: Global, want: &[u8]) -> Result<(bool, usize), LogError> {
     let mut disk = on_the_way(alloc)?;
-    crash(&mut disk, junk_of(alloc, &[1])?);
-    let found = content(alloc, &mut disk)?;
-    Ok((found, open(alloc, &mut disk, 0)?.len()))
+    crash(&mut disk, junk_of(alloc, 1)?);
+    let is_left = is_content(alloc, &mut disk, want)?;
+    Ok((is_left, open(alloc, &mut disk, 0)?.len()))
 }
 
 #[test]
 fn a_stop_before_the_first_sync(rt: HostRuntime) -> Result<(), Fail> {
-    let alloc = rt.alloc();
-    let (found, count) = left_on_the_way(alloc)?;
-    assert_eq!(rt; found.as_slice(), stopped(alloc)?.as_slice());
-    assert_eq!(rt; count, 1);
+    let found = left_on_the_way(rt.alloc(), STOPPED)?;
+    assert!(rt; found == (true, 1), "{found:?}");
     Ok(())
 }
 
@@ -168,17 +167,23 @@ fn has_after_a_stop(alloc: Global, junk: Junk, want: &[&[u8]]) -> Result<bool, L
     has(alloc, &mut disk, &log, want)
 }
 
+// What the log is without the second record, and with it.
+const WITHOUT: &[&[u8]] = &[FIRST, b"last"];
+
+const WITH: &[&[u8]] = &[FIRST, SECOND, b"last"];
+
+// A byte in the gate's place, and what the log then has.
+static GATES: [(u8, &[&[u8]]); 4] = [(0, WITHOUT), (1, WITH), (2, WITHOUT), (255, WITHOUT)];
+
 #[test]
 fn a_stop_before_the_last_sync(rt: HostRuntime) -> Result<(), Fail> {
     let alloc = rt.alloc();
-    let without: &[&[u8]] = &[FIRST, b"last"];
-    let with: &[&[u8]] = &[FIRST, SECOND, b"last"];
-    assert!(rt; has_after_a_stop(alloc, Junk::Old, without)?, "old");
-    assert!(rt; has_after_a_stop(alloc, Junk::New, with)?, "new");
-    for gate in [0, 1, 2, 255] {
-        let want = if gate == 1 { with } else { without };
-        let junk = junk_of(alloc, &[gate])?;
-        assert!(rt; has_after_a_stop(alloc, junk, want)?, "gate {gate}");
+    let old = has_after_a_stop(alloc, Junk::Old, WITHOUT)?;
+    let new = has_after_a_stop(alloc, Junk::New, WITH)?;
+    assert!(rt; old && new, "{old} {new}");
+    for (gate, want) in &GATES {
+        let has_it = has_after_a_stop(alloc, junk_of(alloc, *gate)?, *want)?;
+        assert!(rt; has_it, "gate {gate}");
     }
     Ok(())
 }
@@ -243,20 +248,19 @@ fn opening(
 
 #[test]
 fn what_is_opened(rt: HostRuntime) -> Result<(), Fail> {
-    let alloc = rt.alloc();
     for (file, start, want, count) in &OPENINGS {
-        let found = opening(alloc, *file, *start)?;
-        assert_eq!(rt; found, (*want, *count), "{file:?} from {start}");
+        let found = opening(rt.alloc(), *file, *start)?;
+        assert!(rt; found == (*want, *count), "{file:?} from {start}");
     }
     Ok(())
 }
 
-// The file after an append of one byte.
-fn appended(alloc: Global, file: &[u8], start: u64) -> Result<Vec<u8>, LogError> {
+// Whether this is the file after an append of one byte.
+fn is_appended(alloc: Global, file: &[u8], start: u64, want: &[u8]) -> Result<bool, LogError> {
     let mut disk = disk_with(alloc, Some(file))?;
     let mut log = open(alloc, &mut disk, start)?;
     append(alloc, &mut disk, &mut log, b"z")?;
-    Ok(content(alloc, &mut disk)?)
+    Ok(is_content(alloc, &mut disk, want)?)
 }
 
 // A file, where its log begins, and the file after an append of one byte.
@@ -275,10 +279,9 @@ static APPENDS: [(&[u8], u64, &[u8]); 4] = [
 
 #[test]
 fn an_append_writes_its_own_bytes(rt: HostRuntime) -> Result<(), Fail> {
-    let alloc = rt.alloc();
     for (file, start, want) in &APPENDS {
-        let found = appended(alloc, file, *start)?;
-        assert_eq!(rt; found.as_slice(), *want, "{file:?} from {start}");
+        let is_so = is_appended(rt.alloc(), *file, *start, *want)?;
+        assert!(rt; is_so, "{file:?} from {start}");
     }
     Ok(())
 }
@@ -306,7 +309,7 @@ static SIZES: [(usize, (Option<LogError>, usize, usize)); 3] = [
 fn sizes_at_their_edges(rt: HostRuntime) -> Result<(), Fail> {
     for (len, want) in &SIZES {
         let found = sized(rt.alloc(), *len)?;
-        assert_eq!(rt; found, *want, "{len}");
+        assert!(rt; found == *want, "{len}: {found:?}");
     }
     Ok(())
 }
@@ -326,23 +329,32 @@ fn record_refusal(alloc: Global, disk: &mut MemDisk, log: &Log) -> Option<LogErr
     log.record(alloc, disk, 0).err()
 }
 
+// What three appends to a log that lost its file answer.
+fn refusals(
+    alloc: Global,
+    disk: &mut MemDisk,
+    log: &mut Log,
+) -> Result<[Option<LogError>; 3], LogError> {
+    let first = refusal(append(alloc, disk, log, b"two"))?;
+    let again = refusal(append(alloc, disk, log, b"two"))?;
+    Ok([first, again, refusal(append(alloc, disk, log, b"six"))?])
+}
+
+const LOST: Option<LogError> = Some(LogError::Disk(DiskError::NoFile));
+
+const FAILED: Option<LogError> = Some(LogError::Failed);
+
 #[test]
 fn a_failure_stays_until_the_log_is_opened(rt: HostRuntime) -> Result<(), Fail> {
     let alloc = rt.alloc();
     let mut disk = MemDisk::new(alloc);
     let mut log = failed(alloc, &mut disk)?;
-    for (bytes, want) in [
-        (b"two", LogError::Disk(DiskError::NoFile)),
-        (b"two", LogError::Failed),
-        (b"six", LogError::Failed),
-    ] {
-        let answer = append(alloc, &mut disk, &mut log, bytes);
-        assert_eq!(rt; refusal(answer)?, Some(want));
-    }
-    let answer = record_refusal(alloc, &mut disk, &log);
-    assert_eq!(rt; answer, Some(LogError::Failed));
+    let answers = refusals(alloc, &mut disk, &mut log)?;
+    assert!(rt; answers == [LOST, FAILED, FAILED], "{answers:?}");
+    assert!(rt; record_refusal(alloc, &mut disk, &log) == FAILED);
     crash(&mut disk, Junk::Old);
-    assert!(rt; opens(alloc, &mut disk, &[b"one"])?);
+    let is_opened = opens(alloc, &mut disk, &[b"one"])?;
+    assert!(rt; is_opened);
     Ok(())
 }
 
@@ -359,10 +371,9 @@ static TEXTS: [(LogError, &str); 4] = [
 
 #[test]
 fn texts_of_refusals(rt: HostRuntime) -> Result<(), Fail> {
-    let alloc = rt.alloc();
     for (e, want) in &TEXTS {
-        let text = format!(in alloc; "{e}")?;
-        assert_eq!(rt; text.as_str(), *want);
+        let text = format!(in rt.alloc(); "{e}")?;
+        assert!(rt; text.as_str() == *want, "{text}");
     }
     Ok(())
 }
