@@ -1,18 +1,15 @@
 -- What the bytes of a configuration say of its ids.
-use Rattle.std.proofs.Common.{◌≡◌, ◌⊎◌, ℕ, suc, ◌-◌, ◌*◌, ◌%◌, ◌<◌, ◌≤◌, ◌^◌, List, [], ◌∷◌, ◌++◌}
+use Rattle.std.proofs.Common.{◌≡◌, ℕ, suc, ◌-◌, ◌*◌, ◌%◌, ◌<◌, ◌^◌, List, [], ◌∷◌, ◌++◌}
 use Rattle.std.proofs.Common.{length, take, drop, get_or}
-use Rattle.std.proofs.Common.{refl, sym, ap, ap₂, ◌∙◌, subst, length-append, arith, All, inl, inr}
+use Rattle.std.proofs.Common.{refl, sym, ap, ap₂, ◌∙◌, length-append, arith, All}
 use Rattle.std.specs.Int.{w16, to_be_bytes, from_be_bytes}
 use Rattle.std.proofs.lemmas.Nat.{from_be_bytes-to_be_bytes_2}
 use Rattle.std.proofs.lemmas.List.{take_all}
 use Rattle.std.proofs.lemmas.List.Elements.{All-head, All-tail, All-weaker}
 use Rattle.chain_model.specs.Configuration.{IsId}
 use Rattle.configurations.specs.Configs.{IsConfig}
-use Rattle.configurations.specs.Refusals.{IdsHave, IsLeast}
 use Rattle.configurations.specs.Spelling.{HasIds, config_text, ids_text}
-use Rattle.configurations.specs.declared.error.ConfigError.{ConfigError}
-use Rattle.configurations.specs.declared.error.ConfigError.TheVariants.{Memory}
-use Rattle.configurations.proofs.IsConfig.{no_fault}
+use Rattle.configurations.specs.Spelling.{ConfigTextIsUnique, ConfigTextIsShort}
 
 pub length-ids : (ids : List ℕ) → length (ids_text ids) ≡ length ids * 2
 length-ids [] = refl
@@ -50,8 +47,7 @@ one_spelling (x ∷ a) (y ∷ b) more rest small each size same =
     (ap₂ (λ (z : ℕ) (c : List ℕ). z ∷ c) first others.0, others.1)
 
 -- configurations are spelled in one way, and no spelling begins another
-pub one_config : (a b more rest : List ℕ) → IsConfig a → IsConfig b →
-    config_text a ++ more ≡ config_text b ++ rest → (a ≡ b) × (more ≡ rest)
+pub one_config : ConfigTextIsUnique
 one_config a b more rest is_a is_b same =
     let counts : length a % 256 ≡ length b % 256 = ap (λ (l : List ℕ). get_or l 0 0) same in
     let small = All-weaker IsId (λ id. id < 2 ^ 16) (λ id is. omega (arith, is.1)) a is_a.each in
@@ -59,7 +55,7 @@ one_config a b more rest is_a is_b same =
     (ap (drop 1) same)
 
 -- a configuration is spelled in at most 33 bytes
-pub few_bytes : (ids : List ℕ) → IsConfig ids → length (config_text ids) ≤ 33
+pub few_bytes : ConfigTextIsShort
 few_bytes ids is = omega (arith, length-ids ids, is.few)
 
 -- the bytes of a configuration, as they are read
@@ -90,13 +86,9 @@ enough first behind ids rest fields few =
       length-ids ids,
     ))
 
--- and the ids that are read are no fault
-pub not_refused : (first : ℕ) (behind ids rest read more : List ℕ) (e : ConfigError) →
-    IsConfig ids → Fields first behind ids rest → HasIds behind first read more →
-    (e ≡ Memory) ⊎ IsLeast (λ f. IdsHave f read) e → (e ≡ Memory → ⊥) → ⊥
-not_refused first behind ids rest read more e config fields splits (inl memory) other =
-    other memory
-not_refused first behind ids rest read more e config fields splits (inr least) other =
-    let same = one_spelling read ids more rest splits.each config.each
-    (splits.size ∙ fields.count) (sym splits.parts ∙ fields.parts) in
-    no_fault ids e (subst (λ (l : List ℕ). IdsHave e l) same.0 least.has) config
+-- the ids that are read are those of the configuration
+pub same_ids : (first : ℕ) (behind ids rest read more : List ℕ) → IsConfig ids →
+    Fields first behind ids rest → HasIds behind first read more → (read ≡ ids) × (more ≡ rest)
+same_ids first behind ids rest read more config fields splits =
+    one_spelling read ids more rest splits.each config.each (splits.size ∙ fields.count)
+    (sym splits.parts ∙ fields.parts)

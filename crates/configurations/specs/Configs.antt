@@ -1,5 +1,6 @@
 -- What a configuration is, and the test of it. (Lists of them: `Lawful` of chain_model.)
 use Rattle.std.specs.Prelude.{ℕ, ◌≤◌, List, [], ◌∷◌, length, All, Bool, true, ◌&&◌, not, nat_le}
+use Rattle.std.specs.Prelude.{◌↔◌, IsTrue}
 use Rattle.std.specs.List.{list_all}
 use Rattle.chain_model.specs.Configuration.{IsId, AllDifferent, has}
 
@@ -24,3 +25,7 @@ all_differ (n ∷ ns) = not (has ns n) && all_differ ns
 -- whether numbers are a configuration
 abbrev pub is_config : List ℕ → Bool
 is_config ns = nat_le 1 (length ns) && nat_le (length ns) 16 && list_all is_id ns && all_differ ns
+
+-- the test succeeds exactly for the configurations
+abbrev pub TestDecidesConfig : Type 0
+TestDecidesConfig = (ids : List ℕ) → IsTrue (is_config ids) ↔ IsConfig ids

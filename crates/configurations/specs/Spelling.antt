@@ -1,7 +1,8 @@
 -- The one spelling of a configuration as bytes.
-use Rattle.std.specs.Prelude.{◌≡◌, ◌<◌, ◌^◌, ℕ, List, ◌++◌, length, All}
+use Rattle.std.specs.Prelude.{◌≡◌, ◌<◌, ◌≤◌, ◌^◌, ℕ, List, ◌++◌, length, All}
 use Rattle.std.specs.Int.{w8, w16, to_be_bytes}
 use Rattle.std.specs.List.{flat_map}
+use Rattle.configurations.specs.Configs.{IsConfig}
 
 -- ids in two bytes each, the most significant first
 abbrev pub ids_text : List ℕ → List ℕ
@@ -16,3 +17,12 @@ pub record HasIds (bytes : List ℕ) (count : ℕ) (ids rest : List ℕ) : Type 
   pub parts : bytes ≡ ids_text ids ++ rest
   pub size : length ids ≡ count
   pub each : All (λ id. id < 2 ^ 16) ids
+
+-- no spelling is a prefix of another, and no two configurations have the same spelling
+abbrev pub ConfigTextIsUnique : Type 0
+ConfigTextIsUnique = (a b more rest : List ℕ) → IsConfig a → IsConfig b →
+    config_text a ++ more ≡ config_text b ++ rest → (a ≡ b) × (more ≡ rest)
+
+-- a configuration is spelled in at most 33 bytes
+abbrev pub ConfigTextIsShort : Type 0
+ConfigTextIsShort = (ids : List ℕ) → IsConfig ids → length (config_text ids) ≤ 33

@@ -1,6 +1,6 @@
 // A configuration: the nodes of a chain, from head to tail.
 ghost use Rattle.std.specs.Prelude.{◌≡◌, ◌⊎◌, ◌↔◌, ◌++◌, ℕ, List, true};
-ghost use Rattle.std.specs.Prelude.{IfOk, IfErr, OnOk, IfSome, IsSome, IsFalse};
+ghost use Rattle.std.specs.Prelude.{IfOk, IfErr, OnOk, IfSome, IsSomeAnd, IsFalse};
 ghost use Rattle.chain_model.specs.Configuration.{AllDifferent, has, is_head, is_tail};
 ghost use Rattle.chain_model.specs.Configuration.{predecessor, successor};
 ghost use Rattle.configurations.specs.Configs.{IsConfig};
@@ -68,6 +68,7 @@ impl Config {
         ensures made { IfOk result (λ config. (config ≡ ids.items) × IsConfig config) }
         ensures refused { IfErr result (λ e.
             (e ≡ ConfigError.Memory) ⊎ IsLeast (λ fault. IdsHave fault ids.items) e) }
+        ensures each { IsConfig ids.items → IfErr result (λ e. e ≡ ConfigError.Memory) }
     {
         if ids.is_empty() {
             return Err(ConfigError::Empty);
@@ -150,7 +151,7 @@ impl Config {
         ensures found { IfOk result (λ found. IfSome found
             (λ x. (bytes.now ≡ config_text x.0 ++ x.1.now) × IsConfig x.0)) }
         ensures each { (ids rest : List ℕ) → IsConfig ids → bytes.now ≡ config_text ids ++ rest →
-            IfOk result IsSome }
+            IfOk result (λ found. IsSomeAnd found (λ x. (x.0 ≡ ids) × (x.1.now ≡ rest))) }
     {
         let [count, rest @ ..] = bytes else {
             return Ok(None);

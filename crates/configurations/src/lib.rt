@@ -7,6 +7,7 @@ mod configs;
 mod epoch;
 mod error;
 mod id;
+pub mod laws;
 mod reading;
 
 pub use config::Config;

@@ -4,13 +4,12 @@ use Rattle.std.proofs.Common.{List, ◌++◌, length, Option, Some, None, IfSome
 use Rattle.std.proofs.Common.{sym}
 use Rattle.std.proofs.Common.{ap, subst, ◌∙◌, arith, nat_le}
 use Rattle.std.specs.List.{flat_map, sum_by}
-use Rattle.std.specs.Prelude.{IsSome, option_map}
+use Rattle.std.specs.Prelude.{IsSomeAnd, option_map}
 use Rattle.std.specs.Int.{w8, w16, w32, w64}
-use Rattle.std.proofs.lemmas.Bool.{false≢true, leb-true, le-leb}
+use Rattle.std.proofs.lemmas.Bool.{leb-true, le-leb}
 use Rattle.chain_model.specs.Configuration.{IsId}
-use Rattle.configurations.specs.Configs.{IsConfig, is_config}
+use Rattle.configurations.specs.Configs.{IsConfig, TestDecidesConfig, is_config}
 use Rattle.configurations.specs.Spelling.{config_text}
-use Rattle.configurations.proofs.IsConfig.{config_is, config_from}
 use Rattle.kv_types.specs.declared.bounds.TheConstants.{MAX_KEY, MAX_VALUE, MAX_ROWS, MAX_PAGE}
 use Rattle.kv_types.specs.declared.bounds.TheConstants.{MAX_NUMBER}
 use Rattle.kv_types.specs.Spelling.{text, IsBatch}
@@ -112,26 +111,27 @@ batch_reads = record { takes = front_takes; again = front_again }
 
 -- ---- a configuration
 
-pub config_reads : Reads IsConfig config_text config_at
+pub config_reads : TestDecidesConfig → Reads IsConfig config_text config_at
 unfolding config_at
-config_reads =
-    only_reads is_config (λ ids is t. config_from ids t)
+config_reads decides =
+    only_reads is_config (λ ids is t. (decides ids).0 t)
     (λ ids is. (
       (omega (arith, is.few), λ k d lt. omega (arith, (is.each k d lt).1)),
-      config_is ids is,
+      (decides ids).1 is,
     ))
     (counted_reads u8_reads u16_reads)
 
 -- what `Config::read_from` found is what is read
-pub config_front : {R : Type 0} (now : R → List ℕ) (bytes : List ℕ) (found : Option (List ℕ × R))
-    → IsBytes bytes
+pub config_front : TestDecidesConfig → {R : Type 0} (now : R → List ℕ) (bytes : List ℕ)
+    (found : Option (List ℕ × R)) → IsBytes bytes
     → IfSome found (λ x. (bytes ≡ config_text x.0 ++ now x.1) × IsConfig x.0)
-    → ((ids rest : List ℕ) → IsConfig ids → bytes ≡ config_text ids ++ rest → IsSome found)
+    → ((ids rest : List ℕ) → IsConfig ids → bytes ≡ config_text ids ++ rest
+    → IsSomeAnd found (λ x. (x.0 ≡ ids) × (now x.1 ≡ rest)))
     → option_map (λ x. (x.0, now x.1)) found ≡ config_at bytes
-config_front now bytes (Some x) fits is each =
-    rw is.0 (sym (config_reads.again x.0 (now x.1) is.1))
-config_front now bytes None fits is each =
-    sym (nothing_read config_reads bytes fits (λ ids rest config at. false≢true (each ids rest config at)))
+config_front decides now bytes (Some x) fits is each =
+    rw is.0 (sym ((config_reads decides).again x.0 (now x.1) is.1))
+config_front decides now bytes None fits is each =
+    sym (nothing_read (config_reads decides) bytes fits each)
 
 -- ---- ranges, rows and pages
 

@@ -6,6 +6,7 @@ use Rattle.std.specs.List.{flat_map, sum_by}
 use Rattle.std.proofs.lemmas.List.{length-append}
 use Rattle.std.proofs.lemmas.List.Concat.{flat_map-cons}
 use Rattle.std.proofs.lemmas.List.Sums.{sum_by-cons}
+use Rattle.configurations.specs.Configs.{TestDecidesConfig}
 use Rattle.kv_types.specs.declared.row.Row.{Row}
 use Rattle.kv_types.specs.Pages.{row_size}
 use Rattle.kv_types.specs.Reading.{◌>>=◌}
@@ -70,11 +71,11 @@ ack_reader =
     (p.0, p.1.0, p.1.1.0, p.1.1.1))
     (both_reads epoch_reads (both_reads id_reads (both_reads count_reads count_reads)))
 
-notice_reader : IsReaderOf 3 notice_at
+notice_reader : TestDecidesConfig → IsReaderOf 3 notice_at
 unfolding notice_at
-notice_reader =
+notice_reader decides =
     of_kind 3 (λ x. frame.Notice x.0 x.1) (λ a. refl) (λ a. refl) (λ a p. (p.0, p.1))
-    (both_reads epoch_reads config_reads)
+    (both_reads epoch_reads (config_reads decides))
 
 submit_reader : IsReaderOf 4 submit_at
 unfolding submit_at
@@ -148,14 +149,14 @@ Each : ℕ → List (Reader Frame) → Type 0
 Each k [] = Unit {0}
 Each k (read ∷ reads) = IsReaderOf k read × Each (suc k) reads
 
-each_reader : Each 1 readers
+each_reader : TestDecidesConfig → Each 1 readers
 unfolding Each
-each_reader = (
+each_reader decides = (
   forward_reader,
   (
     ack_reader,
     (
-      notice_reader,
+      notice_reader decides,
       (
         submit_reader,
         (
@@ -194,9 +195,11 @@ nth_reader k (first ∷ reads) (suc i) m read each is e =
     nth_reader (suc k) reads i m read each.1 (omega (arith, is)) e
 
 -- the reader of a known kind
-pub reader_is : (k : ℕ) (read : Reader Frame) → reader_of k ≡ Some read → IsReaderOf k read
-reader_is zero read e = absurd cc
-reader_is (suc i) read e = nth_reader 1 readers i (suc i) read each_reader (omega arith) e
+pub reader_is : TestDecidesConfig →
+    (k : ℕ) (read : Reader Frame) → reader_of k ≡ Some read → IsReaderOf k read
+reader_is decides zero read e = absurd cc
+reader_is decides (suc i) read e =
+    nth_reader 1 readers i (suc i) read (each_reader decides) (omega arith) e
 
 nth_there : {A : Type 0} (xs : List A) (i : ℕ) (x : A) → nth xs i ≡ Some x → i < length xs
 nth_there [] i x e = absurd cc
@@ -223,10 +226,10 @@ pub record ReadsAgain (f : Frame) (rest : List ℕ) : Type 0 where
   pub of_kind : reader_of (kind f) ≡ Some read
   pub again : read (fields f ++ rest) ≡ Some (f, rest)
 
-pub frame_again : (f : Frame) (rest : List ℕ) → IsFrame f → ReadsAgain f rest
+pub frame_again : TestDecidesConfig → (f : Frame) (rest : List ℕ) → IsFrame f → ReadsAgain f rest
 unfolding forward_at ack_at notice_at submit_at get_at rows_frame_at open_at close_at
     committed_at value_at rows_are_at opened_at refused_at closed_at
-frame_again (frame.Forward epoch from number batch) rest is =
+frame_again decides (frame.Forward epoch from number batch) rest is =
     record {
       read = forward_at;
       of_kind = refl;
@@ -239,7 +242,7 @@ frame_again (frame.Forward epoch from number batch) rest is =
       ) rest (is.0, (is.1, (is.2, is.3)))
           (both_reads epoch_reads (both_reads id_reads (both_reads place_reads batch_reads)));
     }
-frame_again (frame.Ack epoch from committed have) rest is =
+frame_again decides (frame.Ack epoch from committed have) rest is =
     record {
       read = ack_at;
       of_kind = refl;
@@ -252,28 +255,28 @@ frame_again (frame.Ack epoch from committed have) rest is =
       ) rest (is.0, (is.1, (is.2, is.3)))
           (both_reads epoch_reads (both_reads id_reads (both_reads count_reads count_reads)));
     }
-frame_again (frame.Notice epoch config) rest is =
+frame_again decides (frame.Notice epoch config) rest is =
     record {
       read = notice_at;
       of_kind = refl;
       again = again (λ x. frame.Notice x.0 x.1) (epoch, config) rest (is.0, is.1)
-          (both_reads epoch_reads config_reads);
+          (both_reads epoch_reads (config_reads decides));
     }
-frame_again (frame.Submit request batch) rest is =
+frame_again decides (frame.Submit request batch) rest is =
     record {
       read = submit_at;
       of_kind = refl;
       again = again (λ x. frame.Submit x.0 x.1) (request, batch) rest (is.0, is.1)
           (both_reads count_reads batch_reads);
     }
-frame_again (frame.Get request at key) rest is =
+frame_again decides (frame.Get request at key) rest is =
     record {
       read = get_at;
       of_kind = refl;
       again = again (λ x. frame.Get x.0 x.1.0 x.1.1) (request, (at, key)) rest (is.0, (is.1, is.2))
           (both_reads count_reads (both_reads at_reads key_reads));
     }
-frame_again (frame.Rows request at range) rest is =
+frame_again decides (frame.Rows request at range) rest is =
     record {
       read = rows_frame_at;
       of_kind = refl;
@@ -283,28 +286,28 @@ frame_again (frame.Rows request at range) rest is =
       )
           (both_reads count_reads (both_reads at_reads range_reads));
     }
-frame_again (frame.Open request at) rest is =
+frame_again decides (frame.Open request at) rest is =
     record {
       read = open_at;
       of_kind = refl;
       again = again (λ x. frame.Open x.0 x.1) (request, at) rest (is.0, is.1)
           (both_reads count_reads at_reads);
     }
-frame_again (frame.Close request number) rest is =
+frame_again decides (frame.Close request number) rest is =
     record {
       read = close_at;
       of_kind = refl;
       again = again (λ x. frame.Close x.0 x.1) (request, number) rest (is.0, is.1)
           (both_reads count_reads count_reads);
     }
-frame_again (frame.Committed request number) rest is =
+frame_again decides (frame.Committed request number) rest is =
     record {
       read = committed_at;
       of_kind = refl;
       again = again (λ x. frame.Committed x.0 x.1) (request, number) rest (is.0, is.1)
           (both_reads count_reads count_reads);
     }
-frame_again (frame.Value request number value) rest is =
+frame_again decides (frame.Value request number value) rest is =
     record {
       read = value_at;
       of_kind = refl;
@@ -314,7 +317,7 @@ frame_again (frame.Value request number value) rest is =
       )
           (both_reads count_reads (both_reads count_reads found_reads));
     }
-frame_again (frame.RowsAre request number page) rest is =
+frame_again decides (frame.RowsAre request number page) rest is =
     record {
       read = rows_are_at;
       of_kind = refl;
@@ -324,21 +327,21 @@ frame_again (frame.RowsAre request number page) rest is =
       )
           (both_reads count_reads (both_reads count_reads page_reads));
     }
-frame_again (frame.Opened request number) rest is =
+frame_again decides (frame.Opened request number) rest is =
     record {
       read = opened_at;
       of_kind = refl;
       again = again (λ x. frame.Opened x.0 x.1) (request, number) rest (is.0, is.1)
           (both_reads count_reads count_reads);
     }
-frame_again (frame.Refused request refusal) rest is =
+frame_again decides (frame.Refused request refusal) rest is =
     record {
       read = refused_at;
       of_kind = refl;
       again = again (λ x. frame.Refused x.0 x.1) (request, refusal) rest (is, tt)
           (both_reads count_reads refusal_reads);
     }
-frame_again (frame.Closed request number) rest is =
+frame_again decides (frame.Closed request number) rest is =
     record {
       read = closed_at;
       of_kind = refl;

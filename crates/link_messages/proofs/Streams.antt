@@ -12,6 +12,7 @@ use Rattle.std.proofs.lemmas.List.Concat.{flat_map-cons}
 use Rattle.std.proofs.lemmas.List.Elements.{All-from_recursion, recursion_from_All}
 use Rattle.std.proofs.lemmas.Nat.{be_bytes_4, from_be_bytes-to_be_bytes_4}
 use Rattle.byteorder.specs.Endian.{big_number}
+use Rattle.configurations.specs.Configs.{TestDecidesConfig}
 use Rattle.kv_types.proofs.Fields.{IsBytes}
 use Rattle.link_messages.specs.declared.error.FrameError.{FrameError}
 use Rattle.link_messages.specs.declared.error.FrameError.TheVariants as fault
@@ -55,17 +56,18 @@ whole bytes n fits long told some few there =
 small : (bytes : List ℕ) (n : ℕ) → IsBytes bytes → IsBytes (take n (drop 4 bytes))
 small bytes n fits = IsBytes-take n (drop 4 bytes) (IsBytes-drop 4 bytes fits)
 
-pub front_frame : (bytes : List ℕ) (n : ℕ) (f : Frame) → IsBytes bytes → 4 ≤ length bytes
+pub front_frame : TestDecidesConfig →
+    (bytes : List ℕ) (n : ℕ) (f : Frame) → IsBytes bytes → 4 ≤ length bytes
     → n ≡ length_field bytes → 1 ≤ n → n ≤ MAX_FRAME → n ≤ length (drop 4 bytes)
     → content_at (take n (drop 4 bytes)) ≡ Ok f
     → IsFrame f × (bytes ≡ spelling f ++ drop (4 + n) bytes)
 unfolding whole
-front_frame bytes n f fits long told some few there read =
+front_frame decides bytes n f fits long told some few there read =
     let w = whole bytes n fits long told some few there in
     let content = take n (drop 4 bytes) in
     let v : Begins content f [] =
     subst (λ (r : Result Frame FrameError). Verdict r content) read
-    (verdict content w.some (small bytes n fits)) in
+    (verdict decides content w.some (small bytes n fits)) in
     let is_body : content ≡ body f = v.parts ∙ append-nil (body f) in
     let rest : w.rest ≡ drop (4 + n) bytes = drop-drop n 4 bytes in (
       v.frame,
@@ -83,29 +85,33 @@ fault_of fault.BadField bytes content w v = (inr (content, w, v), refl)
 fault_of fault.Trailing bytes content w v = ((content, w, v), refl)
 fault_of fault.Memory bytes content w v = absurd v
 
-told_fault : (e : FrameError) (bytes content : List ℕ) → IsWhole bytes content → IsBytes content
+told_fault : TestDecidesConfig →
+    (e : FrameError) (bytes content : List ℕ) → IsWhole bytes content → IsBytes content
     → content_at content ≡ Err e → Answers (Err e) bytes bytes
-told_fault e bytes content w fits read =
+told_fault decides e bytes content w fits read =
     fault_of e bytes content w
-    (subst (λ (r : Result Frame FrameError). Verdict r content) read (verdict content w.some fits))
+    (subst (λ (r : Result Frame FrameError). Verdict r content) read
+    (verdict decides content w.some fits))
 
-fault_or : (e : FrameError) (bytes content : List ℕ) → IsWhole bytes content → IsBytes content
+fault_or : TestDecidesConfig →
+    (e : FrameError) (bytes content : List ℕ) → IsWhole bytes content → IsBytes content
     → IsOr (Err e) (content_at content) → Answers (Err e) bytes bytes
-fault_or fault.Memory bytes content w fits read = ((content, w), refl)
-fault_or fault.TooLong bytes content w fits read =
-    told_fault fault.TooLong bytes content w fits read
-fault_or fault.BadKind bytes content w fits read =
-    told_fault fault.BadKind bytes content w fits read
-fault_or fault.BadField bytes content w fits read =
-    told_fault fault.BadField bytes content w fits read
-fault_or fault.Trailing bytes content w fits read =
-    told_fault fault.Trailing bytes content w fits read
+fault_or decides fault.Memory bytes content w fits read = ((content, w), refl)
+fault_or decides fault.TooLong bytes content w fits read =
+    told_fault decides fault.TooLong bytes content w fits read
+fault_or decides fault.BadKind bytes content w fits read =
+    told_fault decides fault.BadKind bytes content w fits read
+fault_or decides fault.BadField bytes content w fits read =
+    told_fault decides fault.BadField bytes content w fits read
+fault_or decides fault.Trailing bytes content w fits read =
+    told_fault decides fault.Trailing bytes content w fits read
 
-pub front_fault : (bytes : List ℕ) (n : ℕ) (e : FrameError) → IsBytes bytes → 4 ≤ length bytes
+pub front_fault : TestDecidesConfig →
+    (bytes : List ℕ) (n : ℕ) (e : FrameError) → IsBytes bytes → 4 ≤ length bytes
     → n ≡ length_field bytes → 1 ≤ n → n ≤ MAX_FRAME → n ≤ length (drop 4 bytes)
     → IsOr (Err e) (content_at (take n (drop 4 bytes))) → Answers (Err e) bytes bytes
-front_fault bytes n e fits long told some few there read =
-    fault_or e bytes (take n (drop 4 bytes)) (whole bytes n fits long told some few there)
+front_fault decides bytes n e fits long told some few there read =
+    fault_or decides e bytes (take n (drop 4 bytes)) (whole bytes n fits long told some few there)
     (small bytes n fits) read
 
 -- ---- what stands at the front of bytes
@@ -137,11 +143,12 @@ Goes (Ok (Some content)) a =
     (1 ≤ length content) × (v : Result Frame FrameError) × Verdict v content × (a ≡ as_answer v)
 Goes (Err e) a = a ≡ Err e
 
-one_goes : (s : Shape) (a b : Result (Option Frame) FrameError) → Goes s a → Goes s b → a ≡ b
-one_goes (Ok None) a b p q = p ∙ sym q
-one_goes (Ok (Some content)) a b p q =
-    p.3 ∙ ap as_answer (one_verdict p.1 q.1 content p.0 p.2 q.2) ∙ sym q.3
-one_goes (Err e) a b p q = p ∙ sym q
+one_goes : TestDecidesConfig →
+    (s : Shape) (a b : Result (Option Frame) FrameError) → Goes s a → Goes s b → a ≡ b
+one_goes decides (Ok None) a b p q = p ∙ sym q
+one_goes decides (Ok (Some content)) a b p q =
+    p.3 ∙ ap as_answer (one_verdict decides p.1 q.1 content p.0 p.2 q.2) ∙ sym q.3
+one_goes decides (Err e) a b p q = p ∙ sym q
 
 partial_shape : (bytes : List ℕ) → IsPartial bytes → shape_of bytes ≡ Ok None
 partial_shape bytes (inl short) = rw (lt-ltb _ _ short) refl
@@ -229,9 +236,9 @@ one_rest (Err fault.Memory) old new other t u = absurd t
 
 -- ---- the laws
 
-pub one_answer : OneAnswer
-one_answer a b old new other t u =
-    let same = one_goes (shape_of old) a b (goes a old new t) (goes b old other u) in (
+pub one_answer : TestDecidesConfig → OneAnswer
+one_answer decides a b old new other t u =
+    let same = one_goes decides (shape_of old) a b (goes a old new t) (goes b old other u) in (
       same,
       one_rest b old new other
           (subst (λ (x : Result (Option Frame) FrameError). Tells x old new) same t) u,
@@ -246,9 +253,9 @@ none_some f e = absurd cc
 cons_same : (f g : Frame) (fs gs : List Frame) → f ≡ g → fs ≡ gs → f ∷ fs ≡ g ∷ gs
 cons_same f g fs gs a b = cc
 
-pub one_spelling : OneSpelling
-one_spelling f g x y is_f is_g same =
-    let both = one_answer (Ok (Some f)) (Ok (Some g)) (spelling f ++ x) x y (is_f, refl)
+pub one_spelling : TestDecidesConfig → OneSpelling
+one_spelling decides f g x y is_f is_g same =
+    let both = one_answer decides (Ok (Some f)) (Ok (Some g)) (spelling f ++ x) x y (is_f, refl)
     (is_g, same) in
     (some_is f g both.0, both.1)
 
@@ -305,25 +312,28 @@ later stream rest f frames s =
 none_told : (stream rest : List ℕ) → Splits stream [] rest → Tells (Ok None) stream stream
 none_told stream rest s = (subst IsPartial (sym s.whole) s.partial, refl)
 
-no_frame : (stream rest other : List ℕ) (f : Frame) (frames : List Frame) → Splits stream [] rest
+no_frame : TestDecidesConfig →
+    (stream rest other : List ℕ) (f : Frame) (frames : List Frame) → Splits stream [] rest
     → Splits stream (f ∷ frames) other → ⊥
-no_frame stream rest other f frames s t =
-    let both = one_answer (Ok None) (Ok (Some f)) stream stream
+no_frame decides stream rest other f frames s t =
+    let both = one_answer decides (Ok None) (Ok (Some f)) stream stream
     (flat_map spelling frames ++ other) (none_told stream rest s)
     (first_told stream other f frames t) in
     none_some f both.0
 
-pub one_split : OneSplit
-one_split stream rest other [] [] s t = (refl, sym s.whole ∙ t.whole)
-one_split stream rest other [] (g ∷ gs) s t = absurd (no_frame stream rest other g gs s t)
-one_split stream rest other (f ∷ fs) [] s t = absurd (no_frame stream other rest f fs t s)
-one_split stream rest other (f ∷ fs) (g ∷ gs) s t =
-    let both = one_answer (Ok (Some f)) (Ok (Some g)) stream (flat_map spelling fs ++ rest)
+pub one_split : TestDecidesConfig → OneSplit
+one_split decides stream rest other [] [] s t = (refl, sym s.whole ∙ t.whole)
+one_split decides stream rest other [] (g ∷ gs) s t =
+    absurd (no_frame decides stream rest other g gs s t)
+one_split decides stream rest other (f ∷ fs) [] s t =
+    absurd (no_frame decides stream other rest f fs t s)
+one_split decides stream rest other (f ∷ fs) (g ∷ gs) s t =
+    let both = one_answer decides (Ok (Some f)) (Ok (Some g)) stream (flat_map spelling fs ++ rest)
     (flat_map spelling gs ++ other) (first_told stream rest f fs s)
     (first_told stream other g gs t) in
     let same = some_is f g both.0 in
     let behind : Splits (flat_map spelling fs ++ rest) gs other =
     subst (λ (x : List ℕ). Splits x gs other) (sym both.1) (later stream other g gs t) in
-    let more = one_split (flat_map spelling fs ++ rest) rest other fs gs
+    let more = one_split decides (flat_map spelling fs ++ rest) rest other fs gs
     (later stream rest f fs s) behind in
     (cons_same f g fs gs same more.0, more.1)

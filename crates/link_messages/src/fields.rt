@@ -13,6 +13,7 @@ ghost use Rattle.link_messages.specs.Reading.{at_at, found_at, config_at, bound_
 
 use crate::FrameError;
 use crate::numbers::{put_truth, put_u16, put_u32, put_u64, truth_of, u16_of, u32_of, u64_of};
+use configurations::laws::test_decides_config;
 use configurations::{Config, Epoch, NodeId};
 use kv_types::{Batch, Key, KvError, Number, Range, Value};
 use std::alloc::{AllocError, Global};
@@ -222,6 +223,7 @@ fn front_config_of(alloc: Global, bytes: &[u8]) -> Result<Option<(Config, &[u8])
     ensures { IfOk result (λ found.
         option_map (λ x. (x.0, x.1.now)) found ≡ config_at bytes.now) }
 {
+    test_decides_config(); // law: the test succeeds exactly for the configurations
     Ok(Config::read_from(alloc, bytes)?)
 }
 

@@ -7,6 +7,7 @@ use crate::reading::content_of;
 use crate::{Frame, FrameError, MAX_FRAME};
 use byteorder::{BigEndian, ByteOrder};
 use bytes::BytesMut;
+use configurations::laws::test_decides_config;
 use std::alloc::{AllocError, Global};
 use std::marker::Model;
 
@@ -30,6 +31,7 @@ pub fn read(alloc: Global, bytes: &[u8]) -> Result<Option<(Frame, usize)>, Frame
     ensures answer { Answers (told_by result) bytes.now (left_by result bytes.now) }
     ensures len { IfOk result (λ front. IfSome front (λ x. x.1 ≤ length bytes.now)) }
 {
+    test_decides_config(); // law: the test succeeds exactly for the configurations
     if bytes.len() < 4 {
         return Ok(None);
     }

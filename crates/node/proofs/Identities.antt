@@ -4,8 +4,7 @@ use Rattle.std.proofs.Common.{sym, ◌∙◌, length-append, arith}
 use Rattle.std.specs.Int.{w16, to_be_bytes}
 use Rattle.std.proofs.lemmas.List.{append-nil, take_all}
 use Rattle.configurations.specs.Configs.{IsConfig}
-use Rattle.configurations.specs.Spelling.{config_text}
-use Rattle.configurations.proofs.Spelling.{few_bytes, one_config}
+use Rattle.configurations.specs.Spelling.{config_text, ConfigTextIsShort}
 use Rattle.node.specs.Layout.{identity_record}
 
 -- behind the id stands the configuration
@@ -15,15 +14,8 @@ behind_id bytes x xs is =
     let text = config_text xs in
     rw is (take_all (suc (suc (length text)) - 2) text (omega arith) ∙ sym (append-nil text))
 
--- .. and nothing more
-pub nothing_behind : (bytes : List ℕ) (x : ℕ) (xs ids after : List ℕ) → IsConfig xs →
-    IsConfig ids → bytes ≡ identity_record x xs →
-    take (length bytes - 2) (drop 2 bytes) ≡ config_text ids ++ after → after ≡ []
-nothing_behind bytes x xs ids after of_xs of_ids is split =
-    (one_config ids xs after [] of_ids of_xs (sym split ∙ behind_id bytes x xs is)).1
-
 -- a record of a configuration is shorter than a log takes
-pub identity_fits : (x : ℕ) (xs : List ℕ) → IsConfig xs →
+pub identity_fits : ConfigTextIsShort → (x : ℕ) (xs : List ℕ) → IsConfig xs →
     length (identity_record x xs) ≤ 16777216
-identity_fits x xs config =
-    omega (arith, length-append (to_be_bytes w16 x) (config_text xs), few_bytes xs config)
+identity_fits short x xs config =
+    omega (arith, length-append (to_be_bytes w16 x) (config_text xs), short xs config)

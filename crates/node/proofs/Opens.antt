@@ -15,8 +15,7 @@ use Rattle.record_log.specs.Grammar.{OneList}
 use Rattle.node.specs.declared.stop.Stop.{Stop}
 use Rattle.chain_model.specs.Configuration.{IsId}
 use Rattle.configurations.specs.Configs.{IsConfig}
-use Rattle.configurations.specs.Spelling.{config_text}
-use Rattle.configurations.proofs.Spelling.{one_config}
+use Rattle.configurations.specs.Spelling.{config_text, ConfigTextIsUnique}
 use Rattle.node.specs.declared.layout.Identity.{Identity}
 use Rattle.node.specs.Layout.{identity_file, identity_record, identity_records}
 use Rattle.node.specs.Layout.{batch_record, records_from}
@@ -35,24 +34,24 @@ stands_once law None a b s t = absurd s
 stands_once law (Some it) a b s t = law it a b s t
 
 -- a record is that of one node and configuration at most
-one_identity : (x y : ℕ) (xs ys : List ℕ) → IsId x → IsId y → IsConfig xs → IsConfig ys →
-    identity_record x xs ≡ identity_record y ys → (x ≡ y) × (xs ≡ ys)
-one_identity x y xs ys is_x is_y of_x of_y same =
+one_identity : ConfigTextIsUnique → (x y : ℕ) (xs ys : List ℕ) → IsId x → IsId y →
+    IsConfig xs → IsConfig ys → identity_record x xs ≡ identity_record y ys → (x ≡ y) × (xs ≡ ys)
+one_identity unique x y xs ys is_x is_y of_x of_y same =
     let heads : to_be_bytes w16 x ≡ to_be_bytes w16 y = ap (take 2) same in
     let id = sym (from_be_bytes-to_be_bytes_2 x (omega (arith, is_x.1)))
     ∙ ap (from_be_bytes w16) heads ∙ from_be_bytes-to_be_bytes_2 y (omega (arith, is_y.1)) in
     let texts : config_text xs ++ [] ≡ config_text ys ++ [] =
     ap (λ (l : List ℕ). l ++ []) (ap (drop 2) same) in
-    (id, (one_config xs ys [] [] of_x of_y texts).0)
+    (id, (unique xs ys [] [] of_x of_y texts).0)
 
 -- what a disk has stands for one node and configuration at most
-pub same_identity : OneList → (left : Contents) (x y : ℕ) (xs ys : List ℕ) → HasId left x xs →
-    HasId left y ys → (x ≡ y) × (xs ≡ ys)
-same_identity law left x y xs ys s t =
+pub same_identity : OneList → ConfigTextIsUnique → (left : Contents) (x y : ℕ)
+    (xs ys : List ℕ) → HasId left x xs → HasId left y ys → (x ≡ y) × (xs ≡ ys)
+same_identity law unique left x y xs ys s t =
     let records : identity_records x xs ≡ identity_records y ys =
     stands_once law (left identity_file) (identity_records x xs) (identity_records y ys) s.identity
     t.identity in
-    one_identity x y xs ys s.id t.id s.config t.config cc
+    one_identity unique x y xs ys s.id t.id s.config t.config cc
 
 -- records are those of one list of batches at most
 pub same_batches : SpellingsDiffer → (number : ℕ) (a b : List BatchContent) → All IsBatch a →

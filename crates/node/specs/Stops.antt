@@ -20,7 +20,6 @@ log_stop log.Memory = stop.Memory
 log_stop log.TooLong = stop.Damaged
 log_stop log.Failed = stop.Damaged
 
-
 -- the call stops the node because of the disk
 abbrev pub TellsDisk : {T : Type 0} → Result T Stop → Type 0
 TellsDisk result = result ≡ Err stop.Disk

@@ -25,6 +25,7 @@ use crate::Stop;
 use crate::layout::{
     BATCHES_FILE, IDENTITY_FILE, Identity, batch_of, batch_record, identity_of, identity_record,
 };
+use configurations::laws::config_text_is_unique;
 use configurations::{Config, Epoch, NodeId};
 use disk::laws::sure_is_left;
 use disk::{Disk, DiskError};
@@ -157,6 +158,7 @@ impl Engine {
         ensures none { IfOk result
             (λ engine. (engine_count engine ≡ 0) × (engine_kept engine ≡ 0)) }
     {
+        config_text_is_unique(); // law: a configuration's spelling is short, so the log takes it
         length_of(disk, BATCHES_FILE)?;
         length_of(disk, IDENTITY_FILE)?;
         let log = Log::create(alloc, disk, BATCHES_FILE)?;
@@ -184,6 +186,7 @@ impl Engine {
     {
         one_list();
         spellings_differ();
+        config_text_is_unique(); // law: no two configurations have one spelling
         let identity = identity_on(alloc, disk)?;
         let log = Log::open(alloc, disk, BATCHES_FILE, 0)?;
         let batches = batches_in(alloc, disk, &log)?;

@@ -9,7 +9,8 @@ returns-in_err-frame-clause-answer c =
     let p = err_from_is_err_and c.from_residual.result c.from_residual.ensures.1 in
     let back = c.split_at.ensures.back in
     rw (p.1, p.2)
-    (front_fault c.args.bytes.now c.read_u32-len.result c.in_err-frame.field-0.0
+    (front_fault c.test_decides_config.ensures c.args.bytes.now c.read_u32-len.result
+    c.in_err-frame.field-0.0
     (λ i. omega (arith, c.type_inv.bytes i)) c.if-bytes-lt4.false
     (told_length c.read_u32-len.result c.split_at.result.0.now c.args.bytes.now
     c.split_at.ensures.front c.read_u32-len.ensures)
@@ -21,7 +22,8 @@ returns-in_err-frame-clause-answer c =
 pub returns-clause-answer : goal.returns-clause-answer
 returns-clause-answer c =
     let back = c.split_at.ensures.back in
-    front_frame c.args.bytes.now c.read_u32-len.result c.in_ok-frame.frame
+    front_frame c.test_decides_config.ensures c.args.bytes.now c.read_u32-len.result
+    c.in_ok-frame.frame
     (λ i. omega (arith, c.type_inv.bytes i)) c.if-bytes-lt4.false
     (told_length c.read_u32-len.result c.split_at.result.0.now c.args.bytes.now
     c.split_at.ensures.front c.read_u32-len.ensures)

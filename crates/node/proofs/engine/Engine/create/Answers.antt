@@ -71,7 +71,8 @@ returns-in_err-append-clause-created g c = λ honest.
     (c.in_ok-length_of-2.ensures.range honest_a) in
     let new = c.in_ok-identity.ensures.created honest1 ends in
     let one = c.deref.ensures.value ∙ c.in_ok-record.ensures.spelled in
-    let short = identity_fits c.args.id c.args.config.now c.in_ok-record.ensures.config in
+    let short = identity_fits c.config_text_is_unique.ensures.short c.args.id c.args.config.now
+    c.in_ok-record.ensures.config in
     let fits : length c.deref.result.now ≤ 16777216 = omega (arith, ap length one, short) in
     let why = c.in_err-append.ensures.appended [] honest2 new in
     rw (p.1, p.2) (met 16777216 c.in_err-append.field-0.0 c.in_ok-identity.identity

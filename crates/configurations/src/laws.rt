@@ -1,0 +1,16 @@
+//! Laws of the definitions that contracts use. The functions do nothing: their clauses are the
+//! laws.
+ghost use Rattle.configurations.specs.Configs.{TestDecidesConfig};
+ghost use Rattle.configurations.specs.Spelling.{ConfigTextIsUnique, ConfigTextIsShort};
+
+/// The test of a configuration succeeds exactly for the configurations.
+pub fn test_decides_config()
+    ensures { TestDecidesConfig }
+{}
+
+/// No spelling is a prefix of another, no two configurations have one spelling, and each spelling
+/// keeps the limit.
+pub fn config_text_is_unique()
+    ensures unique { ConfigTextIsUnique }
+    ensures short { ConfigTextIsShort }
+{}
