@@ -56,7 +56,7 @@ has_first y c x e = cond-true (y == x) true (has c x) (eq-eqb y x e)
 has_later : (y : ℕ) (c : List ℕ) (x : ℕ) → has c x ≡ true → has (y ∷ c) x ≡ true
 has_later y c x h = cond_both (y == x) true (has c x) (λ b. b ≡ true) (λ e. refl) (λ e. h)
 
--- what a part has, the whole has
+-- the nodes of a sublist are nodes of the list
 pub has_part : (d c : List ℕ) (x : ℕ) → Part d c → has d x ≡ true → has c x ≡ true
 has_part [] c x p h = absurd (false≢true h)
 has_part (y ∷ d) [] x p h = absurd p
@@ -64,7 +64,7 @@ has_part (y ∷ d) (z ∷ c) x (inl p) h = ⊎_elim (λ e. has_first z c x (sym 
     (λ k. has_later z c x (has_part d c x p.1 k)) (has_cases y d x h)
 has_part (y ∷ d) (z ∷ c) x (inr p) h = has_later z c x (has_part (y ∷ d) c x p h)
 
--- what stands before in a part, stands before in the whole
+-- the order of two nodes in a sublist is their order in the list
 pub before_part : (d c : List ℕ) (x y : ℕ) → Part d c → Before d x y → Before c x y
 before_part [] c x y p h = absurd h
 before_part (a ∷ d) [] x y p h = absurd p
@@ -72,7 +72,7 @@ before_part (a ∷ d) (z ∷ c) x y (inl p) (inl h) = inl (sym p.0 ∙ h.0, has_
 before_part (a ∷ d) (z ∷ c) x y (inl p) (inr h) = inr (before_part d c x y p.1 h)
 before_part (a ∷ d) (z ∷ c) x y (inr p) h = inr (before_part (a ∷ d) c x y p h)
 
--- what the whole lacks, a part lacks
+-- a node that the list lacks is in no sublist
 lacks_part : (d c : List ℕ) (x : ℕ) → Part d c → has c x ≡ false → has d x ≡ false
 lacks_part d c x p h = ⊎_elim (λ e. absurd (false≢true (sym h ∙ has_part d c x p e)))
     (λ e. e) (cases_Bool (has d x))
@@ -280,7 +280,7 @@ part_rest x [] (y ∷ c) p = tt
 part_rest x (z ∷ d) (y ∷ c) (inl p) = inr p.1
 part_rest x (z ∷ d) (y ∷ c) (inr p) = inr (part_rest x (z ∷ d) c p)
 
--- the test finds each part ..
+-- the test accepts each sublist
 pub part_test : (d c : List ℕ) → Part d c → is_part d c ≡ true
 part_test [] c p = refl
 part_test (x ∷ d) [] p = absurd p
@@ -291,7 +291,7 @@ part_test (x ∷ d) (y ∷ c) p =
     (⊎_elim (λ (k : (x ≡ y) × Part d c). absurd (false≢true (sym other ∙ eq-eqb x y k.0)))
     (λ k. k) p))
 
--- .. and nothing else
+-- the test accepts sublists only
 pub test_part : (d c : List ℕ) → is_part d c ≡ true → Part d c
 test_part [] c e = tt
 test_part (x ∷ d) [] e = absurd (false≢true e)

@@ -41,7 +41,7 @@ part_of_map f (x ∷ l) (y ∷ m) (inr p) =
     let rest = part_of_map f (x ∷ l) m p in
     (rest.0, (part_more rest.0 m y rest.1.0, rest.1.1))
 
--- the batches handed in, places aside
+-- the submitted batches, without places
 handed_batches : {A : Type 0} (i : ℕ) (es : List (Event A)) → batches (handed_in i es) ≡ handed es
 handed_batches i [] = refl
 handed_batches i (Ask x j (Submit b) went ∷ es) = ap (λ r. b ∷ r) (handed_batches (suc i) es)
@@ -56,7 +56,7 @@ handed_batches i (Start x went ∷ es) = handed_batches (suc i) es
 handed_batches i (Stop x ∷ es) = handed_batches (suc i) es
 handed_batches i (Lost ∷ es) = handed_batches (suc i) es
 
--- what is taken from the batches is taken from the batches with places
+-- a sublist of the batches is the image of a sublist of the batches with places
 taken_of : {A : Type 0} (events : List (Event A)) (l : List A) → Part l (handed events)
     → IsTaken events l
 taken_of events l part = part_of_map (λ (p : ℕ × _). p.1) l (handed_in 1 events)
@@ -68,13 +68,13 @@ is_addressed : {A : Type 0} (cs : List (List ℕ)) (events : List (Event A)) (li
 is_addressed cs events lists (Forward to e from number batch) ok = ok.0
 is_addressed cs events lists (Ack to e from committed have) ok = ok.0
 
--- a good Forward tells the truth
+-- a good Forward is true
 tells_true : {A : Type 0} (cs : List (List ℕ)) (events : List (Event A)) (lists : ℕ → List A)
     (f : Frame A) → FrameOk cs events lists f → TellsTrue cs lists f
 tells_true cs events lists (Forward to e from number batch) ok = ok.1
 tells_true cs events lists (Ack to e from committed have) ok = tt
 
--- a good Ack tells what is committed
+-- a good Ack reports a committed length
 tells_committed : {A : Type 0} (cs : List (List ℕ)) (events : List (Event A))
     (lists : ℕ → List A) (f : Frame A) → FrameOk cs events lists f → TellsCommitted cs events f
 tells_committed cs events lists (Forward to e from number batch) ok = tt
@@ -90,7 +90,7 @@ module _ {A : Type 0} (cs : List (List ℕ)) (lawful : IsChain cs) where
       (node_of cs events x).epoch
   known events x = ((holds events).nodes x).sound.knows
 
-  -- what a node takes for committed, every node of its configuration has
+  -- every node of the configuration has the batches that a node knows as committed
   safe : (events : List (Event A)) (x y : ℕ) → has (at_epoch cs (node_of cs events x).epoch) y
       ≡ true → Begins (take (node_of cs events x).committed (node_of cs events x).list)
       (node_of cs events y).list
@@ -119,7 +119,7 @@ module _ {A : Type 0} (cs : List (List ℕ)) (lawful : IsChain cs) where
       (later_part cs 0 n.epoch lawful (omega arith) s.in_range) before) k)
       (before_tail (at_epoch cs n.epoch) y t is k)
 
-  -- the order of lists, and what frames tell
+  -- the order of lists, and the truth of frames
   pub in_order : (events : List (Event A)) → InOrder cs events
   in_order events =
       let lists = lists_of (reached cs events) in
@@ -176,7 +176,7 @@ module _ {A : Type 0} (cs : List (List ℕ)) (lawful : IsChain cs) where
       ∙ cond-true (nat_le s n.committed) a (refused n i refusal.NotCommitted)
       (le-leb s n.committed high)
 
-  -- a running node whose whole list is committed shows it
+  -- a running node whose full list is committed reads it all
   shows_whole : (w : World A) (t i : ℕ) → (w.nodes t).running ≡ true
       → has (w.nodes t).ids t ≡ true → (w.nodes t).floor ≤ (w.nodes t).committed
       → (w.nodes t).committed ≡ length (w.nodes t).list

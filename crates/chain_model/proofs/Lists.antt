@@ -22,7 +22,7 @@ begins_more l m = record { rest = m; whole = refl }
 pub begins_cons : {A : Type 0} {x : A} {l m : List A} → Begins l m → Begins (x ∷ l) (x ∷ m)
 begins_cons {x = x} b = record { rest = b.rest; whole = ap (λ r. x ∷ r) b.whole }
 
--- what begins a beginning begins the whole
+-- a prefix of a prefix is a prefix of the list
 pub begins_trans : {A : Type 0} {l m n : List A} → Begins l m → Begins m n → Begins l n
 begins_trans {l = l} a b = record {
   rest = a.rest ++ b.rest;
@@ -68,7 +68,7 @@ place_in (y ∷ l) r zero x e = e
 place_in (y ∷ l) r (suc zero) x e = e
 place_in (y ∷ l) r (suc (suc n)) x e = place_in l r (suc n) x e
 
--- what stands in a beginning stands in the whole
+-- an element of a prefix is an element of the list
 pub begins-place : {A : Type 0} {l m : List A} (n : ℕ) (x : A) → Begins l m → place l n ≡ Some x
     → place m n ≡ Some x
 begins-place {l = l} n x b e = subst (λ k. place k n ≡ Some x) b.whole (place_in l b.rest n x e)
@@ -94,7 +94,7 @@ take_less (suc j) zero l h = absurd (omega arith)
 take_less (suc j) (suc k) [] h = begins_nil []
 take_less (suc j) (suc k) (x ∷ l) h = begins_cons (take_less j k l (omega arith))
 
--- the first elements of a beginning are those of the whole
+-- the first elements of a prefix are those of the list
 pub take_of_begins : {A : Type 0} (k : ℕ) (l m : List A) → Begins l m → k ≤ length l
     → take k m ≡ take k l
 take_of_begins k l m b h = subst (λ z. take k z ≡ take k l) b.whole (take-append-le k l b.rest h)
@@ -151,7 +151,7 @@ part_append (x ∷ l) r = inl (refl, part_append l r)
 pub part_begins : {A : Type 0} {l m : List A} → Begins l m → Part l m
 part_begins {l = l} b = subst (λ z. Part l z) b.whole (part_append l b.rest)
 
--- one more batch is handed in, and it may be taken at once
+-- a sublist stays a sublist when one more batch is submitted
 pub part_wider : {A : Type 0} (l h r : List A) → Part l h → Part l (h ++ r)
 part_wider [] h r p = tt
 part_wider (x ∷ l) [] r p = absurd p

@@ -1,4 +1,4 @@
--- Each read, snapshot and tend, each start and stop keeps what holds.
+-- Each read, snapshot and tend, each start and stop keeps the invariant.
 use Rattle.std.proofs.Common.{◌≡◌, ℕ, ◌≤◌, min, max, List, [], ◌∷◌, ◌++◌, length, take, Option}
 use Rattle.std.proofs.Common.{Bool, true, false, ◌==◌, sym, refl, ◌∙◌, arith, length-take-le}
 use Rattle.std.specs.List.{AllByRecursion}
@@ -18,14 +18,14 @@ use Rattle.chain_model.proofs.Cases.{close_cases, open_cases, read_cases}
 use Rattle.chain_model.proofs.Sends.{AnswerOk, Lands, refused_ok, safe_last, silent_ok}
 use Rattle.chain_model.proofs.Appends.{submit_ok, tail_sound}
 
--- the least is below each of them ..
+-- the least is below each of them
 pub least_below : (f m : ℕ) (ts : List ℕ) → f ≤ least m ts
     → (f ≤ m) × AllByRecursion (λ t. f ≤ t) ts
 least_below f m [] le = (le, tt)
 least_below f m (t ∷ ts) le = let rest = least_below f (min m t) ts le in
     (omega (arith, rest.0), (omega (arith, rest.0), rest.1))
 
--- .. and above what is below each
+-- the least is above each number that is below all of them
 pub least_above : (f m : ℕ) (ts : List ℕ) → f ≤ m → AllByRecursion (λ t. f ≤ t) ts → f ≤ least m ts
 least_above f m [] le each = le
 least_above f m (t ∷ ts) le each = least_above f (min m t) ts (omega (arith, le, each.0)) each.1
@@ -145,7 +145,7 @@ module _ {A : Type 0} (cs : List (List ℕ)) (lawful : IsChain cs) (events : Lis
     resend = λ up t. absurd (false≢true up);
   }
 
-  -- a start takes for committed what its disk shows to be
+  -- a start knows as committed what its disk shows to be
   pub started_ok : (n : Node A) → NodeOk cs events h lists x n → Lands cs events lists x n
       → NodeOk cs events h lists x (started x n)
   started_ok n ok here =

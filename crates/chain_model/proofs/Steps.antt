@@ -1,4 +1,4 @@
--- Each frame, notice and tick that comes to a node keeps what holds.
+-- Each frame, notice and tick of a node keeps the invariant.
 use Rattle.std.proofs.Common.{◌≡◌, inl, inr, ⊎_elim, ℕ, ◌<◌, ◌≤◌, max, List, [], length, take}
 use Rattle.std.proofs.Common.{true, cond, nat_lt, sym, refl, ◌∙◌, ap, subst, arith}
 use Rattle.std.specs.List.{AllByRecursion}
@@ -34,7 +34,7 @@ greater a b P pa pb =
 -- `lists` are the lists of all nodes after the step.
 module _ {A : Type 0} (cs : List (List ℕ)) (lawful : IsChain cs) (events : List (Event A))
     (h : List A) (lists : ℕ → List A) (x : ℕ) where
-  -- what a node takes for committed is the greater of what it knew and what it is told
+  -- the new committed number is the greater of the old one and the reported one
   told_sound : (n : Node A) (committed have : ℕ) → NodeOk cs events h lists x n
       → lists x ≡ n.list → has n.ids x ≡ true
       → ((l : List A) × ((length l ≡ committed) × Safe lists n.ids l

@@ -1,4 +1,5 @@
--- What a sync kept agrees with what a read gives, off the loose places, whatever is called.
+-- The synced bytes agree with the bytes that a read returns, in all synced places, after every
+-- call.
 use Rattle.std.proofs.Common.{◌≡◌, ◌≢◌, ℕ, ◌+◌, List, [], ◌∷◌, ◌++◌, length}
 use Rattle.std.proofs.Common.{Result, Ok, Err}
 use Rattle.std.proofs.Common.{refl, sym, ap, subst, ◌∙◌, inl, inr}
@@ -14,7 +15,7 @@ use Rattle.disk.specs.Calls.{CanBegin, Writes, Cuts}
 use Rattle.disk.specs.Memory.{Agrees, AllAgree}
 use Rattle.disk.proofs.Places.{get-take, overwritten_before, overwritten_after}
 
--- a place that was loose stays loose under one more touch
+-- an unsynced place stays unsynced under one more pending write
 pub loose_still : (end : ℕ) (touches : List Touch) (one : Touch) (place : ℕ)
     → IsLoose end touches place → IsLoose end (touches ++ one ∷ []) place
 loose_still end [] one place loose = absurd loose
@@ -22,7 +23,7 @@ loose_still end (first ∷ touches) one place (inl here) = inl here
 loose_still end (first ∷ touches) one place (inr later) =
     inr (loose_still end touches one place later)
 
--- and the touch loosens its own
+-- a pending write makes its own places unsynced
 pub loose_now : (end : ℕ) (touches : List Touch) (one : Touch) (place : ℕ)
     → Loosens one end place → IsLoose end (touches ++ one ∷ []) place
 loose_now end [] one place here = inl here

@@ -52,7 +52,7 @@ syncs_only P (Ok x) old new file w before =
 syncs_only P (Err e) old new file w before =
     fails_only P e old new file (old file) w.0 before before
 
--- a file that is sure is left as it is
+-- a crash leaves a durable file unchanged
 pub sure_only : (P : Option (List ℕ) → Type 0) (bytes : List ℕ) → P (Some bytes)
     → Only P (Kept bytes bytes [])
 sure_only P bytes p (Some c) now =
@@ -60,7 +60,7 @@ sure_only P bytes p (Some c) now =
     (sym (same_bytes c bytes (λ place. now place (λ no_touch. no_touch)))) p
 sure_only P bytes p None now = absurd now
 
--- what is sure is left exactly
+-- a crash leaves durable content exactly
 pub sure_left : (slot : Slot) (left : Option (List ℕ)) → IsSure slot → Leaves slot left
     → left ≡ seen slot
 sure_left (Absent back) left sure (inl gone) = gone

@@ -53,7 +53,7 @@ mod_more n m =
     sym (ap (λ (k : ℕ). k % m) (omega (arith, mod-add-div n m))
     ∙ add-mul-mod_self_left (n % m + 1) m (n / m))
 
--- the next place begins behind one loose place more, or behind as many
+-- the next place has one more unsynced place before it, or as many
 loose_before_loose : (end : ℕ) (touches : List Touch) (place : ℕ)
     → is_loose end touches place ≡ true
     → loose_before end touches (place + 1) ≡ loose_before end touches place + 1
@@ -61,7 +61,7 @@ loose_before_loose end touches place loose =
     ap (loose_before end touches) (add-one place)
     ∙ ap (λ (b : Bool). loose_before end touches place + (if b then 1 else 0)) loose
 
--- a tight place adds none
+-- a synced place adds none
 loose_before_tight : (end : ℕ) (touches : List Touch) (place : ℕ)
     → is_loose end touches place ≡ false
     → loose_before end touches (place + 1) ≡ loose_before end touches place

@@ -1,4 +1,4 @@
--- The rows that `walk_of` gives are all rows of the map in the range, in the order of the walk.
+-- The rows of `walk_of` are all rows of the map in the range, in the order of the walk.
 use Rattle.std.proofs.Common.{◌≡◌, ◌⊎◌, inl, inr, ℕ, Bool, true, false, not, cond, List, [], ◌∷◌}
 use Rattle.std.proofs.Common.{reverse, All, AllPairs, Contains, Option, Some, None, IfSome}
 use Rattle.std.proofs.Common.{Ordering, is_eq, refl, sym, ap, subst, ◌∙◌}

@@ -10,7 +10,7 @@ use Rattle.link_messages.specs.Stream.{HasKind, Begins, IsMalformed, IsTooMuch}
 use Rattle.link_messages.specs.Reading.{Reader, reader_of, ended, read_by, content_at}
 use Rattle.link_messages.proofs.FrameLaws.{reader_is, known, unknown, frame_again}
 
--- what there is to tell of content
+-- the verdict on content
 abbrev pub Verdict : Result Frame FrameError → List ℕ → Type 0
 Verdict (Ok f) content = Begins content f []
 Verdict (Err fault.BadKind) content = HasKind content → ⊥

@@ -1,4 +1,4 @@
--- The reader of each field gives what was spelled.
+-- The reader of each field reads back its spelling.
 use Rattle.std.proofs.Common.{◌≡◌, ℕ, zero, suc, ◌<◌, ◌≤◌, ◌^◌, Bool, true, false, not, ◌&&◌}
 use Rattle.std.proofs.Common.{List, [], ◌∷◌, ◌++◌, length, Option, Some, None, IfSome, All, refl}
 use Rattle.std.proofs.Common.{sym}
@@ -175,7 +175,7 @@ config_reads =
     ))
     (counted_reads u8_reads u16_reads)
 
--- what a reader of a configuration returns, by what `Config::new` told
+-- the result of a reader of a configuration, by the result of `Config::new`
 pub config_made : (bytes between rest ids : List ℕ) (count : ℕ)
     → number_at w8 bytes ≡ Some (count, between)
     → many (number_at w16) count between ≡ Some (ids, rest) → IsConfig ids

@@ -1,4 +1,4 @@
--- A reader gives what was spelled and nothing else; and so do readers made of such readers.
+-- A reader reads back what was spelled and nothing else; and so do readers built from such readers.
 use Rattle.std.proofs.Common.{◌≡◌, ℕ, zero, suc, ◌+◌, ◌%◌, ◌^◌, ◌<◌, ◌≤◌, Bool, true, false, cond}
 use Rattle.std.proofs.Common.{ltb, List}
 use Rattle.std.proofs.Common.{[], ◌∷◌, ◌++◌, length, take, drop, Option, Some, None, IfSome, refl}

@@ -110,11 +110,11 @@ front_fault bytes n e fits long told some few there read =
 
 -- ---- what stands at the front of bytes
 
--- nothing whole yet, a length that is no frame's, or whole content
+-- an incomplete frame, a length out of bounds, or complete content
 abbrev Shape : Type 0
 Shape = Result (Option (List ℕ)) FrameError
 
--- by the length that the bytes tell
+-- the case by the length in the first bytes
 abbrev shape_by : List ℕ → ℕ → Shape
 shape_by bytes n = cond (ltb MAX_FRAME n) (Err fault.TooLong)
     (cond (eqb n 0) (Err fault.BadField)

@@ -98,7 +98,7 @@ pub not_damaged : (xs : List ℕ) (e : ConfigError) → IsConfig xs →
 not_damaged xs e config (inl memory) damaged = absurd (cc (ap config_stop memory, damaged))
 not_damaged xs e config (inr least) damaged = no_fault xs e config least.has
 
--- a record of a configuration is shorter than a log takes
+-- a record of a configuration is shorter than the limit of a log
 pub identity_fits : (x : ℕ) (xs : List ℕ) → IsConfig xs →
     length (identity_record x xs) ≤ 16777216
 identity_fits x xs config =

@@ -43,7 +43,7 @@ one_identity x y xs ys is_x is_y of_x of_y same =
     let below = All-weaker IsId (λ id. id < 65536) (λ id is. omega (arith, is.1)) xs of_x.each in
     (id, one_spelling xs ys below of_y.each (ap (drop 3) same))
 
--- what a disk has stands for one node and configuration at most
+-- a disk represents at most one node and configuration
 pub same_identity : OneList → (left : Contents) (x y : ℕ) (xs ys : List ℕ) → HasId left x xs →
     HasId left y ys → (x ≡ y) × (xs ≡ ys)
 same_identity law left x y xs ys s t =
