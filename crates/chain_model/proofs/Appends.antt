@@ -93,7 +93,7 @@ module _ {A : Type 0} (cs : List (List ℕ)) (lawful : IsChain cs) (events : Lis
         resend = resend;
       })
 
-  -- one more batch, which stands next in the list of every node before
+  -- one more batch, which is next in the list of every node before
   pub append_sound : (n : Node A) (b : A) → SoundNode cs events h lists x n → has n.ids x ≡ true
       → ((z : ℕ) → Before n.ids z x → place (lists z) (suc (length n.list)) ≡ Some b)
       → Part (n.list ++ b ∷ []) h → Sound cs events h lists x (n.list ++ b ∷ []) n.epoch n.ids
@@ -122,7 +122,7 @@ module _ {A : Type 0} (cs : List (List ℕ)) (lawful : IsChain cs) (events : Lis
     handed = part;
   }
 
-  -- what is pending of a list is pending of a longer one
+  -- a request pending for a list is pending for a longer one
   pub pending_longer : (l : List A) (b : A) (ps : List (ℕ × ℕ))
       → AllByRecursion (IsPending events l) ps → AllByRecursion (IsPending events (l ++ b ∷ [])) ps
   pending_longer l b ps pending = every_map (IsPending events l) (IsPending events (l ++ b ∷ []))
@@ -183,7 +183,7 @@ module _ {A : Type 0} (cs : List (List ℕ)) (lawful : IsChain cs) (events : Lis
       submit_cases Keeps x n i b (λ why at. refused_ok cs lawful events h lists x n i ok why)
       (λ kept head. accept_ok n i b ok brought part head kept)
 
-  -- what is next in the list of p, and of all before p, is next in those of all before this node
+  -- the next batch of p, and of all before p, is the next batch of all before this node
   append_ok : (n : Node A) (k : ℕ) (b : A) (p : ℕ) → NodeOk cs events h lists x n
       → has n.ids x ≡ true → predecessor n.ids x ≡ Some p
       → ((z : ℕ) → ((z ≡ p) ⊎ Before n.ids z p) → place (lists z) k ≡ Some b)

@@ -1,4 +1,4 @@
--- What else follows from what holds of every world.
+-- Consequences of the invariant of every world.
 use Rattle.std.proofs.Common.{All, ◌≡◌, inl, inr, ⊎_elim, ℕ, suc, ◌≤◌, List, [], ◌∷◌, length, map}
 use Rattle.std.proofs.Common.{take, ap₂, refl, None, true, not, nat_le, nat_lt, sym, ◌∙◌, ap}
 use Rattle.std.proofs.Common.{subst, arith, take_all, length-take-le, le-leb, le-ltb}
@@ -29,7 +29,7 @@ use Rattle.chain_model.proofs.WorldGrowth.{only_grows}
 use Rattle.chain_model.proofs.Queries.{least_above}
 use Rattle.chain_model.proofs.Reached.{reached_ok}
 
--- what is a part of images is the image of a part
+-- a sublist of images is the image of a sublist
 part_of_map : {A B : Type 0} (f : A → B) (l : List B) (m : List A) → Part l (map f m)
     → (k : List A) × (Part k m × (map f k ≡ l))
 part_of_map f [] m p = ([], (tt, refl))
@@ -191,7 +191,7 @@ module _ {A : Type 0} (cs : List (List ℕ)) (lawful : IsChain cs) where
       ∙ ap (λ l. Shows i n.committed l ∷ []) (take_all n.committed n.list (omega (arith, whole)))
       ∙ ap (λ s. Shows i s n.list ∷ []) whole
 
-  -- what the last tail shows
+  -- the reads at the last tail
   pub reads_fresh : (events : List (Event A)) → ReadsFresh cs events
   reads_fresh events t is at_last up =
       let w = reached cs events in
@@ -211,7 +211,7 @@ module _ {A : Type 0} (cs : List (List ℕ)) (lawful : IsChain cs) where
             (up_to events t k) (holds events).replies);
       }
 
-  -- what is kept is enough
+  -- the batches that a node keeps are enough
   pub keeps_enough : (events : List (Event A)) → KeepsEnough cs events
   keeps_enough events = record {
     others = λ x y k.

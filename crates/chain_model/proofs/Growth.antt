@@ -98,7 +98,7 @@ module _ {A : Type 0} (x : ℕ) where
       (λ is. record { list = refl; epoch = refl; floor = refl; kept = refl; running = refl })
       (λ not. same_refl n)
 
-  -- what is pending is forgotten by a stop
+  -- a stop forgets pending requests
   acknowledged : (n m : Node A) (fs : List (Frame A)) → Same n m → Same n (acknowledge m fs).node
   acknowledged n m fs s = record {
     list = s.list;
@@ -203,7 +203,7 @@ module _ {A : Type 0} (x : ℕ) where
       (λ here now is. take_ack_cases (GoesOn n) x n committed have
       (λ low. pass_on_goes_on n committed have) (drops n reason.BadAck))
 
--- so does every step
+-- every step that answers leaves its node running, and later
 pub steps_go_on : {A : Type 0} → StepsGoOn A
 steps_go_on = record {
   asked = λ x i n q. ask_goes_on x n i q;

@@ -51,7 +51,7 @@ SoundNode cs events h lists x n = Sound cs events h lists x n.list n.epoch n.ids
 abbrev pub IsPending : {A : Type 0} → List (Event A) → List A → ℕ × ℕ → Type 0
 IsPending events l p = (b : _) × (WasHandedIn events p.1 b × (place l p.0 ≡ Some b))
 
--- what holds of a node
+-- the invariant of a node
 pub record NodeOk {A : Type 0} (cs : List (List ℕ)) (events : List (Event A)) (h : List A)
     (lists : ℕ → List A) (x : ℕ) (n : Node A) : Type 0 where
   pub sound : Sound cs events h lists x n.list n.epoch n.ids n.committed n.floor n.kept
@@ -84,14 +84,14 @@ ReplyOk cs events lists _ = Unit {0}
 abbrev pub lists_of : {A : Type 0} → World A → ℕ → List A
 lists_of w y = (w.nodes y).list
 
--- what holds of a world
+-- the invariant of a world
 pub record WorldOk {A : Type 0} (cs : List (List ℕ)) (events : List (Event A)) (h : List A)
     (w : World A) : Type 0 where
   pub nodes : (x : ℕ) → NodeOk cs events h (lists_of w) x (w.nodes x)
   pub frames : AllByRecursion (FrameOk cs events (lists_of w)) w.frames
   pub replies : AllByRecursion (ReplyOk cs events (lists_of w)) w.replies
 
--- what begins a committed list is committed
+-- a prefix of a committed list is committed
 pub shorter_committed : {A : Type 0} {cs : List (List ℕ)} {events : List (Event A)} (e : ℕ)
     (l m : List A) → Begins l m → WasCommitted cs events e m → WasCommitted cs events e l
 shorter_committed e l m b c = record {

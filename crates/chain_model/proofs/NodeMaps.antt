@@ -37,7 +37,7 @@ sent x k m = record {
 }
 
 module _ {A B : Type 0} (f : A → B) where
-  -- what stands at a place of the images is the image of what stands there
+  -- the element at a place of the images is the image of the element there
   pub map-place : (l : List A) (n : ℕ) → place (map f l) n ≡ option_map f (place l n)
   map-place [] n = refl
   map-place (x ∷ l) zero = refl
@@ -184,7 +184,7 @@ module _ {A B : Type 0} (f : A → B) where
       (sends_map n (ack x n) (ack x n') (Some reason.OtherNumber)
       (ack_to_map (predecessor n.ids x) x n))
 
-  -- what is committed is passed on
+  -- the committed number is reported to the predecessor
   pass_on_map : (x : ℕ) (n : Node A) (committed have : ℕ)
       → answer_map f (pass_on x n committed have) ≡ pass_on x (node_map f n) committed have
   pass_on_map x n committed have =
@@ -281,7 +281,7 @@ module _ {A B : Type 0} (f : A → B) where
       (refused n i refusal.NotCommitted) (refused n' i refusal.Removed)
       (refused n' i refusal.TooOld) a' (refused n' i refusal.NotCommitted) refl refl refl e refl
 
-  -- what is shown
+  -- the answer of a read
   show_map : (n : Node A) (i s : ℕ) → answer_map f (show n i s) ≡ show (node_map f n) i s
   show_map n i s =
       ap (λ l. replied (node_map f n) (Shows i s l)) (sym (take-map f s n.list))

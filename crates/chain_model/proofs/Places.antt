@@ -161,7 +161,7 @@ module _ {A : Type 0} where
   agrees_with es B (Closed i s) ok = tt
   agrees_with es B (Refused i why) ok = tt
 
-  -- so do all replies
+  -- all replies that speak of batches with places agree with the list
   agree_with : (es : List (Event A)) (B : List (ℕ × A)) (rs : List (Reply (ℕ × A)))
       → AllByRecursion (Speaks (tagged 1 es) B) rs
       → AllByRecursion (Agrees B) (map (reply_map batch_of) rs)

@@ -30,7 +30,7 @@ pub least_above : (f m : ℕ) (ts : List ℕ) → f ≤ m → AllByRecursion (λ
 least_above f m [] le each = le
 least_above f m (t ∷ ts) le each = least_above f (min m t) ts (omega (arith, le, each.0)) each.1
 
--- what holds of each holds with one left out
+-- a property of each element holds with one left out
 every_without : (P : ℕ → Type 0) (s : ℕ) (ts : List ℕ) → AllByRecursion P ts
     → AllByRecursion P (without s ts)
 every_without P s [] each = tt
@@ -40,7 +40,7 @@ every_without P s (t ∷ ts) each = cond_both (s == t) ts (t ∷ without s ts) (
 -- `lists` are the lists of all nodes after the step.
 module _ {A : Type 0} (cs : List (List ℕ)) (lawful : IsChain cs) (events : List (Event A))
     (h : List A) (lists : ℕ → List A) (x : ℕ) where
-  -- what a node can be read at, every node of the last configuration has
+  -- every node of the last configuration has the batches of a readable number
   readable_last : (n : Node A) (s : ℕ) → NodeOk cs events h lists x n → s ≤ n.committed
       → (length (take s n.list) ≡ s) × Safe lists (last_of cs) (take s n.list)
   readable_last n s ok le = (
@@ -195,7 +195,7 @@ module _ {A : Type 0} (cs : List (List ℕ)) (lawful : IsChain cs) (events : Lis
         resend = λ up t. omega arith;
       })
 
-  -- what a request may count on
+  -- the premises of a request
   abbrev pub RequestOk : Node A → ℕ → Request A → Type 0
   RequestOk n i (Submit b) = WasHandedIn events i b × Part (n.list ++ b ∷ []) h
   RequestOk n i _ = Unit {0}

@@ -22,7 +22,7 @@ use Rattle.chain_model.proofs.Configuration.{before_part, has_part, last_epoch, 
 use Rattle.chain_model.proofs.Configuration.{predecessor_before, successor_is_in}
 use Rattle.chain_model.proofs.Invariant.{FrameOk, IsPending, NodeOk, ReplyOk, Safe, SoundNode}
 
--- what an answer has to be
+-- the requirement on an answer
 pub record AnswerOk {A : Type 0} (cs : List (List ℕ)) (events : List (Event A)) (h : List A)
     (lists : ℕ → List A) (x : ℕ) (a : Answer A) : Type 0 where
   pub node : NodeOk cs events h lists x a.node
@@ -58,7 +58,7 @@ module _ {A : Type 0} (cs : List (List ℕ)) (lawful : IsChain cs) (events : Lis
   different n s = subst (λ c. AllDifferent c) (sym s.knows)
       (all_different cs n.epoch lawful s.in_range)
 
-  -- what every node of a configuration has, every node of the last configuration has
+  -- every node of the last configuration has the batches that a node's configuration has
   pub safe_last : (n : Node A) → SoundNode cs events h lists x n → (l : List A)
       → Safe lists n.ids l → Safe lists (last_of cs) l
   safe_last n s l safe y k =
@@ -69,7 +69,7 @@ module _ {A : Type 0} (cs : List (List ℕ)) (lawful : IsChain cs) (events : Lis
       (omega (arith, last.1.0))) (subst (λ c. has c y ≡ true) last.1.1 k) in
       safe y (subst (λ c. has c y ≡ true) (sym s.knows) its)
 
-  -- what a node's configuration keeps, every earlier one kept
+  -- a node in its own configuration is in every earlier one
   pub kept_earlier : (n : Node A) → SoundNode cs events h lists x n → (e : ℕ) → e ≤ n.epoch
       → has n.ids x ≡ true → has (at_epoch cs e) x ≡ true
   kept_earlier n s e le k = has_part (at_epoch cs n.epoch) (at_epoch cs e) x
@@ -163,7 +163,7 @@ module _ {A : Type 0} (cs : List (List ℕ)) (lawful : IsChain cs) (events : Lis
       (λ le. not_due_ok l k ps pending.1)
       (λ gt. (pending.0, not_due_ok l k ps pending.1))
 
-  -- what is left of numbers that rise rises
+  -- numbers that rise above k rise above a lesser number
   pub rises_less : (j k : ℕ) (ps : List (ℕ × ℕ)) → j ≤ k → RisesFrom k ps → RisesFrom j ps
   rises_less j k [] le up = tt
   rises_less j k (p ∷ ps) le up = (omega (arith, le, up.0), up.1)

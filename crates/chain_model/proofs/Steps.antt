@@ -23,7 +23,7 @@ use Rattle.chain_model.proofs.Sends.{AnswerOk, Lands, ack_ok, acknowledge_ok, be
 use Rattle.chain_model.proofs.Sends.{dropped_ok, forwards_ok, kept_earlier}
 use Rattle.chain_model.proofs.Appends.{Keeps, lands_tail, tail_sound, take_forward_ok}
 
--- what holds of two numbers holds of the greater
+-- a property of two numbers holds for the greater
 greater : (a b : ℕ) (P : ℕ → Type 0) → P a → P b → P (max a b)
 greater a b P pa pb =
     ⊎_elim
@@ -70,7 +70,7 @@ module _ {A : Type 0} (cs : List (List ℕ)) (lawful : IsChain cs) (events : Lis
         handed = ok.sound.handed;
       }
 
-  -- what is committed is passed on
+  -- the committed number is reported to the predecessor
   pass_on_ok : (n : Node A) (committed have : ℕ) → NodeOk cs events h lists x n
       → SoundNode cs events h lists x (told n committed have) → committed ≤ have
       → AnswerOk cs events h lists x (pass_on x n committed have)

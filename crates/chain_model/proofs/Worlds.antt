@@ -35,7 +35,7 @@ use Rattle.chain_model.proofs.Queries.{RequestOk, ask_ok, started_ok, stopped_ok
 abbrev pub put : {A : Type 0} → World A → ℕ → Answer A → World A
 put w x a = after w (answers x a)
 
--- what the tails of a world have at their epochs is committed
+-- the lists of a world's tails at their epochs are committed
 abbrev pub TailsIn : {A : Type 0} → List (List ℕ) → List (Event A) → World A → Type 0
 TailsIn cs events w = (t : ℕ) → is_tail (at_epoch cs (w.nodes t).epoch) t ≡ true
     → WasCommitted cs events (w.nodes t).epoch (w.nodes t).list
@@ -73,7 +73,7 @@ module _ {A : Type 0} (cs : List (List ℕ)) (lawful : IsChain cs) (events : Lis
         (eq-eqb x x refl)) (tails x);
   }
 
-  -- an answer that keeps what holds of its node keeps the invariant of the world
+  -- an answer that keeps the invariant of its node keeps that of the world
   put_ok : (x : ℕ) (a : Answer A) → Begins (w.nodes x).list a.node.list
       → AnswerOk cs events (h ++ r) (new x a) x a → WorldOk cs events (h ++ r) (put w x a)
   put_ok x a g good = record {
@@ -130,7 +130,7 @@ module _ {A : Type 0} (cs : List (List ℕ)) (lawful : IsChain cs) (events : Lis
       (stopped_ok cs lawful events (h ++ r) lists x a.node
       (keeps lists up other lifted (record { list = at.list; tail = at.tail })).node)) tails
 
-  -- a drop changes nothing
+  -- a drop keeps the invariant
   drops_ok : (x : ℕ) (why : DropReason)
       → TailsIn cs events (put w x (dropped_for (w.nodes x) why)) → WorldOk cs events (h ++ r)
       (put w x (dropped_for (w.nodes x) why))
@@ -138,7 +138,7 @@ module _ {A : Type 0} (cs : List (List ℕ)) (lawful : IsChain cs) (events : Lis
       (λ lists up other lifted at. dropped_ok cs lawful events (h ++ r) lists x (w.nodes x)
       lifted why) tails
 
-  -- and so it is with a refusal
+  -- a refusal keeps the invariant
   refuses_ok : (x i : ℕ) (why : Refusal)
       → TailsIn cs events (put w x (refused (w.nodes x) i why)) → WorldOk cs events (h ++ r)
       (put w x (refused (w.nodes x) i why))
@@ -146,7 +146,7 @@ module _ {A : Type 0} (cs : List (List ℕ)) (lawful : IsChain cs) (events : Lis
       (begins_refl (w.nodes x).list) (λ lists up other lifted at. refused_ok cs lawful events
       (h ++ r) lists x (w.nodes x) i lifted why) tails
 
-  -- what holds is kept by an outcome
+  -- an outcome keeps the invariant
   abbrev Holds : Outcome A → Type 0
   Holds o = TailsIn cs events (after w o) → WorldOk cs events (h ++ r) (after w o)
 
@@ -276,7 +276,7 @@ module _ {A : Type 0} (cs : List (List ℕ)) (lawful : IsChain cs) (events : Lis
   Along [] w = Unit {0}
   Along (e ∷ es) w = TailsIn cs events (happens cs w e) × Along es (happens cs w e)
 
-  -- so does every run
+  -- every run keeps the invariant
   pub run_ok : (es : List (Event A)) → AllByRecursion EventOk es → (h : List A) (w : World A)
       → Along es w → WorldOk cs events h w → WorldOk cs events (h ++ handed es) (run cs es w)
   run_ok [] told h w along ok = subst (λ l. WorldOk cs events l w) (sym (append-nil h)) ok

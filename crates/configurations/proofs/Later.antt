@@ -138,13 +138,13 @@ lawful_of decides cs some few first smaller nodes ordered = record {
   };
 }
 
--- the configuration of an epoch stands at its place
+-- the configuration of an epoch is at its place
 pub epoch_get : (cs : List (List ℕ)) (e : ℕ) → get_or cs e [] ≡ at_epoch cs e
 epoch_get [] e = refl
 epoch_get (c ∷ cs) zero = refl
 epoch_get (c ∷ cs) (suc e) = epoch_get cs e
 
--- what is found at a place of a list of configurations is that of the epoch
+-- the configuration at a place of the list is that of the epoch
 abbrev pub IsAt : {X : Type 0} → (X → List ℕ) → List (List ℕ) → ℕ → Option X → Type 0
 IsAt now cs e found =
     MatchOption found (length cs ≤ e) (λ it. (e < length cs) × (now it ≡ at_epoch cs e))

@@ -47,7 +47,7 @@ agrees_written at bytes (Kept old kept touches) begins agrees = λ place tight.
       ]
     ]
 
--- and after a cut
+-- they agree after a cut
 agrees_cut : (len : ℕ) (slot : Slot) → Agrees slot → Agrees (cut_to len slot)
 agrees_cut len (Absent back) agrees = tt
 agrees_cut len (Fresh old back) agrees = tt
@@ -59,7 +59,7 @@ agrees_cut len (Kept old kept touches) agrees = λ place tight.
       | inr past ↦ absurd (tight (loose_now (length kept) touches (Cut len) place past))
     ]
 
--- what stays the same agrees
+-- an unchanged slot agrees
 same_agree : (old new : State) → IsSame old new → AllAgree old → AllAgree new
 same_agree old new same all = λ file. subst Agrees (sym (same file)) (all file)
 

@@ -36,7 +36,7 @@ extended_at old new place past =
     ∙ get-drop (length old) new (place - length old)
     ∙ ap (slice_get new) (omega arith)
 
--- what a write covered
+-- the bytes that a write has overwritten
 covered_len : (old : List ℕ) (at n : ℕ)
     → length (take n (drop at old)) ≡ min n (length old - at)
 covered_len old at n = length-take n (drop at old) ∙ ap (min n) (length-drop at old)
@@ -85,7 +85,7 @@ pub overwritten_back : (old : List ℕ) (at : ℕ) (bytes saved : List ℕ) → 
 overwritten_back old at bytes saved within is =
     same_bytes _ _ (λ place. back_at old at bytes saved within is place)
 
--- what lies behind the places written stays
+-- the bytes behind the places written stay
 pub overwritten-append : (old tail : List ℕ) (at : ℕ) (bytes : List ℕ)
     → at + length bytes ≤ length old
     → overwritten (old ++ tail) at bytes ≡ overwritten old at bytes ++ tail
@@ -145,7 +145,7 @@ length-uncovered buffer (one ∷ later) within =
           (omega (arith, below)),
     )
 
--- what lies behind all that was covered stays
+-- the bytes behind all overwritten ones stay
 pub uncovered-append : (buffer tail : List ℕ) (covered : List Piece)
     → AllWithin (length buffer) covered
     → uncovered (buffer ++ tail) covered ≡ uncovered buffer covered ++ tail
@@ -191,14 +191,14 @@ uncovered-pop buffer new covered rest one parts is =
     ap (λ (b : List ℕ). uncovered b rest) is
     ∙ sym (ap (uncovered buffer) parts ∙ uncovered-push buffer rest one)
 
--- what lies within so many, but for the latest
+-- the overwritten bytes within a length, but for the latest
 pub AllWithin-pop : (len : ℕ) (covered rest : List Piece) (one : Piece)
     → covered ≡ rest ++ one ∷ [] → AllWithin len covered → AllWithin len rest
 AllWithin-pop len covered rest one parts within =
     let all : AllWithin len (rest ++ one ∷ []) = subst (AllWithin len) parts within in
     λ k d lt. grind (arith, common_steps, all k d)
 
--- and the latest
+-- the latest overwritten bytes within a length
 pub AllWithin-last : (len : ℕ) (covered rest : List Piece) (one : Piece)
     → covered ≡ rest ++ one ∷ [] → AllWithin len covered → one.at + length one.bytes ≤ len
 AllWithin-last len covered rest one parts within =

@@ -22,15 +22,15 @@ use Rattle.disk.proofs.Tears.{get-torn}
 
 -- ---- the tests say what the facts say
 
--- what a test says of two numbers
+-- the meaning of a test of two numbers
 le_is : (a b : ℕ) → nat_le a b ≡ true → a ≤ b
 le_is a b is = grind (arith, nat_tests)
 
--- and another
+-- the meaning of another test
 lt_is : (a b : ℕ) → nat_lt a b ≡ true → a < b
 lt_is a b is = grind (arith, nat_tests)
 
--- what two tests say together
+-- the meaning of two tests together
 both_are : (x y : Bool) → (x && y) ≡ true → (x ≡ true) × (y ≡ true)
 both_are true y is = (refl, is)
 both_are false y is = absurd cc
@@ -60,7 +60,7 @@ is_loose_is end (touch ∷ touches) place is =
 is_le : (a b : ℕ) → a ≤ b → nat_le a b ≡ true
 is_le a b le = grind (arith, nat_tests)
 
--- and another
+-- the meaning of another test
 is_lt : (a b : ℕ) → a < b → nat_lt a b ≡ true
 is_lt a b lt = grind (arith, nat_tests)
 
@@ -125,7 +125,7 @@ seen-sure : (left : Option (List ℕ)) → seen (sure left) ≡ left
 seen-sure None = refl
 seen-sure (Some bytes) = refl
 
--- what a crash leaves may be left
+-- each crash outcome is allowed
 pub crashes_allowed : (junk : Junk) (old new : State) → AllAgree old → Crashes junk old new
     → MayLeave old (contents new)
 crashes_allowed junk old new all crashes = λ file.
@@ -146,7 +146,7 @@ crashed_none Old = refl
 crashed_none New = refl
 crashed_none (Bytes junk) = refl
 
--- what a crash left no file of says nothing
+-- a slot without a file after a crash says nothing
 pub crashed_says : (junk : Junk) (slots : List (ℕ × Slot))
     → AllByRecursion SaysNothing (map (λ e. (e.0, crashed junk e.1)) slots)
 crashed_says junk [] = tt

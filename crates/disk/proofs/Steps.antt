@@ -14,7 +14,7 @@ use Rattle.disk.proofs.Places.{same_bytes}
 abbrev pub Only : (Option (List ℕ) → Type 0) → Slot → Type 0
 Only P slot = (left : Option (List ℕ)) → Leaves slot left → P left
 
--- whatever a call was refused for
+-- the outcomes after a refusal
 pub fails_only : (P : Option (List ℕ) → Type 0) (e : DiskError) (old new : State) (file : ℕ)
     (slot : Slot) → Fails e old file slot new → Only P (old file) → Only P slot → Only P (new file)
 fails_only P Failed old new file slot f before behind =
@@ -26,7 +26,7 @@ fails_only P Short old new file slot f before behind =
 fails_only P Memory old new file slot f before behind =
     λ left now. before left (subst (λ (s : Slot). Leaves s left) (f file) now)
 
--- whatever a write answers
+-- the outcomes after a write, whatever it answers
 pub writes_only : {T : Type 0} (P : Option (List ℕ) → Type 0) (result : Result T DiskError)
     (old new : State) (file at : ℕ) (bytes : List ℕ) → Writes old file at bytes result new
     → Only P (old file) → Only P (written at bytes (old file)) → Only P (new file)
@@ -43,7 +43,7 @@ synced_only P (Kept bytes kept touches) before (Some c) now =
     before (Some c) (λ place tight. now place (λ no_touch. no_touch))
 synced_only P (Kept bytes kept touches) before None now = absurd now
 
--- whatever a sync answers
+-- the outcomes after a sync, whatever it answers
 pub syncs_only : {T : Type 0} (P : Option (List ℕ) → Type 0) (result : Result T DiskError)
     (old new : State) (file : ℕ) → Syncs old file result new → Only P (old file) → Only P (new file)
 syncs_only P (Ok x) old new file w before =

@@ -21,7 +21,7 @@ get-set_here : (bytes : List ℕ) (place byte : ℕ) → place < length bytes
     → slice_get (slice_set bytes place byte) place ≡ Some byte
 get-set_here bytes place byte lt = grind (arith, common_steps, gets)
 
--- and no other changes
+-- no other byte changes
 get-set_other : (bytes : List ℕ) (place byte other : ℕ) → other ≢ place
     → slice_get (slice_set bytes place byte) other ≡ slice_get bytes other
 get-set_other bytes place byte other apart = grind (arith, common_steps, gets)
@@ -36,7 +36,7 @@ get-enumerated f from (x ∷ bytes) (suc place) =
     get-enumerated f (from + 1) bytes place
     ∙ ap (λ (n : ℕ). option_map (λ byte. f (n, byte)) (slice_get bytes place)) (omega arith)
 
--- what a torn file has at a place
+-- the byte of a torn file at a place
 pub get-torn : (end : ℕ) (touches : List Touch) (junk bytes : List ℕ) (place : ℕ) → 0 < length junk
     → slice_get (torn end touches junk bytes) place
     ≡ option_map (λ byte. torn_byte end touches junk (place, byte)) (slice_get bytes place)

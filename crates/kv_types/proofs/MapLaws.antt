@@ -34,7 +34,7 @@ flatten_one : (same : Bool) (left : Option (List ℕ)) (before : Option (Option 
 flatten_one true left before = refl
 flatten_one false left before = refl
 
--- what a key has with one more edit
+-- the value of a key after one more edit
 pub one_more : (edits : List Edit) (edit : Edit) (key : List ℕ) (had : Option (List ℕ))
     → had ≡ option_flatten (last_edit edits key)
     → cond (bytes_eq (key_of edit) key) (left_by edit) had

@@ -1,4 +1,4 @@
--- Lists whose elements stand in an order, and what is among them.
+-- Ordered lists, and their elements.
 use Rattle.std.proofs.Common.{◌≡◌, ◌<◌, ◌-◌, ◌⊎◌, inl, inr, ℕ, zero, suc, List, [], ◌∷◌, length}
 use Rattle.std.proofs.Common.{get_or, reverse, All, AllPairs, Contains, refl, sym, ap, subst, ◌∙◌}
 use Rattle.std.proofs.Common.{arith}

@@ -33,7 +33,7 @@ no_bad_field : (f : Frame) (behind : List ℕ) → ended (Some (f, behind)) ≡ 
 no_bad_field f [] e = absurd cc
 no_bad_field f (b ∷ behind) e = absurd cc
 
--- ---- what is read is so
+-- ---- the value that is read is right
 
 verdict_of_read : (k : ℕ) (bytes : List ℕ) (read : Reader Frame) → reader_of k ≡ Some read
     → IsBytes bytes → (o : Option (Frame × List ℕ)) → read bytes ≡ o

@@ -1,4 +1,4 @@
--- What stands at the front of a stream has one answer, and a stream has one list of frames.
+-- The bytes at the front of a stream have one answer, and a stream has one list of frames.
 use Rattle.std.proofs.Common.{◌≡◌, inl, inr, ℕ, ◌+◌, ◌<◌, ◌≤◌, false, true, cond, ltb, eqb}
 use Rattle.std.proofs.Common.{List, [], ◌∷◌, ◌++◌, length, take, drop, Option, Some, None, Result}
 use Rattle.std.proofs.Common.{Ok}
@@ -26,7 +26,7 @@ use Rattle.link_messages.proofs.Readers.{IsBytes-take, IsBytes-drop}
 use Rattle.link_messages.proofs.FrameLaws.{frames_fit}
 use Rattle.link_messages.proofs.Contents.{Verdict, verdict, one_verdict}
 
--- ---- what the code answers
+-- ---- the answers of the code
 
 pub told_length : (n : ℕ) (front bytes : List ℕ) → front ≡ take 4 bytes → n ≡ big_number 4 front
     → n ≡ length_field bytes
@@ -108,7 +108,7 @@ front_fault bytes n e fits long told some few there read =
     fault_or e bytes (take n (drop 4 bytes)) (whole bytes n fits long told some few there)
     (small bytes n fits) read
 
--- ---- what stands at the front of bytes
+-- ---- the shapes of the bytes at the front
 
 -- an incomplete frame, a length out of bounds, or complete content
 abbrev Shape : Type 0

@@ -25,7 +25,7 @@ use Rattle.chain_core.specs.States.{Machine}
 use Rattle.chain_model.specs.Lists.{place}
 use Rattle.node.proofs.Records.{records_from-push, length-ends}
 
--- what two calls kept, both have
+-- two calls in a row keep what each keeps
 pub kept_on : {engine : Engine} {a b c : State} → KeepsStore engine a b → KeepsStore engine b c →
     KeepsStore engine a c
 kept_on first second = record {
@@ -122,7 +122,7 @@ at_next [] i d within = absurd (omega (arith, within))
 at_next (first ∷ list) zero d within = refl
 at_next (first ∷ list) (suc i) d within = at_next list i d (omega (arith, within))
 
--- the batch of a number stands one place before it
+-- the batch of a number is one place before it
 pub stands_at : (list batches : List BatchContent) (k : ℕ) (batch found : BatchContent) → 1 ≤ k →
     k ≤ length batches → list ≡ batches → found ≡ get_or batches (k - 1) found → batch ≡ found →
     place list k ≡ Some batch

@@ -22,7 +22,7 @@ use Rattle.node.specs.Layout.{batch_record, records_from}
 use Rattle.node.specs.Files.{IsLog, HasId, IsSureId}
 use Rattle.node.proofs.Engines.{holds_in, sure_of_id, only_one}
 
--- what a file has it has where it is the same
+-- an unchanged file has the same records
 pub has_in : (old new : State) (file : ℕ) (records : List (List ℕ)) → new file ≡ old file →
     IsLog (seen (old file)) records → HasRecords new file 0 records
 has_in old new file records same had =
@@ -94,7 +94,7 @@ found_id (Ok it) s0 s1 s2 s3 log same_before same_after at o is records =
     }
 found_id (Err e) s0 s1 s2 s3 log same_before same_after at o is records = tt
 
--- what the only record of a log names
+-- the identity that the only record of a log names
 pub named_by : (disk : State) (log : Log) (records : List (List ℕ)) (one : List ℕ)
     (result : Result Identity Stop) → Holds disk log records → count_of log ≡ 1 →
     slice_get records 0 ≡ Some one →

@@ -66,7 +66,7 @@ tells_rule x n input batch d a due sent (Err e) leaves replied frames says = tt
 pub greater : (a b : ℕ) → is_gt (nat_cmp a b) ≡ nat_lt b a
 greater a b = grind (arith, nat_tests)
 
--- what a read shows is shown for whatever asked for it
+-- the output of a read is the output for the input that requested it
 pub tells_read : (n : Machine) (input : Input) (request at : ℕ) (key : List ℕ)
     (result : Result Output Stop) → IsReadOf n input (decision.Show request key at) →
     ((number : Option ℕ) →

@@ -77,7 +77,7 @@ appended_list n batch (done.Accepted request) has = refl
 appended_list n batch done.Appended has = refl
 appended_list n batch (done.Told committed have) has = absurd has
 
--- what is counted after the store's part was done
+-- the count after the store's part
 counted : StepsLeave → (old new : Core) (batch : BatchContent) (d : Done) (due : List Waiting) →
     ((n : Machine) (batch : BatchContent) → Is old n →
     core.Follows new (done_of old.id n batch d) due) →
@@ -287,7 +287,7 @@ module _ {D : Type 0} (is_honest : D → Type 0) (state : D → State) where
   ends_stopped node x n a IsDone result e is machine honest stops =
       rw is (record { done = machine; stopped = (honest, stops) })
 
-  -- what was opened runs as the machine that was started
+  -- the node of an opened engine refines the machine that was started
   module _ (node : Node D) (identity : Identity)
       (is : (n : Machine) → HasNumbersOf node.engine n → n.ids ≡ identity.config →
       Is node.core (started identity.id n)) where

@@ -17,7 +17,7 @@ use Rattle.record_log.proofs.Fronts.{ends_push, end_push}
 use Rattle.record_log.proofs.Pushes.{pushed_is}
 use Rattle.record_log.proofs.Ways.{Gate, gate_at, way_stands, pushed_stands}
 
--- where nothing was done, the old records stand
+-- an unchanged file has the old records
 pub unchanged : (disk : State) (log : Log) (records : List (List ℕ)) (one : List ℕ) →
     Holds disk log records → LeavesAt disk log.file (IsOldOrNew log.start records one)
 unchanged disk log records one h =
@@ -54,7 +54,7 @@ module _ (old : State) (log : Log) (records : List (List ℕ)) (one : List ℕ) 
   on_the_way (Some c) way =
       way_stands h.bytes log.start (log.start + log.end) records one short the_gate c way
 
-  -- what a crash leaves while the record is put behind the gate
+  -- the crash outcomes while the record is written behind the gate
   pub crashed : (new : State) (behind : List ℕ) → behind ≡ behind_of one →
       ((bytes : List ℕ) → IsSureOf old log.file bytes → gate < length bytes →
       LeavesAt new log.file (IsOnTheWay bytes gate behind)) →
@@ -76,7 +76,7 @@ module _ (old : State) (log : Log) (records : List (List ℕ)) (one : List ℕ) 
       ∙ ap (λ (k : ℕ). Kept (pushed h.bytes k behind) (pushed h.bytes k behind) []) gate_is
       ∙ ap (λ (b : List ℕ). Kept (pushed h.bytes place b) (pushed h.bytes place b) []) is
 
-  -- what the log holds with the record behind an open gate
+  -- the records of the log with the new one behind an open gate
   pub appended : (new : State) (after : Log) (behind : List ℕ) (header : ℕ) → behind ≡ behind_of one
       → IsSureOf new log.file (pushed h.bytes gate behind) × (gate + 1 + length behind < 2 ^ 63)
       → after.file ≡ log.file → after.start ≡ log.start → header ≡ min (log.end + 5) (2 ^ 64 - 1)

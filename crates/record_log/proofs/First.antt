@@ -91,7 +91,7 @@ no_record bytes rest head tail records open_gate parts four short s =
     ap length same.1 ∙ length-append one.0 one.1 in
     omega (arith, len, size, short)
 
--- nothing stands past the end
+-- there is no byte past the end
 pub nothing_past : (bytes : List ℕ) (start : ℕ) (records : List (List ℕ)) → length bytes < start
     → StandsFor (drop start bytes) records → ⊥
 nothing_past bytes start records past s =

@@ -43,7 +43,7 @@ pub end_push : (at : ℕ) (records : List (List ℕ)) (one : List ℕ)
 end_push at [] one = refl
 end_push at (first ∷ others) one = end_push (at + 5 + length first) others one
 
--- and its end is one more
+-- its end is one place more in the list of ends
 pub ends_push : (at : ℕ) (records : List (List ℕ)) (one : List ℕ)
     → ends_from at (records ++ one ∷ [])
     ≡ ends_from at records ++ (end_of at records + 5 + length one) ∷ []

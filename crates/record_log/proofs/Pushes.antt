@@ -43,7 +43,7 @@ module _ (bytes : List ℕ) (gate : ℕ) (behind : List ℕ) (within : gate < le
       take_same (gate + 1) first bytes
       (λ place lt. overwritten_before bytes (gate + 1) behind place (omega arith) lt)
 
-  -- what is before the gate
+  -- the bytes before the gate
   gate_len : length (take gate bytes) ≡ gate
   gate_len = omega (arith, length-take gate bytes)
 

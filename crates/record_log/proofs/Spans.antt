@@ -102,7 +102,7 @@ module _ (disk : State) (log : Log) (records : List (List ℕ)) (i begin len at 
         fits = omega (arith, size, cut, front, one, start, h.start);
       }
 
-  -- what is read there is the record
+  -- the bytes that are read there are the record
   pub given : (part : List ℕ) → IsPart disk log.file at len part → slice_get records i ≡ Some part
   given part read =
       let s = span in

@@ -13,7 +13,7 @@ returns-then-len-count-clause-damaged c = λ told id ids is_id is_config is.
     let size = (names c.args.bytes.now id ids is_id is).size in
     c.if-len-count.true (omega (arith, c.len.ensures, ap length same, size))
 
--- .. and they are a configuration
+-- the ids are a configuration
 pub returns-in_err-config-clause-damaged : goal.returns-in_err-config-clause-damaged
 returns-in_err-config-clause-damaged c = λ told id ids is_id is_config is.
     let read = c.in_ok-ids.ensures in
