@@ -17,7 +17,7 @@ ghost use Rattle.chain_model.specs.WorkedRuns.{WorkedRuns};
 ghost use Rattle.chain_model.specs.WorkedDrops.{WorkedDrops};
 
 /// For every lawful list of configurations and every list of events there is one list of batches.
-/// Every read and acknowledgement agrees with it, and each last node's list is a prefix.
+/// Every read and acknowledgement agrees with it, and it is a prefix of each last node's list.
 pub fn one_history<B>()
     ensures { (cs : Configurations) (events : List (Event B)) → Lawful cs → OneList cs events }
 {}
