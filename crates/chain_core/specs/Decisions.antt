@@ -3,19 +3,13 @@ use Rattle.std.specs.Prelude.{◌≡◌, ◌≤◌, ◌<◌, ℕ, suc, List, len
 use Rattle.std.specs.Prelude.{Some, None}
 use Rattle.kv_types.specs.declared.bounds.TheConstants.{MAX_NUMBER}
 use Rattle.kv_types.specs.Content.{BatchContent}
-use Rattle.chain_model.specs.Refusal as model_refusal
-use Rattle.chain_model.specs.DropReason as model_reason
 use Rattle.chain_model.specs.Frames as model_frame
 use Rattle.chain_model.specs.Requests as model_request
 use Rattle.chain_model.specs.Node.{Answer, dropped_for, refused}
 use Rattle.chain_model.specs.Rules.{ask, receive, tick, accept, append, tell_again, pass_on}
 use Rattle.chain_model.specs.Rules.{resend, show}
-use Rattle.link_messages.specs.declared.refusal.Refusal.{Refusal}
-use Rattle.link_messages.specs.declared.refusal.Refusal.TheVariants as refusal
 use Rattle.link_messages.specs.declared.frame.Frame.{Frame}
 use Rattle.link_messages.specs.declared.frame.Frame.TheVariants as frame
-use Rattle.chain_core.specs.declared.drop_reason.DropReason.{DropReason}
-use Rattle.chain_core.specs.declared.drop_reason.DropReason.TheVariants as reason
 use Rattle.chain_core.specs.declared.input.Input.{Input}
 use Rattle.chain_core.specs.declared.input.Input.TheVariants as input
 use Rattle.chain_core.specs.declared.decision.Decision.{Decision}
@@ -36,30 +30,6 @@ answer_to x n (input.Ack epoch from committed have) =
     receive x n (model_frame.Ack x epoch from committed have)
 answer_to x n input.Tick = tick x n
 
-abbrev pub refusal_as : Refusal → model_refusal.Refusal
-refusal_as refusal.NotRunning = model_refusal.NotRunning
-refusal_as refusal.NotHead = model_refusal.NotHead
-refusal_as refusal.TooOld = model_refusal.TooOld
-refusal_as refusal.NotCommitted = model_refusal.NotCommitted
-refusal_as refusal.NoSuchSnapshot = model_refusal.NoSuchSnapshot
-refusal_as refusal.TooManySnapshots = model_refusal.TooManySnapshots
-refusal_as refusal.Removed = model_refusal.Removed
-refusal_as refusal.Exhausted = model_refusal.Exhausted
-
-abbrev pub reason_as : DropReason → model_reason.DropReason
-reason_as reason.NotRunning = model_reason.NotRunning
-reason_as reason.Running = model_reason.Running
-reason_as reason.Removed = model_reason.Removed
-reason_as reason.OtherEpoch = model_reason.OtherEpoch
-reason_as reason.NotPredecessor = model_reason.NotPredecessor
-reason_as reason.NotSuccessor = model_reason.NotSuccessor
-reason_as reason.OtherNumber = model_reason.OtherNumber
-reason_as reason.BadAck = model_reason.BadAck
-reason_as reason.OldNotice = model_reason.OldNotice
-reason_as reason.BadNotice = model_reason.BadNotice
-reason_as reason.NotForNodes = model_reason.NotForNodes
-reason_as reason.Unreadable = model_reason.Unreadable
-
 -- the rule that a decision names
 abbrev pub rule_of : ℕ → Machine → Decision → Answer BatchContent
 rule_of x n (decision.Accept request batch) = accept x n request batch
@@ -68,8 +38,8 @@ rule_of x n decision.TellAgain = tell_again x n
 rule_of x n (decision.PassOn committed have) = pass_on x n committed have
 rule_of x n (decision.Show request key at) = show n request at
 rule_of x n decision.Resend = resend x n
-rule_of x n (decision.Refuse request why) = refused n request (refusal_as why)
-rule_of x n (decision.Drop why) = dropped_for n (reason_as why)
+rule_of x n (decision.Refuse request why) = refused n request why
+rule_of x n (decision.Drop why) = dropped_for n why
 
 -- the read is of the requested key, at a number from the floor to the committed number
 abbrev pub IsReadOf : Machine → Input → Decision → Type 0

@@ -4,10 +4,10 @@ use Rattle.std.proofs.Common.{Bool, true, false, cond, not, ◌==◌, ◌&&◌, 
 use Rattle.std.proofs.Common.{eqb-true, leb-true, ltb-true, ltb-false}
 use Rattle.std.proofs.lemmas.Bool.{cond_both, false≢true, and_parts, not-false}
 use Rattle.chain_model.specs.Configuration.{has, is_head, leaves_out, predecessor, successor}
-use Rattle.chain_model.specs.Refusal as refusal
-use Rattle.chain_model.specs.Refusal.{Refusal}
-use Rattle.chain_model.specs.DropReason as reason
-use Rattle.chain_model.specs.DropReason.{DropReason}
+use Rattle.chain_model.specs.declared.refusal.Refusal.TheVariants as refusal
+use Rattle.chain_model.specs.declared.refusal.Refusal.{Refusal}
+use Rattle.chain_model.specs.declared.drop_reason.DropReason.TheVariants as reason
+use Rattle.chain_model.specs.declared.drop_reason.DropReason.{DropReason}
 use Rattle.chain_model.specs.Frames.{Ack, Forward}
 use Rattle.chain_model.specs.Node.{Answer, Node, dropped_for, is_open, refused}
 use Rattle.chain_model.specs.Rules.{accept, adopt, append, close_at, close_snapshot, if_readable}

@@ -6,7 +6,7 @@ use Rattle.std.proofs.lemmas.Bool.{cond-true, cond-false, not_from_true}
 use Rattle.std.proofs.lemmas.List.Elements.{All-from_recursion}
 use Rattle.chain_model.specs.Lists.{Begins, Part}
 use Rattle.chain_model.specs.Configuration.{Before, at_epoch, has, is_tail, last_of, leaves_out}
-use Rattle.chain_model.specs.Refusal as refusal
+use Rattle.chain_model.specs.declared.refusal.Refusal.TheVariants as refusal
 use Rattle.chain_model.specs.Frames.{Ack, Forward, Frame, addressee, epoch_of}
 use Rattle.chain_model.specs.Requests.{Close, Closed, Committed, Open, Opened, Read, Refused}
 use Rattle.chain_model.specs.Requests.{Reply, Shows, Submit}

@@ -4,9 +4,9 @@ use Rattle.std.proofs.Common.{cond, nat_lt, sym, refl, ◌∙◌, subst, arith}
 use Rattle.std.proofs.lemmas.Bool.{cond_both}
 use Rattle.chain_model.specs.Lists.{Begins}
 use Rattle.chain_model.specs.Configuration.{is_tail}
-use Rattle.chain_model.specs.Refusal.{Refusal}
-use Rattle.chain_model.specs.DropReason as reason
-use Rattle.chain_model.specs.DropReason.{DropReason}
+use Rattle.chain_model.specs.declared.refusal.Refusal.{Refusal}
+use Rattle.chain_model.specs.declared.drop_reason.DropReason.TheVariants as reason
+use Rattle.chain_model.specs.declared.drop_reason.DropReason.{DropReason}
 use Rattle.chain_model.specs.Frames.{Ack, Forward, Frame}
 use Rattle.chain_model.specs.Requests.{Close, Closed, Open, Opened, Read, Reply, Request, Submit}
 use Rattle.chain_model.specs.Node.{Answer, Node, dropped_for, refused, replied, silent, without}

@@ -6,9 +6,9 @@ use Rattle.std.proofs.lemmas.List.{length-map, map-append, take-map}
 use Rattle.chain_model.specs.Lists.{place}
 use Rattle.chain_model.specs.Configuration.{has, is_head, is_tail, leaves_out, predecessor}
 use Rattle.chain_model.specs.Configuration.{successor}
-use Rattle.chain_model.specs.Refusal as refusal
-use Rattle.chain_model.specs.DropReason as reason
-use Rattle.chain_model.specs.DropReason.{DropReason}
+use Rattle.chain_model.specs.declared.refusal.Refusal.TheVariants as refusal
+use Rattle.chain_model.specs.declared.drop_reason.DropReason.TheVariants as reason
+use Rattle.chain_model.specs.declared.drop_reason.DropReason.{DropReason}
 use Rattle.chain_model.specs.Frames.{Ack, Forward, Frame}
 use Rattle.chain_model.specs.Requests.{Close, Committed, Open, Read, Reply, Request, Shows}
 use Rattle.chain_model.specs.Requests.{Submit}

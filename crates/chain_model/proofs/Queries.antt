@@ -5,7 +5,7 @@ use Rattle.std.specs.List.{AllByRecursion}
 use Rattle.std.proofs.lemmas.Bool.{cond_both, false≢true}
 use Rattle.chain_model.specs.Lists.{Part}
 use Rattle.chain_model.specs.Configuration.{is_tail, last_of}
-use Rattle.chain_model.specs.Refusal.{Refusal}
+use Rattle.chain_model.specs.declared.refusal.Refusal.{Refusal}
 use Rattle.chain_model.specs.Requests.{Close, Closed, Open, Opened, Read, Reply, Request, Submit}
 use Rattle.chain_model.specs.Node.{Node, least, refused, replied, started, stopped, without}
 use Rattle.chain_model.specs.Rules.{ask, close_snapshot, number_read, open_snapshot, read, tend}

@@ -7,7 +7,7 @@ use Rattle.std.proofs.lemmas.Bool.{cond_both}
 use Rattle.chain_model.specs.Lists.{Part, place}
 use Rattle.chain_model.specs.Configuration.{AllDifferent, Before, at_epoch, has, is_tail, last_of}
 use Rattle.chain_model.specs.Configuration.{predecessor, successor}
-use Rattle.chain_model.specs.Refusal.{Refusal}
+use Rattle.chain_model.specs.declared.refusal.Refusal.{Refusal}
 use Rattle.chain_model.specs.Frames.{Frame}
 use Rattle.chain_model.specs.Requests.{Committed}
 use Rattle.chain_model.specs.Node.{Answer, Node, dropped_for, due, not_due, refused, silent}

@@ -5,7 +5,7 @@ use Rattle.std.specs.List.{AllByRecursion}
 use Rattle.std.proofs.lemmas.Bool.{cond_both, false≢true, cases_lt}
 use Rattle.chain_model.specs.Lists.{Begins, Part}
 use Rattle.chain_model.specs.Configuration.{at_epoch, has, is_tail, predecessor}
-use Rattle.chain_model.specs.DropReason as reason
+use Rattle.chain_model.specs.declared.drop_reason.DropReason.TheVariants as reason
 use Rattle.chain_model.specs.Frames.{Ack, Forward, Frame}
 use Rattle.chain_model.specs.Node.{Node}
 use Rattle.chain_model.specs.Rules.{ack, adopted, forwards, moved, notice, pass_on, receive, tick}

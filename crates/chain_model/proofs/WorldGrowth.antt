@@ -4,9 +4,9 @@ use Rattle.std.proofs.Common.{nat_lt, sym, refl, subst, arith, eqb-true}
 use Rattle.std.proofs.lemmas.Bool.{cond_both}
 use Rattle.chain_model.specs.Lists.{Begins, place}
 use Rattle.chain_model.specs.Configuration.{at_epoch}
-use Rattle.chain_model.specs.Refusal as refusal
-use Rattle.chain_model.specs.DropReason as reason
-use Rattle.chain_model.specs.DropReason.{DropReason}
+use Rattle.chain_model.specs.declared.refusal.Refusal.TheVariants as refusal
+use Rattle.chain_model.specs.declared.drop_reason.DropReason.TheVariants as reason
+use Rattle.chain_model.specs.declared.drop_reason.DropReason.{DropReason}
 use Rattle.chain_model.specs.Frames.{Frame, addressee}
 use Rattle.chain_model.specs.Node.{Answer, Node, dropped_for, refused, silent, started, stopped}
 use Rattle.chain_model.specs.Rules.{ask, notice, receive, tend, tick}

@@ -4,8 +4,8 @@ use Rattle.std.proofs.Common.{◌==◌, nat_lt, sym, refl, ◌∙◌, ap, ap₂}
 use Rattle.std.proofs.lemmas.List.{map-append}
 use Rattle.chain_model.specs.Lists.{place}
 use Rattle.chain_model.specs.Configuration.{at_epoch}
-use Rattle.chain_model.specs.Refusal as refusal
-use Rattle.chain_model.specs.DropReason as reason
+use Rattle.chain_model.specs.declared.refusal.Refusal.TheVariants as refusal
+use Rattle.chain_model.specs.declared.drop_reason.DropReason.TheVariants as reason
 use Rattle.chain_model.specs.Frames.{Ack, Forward, Frame}
 use Rattle.chain_model.specs.Node.{Answer, Node, dropped_for, refused, silent, started}
 use Rattle.chain_model.specs.Rules.{ask, notice, receive, tend, tick}

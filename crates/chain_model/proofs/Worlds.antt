@@ -6,10 +6,10 @@ use Rattle.std.specs.List.{AllByRecursion}
 use Rattle.std.proofs.lemmas.Bool.{cond_both, cond-true}
 use Rattle.chain_model.specs.Lists.{Begins, Part, place}
 use Rattle.chain_model.specs.Configuration.{at_epoch, is_tail}
-use Rattle.chain_model.specs.Refusal as refusal
-use Rattle.chain_model.specs.Refusal.{Refusal}
-use Rattle.chain_model.specs.DropReason as reason
-use Rattle.chain_model.specs.DropReason.{DropReason}
+use Rattle.chain_model.specs.declared.refusal.Refusal.TheVariants as refusal
+use Rattle.chain_model.specs.declared.refusal.Refusal.{Refusal}
+use Rattle.chain_model.specs.declared.drop_reason.DropReason.TheVariants as reason
+use Rattle.chain_model.specs.declared.drop_reason.DropReason.{DropReason}
 use Rattle.chain_model.specs.Frames.{Frame, addressee}
 use Rattle.chain_model.specs.Requests.{Close, Open, Read, Request, Submit}
 use Rattle.chain_model.specs.Node.{Answer, Node, dropped_for, refused, silent, started, stopped}

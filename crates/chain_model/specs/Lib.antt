@@ -1,7 +1,5 @@
 pub mod Lists
 pub mod Configuration
-pub mod Refusal
-pub mod DropReason
 pub mod Frames
 pub mod Requests
 pub mod Node

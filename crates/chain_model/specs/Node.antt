@@ -3,8 +3,8 @@
 use Rattle.std.specs.Prelude.{ℕ, List, [], ◌∷◌, length, Option, Some, None, Bool, true, false}
 use Rattle.std.specs.Prelude.{if◌then◌else◌, ◌==◌, nat_le, min}
 use Rattle.chain_model.specs.Configuration.{is_tail}
-use Rattle.chain_model.specs.Refusal.{Refusal}
-use Rattle.chain_model.specs.DropReason.{DropReason}
+use Rattle.chain_model.specs.declared.refusal.Refusal.{Refusal}
+use Rattle.chain_model.specs.declared.drop_reason.DropReason.{DropReason}
 use Rattle.chain_model.specs.Frames.{Frame}
 use Rattle.chain_model.specs.Requests.{Reply, Committed, Refused}
 

@@ -1,6 +1,6 @@
 -- The requests of clients, and the replies of nodes.
 use Rattle.std.specs.Prelude.{ℕ, List, Option}
-use Rattle.chain_model.specs.Refusal.{Refusal}
+use Rattle.chain_model.specs.declared.refusal.Refusal.{Refusal}
 
 -- an update and queries (van Renesse and Schneider 2004, section 2; snapshots and the numbers of
 -- reads are this store's profile)

@@ -6,8 +6,8 @@ use Rattle.std.specs.Prelude.{◌==◌, nat_lt, nat_le}
 use Rattle.chain_model.specs.Lists.{place}
 use Rattle.chain_model.specs.Configuration.{has, is_head, is_tail, predecessor, successor}
 use Rattle.chain_model.specs.Configuration.{leaves_out}
-use Rattle.chain_model.specs.Refusal as refusal
-use Rattle.chain_model.specs.DropReason as reason
+use Rattle.chain_model.specs.declared.refusal.Refusal.TheVariants as refusal
+use Rattle.chain_model.specs.declared.drop_reason.DropReason.TheVariants as reason
 use Rattle.chain_model.specs.Frames.{Frame, Forward, Ack}
 use Rattle.chain_model.specs.Requests.{Request, Submit, Read, Open, Close, Shows, Opened, Closed}
 use Rattle.chain_model.specs.Node.{Node, Answer, silent, dropped_for, refused, replied, due}

@@ -3,8 +3,8 @@
 use Rattle.std.specs.Prelude.{ℕ, List, [], ◌∷◌, ◌++◌, length, map, Option, Some, None, Bool, true}
 use Rattle.std.specs.Prelude.{false, not, if◌then◌else◌}
 use Rattle.chain_model.specs.Configuration.{Configurations}
-use Rattle.chain_model.specs.Refusal.{Refusal}
-use Rattle.chain_model.specs.DropReason.{DropReason}
+use Rattle.chain_model.specs.declared.refusal.Refusal.{Refusal}
+use Rattle.chain_model.specs.declared.drop_reason.DropReason.{DropReason}
 use Rattle.chain_model.specs.Frames.{Frame, Forward, Ack}
 use Rattle.chain_model.specs.Requests.{Reply, Committed, Shows, Opened, Closed, Refused}
 use Rattle.chain_model.specs.Node.{Node}

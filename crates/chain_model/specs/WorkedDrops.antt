@@ -2,8 +2,8 @@
 -- first reason that applies. Batches are numbers here. Definitions without a source are this
 -- store's profile.
 use Rattle.std.specs.Prelude.{◌≡◌, ℕ, [], ◌∷◌, Some}
-use Rattle.chain_model.specs.DropReason as reason
-use Rattle.chain_model.specs.Refusal as refusal
+use Rattle.chain_model.specs.declared.drop_reason.DropReason.TheVariants as reason
+use Rattle.chain_model.specs.declared.refusal.Refusal.TheVariants as refusal
 use Rattle.chain_model.specs.Frames.{Forward, Ack}
 use Rattle.chain_model.specs.Node.{Node, created, dropped_for, refused}
 use Rattle.chain_model.specs.Rules.{receive, submit, read, notice, not_for_nodes, unreadable}

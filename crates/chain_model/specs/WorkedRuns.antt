@@ -2,8 +2,8 @@
 -- without a source are this store's profile.
 use Rattle.std.specs.Prelude.{◌≡◌, ℕ, List, [], ◌∷◌, take, Some, None, true}
 use Rattle.chain_model.specs.Configuration.{Configurations}
-use Rattle.chain_model.specs.Refusal as refusal
-use Rattle.chain_model.specs.DropReason as reason
+use Rattle.chain_model.specs.declared.refusal.Refusal.TheVariants as refusal
+use Rattle.chain_model.specs.declared.drop_reason.DropReason.TheVariants as reason
 use Rattle.chain_model.specs.Requests.{Submit, Read, Open, Close}
 use Rattle.chain_model.specs.World.{Event, Ask, Tick, Tend, Notice, Deliver, Start, Stop}
 use Rattle.chain_model.specs.World.{Answered, StoppedBefore, StoppedAfter, node_of}

@@ -4,9 +4,9 @@ use Rattle.std.specs.Prelude.{ℕ, List, [], ◌∷◌, ◌++◌, length, Option
 use Rattle.std.specs.Prelude.{false, if◌then◌else◌, ◌==◌, nat_lt}
 use Rattle.chain_model.specs.Lists.{place}
 use Rattle.chain_model.specs.Configuration.{Configurations, at_epoch}
-use Rattle.chain_model.specs.Refusal as refusal
-use Rattle.chain_model.specs.DropReason.{DropReason}
-use Rattle.chain_model.specs.DropReason as reason
+use Rattle.chain_model.specs.declared.refusal.Refusal.TheVariants as refusal
+use Rattle.chain_model.specs.declared.drop_reason.DropReason.{DropReason}
+use Rattle.chain_model.specs.declared.drop_reason.DropReason.TheVariants as reason
 use Rattle.chain_model.specs.Frames.{Frame, addressee}
 use Rattle.chain_model.specs.Requests.{Request, Reply}
 use Rattle.chain_model.specs.Node.{Node, Answer, silent, dropped_for, refused, created, stopped}

@@ -16,6 +16,12 @@ ghost use Rattle.chain_model.specs.Maps.{GoesWithMap};
 ghost use Rattle.chain_model.specs.WorkedRuns.{WorkedRuns};
 ghost use Rattle.chain_model.specs.WorkedDrops.{WorkedDrops};
 
+mod drop_reason;
+mod refusal;
+
+pub use drop_reason::DropReason;
+pub use refusal::Refusal;
+
 /// For every lawful list of configurations and every list of events there is one list of batches.
 /// Every read and acknowledgement agrees with it, and it is a prefix of each last node's list.
 pub fn one_history<B>()

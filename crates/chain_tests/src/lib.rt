@@ -4,6 +4,8 @@
 #[cfg(test)]
 mod courses;
 #[cfg(test)]
+mod example;
+#[cfg(test)]
 mod one_node;
 #[cfg(test)]
 mod three_nodes;

@@ -1,24 +1,23 @@
-// Runs of one node: the result of each event, by the rules of a step.
-use crate::courses::{ONE, Step, TWO, report_of, shown};
+// Runs of one node: what each event gives, by the rules of a step.
+use crate::courses::{ONE, Step, TWO, report_of, shown_of};
 use std::test::Fail;
 
-#[test]
-fn batches_are_committed_and_read(rt: HostRuntime) -> Result<(), Fail> {
-    let steps = [
-        Step::Get(1, None),
-        Step::Submit(1, ONE),
-        Step::Get(1, None),
-        Step::Submit(1, &[Some("1"), None, Some("2")]),
-        Step::Get(1, None),
-        Step::Get(1, Some(1)),
-        Step::Get(1, Some(0)),
-        Step::Get(1, Some(3)),
-        Step::Submit(1, &[None]),
-        Step::Get(1, None),
-    ];
-    let report = report_of(rt.alloc(), &[1], &steps)?.ok_or("no node")?;
-    assert_eq!(rt;
-        shown(rt.alloc(), &report)?.as_str(),
+// Events, and what each of them shows.
+static RUNS: [(&[Step], &str); 2] = [
+    // Batches are committed and read.
+    (
+        &[
+            Step::Get(1, None),
+            Step::Submit(1, ONE),
+            Step::Get(1, None),
+            Step::Submit(1, &[Some("1"), None, Some("2")]),
+            Step::Get(1, None),
+            Step::Get(1, Some(1)),
+            Step::Get(1, Some(0)),
+            Step::Get(1, Some(3)),
+            Step::Submit(1, &[None]),
+            Step::Get(1, None),
+        ],
         "\
 1: none at 0
 2: committed 1
@@ -30,31 +29,25 @@ fn batches_are_committed_and_read(rt: HostRuntime) -> Result<(), Fail> {
 8: refused 4 NotCommitted
 9: committed 3
 10: none at 3
-"
-    );
-    Ok(())
-}
-
-#[test]
-fn a_stop_with_junk_loses_nothing(rt: HostRuntime) -> Result<(), Fail> {
-    let steps = [
-        Step::Start(1),
-        Step::Submit(1, ONE),
-        Step::Stop(1, b"\x01"),
-        Step::Stop(1, b""),
-        Step::Get(1, None),
-        Step::Submit(1, TWO),
-        Step::Start(1),
-        Step::Get(1, None),
-        Step::Submit(1, TWO),
-        Step::Stop(1, b"\x00\x01"),
-        Step::Start(1),
-        Step::Get(1, None),
-        Step::Get(1, Some(1)),
-    ];
-    let report = report_of(rt.alloc(), &[1], &steps)?.ok_or("no node")?;
-    assert_eq!(rt;
-        shown(rt.alloc(), &report)?.as_str(),
+",
+    ),
+    // A stop with junk loses nothing.
+    (
+        &[
+            Step::Start(1),
+            Step::Submit(1, ONE),
+            Step::Stop(1, b"\x01"),
+            Step::Stop(1, b""),
+            Step::Get(1, None),
+            Step::Submit(1, TWO),
+            Step::Start(1),
+            Step::Get(1, None),
+            Step::Submit(1, TWO),
+            Step::Stop(1, b"\x00\x01"),
+            Step::Start(1),
+            Step::Get(1, None),
+            Step::Get(1, Some(1)),
+        ],
         "\
 dropped Running
 2: committed 1
@@ -69,8 +62,16 @@ node 1 stopped
 node 1 started epoch 0 count 2 committed 2
 12: value 2 at 2
 13: value 1 at 1
-"
-    );
+",
+    ),
+];
+
+#[test]
+fn what_each_event_shows(rt: HostRuntime) -> Result<(), Fail> {
+    for (steps, want) in &RUNS {
+        let text = shown_of(rt.alloc(), &[1], *steps)?;
+        assert!(rt; text.as_str() == *want, "{text}");
+    }
     Ok(())
 }
 
@@ -78,10 +79,10 @@ node 1 started epoch 0 count 2 committed 2
 fn the_report_tells_the_numbers_of_a_running_node(rt: HostRuntime) -> Result<(), Fail> {
     let steps = [Step::Submit(1, ONE), Step::Submit(1, TWO)];
     let report = report_of(rt.alloc(), &[1], &steps)?.ok_or("no node")?;
-    assert_eq!(rt; report.nodes.len(), 1);
+    assert!(rt; report.nodes.len() == 1);
     let numbers = report.nodes[0].running.ok_or("rests")?;
     let (epoch, count) = (numbers.epoch.get(), numbers.count.get());
-    assert_eq!(rt; (epoch, count, numbers.committed.get()), (0, 2, 2));
-    assert_eq!(rt; (numbers.floor.get(), numbers.kept.get()), (0, 0));
+    assert!(rt; (epoch, count, numbers.committed.get()) == (0, 2, 2));
+    assert!(rt; (numbers.floor.get(), numbers.kept.get()) == (0, 0));
     Ok(())
 }

@@ -1,2 +1,4 @@
 pub mod Ids
+pub mod IsConfig
 pub mod Later
+pub mod Spelling

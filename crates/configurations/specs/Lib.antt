@@ -1,3 +1,4 @@
 pub mod Configs
+pub mod Spelling
 pub mod Refusals
 pub mod Checks

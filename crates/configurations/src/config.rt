@@ -1,10 +1,13 @@
 // A configuration: the nodes of a chain, from head to tail.
-ghost use Rattle.std.specs.Prelude.{◌≡◌, ◌⊎◌, ◌↔◌, IfOk, IfErr, IsFalse, true};
+ghost use Rattle.std.specs.Prelude.{◌≡◌, ◌⊎◌, ◌↔◌, ◌++◌, ℕ, List, true};
+ghost use Rattle.std.specs.Prelude.{IfOk, IfErr, OnOk, IfSome, IsSome, IsFalse};
 ghost use Rattle.chain_model.specs.Configuration.{AllDifferent, has, is_head, is_tail};
 ghost use Rattle.chain_model.specs.Configuration.{predecessor, successor};
 ghost use Rattle.configurations.specs.Configs.{IsConfig};
 ghost use Rattle.configurations.specs.Refusals.{IdsHave, IsLeast};
+ghost use Rattle.configurations.specs.Spelling.{config_text};
 
+use crate::reading::ids_of;
 use crate::{ConfigError, NodeId};
 use std::alloc::{AllocError, Global};
 use std::marker::Model;
@@ -127,6 +130,41 @@ impl Config {
         ensures { result ≡ has self.now id }
     {
         self.ids.contains(&id)
+    }
+
+    /// Spells the configuration behind what `out` holds.
+    pub fn spell_into(&self, out: &mut Vec<u8>) -> Result<(), AllocError>
+        ensures spelled { OnOk result (out.new.items ≡ out.old.items ++ config_text self.now) }
+        ensures is { IsConfig self.now }
+    {
+        let ids = self.ids();
+        out.push(ids.len() as u8)?;
+        for id in ids {
+            out.extend_from_slice(&id.get().to_be_bytes())?;
+        }
+        Ok(())
+    }
+
+    /// The configuration at the front of the bytes, and the bytes behind it, if there is one.
+    pub fn read_from(alloc: Global, bytes: &[u8]) -> Result<Option<(Config, &[u8])>, AllocError>
+        ensures found { IfOk result (λ found. IfSome found
+            (λ x. (bytes.now ≡ config_text x.0 ++ x.1.now) × IsConfig x.0)) }
+        ensures each { (ids rest : List ℕ) → IsConfig ids → bytes.now ≡ config_text ids ++ rest →
+            IfOk result IsSome }
+    {
+        let [count, rest @ ..] = bytes else {
+            return Ok(None);
+        };
+        let Some((ids, rest)) = ids_of(alloc, *count, rest)? else {
+            return Ok(None);
+        };
+        match Config::new(alloc, ids) {
+            Ok(config) => Ok(Some((config, rest))),
+            Err(error) => match error {
+                ConfigError::Memory => Err(AllocError),
+                _ => Ok(None),
+            },
+        }
     }
 
     pub fn clone(&self) -> Result<Config, AllocError>

@@ -7,6 +7,7 @@ mod configs;
 mod epoch;
 mod error;
 mod id;
+mod reading;
 
 pub use config::Config;
 pub use configs::Configs;

@@ -1,5 +1,6 @@
 pub mod Order
 pub mod Content
+pub mod Shared
 pub mod Spelling
 pub mod Reading
 pub mod Maps

@@ -4,6 +4,7 @@ ghost use Rattle.std.specs.Prelude.{IfOk, IfErr, Err, IsErrOf, OnOk};
 
 use crate::bounds::{MAX_BATCH, MAX_EDITS};
 use crate::reading::{all_edits_of, front_edits_of};
+use crate::shared::SharedEdits;
 use crate::writing::{put_edits, spelled_len};
 use crate::{Edit, KvError};
 use std::alloc::{AllocError, Global};
@@ -12,7 +13,7 @@ use std::marker::Model;
 /// A batch: 1 to 256 edits in order, spelled in at most 65,536 bytes.
 #[derive(Debug, Drop)]
 pub struct Batch {
-    edits: Vec<Edit>,
+    edits: SharedEdits,
 }
 
 impl Model for Batch {
@@ -20,11 +21,12 @@ impl Model for Batch {
 
     ghost Value = { BatchContent };
 
+    ghost use Rattle.kv_types.specs.Shared.{shared_edits};
     ghost use Rattle.kv_types.specs.Spelling.{IsBatch};
 
-    ghost view = { λ batch. batch.edits.items };
+    ghost view = { λ batch. shared_edits batch.edits };
 
-    ghost invariant = { λ batch. IsBatch batch.edits.items };
+    ghost invariant = { λ batch. IsBatch (shared_edits batch.edits) };
 }
 
 impl Batch {
@@ -51,6 +53,7 @@ impl Batch {
         if spelled_len(&edits) > MAX_BATCH {
             return Err(KvError::BatchTooLong);
         }
+        let edits = SharedEdits::new(edits);
         Ok(Batch { edits })
     }
 
@@ -58,7 +61,15 @@ impl Batch {
         ensures edits { result.now ≡ edits_of self.now }
         ensures batch { IsBatch self.now }
     {
-        &self.edits
+        self.edits.as_slice()
+    }
+
+    /// How many bytes the batch is spelled in.
+    pub fn spelled_len(&self) -> usize
+        ensures len { result ≡ length (spelling self.now) }
+        ensures limit { result ≤ MAX_BATCH }
+    {
+        spelled_len(self.edits.as_slice())
     }
 
     /// Appends the spelling of the batch to `out`.
@@ -66,7 +77,7 @@ impl Batch {
         ensures spelled { OnOk result (out.new.items ≡ out.old.items ++ spelling self.now) }
         ensures batch { IsBatch self.now }
     {
-        put_edits(out, &self.edits)
+        put_edits(out, self.edits.as_slice())
     }
 
     /// Reads the batch at the front of the bytes, and returns it with the bytes behind it.
@@ -78,6 +89,7 @@ impl Batch {
         ensures exact { Gives (λ x. (x.0, x.1.now)) result (batch_at bytes.now) }
     {
         let (edits, rest) = front_edits_of(alloc, bytes)?;
+        let edits = SharedEdits::new(edits);
         Ok((Batch { edits }, rest))
     }
 
@@ -85,8 +97,8 @@ impl Batch {
     pub fn to_bytes(&self, alloc: Global) -> Result<Vec<u8>, AllocError>
         ensures { IfOk result (λ bytes. bytes.items ≡ spelling self.now) }
     {
-        let mut out = Vec::new(alloc);
-        put_edits(&mut out, &self.edits)?;
+        let mut out = Vec::with_capacity(alloc, self.spelled_len())?;
+        self.spell_into(&mut out)?;
         Ok(out)
     }
 
@@ -97,18 +109,16 @@ impl Batch {
             (batch : BatchContent) → IsBatch batch → bytes.now ≡ spelling batch → ⊥ }
         ensures only { IfErr result (λ e. (e ≡ KvError.BadBytes) ⊎ (e ≡ KvError.Memory)) }
     {
-        Ok(Batch {
-            edits: all_edits_of(alloc, bytes)?,
-        })
+        let edits = SharedEdits::new(all_edits_of(alloc, bytes)?);
+        Ok(Batch { edits })
     }
 
+    /// The same batch once more. Its edits are not copied.
     pub fn clone(&self) -> Result<Batch, AllocError>
         ensures { IfOk result (λ batch. batch ≡ self.now) }
     {
-        let mut edits = Vec::new(*self.edits.allocator());
-        for edit in &self.edits {
-            edits.push(edit.clone()?)?;
-        }
-        Ok(Batch { edits })
+        Ok(Batch {
+            edits: self.edits.clone()?,
+        })
     }
 }

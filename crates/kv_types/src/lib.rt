@@ -14,6 +14,7 @@ mod page;
 mod range;
 mod reading;
 mod row;
+mod shared;
 mod value;
 mod writing;
 

@@ -68,7 +68,7 @@ fn edit_of(alloc: Global, bytes: &[u8]) -> Result<(Edit, &[u8]), KvError>
 fn edits_in(alloc: Global, count: usize, bytes: &[u8]) -> Result<(Vec<Edit>, &[u8]), KvError>
     ensures { Gives (λ x. (x.0.items, x.1.now)) result (edits_at count bytes.now) }
 {
-    let mut edits = Vec::new(alloc);
+    let mut edits = Vec::with_capacity(alloc, count)?;
     let mut rest = bytes;
     for _ in 0..count {
         let (edit, after) = edit_of(alloc, rest)?;

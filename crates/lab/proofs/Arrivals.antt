@@ -7,7 +7,7 @@ use Rattle.disk.specs.declared.junk.Junk.{Junk}
 use Rattle.disk.specs.Memory.{Slots}
 use Rattle.chain_model.specs.Configuration.{Configurations}
 use Rattle.chain_model.specs.Lists.{place}
-use Rattle.chain_model.specs.DropReason as model_reason
+use Rattle.chain_model.specs.declared.drop_reason.DropReason.TheVariants as reason
 use Rattle.chain_model.specs.Frames.{Frame as ModelFrame}
 use Rattle.chain_model.specs.Requests as request
 use Rattle.chain_model.specs.Node.{dropped_for, silent, started, stopped}
@@ -134,11 +134,11 @@ module _ (cs : Configurations) (w : World BatchContent) (i x : ℕ) (member : Me
         (stop_tells x (Start x) (chosen StoppedBefore cause) (Some cause) (w.nodes x) refl
         of_machine))
     start (RunsOn up is told) =
-        let o = answers x (dropped_for (w.nodes x) model_reason.Running) in
+        let o = answers x (dropped_for (w.nodes x) reason.Running) in
         as_chosen cs w i x (Start x) member does (chosen Answered Disk) o (w.nodes x)
         (cond-true _ _ _ up) refl is
         (subst (λ (d : Did). Tells x (Start x) (chosen Answered Disk) d o) (sym told.1)
-        (drop_tells x (Start x) (chosen Answered Disk) (w.nodes x) model_reason.Running told.0
+        (drop_tells x (Start x) (chosen Answered Disk) (w.nodes x) reason.Running told.0
         told.2 refl))
 
     stop : (junk : Junk) → WasStopped is_honest state x (w.nodes x) member does →
@@ -150,11 +150,11 @@ module _ (cs : Configurations) (w : World BatchContent) (i x : ℕ) (member : Me
         (stops x (w.nodes x))) (sym told)
         (stop_tells x (Stop x junk) (chosen Answered Disk) None (w.nodes x) refl tt))
     stop junk (RestsOn off is told) =
-        let o = answers x (dropped_for (w.nodes x) model_reason.NotRunning) in
+        let o = answers x (dropped_for (w.nodes x) reason.NotRunning) in
         as_chosen cs w i x (Stop x junk) member does (chosen Answered Disk) o (w.nodes x)
         (cond-false _ _ _ off) refl is
         (subst (λ (d : Did). Tells x (Stop x junk) (chosen Answered Disk) d o) (sym told.1)
-        (drop_tells x (Stop x junk) (chosen Answered Disk) (w.nodes x) model_reason.NotRunning
+        (drop_tells x (Stop x junk) (chosen Answered Disk) (w.nodes x) reason.NotRunning
         told.0 told.2 refl))
 
     -- what an event brought and made of a node is the event's outcome

@@ -1,14 +1,14 @@
 -- What happened at a node is an event of the model's world, and its lines are told so.
 use Rattle.std.proofs.Common.{◌≡◌, ℕ, suc, ◌+◌, List, [], ◌∷◌, ◌++◌, length, map, Option, Some}
 use Rattle.std.proofs.Common.{None, true, false, cond, inl, inr, refl, sym, ap, ap₂, subst, ◌∙◌}
-use Rattle.std.proofs.Common.{arith, option_map}
+use Rattle.std.proofs.Common.{arith}
 use Rattle.std.proofs.lemmas.List.{map-append}
 use Rattle.std.specs.Prelude.{Bool, IfSome}
 use Rattle.std.proofs.lemmas.Bool.{cond-true, cond-false, false≢true}
 use Rattle.kv_types.specs.Content.{BatchContent}
 use Rattle.disk.specs.Memory.{Slots}
 use Rattle.chain_model.specs.Configuration.{Configurations}
-use Rattle.chain_model.specs.DropReason as model_reason
+use Rattle.chain_model.specs.declared.drop_reason.DropReason.{DropReason}
 use Rattle.chain_model.specs.Frames as model_frame
 use Rattle.chain_model.specs.Frames.{Frame as ModelFrame, addressee}
 use Rattle.chain_model.specs.Requests as request
@@ -26,7 +26,7 @@ use Rattle.node.specs.declared.output.Output.{Output}
 use Rattle.node.specs.declared.output.Reply.{Reply}
 use Rattle.node.specs.declared.stop.Stop.{Stop as Cause}
 use Rattle.node.specs.declared.stop.Stop.TheVariants.{Disk}
-use Rattle.node.specs.Steps.{reason_of, replies_of, told_as}
+use Rattle.node.specs.Steps.{replies_of, told_as}
 use Rattle.node.specs.Stops.{IsOfMachine}
 use Rattle.lab.specs.declared.coming.Did.{Did}
 use Rattle.lab.specs.declared.coming.Did.TheVariants as did
@@ -34,13 +34,13 @@ use Rattle.lab.specs.declared.event.What.{What}
 use Rattle.lab.specs.declared.member.Member.{Member}
 use Rattle.lab.specs.declared.report.Line.{Line}
 use Rattle.lab.specs.declared.report.Line.TheVariants as line
-use Rattle.lab.specs.Events.{modelled, lines_of, drop_lines, start_lines, frame_line, frame_lines}
+use Rattle.lab.specs.Events.{modelled, lines_of, dropped_lines, start_lines, frame_line, frame_lines}
 use Rattle.lab.specs.Events.{reply_line, reply_lines, cause_told}
 use Rattle.lab.specs.Members.{Is, Choice, is_honest, state}
 use Rattle.lab.specs.Comings.{at_rest, IsAnswer, IsDrop, Told}
 use Rattle.lab.specs.Comings.{WasGiven, Answers, Ends, Rests}
 use Rattle.lab.specs.Comings.{sent_by, sent_as, sent_lines}
-use Rattle.lab.specs.Comings.{dropped_lines, did_lines}
+use Rattle.lab.specs.Comings.{did_lines}
 use Rattle.lab.specs.Worlds.{frames_of_step}
 
 -- ---- lines
@@ -85,17 +85,12 @@ sent_so n (s ∷ sent) (f ∷ frames) are =
     ap₂ (λ (l : Line) (ls : List Line). l ∷ ls) (told_so (suc n) s.to s.frame f first)
     (sent_so (suc n) sent frames more)
 
-drops_so : (why : Option model_reason.DropReason) →
-    dropped_lines (option_map reason_of why) ≡ drop_lines why
-drops_so None = refl
-drops_so (Some why) = refl
-
 -- how many frames lines tell of
 counts_both : (a b : List Line) → frames_of_step (a ++ b) ≡ frames_of_step a + frames_of_step b
 counts_both [] b = omega arith
 counts_both (x ∷ a) b = omega (arith, counts_both a b)
 
-counts_drop : (why : Option model_reason.DropReason) → frames_of_step (drop_lines why) ≡ 0
+counts_drop : (why : Option DropReason) → frames_of_step (dropped_lines why) ≡ 0
 counts_drop None = refl
 counts_drop (Some why) = refl
 
@@ -180,7 +175,7 @@ module _ (cs : Configurations) (w : World BatchContent) (i x : ℕ) (what : What
 -- the lines of an answer, by what they tell of
 abbrev answered_lines : ℕ → Answer BatchContent → List Reply → List Line
 answered_lines n a replies =
-    drop_lines a.dropped
+    dropped_lines a.dropped
     ++ (frame_lines n a.frames ++ map (λ reply. line.Replied reply) replies)
 
 counts_answer : (n : ℕ) (a : Answer BatchContent) (replies : List Reply) →
@@ -189,7 +184,7 @@ counts_answer n a replies =
     let told = map (λ reply. line.Replied reply) replies in
     omega (
       arith,
-      counts_both (drop_lines a.dropped) (frame_lines n a.frames ++ told),
+      counts_both (dropped_lines a.dropped) (frame_lines n a.frames ++ told),
       counts_both (frame_lines n a.frames) told,
       counts_drop a.dropped,
       counts_frames n a.frames,
@@ -203,7 +198,7 @@ module _ (x : ℕ) (what : What) (inp : Input) (choice : Choice) (a : Answer Bat
       ≡ answered_lines n a (replies_of inp a.replies)
   answer_lines n =
       ap₂ (λ (d f : List Line). d ++ (f ++ map (λ reply. line.Replied reply) output.replies.items))
-      (ap dropped_lines is.dropped ∙ drops_so a.dropped)
+      (ap dropped_lines is.dropped)
       (sent_so n output.frames.items a.frames is.frames)
       ∙ ap (λ (rs : List Reply). answered_lines n a rs) is.replied
 
@@ -213,7 +208,7 @@ module _ (x : ℕ) (what : What) (inp : Input) (choice : Choice) (a : Answer Bat
   answer_tells starts replies = record {
     frames = is.frames;
     told = λ n. answer_lines n
-        ∙ ap₂ (λ (s r : List Line). drop_lines a.dropped ++ (s ++ (frame_lines n a.frames ++ r)))
+        ∙ ap₂ (λ (s r : List Line). dropped_lines a.dropped ++ (s ++ (frame_lines n a.frames ++ r)))
         (sym starts) (sym replies);
     counted = λ n. ap frames_of_step (answer_lines n)
         ∙ counts_answer n a (replies_of inp a.replies);
@@ -235,7 +230,7 @@ stop_tells x what choice told n is of_machine = record {
 
 -- a drop is told with its reason
 pub drop_tells : (x : ℕ) (what : What) (choice : Choice) (n : Machine)
-    (why : model_reason.DropReason) (output : Output) → IsDrop (reason_of why) output →
+    (why : DropReason) (output : Output) → IsDrop why output →
     start_lines what (answers x (dropped_for n why)) ≡ [] →
     Tells x what choice (did.Answered output) (answers x (dropped_for n why))
 drop_tells x what choice n why output is starts =

@@ -7,7 +7,7 @@ use Rattle.std.proofs.lemmas.List.Elements.{All-from_recursion}
 use Rattle.kv_types.specs.Content.{BatchContent}
 use Rattle.kv_types.specs.Maps.{map_of}
 use Rattle.chain_model.specs.Configuration.{Configurations}
-use Rattle.chain_model.specs.DropReason as reason
+use Rattle.chain_model.specs.declared.drop_reason.DropReason.{DropReason}
 use Rattle.chain_model.specs.Frames.{Frame, Forward, Ack}
 use Rattle.chain_model.specs.Headline.{Agrees, numbered, handed_in}
 use Rattle.chain_model.specs.Requests.{Reply, Committed, Shows, Opened, Closed, Refused}
@@ -18,7 +18,7 @@ use Rattle.lab.specs.declared.event.What.{What}
 use Rattle.lab.specs.declared.event.What.TheVariants.{Submit, Get, Deliver, Tick, Start, Stop}
 use Rattle.lab.specs.declared.report.Line.{Line}
 use Rattle.lab.specs.declared.report.Line.TheVariants.{Stopped}
-use Rattle.lab.specs.Events.{modelled, lines_of, lines_at, lines_if, drop_lines, if_started}
+use Rattle.lab.specs.Events.{modelled, lines_of, lines_at, lines_if, dropped_lines, if_started}
 use Rattle.lab.specs.Events.{start_lines, frame_lines, reply_line, reply_lines, cause_told}
 use Rattle.lab.specs.Members.{Choice}
 use Rattle.lab.specs.Traces.{modelled_from, told_from}
@@ -92,11 +92,11 @@ module _ (B : List Placed) (what : What) where
   abbrev Each : List Line → Type 0
   Each lines = AllByRecursion (LineSpeaksOf B what) lines
 
-  dropped : (why : Option reason.DropReason) → Each (drop_lines why)
+  dropped : (why : Option DropReason) → Each (dropped_lines why)
   dropped None = tt
   dropped (Some why) = (tt, tt)
 
-  if_start : (why : Option reason.DropReason) (at : Option (ℕ × Machine)) → Each (if_started why at)
+  if_start : (why : Option DropReason) (at : Option (ℕ × Machine)) → Each (if_started why at)
   if_start None None = tt
   if_start None (Some at) = (tt, tt)
   if_start (Some why) at = tt
@@ -150,9 +150,9 @@ lines_speak_at B x n what choice o agree =
     let Of = LineSpeaksOf B what in
     let replies = reply_lines what o.replies in
     cond_both o.stopped (Stopped x (cause_told what choice.cause) ∷ [])
-    (drop_lines o.dropped ++ (start_lines what o ++ (frame_lines n o.frames ++ replies)))
+    (dropped_lines o.dropped ++ (start_lines what o ++ (frame_lines n o.frames ++ replies)))
     (Each B what) (λ stops. (tt, tt))
-    (λ goes_on. both Of (drop_lines o.dropped)
+    (λ goes_on. both Of (dropped_lines o.dropped)
     (start_lines what o ++ (frame_lines n o.frames ++ replies)) (dropped B what o.dropped)
     (both Of (start_lines what o) (frame_lines n o.frames ++ replies) (starts B what o)
     (both Of (frame_lines n o.frames) replies (sent B what n o.frames)

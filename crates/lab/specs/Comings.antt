@@ -1,5 +1,5 @@
 -- What comes to a node of the lab, and what the node then does.
-use Rattle.std.specs.Prelude.{◌≡◌, ◌⊎◌, ℕ, List, [], ◌∷◌, ◌++◌, length, map, option_map, Option}
+use Rattle.std.specs.Prelude.{◌≡◌, ◌⊎◌, ℕ, List, [], ◌∷◌, ◌++◌, length, map, Option}
 use Rattle.std.specs.Prelude.{Some, None, suc, true, false}
 use Rattle.kv_types.specs.Content.{BatchContent}
 use Rattle.disk.specs.declared.junk.Junk.{Junk}
@@ -8,15 +8,13 @@ use Rattle.disk.specs.Calls.{Rises}
 use Rattle.disk.specs.Crashes.{Crashes}
 use Rattle.disk.specs.State.{State}
 use Rattle.chain_model.specs.Lists.{place}
-use Rattle.chain_model.specs.DropReason as model_reason
 use Rattle.chain_model.specs.Frames as model_frame
-use Rattle.chain_model.specs.Refusal as model_refusal
 use Rattle.chain_model.specs.Node.{Answer, dropped_for, refused, started, stopped}
 use Rattle.link_messages.specs.declared.frame.Frame.{Frame}
 use Rattle.link_messages.specs.declared.frame.Frame.TheVariants as frame
-use Rattle.link_messages.specs.declared.refusal.Refusal.TheVariants as refusal
-use Rattle.chain_core.specs.declared.drop_reason.DropReason.{DropReason}
-use Rattle.chain_core.specs.declared.drop_reason.DropReason.TheVariants as reason
+use Rattle.chain_model.specs.declared.refusal.Refusal.TheVariants as refusal
+use Rattle.chain_model.specs.declared.drop_reason.DropReason.{DropReason}
+use Rattle.chain_model.specs.declared.drop_reason.DropReason.TheVariants as reason
 use Rattle.chain_core.specs.declared.input.Input.{Input}
 use Rattle.chain_core.specs.declared.input.Input.TheVariants as input
 use Rattle.chain_core.specs.declared.sending.Sent.{Sent}
@@ -26,7 +24,7 @@ use Rattle.node.specs.declared.output.Output.{Output}
 use Rattle.node.specs.declared.output.Reply.TheVariants as reply
 use Rattle.node.specs.declared.stop.Stop.{Stop as Cause}
 use Rattle.node.specs.declared.stop.Stop.TheVariants.{Disk}
-use Rattle.node.specs.Steps.{reason_of, replies_of}
+use Rattle.node.specs.Steps.{replies_of}
 use Rattle.node.specs.Stops.{IsOfMachine}
 use Rattle.lab.specs.declared.coming.Coming.{Coming}
 use Rattle.lab.specs.declared.coming.Coming.TheVariants as coming
@@ -40,6 +38,7 @@ use Rattle.lab.specs.declared.posted.Posted.{Posted}
 use Rattle.lab.specs.declared.report.Line.{Line}
 use Rattle.lab.specs.declared.report.Line.TheVariants as line
 use Rattle.lab.specs.Disks.{IsCrashOf}
+use Rattle.lab.specs.Events.{dropped_lines}
 use Rattle.lab.specs.Members.{Is, IsResting, disk_in}
 
 -- ---- what comes
@@ -88,15 +87,15 @@ BringsNothing frames what = (p : ℕ) × (what ≡ Deliver p) × IsNowhere frame
 
 -- the answer of a node that does not run: a client is refused, all else is dropped
 abbrev pub at_rest : Machine → Input → Answer BatchContent
-at_rest n (input.Submit i batch) = refused n i model_refusal.NotRunning
-at_rest n (input.Get i key at) = refused n i model_refusal.NotRunning
-at_rest n (input.Forward epoch from number batch) = dropped_for n model_reason.NotRunning
-at_rest n (input.Ack epoch from committed have) = dropped_for n model_reason.NotRunning
-at_rest n input.Tick = dropped_for n model_reason.NotRunning
+at_rest n (input.Submit i batch) = refused n i refusal.NotRunning
+at_rest n (input.Get i key at) = refused n i refusal.NotRunning
+at_rest n (input.Forward epoch from number batch) = dropped_for n reason.NotRunning
+at_rest n (input.Ack epoch from committed have) = dropped_for n reason.NotRunning
+at_rest n input.Tick = dropped_for n reason.NotRunning
 
 -- what is told to have been dropped, sent and replied is what this answer of the machine has
 pub record IsAnswer (inp : Input) (a : Answer BatchContent) (output : Output) : Type 0 where
-  pub dropped : output.dropped ≡ option_map reason_of a.dropped
+  pub dropped : output.dropped ≡ a.dropped
   pub frames : AreFrames output.frames.items a.frames
   pub replied : output.replies.items ≡ replies_of inp a.replies
 
@@ -239,10 +238,6 @@ sent_line p sent = sent_as p sent.to sent.frame
 abbrev pub sent_lines : ℕ → List Sent → List Line
 sent_lines before [] = []
 sent_lines before (sent ∷ more) = sent_line (suc before) sent ∷ sent_lines (suc before) more
-
-abbrev pub dropped_lines : Option DropReason → List Line
-dropped_lines None = []
-dropped_lines (Some why) = line.Dropped why ∷ []
 
 -- the lines of what node x did, after so many frames
 abbrev pub did_lines : ℕ → ℕ → Did → List Line

@@ -5,14 +5,13 @@ use Rattle.std.specs.List.{flat_map}
 use Rattle.kv_types.specs.Content.{BatchContent}
 use Rattle.kv_types.specs.Maps.{map_of}
 use Rattle.chain_model.specs.Configuration.{Configurations, has, at_epoch}
-use Rattle.chain_model.specs.DropReason as model_reason
+use Rattle.chain_model.specs.declared.drop_reason.DropReason.{DropReason}
 use Rattle.chain_model.specs.Frames as model_frame
 use Rattle.chain_model.specs.Requests as model_request
 use Rattle.chain_model.specs.World as model
 use Rattle.chain_core.specs.States.{Machine}
 use Rattle.node.specs.declared.stop.Stop.{Stop as Cause}
 use Rattle.node.specs.declared.output.Reply.TheVariants as reply
-use Rattle.node.specs.Steps.{reason_of, refusal_of}
 use Rattle.node.specs.Stops.{IsOfMachine}
 use Rattle.lab.specs.declared.event.Event.{Event}
 use Rattle.lab.specs.declared.event.What.{What}
@@ -49,15 +48,15 @@ modelled i (Start node) choice = model.Start node choice.went
 modelled i (Stop node junk) choice = model.Stop node
 
 -- a drop is told with its reason
-abbrev pub drop_lines : Option model_reason.DropReason → List Line
-drop_lines None = []
-drop_lines (Some why) = line.Dropped (reason_of why) ∷ []
+abbrev pub dropped_lines : Option DropReason → List Line
+dropped_lines None = []
+dropped_lines (Some why) = line.Dropped why ∷ []
 
 -- a node that was started tells its numbers
 abbrev pub start_line : ℕ → Machine → Line
 start_line x n = line.Started x n.epoch (length n.list) n.committed
 
-abbrev pub if_started : Option model_reason.DropReason → Option (ℕ × Machine) → List Line
+abbrev pub if_started : Option DropReason → Option (ℕ × Machine) → List Line
 if_started None None = []
 if_started None (Some at) = start_line at.0 at.1 ∷ []
 if_started (Some why) at = []
@@ -98,7 +97,7 @@ reply_line what (model_request.Shows i s batches) = value_lines what i s batches
 reply_line what (model_request.Opened i s) = []
 reply_line what (model_request.Closed i s) = []
 reply_line what (model_request.Refused i why) =
-    line.Replied (reply.Refused i (refusal_of why)) ∷ []
+    line.Replied (reply.Refused i why) ∷ []
 
 abbrev pub reply_lines : What → List (model_request.Reply BatchContent) → List Line
 reply_lines what replies = flat_map (reply_line what) replies
@@ -117,7 +116,7 @@ cause_told (Start node) cause = Some cause
 abbrev pub lines_at : ℕ → ℕ → What → Choice → model.Outcome BatchContent → List Line
 lines_at x sent what choice o =
     if o.stopped then line.Stopped x (cause_told what choice.cause) ∷ []
-    else drop_lines o.dropped ++ (start_lines what o
+    else dropped_lines o.dropped ++ (start_lines what o
     ++ (frame_lines sent o.frames ++ reply_lines what o.replies))
 
 -- the lines of an event, after so many frames

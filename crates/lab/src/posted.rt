@@ -11,7 +11,7 @@ use crate::LabError;
 use crate::coming::{Arrival, Coming, frame_coming};
 use configurations::NodeId;
 use link_messages::laws::one_answer;
-use link_messages::{Frame, FrameError, FrameReader};
+use link_messages::{Frame, FrameError};
 use node::DropReason;
 use std::alloc::Global;
 
@@ -38,11 +38,10 @@ fn read(alloc: Global, bytes: &[u8]) -> Result<Option<Frame>, LabError>
     ensures { (it : _) → IsFrame it → bytes.now ≡ spelling it →
         IfOk result (λ found. found ≡ Some it) }
 {
-    let mut reader = FrameReader::new(alloc);
-    reader.feed(bytes)?;
     one_answer();
-    match reader.next() {
-        Ok(found) => Ok(found),
+    match link_messages::read(alloc, bytes) {
+        Ok(Some((frame, _))) => Ok(Some(frame)),
+        Ok(None) => Ok(None),
         Err(e) => unread(e),
     }
 }

@@ -1,7 +1,8 @@
 // The lines of a step, and the frames that it sends.
 ghost use Rattle.std.specs.Prelude.{◌≡◌, ◌+◌, [], ◌∷◌, ◌++◌, length, map, IfOk, OnOk};
 ghost use Rattle.lab.specs.declared.report.Line.{Line};
-ghost use Rattle.lab.specs.Comings.{sent_line, sent_lines, dropped_lines, did_lines, sent_by};
+ghost use Rattle.lab.specs.Comings.{sent_line, sent_lines, did_lines, sent_by};
+ghost use Rattle.lab.specs.Events.{dropped_lines};
 ghost use Rattle.lab.specs.Worlds.{Keeps};
 
 use crate::coming::Did;
@@ -51,7 +52,7 @@ fn line_of(place: u64, sent: &Sent) -> Line
 pub fn one_line(alloc: Global, line: Line) -> Result<Lines, AllocError>
     ensures { IfOk result (λ lines. lines ≡ line ∷ []) }
 {
-    let mut lines = Vec::new(alloc);
+    let mut lines = Vec::with_capacity(alloc, 1)?;
     lines.push(line)?;
     Ok(Lines::new(lines))
 }
@@ -101,16 +102,14 @@ fn tell_drop(lines: &mut Vec<Line>, dropped: Option<DropReason>) -> Result<(), A
 }
 
 // What clients are told.
-fn reply_lines(alloc: Global, replies: Vec<Reply>) -> Result<Vec<Line>, AllocError>
-    ensures { IfOk result (λ lines.
-        lines.items ≡ map (λ reply. Line.Replied reply) replies.items) }
+fn tell_replies(lines: &mut Vec<Line>, replies: Vec<Reply>) -> Result<(), AllocError>
+    ensures { OnOk result (lines.new.items
+        ≡ lines.old.items ++ map (λ reply. Line.Replied reply) replies.items) }
 {
-    Ok(
-        replies
-            .into_iter()
-            .map(|reply| Line::Replied(reply))
-            .collect(alloc)?,
-    )
+    for reply in replies {
+        lines.push(Line::Replied(reply))?;
+    }
+    Ok(())
 }
 
 // The lines of a step that answered: why what came was dropped, then what was sent, then replies.
@@ -124,10 +123,12 @@ fn tell_output(
         ++ (sent_lines (length frames.old.items) output.frames.items
         ++ map (λ reply. Line.Replied reply) output.replies.items)) }
 {
-    let mut lines = Vec::new(alloc);
+    // A step mostly does one thing.
+    let count = output.frames.len().saturating_add(output.replies.len());
+    let mut lines = Vec::with_capacity(alloc, count.max(1))?;
     tell_drop(&mut lines, output.dropped)?;
     post_all(alloc, frames, &mut lines, &output.frames)?;
-    lines.append(&mut reply_lines(alloc, output.replies)?)?;
+    tell_replies(&mut lines, output.replies)?;
     Ok(lines)
 }
 

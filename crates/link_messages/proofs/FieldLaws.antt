@@ -1,54 +1,44 @@
 -- The reader of each field reads back its spelling.
-use Rattle.std.proofs.Common.{◌≡◌, ℕ, zero, suc, ◌<◌, ◌≤◌, ◌^◌, Bool, true, false, not, ◌&&◌}
-use Rattle.std.proofs.Common.{List, [], ◌∷◌, ◌++◌, length, Option, Some, None, IfSome, All, refl}
+use Rattle.std.proofs.Common.{◌≡◌, ℕ, zero, suc, ◌<◌, ◌≤◌, ◌^◌, Bool, true, false, ◌&&◌}
+use Rattle.std.proofs.Common.{List, ◌++◌, length, Option, Some, None, IfSome, All, refl}
 use Rattle.std.proofs.Common.{sym}
-use Rattle.std.proofs.Common.{◌⊎◌, inl, inr}
 use Rattle.std.proofs.Common.{ap, subst, ◌∙◌, arith, nat_le}
-use Rattle.std.specs.List.{flat_map, sum_by, AllByRecursion}
+use Rattle.std.specs.List.{flat_map, sum_by}
+use Rattle.std.specs.Prelude.{IsSome, option_map}
 use Rattle.std.specs.Int.{w8, w16, w32, w64}
-use Rattle.std.proofs.lemmas.Bool.{leb-true, le-leb}
-use Rattle.std.proofs.lemmas.List.Elements.{All-from_recursion, recursion_from_All}
-use Rattle.chain_model.specs.Configuration.{has, AllDifferent, IsId}
-use Rattle.configurations.specs.Configs.{IsConfig}
-use Rattle.configurations.specs.Refusals.{IdsHave, IsLeast}
-use Rattle.configurations.specs.declared.error.ConfigError.{ConfigError}
-use Rattle.configurations.specs.declared.error.ConfigError.TheVariants as config
+use Rattle.std.proofs.lemmas.Bool.{false≢true, leb-true, le-leb}
+use Rattle.chain_model.specs.Configuration.{IsId}
+use Rattle.configurations.specs.Configs.{IsConfig, is_config}
+use Rattle.configurations.specs.Spelling.{config_text}
+use Rattle.configurations.proofs.IsConfig.{config_is, config_from}
 use Rattle.kv_types.specs.declared.bounds.TheConstants.{MAX_KEY, MAX_VALUE, MAX_ROWS, MAX_PAGE}
 use Rattle.kv_types.specs.declared.bounds.TheConstants.{MAX_NUMBER}
 use Rattle.kv_types.specs.Spelling.{text, IsBatch}
 use Rattle.kv_types.specs.Spelling.{spelling as batch_text}
 use Rattle.kv_types.specs.Pages.{row_size}
 use Rattle.kv_types.specs.Reading.{◌>>=◌, text_at, batch_at}
-use Rattle.kv_types.proofs.Fields.{bind_some, some_is, Takes, text_takes, text_again}
+use Rattle.kv_types.proofs.Fields.{IsBytes, bind_some, some_is, Takes, text_takes, text_again}
 use Rattle.kv_types.proofs.Batches.{front_takes, front_again}
-use Rattle.link_messages.specs.declared.refusal.Refusal.{Refusal}
-use Rattle.link_messages.specs.declared.refusal.Refusal.TheVariants as refused
-use Rattle.link_messages.specs.Spelling.{u8, u16, u32, u64, optional, at_text, config_text}
+use Rattle.chain_model.specs.declared.refusal.Refusal.{Refusal}
+use Rattle.chain_model.specs.declared.refusal.Refusal.TheVariants as refused
+use Rattle.link_messages.specs.Spelling.{u8, u16, u32, u64, optional, at_text}
 use Rattle.link_messages.specs.Spelling.{range_text, row_text, page_text, code, IsEpoch, IsNumber}
 use Rattle.link_messages.specs.Spelling.{IsPlace, IsKey, IsValue, IsRange, IsRow, IsSmall}
 use Rattle.link_messages.specs.Reading.{only, number_at, epoch_at, id_at}
 use Rattle.link_messages.specs.Reading.{count_at, place_at, at_at, found_at, bound_at, limit_at}
 use Rattle.link_messages.specs.Reading.{range_at, as_range, row_at, as_row, rows_at, page_at}
 use Rattle.link_messages.specs.Reading.{as_page}
-use Rattle.link_messages.specs.Reading.{all_differ, all_ids, is_config, config_at, many, as_fault}
-use Rattle.link_messages.specs.Reading.{Fails, refusal_of, refusal_at}
+use Rattle.link_messages.specs.Reading.{config_at}
+use Rattle.link_messages.specs.Reading.{refusal_of, refusal_at}
 use Rattle.link_messages.proofs.Readers.{Reads, both_reads, made_reads, only_reads, number_reads}
 use Rattle.link_messages.proofs.Readers.{truth_reads, optional_reads, counted_reads, wide8, wide16}
-use Rattle.link_messages.proofs.Readers.{wide32, wide64, right_reads}
+use Rattle.link_messages.proofs.Readers.{wide32, wide64, right_reads, nothing_read}
 
 -- ---- tests
 
 pub both_true : (a b : Bool) → (a && b) ≡ true → (a ≡ true) × (b ≡ true)
 both_true true b e = (refl, e)
 both_true false b e = absurd cc
-
-false_from : (a : Bool) → (a ≡ true → ⊥) → a ≡ false
-false_from true h = absurd (h refl)
-false_from false h = refl
-
-not_true : (a : Bool) → not a ≡ true → a ≡ false
-not_true true e = absurd cc
-not_true false e = refl
 
 is_refusal : (x y : Refusal) → Some x ≡ Some y → x ≡ y
 is_refusal x y e = cc
@@ -122,104 +112,26 @@ batch_reads = record { takes = front_takes; again = front_again }
 
 -- ---- a configuration
 
-differ_true : (ids : List ℕ) → all_differ ids ≡ true → AllDifferent ids
-differ_true [] e = tt
-differ_true (id ∷ ids) e =
-    let p = both_true (not (has ids id)) (all_differ ids) e in
-    (not_true (has ids id) p.0, differ_true ids p.1)
-
-differ_test : (ids : List ℕ) → AllDifferent ids → all_differ ids ≡ true
-differ_test [] is = refl
-differ_test (id ∷ ids) is = rw (is.0, differ_test ids is.1) refl
-
-ids_true : (ids : List ℕ) → all_ids ids ≡ true → AllByRecursion IsId ids
-ids_true [] e = tt
-ids_true (id ∷ ids) e =
-    let p = both_true (nat_le 1 id && nat_le id 65535) (all_ids ids) e in
-    let q = both_true (nat_le 1 id) (nat_le id 65535) p.0 in
-    ((leb-true _ _ q.0, leb-true _ _ q.1), ids_true ids p.1)
-
-ids_test : (ids : List ℕ) → AllByRecursion IsId ids → all_ids ids ≡ true
-ids_test [] is = refl
-ids_test (id ∷ ids) is = rw (le-leb _ _ is.0.0, le-leb _ _ is.0.1, ids_test ids is.1) refl
-
-pub config_true : (ids : List ℕ) → is_config ids ≡ true → IsConfig ids
-config_true ids e =
-    let p = both_true (nat_le 1 (length ids) && nat_le (length ids) 16)
-    (all_ids ids && all_differ ids) e in
-    let q = both_true (nat_le 1 (length ids)) (nat_le (length ids) 16) p.0 in
-    let r = both_true (all_ids ids) (all_differ ids) p.1 in
-    record {
-      some = leb-true _ _ q.0;
-      few = leb-true _ _ q.1;
-      each = All-from_recursion IsId ids (ids_true ids r.0);
-      different = differ_true ids r.1;
-    }
-
-pub config_test : (ids : List ℕ) → IsConfig ids → is_config ids ≡ true
-config_test ids is =
-    rw (
-      le-leb _ _ is.some,
-      le-leb _ _ is.few,
-      ids_test ids (recursion_from_All IsId ids is.each),
-      differ_test ids is.different,
-    ) refl
-
 pub config_reads : Reads IsConfig config_text config_at
 unfolding config_at
 config_reads =
-    only_reads is_config (λ ids is t. config_true ids t)
+    only_reads is_config (λ ids is t. config_from ids t)
     (λ ids is. (
       (omega (arith, is.few), λ k d lt. omega (arith, (is.each k d lt).1)),
-      config_test ids is,
+      config_is ids is,
     ))
     (counted_reads u8_reads u16_reads)
 
--- the result of a reader of a configuration, by the result of `Config::new`
-pub config_made : (bytes between rest ids : List ℕ) (count : ℕ)
-    → number_at w8 bytes ≡ Some (count, between)
-    → many (number_at w16) count between ≡ Some (ids, rest) → IsConfig ids
-    → config_at bytes ≡ Some (ids, rest)
-unfolding config_at
-config_made bytes between rest ids count n ids_are is = rw (n, ids_are, config_test ids is) refl
-
-no_config : (bytes between rest ids : List ℕ) (count : ℕ)
-    → number_at w8 bytes ≡ Some (count, between)
-    → many (number_at w16) count between ≡ Some (ids, rest) → (IsConfig ids → ⊥)
-    → config_at bytes ≡ None
-unfolding config_at
-no_config bytes between rest ids count n ids_are is_not =
-    rw (n, ids_are, false_from (is_config ids) (λ t. is_not (config_true ids t))) refl
-
-pub config_refused : (e : ConfigError) (bytes between rest ids : List ℕ) (count : ℕ)
-    → number_at w8 bytes ≡ Some (count, between)
-    → many (number_at w16) count between ≡ Some (ids, rest)
-    → (e ≡ config.Memory) ⊎ IsLeast (λ x. IdsHave x ids) e → Fails (as_fault e) (config_at bytes)
-config_refused config.Memory bytes between rest ids count n ids_are why = tt
-config_refused config.Empty bytes between rest ids count n ids_are why =
-    no_config bytes between rest ids count n ids_are
-    (λ is. elim why [
-      | inl same ↦ absurd cc
-      | inr least ↦ absurd (omega (arith, is.some, ap length least.has))
-    ])
-config_refused config.Repeated bytes between rest ids count n ids_are why =
-    no_config bytes between rest ids count n ids_are
-    (λ is. elim why [ inl same ↦ absurd cc | inr least ↦ least.has is.different ])
-config_refused config.TooMany bytes between rest ids count n ids_are why =
-    no_config bytes between rest ids count n ids_are
-    (λ is. elim why [
-      | inl same ↦ absurd cc
-      | inr least ↦ absurd (omega (arith, is.few, least.has))
-    ])
-config_refused config.BadId bytes between rest ids count n ids_are why =
-    no_config bytes between rest ids count n ids_are
-    (λ is. elim why [ inl same ↦ absurd cc | inr least ↦ least.has is.each ])
-config_refused config.NotSmaller bytes between rest ids count n ids_are why =
-    no_config bytes between rest ids count n ids_are
-    (λ is. elim why [ inl same ↦ absurd cc | inr least ↦ least.has ])
-config_refused config.NotInOrder bytes between rest ids count n ids_are why =
-    no_config bytes between rest ids count n ids_are
-    (λ is. elim why [ inl same ↦ absurd cc | inr least ↦ least.has ])
+-- the value that `Config::read_from` found is the value that is read
+pub config_front : {R : Type 0} (now : R → List ℕ) (bytes : List ℕ) (found : Option (List ℕ × R))
+    → IsBytes bytes
+    → IfSome found (λ x. (bytes ≡ config_text x.0 ++ now x.1) × IsConfig x.0)
+    → ((ids rest : List ℕ) → IsConfig ids → bytes ≡ config_text ids ++ rest → IsSome found)
+    → option_map (λ x. (x.0, now x.1)) found ≡ config_at bytes
+config_front now bytes (Some x) fits is each =
+    rw is.0 (sym (config_reads.again x.0 (now x.1) is.1))
+config_front now bytes None fits is each =
+    sym (nothing_read config_reads bytes fits (λ ids rest config at. false≢true (each ids rest config at)))
 
 -- ---- ranges, rows and pages
 

@@ -1,21 +1,19 @@
 -- Reading a frame from left to right.
 use Rattle.std.specs.Prelude.{◌≡◌, ℕ, zero, suc, List, [], ◌∷◌, length, take, drop, nat_lt}
-use Rattle.std.specs.Prelude.{nat_le, ◌==◌, Bool, true, false, ◌&&◌, not, Option, Some, None}
+use Rattle.std.specs.Prelude.{nat_le, ◌==◌, Bool, true, false, ◌&&◌, Option, Some, None}
 use Rattle.std.specs.Prelude.{Result, Ok, Err, if◌then◌else◌}
 use Rattle.std.specs.Global.{Vec}
 use Rattle.std.specs.List.{sum_by}
 use Rattle.std.specs.Int.{Width, w8, w16, w32, w64, byte_len, from_be_bytes}
-use Rattle.chain_model.specs.Configuration.{has}
-use Rattle.configurations.specs.declared.error.ConfigError.{ConfigError}
-use Rattle.configurations.specs.declared.error.ConfigError.TheVariants as config
+use Rattle.configurations.specs.Configs.{is_config}
 use Rattle.kv_types.specs.declared.bounds.TheConstants.{MAX_KEY, MAX_VALUE, MAX_ROWS, MAX_PAGE}
 use Rattle.kv_types.specs.declared.bounds.TheConstants.{MAX_NUMBER}
 use Rattle.kv_types.specs.declared.row.Row.{Row}
 use Rattle.kv_types.specs.Spans.{Span, Rows}
 use Rattle.kv_types.specs.Pages.{row_size}
 use Rattle.kv_types.specs.Reading.{◌>>=◌, text_at, batch_at}
-use Rattle.link_messages.specs.declared.refusal.Refusal.{Refusal}
-use Rattle.link_messages.specs.declared.refusal.Refusal.TheVariants as refused
+use Rattle.chain_model.specs.declared.refusal.Refusal.{Refusal}
+use Rattle.chain_model.specs.declared.refusal.Refusal.TheVariants as refused
 use Rattle.link_messages.specs.declared.frame.Frame.{Frame}
 use Rattle.link_messages.specs.declared.frame.Frame.TheVariants as frame
 use Rattle.link_messages.specs.declared.frame.TheConstants.{MAX_FRAME}
@@ -88,27 +86,8 @@ at_at bytes = optional_at count_at bytes
 unfoldable pub found_at : Reader (Option (List ℕ))
 found_at bytes = optional_at (text_at MAX_VALUE) bytes
 
--- whether no id occurs twice
-abbrev pub all_differ : List ℕ → Bool
-all_differ [] = true
-all_differ (id ∷ ids) = not (has ids id) && all_differ ids
-
--- whether all are ids
-abbrev pub all_ids : List ℕ → Bool
-all_ids [] = true
-all_ids (id ∷ ids) = (nat_le 1 id && nat_le id 65535) && all_ids ids
-
-abbrev pub is_config : List ℕ → Bool
-is_config ids =
-    (nat_le 1 (length ids) && nat_le (length ids) 16) && (all_ids ids && all_differ ids)
-
 unfoldable pub config_at : Reader (List ℕ)
 config_at bytes = only is_config (counted (number_at w8) (number_at w16)) bytes
-
--- the error of a frame whose configuration was refused
-abbrev pub as_fault : ConfigError → FrameError
-as_fault config.Memory = fault.Memory
-as_fault _ = fault.BadField
 
 abbrev pub as_range : List ℕ × (Option (List ℕ) × (Bool × ℕ)) → Span
 as_range x = record { from = x.0; to = x.1.0; backward = x.1.1.0; limit = x.1.1.1 }

@@ -5,6 +5,7 @@ use Rattle.std.specs.List.{flat_map}
 use Rattle.std.specs.Int.{w8, w16, w32, w64, to_be_bytes}
 use Rattle.chain_model.specs.Configuration.{IsId}
 use Rattle.configurations.specs.Configs.{IsConfig}
+use Rattle.configurations.specs.Spelling.{config_text}
 use Rattle.kv_types.specs.declared.bounds.TheConstants.{MAX_KEY, MAX_VALUE, MAX_ROWS, MAX_PAGE}
 use Rattle.kv_types.specs.declared.bounds.TheConstants.{MAX_NUMBER}
 use Rattle.kv_types.specs.declared.row.Row.{Row}
@@ -12,8 +13,8 @@ use Rattle.kv_types.specs.Spans.{Span, Rows}
 use Rattle.kv_types.specs.Spelling.{text, IsBatch}
 use Rattle.kv_types.specs.Spelling.{spelling as batch_text}
 use Rattle.kv_types.specs.Pages.{KeepsLimits}
-use Rattle.link_messages.specs.declared.refusal.Refusal.{Refusal}
-use Rattle.link_messages.specs.declared.refusal.Refusal.TheVariants as refused
+use Rattle.chain_model.specs.declared.refusal.Refusal.{Refusal}
+use Rattle.chain_model.specs.declared.refusal.Refusal.TheVariants as refused
 use Rattle.link_messages.specs.declared.frame.Frame.{Frame}
 use Rattle.link_messages.specs.declared.frame.Frame.TheVariants as frame
 
@@ -46,11 +47,7 @@ optional spell (Some x) = 1 ∷ spell x
 abbrev pub at_text : Option ℕ → List ℕ
 at_text at = optional u64 at
 
--- the number of ids in one byte, and the ids
-abbrev pub config_text : List ℕ → List ℕ
-config_text ids = u8 (length ids) ++ flat_map u16 ids
-
--- the first key, the bound, the direction and the limit
+-- the first key, the bound, the way and the limit
 abbrev pub range_text : Span → List ℕ
 range_text range =
     text range.from ++ (optional text range.to ++ (truth range.backward ++ u32 range.limit))

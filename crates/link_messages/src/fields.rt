@@ -1,23 +1,19 @@
 // The fields of frames, written as bytes and read from them.
-ghost use Rattle.std.specs.Prelude.{◌≡◌, ◌++◌, OnOk, IfSome, option_copied};
-ghost use Rattle.std.specs.Int.{w16};
+ghost use Rattle.std.specs.Prelude.{◌≡◌, ◌++◌, OnOk, IfOk, IfSome, option_copied, option_map};
 ghost use Rattle.chain_model.specs.Configuration.{IsId};
-ghost use Rattle.configurations.specs.Configs.{IsConfig};
 ghost use Rattle.kv_types.specs.declared.bounds.TheConstants.{MAX_KEY, MAX_VALUE};
 ghost use Rattle.kv_types.specs.Spelling.{text};
 ghost use Rattle.kv_types.specs.Reading.{text_at, batch_at};
-ghost use Rattle.link_messages.specs.Spelling.{u16, u32, u64, optional, at_text, config_text};
+ghost use Rattle.link_messages.specs.Spelling.{u16, u32, u64, optional, at_text};
 ghost use Rattle.link_messages.specs.Spelling.{range_text, IsEpoch, IsNumber, IsKey, IsValue};
 ghost use Rattle.link_messages.specs.Spelling.{IsRange};
-ghost use Rattle.link_messages.specs.Reading.{GivesAt, items_of, as_fault, number_at, many};
+ghost use Rattle.link_messages.specs.Reading.{GivesAt};
 ghost use Rattle.link_messages.specs.Reading.{epoch_at, id_at, count_at, place_at};
 ghost use Rattle.link_messages.specs.Reading.{at_at, found_at, config_at, bound_at, range_at};
 
 use crate::FrameError;
-use crate::numbers::{
-    put_truth, put_u16, put_u32, put_u64, truth_of, u8_of, u16_of, u32_of, u64_of,
-};
-use configurations::{Config, ConfigError, Epoch, NodeId};
+use crate::numbers::{put_truth, put_u16, put_u32, put_u64, truth_of, u16_of, u32_of, u64_of};
+use configurations::{Config, Epoch, NodeId};
 use kv_types::{Batch, Key, KvError, Number, Range, Value};
 use std::alloc::{AllocError, Global};
 
@@ -95,19 +91,7 @@ pub fn put_range(out: &mut Vec<u8>, range: &Range) -> Result<(), AllocError>
     put_u32(out, range.limit())
 }
 
-pub fn put_config(out: &mut Vec<u8>, config: &Config) -> Result<(), AllocError>
-    ensures spelled { OnOk result (out.new.items ≡ out.old.items ++ config_text config.now) }
-    ensures is { IsConfig config.now }
-{
-    let ids = config.ids();
-    out.push(ids.len() as u8)?;
-    for id in ids {
-        put_u16(out, id.get())?;
-    }
-    Ok(())
-}
-
-// ---- reading: from the front of the bytes, which then hold the bytes behind the field
+// ---- reading: from the front of the bytes, which are left at what is behind it
 
 #[tactic(auto, unfolding(crate::specs::Reading::epoch_at))]
 pub fn epoch_of(bytes: &mut &[u8]) -> Result<Epoch, FrameError>
@@ -233,32 +217,22 @@ pub fn range_of(alloc: Global, bytes: &mut &[u8]) -> Result<Range, FrameError>
     }
 }
 
-fn ids_of(alloc: Global, count: u8, bytes: &mut &[u8]) -> Result<Vec<u16>, FrameError>
-    ensures { GivesAt (items_of result) bytes.new.now (many (number_at w16) count bytes.old.now) }
+// The configuration at the front of the bytes, and the bytes behind it.
+fn front_config_of(alloc: Global, bytes: &[u8]) -> Result<Option<(Config, &[u8])>, AllocError>
+    ensures { IfOk result (λ found.
+        option_map (λ x. (x.0, x.1.now)) found ≡ config_at bytes.now) }
 {
-    let mut ids = Vec::new(alloc);
-    for _ in 0..count {
-        ids.push(u16_of(bytes)?)?;
-    }
-    Ok(ids)
+    Ok(Config::read_from(alloc, bytes)?)
 }
 
-fn fault_of(e: ConfigError) -> FrameError
-    ensures { result ≡ as_fault e }
-{
-    match e {
-        ConfigError::Memory => FrameError::Memory,
-        _ => FrameError::BadField,
-    }
-}
-
-#[tactic(auto, unfolding(crate::specs::Reading::config_at))]
 pub fn config_of(alloc: Global, bytes: &mut &[u8]) -> Result<Config, FrameError>
     ensures { GivesAt result bytes.new.now (config_at bytes.old.now) }
 {
-    let count = u8_of(bytes)?;
-    match Config::new(alloc, ids_of(alloc, count, bytes)?) {
-        Ok(config) => Ok(config),
-        Err(e) => Err(fault_of(e)),
+    match front_config_of(alloc, bytes)? {
+        Some((config, rest)) => {
+            *bytes = rest;
+            Ok(config)
+        }
+        None => Err(FrameError::BadField),
     }
 }

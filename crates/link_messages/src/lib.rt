@@ -8,12 +8,11 @@ pub mod laws;
 mod numbers;
 mod reader;
 mod reading;
-mod refusal;
 mod rows;
 mod writing;
 
+pub use chain_model::Refusal;
 pub use error::FrameError;
 pub use frame::{Frame, MAX_FRAME};
-pub use reader::FrameReader;
-pub use refusal::Refusal;
+pub use reader::{FrameReader, read};
 pub use writing::write;

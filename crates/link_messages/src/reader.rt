@@ -24,8 +24,9 @@ impl Model for FrameReader {
     ghost view = { λ reader. reader.buffer.items };
 }
 
-// The frame at the front of the bytes, and the length of its spelling. `None` if it is incomplete.
-fn front_of(alloc: Global, bytes: &[u8]) -> Result<Option<(Frame, usize)>, FrameError>
+/// The frame at the front of the bytes, and how many bytes spell it. `None` while it is incomplete
+/// and has no fault yet.
+pub fn read(alloc: Global, bytes: &[u8]) -> Result<Option<(Frame, usize)>, FrameError>
     ensures answer { Answers (told_by result) bytes.now (left_by result bytes.now) }
     ensures len { IfOk result (λ front. IfSome front (λ x. x.1 ≤ length bytes.now)) }
 {
@@ -69,7 +70,7 @@ impl FrameReader {
         ensures { Answers result self.old self.new }
     {
         let alloc = *self.buffer.allocator();
-        match front_of(alloc, self.buffer.as_slice())? {
+        match read(alloc, self.buffer.as_slice())? {
             Some((frame, len)) => {
                 self.buffer.advance(len);
                 Ok(Some(frame))

@@ -6,7 +6,7 @@ ghost use Rattle.kv_types.specs.Spelling.{spelling as batch_text};
 ghost use Rattle.link_messages.specs.Spelling.{u8, u16, u32, u64, at_text, kind, fields, spelling};
 ghost use Rattle.link_messages.specs.Spelling.{code, IsEpoch, IsNumber, HasBounds, IsFrame};
 
-use crate::fields::{put_at, put_config, put_epoch, put_found, put_id, put_number, put_range};
+use crate::fields::{put_at, put_epoch, put_found, put_id, put_number, put_range};
 use crate::rows::put_page;
 use crate::{Frame, Refusal};
 use byteorder::{BigEndian, ByteOrder};
@@ -103,7 +103,7 @@ fn put_link(out: &mut Vec<u8>, frame: &Frame) -> Result<(), AllocError>
         }
         Frame::Notice { epoch, config } => {
             put_epoch(out, *epoch)?;
-            put_config(out, config)
+            config.spell_into(out)
         }
         _ => Ok(()),
     }
@@ -176,12 +176,20 @@ fn put_fields(out: &mut Vec<u8>, frame: &Frame) -> Result<(), AllocError>
     }
 }
 
-/// The one spelling of the frame in bytes.
+// Room for a frame. One with a batch, or of numbers alone, is written with no second allocation.
+fn room_for(frame: &Frame) -> usize {
+    match frame {
+        Frame::Forward { batch, .. } | Frame::Submit { batch, .. } => 19 + batch.spelled_len(),
+        _ => 27,
+    }
+}
+
+/// The one spelling of the frame.
 pub fn write(alloc: Global, frame: &Frame) -> Result<Vec<u8>, AllocError>
     ensures spelled { IfOk result (λ bytes. bytes.items ≡ spelling frame.now) }
     ensures lawful { IfOk result (λ _. HasBounds frame.now → IsFrame frame.now) }
 {
-    let mut out = Vec::new(alloc);
+    let mut out = Vec::with_capacity(alloc, room_for(frame))?;
     out.extend_from_slice(&[0; 4])?;
     out.push(kind_of(frame))?;
     put_fields(&mut out, frame)?;

@@ -98,11 +98,8 @@ fn each_answer_whole_and_byte_by_byte(rt: HostRuntime) {
     let alloc = rt.alloc();
     for (bytes, frames, fault) in &ANSWERS {
         for size in [bytes.len(), 1] {
-            assert_eq!(rt;
-                answers_of(alloc, bytes, size),
-                (*frames, *fault),
-                "{bytes:?} by {size}"
-            );
+            let found = answers_of(alloc, *bytes, size);
+            assert!(rt; found == (*frames, *fault), "{bytes:?} by {size}");
         }
     }
 }
@@ -117,21 +114,23 @@ fn stays(alloc: Global, bytes: &[u8], fault: FrameError) -> bool {
     fed && first && again && more && reader.next().err() == Some(fault)
 }
 
+/// Bytes that are no frame, and their fault.
+static FAULTS: [(&[u8], FrameError); 4] = [
+    (&[0, 2, 0, 1], FrameError::TooLong),
+    (&[0, 0, 0, 0], FrameError::BadField),
+    (&[0, 0, 0, 1, 15], FrameError::BadKind),
+    (
+        &[
+            0, 0, 0, 18, 9, 0, 0, 0, 0, 0, 0, 0, 1, 0, 0, 0, 0, 0, 0, 0, 1, 0,
+        ],
+        FrameError::Trailing,
+    ),
+];
+
 #[test]
 fn a_fault_stays(rt: HostRuntime) {
-    let table: [(&[u8], FrameError); 4] = [
-        (&[0, 2, 0, 1], FrameError::TooLong),
-        (&[0, 0, 0, 0], FrameError::BadField),
-        (&[0, 0, 0, 1, 15], FrameError::BadKind),
-        (
-            &[
-                0, 0, 0, 18, 9, 0, 0, 0, 0, 0, 0, 0, 1, 0, 0, 0, 0, 0, 0, 0, 1, 0,
-            ],
-            FrameError::Trailing,
-        ),
-    ];
-    for (bytes, fault) in table {
-        assert!(rt; stays(rt.alloc(), bytes, fault), "{fault:?}");
+    for (bytes, fault) in &FAULTS {
+        assert!(rt; stays(rt.alloc(), *bytes, *fault), "{fault:?}");
     }
 }
 
@@ -141,32 +140,38 @@ fn two_frames_in_any_pieces(rt: HostRuntime) -> Result<(), Fail> {
     let mut bytes = FORWARD.to_vec(alloc)?;
     bytes.extend_from_slice(&ACK)?;
     for size in 1..29 {
-        assert_eq!(rt; answers_of(alloc, &bytes, size), (2, None), "{size}");
+        assert!(rt; answers_of(alloc, &bytes, size) == (2, None), "{size}");
     }
     Ok(())
 }
 
+/// Faults and their numbers.
+static FAULT_NUMBERS: [(FrameError, u8); 5] = [
+    (FrameError::TooLong, 1),
+    (FrameError::BadKind, 2),
+    (FrameError::BadField, 3),
+    (FrameError::Trailing, 4),
+    (FrameError::Memory, 5),
+];
+
+/// Refusals and their numbers.
+static REFUSAL_NUMBERS: [(Refusal, u8); 8] = [
+    (Refusal::NotRunning, 1),
+    (Refusal::NotHead, 2),
+    (Refusal::TooOld, 3),
+    (Refusal::NotCommitted, 4),
+    (Refusal::NoSuchSnapshot, 5),
+    (Refusal::TooManySnapshots, 6),
+    (Refusal::Removed, 7),
+    (Refusal::Exhausted, 8),
+];
+
 #[test]
 fn faults_and_refusals_have_their_numbers(rt: HostRuntime) {
-    for (fault, number) in [
-        (FrameError::TooLong, 1),
-        (FrameError::BadKind, 2),
-        (FrameError::BadField, 3),
-        (FrameError::Trailing, 4),
-        (FrameError::Memory, 5),
-    ] {
-        assert_eq!(rt; fault as u8, number, "{fault:?}");
+    for (fault, number) in &FAULT_NUMBERS {
+        assert!(rt; *fault as u8 == *number, "fault {number}");
     }
-    for (refusal, number) in [
-        (Refusal::NotRunning, 1),
-        (Refusal::NotHead, 2),
-        (Refusal::TooOld, 3),
-        (Refusal::NotCommitted, 4),
-        (Refusal::NoSuchSnapshot, 5),
-        (Refusal::TooManySnapshots, 6),
-        (Refusal::Removed, 7),
-        (Refusal::Exhausted, 8),
-    ] {
-        assert_eq!(rt; refusal as u8, number, "{refusal:?}");
+    for (refusal, number) in &REFUSAL_NUMBERS {
+        assert!(rt; *refusal as u8 == *number, "refusal {number}");
     }
 }

@@ -1,4 +1,4 @@
-// Lists that are configurations, lists of configurations, and the errors of other lists.
+// Which lists are configurations and lists of them, and which fault is told of the others.
 use configurations::{Config, ConfigError, Configs, Epoch, NodeId};
 use std::alloc::Global;
 use std::test::Fail;
@@ -7,7 +7,7 @@ const SIXTEEN: &[u16] = &[2, 3, 4, 5, 6, 7, 8, 9, 10, 11, 12, 13, 14, 15, 16, 17
 
 const SEVENTEEN: &[u16] = &[1, 2, 3, 4, 5, 6, 7, 8, 9, 10, 11, 12, 13, 14, 15, 16, 17];
 
-/// The error of a list of ids, if it has one. Want of memory fails the test.
+/// The fault of a list of ids, if it has one. Want of memory is no answer.
 fn fault_of(alloc: Global, ids: &[u16]) -> Result<Option<ConfigError>, ConfigError> {
     match Config::new(alloc, ids.to_vec(alloc)?) {
         Ok(_) => Ok(None),
@@ -16,7 +16,7 @@ fn fault_of(alloc: Global, ids: &[u16]) -> Result<Option<ConfigError>, ConfigErr
     }
 }
 
-/// The error of a list of configurations, if it has one.
+/// The fault of a list of configurations, if it has one.
 fn fault_of_list(alloc: Global, lists: &[&[u16]]) -> Result<Option<ConfigError>, ConfigError> {
     let mut configs = Vec::new(alloc);
     for ids in lists {
@@ -25,7 +25,7 @@ fn fault_of_list(alloc: Global, lists: &[&[u16]]) -> Result<Option<ConfigError>,
     Ok(Configs::new(configs).err())
 }
 
-/// Lists of ids, and the error of each.
+/// Lists of ids, and the fault of each.
 static IDS: [(&[u16], Option<ConfigError>); 8] = [
     (&[1], None),
     (&[3, 65535, 1], None),
@@ -40,12 +40,13 @@ static IDS: [(&[u16], Option<ConfigError>); 8] = [
 #[test]
 fn ids(rt: HostRuntime) -> Result<(), Fail> {
     for (ids, want) in &IDS {
-        assert_eq!(rt; fault_of(rt.alloc(), ids)?, *want, "{ids:?}");
+        let fault = fault_of(rt.alloc(), *ids)?;
+        assert!(rt; fault == *want, "{ids:?}");
     }
     Ok(())
 }
 
-/// Lists of configurations, and the error of each.
+/// Lists of configurations, and the fault of each.
 static LISTS: [(&[&[u16]], Option<ConfigError>); 7] = [
     (&[&[1]], None),
     (&[&[1, 2, 3], &[1, 3], &[3]], None),
@@ -62,13 +63,14 @@ static LISTS: [(&[&[u16]], Option<ConfigError>); 7] = [
 #[test]
 fn lists(rt: HostRuntime) -> Result<(), Fail> {
     for (lists, want) in &LISTS {
-        assert_eq!(rt; fault_of_list(rt.alloc(), lists)?, *want, "{lists:?}");
+        let fault = fault_of_list(rt.alloc(), *lists)?;
+        assert!(rt; fault == *want, "{lists:?}");
     }
     Ok(())
 }
 
-/// The error of a list of configurations, each without the first node of the one before, if it has
-/// one.
+/// The fault of a list of configurations, each without the first node of the one before, if it
+/// has one.
 fn fault_of_shrinking(alloc: Global) -> Result<Option<ConfigError>, ConfigError> {
     let mut configs = Vec::new(alloc);
     for left_out in 0..16 {
@@ -84,19 +86,21 @@ fn sixteen_configurations(rt: HostRuntime) -> Result<(), Fail> {
     Ok(())
 }
 
+/// Faults and their numbers.
+static NUMBERS: [(ConfigError, u8); 7] = [
+    (ConfigError::Empty, 1),
+    (ConfigError::Repeated, 2),
+    (ConfigError::NotSmaller, 3),
+    (ConfigError::NotInOrder, 4),
+    (ConfigError::TooMany, 5),
+    (ConfigError::BadId, 6),
+    (ConfigError::Memory, 7),
+];
+
 #[test]
 fn numbers_of_faults(rt: HostRuntime) {
-    let faults = [
-        ConfigError::Empty,
-        ConfigError::Repeated,
-        ConfigError::NotSmaller,
-        ConfigError::NotInOrder,
-        ConfigError::TooMany,
-        ConfigError::BadId,
-        ConfigError::Memory,
-    ];
-    for (place, fault) in faults.iter().enumerate() {
-        assert_eq!(rt; *fault as usize, place + 1);
+    for (fault, number) in &NUMBERS {
+        assert!(rt; *fault as u8 == *number, "{number}");
     }
 }
 
@@ -105,23 +109,32 @@ fn config(alloc: Global) -> Result<Config, ConfigError> {
     Config::new(alloc, [5, 2, 9].to_vec(alloc)?)
 }
 
-/// The neighbours of this node, and whether the configuration has it.
+fn plain(id: Option<NodeId>) -> Option<u16> {
+    match id {
+        Some(id) => Some(id.get()),
+        None => None,
+    }
+}
+
+/// Which nodes stand before and after this one, and whether it is there.
 fn about(alloc: Global, id: u16) -> Result<(Option<u16>, Option<u16>, bool), ConfigError> {
     let config = config(alloc)?;
     let id = NodeId::new(id).ok_or(ConfigError::BadId)?;
-    let before = config.before(id).map(|id| id.get());
-    let after = config.after(id).map(|id| id.get());
-    Ok((before, after, config.has(id)))
+    Ok((
+        plain(config.before(id)),
+        plain(config.after(id)),
+        config.has(id),
+    ))
 }
 
-/// The head, the tail and the length of a copy.
+/// Its head, its tail and how long a copy is.
 fn ends(alloc: Global) -> Result<(u16, u16, usize), ConfigError> {
     let config = config(alloc)?;
     let len = config.clone()?.ids().len();
     Ok((config.head().get(), config.tail().get(), len))
 }
 
-/// A node, its neighbours, and whether the configuration has it.
+/// A node, those before and after it, and whether it is there.
 static NEIGHBOURS: [(u16, Option<u16>, Option<u16>, bool); 4] = [
     (5, None, Some(2), true),
     (2, Some(5), Some(9), true),
@@ -131,11 +144,12 @@ static NEIGHBOURS: [(u16, Option<u16>, Option<u16>, bool); 4] = [
 
 #[test]
 fn neighbours(rt: HostRuntime) -> Result<(), Fail> {
-    let alloc = rt.alloc();
-    for (id, before, after, is_there) in NEIGHBOURS {
-        assert_eq!(rt; about(alloc, id)?, (before, after, is_there), "{id}");
+    for (id, before, after, is_there) in &NEIGHBOURS {
+        let found = about(rt.alloc(), *id)?;
+        assert!(rt; found == (*before, *after, *is_there), "{id}");
     }
-    assert_eq!(rt; ends(alloc)?, (5, 9, 3));
+    let ends = ends(rt.alloc())?;
+    assert!(rt; ends == (5, 9, 3));
     Ok(())
 }
 

@@ -34,10 +34,10 @@ fn value_of(alloc: Global, len: usize) -> Result<Value, Fail> {
     Ok(Value::new(vec![in alloc; 118u8; len]?)?)
 }
 
-/// The lengths of keys and values in a batch that is spelled in 65,536 bytes.
+/// Lengths of keys and values, with which a batch is spelled in 65,536 bytes.
 const BATCH: [(usize, usize); 4] = [(1024, 16384), (1024, 16384), (1024, 16384), (0, 13290)];
 
-/// The lengths of keys and values in rows of a page of 98,304 bytes.
+/// The same of rows, which make a page of 98,304 bytes.
 const PAGE: [(usize, usize); 6] = [
     (1024, 16384),
     (1024, 16384),
@@ -95,108 +95,134 @@ fn found_of(alloc: Global, big: bool) -> Result<Option<Value>, Fail> {
     Ok(Some(value_of(alloc, 16384)?))
 }
 
-/// The frames between nodes.
-fn add_links(alloc: Global, frames: &mut Vec<Frame>, big: bool) -> Result<(), Fail> {
+/// A frame between nodes, by its kind.
+fn link_of(alloc: Global, kind: u8, big: bool) -> Result<Frame, Fail> {
     let (epoch, from, number) = (epoch_of(big)?, id_of(big)?, number_of(big)?);
-    let batch = batch_of(alloc, big)?;
-    frames.push(Frame::Forward {
-        epoch,
-        from,
-        number,
-        batch,
-    })?;
-    frames.push(Frame::Ack {
-        epoch,
-        from,
-        committed: number,
-        have: number,
-    })?;
-    let config = config_of(alloc, big)?;
-    Ok(frames.push(Frame::Notice { epoch, config })?)
+    Ok(match kind {
+        1 => Frame::Forward {
+            epoch,
+            from,
+            number,
+            batch: batch_of(alloc, big)?,
+        },
+        2 => Frame::Ack {
+            epoch,
+            from,
+            committed: number,
+            have: number,
+        },
+        _ => Frame::Notice {
+            epoch,
+            config: config_of(alloc, big)?,
+        },
+    })
 }
 
-/// The requests of clients.
-fn add_requests(alloc: Global, frames: &mut Vec<Frame>, big: bool) -> Result<(), Fail> {
+/// What a client asks, by its kind.
+fn request_of(alloc: Global, kind: u8, big: bool) -> Result<Frame, Fail> {
     let (request, at) = (number_of(big)?, at_of(big)?);
-    let batch = batch_of(alloc, big)?;
-    frames.push(Frame::Submit { request, batch })?;
-    let key = key_of(alloc, if big { 1024 } else { 0 })?;
-    frames.push(Frame::Get { request, at, key })?;
-    let range = range_of(alloc, big)?;
-    frames.push(Frame::Rows { request, at, range })?;
-    frames.push(Frame::Open { request, at })?;
-    let number = request;
-    Ok(frames.push(Frame::Close { request, number })?)
+    Ok(match kind {
+        4 => Frame::Submit {
+            request,
+            batch: batch_of(alloc, big)?,
+        },
+        5 => Frame::Get {
+            request,
+            at,
+            key: key_of(alloc, if big { 1024 } else { 0 })?,
+        },
+        6 => Frame::Rows {
+            request,
+            at,
+            range: range_of(alloc, big)?,
+        },
+        7 => Frame::Open { request, at },
+        _ => Frame::Close {
+            request,
+            number: request,
+        },
+    })
 }
 
-/// The replies to clients.
-fn add_replies(alloc: Global, frames: &mut Vec<Frame>, big: bool) -> Result<(), Fail> {
+/// What a client is answered, by its kind.
+fn reply_of(alloc: Global, kind: u8, big: bool) -> Result<Frame, Fail> {
     let request = number_of(big)?;
     let number = request;
-    frames.push(Frame::Committed { request, number })?;
-    let value = found_of(alloc, big)?;
-    frames.push(Frame::Value {
-        request,
-        number,
-        value,
-    })?;
-    let page = page_of(alloc, big)?;
-    frames.push(Frame::RowsAre {
-        request,
-        number,
-        page,
-    })?;
-    frames.push(Frame::Opened { request, number })?;
-    let refusal = if big {
-        Refusal::Exhausted
-    } else {
-        Refusal::NotRunning
-    };
-    frames.push(Frame::Refused { request, refusal })?;
-    Ok(frames.push(Frame::Closed { request, number })?)
+    Ok(match kind {
+        9 => Frame::Committed { request, number },
+        10 => Frame::Value {
+            request,
+            number,
+            value: found_of(alloc, big)?,
+        },
+        11 => Frame::RowsAre {
+            request,
+            number,
+            page: page_of(alloc, big)?,
+        },
+        12 => Frame::Opened { request, number },
+        13 => Frame::Refused {
+            request,
+            refusal: if big {
+                Refusal::Exhausted
+            } else {
+                Refusal::NotRunning
+            },
+        },
+        _ => Frame::Closed { request, number },
+    })
 }
 
-fn frames_of(alloc: Global, big: bool) -> Result<Vec<Frame>, Fail> {
-    let mut frames = Vec::new(alloc);
-    add_links(alloc, &mut frames, big)?;
-    add_requests(alloc, &mut frames, big)?;
-    add_replies(alloc, &mut frames, big)?;
-    Ok(frames)
+fn frame_of(alloc: Global, kind: u8, big: bool) -> Result<Frame, Fail> {
+    match kind {
+        1..=3 => link_of(alloc, kind, big),
+        4..=8 => request_of(alloc, kind, big),
+        _ => reply_of(alloc, kind, big),
+    }
 }
 
-/// The results of writing and reading the frame.
-fn again(alloc: Global, bytes: &[u8]) -> Result<Vec<u8>, Fail> {
+/// Whether the bytes are read and written again.
+fn is_read_again(alloc: Global, bytes: &[u8]) -> Result<bool, Fail> {
     let mut reader = FrameReader::new(alloc);
     reader.feed(bytes)?;
     let frame = reader.next()?.ok_or("the frame is whole")?;
-    Ok(write(alloc, &frame)?)
+    Ok(write(alloc, &frame)?.as_slice() == bytes)
 }
 
-/// The lengths of the frames by the sizes of their fields, without the length field.
-const SMALLEST: [u32; 14] = [20, 23, 8, 14, 12, 18, 10, 17, 17, 18, 20, 17, 10, 17];
+/// Whether the frame of this kind is of this length, without the length field, and is read again.
+fn is_frame(alloc: Global, kind: u8, big: bool, len: u32) -> Result<(bool, bool, bool), Fail> {
+    let bytes = write(alloc, &frame_of(alloc, kind, big)?)?;
+    let has_kind = bytes.get(4).copied() == Some(kind);
+    let has_len = bytes.get(..4) == Some(len.to_be_bytes().as_slice());
+    Ok((has_kind, has_len, is_read_again(alloc, &bytes)?))
+}
 
-const LARGEST: [u32; 14] = [
-    65551, 23, 38, 65545, 1044, 2076, 18, 17, 17, 16404, 98324, 17, 10, 17,
+/// The kinds, and the lengths of the smallest frame and of the largest, by what their fields take,
+/// without the length field.
+static KINDS: [(u8, u32, u32); 14] = [
+    (1, 20, 65551),
+    (2, 23, 23),
+    (3, 8, 38),
+    (4, 14, 65545),
+    (5, 12, 1044),
+    (6, 18, 2076),
+    (7, 10, 18),
+    (8, 17, 17),
+    (9, 17, 17),
+    (10, 18, 16404),
+    (11, 20, 98324),
+    (12, 17, 17),
+    (13, 10, 10),
+    (14, 17, 17),
 ];
 
 #[test]
 fn each_kind_is_read_again(rt: HostRuntime) -> Result<(), Fail> {
-    let alloc = rt.alloc();
-    for (big, lengths) in [(false, SMALLEST), (true, LARGEST)] {
-        let mut kind: u8 = 0;
-        let frames = frames_of(alloc, big)?;
-        for (frame, len) in frames.iter().zip(lengths) {
-            kind = kind.saturating_add(1);
-            let bytes = write(alloc, frame)?;
-            assert_eq!(rt; bytes.get(4).copied(), Some(kind));
-            assert_eq!(rt;
-                bytes.get(..4),
-                Some(len.to_be_bytes().as_slice()),
-                "{kind}"
-            );
-            assert_eq!(rt; bytes, again(alloc, &bytes)?, "{kind}");
+    for (kind, smallest, largest) in &KINDS {
+        for (big, len) in [(false, *smallest), (true, *largest)] {
+            let found = is_frame(rt.alloc(), *kind, big, len)?;
+            assert!(rt; found == (true, true, true), "{kind} {len}: {found:?}");
         }
-        assert_eq!(rt; kind, 14);
     }
     Ok(())
 }

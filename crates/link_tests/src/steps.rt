@@ -1,4 +1,4 @@
-// The decisions, replies and frames of a node, by the rules of a step.
+// What a node decides, whom it answers and what it sends, by the rules of a step.
 use chain_core::{CoreError, CoreState, Decision, Done, DropReason, Input, Sent, decide};
 use configurations::{Config, Epoch, NodeId};
 use kv_types::{Batch, Edit, Key, Number};
@@ -6,21 +6,21 @@ use link_messages::Refusal;
 use std::alloc::Global;
 use std::test::Fail;
 
-// The inputs of a node.
-#[derive(Clone, Copy, Debug)]
+// What comes to a node.
+#[derive(Clone, Copy, Debug, Drop)]
 enum Comes {
-    // A client's batch, with this request number.
+    // A batch, for this request.
     Submit(u64),
     Get(Option<u64>),
-    // A Forward with this epoch, sender and number.
+    // A batch of this epoch, node and number.
     Forward(u32, u16, u64),
-    // An Ack with this epoch, sender, committed number and number of batches.
+    // From this epoch and node: what is committed, and what it has.
     Ack(u32, u16, u64, u64),
     Tick,
 }
 
-// The decisions on inputs.
-#[derive(Clone, Copy, Debug, PartialEq, Eq)]
+// What is decided.
+#[derive(Clone, Copy, PartialEq)]
 enum Gives {
     Accept,
     Append,
@@ -88,7 +88,7 @@ fn input(alloc: Global, comes: Comes) -> Result<Input, CoreError> {
     }
 }
 
-/// The decision, and the number of requests that are answered once it is done.
+/// What is decided, and how many requests are answered once it is done.
 fn step(alloc: Global, state: &mut CoreState, comes: Comes) -> Result<(Gives, usize), CoreError> {
     let (gives, done) = match decide(state, input(alloc, comes)?) {
         Decision::Accept { request, .. } => (Gives::Accept, Done::Accepted { request }),
@@ -103,7 +103,7 @@ fn step(alloc: Global, state: &mut CoreState, comes: Comes) -> Result<(Gives, us
     Ok((gives, state.after(alloc, done)?.len()))
 }
 
-/// A node of the chain 1, 2, 3 at its creation.
+/// A node of the chain 1, 2, 3 as it is created.
 fn created(alloc: Global, id: u16) -> Result<CoreState, CoreError> {
     let (_, id) = origin(0, id)?;
     let ids = [1, 2, 3].to_vec(alloc)?;
@@ -111,89 +111,103 @@ fn created(alloc: Global, id: u16) -> Result<CoreState, CoreError> {
     Ok(CoreState::created(alloc, id, config))
 }
 
-/// The addressee of a frame.
+/// The node that a frame is for.
 fn to(sent: &Option<Sent>) -> Option<u16> {
-    sent.as_ref().map(|sent| sent.to.get())
+    match sent {
+        Some(sent) => Some(sent.to.get()),
+        None => None,
+    }
 }
+
+// What comes to a head in turn, what it decides, and how many requests are answered.
+static HEAD: [(Comes, Gives, usize); 14] = [
+    (Comes::Get(None), Gives::Show(0), 0),
+    (Comes::Submit(1), Gives::Accept, 0),
+    (Comes::Submit(2), Gives::Accept, 0),
+    (Comes::Get(Some(1)), Gives::Refuse(Refusal::NotCommitted), 0),
+    (
+        Comes::Forward(0, 2, 1),
+        Gives::Drop(DropReason::NotPredecessor),
+        0,
+    ),
+    (
+        Comes::Ack(0, 3, 0, 0),
+        Gives::Drop(DropReason::NotSuccessor),
+        0,
+    ),
+    (
+        Comes::Ack(1, 2, 0, 0),
+        Gives::Drop(DropReason::OtherEpoch),
+        0,
+    ),
+    (Comes::Ack(0, 2, 0, 3), Gives::Drop(DropReason::BadAck), 0),
+    (Comes::Ack(0, 2, 2, 1), Gives::Drop(DropReason::BadAck), 0),
+    (Comes::Ack(0, 2, 0, 1), Gives::PassOn, 0),
+    (Comes::Ack(0, 2, 2, 2), Gives::PassOn, 2),
+    (Comes::Ack(0, 2, 1, 1), Gives::PassOn, 0),
+    (Comes::Get(None), Gives::Show(2), 0),
+    (Comes::Tick, Gives::Resend, 0),
+];
 
 #[test]
 fn a_head(rt: HostRuntime) -> Result<(), Fail> {
     let mut head = created(rt.alloc(), 1)?;
-    let table = [
-        (Comes::Get(None), (Gives::Show(0), 0)),
-        (Comes::Submit(1), (Gives::Accept, 0)),
-        (Comes::Submit(2), (Gives::Accept, 0)),
-        (
-            Comes::Get(Some(1)),
-            (Gives::Refuse(Refusal::NotCommitted), 0),
-        ),
-        (
-            Comes::Forward(0, 2, 1),
-            (Gives::Drop(DropReason::NotPredecessor), 0),
-        ),
-        (
-            Comes::Ack(0, 3, 0, 0),
-            (Gives::Drop(DropReason::NotSuccessor), 0),
-        ),
-        (
-            Comes::Ack(1, 2, 0, 0),
-            (Gives::Drop(DropReason::OtherEpoch), 0),
-        ),
-        (Comes::Ack(0, 2, 0, 3), (Gives::Drop(DropReason::BadAck), 0)),
-        (Comes::Ack(0, 2, 2, 1), (Gives::Drop(DropReason::BadAck), 0)),
-        (Comes::Ack(0, 2, 0, 1), (Gives::PassOn, 0)),
-        (Comes::Ack(0, 2, 2, 2), (Gives::PassOn, 2)),
-        (Comes::Ack(0, 2, 1, 1), (Gives::PassOn, 0)),
-        (Comes::Get(None), (Gives::Show(2), 0)),
-        (Comes::Tick, (Gives::Resend, 0)),
-    ];
-    for (comes, want) in table {
-        assert_eq!(rt; step(rt.alloc(), &mut head, comes)?, want, "{comes:?}");
+    for (comes, gives, answered) in &HEAD {
+        let found = step(rt.alloc(), &mut head, *comes)?;
+        assert!(rt; found == (*gives, *answered), "{comes:?}");
     }
-    assert_eq!(rt; (head.count().get(), head.committed().get()), (2, 2));
+    assert!(rt; (head.count().get(), head.committed().get()) == (2, 2));
     Ok(())
 }
+
+// A new node, what comes to it, and what it decides.
+static OTHERS: [(u16, Comes, Gives); 7] = [
+    (2, Comes::Submit(1), Gives::Refuse(Refusal::NotHead)),
+    (2, Comes::Forward(0, 1, 2), Gives::TellAgain),
+    (2, Comes::Forward(0, 1, 1), Gives::Append),
+    (3, Comes::Forward(0, 2, 1), Gives::Append),
+    (
+        3,
+        Comes::Ack(0, 2, 0, 0),
+        Gives::Drop(DropReason::NotSuccessor),
+    ),
+    (4, Comes::Submit(1), Gives::Refuse(Refusal::Removed)),
+    (4, Comes::Tick, Gives::Drop(DropReason::Removed)),
+];
 
 #[test]
 fn a_middle_and_a_tail(rt: HostRuntime) -> Result<(), Fail> {
-    let table = [
-        (2, Comes::Submit(1), Gives::Refuse(Refusal::NotHead)),
-        (2, Comes::Forward(0, 1, 2), Gives::TellAgain),
-        (2, Comes::Forward(0, 1, 1), Gives::Append),
-        (3, Comes::Forward(0, 2, 1), Gives::Append),
-        (
-            3,
-            Comes::Ack(0, 2, 0, 0),
-            Gives::Drop(DropReason::NotSuccessor),
-        ),
-        (4, Comes::Submit(1), Gives::Refuse(Refusal::Removed)),
-        (4, Comes::Tick, Gives::Drop(DropReason::Removed)),
-    ];
-    for (id, comes, want) in table {
-        let mut node = created(rt.alloc(), id)?;
-        let given = step(rt.alloc(), &mut node, comes)?;
-        assert_eq!(rt; given, (want, 0), "{id} {comes:?}");
+    for (id, comes, gives) in &OTHERS {
+        let mut node = created(rt.alloc(), *id)?;
+        let found = step(rt.alloc(), &mut node, *comes)?;
+        assert!(rt; found == (*gives, 0), "{id} {comes:?}");
     }
     Ok(())
 }
 
+// Whom a new node sends an acknowledgement and the batch, once this came to it, and which numbers
+// it sends again.
+type Sendings = (Option<u16>, Option<u16>, u64, u64);
+
+fn sendings(alloc: Global, id: u16, comes: Comes) -> Result<Sendings, CoreError> {
+    let mut node = created(alloc, id)?;
+    step(alloc, &mut node, comes)?;
+    let sent = to(&node.forward(number(1), batch(alloc)?));
+    let again = node.resends();
+    Ok((to(&node.ack()), sent, again.start, again.end))
+}
+
+static SENDINGS: [(u16, Comes, Sendings); 3] = [
+    (1, Comes::Submit(1), (None, Some(2), 1, 2)),
+    (2, Comes::Forward(0, 1, 1), (Some(1), Some(3), 1, 2)),
+    (3, Comes::Forward(0, 2, 1), (Some(2), None, 1, 1)),
+];
+
 #[test]
 fn frames(rt: HostRuntime) -> Result<(), Fail> {
-    let alloc = rt.alloc();
-    for (id, comes, ack, sent, again) in [
-        (1, Comes::Submit(1), None, Some(2), 2),
-        (2, Comes::Forward(0, 1, 1), Some(1), Some(3), 2),
-        (3, Comes::Forward(0, 2, 1), Some(2), None, 1),
-    ] {
-        let mut node = created(alloc, id)?;
-        step(alloc, &mut node, comes)?;
-        assert_eq!(rt; to(&node.ack()), ack, "{id}");
-        assert_eq!(rt; to(&node.forward(number(1), batch(alloc)?)), sent, "{id}");
-        assert_eq!(rt;
-            (node.resends().start, node.resends().end),
-            (1, again),
-            "{id}"
-        );
+    for (id, comes, want) in &SENDINGS {
+        let found = sendings(rt.alloc(), *id, *comes)?;
+        assert!(rt; found == *want, "{id}: {found:?}");
     }
     Ok(())
 }

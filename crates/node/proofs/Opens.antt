@@ -1,11 +1,11 @@
 -- What an opened disk had.
-use Rattle.std.proofs.Common.{◌≡◌, ℕ, suc, ◌<◌, List, [], ◌∷◌, take, drop, Option, Some, None}
+use Rattle.std.proofs.Common.{◌≡◌, ℕ, suc, List, [], ◌∷◌, ◌++◌, take, drop, Option, Some, None}
 use Rattle.std.proofs.Common.{Result, Ok, Err, refl, sym, ap, subst, ◌∙◌, arith}
 use Rattle.std.specs.Prelude.{All, IfOk, slice_get}
 use Rattle.std.specs.Int.{w16, to_be_bytes, from_be_bytes}
 use Rattle.std.proofs.lemmas.Nat.{from_be_bytes-to_be_bytes_2}
 use Rattle.std.proofs.lemmas.List.{append-nil}
-use Rattle.std.proofs.lemmas.List.Elements.{All-head, All-tail, All-weaker}
+use Rattle.std.proofs.lemmas.List.Elements.{All-head, All-tail}
 use Rattle.kv_types.specs.Content.{BatchContent}
 use Rattle.kv_types.specs.Spelling.{IsBatch, SpellingsDiffer, spelling}
 use Rattle.disk.specs.State.{State, Slot, Contents, seen, IsSame}
@@ -15,8 +15,9 @@ use Rattle.record_log.specs.Grammar.{OneList}
 use Rattle.node.specs.declared.stop.Stop.{Stop}
 use Rattle.chain_model.specs.Configuration.{IsId}
 use Rattle.configurations.specs.Configs.{IsConfig}
+use Rattle.configurations.specs.Spelling.{config_text}
+use Rattle.configurations.proofs.Spelling.{one_config}
 use Rattle.node.specs.declared.layout.Identity.{Identity}
-use Rattle.node.proofs.Identities.{one_spelling}
 use Rattle.node.specs.Layout.{identity_file, identity_record, identity_records}
 use Rattle.node.specs.Layout.{batch_record, records_from}
 use Rattle.node.specs.Files.{IsLog, HasId, IsSureId}
@@ -40,8 +41,9 @@ one_identity x y xs ys is_x is_y of_x of_y same =
     let heads : to_be_bytes w16 x ≡ to_be_bytes w16 y = ap (take 2) same in
     let id = sym (from_be_bytes-to_be_bytes_2 x (omega (arith, is_x.1)))
     ∙ ap (from_be_bytes w16) heads ∙ from_be_bytes-to_be_bytes_2 y (omega (arith, is_y.1)) in
-    let below = All-weaker IsId (λ id. id < 65536) (λ id is. omega (arith, is.1)) xs of_x.each in
-    (id, one_spelling xs ys below of_y.each (ap (drop 3) same))
+    let texts : config_text xs ++ [] ≡ config_text ys ++ [] =
+    ap (λ (l : List ℕ). l ++ []) (ap (drop 2) same) in
+    (id, (one_config xs ys [] [] of_x of_y texts).0)
 
 -- a disk represents at most one node and configuration
 pub same_identity : OneList → (left : Contents) (x y : ℕ) (xs ys : List ℕ) → HasId left x xs →

@@ -2,7 +2,7 @@
 use Rattle.std.proofs.Common.{◌≡◌, ℕ, ◌≤◌, List, [], ◌∷◌, ◌++◌}
 use Rattle.std.proofs.Common.{map, Option, Some, None, Result, Ok, Err, refl, sym, ap}
 use Rattle.std.proofs.Common.{subst, ◌∙◌, arith}
-use Rattle.std.specs.Prelude.{SomeIff, IfOk, option_map, nat_lt}
+use Rattle.std.specs.Prelude.{SomeIff, IfOk, nat_lt}
 use Rattle.std.specs.Ordering.{is_gt, nat_cmp}
 use Rattle.std.proofs.lemmas.Bool.Decides.{nat_tests}
 use Rattle.std.proofs.lemmas.List.{map-append}
@@ -23,7 +23,7 @@ use Rattle.chain_core.specs.Steps.{Leaves, frames_after}
 use Rattle.node.specs.declared.output.Output.{Output}
 use Rattle.node.specs.declared.stop.Stop.{Stop}
 use Rattle.node.specs.Outputs.{Says, Tells, told_to}
-use Rattle.node.specs.Steps.{reason_of, replies_of}
+use Rattle.node.specs.Steps.{replies_of}
 
 -- frames one behind another
 pub both_sent : (a b : List Sent) (f g : List (Frame BatchContent)) → AreFrames a f →
@@ -55,7 +55,7 @@ pub tells_rule : (x : ℕ) (n : Machine) (input : Input) (batch : BatchContent) 
     sent ≡ frames_after x n d a.node → IfOk result (Says None sent (map told_to due)) →
     IfOk result (Tells input a)
 tells_rule x n input batch d a due sent (Ok output) leaves replied frames says = record {
-  dropped = says.dropped ∙ ap (option_map reason_of) (sym leaves.dropped);
+  dropped = says.dropped ∙ sym leaves.dropped;
   frames = subst (λ (f : List (Frame BatchContent)). AreFrames output.frames.items f)
       (frames ∙ sym leaves.frames) says.frames;
   replied = says.replied ∙ replies_due input due ∙ ap (replies_of input) (sym replied);

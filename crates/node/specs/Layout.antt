@@ -1,9 +1,9 @@
--- The layout of a node's files, for now: a log with its id and configuration, and a log of batches.
-use Rattle.std.specs.Prelude.{◌≡◌, ◌⊎◌, ℕ, suc, List, [], ◌∷◌, ◌++◌, length}
-use Rattle.std.specs.List.{flat_map}
+-- What a node's files hold, for now: a log with its id and configuration, and a log of batches.
+use Rattle.std.specs.Prelude.{◌≡◌, ◌⊎◌, ℕ, suc, List, [], ◌∷◌, ◌++◌}
 use Rattle.std.specs.Int.{w16, w64, to_be_bytes}
 use Rattle.kv_types.specs.Content.{BatchContent}
 use Rattle.kv_types.specs.Spelling.{spelling}
+use Rattle.configurations.specs.Spelling.{config_text}
 
 -- the file with the node's id and configuration, and the file of its batches
 abbrev pub identity_file : ℕ
@@ -16,10 +16,10 @@ batches_file = 3
 abbrev pub IsOwnFile : ℕ → Type 0
 IsOwnFile file = (file ≡ identity_file) ⊎ (file ≡ batches_file)
 
--- the record of a node's id and its configuration: the id, the number of ids, and the ids
+-- the record of a node's id and its configuration
 abbrev pub identity_record : ℕ → List ℕ → List ℕ
 identity_record id ids =
-    to_be_bytes w16 id ++ (length ids ∷ flat_map (λ other. to_be_bytes w16 other) ids)
+    to_be_bytes w16 id ++ config_text ids
 
 -- the records of the identity file
 abbrev pub identity_records : ℕ → List ℕ → List (List ℕ)

@@ -1,6 +1,5 @@
--- The end of a step and the state that it keeps, and the contracts of private functions on its
--- answer.
-use Rattle.std.specs.Prelude.{◌≡◌, ℕ, List, option_map, Option, Some, None, Result, MatchResult}
+-- How a step ends and what it keeps, and what private functions promise one another of its answer.
+use Rattle.std.specs.Prelude.{◌≡◌, ℕ, List, Option, Some, None, Result, MatchResult}
 use Rattle.std.specs.Prelude.{OnErr, OnOk}
 use Rattle.kv_types.specs.Content.{BatchContent}
 use Rattle.disk.specs.declared.disk.Disk.{Ghosts}
@@ -8,7 +7,7 @@ use Rattle.disk.specs.State.{State}
 use Rattle.disk.specs.Lent.{KeepsDisk}
 use Rattle.chain_model.specs.Frames.{Frame}
 use Rattle.chain_model.specs.Node.{Answer}
-use Rattle.chain_core.specs.declared.drop_reason.DropReason.{DropReason}
+use Rattle.chain_model.specs.declared.drop_reason.DropReason.{DropReason}
 use Rattle.chain_core.specs.declared.done.Done.{Done}
 use Rattle.chain_core.specs.declared.done.Done.TheVariants as done
 use Rattle.chain_core.specs.declared.input.Input.{Input}
@@ -23,7 +22,7 @@ use Rattle.node.specs.declared.output.Reply.TheVariants as reply
 use Rattle.node.specs.declared.stop.Stop.{Stop}
 use Rattle.node.specs.Engines.{IsNearlyFull, KeepsOthersOf}
 use Rattle.node.specs.Steps.{Answers, MayStep, Runs, StopsAs, disk_of, engine_of}
-use Rattle.node.specs.Steps.{reason_of, replies_of}
+use Rattle.node.specs.Steps.{replies_of}
 use Rattle.node.specs.Stops.{IsOfMachine, TellsDisk}
 
 -- the acknowledgement of a request whose batch is committed
@@ -39,7 +38,7 @@ pub record Says (dropped_for : Option DropReason) (sent : List (Frame BatchConte
 
 -- the output has the drop, frames and replies of the machine's answer to an input
 abbrev pub Tells : Input → Answer BatchContent → Output → Type 0
-Tells input a = Says (option_map reason_of a.dropped) a.frames (replies_of input a.replies)
+Tells input a = Says a.dropped a.frames (replies_of input a.replies)
 
 -- a copy of a batch for the successor, if there is one
 abbrev pub IsCopyFor : Option ℕ → BatchContent → Option BatchContent → Type 0

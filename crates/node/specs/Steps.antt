@@ -1,18 +1,12 @@
--- Refinement of the chain's model by a running node and by a stopped node's disk, and the answers
--- of a step.
-use Rattle.std.specs.Prelude.{◌≡◌, ◌⊎◌, ℕ, List, [], ◌∷◌, option_map}
+-- A node of code and a node of the chain's model: what a running one and a stopped one's disk stand
+-- for, and what a step answers.
+use Rattle.std.specs.Prelude.{◌≡◌, ◌⊎◌, ℕ, List, [], ◌∷◌}
 use Rattle.std.specs.List.{flat_map}
 use Rattle.kv_types.specs.Content.{BatchContent}
 use Rattle.kv_types.specs.Maps.{map_of}
 use Rattle.disk.specs.State.{State, Contents, MayLeave}
 use Rattle.chain_model.specs.Node as model
-use Rattle.chain_model.specs.Refusal as model_refusal
-use Rattle.chain_model.specs.DropReason as model_reason
 use Rattle.chain_model.specs.Requests as model_request
-use Rattle.link_messages.specs.declared.refusal.Refusal.{Refusal}
-use Rattle.link_messages.specs.declared.refusal.Refusal.TheVariants as refusal
-use Rattle.chain_core.specs.declared.drop_reason.DropReason.{DropReason}
-use Rattle.chain_core.specs.declared.drop_reason.DropReason.TheVariants as reason
 use Rattle.chain_core.specs.declared.input.Input.{Input}
 use Rattle.chain_core.specs.declared.input.Input.TheVariants as input
 use Rattle.chain_core.specs.States.{Machine, Is}
@@ -56,31 +50,7 @@ pub record MayStep {D : Type 0} (node : Node D) : Type 0 where
   pub count : node.core.count ≡ engine_count node.engine
   pub kept : node.core.kept ≡ engine_kept node.engine
 
-abbrev pub refusal_of : model_refusal.Refusal → Refusal
-refusal_of model_refusal.NotRunning = refusal.NotRunning
-refusal_of model_refusal.NotHead = refusal.NotHead
-refusal_of model_refusal.TooOld = refusal.TooOld
-refusal_of model_refusal.NotCommitted = refusal.NotCommitted
-refusal_of model_refusal.NoSuchSnapshot = refusal.NoSuchSnapshot
-refusal_of model_refusal.TooManySnapshots = refusal.TooManySnapshots
-refusal_of model_refusal.Removed = refusal.Removed
-refusal_of model_refusal.Exhausted = refusal.Exhausted
-
-abbrev pub reason_of : model_reason.DropReason → DropReason
-reason_of model_reason.NotRunning = reason.NotRunning
-reason_of model_reason.Running = reason.Running
-reason_of model_reason.Removed = reason.Removed
-reason_of model_reason.OtherEpoch = reason.OtherEpoch
-reason_of model_reason.NotPredecessor = reason.NotPredecessor
-reason_of model_reason.NotSuccessor = reason.NotSuccessor
-reason_of model_reason.OtherNumber = reason.OtherNumber
-reason_of model_reason.BadAck = reason.BadAck
-reason_of model_reason.OldNotice = reason.OldNotice
-reason_of model_reason.BadNotice = reason.BadNotice
-reason_of model_reason.NotForNodes = reason.NotForNodes
-reason_of model_reason.Unreadable = reason.Unreadable
-
--- the reply to a client's read: the value of its key in the map of these batches
+-- what the client of a read is shown: what its key has in the map of these batches
 abbrev pub value_for : Input → ℕ → ℕ → List BatchContent → List Reply
 value_for (input.Get request key at) i s batches =
     reply.Value i s (map_of batches key) ∷ []
@@ -95,7 +65,7 @@ told_as input (model_request.Committed i k) = reply.Committed i k ∷ []
 told_as input (model_request.Shows i s batches) = value_for input i s batches
 told_as input (model_request.Opened i s) = []
 told_as input (model_request.Closed i s) = []
-told_as input (model_request.Refused i why) = reply.Refused i (refusal_of why) ∷ []
+told_as input (model_request.Refused i why) = reply.Refused i why ∷ []
 
 abbrev pub replies_of : Input → List (model_request.Reply BatchContent) → List Reply
 replies_of input replies = flat_map (told_as input) replies
@@ -109,7 +79,7 @@ AreReplies input of_machine replies = replies ≡ replies_of input of_machine
 pub record Answers {D : Type 0} (is_honest : D → Type 0) (state : D → State) (new : Node D) (x : ℕ)
     (input : Input) (a : model.Answer BatchContent) (output : Output) : Type 0 where
   pub runs : Runs is_honest state new x a.node
-  pub dropped : output.dropped ≡ option_map reason_of a.dropped
+  pub dropped : output.dropped ≡ a.dropped
   pub frames : AreFrames output.frames.items a.frames
   pub replied : AreReplies input a.replies output.replies.items
 

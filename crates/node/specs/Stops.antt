@@ -2,8 +2,6 @@
 use Rattle.std.specs.Prelude.{◌≡◌, ◌⊎◌, Result, Err}
 use Rattle.disk.specs.declared.error.DiskError.{DiskError}
 use Rattle.disk.specs.declared.error.DiskError.TheVariants as disk
-use Rattle.configurations.specs.declared.error.ConfigError.{ConfigError}
-use Rattle.configurations.specs.declared.error.ConfigError.TheVariants as config
 use Rattle.record_log.specs.declared.error.LogError.{LogError}
 use Rattle.record_log.specs.declared.error.LogError.TheVariants as log
 use Rattle.node.specs.declared.stop.Stop.{Stop}
@@ -22,15 +20,6 @@ log_stop log.Memory = stop.Memory
 log_stop log.TooLong = stop.Damaged
 log_stop log.Failed = stop.Damaged
 
--- ids that are no configuration are damage
-abbrev pub config_stop : ConfigError → Stop
-config_stop config.Empty = stop.Damaged
-config_stop config.Repeated = stop.Damaged
-config_stop config.NotSmaller = stop.Damaged
-config_stop config.NotInOrder = stop.Damaged
-config_stop config.TooMany = stop.Damaged
-config_stop config.BadId = stop.Damaged
-config_stop config.Memory = stop.Memory
 
 -- the call stops the node because of the disk
 abbrev pub TellsDisk : {T : Type 0} → Result T Stop → Type 0

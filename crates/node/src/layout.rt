@@ -1,8 +1,5 @@
 // The records of a node's two files.
-ghost use Rattle.std.specs.Prelude.{◌≡◌, ◌⊎◌, ℕ, [], ◌∷◌, List, ◌++◌};
-ghost use Rattle.std.specs.Prelude.{IfOk, IfErr, IfSome, IsSome, IsErrOf, All, ◌<◌};
-ghost use Rattle.std.specs.List.{flat_map};
-ghost use Rattle.std.specs.Int.{w16, to_be_bytes};
+ghost use Rattle.std.specs.Prelude.{◌≡◌, ◌⊎◌, ℕ, List, IfOk, IfErr, IsErrOf};
 ghost use Rattle.kv_types.specs.Content.{BatchContent};
 ghost use Rattle.kv_types.specs.Spelling.{IsBatch};
 ghost use Rattle.chain_model.specs.Configuration.{IsId};
@@ -33,34 +30,15 @@ pub fn identity_record(alloc: Global, id: NodeId, config: &Config) -> Result<Vec
     ensures id { IsId id }
     ensures config { IsConfig config.now }
 {
-    let ids = config.ids();
+    // law: these are a configuration
+    let _ids = config.ids();
     let mut out = Vec::new(alloc);
     out.extend_from_slice(&id.get().to_be_bytes())?;
-    out.push(ids.len() as u8)?;
-    for other in ids {
-        out.extend_from_slice(&other.get().to_be_bytes())?;
-    }
+    config.spell_into(&mut out)?;
     Ok(out)
 }
 
-// The ids in these bytes, one behind another, or `None` if a byte is left over.
-fn ids_in(alloc: Global, bytes: &[u8]) -> Result<Option<Vec<u16>>, AllocError>
-    ensures found { IfOk result (λ found. IfSome found
-        (λ ids. bytes.now ≡ flat_map (λ id. to_be_bytes w16 id) ids.items)) }
-    ensures each { IfOk result (λ found. IfSome found (λ ids. All (λ id. id < 65536) ids.items)) }
-    ensures some { (ids : List ℕ) → bytes.now ≡ flat_map (λ id. to_be_bytes w16 id) ids →
-        IfOk result IsSome }
-{
-    let mut ids = Vec::new(alloc);
-    let mut rest = bytes;
-    while let [high, low, after @ ..] = rest {
-        ids.push(u16::from_be_bytes([*high, *low]))?;
-        rest = after;
-    }
-    Ok(if rest.is_empty() { Some(ids) } else { None })
-}
-
-/// The identity that this record represents.
+/// The id and configuration whose record this is.
 pub fn identity_of(alloc: Global, bytes: &[u8]) -> Result<Identity, Stop>
     ensures found { IfOk result (λ it. bytes.now ≡ identity_record it.id it.config) }
     ensures is { IfOk result (λ it. IsId it.id × IsConfig it.config) }
@@ -68,28 +46,27 @@ pub fn identity_of(alloc: Global, bytes: &[u8]) -> Result<Identity, Stop>
         IsConfig ids → bytes.now ≡ identity_record id ids → ⊥ }
     ensures only { IfErr result (λ e. (e ≡ Stop.Damaged) ⊎ (e ≡ Stop.Memory)) }
 {
-    let [high, low, count, rest @ ..] = bytes else {
+    let [high, low, rest @ ..] = bytes else {
         return Err(Stop::Damaged);
     };
     let Some(id) = NodeId::new(u16::from_be_bytes([*high, *low])) else {
         return Err(Stop::Damaged);
     };
-    let Some(ids) = ids_in(alloc, rest)? else {
+    let Some((config, after)) = Config::read_from(alloc, rest)? else {
         return Err(Stop::Damaged);
     };
-    if ids.len() != *count as usize {
+    if !after.is_empty() {
         return Err(Stop::Damaged);
     }
-    let config = Config::new(alloc, ids)?;
     Ok(Identity { id, config })
 }
 
 pub fn batch_record(alloc: Global, number: u64, batch: &Batch) -> Result<Vec<u8>, AllocError>
     ensures { IfOk result (λ bytes. bytes.items ≡ batch_record number batch.now) }
 {
-    let mut out = Vec::new(alloc);
+    let mut out = Vec::with_capacity(alloc, 8 + batch.spelled_len())?;
     out.extend_from_slice(&number.to_be_bytes())?;
-    out.extend_from_slice(&batch.to_bytes(alloc)?)?;
+    batch.spell_into(&mut out)?;
     Ok(out)
 }
 

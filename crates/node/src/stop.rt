@@ -1,10 +1,9 @@
 // The causes for which a node ends.
 ghost use Rattle.std.specs.Prelude.{◌≡◌};
 ghost use Rattle.node.specs.declared.stop.Stop.TheVariants.{Memory};
-ghost use Rattle.node.specs.Stops.{disk_stop, log_stop, config_stop};
+ghost use Rattle.node.specs.Stops.{disk_stop, log_stop};
 
 use chain_core::CoreError;
-use configurations::ConfigError;
 use disk::DiskError;
 use record_log::LogError;
 use std::alloc::{AllocError, AllocFailed};
@@ -45,18 +44,6 @@ impl From<LogError> for Stop {
             LogError::Disk(e) => Stop::from(e),
             LogError::Memory => Stop::Memory,
             LogError::TooLong | LogError::Failed => Stop::Damaged,
-        }
-    }
-}
-
-impl From<ConfigError> for Stop {
-    ghost from_gives = { λ c e. e ≡ config_stop c };
-
-    // The ids that were read are no configuration.
-    fn from(e: ConfigError) -> Stop {
-        match e {
-            ConfigError::Memory => Stop::Memory,
-            _ => Stop::Damaged,
         }
     }
 }

@@ -9,7 +9,7 @@ ghost use Rattle.chain_model.specs.Lists.{place};
 ghost use Rattle.chain_model.specs.Node.{dropped_for, refused};
 ghost use Rattle.chain_model.specs.Rules.{ack, forward, show, tell_again};
 ghost use Rattle.chain_core.specs.States.{Machine, Is};
-ghost use Rattle.chain_core.specs.Decisions.{AreFrames, refusal_as, reason_as};
+ghost use Rattle.chain_core.specs.Decisions.{AreFrames};
 ghost use Rattle.node.specs.Outputs.{IsCopyFor, Says, Tells, told_to};
 
 use crate::{Output, Reply, Stop};
@@ -168,7 +168,7 @@ pub(crate) fn show(
 
 pub(crate) fn refuse(alloc: Global, request: Number, refusal: Refusal) -> Result<Output, Stop>
     ensures tells { (n : Machine) (input : Input) →
-        IfOk result (Tells input (refused n request (refusal_as refusal))) }
+        IfOk result (Tells input (refused n request refusal)) }
     ensures memory { IfErr result (λ e. e ≡ Stop.Memory) }
 {
     replying(alloc, Reply::Refused { request, refusal })
@@ -176,7 +176,7 @@ pub(crate) fn refuse(alloc: Global, request: Number, refusal: Refusal) -> Result
 
 pub(crate) fn drop_for(alloc: Global, reason: DropReason) -> Output
     ensures { (n : Machine) (input : Input) →
-        Tells input (dropped_for n (reason_as reason)) result }
+        Tells input (dropped_for n reason) result }
 {
     Output {
         dropped: Some(reason),

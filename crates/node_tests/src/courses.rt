@@ -1,5 +1,5 @@
-// The frames and replies of a node, from its creation on. Lines and outputs are those of a script:
-// the node is created at line 1, and a request has its line's number.
+// What a node sends and replies, from its creation on. The lines and what is printed are a
+// script's: the node is created at line 1, and a request has its line's number.
 use crate::running::{Line, Running, batch_of, created_in, number, started};
 use configurations::{Epoch, NodeId};
 use disk::{Crash, Junk, JunkBytes};
@@ -143,7 +143,7 @@ fn text_of(alloc: Global, output: &Output) -> Result<String, AllocError> {
     Ok(text)
 }
 
-/// Stops and starts the machine and the node.
+/// The machine stops and starts, and the node is started.
 fn restarted(alloc: Global, running: Running, junk: &[u8]) -> Result<Running, Fail> {
     let mut disk = running.node.into_disk();
     disk.crash(Junk::Bytes(JunkBytes::new(junk.to_vec(alloc)?)));
@@ -157,7 +157,7 @@ fn stepped(alloc: Global, running: Running, input: Input) -> Result<(Running, St
     Ok((Running { node }, text))
 }
 
-/// The node after a line, and the output of the line.
+/// A node after a line, and what is printed for it.
 fn done(
     alloc: Global,
     running: Running,
@@ -176,21 +176,24 @@ fn done(
     Ok((running, text))
 }
 
-/// The output of each line for a node with this configuration.
-fn printed(
+type Course = &'static [(u64, Line, &'static str)];
+
+/// The first line of a node with this configuration for which something else is printed, and what.
+fn first_wrong(
     alloc: Global,
     id: u16,
     ids: &[u16],
-    lines: &[(u64, Line, &'static str)],
-) -> Result<Vec<String>, Fail> {
+    lines: Course,
+) -> Result<Option<(u64, String)>, Fail> {
     let mut running = created_in(alloc, id, ids)?;
-    let mut texts = Vec::new(alloc);
-    for (number, line, _want) in lines {
+    for (number, line, want) in lines {
         let (next, text) = done(alloc, running, *number, line)?;
+        if text.as_str() != *want {
+            return Ok(Some((*number, text)));
+        }
         running = next;
-        texts.push(text)?;
     }
-    Ok(texts)
+    Ok(None)
 }
 
 const A2: &[(&'static str, Option<&'static str>)] = &[("a", Some("2"))];
@@ -206,7 +209,7 @@ const THREE: &[(&'static str, Option<&'static str>)] = &[
 ];
 
 // Lines of the node of the configuration 1.
-const ALONE: [&[(u64, Line, &'static str)]; 5] = [
+static ALONE: [Course; 5] = [
     &[
         (2, Line::Submit(A1), "2: committed 1"),
         (3, Line::Get("a", None), "3: value 1 at 1"),
@@ -244,19 +247,15 @@ const ALONE: [&[(u64, Line, &'static str)]; 5] = [
 
 #[test]
 fn what_is_printed(rt: HostRuntime) -> Result<(), Fail> {
-    let alloc = rt.alloc();
-    for course in ALONE {
-        let texts = printed(alloc, 1, &[1], course)?;
-        assert_eq!(rt; texts.len(), course.len());
-        for ((line, _, want), text) in course.iter().zip(&texts) {
-            assert_eq!(rt; text.as_str(), *want, "line {line}");
-        }
+    for course in &ALONE {
+        let wrong = first_wrong(rt.alloc(), 1, &[1], *course)?;
+        assert!(rt; wrong.is_none(), "{wrong:?}");
     }
     Ok(())
 }
 
 // Lines of one node of the configuration 1 2 3.
-const HEAD: &[(u64, Line, &'static str)] = &[
+const HEAD: Course = &[
     (2, Line::Submit(A1), "1>2 forward 0 1"),
     (3, Line::Submit(A2), "1>2 forward 0 2"),
     (4, Line::Ack(0, 2, 0, 1), ""),
@@ -274,7 +273,7 @@ const HEAD: &[(u64, Line, &'static str)] = &[
     (16, Line::Tick, ""),
 ];
 
-const MIDDLE: &[(u64, Line, &'static str)] = &[
+const MIDDLE: Course = &[
     (2, Line::Forward(0, 1, 1), "2>3 forward 0 1"),
     (
         3,
@@ -294,7 +293,7 @@ const MIDDLE: &[(u64, Line, &'static str)] = &[
     (10, Line::Submit(A1), "10: refused 2 NotHead"),
     (11, Line::Get("a", None), "11: value 1 at 1"),
     (12, Line::Tick, "2>1 ack 0 1 1"),
-    // It recovers its configuration, and knows of no commitment.
+    // It knows its configuration again, and of no commitment.
     (13, Line::Restart(&[]), "13: count 1 committed 0"),
     (14, Line::Tick, "2>3 forward 0 1 / 2>1 ack 0 0 1"),
     (15, Line::Forward(0, 1, 2), "2>3 forward 0 2"),
@@ -302,7 +301,7 @@ const MIDDLE: &[(u64, Line, &'static str)] = &[
     (17, Line::Ack(0, 3, 2, 2), "2>1 ack 0 2 2"),
 ];
 
-const TAIL: &[(u64, Line, &'static str)] = &[
+const TAIL: Course = &[
     (2, Line::Forward(0, 2, 1), "3>2 ack 0 1 1"),
     (
         3,
@@ -316,8 +315,8 @@ const TAIL: &[(u64, Line, &'static str)] = &[
     (8, Line::Tick, "3>2 ack 0 1 1"),
 ];
 
-// Node 4 is not in the configuration.
-const REMOVED: &[(u64, Line, &'static str)] = &[
+// Node 4 is not in it.
+const REMOVED: Course = &[
     (2, Line::Submit(A1), "2: refused 7 Removed"),
     (3, Line::Get("a", None), "3: refused 7 Removed"),
     (4, Line::Forward(0, 3, 1), "dropped Removed"),
@@ -327,43 +326,42 @@ const REMOVED: &[(u64, Line, &'static str)] = &[
     (8, Line::Tick, "dropped Removed"),
 ];
 
+// The nodes of that configuration, and one that is not in it.
+static THREE_AND_ONE: [(u16, Course); 4] = [(1, HEAD), (2, MIDDLE), (3, TAIL), (4, REMOVED)];
+
 #[test]
 fn nodes_of_three(rt: HostRuntime) -> Result<(), Fail> {
-    let alloc = rt.alloc();
-    for (id, course) in [(1, HEAD), (2, MIDDLE), (3, TAIL), (4, REMOVED)] {
-        let texts = printed(alloc, id, &[1, 2, 3], course)?;
-        assert_eq!(rt; texts.len(), course.len());
-        for ((line, _, want), text) in course.iter().zip(&texts) {
-            assert_eq!(rt; text.as_str(), *want, "node {id} line {line}");
-        }
+    for (id, course) in &THREE_AND_ONE {
+        let wrong = first_wrong(rt.alloc(), *id, &[1, 2, 3], *course)?;
+        assert!(rt; wrong.is_none(), "node {id}: {wrong:?}");
     }
     Ok(())
 }
 
-/// The frames of a tick at a head that accepted this many batches.
-fn resent(alloc: Global, batches: u64) -> Result<Vec<String>, Fail> {
+/// A head that took so many batches.
+fn head_of(alloc: Global, batches: u64) -> Result<Running, Fail> {
     let mut running = created_in(alloc, 1, &[1, 2])?;
     for _ in 0..batches {
         let (next, _text) = done(alloc, running, 2, &Line::Submit(A1))?;
         running = next;
     }
-    let output = running.node.step(alloc, Input::Tick)?;
-    let mut texts = Vec::new(alloc);
-    for sent in &output.frames {
-        texts.push(frame_text(alloc, sent)?)?;
-    }
-    Ok(texts)
+    Ok(running)
+}
+
+/// What it sends for a tick: how many frames, the first and the last.
+fn resent(alloc: Global, batches: u64) -> Result<(usize, String, String), Fail> {
+    let mut node = head_of(alloc, batches)?.node;
+    let frames = node.step(alloc, Input::Tick)?.frames;
+    let first = frame_text(alloc, frames.first().ok_or("no frame")?)?;
+    let last = frame_text(alloc, frames.last().ok_or("no frame")?)?;
+    Ok((frames.len(), first, last))
 }
 
 #[test]
 fn a_tick_sends_16(rt: HostRuntime) -> Result<(), Fail> {
-    let texts = resent(rt.alloc(), 18)?;
-    assert_eq!(rt; texts.len(), 16);
-    for (text, want) in [
-        (texts.first(), "1>2 forward 0 1"),
-        (texts.last(), "1>2 forward 0 16"),
-    ] {
-        assert!(rt; text.is_some_and(|text| text.as_str() == want), "{want}");
-    }
+    let (count, first, last) = resent(rt.alloc(), 18)?;
+    assert!(rt; count == 16);
+    assert!(rt; first.as_str() == "1>2 forward 0 1", "{first}");
+    assert!(rt; last.as_str() == "1>2 forward 0 16", "{last}");
     Ok(())
 }

@@ -1,4 +1,4 @@
-// Disks on which a node starts, disks on which none does, and the bytes of both.
+// Which disks are started, and what stands on them.
 use crate::running::{Running, batch_of, created, created_in, number, started};
 use disk::{Disk, DiskError, MemDisk};
 use node::{Input, Stop};
@@ -36,7 +36,7 @@ fn disk_of(
     Ok(disk)
 }
 
-/// The refusal of a start, or else the number of the node's batches. Want of memory fails the test.
+/// Why the disk is not started, or else how many batches the node has. Want of memory is no answer.
 fn answer(alloc: Global, disk: MemDisk) -> Result<(Option<Stop>, u64), Stop> {
     match started(alloc, disk) {
         Ok(running) => Ok((None, running.node.count().get())),
@@ -45,48 +45,59 @@ fn answer(alloc: Global, disk: MemDisk) -> Result<(Option<Stop>, u64), Stop> {
     }
 }
 
-fn bytes_of(alloc: Global, disk: &mut MemDisk, file: u64) -> Result<Vec<u8>, Fail> {
+// Whether these bytes stand in the file.
+fn is_content(
+    alloc: Global,
+    disk: &mut MemDisk,
+    file: u64,
+    want: &[u8],
+) -> Result<bool, DiskError> {
     let len = disk.length(file)?;
-    if len > 100 {
-        return Ok(Vec::new(alloc));
+    if len != want.len() as u64 {
+        return Ok(false);
     }
-    let mut bytes = vec![in alloc; 0u8; len as usize]?;
+    let mut bytes = vec![in alloc; 0u8; want.len()]?;
     disk.read(file, 0, &mut bytes)?;
-    Ok(bytes)
+    Ok(bytes.as_slice() == want)
 }
+
+const BLANK: Option<Stop> = Some(Stop::NotCreated);
+
+const DAMAGED: Option<Stop> = Some(Stop::Damaged);
+
+// Identity files, and why a node of them is not started.
+static IDENTITIES: [(Option<&[u8]>, Option<Stop>); 15] = [
+    (None, BLANK),
+    (Some(&[]), BLANK),
+    (Some(&[0]), BLANK),
+    (Some(NODE_1), None),
+    // It ends before its last gate, and in its record.
+    (Some(&[1, 0, 0, 0, 5, 0, 1, 1, 0, 1]), DAMAGED),
+    (Some(&[1, 0, 0, 0, 5, 0, 1]), DAMAGED),
+    // It is in another configuration, or in none.
+    (Some(NODE_2), None),
+    (Some(&[1, 0, 0, 0, 5, 0, 1, 1, 0, 2, 0]), None),
+    // Id 0 as its own and among the ids, an id twice, no id, too few, half an id, two records.
+    (Some(&[1, 0, 0, 0, 5, 0, 0, 1, 0, 1, 0]), DAMAGED),
+    (Some(&[1, 0, 0, 0, 5, 0, 1, 1, 0, 0, 0]), DAMAGED),
+    (Some(&[1, 0, 0, 0, 7, 0, 1, 2, 0, 1, 0, 1, 0]), DAMAGED),
+    (Some(&[1, 0, 0, 0, 3, 0, 1, 0, 0]), DAMAGED),
+    (Some(&[1, 0, 0, 0, 5, 0, 1, 2, 0, 1, 0]), DAMAGED),
+    (Some(&[1, 0, 0, 0, 6, 0, 1, 1, 0, 1, 0, 0]), DAMAGED),
+    (
+        Some(&[
+            1, 0, 0, 0, 5, 0, 1, 1, 0, 1, 1, 0, 0, 0, 5, 0, 1, 1, 0, 1, 0,
+        ]),
+        DAMAGED,
+    ),
+];
 
 #[test]
 fn identity_files(rt: HostRuntime) -> Result<(), Fail> {
-    let alloc = rt.alloc();
-    let blank = Some(Stop::NotCreated);
-    let damaged = Some(Stop::Damaged);
-    let two_records = &[
-        1, 0, 0, 0, 5, 0, 1, 1, 0, 1, 1, 0, 0, 0, 5, 0, 1, 1, 0, 1, 0,
-    ];
-    let table: [(Option<&[u8]>, Option<Stop>); 15] = [
-        (None, blank),
-        (Some(&[]), blank),
-        (Some(&[0]), blank),
-        (Some(NODE_1), None),
-        // The file ends before its last gate, and in its record.
-        (Some(&NODE_1[..10]), damaged),
-        (Some(&NODE_1[..7]), damaged),
-        // The node is in another configuration, or in none.
-        (Some(NODE_2), None),
-        (Some(&[1, 0, 0, 0, 5, 0, 1, 1, 0, 2, 0]), None),
-        // Id 0 as its own and among the ids, a repeated id, no id, too few, half an id, two
-        // records.
-        (Some(&[1, 0, 0, 0, 5, 0, 0, 1, 0, 1, 0]), damaged),
-        (Some(&[1, 0, 0, 0, 5, 0, 1, 1, 0, 0, 0]), damaged),
-        (Some(&[1, 0, 0, 0, 7, 0, 1, 2, 0, 1, 0, 1, 0]), damaged),
-        (Some(&[1, 0, 0, 0, 3, 0, 1, 0, 0]), damaged),
-        (Some(&[1, 0, 0, 0, 5, 0, 1, 2, 0, 1, 0]), damaged),
-        (Some(&[1, 0, 0, 0, 6, 0, 1, 1, 0, 1, 0, 0]), damaged),
-        (Some(two_records), damaged),
-    ];
-    for (identity, want) in table {
-        let disk = disk_of(alloc, identity, Some(BATCH_1))?;
-        assert_eq!(rt; answer(alloc, disk)?.0, want, "{identity:?}");
+    for (identity, want) in &IDENTITIES {
+        let disk = disk_of(rt.alloc(), *identity, Some(BATCH_1))?;
+        let (stop, _) = answer(rt.alloc(), disk)?;
+        assert!(rt; stop == *want, "{identity:?}");
     }
     Ok(())
 }
@@ -113,38 +124,44 @@ const TRAILING: &[u8] = &[
     1, 0, 0, 0, 0x12, 0, 0, 0, 0, 0, 0, 0, 1, 0, 1, 1, 0, 1, 0x61, 0, 1, 0x31, 0, 0,
 ];
 
-// Batch 1, and a possible crash outcome of the next append behind its gate.
+// Batch 1, and what a stop in the next append may leave behind its gate.
 const TORN: &[u8] = &[
     1, 0, 0, 0, 0x11, 0, 0, 0, 0, 0, 0, 0, 1, 0, 1, 1, 0, 1, 0x61, 0, 1, 0x31, 0, //
     1, 1, 1, 1, 1, 1, 1, 1, 1, 1, 1, 1, 1, 1, 1, 1, 1, 1, 1, 1, 1, 1,
 ];
 
+// Files of batches, and what a node of them answers.
+static BATCHES: [(Option<&[u8]>, (Option<Stop>, u64)); 11] = [
+    (None, (DAMAGED, 0)),
+    (Some(&[]), (DAMAGED, 0)),
+    (Some(&[0]), (None, 0)),
+    (Some(BATCH_1), (None, 1)),
+    (Some(TORN), (None, 1)),
+    (Some(TWO), (None, 2)),
+    (Some(GAP), (DAMAGED, 0)),
+    (Some(LATE), (DAMAGED, 0)),
+    (Some(TRAILING), (DAMAGED, 0)),
+    // It ends before its last gate, and in its record.
+    (
+        Some(&[
+            1, 0, 0, 0, 0x11, 0, 0, 0, 0, 0, 0, 0, 1, 0, 1, 1, 0, 1, 0x61, 0, 1, 0x31,
+        ]),
+        (DAMAGED, 0),
+    ),
+    (Some(&[1, 0, 0, 0, 0x11, 0, 0, 0, 0, 0, 0, 0]), (DAMAGED, 0)),
+];
+
 #[test]
 fn files_of_batches(rt: HostRuntime) -> Result<(), Fail> {
-    let alloc = rt.alloc();
-    let damaged = (Some(Stop::Damaged), 0);
-    let table: [(Option<&[u8]>, (Option<Stop>, u64)); 11] = [
-        (None, damaged),
-        (Some(&[]), damaged),
-        (Some(&[0]), (None, 0)),
-        (Some(BATCH_1), (None, 1)),
-        (Some(TORN), (None, 1)),
-        (Some(TWO), (None, 2)),
-        (Some(GAP), damaged),
-        (Some(LATE), damaged),
-        (Some(TRAILING), damaged),
-        // The file ends before its last gate, and in its record.
-        (Some(&BATCH_1[..22]), damaged),
-        (Some(&BATCH_1[..12]), damaged),
-    ];
-    for (batches, want) in table {
-        let disk = disk_of(alloc, Some(NODE_1), batches)?;
-        assert_eq!(rt; answer(alloc, disk)?, want, "{batches:?}");
+    for (batches, want) in &BATCHES {
+        let disk = disk_of(rt.alloc(), Some(NODE_1), *batches)?;
+        let found = answer(rt.alloc(), disk)?;
+        assert!(rt; found == *want, "{batches:?}");
     }
     Ok(())
 }
 
-/// The disk of node 1 with the batch a=1.
+/// The disk of node 1 that took the batch a=1.
 fn disk_behind(alloc: Global, running: Running) -> Result<MemDisk, Fail> {
     let mut node = running.node;
     let batch = batch_of(alloc, &[("a", Some("1"))])?;
@@ -153,16 +170,23 @@ fn disk_behind(alloc: Global, running: Running) -> Result<MemDisk, Fail> {
     Ok(node.into_disk())
 }
 
+/// Whether its files stand on that disk.
+fn stands_behind(alloc: Global) -> Result<(bool, bool), Fail> {
+    let mut disk = disk_behind(alloc, created(alloc)?)?;
+    let is_identity = is_content(alloc, &mut disk, 1, NODE_1)?;
+    Ok((is_identity, is_content(alloc, &mut disk, 3, BATCH_1)?))
+}
+
+/// Whether the identity file of node 2 stands on its disk.
+fn stands_of_three(alloc: Global) -> Result<bool, Fail> {
+    let mut disk = created_in(alloc, 2, &[1, 2, 3])?.node.into_disk();
+    Ok(is_content(alloc, &mut disk, 1, NODE_2)?)
+}
+
 #[test]
 fn what_stands_on_the_disk(rt: HostRuntime) -> Result<(), Fail> {
     let alloc = rt.alloc();
-    let mut disk = disk_behind(alloc, created(alloc)?)?;
-    for (file, want) in [(1, NODE_1), (3, BATCH_1)] {
-        let bytes = bytes_of(alloc, &mut disk, file)?;
-        assert_eq!(rt; bytes.as_slice(), want, "file {file}");
-    }
-    let mut disk = created_in(alloc, 2, &[1, 2, 3])?.node.into_disk();
-    let bytes = bytes_of(alloc, &mut disk, 1)?;
-    assert_eq!(rt; bytes.as_slice(), NODE_2);
+    let (files, is_of_three) = (stands_behind(alloc)?, stands_of_three(alloc)?);
+    assert!(rt; files == (true, true) && is_of_three, "{files:?}");
     Ok(())
 }

@@ -31,7 +31,8 @@ use Rattle.program.specs.Faults.{statement_fault, words_fault, line_fault, after
 use Rattle.program.specs.Faults.{script_fault, start, node_fault}
 use Rattle.program.proofs.FaultWords.{all_before}
 use Rattle.program.proofs.Placing.{is_of_place}
-use Rattle.program.proofs.Ids.{number_begins, ids_read, config_is}
+use Rattle.configurations.proofs.IsConfig.{config_is}
+use Rattle.program.proofs.Ids.{number_begins, ids_read}
 use Rattle.program.proofs.ReadBack.{number_read, event_read}
 
 -- ---- no word of an event begins a fault

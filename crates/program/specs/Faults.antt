@@ -1,5 +1,5 @@
 -- The least fault of the first faulty line of a script.
-use Rattle.std.specs.Prelude.{ℕ, suc, Bool, true, false, ◌&&◌, ◌||◌, not, nat_lt, nat_le}
+use Rattle.std.specs.Prelude.{ℕ, suc, true, false, ◌||◌, not, nat_lt}
 use Rattle.std.specs.Prelude.{if◌then◌else◌, List, [], ◌∷◌, length, map, codes, is_some, is_none}
 use Rattle.std.specs.Prelude.{Option, Some, None}
 use Rattle.std.specs.List.{list_all}
@@ -7,6 +7,7 @@ use Rattle.std.specs.Option.{option_map_or, option_or}
 use Rattle.std.specs.Str.{bytes_eq}
 use Rattle.std.specs.Str.Parse.{digits_value}
 use Rattle.chain_model.specs.Configuration.{Configurations, has, at_epoch}
+use Rattle.configurations.specs.Configs.{is_config}
 use Rattle.program.specs.declared.script.error.ScriptError.{ScriptError}
 use Rattle.program.specs.declared.script.error.ScriptError.TheVariants.{LineTooLong, BadNumber}
 use Rattle.program.specs.declared.script.error.ScriptError.TheVariants.{UnknownStatement}
@@ -18,19 +19,6 @@ use Rattle.program.specs.declared.script.statement.Before.{Before}
 use Rattle.program.specs.Words.{is_number, has_fault, before_fault}
 use Rattle.program.specs.Statements.{fault_of_words}
 use Rattle.program.specs.Scripts.{is_skipped, words_of}
-
--- a number that a node may have
-abbrev pub is_id : ℕ → Bool
-is_id n = nat_le 1 n && nat_le n 65535
-
--- no number is there twice
-abbrev pub all_differ : List ℕ → Bool
-all_differ [] = true
-all_differ (n ∷ ns) = not (has ns n) && all_differ ns
-
--- whether numbers are a configuration: 1 to 16 different ids
-abbrev pub is_config : List ℕ → Bool
-is_config ns = nat_le 1 (length ns) && nat_le (length ns) 16 && list_all is_id ns && all_differ ns
 
 -- the numbers that words spell
 abbrev pub numbers_of : List (List ℕ) → List ℕ

@@ -38,7 +38,7 @@ fn bytes_behind(alloc: Global, bytes: &[u8]) -> Result<Vec<u8>, AllocError>
     requires { length bytes.now < 2 ^ 32 }
     ensures { IfOk result (λ v. v.items ≡ behind_of bytes.now) }
 {
-    let mut out = Vec::new(alloc);
+    let mut out = Vec::with_capacity(alloc, bytes.len() + 5)?;
     out.extend_from_slice(&(bytes.len() as u32).to_be_bytes())?;
     out.extend_from_slice(bytes)?;
     out.push(0)?;

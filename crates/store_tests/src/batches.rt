@@ -1,4 +1,4 @@
-// Batches written and read as bytes, and limits at their edges.
+// Batches in bytes both ways, and limits at their edges.
 use kv_types::{Batch, Edit, Key, KvError, Limits, Number, Page, Range, Row, Value, value_at};
 use std::alloc::Global;
 use std::test::Fail;
@@ -7,24 +7,18 @@ fn key_of(alloc: Global, bytes: &[u8]) -> Result<Key, KvError> {
     Key::new(bytes.to_vec(alloc)?)
 }
 
-fn value_of(alloc: Global, bytes: &[u8]) -> Result<Value, KvError> {
-    Value::new(bytes.to_vec(alloc)?)
-}
-
-fn put_of(alloc: Global, key: &[u8], value: &[u8]) -> Result<Edit, KvError> {
-    let value = value_of(alloc, value)?;
-    Ok(Edit::Put(key_of(alloc, key)?, value))
-}
-
 /// A put, or a deletion where there is no value.
 fn edit_of(alloc: Global, key: &[u8], value: Option<&[u8]>) -> Result<Edit, KvError> {
+    let key = key_of(alloc, key)?;
     match value {
-        Some(bytes) => put_of(alloc, key, bytes),
-        None => Ok(Edit::Delete(key_of(alloc, key)?)),
+        Some(bytes) => Ok(Edit::Put(key, Value::new(bytes.to_vec(alloc)?)?)),
+        None => Ok(Edit::Delete(key)),
     }
 }
 
-fn batch_of(alloc: Global, edits: &[(&[u8], Option<&[u8]>)]) -> Result<Batch, KvError> {
+type Edits<'a> = &'a [(&'a [u8], Option<&'a [u8]>)];
+
+fn batch_of(alloc: Global, edits: Edits) -> Result<Batch, KvError> {
     let mut list = Vec::new(alloc);
     for (key, value) in edits {
         list.push(edit_of(alloc, *key, *value)?)?;
@@ -32,75 +26,157 @@ fn batch_of(alloc: Global, edits: &[(&[u8], Option<&[u8]>)]) -> Result<Batch, Kv
     Batch::new(list)
 }
 
-/// Whether the batch has this one edit.
-fn is_edit(batch: &Batch, key: &[u8], value: Option<&[u8]>) -> bool {
-    match (batch.edits(), value) {
-        ([Edit::Put(k, v)], Some(bytes)) => k.as_bytes() == key && v.as_bytes() == bytes,
-        ([Edit::Delete(k)], None) => k.as_bytes() == key,
+/// Whether this is the value, if there is one.
+fn is_value(found: Option<&Value>, want: Option<&[u8]>) -> bool {
+    match (found, want) {
+        (Some(value), Some(bytes)) => value.as_bytes() == bytes,
+        (None, None) => true,
         _ => false,
     }
 }
 
-/// The spelling of a batch of one edit of the key `a`.
-fn spelled(alloc: Global, value: Option<&[u8]>) -> Result<Vec<u8>, KvError> {
-    Ok(batch_of(alloc, &[(b"a", value)])?.to_bytes(alloc)?)
+/// Whether the batch has one edit, of the key `a`, with this value.
+fn is_edit(batch: &Batch, value: Option<&[u8]>) -> bool {
+    match batch.edits() {
+        [edit] => edit.key().as_bytes() == b"a".as_slice() && is_value(edit.value(), value),
+        _ => false,
+    }
 }
 
-/// Whether these bytes spell one edit of the key `a`.
-fn spells(alloc: Global, bytes: &[u8], value: Option<&[u8]>) -> Result<bool, KvError> {
-    Ok(is_edit(&Batch::from_bytes(alloc, bytes)?, b"a", value))
+/// Whether these bytes spell one edit of the key `a`, and it is spelled so.
+fn is_spelled_so(
+    alloc: Global,
+    value: Option<&'static [u8]>,
+    want: &[u8],
+) -> Result<bool, KvError> {
+    let spelled = batch_of(alloc, &[(b"a", value)])?.to_bytes(alloc)?;
+    let is_read = is_edit(&Batch::from_bytes(alloc, want)?, value);
+    Ok(is_read && spelled.as_slice() == want)
 }
+
+/// A value of the key `a`, and how a batch of this edit is spelled.
+static SPELLINGS: [(Option<&[u8]>, &[u8]); 2] = [
+    (Some(b"1"), &[0, 1, 1, 0, 1, 0x61, 0, 1, 0x31]),
+    (None, &[0, 1, 2, 0, 1, 0x61]),
+];
 
 #[test]
 fn one_edit_is_spelled_so(rt: HostRuntime) -> Result<(), Fail> {
-    let alloc = rt.alloc();
-    let put: &[u8] = &[0, 1, 1, 0, 1, 0x61, 0, 1, 0x31];
-    let delete: &[u8] = &[0, 1, 2, 0, 1, 0x61];
-    let one: &[u8] = b"1";
-    for (value, want) in [(Some(one), put), (None, delete)] {
-        assert_eq!(rt; spelled(alloc, value)?.as_slice(), want);
-        assert!(rt; spells(alloc, want, value)?);
+    for (value, want) in &SPELLINGS {
+        let is_so = is_spelled_so(rt.alloc(), *value, *want)?;
+        assert!(rt; is_so, "{want:?}");
     }
     Ok(())
 }
 
-/// The refusal of a batch, if it is refused. Want of memory ends the test.
-fn refusal(answer: Result<Batch, KvError>) -> Result<Option<KvError>, KvError> {
-    match answer {
-        Ok(_) => Ok(None),
+/// What is made, at an edge of what is taken.
+#[derive(Clone, Copy, Debug, Drop)]
+enum Made {
+    /// A key of this length.
+    Key(usize),
+    /// A value of this length.
+    Value(usize),
+    /// A batch of so many deletions.
+    Deletions(usize),
+    /// Three puts of the longest value, and one of this length: 49,178 bytes and the value.
+    LongBatch(usize),
+    /// A batch of this spelling.
+    Spelled(&'static [u8]),
+    /// A range of so many rows.
+    Range(u32),
+}
+
+fn deletions(alloc: Global, count: usize) -> Result<Vec<Edit>, KvError> {
+    let mut edits = Vec::new(alloc);
+    for _ in 0..count {
+        edits.push(Edit::Delete(key_of(alloc, b"a")?))?;
+    }
+    Ok(edits)
+}
+
+fn long_batch(alloc: Global, last: usize) -> Result<Batch, KvError> {
+    let mut edits = Vec::new(alloc);
+    for len in [16384, 16384, 16384, last] {
+        let value = Value::new(vec![in alloc; 118u8; len]?)?;
+        edits.push(Edit::Put(key_of(alloc, b"k")?, value))?;
+    }
+    Batch::new(edits)
+}
+
+fn make(alloc: Global, made: Made) -> Result<(), KvError> {
+    match made {
+        Made::Key(len) => drop(Key::new(vec![in alloc; 107u8; len]?)?),
+        Made::Value(len) => drop(Value::new(vec![in alloc; 118u8; len]?)?),
+        Made::Deletions(count) => drop(Batch::new(deletions(alloc, count)?)?),
+        Made::LongBatch(last) => drop(long_batch(alloc, last)?),
+        Made::Spelled(bytes) => drop(Batch::from_bytes(alloc, bytes)?),
+        Made::Range(limit) => drop(Range::new(key_of(alloc, b"a")?, None, false, limit)?),
+    }
+    Ok(())
+}
+
+/// Why it is not made, if it is not. Want of memory ends the test.
+fn refusal_of(alloc: Global, made: Made) -> Result<Option<KvError>, KvError> {
+    match make(alloc, made) {
         Err(KvError::Memory) => Err(KvError::Memory),
-        Err(e) => Ok(Some(e)),
+        answer => Ok(answer.err()),
     }
 }
 
-fn refusal_of(alloc: Global, bytes: &[u8]) -> Result<Option<KvError>, KvError> {
-    refusal(Batch::from_bytes(alloc, bytes))
-}
+const BAD_BYTES: Option<KvError> = Some(KvError::BadBytes);
 
-/// Bytes that spell no batch.
-static NO_BATCHES: [&[u8]; 10] = [
-    &[],
-    &[0],
-    &[0, 0],
-    &[0, 1],
-    &[0, 1, 0, 0, 0],
-    &[0, 1, 3, 0, 0],
-    &[0, 1, 2, 0, 1],
-    &[0, 1, 1, 0, 0],
-    &[0, 2, 2, 0, 0],
-    &[0, 1, 2, 0, 0, 0],
+const BAD_LIMIT: Option<KvError> = Some(KvError::BadLimit);
+
+/// What is made, and the refusal.
+static EDGES: [(Made, Option<KvError>); 27] = [
+    (Made::Key(0), None),
+    (Made::Key(1024), None),
+    (Made::Key(1025), Some(KvError::KeyTooLong)),
+    (Made::Value(0), None),
+    (Made::Value(16384), None),
+    (Made::Value(16385), Some(KvError::ValueTooLong)),
+    (Made::Deletions(0), Some(KvError::NoEdits)),
+    (Made::Deletions(1), None),
+    (Made::Deletions(256), None),
+    (Made::Deletions(257), Some(KvError::TooManyEdits)),
+    (Made::LongBatch(16358), None),
+    (Made::LongBatch(16359), Some(KvError::BatchTooLong)),
+    (Made::Range(0), BAD_LIMIT),
+    (Made::Range(1), None),
+    (Made::Range(1024), None),
+    (Made::Range(1025), BAD_LIMIT),
+    (Made::Range(u32::MAX), BAD_LIMIT),
+    // What spells no batch.
+    (Made::Spelled(&[]), BAD_BYTES),
+    (Made::Spelled(&[0]), BAD_BYTES),
+    (Made::Spelled(&[0, 0]), BAD_BYTES),
+    (Made::Spelled(&[0, 1]), BAD_BYTES),
+    (Made::Spelled(&[0, 1, 0, 0, 0]), BAD_BYTES),
+    (Made::Spelled(&[0, 1, 3, 0, 0]), BAD_BYTES),
+    (Made::Spelled(&[0, 1, 2, 0, 1]), BAD_BYTES),
+    (Made::Spelled(&[0, 1, 1, 0, 0]), BAD_BYTES),
+    (Made::Spelled(&[0, 2, 2, 0, 0]), BAD_BYTES),
+    (Made::Spelled(&[0, 1, 2, 0, 0, 0]), BAD_BYTES),
 ];
 
 #[test]
-fn bytes_that_spell_no_batch(rt: HostRuntime) -> Result<(), Fail> {
-    let alloc = rt.alloc();
-    for bytes in &NO_BATCHES {
-        assert_eq!(rt;
-            refusal_of(alloc, bytes)?,
-            Some(KvError::BadBytes),
-            "{bytes:?}"
-        );
+fn what_is_made_at_the_edges(rt: HostRuntime) -> Result<(), Fail> {
+    for (made, want) in &EDGES {
+        let refusal = refusal_of(rt.alloc(), *made)?;
+        assert!(rt; refusal == *want, "{made:?}: {refusal:?}");
     }
+    Ok(())
+}
+
+/// The length of the longest batch's spelling, if the bytes are read again.
+fn longest_len(alloc: Global) -> Result<usize, KvError> {
+    let bytes = long_batch(alloc, 16358)?.to_bytes(alloc)?;
+    Ok(Batch::from_bytes(alloc, &bytes)?.to_bytes(alloc)?.len())
+}
+
+#[test]
+fn the_longest_batch_is_read_again(rt: HostRuntime) -> Result<(), Fail> {
+    assert_eq!(rt; longest_len(rt.alloc())?, 65536);
     Ok(())
 }
 
@@ -119,126 +195,8 @@ static REFUSALS: [(KvError, u8); 8] = [
 #[test]
 fn refusals_have_their_numbers(rt: HostRuntime) {
     for (refusal, number) in &REFUSALS {
-        assert_eq!(rt; *refusal as u8, *number, "{refusal:?}");
+        assert!(rt; *refusal as u8 == *number, "{number}");
     }
-}
-
-fn key_refusal(alloc: Global, len: usize) -> Result<Option<KvError>, KvError> {
-    let bytes = vec![in alloc; 107u8; len]?;
-    Ok(Key::new(bytes).err())
-}
-
-fn value_refusal(alloc: Global, len: usize) -> Result<Option<KvError>, KvError> {
-    let bytes = vec![in alloc; 118u8; len]?;
-    Ok(Value::new(bytes).err())
-}
-
-/// The length of a key, and the refusal.
-static KEY_LENGTHS: [(usize, Option<KvError>); 3] = [
-    (0, None),
-    (1024, None),
-    (1025, Some(KvError::KeyTooLong)),
-];
-
-/// The length of a value, and the refusal.
-static VALUE_LENGTHS: [(usize, Option<KvError>); 3] = [
-    (0, None),
-    (16384, None),
-    (16385, Some(KvError::ValueTooLong)),
-];
-
-#[test]
-fn keys_and_values_at_their_limits(rt: HostRuntime) -> Result<(), Fail> {
-    let alloc = rt.alloc();
-    for (len, want) in &KEY_LENGTHS {
-        assert_eq!(rt; key_refusal(alloc, *len)?, *want, "{len}");
-    }
-    for (len, want) in &VALUE_LENGTHS {
-        assert_eq!(rt; value_refusal(alloc, *len)?, *want, "{len}");
-    }
-    Ok(())
-}
-
-/// The refusal of a batch of this many deletions.
-fn count_refusal(alloc: Global, count: usize) -> Result<Option<KvError>, KvError> {
-    let mut edits = Vec::new(alloc);
-    for _ in 0..count {
-        edits.push(edit_of(alloc, b"a", None)?)?;
-    }
-    Ok(Batch::new(edits).err())
-}
-
-/// The number of edits, and the refusal.
-static COUNTS: [(usize, Option<KvError>); 4] = [
-    (0, Some(KvError::NoEdits)),
-    (1, None),
-    (256, None),
-    (257, Some(KvError::TooManyEdits)),
-];
-
-#[test]
-fn batches_at_their_limit_of_edits(rt: HostRuntime) -> Result<(), Fail> {
-    let alloc = rt.alloc();
-    for (count, want) in &COUNTS {
-        assert_eq!(rt; count_refusal(alloc, *count)?, *want, "{count}");
-    }
-    Ok(())
-}
-
-/// Three puts of the longest value, and one of this length: 49,178 bytes and the value.
-fn long_batch(alloc: Global, last: usize) -> Result<Batch, KvError> {
-    let mut edits = Vec::new(alloc);
-    for len in [16384, 16384, 16384, last] {
-        let value = Value::new(vec![in alloc; 118u8; len]?)?;
-        edits.push(Edit::Put(key_of(alloc, b"k")?, value))?;
-    }
-    Batch::new(edits)
-}
-
-/// The length of the batch's spelling, if the bytes are read back.
-fn spelled_len(alloc: Global, batch: &Batch) -> Result<usize, KvError> {
-    let bytes = batch.to_bytes(alloc)?;
-    let again = Batch::from_bytes(alloc, &bytes)?;
-    Ok(again.to_bytes(alloc)?.len())
-}
-
-/// The length of the spelling of such a batch, if it is a batch.
-fn long_batch_len(alloc: Global, last: usize) -> Result<usize, KvError> {
-    spelled_len(alloc, &long_batch(alloc, last)?)
-}
-
-#[test]
-fn batches_at_their_limit_of_bytes(rt: HostRuntime) -> Result<(), Fail> {
-    let alloc = rt.alloc();
-    assert_eq!(rt; long_batch_len(alloc, 16358)?, 65536);
-    let answer = long_batch(alloc, 16359);
-    assert_eq!(rt; refusal(answer)?, Some(KvError::BatchTooLong));
-    Ok(())
-}
-
-fn range_refusal(alloc: Global, limit: u32) -> Result<Option<KvError>, KvError> {
-    let from = key_of(alloc, b"a")?;
-    Ok(Range::new(from, None, false, limit).err())
-}
-
-const BAD_LIMIT: Option<KvError> = Some(KvError::BadLimit);
-
-/// The number of requested rows, and the refusal.
-static LIMITS: [(u32, Option<KvError>); 5] = [
-    (0, BAD_LIMIT),
-    (1, None),
-    (1024, None),
-    (1025, BAD_LIMIT),
-    (u32::MAX, BAD_LIMIT),
-];
-
-#[test]
-fn ranges_at_their_limit(rt: HostRuntime) -> Result<(), Fail> {
-    let alloc = rt.alloc();
-    for (limit, want) in &LIMITS {
-        assert_eq!(rt; range_refusal(alloc, *limit)?, *want, "{limit}");
-    }
-    Ok(())
 }
 
 const GIB: u64 = 1 << 30;
@@ -246,45 +204,40 @@ const GIB: u64 = 1 << 30;
 const TIB: u64 = 1 << 40;
 
 /// Limits, and whether they are in range.
-static ENDS: [(u64, u64, u64, u64, u64, bool); 11] = [
-    (16, 0, 64, 64, 1, true),
-    (GIB, 64, GIB, TIB, 65536, true),
-    (15, 0, 64, 64, 1, false),
-    (GIB + 1, 0, 64, 64, 1, false),
-    (16, 65, 64, 64, 1, false),
-    (16, 0, 63, 64, 1, false),
-    (16, 0, GIB + 1, 64, 1, false),
-    (16, 0, 64, 63, 1, false),
-    (16, 0, 64, TIB + 1, 1, false),
-    (16, 0, 64, 64, 0, false),
-    (16, 0, 64, 64, 65537, false),
+static ENDS: [([u64; 5], bool); 11] = [
+    ([16, 0, 64, 64, 1], true),
+    ([GIB, 64, GIB, TIB, 65536], true),
+    ([15, 0, 64, 64, 1], false),
+    ([GIB + 1, 0, 64, 64, 1], false),
+    ([16, 65, 64, 64, 1], false),
+    ([16, 0, 63, 64, 1], false),
+    ([16, 0, GIB + 1, 64, 1], false),
+    ([16, 0, 64, 63, 1], false),
+    ([16, 0, 64, TIB + 1, 1], false),
+    ([16, 0, 64, 64, 0], false),
+    ([16, 0, 64, 64, 65537], false),
 ];
 
 #[test]
 fn limits_at_their_ends(rt: HostRuntime) {
-    for (log, l0, table, level, cache, is_taken) in &ENDS {
-        let limits = Limits::new(*log, *l0, *table, *level, *cache);
-        assert_eq!(rt;
-            limits.is_ok(),
-            *is_taken,
-            "{log} {l0} {table} {level} {cache}"
-        );
+    for (ends, is_taken) in &ENDS {
+        let [log, l0, table, level, cache] = *ends;
+        let is_ok = Limits::new(log, l0, table, level, cache).is_ok();
+        assert!(rt; is_ok == *is_taken, "{ends:?}");
     }
 }
 
 #[test]
 fn default_limits(rt: HostRuntime) {
     let limits = Limits::default();
-    assert_eq!(rt; (limits.log, limits.l0), (4194304, 4));
-    assert_eq!(rt;
-        (limits.table, limits.level, limits.cache),
-        (2097152, 10485760, 256)
-    );
+    let files = (limits.log, limits.l0, limits.table);
+    assert!(rt; files == (4194304, 4, 2097152));
+    assert!(rt; (limits.level, limits.cache) == (10485760, 256));
 }
 
 const GREATEST: u64 = (1 << 63) - 1;
 
-/// A value, whether it is a number, and whether a next number follows it.
+/// A value, whether it is a number, and whether a number follows it.
 static NUMBERS: [(u64, bool, bool); 4] = [
     (0, true, true),
     (GREATEST - 1, true, true),
@@ -292,46 +245,53 @@ static NUMBERS: [(u64, bool, bool); 4] = [
     (GREATEST + 1, false, false),
 ];
 
+/// Whether it is a number, and whether a number follows it.
+fn about(value: u64) -> (bool, bool) {
+    match Number::new(value) {
+        Some(number) => (true, number.next().is_some()),
+        None => (false, false),
+    }
+}
+
 #[test]
 fn numbers_up_to_the_greatest(rt: HostRuntime) {
     for (value, is_taken, has_next) in &NUMBERS {
-        let number = Number::new(*value);
-        assert_eq!(rt; number.is_some(), *is_taken, "{value}");
-        assert_eq!(rt;
-            number.and_then(|n| n.next()).is_some(),
-            *has_next,
-            "{value}"
-        );
+        assert!(rt; about(*value) == (*is_taken, *has_next), "{value}");
     }
-    assert_eq!(rt; Number::ZERO.get(), 0);
+    assert!(rt; Number::ZERO.get() == 0);
 }
 
-/// The value of a key after two batches: `a=1 -a a=2 b=1`, then `-b`.
-fn found(alloc: Global, key: &[u8]) -> Result<Option<Vec<u8>>, KvError> {
+/// The batches `a=1 -a a=2 b=1` and `-b`.
+fn two_batches(alloc: Global) -> Result<[Batch; 2], KvError> {
     let first: [(&[u8], Option<&[u8]>); 4] = [
         (b"a", Some(b"1")),
         (b"a", None),
         (b"a", Some(b"2")),
         (b"b", Some(b"1")),
     ];
-    let batches = [batch_of(alloc, &first)?, batch_of(alloc, &[(b"b", None)])?];
-    let key = key_of(alloc, key)?;
-    match value_at(&batches, &key) {
-        Some(value) => Ok(Some(value.as_bytes().to_vec(alloc)?)),
-        None => Ok(None),
-    }
+    Ok([batch_of(alloc, &first)?, batch_of(alloc, &[(b"b", None)])?])
 }
 
-fn is_found(alloc: Global, key: &[u8], want: Option<&[u8]>) -> Result<bool, KvError> {
-    Ok(found(alloc, key)?.as_deref() == want)
+/// Whether the batches give the key this value.
+fn is_found(
+    alloc: Global,
+    batches: &[Batch],
+    key: &[u8],
+    want: Option<&[u8]>,
+) -> Result<bool, KvError> {
+    Ok(is_value(value_at(batches, &key_of(alloc, key)?), want))
 }
+
+/// A key, and the value that they give it.
+static FOUND: [(&[u8], Option<&[u8]>); 3] = [(b"a", Some(b"2")), (b"b", None), (b"c", None)];
 
 #[test]
 fn the_last_edit_decides(rt: HostRuntime) -> Result<(), Fail> {
-    let alloc = rt.alloc();
-    assert!(rt; is_found(alloc, b"a", Some(b"2"))?);
-    assert!(rt; is_found(alloc, b"b", None)?);
-    assert!(rt; is_found(alloc, b"c", None)?);
+    let batches = two_batches(rt.alloc())?;
+    for (key, want) in &FOUND {
+        let is_so = is_found(rt.alloc(), &batches, *key, *want)?;
+        assert!(rt; is_so, "{key:?}");
+    }
     Ok(())
 }
 
@@ -341,42 +301,36 @@ fn compared(alloc: Global, a: &[u8], b: &[u8]) -> Result<(bool, bool, bool), KvE
     Ok((first.is_below(&second), first < second, first == second))
 }
 
-/// Two keys, and whether the first is below the second.
-static KEYS: [(&[u8], &[u8], bool); 6] = [
-    (b"", b"", false),
-    (b"", b"\x00", true),
-    (b"a", b"ab", true),
-    (b"ab", b"b", true),
-    (b"b", b"ab", false),
-    (b"\x7f", b"\x80", true),
+/// Two keys, whether the first is below the second, and whether they are equal.
+static KEYS: [(&[u8], &[u8], bool, bool); 6] = [
+    (b"", b"", false, true),
+    (b"", b"\x00", true, false),
+    (b"a", b"ab", true, false),
+    (b"ab", b"b", true, false),
+    (b"b", b"ab", false, false),
+    (b"\x7f", b"\x80", true, false),
 ];
 
 #[test]
 fn keys_compare_by_their_bytes(rt: HostRuntime) -> Result<(), Fail> {
-    let alloc = rt.alloc();
-    for (a, b, is_below) in &KEYS {
-        let want = (*is_below, *is_below, a == b);
-        assert_eq!(rt; compared(alloc, a, b)?, want, "{a:?} {b:?}");
+    for (a, b, is_below, is_equal) in &KEYS {
+        let found = compared(rt.alloc(), *a, *b)?;
+        assert!(rt; found == (*is_below, *is_below, *is_equal), "{a:?} {b:?}");
     }
     Ok(())
 }
 
-/// The range from `b` to `d`.
-fn bounded(alloc: Global, is_backward: bool, limit: u32) -> Result<Range, KvError> {
-    let to = key_of(alloc, b"d")?;
-    Range::new(key_of(alloc, b"b")?, Some(to), is_backward, limit)
+/// The range from `b`, to `d` or open.
+fn range_of(alloc: Global, to: Option<Key>, backward: bool, limit: u32) -> Result<Range, KvError> {
+    Range::new(key_of(alloc, b"b")?, to, backward, limit)
 }
 
-/// The range from `b` on.
-fn open(alloc: Global) -> Result<Range, KvError> {
-    Range::new(key_of(alloc, b"b")?, None, false, 1)
-}
-
-/// Whether the key is in the first of these, and in the second.
+/// Whether the key is in the range to `d`, and in the open one.
 fn in_ranges(alloc: Global, key: &[u8]) -> Result<(bool, bool), KvError> {
-    let key = key_of(alloc, key)?;
-    let is_in_bounded = bounded(alloc, false, 1)?.contains(&key);
-    Ok((is_in_bounded, open(alloc)?.contains(&key)))
+    let (key, to) = (key_of(alloc, key)?, key_of(alloc, b"d")?);
+    let bounded = range_of(alloc, Some(to), false, 1)?;
+    let open = range_of(alloc, None, false, 1)?;
+    Ok((bounded.contains(&key), open.contains(&key)))
 }
 
 /// A key, whether it is in the first range, and in the second.
@@ -390,43 +344,44 @@ static IN_RANGES: [(&[u8], bool, bool); 5] = [
 
 #[test]
 fn a_range_ends_before_its_bound(rt: HostRuntime) -> Result<(), Fail> {
-    let alloc = rt.alloc();
     for (bytes, in_bounded, in_open) in &IN_RANGES {
-        let found = in_ranges(alloc, bytes)?;
-        assert_eq!(rt; found, (*in_bounded, *in_open), "{bytes:?}");
+        let found = in_ranges(rt.alloc(), *bytes)?;
+        assert!(rt; found == (*in_bounded, *in_open), "{bytes:?}");
     }
     Ok(())
 }
 
-/// The bounds of a copy of the range, its direction, and its limit.
-fn copied_range(alloc: Global) -> Result<(bool, bool, bool, u32), KvError> {
-    let range = bounded(alloc, true, 2)?.clone()?;
-    let is_from = range.from().as_bytes() == b"b".as_slice();
-    let is_to = range.to().map(|key| key.as_bytes()) == Some(b"d".as_slice());
-    Ok((is_from, is_to, range.is_backward(), range.limit()))
+/// Whether the range goes backward from `b` to `d`, by two rows.
+fn is_backward(range: &Range) -> bool {
+    let ends_so = match range.to() {
+        Some(to) => to.as_bytes() == b"d".as_slice(),
+        None => false,
+    };
+    let begins_so = range.from().as_bytes() == b"b".as_slice();
+    begins_so && ends_so && range.is_backward() && range.limit() == 2
 }
 
-#[test]
-fn a_range_gives_what_it_was_made_of(rt: HostRuntime) -> Result<(), Fail> {
-    assert_eq!(rt; copied_range(rt.alloc())?, (true, true, true, 2));
-    Ok(())
+/// Whether a copy of such a range is one.
+fn copies_range(alloc: Global) -> Result<bool, KvError> {
+    let range = range_of(alloc, Some(key_of(alloc, b"d")?), true, 2)?;
+    Ok(is_backward(&range.clone()?))
 }
 
 /// Whether a copy of a batch of one edit has this edit.
-fn is_copied(alloc: Global) -> Result<bool, KvError> {
-    let batch = batch_of(alloc, &[(b"a", Some(b"1"))])?.clone()?;
-    Ok(is_edit(&batch, b"a", Some(b"1")))
+fn copies_batch(alloc: Global) -> Result<bool, KvError> {
+    let batch = batch_of(alloc, &[(b"a", Some(b"1"))])?;
+    Ok(is_edit(&batch.clone()?, Some(b"1")))
 }
 
-fn row_of(alloc: Global, key: &[u8], value: &[u8]) -> Result<Row, KvError> {
-    let value = value_of(alloc, value)?;
-    let key = key_of(alloc, key)?;
+fn row_of(alloc: Global) -> Result<Row, KvError> {
+    let value = Value::new(b"1".to_vec(alloc)?)?;
+    let key = key_of(alloc, b"a")?;
     Ok(Row { key, value })
 }
 
-/// A row's size; for a page of its copy the number of rows, and whether the range has more.
+/// A row's size, and of a page of its copy how many rows it has, and whether there are more.
 fn copied_row(alloc: Global) -> Result<(usize, usize, bool), KvError> {
-    let row = row_of(alloc, b"a", b"1")?;
+    let row = row_of(alloc)?;
     let page = Page::new(vec![in alloc; row.clone()?]?, true);
     Ok((row.size(), page.rows().len(), page.has_more()))
 }
@@ -434,7 +389,9 @@ fn copied_row(alloc: Global) -> Result<(usize, usize, bool), KvError> {
 #[test]
 fn copies_are_made(rt: HostRuntime) -> Result<(), Fail> {
     let alloc = rt.alloc();
-    assert!(rt; is_copied(alloc)?);
-    assert_eq!(rt; copied_row(alloc)?, (6, 1, true));
+    let (range, batch) = (copies_range(alloc)?, copies_batch(alloc)?);
+    assert!(rt; range && batch);
+    let row = copied_row(alloc)?;
+    assert!(rt; row == (6, 1, true));
     Ok(())
 }

@@ -3,7 +3,7 @@ use disk::{Crash, Disk, DiskError, Fault, Junk, JunkBytes, MemDisk};
 use std::alloc::{AllocError, Global};
 use std::test::Fail;
 
-// A write, cut, sync or removal of a file.
+// What is done to a file.
 #[derive(Clone, Copy, Debug, Drop)]
 enum Act {
     Write(u64, &'static [u8]),
@@ -14,7 +14,7 @@ enum Act {
 
 const FILE: u64 = 7;
 
-fn perform<D: Disk>(disk: &mut D, act: Act) -> Result<(), DiskError> {
+fn perform(disk: &mut MemDisk, act: Act) -> Result<(), DiskError> {
     match act {
         Act::Write(at, bytes) => disk.write_at(FILE, at, bytes),
         Act::Cut(len) => disk.cut(FILE, len),
@@ -23,8 +23,8 @@ fn perform<D: Disk>(disk: &mut D, act: Act) -> Result<(), DiskError> {
     }
 }
 
-// A want of memory changes nothing, so the call can be repeated.
-fn run<D: Disk>(disk: &mut D, acts: &[Act]) -> Result<(), DiskError> {
+// A want of memory changes nothing, so the call can be made again.
+fn run(disk: &mut MemDisk, acts: &[Act]) -> Result<(), DiskError> {
     for one in acts {
         if let Err(e) = perform(disk, *one) {
             if e != DiskError::Memory {
@@ -36,35 +36,58 @@ fn run<D: Disk>(disk: &mut D, acts: &[Act]) -> Result<(), DiskError> {
     Ok(())
 }
 
-fn content<D: Disk>(alloc: Global, disk: &mut D, file: u64) -> Result<Option<Vec<u8>>, DiskError> {
+// Whether this is the file's content, or there is no such file.
+fn is_content(
+    alloc: Global,
+    disk: &mut MemDisk,
+    file: u64,
+    want: Option<&[u8]>,
+) -> Result<bool, DiskError> {
     let len = match disk.length(file) {
-        Err(DiskError::NoFile) => return Ok(None),
+        Err(DiskError::NoFile) => return Ok(want.is_none()),
         other => other?,
     };
     let mut bytes = vec![in alloc; 0u8; len as usize]?;
     disk.read(file, 0, bytes.as_mut_slice())?;
-    Ok(Some(bytes))
+    Ok(match want {
+        Some(want) => bytes.as_slice() == want,
+        None => false,
+    })
 }
 
-fn junk_of(alloc: Global, bytes: &[u8]) -> Result<Junk, AllocError> {
-    Ok(Junk::Bytes(JunkBytes::new(bytes.to_vec(alloc)?)))
+// What a crash leaves in the loose places.
+#[derive(Clone, Copy, Debug, Drop)]
+enum Loose {
+    Old,
+    New,
+    Bytes(&'static [u8]),
 }
 
-// The content after these acts, a crash, and one more crash, which finds every place synced.
-fn left(alloc: Global, acts: &[Act], junk: Junk) -> Result<Option<Vec<u8>>, Fail> {
+fn crash(alloc: Global, disk: &mut MemDisk, loose: Loose) -> Result<(), AllocError> {
+    disk.crash(match loose {
+        Loose::Old => Junk::Old,
+        Loose::New => Junk::New,
+        Loose::Bytes(bytes) => Junk::Bytes(JunkBytes::new(bytes.to_vec(alloc)?)),
+    });
+    Ok(())
+}
+
+// Whether this is the content after these acts, a crash, and more crashes, which find nothing
+// loose.
+fn leaves(alloc: Global, acts: &[Act], loose: Loose, want: Option<&[u8]>) -> Result<bool, Fail> {
     let mut disk = MemDisk::new(alloc);
     run(&mut disk, acts)?;
-    disk.crash(junk);
-    disk.crash(junk_of(alloc, &[0x55])?);
-    disk.crash(Junk::Old);
-    Ok(content(alloc, &mut disk, FILE)?)
+    for junk in [loose, Loose::Bytes(&[0x55]), Loose::Old] {
+        crash(alloc, &mut disk, junk)?;
+    }
+    Ok(is_content(alloc, &mut disk, FILE, want)?)
 }
 
 const ABC: Act = Act::Write(0, b"abc");
 
 const DE: Act = Act::Write(0, b"de");
 
-// The crash outcomes after the acts by `Old`, by `New`, and with the junk 1, 2, 3.
+// After the acts: what a crash leaves by `Old`, by `New`, and with the junk 1, 2, 3.
 type Row = (
     &'static [Act],
     Option<&'static [u8]>,
@@ -74,9 +97,9 @@ type Row = (
 
 static ROWS: [Row; 14] = [
     (&[], None, None, None),
-    // Durable.
+    // Sure.
     (&[ABC, Act::Sync], Some(b"abc"), Some(b"abc"), Some(b"abc")),
-    // Never synced: it may be absent, and all its places are unsynced.
+    // Never synced: it may be absent, and is loose everywhere.
     (&[ABC], None, Some(b"abc"), Some(&[1, 2, 3])),
     (
         &[ABC, Act::Write(3, b"de")],
@@ -84,7 +107,7 @@ static ROWS: [Row; 14] = [
         Some(b"abcde"),
         Some(&[1, 2, 3, 1, 2]),
     ),
-    // The places written are unsynced, and those past the synced end.
+    // The places written are loose, and those past the synced end.
     (
         &[ABC, Act::Sync, Act::Write(1, b"X")],
         Some(b"abc"),
@@ -108,7 +131,7 @@ static ROWS: [Row; 14] = [
         Some(b"XbYZW"),
         Some(&[1, b'b', 2, 3, 1]),
     ),
-    // The places past a cut are unsynced.
+    // The places past a cut are loose.
     (
         &[ABC, Act::Sync, Act::Cut(1)],
         Some(b"abc"),
@@ -127,7 +150,7 @@ static ROWS: [Row; 14] = [
         Some(b"a"),
         Some(b"a"),
     ),
-    // A removed file may reappear with its synced content.
+    // A removed file may be back as its last sync left it.
     (
         &[ABC, Act::Sync, Act::Write(0, b"X"), Act::Remove],
         Some(b"abc"),
@@ -135,7 +158,7 @@ static ROWS: [Row; 14] = [
         None,
     ),
     (&[ABC, Act::Remove], None, None, None),
-    // A removed file's number is used again.
+    // Its number was used again.
     (
         &[ABC, Act::Sync, Act::Remove, DE],
         Some(b"abc"),
@@ -150,30 +173,18 @@ static ROWS: [Row; 14] = [
     ),
 ];
 
-// Whether this is the content after these acts and a crash.
-fn leaves(alloc: Global, acts: &[Act], junk: Junk, want: Option<&[u8]>) -> Result<bool, Fail> {
-    Ok(left(alloc, acts, junk)?.as_deref() == want)
-}
-
-// Whether this is the content after these acts and a crash with these bytes in the unsynced places.
-fn leaves_by(alloc: Global, acts: &[Act], junk: &[u8], want: Option<&[u8]>) -> Result<bool, Fail> {
-    leaves(alloc, acts, junk_of(alloc, junk)?, want)
-}
-
 #[test]
 fn outcomes_of_a_crash(rt: HostRuntime) -> Result<(), Fail> {
-    let alloc = rt.alloc();
     for (acts, old, new, torn) in &ROWS {
-        assert!(rt; leaves(alloc, acts, Junk::Old, *old)?, "old after {acts:?}");
-        assert!(rt; leaves(alloc, acts, Junk::New, *new)?, "new after {acts:?}");
-        assert!(rt;
-            leaves_by(alloc, acts, &[], *new)?,
-            "no junk after {acts:?}"
-        );
-        assert!(rt;
-            leaves_by(alloc, acts, &[1, 2, 3], *torn)?,
-            "junk after {acts:?}"
-        );
+        for (loose, want) in [
+            (Loose::Old, *old),
+            (Loose::New, *new),
+            (Loose::Bytes(&[]), *new),
+            (Loose::Bytes(&[1, 2, 3]), *torn),
+        ] {
+            let is_left = leaves(rt.alloc(), *acts, loose, want)?;
+            assert!(rt; is_left, "{loose:?} after {acts:?}");
+        }
     }
     Ok(())
 }
@@ -189,19 +200,16 @@ const NEXT: &[u8] = &[
 ];
 
 // Its record, a closed gate, and junk in place of the next.
-fn stopped(alloc: Global) -> Result<Vec<u8>, AllocError> {
-    let mut want = LOG[..22].to_vec(alloc)?;
-    want.push(0)?;
-    want.extend_from_slice(&[1; 22])?;
-    Ok(want)
-}
+const STOPPED: &[u8] = &[
+    1, 0, 0, 0, 0x11, 0, 0, 0, 0, 0, 0, 0, 1, 0, 1, 1, 0, 1, 0x61, 0, 1, 0x31, 0, //
+    1, 1, 1, 1, 1, 1, 1, 1, 1, 1, 1, 1, 1, 1, 1, 1, 1, 1, 1, 1, 1, 1,
+];
 
 #[test]
 fn a_log_that_stops_in_an_append(rt: HostRuntime) -> Result<(), Fail> {
-    let alloc = rt.alloc();
     let acts = [Act::Write(0, LOG), Act::Sync, Act::Write(23, NEXT)];
-    let want = stopped(alloc)?;
-    assert!(rt; leaves_by(alloc, &acts, &[1], Some(want.as_slice()))?);
+    let is_left = leaves(rt.alloc(), &acts, Loose::Bytes(&[1]), Some(STOPPED))?;
+    assert!(rt; is_left);
     Ok(())
 }
 
@@ -215,65 +223,64 @@ fn three_files(alloc: Global) -> Result<MemDisk, DiskError> {
     Ok(disk)
 }
 
-// The calls of a disk, without their contracts.
-fn files(disk: &mut MemDisk) -> Result<Vec<u64>, DiskError> {
-    disk.files()
+// Whether the disk has these files.
+fn has_files(disk: &mut MemDisk, want: &[u64]) -> Result<bool, DiskError> {
+    Ok(disk.files()?.as_slice() == want)
 }
 
-fn crash(disk: &mut MemDisk, junk: Junk) {
-    disk.crash(junk);
-}
-
-// The files and their contents after a crash with the junk 6, 7.
+// The files and what they are then, by the junk 6, 7.
 static BEGUN: [(u64, &[u8]); 3] = [(2, &[6, 7, 6]), (5, b"five"), (9, &[6, 7, 6, 7, 6])];
 
-// Whether the file has this content after the crash.
+// Whether the file is this then.
 fn begins(alloc: Global, file: u64, want: &[u8]) -> Result<bool, DiskError> {
     let mut disk = three_files(alloc)?;
-    crash(&mut disk, junk_of(alloc, &[6, 7])?);
-    Ok(content(alloc, &mut disk, file)?.as_deref() == Some(want))
+    crash(alloc, &mut disk, Loose::Bytes(&[6, 7]))?;
+    is_content(alloc, &mut disk, file, Some(want))
 }
 
 #[test]
 fn each_file_begins_with_the_first_junk(rt: HostRuntime) -> Result<(), Fail> {
-    let alloc = rt.alloc();
-    assert_eq!(rt;
-        files(&mut three_files(alloc)?)?.as_slice(),
-        [2, 5, 9].as_slice()
-    );
     for (file, want) in &BEGUN {
-        assert!(rt; begins(alloc, *file, want)?, "in {file}");
+        let is_begun = begins(rt.alloc(), *file, *want)?;
+        assert!(rt; is_begun, "{file}");
     }
     Ok(())
 }
 
+// Whether these are the files as they are made, once the synced one is removed, and after a crash.
+fn comes_back(alloc: Global) -> Result<(bool, bool, bool), DiskError> {
+    let mut disk = three_files(alloc)?;
+    let is_made = has_files(&mut disk, &[2, 5, 9])?;
+    attempt(&mut disk, Try::Remove(5))?;
+    let is_removed = has_files(&mut disk, &[2, 9])?;
+    disk.arm(Fault::None);
+    crash(alloc, &mut disk, Loose::Old)?;
+    Ok((is_made, is_removed, has_files(&mut disk, &[5])?))
+}
+
 #[test]
 fn old_leaves_what_was_synced(rt: HostRuntime) -> Result<(), Fail> {
-    let mut disk = three_files(rt.alloc())?;
-    attempt(&mut disk, Try::Remove(5))?;
-    assert_eq!(rt; files(&mut disk)?.as_slice(), [2, 9].as_slice());
-    disk.arm(Fault::None);
-    crash(&mut disk, Junk::Old);
-    assert_eq!(rt; files(&mut disk)?.as_slice(), [5].as_slice());
+    let found = comes_back(rt.alloc())?;
+    assert!(rt; found == (true, true, true), "{found:?}");
     Ok(())
 }
 
-// A file of a disk and of its clone, after it was written and the clone stopped.
-fn left_of_both(alloc: Global) -> Result<(Vec<u8>, Vec<u8>), Fail> {
+// Whether a file of a disk is as it was written, and that of its clone, which stopped, as it was
+// synced.
+fn left_of_both(alloc: Global) -> Result<(bool, bool), DiskError> {
     let mut disk = three_files(alloc)?;
     disk.write_at(5, 1, b"XYZW")?;
     let mut copy = disk.clone()?;
-    crash(&mut disk, Junk::New);
-    crash(&mut copy, Junk::Old);
-    let written = content(alloc, &mut disk, 5)?.ok_or("gone")?;
-    Ok((written, content(alloc, &mut copy, 5)?.ok_or("gone")?))
+    crash(alloc, &mut disk, Loose::New)?;
+    crash(alloc, &mut copy, Loose::Old)?;
+    let is_written = is_content(alloc, &mut disk, 5, Some(b"fXYZW"))?;
+    Ok((is_written, is_content(alloc, &mut copy, 5, Some(b"five"))?))
 }
 
 #[test]
 fn a_clone_goes_its_own_way(rt: HostRuntime) -> Result<(), Fail> {
-    let (written, synced) = left_of_both(rt.alloc())?;
-    assert_eq!(rt; written.as_slice(), b"fXYZW".as_slice());
-    assert_eq!(rt; synced.as_slice(), b"five".as_slice());
+    let found = left_of_both(rt.alloc())?;
+    assert!(rt; found == (true, true), "{found:?}");
     Ok(())
 }
 
@@ -300,7 +307,7 @@ fn attempt(disk: &mut MemDisk, call: Try) -> Result<(), DiskError> {
     }
 }
 
-// The refusal of a call. A want of memory changes nothing, so the call can be repeated.
+// Why a call is refused. A want of memory changes nothing, so the call can be made again.
 fn refusal_of(disk: &mut MemDisk, call: Try) -> Option<DiskError> {
     match attempt(disk, call) {
         Err(DiskError::Memory) => attempt(disk, call).err(),
@@ -314,7 +321,7 @@ const SHORT: Option<DiskError> = Some(DiskError::Short);
 
 const FAILED: Option<DiskError> = Some(DiskError::Failed);
 
-// Calls, one after another, and the refusal of each.
+// Calls, one after another, and why each is refused.
 static CALLS: [(Try, Option<DiskError>); 20] = [
     (Try::Length(1), MISSING),
     (Try::Length(5), None),
@@ -338,7 +345,7 @@ static CALLS: [(Try, Option<DiskError>); 20] = [
     (Try::Write(1, 0), None),
 ];
 
-// The first row with another answer.
+// The first row that is answered otherwise.
 fn first_wrong(disk: &mut MemDisk) -> Option<usize> {
     for (row, (call, want)) in CALLS.iter().enumerate() {
         if refusal_of(disk, *call) != *want {
@@ -352,6 +359,7 @@ fn first_wrong(disk: &mut MemDisk) -> Option<usize> {
 fn refusals(rt: HostRuntime) -> Result<(), Fail> {
     let mut disk = three_files(rt.alloc())?;
     assert_eq!(rt; first_wrong(&mut disk), None);
-    assert_eq!(rt; files(&mut disk)?.as_slice(), [1, 2, 9].as_slice());
+    let is_left = has_files(&mut disk, &[1, 2, 9])?;
+    assert!(rt; is_left);
     Ok(())
 }

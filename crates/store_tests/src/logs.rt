@@ -1,4 +1,4 @@
-// The bytes of complete logs, openings, and failures that stay.
+// The bytes of whole logs, openings, and failures that stay.
 use disk::{Crash, Disk, DiskError, Junk, JunkBytes, MemDisk};
 use record_log::{Log, LogError};
 use std::alloc::{AllocError, Global};
@@ -12,27 +12,28 @@ const FIRST: &[u8] = &[0, 0, 0, 0, 0, 0, 0, 1, 0, 1, 1, 0, 1, b'a', 0, 1, b'1'];
 // The number 2 and the batch that puts 2 at a.
 const SECOND: &[u8] = &[0, 0, 0, 0, 0, 0, 0, 2, 0, 1, 1, 0, 1, b'a', 0, 1, b'2'];
 
-// The log of the first record: an open gate, the length, the record, and a closed gate.
+// The log of the first: an open gate, the length, the record, and a closed gate.
 const LOG: &[u8] = &[
     1, 0, 0, 0, 0x11, 0, 0, 0, 0, 0, 0, 0, 1, 0, 1, 1, 0, 1, b'a', 0, 1, b'1', 0,
 ];
 
-// The bytes that an append of the second record writes behind that gate.
+// What an append of the second writes behind that gate.
 const BEHIND: &[u8] = &[
     0, 0, 0, 0x11, 0, 0, 0, 0, 0, 0, 0, 2, 0, 1, 1, 0, 1, b'a', 0, 1, b'2', 0,
 ];
 
-// The log of both records.
+// The log of both.
 const BOTH: &[u8] = &[
     1, 0, 0, 0, 0x11, 0, 0, 0, 0, 0, 0, 0, 1, 0, 1, 1, 0, 1, b'a', 0, 1, b'1', 1, 0, 0, 0, 0x11, 0,
     0, 0, 0, 0, 0, 0, 2, 0, 1, 1, 0, 1, b'a', 0, 1, b'2', 0,
 ];
 
-fn content(alloc: Global, disk: &mut MemDisk) -> Result<Vec<u8>, DiskError> {
+// Whether this is the file's content.
+fn is_content(alloc: Global, disk: &mut MemDisk, want: &[u8]) -> Result<bool, DiskError> {
     let len = disk.length(FILE)?;
     let mut bytes = vec![in alloc; 0u8; len as usize]?;
     disk.read(FILE, 0, bytes.as_mut_slice())?;
-    Ok(bytes)
+    Ok(bytes.as_slice() == want)
 }
 
 fn log_of(alloc: Global, disk: &mut MemDisk, records: &[&[u8]]) -> Result<Log, LogError> {
@@ -53,7 +54,7 @@ fn disk_with(alloc: Global, file: Option<&[u8]>) -> Result<MemDisk, DiskError> {
     Ok(disk)
 }
 
-// The calls of a log and a disk, without their contracts.
+// The calls of a log and a disk, without what they promise.
 fn open(alloc: Global, disk: &mut MemDisk, start: u64) -> Result<Log, LogError> {
     Log::open(alloc, disk, FILE, start)
 }
@@ -66,8 +67,8 @@ fn crash(disk: &mut MemDisk, junk: Junk) {
     disk.crash(junk);
 }
 
-fn junk_of(alloc: Global, bytes: &[u8]) -> Result<Junk, AllocError> {
-    Ok(Junk::Bytes(JunkBytes::new(bytes.to_vec(alloc)?)))
+fn junk_of(alloc: Global, byte: u8) -> Result<Junk, AllocError> {
+    Ok(Junk::Bytes(JunkBytes::new(vec![in alloc; byte; 1]?)))
 }
 
 // Whether the log has these records and no others.
@@ -80,7 +81,7 @@ fn has(alloc: Global, disk: &mut MemDisk, log: &Log, want: &[&[u8]]) -> Result<b
     Ok(same)
 }
 
-// Whether the log has these records and no others after opening.
+// Whether the log that is opened has these records and no others.
 fn opens(alloc: Global, disk: &mut MemDisk, want: &[&[u8]]) -> Result<bool, LogError> {
     let log = open(alloc, disk, 0)?;
     has(alloc, disk, &log, want)
@@ -98,22 +99,24 @@ static LOGS: [(&[&[u8]], &[u8]); 5] = [
     ),
 ];
 
-// Whether such a log has its records, also after opening, and its bytes.
-fn logged(alloc: Global, records: &[&[u8]]) -> Result<(bool, Vec<u8>), LogError> {
+// Whether such a log has its records, also when it is opened, and its bytes.
+fn is_logged(
+    alloc: Global,
+    records: &[&[u8]],
+    want: &[u8],
+) -> Result<(bool, bool, bool), LogError> {
     let mut disk = MemDisk::new(alloc);
     let log = log_of(alloc, &mut disk, records)?;
     let has_them = has(alloc, &mut disk, &log, records)?;
     let is_opened = opens(alloc, &mut disk, records)?;
-    Ok((has_them && is_opened, content(alloc, &mut disk)?))
+    Ok((has_them, is_opened, is_content(alloc, &mut disk, want)?))
 }
 
 #[test]
 fn bytes_of_a_log(rt: HostRuntime) -> Result<(), Fail> {
-    let alloc = rt.alloc();
     for (records, want) in &LOGS {
-        let (has_them, bytes) = logged(alloc, records)?;
-        assert!(rt; has_them, "{records:?}");
-        assert_eq!(rt; bytes.as_slice(), *want);
+        let found = is_logged(rt.alloc(), *records, *want)?;
+        assert!(rt; found == (true, true, true), "{found:?} of {records:?}");
     }
     Ok(())
 }
@@ -127,31 +130,27 @@ fn on_the_way(alloc: Global) -> Result<MemDisk, LogError> {
 }
 
 // The log of the first, and junk in place of the next.
-fn stopped(alloc: Global) -> Result<Vec<u8>, AllocError> {
-    let mut want = LOG[..22].to_vec(alloc)?;
-    want.push(0)?;
-    want.extend_from_slice(&[1; 22])?;
-    Ok(want)
-}
+const STOPPED: &[u8] = &[
+    1, 0, 0, 0, 0x11, 0, 0, 0, 0, 0, 0, 0, 1, 0, 1, 1, 0, 1, b'a', 0, 1, b'1', 0, //
+    1, 1, 1, 1, 1, 1, 1, 1, 1, 1, 1, 1, 1, 1, 1, 1, 1, 1, 1, 1, 1, 1,
+];
 
-// The content after a crash then, and the number of records of that log.
-fn left_on_the_way(alloc: Global) -> Result<(Vec<u8>, usize), LogError> {
+// Whether a stop then leaves these bytes, and how many records that log has.
+fn left_on_the_way(alloc: Global, want: &[u8]) -> Result<(bool, usize), LogError> {
     let mut disk = on_the_way(alloc)?;
-    crash(&mut disk, junk_of(alloc, &[1])?);
-    let found = content(alloc, &mut disk)?;
-    Ok((found, open(alloc, &mut disk, 0)?.len()))
+    crash(&mut disk, junk_of(alloc, 1)?);
+    let is_left = is_content(alloc, &mut disk, want)?;
+    Ok((is_left, open(alloc, &mut disk, 0)?.len()))
 }
 
 #[test]
 fn a_stop_before_the_first_sync(rt: HostRuntime) -> Result<(), Fail> {
-    let alloc = rt.alloc();
-    let (found, count) = left_on_the_way(alloc)?;
-    assert_eq!(rt; found.as_slice(), stopped(alloc)?.as_slice());
-    assert_eq!(rt; count, 1);
+    let found = left_on_the_way(rt.alloc(), STOPPED)?;
+    assert!(rt; found == (true, 1), "{found:?}");
     Ok(())
 }
 
-// The machine stops with the gate written, and the opened log has the last record.
+// The machine stops with the gate written, and the log is opened and takes the last record.
 fn stopped_at_the_gate(alloc: Global, junk: Junk) -> Result<(MemDisk, Log), LogError> {
     let mut disk = on_the_way(alloc)?;
     disk.sync(FILE)?;
@@ -168,24 +167,30 @@ fn has_after_a_stop(alloc: Global, junk: Junk, want: &[&[u8]]) -> Result<bool, L
     has(alloc, &mut disk, &log, want)
 }
 
+// What the log is without the second record, and with it.
+const WITHOUT: &[&[u8]] = &[FIRST, b"last"];
+
+const WITH: &[&[u8]] = &[FIRST, SECOND, b"last"];
+
+// A byte in the gate's place, and what the log then has.
+static GATES: [(u8, &[&[u8]]); 4] = [(0, WITHOUT), (1, WITH), (2, WITHOUT), (255, WITHOUT)];
+
 #[test]
 fn a_stop_before_the_last_sync(rt: HostRuntime) -> Result<(), Fail> {
     let alloc = rt.alloc();
-    let without: &[&[u8]] = &[FIRST, b"last"];
-    let with: &[&[u8]] = &[FIRST, SECOND, b"last"];
-    assert!(rt; has_after_a_stop(alloc, Junk::Old, without)?, "old");
-    assert!(rt; has_after_a_stop(alloc, Junk::New, with)?, "new");
-    for gate in [0, 1, 2, 255] {
-        let want = if gate == 1 { with } else { without };
-        let junk = junk_of(alloc, &[gate])?;
-        assert!(rt; has_after_a_stop(alloc, junk, want)?, "gate {gate}");
+    let old = has_after_a_stop(alloc, Junk::Old, WITHOUT)?;
+    let new = has_after_a_stop(alloc, Junk::New, WITH)?;
+    assert!(rt; old && new, "{old} {new}");
+    for (gate, want) in &GATES {
+        let has_it = has_after_a_stop(alloc, junk_of(alloc, *gate)?, *want)?;
+        assert!(rt; has_it, "gate {gate}");
     }
     Ok(())
 }
 
 const SHORT: Option<LogError> = Some(LogError::Disk(DiskError::Short));
 
-// A file, the place where its log begins, the refusal of opening, and the number of records.
+// A file, where its log begins, why it is not opened, and how many records it has.
 type Opening = (Option<&'static [u8]>, u64, Option<LogError>, usize);
 
 static OPENINGS: [Opening; 22] = [
@@ -201,14 +206,14 @@ static OPENINGS: [Opening; 22] = [
     (Some(&[255, 0, 0]), 0, None, 0),
     (Some(&[0, 1, 2]), 0, None, 0),
     (Some(&[9, 1, 0]), 2, None, 0),
-    // The log ends in the length.
+    // It ends in the length.
     (Some(&[1]), 0, SHORT, 0),
     (Some(&[1, 0, 0, 0]), 0, SHORT, 0),
-    // The log ends in the record.
+    // It ends in the record.
     (Some(&[1, 0, 0, 0, 1]), 0, SHORT, 0),
     (Some(&[1, 0, 0, 0, 2, 0]), 0, SHORT, 0),
     (Some(&[1, 255, 255, 255, 255, 0]), 0, SHORT, 0),
-    // The log ends without its last gate.
+    // It ends without its last gate.
     (Some(&[1, 0, 0, 0, 0]), 0, SHORT, 0),
     (Some(&[1, 0, 0, 0, 1, 5]), 0, SHORT, 0),
     (Some(&[1, 0, 0, 0, 0, 1]), 0, SHORT, 0),
@@ -219,7 +224,7 @@ static OPENINGS: [Opening; 22] = [
     (Some(&[1, 1, 0, 0, 0, 0, 1, 0, 0, 0, 1, 1, 0]), 1, None, 2),
 ];
 
-// The refusal of a call, if it was refused. Want of memory ends the test.
+// Why a call was refused, if it was. Want of memory ends the test.
 fn refusal(answer: Result<(), LogError>) -> Result<Option<LogError>, LogError> {
     match answer {
         Ok(()) => Ok(None),
@@ -228,7 +233,7 @@ fn refusal(answer: Result<(), LogError>) -> Result<Option<LogError>, LogError> {
     }
 }
 
-// The refusal of opening such a file, and the number of records of its log.
+// Why such a file is not opened, and how many records its log has.
 fn opening(
     alloc: Global,
     file: Option<&[u8]>,
@@ -243,23 +248,22 @@ fn opening(
 
 #[test]
 fn what_is_opened(rt: HostRuntime) -> Result<(), Fail> {
-    let alloc = rt.alloc();
     for (file, start, want, count) in &OPENINGS {
-        let found = opening(alloc, *file, *start)?;
-        assert_eq!(rt; found, (*want, *count), "{file:?} from {start}");
+        let found = opening(rt.alloc(), *file, *start)?;
+        assert!(rt; found == (*want, *count), "{file:?} from {start}");
     }
     Ok(())
 }
 
-// The file after an append of one byte.
-fn appended(alloc: Global, file: &[u8], start: u64) -> Result<Vec<u8>, LogError> {
+// Whether this is the file after an append of one byte.
+fn is_appended(alloc: Global, file: &[u8], start: u64, want: &[u8]) -> Result<bool, LogError> {
     let mut disk = disk_with(alloc, Some(file))?;
     let mut log = open(alloc, &mut disk, start)?;
     append(alloc, &mut disk, &mut log, b"z")?;
-    Ok(content(alloc, &mut disk)?)
+    Ok(is_content(alloc, &mut disk, want)?)
 }
 
-// A file, the place where its log begins, and the file after an append of one byte.
+// A file, where its log begins, and the file after an append of one byte.
 static APPENDS: [(&[u8], u64, &[u8]); 4] = [
     (&[0], 0, &[1, 0, 0, 0, 1, b'z', 0]),
     // Behind the closed gate the file has more.
@@ -275,16 +279,15 @@ static APPENDS: [(&[u8], u64, &[u8]); 4] = [
 
 #[test]
 fn an_append_writes_its_own_bytes(rt: HostRuntime) -> Result<(), Fail> {
-    let alloc = rt.alloc();
     for (file, start, want) in &APPENDS {
-        let found = appended(alloc, file, *start)?;
-        assert_eq!(rt; found.as_slice(), *want, "{file:?} from {start}");
+        let is_so = is_appended(rt.alloc(), *file, *start, *want)?;
+        assert!(rt; is_so, "{file:?} from {start}");
     }
     Ok(())
 }
 
-// The answer of an append of this many bytes to a log of one record, and the number of records
-// then, in the log and after opening.
+// What an append of so many bytes to a log of one record answers, and how many records then are
+// in the log, and in the log that is opened after it.
 fn sized(alloc: Global, len: usize) -> Result<(Option<LogError>, usize, usize), LogError> {
     let mut disk = MemDisk::new(alloc);
     let mut log = log_of(alloc, &mut disk, &[b"one"])?;
@@ -295,7 +298,7 @@ fn sized(alloc: Global, len: usize) -> Result<(Option<LogError>, usize, usize), 
     Ok((why, log.len(), again.len()))
 }
 
-// The length of a record, and the result of its append.
+// The length of a record, and what comes of it.
 static SIZES: [(usize, (Option<LogError>, usize, usize)); 3] = [
     (0, (None, 3, 3)),
     (16_777_216, (None, 3, 3)),
@@ -306,19 +309,19 @@ static SIZES: [(usize, (Option<LogError>, usize, usize)); 3] = [
 fn sizes_at_their_edges(rt: HostRuntime) -> Result<(), Fail> {
     for (len, want) in &SIZES {
         let found = sized(rt.alloc(), *len)?;
-        assert_eq!(rt; found, *want, "{len}");
+        assert!(rt; found == *want, "{len}: {found:?}");
     }
     Ok(())
 }
 
-// The file is removed under its log.
+// The file is taken away under its log.
 fn failed(alloc: Global, disk: &mut MemDisk) -> Result<Log, LogError> {
     let log = log_of(alloc, disk, &[b"one"])?;
     disk.remove(FILE)?;
     Ok(log)
 }
 
-// The refusal of the log's first record, where it has one record.
+// Why the log's first record is not given, where it has one record.
 fn record_refusal(alloc: Global, disk: &mut MemDisk, log: &Log) -> Option<LogError> {
     if log.len() != 1 {
         return None;
@@ -326,23 +329,32 @@ fn record_refusal(alloc: Global, disk: &mut MemDisk, log: &Log) -> Option<LogErr
     log.record(alloc, disk, 0).err()
 }
 
+// What three appends to a log that lost its file answer.
+fn refusals(
+    alloc: Global,
+    disk: &mut MemDisk,
+    log: &mut Log,
+) -> Result<[Option<LogError>; 3], LogError> {
+    let first = refusal(append(alloc, disk, log, b"two"))?;
+    let again = refusal(append(alloc, disk, log, b"two"))?;
+    Ok([first, again, refusal(append(alloc, disk, log, b"six"))?])
+}
+
+const LOST: Option<LogError> = Some(LogError::Disk(DiskError::NoFile));
+
+const FAILED: Option<LogError> = Some(LogError::Failed);
+
 #[test]
 fn a_failure_stays_until_the_log_is_opened(rt: HostRuntime) -> Result<(), Fail> {
     let alloc = rt.alloc();
     let mut disk = MemDisk::new(alloc);
     let mut log = failed(alloc, &mut disk)?;
-    for (bytes, want) in [
-        (b"two", LogError::Disk(DiskError::NoFile)),
-        (b"two", LogError::Failed),
-        (b"six", LogError::Failed),
-    ] {
-        let answer = append(alloc, &mut disk, &mut log, bytes);
-        assert_eq!(rt; refusal(answer)?, Some(want));
-    }
-    let answer = record_refusal(alloc, &mut disk, &log);
-    assert_eq!(rt; answer, Some(LogError::Failed));
+    let answers = refusals(alloc, &mut disk, &mut log)?;
+    assert!(rt; answers == [LOST, FAILED, FAILED], "{answers:?}");
+    assert!(rt; record_refusal(alloc, &mut disk, &log) == FAILED);
     crash(&mut disk, Junk::Old);
-    assert!(rt; opens(alloc, &mut disk, &[b"one"])?);
+    let is_opened = opens(alloc, &mut disk, &[b"one"])?;
+    assert!(rt; is_opened);
     Ok(())
 }
 
@@ -359,10 +371,9 @@ static TEXTS: [(LogError, &str); 4] = [
 
 #[test]
 fn texts_of_refusals(rt: HostRuntime) -> Result<(), Fail> {
-    let alloc = rt.alloc();
     for (e, want) in &TEXTS {
-        let text = format!(in alloc; "{e}")?;
-        assert_eq!(rt; text.as_str(), *want);
+        let text = format!(in rt.alloc(); "{e}")?;
+        assert!(rt; text.as_str() == *want, "{text}");
     }
     Ok(())
 }

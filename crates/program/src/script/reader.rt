@@ -4,12 +4,12 @@ ghost use Rattle.std.specs.Prelude.{Some, None, IfOk, OnOk, MatchResult, MatchOp
 ghost use Rattle.std.specs.Fmt.{decimal};
 ghost use Rattle.std.specs.List.{list_all};
 ghost use Rattle.std.specs.Str.{bytes_eq};
-ghost use Rattle.configurations.specs.Configs.{IsConfig};
+ghost use Rattle.configurations.specs.Configs.{IsConfig, is_config};
 ghost use Rattle.program.specs.declared.script.error.ScriptError.TheVariants.{OutOfMemory};
 ghost use Rattle.program.specs.declared.script.error.ScriptError.TheVariants.{BadConfiguration};
 ghost use Rattle.program.specs.Words.{is_number};
 ghost use Rattle.program.specs.Scripts.{lines_of, is_skipped, IsScript, Names};
-ghost use Rattle.program.specs.Faults.{is_config, numbers_of, config_fault, script_fault, start};
+ghost use Rattle.program.specs.Faults.{numbers_of, config_fault, script_fault, start};
 ghost use Rattle.program.specs.Reading.{ReadsLine, ReadsWords, Places, Takes};
 
 use super::error::ScriptError;

@@ -6,7 +6,8 @@ use Rattle.kv_types.proofs.reading.edits_in.Goals as goal
 
 pub returns-in_err-edit : goal.returns-in_err-edit
 returns-in_err-edit c =
-    let p = err_from_is_err_and c.from_residual.result c.from_residual.ensures.1 in
+    let p = err_from_is_err_and c.from_residual-in_err-edit.result
+    c.from_residual-in_err-edit.ensures.1 in
     rw (p.1, p.2)
     (ends c.in_err-edit.field-0.0 c.loop.edits.items c.args.count c.loop.counter c.loop.rest.now
     (edits_at c.args.count c.args.bytes.now) c.loop-test.true c.in_err-edit.ensures

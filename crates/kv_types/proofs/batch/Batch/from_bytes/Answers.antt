@@ -20,10 +20,12 @@ returns-in_err-all_edits_of-clause-bad c =
 
 pub invariant_of-result : goal.invariant_of-result
 invariant_of-result c =
+    rw c.new-edits.ensures
     (batch_takes c.args.bytes.now c.in_ok-all_edits_of.field-0.items
     (λ i. omega (arith, c.type_inv.bytes i)) c.in_ok-all_edits_of.ensures).0
 
 pub returns-clause-spelled : goal.returns-clause-spelled
 returns-clause-spelled c =
+    rw c.new-edits.ensures
     (batch_takes c.args.bytes.now c.in_ok-all_edits_of.field-0.items
     (λ i. omega (arith, c.type_inv.bytes i)) c.in_ok-all_edits_of.ensures).1

@@ -17,6 +17,7 @@ returns-in_err-edits-clause-bad c =
 
 pub invariant_of-result : goal.invariant_of-result
 invariant_of-result c =
+    rw c.new-edits.ensures
     (front_takes c.args.bytes.now (c.in_ok-edits.edits.items, c.in_ok-edits.rest.now)
     (λ i. omega (arith, c.type_inv.bytes i)) c.in_ok-edits.ensures).1
 
@@ -24,4 +25,4 @@ pub returns-clause-found : goal.returns-clause-found
 returns-clause-found c =
     let front = front_takes c.args.bytes.now (c.in_ok-edits.edits.items, c.in_ok-edits.rest.now)
     (λ i. omega (arith, c.type_inv.bytes i)) c.in_ok-edits.ensures in
-    (front.0.parts, front.1)
+    rw c.new-edits.ensures (front.0.parts, front.1)

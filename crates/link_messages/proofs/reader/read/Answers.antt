@@ -2,7 +2,7 @@ use Rattle.std.proofs.Common.{◌≡◌, ℕ, ◌≤◌, List, length, take, Ok,
 use Rattle.std.proofs.lemmas.Result.{err_from_is_err_and}
 use Rattle.link_messages.specs.Reading.{IsOr, content_at}
 use Rattle.link_messages.proofs.Streams.{told_length, front_frame, front_fault}
-use Rattle.link_messages.proofs.reader.front_of.Goals as goal
+use Rattle.link_messages.proofs.reader.read.Goals as goal
 
 pub returns-in_err-frame-clause-answer : goal.returns-in_err-frame-clause-answer
 returns-in_err-frame-clause-answer c =
