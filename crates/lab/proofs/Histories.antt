@@ -18,11 +18,11 @@ use Rattle.lab.specs.declared.event.What.{What}
 use Rattle.lab.specs.declared.event.What.TheVariants.{Submit, Get, Deliver, Tick, Start, Stop}
 use Rattle.lab.specs.declared.report.Line.{Line}
 use Rattle.lab.specs.declared.report.Line.TheVariants.{Stopped}
-use Rattle.lab.specs.Events.{modelled, lines_of, lines_at, lines_if, drop_lines, if_started}
-use Rattle.lab.specs.Events.{start_lines, frame_lines, reply_line, reply_lines, cause_told}
-use Rattle.lab.specs.Members.{Choice}
-use Rattle.lab.specs.Traces.{modelled_from, told_from}
-use Rattle.lab.specs.History.{Placed, LineSpeaksOf, StepSpeaksOf, handed_from}
+use Rattle.lab.specs.Events.{modelled, lines_of_event, lines_at, lines_if, drop_trace, if_started}
+use Rattle.lab.specs.Events.{start_trace, frame_lines, reply_line, reply_lines, reported_cause}
+use Rattle.lab.specs.SimNodes.{Choice}
+use Rattle.lab.specs.Traces.{modelled_from, lines_from}
+use Rattle.lab.specs.History.{Placed, LineSpeaksOf, StepSpeaksOf, submitted_from}
 
 -- ---- events
 
@@ -50,17 +50,18 @@ numbered_same i (event ∷ events) (ch ∷ chs) = one event.what (numbered_same 
     one (Stop x junk) later
         = ap (λ (l : List (ModelEvent BatchContent)). modelled i (Stop x junk) ch ∷ l) later
 
--- what the model's events hand in is what the events hand in
-pub handed_same : (i : ℕ) (events : List Event) (chs : List Choice) → length chs ≡ length events →
-    handed_in i (modelled_from i events chs) ≡ handed_from i events
-handed_same i [] chs same = refl
-handed_same i (event ∷ events) [] same = absurd (omega arith)
-handed_same i (event ∷ events) (ch ∷ chs) same = one event.what
-    (handed_same (suc i) events chs (omega arith))
+-- the model's events submit what the events submit
+pub submitted_same : (i : ℕ) (events : List Event) (chs : List Choice) →
+    length chs ≡ length events →
+    handed_in i (modelled_from i events chs) ≡ submitted_from i events
+submitted_same i [] chs same = refl
+submitted_same i (event ∷ events) [] same = absurd (omega arith)
+submitted_same i (event ∷ events) (ch ∷ chs) same = one event.what
+    (submitted_same (suc i) events chs (omega arith))
   where
     one : (what : What) →
-        handed_in (suc i) (modelled_from (suc i) events chs) ≡ handed_from (suc i) events
-        → handed_in i (modelled i what ch ∷ modelled_from (suc i) events chs) ≡ handed_from i
+        handed_in (suc i) (modelled_from (suc i) events chs) ≡ submitted_from (suc i) events
+        → handed_in i (modelled i what ch ∷ modelled_from (suc i) events chs) ≡ submitted_from i
         (record { what = what; fault = event.fault } ∷ events)
     one (Submit x batch) later = ap (λ (l : List Placed). (i, batch) ∷ l) later
     one (Get x key at) later = later
@@ -92,7 +93,7 @@ module _ (B : List Placed) (what : What) where
   abbrev Each : List Line → Type 0
   Each lines = AllByRecursion (LineSpeaksOf B what) lines
 
-  dropped : (why : Option reason.DropReason) → Each (drop_lines why)
+  dropped : (why : Option reason.DropReason) → Each (drop_trace why)
   dropped None = tt
   dropped (Some why) = (tt, tt)
 
@@ -107,7 +108,7 @@ module _ (B : List Placed) (what : What) where
   sent n (Ack to epoch from committed have ∷ frames) = (tt, sent (suc n) frames)
 
 starts : (B : List Placed) (what : What) (o : Outcome BatchContent) →
-    Each B what (start_lines what o)
+    Each B what (start_trace what o)
 starts B (Submit x batch) o = tt
 starts B (Get x key at) o = tt
 starts B (Deliver p) o = tt
@@ -149,16 +150,16 @@ lines_speak_at : (B : List Placed) (x n : ℕ) (what : What) (choice : Choice)
 lines_speak_at B x n what choice o agree =
     let Of = LineSpeaksOf B what in
     let replies = reply_lines what o.replies in
-    cond_both o.stopped (Stopped x (cause_told what choice.cause) ∷ [])
-    (drop_lines o.dropped ++ (start_lines what o ++ (frame_lines n o.frames ++ replies)))
+    cond_both o.stopped (Stopped x (reported_cause what choice.cause) ∷ [])
+    (drop_trace o.dropped ++ (start_trace what o ++ (frame_lines n o.frames ++ replies)))
     (Each B what) (λ stops. (tt, tt))
-    (λ goes_on. both Of (drop_lines o.dropped)
-    (start_lines what o ++ (frame_lines n o.frames ++ replies)) (dropped B what o.dropped)
-    (both Of (start_lines what o) (frame_lines n o.frames ++ replies) (starts B what o)
+    (λ goes_on. both Of (drop_trace o.dropped)
+    (start_trace what o ++ (frame_lines n o.frames ++ replies)) (dropped B what o.dropped)
+    (both Of (start_trace what o) (frame_lines n o.frames ++ replies) (starts B what o)
     (both Of (frame_lines n o.frames) replies (sent B what n o.frames)
     (replied B what o.replies agree))))
 
--- .. and so do those of one that came to none
+-- so do the lines of an event that was for none
 lines_speak : (B : List Placed) (at : Option (ℕ × Machine)) (n : ℕ) (what : What) (choice : Choice)
     (o : Outcome BatchContent) → AllByRecursion (Agrees B) o.replies →
     Each B what (lines_if at n what choice o)
@@ -170,7 +171,7 @@ pub all_speak : (B : List Placed) (cs : Configurations) (i : ℕ) (events : List
     (chs : List Choice) (w : World BatchContent) → length chs ≡ length events
     → AllByRecursion (Agrees B) (flat_map (λ (o : Outcome BatchContent). o.replies)
     (outcomes cs (modelled_from i events chs) w))
-    → AllZip (StepSpeaksOf B) events (told_from cs i events chs w)
+    → AllZip (StepSpeaksOf B) events (lines_from cs i events chs w)
 all_speak B cs i [] chs w same agree = tt
 all_speak B cs i (event ∷ events) [] w same agree = absurd (omega arith)
 all_speak B cs i (event ∷ events) (ch ∷ chs) w same agree =
@@ -179,7 +180,7 @@ all_speak B cs i (event ∷ events) (ch ∷ chs) w same agree =
     let n = length w.frames in
     let later = flat_map (λ (p : Outcome BatchContent). p.replies)
     (outcomes cs (modelled_from (suc i) events chs) (happens cs w e)) in (
-      All-from_recursion (LineSpeaksOf B event.what) (lines_of n event.what ch o)
+      All-from_recursion (LineSpeaksOf B event.what) (lines_of_event n event.what ch o)
           (lines_speak B o.came_to n event.what ch o
           (front (Agrees B) o.replies later agree)),
       all_speak B cs (suc i) events chs (happens cs w e) (omega arith)

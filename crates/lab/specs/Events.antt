@@ -1,4 +1,4 @@
--- Events as the chain's model has them, and the lines that tell what they did.
+-- Events as the chain's model has them, and the lines of their outcomes.
 use Rattle.std.specs.Prelude.{◌≡◌, ℕ, suc, List, [], ◌∷◌, ◌++◌, length, Option, Some, None}
 use Rattle.std.specs.Prelude.{IfSome, true, if◌then◌else◌, All}
 use Rattle.std.specs.List.{flat_map}
@@ -19,7 +19,7 @@ use Rattle.lab.specs.declared.event.What.{What}
 use Rattle.lab.specs.declared.event.What.TheVariants.{Submit, Get, Deliver, Tick, Start, Stop}
 use Rattle.lab.specs.declared.report.Line.{Line}
 use Rattle.lab.specs.declared.report.Line.TheVariants as line
-use Rattle.lab.specs.Members.{Choice}
+use Rattle.lab.specs.SimNodes.{Choice}
 
 -- the node that an event names; a frame goes to its addressee
 abbrev pub node_in : What → Option ℕ
@@ -34,7 +34,7 @@ node_in (Stop node junk) = Some node
 abbrev pub NamesNode : Configurations → What → Type 0
 NamesNode cs what = IfSome (node_in what) (λ x. has (at_epoch cs 0) x ≡ true)
 
--- .. and so does each of these, if it names one
+-- each of these events does, if it names one
 abbrev pub NamesNodes : Configurations → List Event → Type 0
 NamesNodes cs events = All (λ event. NamesNode cs event.what) events
 
@@ -48,12 +48,12 @@ modelled i (Tick node) choice = model.Tick node choice.went
 modelled i (Start node) choice = model.Start node choice.went
 modelled i (Stop node junk) choice = model.Stop node
 
--- a drop is told with its reason
-abbrev pub drop_lines : Option model_reason.DropReason → List Line
-drop_lines None = []
-drop_lines (Some why) = line.Dropped (reason_of why) ∷ []
+-- a drop has a line with its reason
+abbrev pub drop_trace : Option model_reason.DropReason → List Line
+drop_trace None = []
+drop_trace (Some why) = line.Dropped (reason_of why) ∷ []
 
--- a node that was started tells its numbers
+-- a node that was started has a line with its numbers
 abbrev pub start_line : ℕ → Machine → Line
 start_line x n = line.Started x n.epoch (length n.list) n.committed
 
@@ -62,15 +62,15 @@ if_started None None = []
 if_started None (Some at) = start_line at.0 at.1 ∷ []
 if_started (Some why) at = []
 
-abbrev pub start_lines : What → model.Outcome BatchContent → List Line
-start_lines (Start node) o = if_started o.dropped o.came_to
-start_lines (Submit node batch) o = []
-start_lines (Get node key at) o = []
-start_lines (Deliver place) o = []
-start_lines (Tick node) o = []
-start_lines (Stop node junk) o = []
+abbrev pub start_trace : What → model.Outcome BatchContent → List Line
+start_trace (Start node) o = if_started o.dropped o.came_to
+start_trace (Submit node batch) o = []
+start_trace (Get node key at) o = []
+start_trace (Deliver place) o = []
+start_trace (Tick node) o = []
+start_trace (Stop node junk) o = []
 
--- a frame that is sent is told with its place among all, from 1
+-- a frame that is sent has a line with its place among all, from 1
 abbrev pub frame_line : ℕ → model_frame.Frame BatchContent → Line
 frame_line place (model_frame.Forward to epoch from number batch) =
     line.Forwarded place from to epoch number
@@ -82,7 +82,7 @@ abbrev pub frame_lines : ℕ → List (model_frame.Frame BatchContent) → List 
 frame_lines sent [] = []
 frame_lines sent (frame ∷ frames) = frame_line (suc sent) frame ∷ frame_lines (suc sent) frames
 
--- a read is told what its key has in the map of the batches that it shows
+-- the line of a read has what its key has in the map of the batches that it shows
 abbrev pub value_lines : What → ℕ → ℕ → List BatchContent → List Line
 value_lines (Get node key at) i s batches =
     line.Replied (reply.Value i s (map_of batches key)) ∷ []
@@ -103,21 +103,21 @@ reply_line what (model_request.Refused i why) =
 abbrev pub reply_lines : What → List (model_request.Reply BatchContent) → List Line
 reply_lines what replies = flat_map (reply_line what) replies
 
--- a node that stops by itself tells the cause
-abbrev pub cause_told : What → Cause → Option Cause
-cause_told (Stop node junk) cause = None
-cause_told (Submit node batch) cause = Some cause
-cause_told (Get node key at) cause = Some cause
-cause_told (Deliver place) cause = Some cause
-cause_told (Tick node) cause = Some cause
-cause_told (Start node) cause = Some cause
+-- a node that stops by itself reports the cause
+abbrev pub reported_cause : What → Cause → Option Cause
+reported_cause (Stop node junk) cause = None
+reported_cause (Submit node batch) cause = Some cause
+reported_cause (Get node key at) cause = Some cause
+reported_cause (Deliver place) cause = Some cause
+reported_cause (Tick node) cause = Some cause
+reported_cause (Start node) cause = Some cause
 
--- the lines of an event that came to node x: why it was dropped, then a start, then frames, then
+-- the lines of an event at node x: why it was dropped, then a start, then frames, then
 -- replies
 abbrev pub lines_at : ℕ → ℕ → What → Choice → model.Outcome BatchContent → List Line
 lines_at x sent what choice o =
-    if o.stopped then line.Stopped x (cause_told what choice.cause) ∷ []
-    else drop_lines o.dropped ++ (start_lines what o
+    if o.stopped then line.Stopped x (reported_cause what choice.cause) ∷ []
+    else drop_trace o.dropped ++ (start_trace what o
     ++ (frame_lines sent o.frames ++ reply_lines what o.replies))
 
 -- the lines of an event, after so many frames
@@ -126,13 +126,12 @@ abbrev pub lines_if : Option (ℕ × Machine) → ℕ → What → Choice → mo
 lines_if None sent what choice o = line.Nothing ∷ []
 lines_if (Some at) sent what choice o = lines_at at.0 sent what choice o
 
--- the lines that tell what an event did after so many frames, and of a node that stopped by itself
--- why
-abbrev pub lines_of : ℕ → What → Choice → model.Outcome BatchContent → List Line
-lines_of sent what choice o = lines_if o.came_to sent what choice o
+-- the lines of an event after so many frames, and of a node that stopped by itself the cause
+abbrev pub lines_of_event : ℕ → What → Choice → model.Outcome BatchContent → List Line
+lines_of_event sent what choice o = lines_if o.came_to sent what choice o
 
 -- What was chosen fits the event and its outcome. An event that bears a fault is as one without.
 pub record ChoiceFits (event : Event) (choice : Choice) (o : model.Outcome BatchContent) : Type 0
   where
     -- a node stops by itself for its device or for memory alone
-    pub cause : o.stopped ≡ true → IfSome (cause_told event.what choice.cause) IsOfMachine
+    pub cause : o.stopped ≡ true → IfSome (reported_cause event.what choice.cause) IsOfMachine

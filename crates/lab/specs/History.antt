@@ -18,13 +18,13 @@ use Rattle.lab.specs.declared.report.Line.{Line}
 use Rattle.lab.specs.declared.report.Line.TheVariants as line
 use Rattle.lab.specs.declared.report.NodeReport.{NodeReport}
 use Rattle.lab.specs.declared.report.Report.{Report}
-use Rattle.lab.specs.Members.{state}
+use Rattle.lab.specs.SimNodes.{state}
 
 -- a batch with the place of its event
 abbrev pub Placed : Type 0
 Placed = ℕ × BatchContent
 
--- the batches that events hand in, the first event being in place i
+-- the batches that events submit, the first event being in place i
 abbrev pub with_batch : ℕ → What → List Placed → List Placed
 with_batch i (Submit node batch) later = (i, batch) ∷ later
 with_batch i (Get node key at) later = later
@@ -33,9 +33,9 @@ with_batch i (Tick node) later = later
 with_batch i (Start node) later = later
 with_batch i (Stop node junk) later = later
 
-abbrev pub handed_from : ℕ → List Event → List Placed
-handed_from i [] = []
-handed_from i (event ∷ events) = with_batch i event.what (handed_from (suc i) events)
+abbrev pub submitted_from : ℕ → List Event → List Placed
+submitted_from i [] = []
+submitted_from i (event ∷ events) = with_batch i event.what (submitted_from (suc i) events)
 
 -- a read at s shows what its key has in the map of B's first s batches
 abbrev pub ShowsOf : List Placed → What → ℕ → Option (List ℕ) → Type 0
@@ -77,8 +77,8 @@ pub record IsHistory {D N : Type 0} (state : D → State) (id : N → ℕ) (disk
     (cs : Configurations) (events : List Event) (steps : List (List Line)) (nodes : List N)
     : Type 0 where
   pub B : List Placed
-  -- .. taken in order and none twice from the batches handed in
-  pub taken : Part B (handed_from 1 events)
+  -- .. taken in order and none twice from the batches that were submitted
+  pub taken : Part B (submitted_from 1 events)
   -- .. of which every read and every acknowledgement speaks
   pub speaks : AllZip (StepSpeaksOf B) events steps
   -- .. and which every node of the last configuration has on its disk
