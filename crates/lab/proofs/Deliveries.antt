@@ -22,8 +22,8 @@ use Rattle.node.specs.declared.stop.Stop.TheVariants.{Disk}
 use Rattle.node.specs.Steps.{told_as}
 use Rattle.lab.specs.declared.input.NodeInput.{NodeInput}
 use Rattle.lab.specs.declared.input.StepOutcome.{StepOutcome}
-use Rattle.lab.specs.declared.event.What.{What}
-use Rattle.lab.specs.declared.event.What.TheVariants.{Submit, Get, Deliver, Tick, Start, Stop}
+use Rattle.lab.specs.declared.event.EventKind.{EventKind}
+use Rattle.lab.specs.declared.event.EventKind.TheVariants.{Submit, Get, Deliver, Tick, Start, Stop}
 use Rattle.lab.specs.declared.node_state.NodeState.{NodeState}
 use Rattle.lab.specs.declared.report.Line.TheVariants as line
 use Rattle.lab.specs.Events.{modelled, reply_line}
@@ -36,8 +36,8 @@ use Rattle.lab.proofs.Outcomes.{IsOutcome, IsTraced, chosen, as_chosen, given, s
 use Rattle.lab.proofs.Outcomes.{drop_traced}
 
 -- each kind has the lines of replies that the node has
-abbrev RepliesSo : What → Input → Type 0
-RepliesSo what inp = (r : request.Reply BatchContent) → reply_line what r
+abbrev RepliesSo : EventKind → Input → Type 0
+RepliesSo kind inp = (r : request.Reply BatchContent) → reply_line kind r
     ≡ map (λ reply. line.Replied reply) (told_as inp r)
 
 submit_replies : (x i : ℕ) (batch : BatchContent) →
@@ -161,10 +161,10 @@ module _ (cs : Configurations) (w : World BatchContent) (i x : ℕ) (new : NodeS
         traced.0 traced.2 refl))
 
     -- the outcome of the input that an event delivers is the event's
-    pub refined : (what : What) (node_input : NodeInput) → IsDeliveryOf w.frames i what x
+    pub refined : (kind : EventKind) (node_input : NodeInput) → IsDeliveryOf w.frames i kind x
         node_input →
         OutcomeRefines is_honest state x (w.nodes x) node_input new did →
-        IsOutcome cs w i x what new did
+        IsOutcome cs w i x kind new did
     refined (Submit node batch) node_input brings was =
         subst (λ (y : ℕ). IsOutcome cs w i x (Submit y batch) new did) brings.0
         (given cs w i x (Submit x batch) (input.Submit i batch) new did (λ choice. refl)
@@ -198,17 +198,17 @@ module _ (cs : Configurations) (w : World BatchContent) (i x : ℕ) (new : NodeS
         brings.1 was))
 
 -- an event without a frame does nothing
-pub nothing_done : (cs : Configurations) (w : World BatchContent) (i : ℕ) (what : What)
-    (choice : Choice) → HasNoDelivery w.frames what →
-    outcome w cs (modelled i what choice) ≡ nothing
-nothing_done cs w i what choice brings =
-    ap (λ (e : What). outcome w cs (modelled i e choice)) brings.1
+pub nothing_done : (cs : Configurations) (w : World BatchContent) (i : ℕ) (kind : EventKind)
+    (choice : Choice) → HasNoDelivery w.frames kind →
+    outcome w cs (modelled i kind choice) ≡ nothing
+nothing_done cs w i kind choice brings =
+    ap (λ (e : EventKind). outcome w cs (modelled i e choice)) brings.1
     ∙ ap (λ (o : Option (ModelFrame BatchContent)). delivered w o choice.went) brings.2
 
 -- the junk of a stop is that of its input
-pub junk_same : (frames : List (ModelFrame BatchContent)) (i x : ℕ) (what : What)
+pub junk_same : (frames : List (ModelFrame BatchContent)) (i x : ℕ) (kind : EventKind)
     (node_input : NodeInput) →
-    IsDeliveryOf frames i what x node_input → input_junk node_input ≡ junk_of what
+    IsDeliveryOf frames i kind x node_input → input_junk node_input ≡ junk_of kind
 junk_same frames i x (Submit node batch) node_input brings = ap input_junk brings.1
 junk_same frames i x (Get node key at) node_input brings = ap input_junk brings.1
 junk_same frames i x (Deliver p) node_input brings = ap input_junk brings.is ∙ none_with brings.it

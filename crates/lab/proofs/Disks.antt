@@ -15,8 +15,8 @@ use Rattle.node.specs.declared.stop.Stop.TheVariants.{Disk, Damaged, Memory, Not
 use Rattle.lab.specs.declared.input.StepOutcome.{StepOutcome}
 use Rattle.lab.specs.declared.input.StepOutcome.TheVariants as done
 use Rattle.lab.specs.declared.event.Event.{Event}
-use Rattle.lab.specs.declared.event.What.{What}
-use Rattle.lab.specs.declared.event.What.TheVariants.{Submit, Get, Deliver, Tick, Start, Stop}
+use Rattle.lab.specs.declared.event.EventKind.{EventKind}
+use Rattle.lab.specs.declared.event.EventKind.TheVariants.{Submit, Get, Deliver, Tick, Start, Stop}
 use Rattle.lab.specs.declared.node_state.NodeState.{NodeState}
 use Rattle.lab.specs.declared.node_state.NodeState.TheVariants.{Up, Down}
 use Rattle.lab.specs.Outcomes.{HasCrashed, DiskEnds, DiskFits}
@@ -80,10 +80,10 @@ at_most_one junk (done.Stopped (Some NotCreated)) old new left may =
 
 module _ (old : Slots) (new : NodeState Slots) (may : MayRise old) where
   -- a stop is that of the event, or by itself for the cause that was chosen
-  stop_of : (what : What) (choice : Choice) (traced : Option Cause) →
-      reported_cause what choice.cause ≡ traced → DiskFits state failures (junk_of what)
+  stop_of : (kind : EventKind) (choice : Choice) (traced : Option Cause) →
+      reported_cause kind choice.cause ≡ traced → DiskFits state failures (junk_of kind)
       (done.Stopped traced) old new →
-      IsStopOf state failures (junk_of what) choice.cause old (disk_in new)
+      IsStopOf state failures (junk_of kind) choice.cause old (disk_in new)
   stop_of (Stop x junk) choice traced is left = crash_of junk old new
       (subst (λ (c : Option Cause). DiskFits state failures (Some junk) (done.Stopped c) old new)
       (sym is) left)
@@ -117,8 +117,8 @@ module _ (old : Slots) (new : NodeState Slots) (may : MayRise old) where
   -- what the node left is what the event's outcome leaves
   pub follows : (event : Event) (choice : Choice) (o : Outcome BatchContent) (x : ℕ) (n : Machine)
       (did : StepOutcome) → StateRefines is_honest state new x n →
-      StopsSo event.what choice did o.stopped →
-      DiskFits state failures (junk_of event.what) did old new →
+      StopsSo event.kind choice did o.stopped →
+      DiskFits state failures (junk_of event.kind) did old new →
       DiskFollows state failures event choice o n old (disk_in new)
   follows event choice o x n (done.Answered output) is ends left = record {
     stops = λ stops. absurd (false≢true (sym ends ∙ stops));
@@ -131,7 +131,7 @@ module _ (old : Slots) (new : NodeState Slots) (may : MayRise old) where
     rests = λ _. λ off. left.same (rests_so new x n is off);
   }
   follows event choice o x n (done.Stopped traced) is ends left = record {
-    stops = λ _. stop_of event.what choice traced ends.1 left;
+    stops = λ _. stop_of event.kind choice traced ends.1 left;
     count = λ goes. absurd (false≢true (sym goes ∙ ends.0));
     rests = λ goes. absurd (false≢true (sym goes ∙ ends.0));
   }

@@ -24,44 +24,44 @@ module _ (cs : Configurations) (e : Event) (ch : Choice) where
   pub run-push : (i k : ℕ) (es : List Event) (chs : List Choice) (w : World BatchContent) →
       length chs ≡ length es → k ≡ i + length es →
       run cs (modelled_from i (es ++ e ∷ []) (chs ++ ch ∷ [])) w ≡ happens cs
-      (run cs (modelled_from i es chs) w) (modelled k e.what ch)
-  run-push i k [] [] w same at = ap (λ (j : ℕ). happens cs w (modelled j e.what ch))
+      (run cs (modelled_from i es chs) w) (modelled k e.kind ch)
+  run-push i k [] [] w same at = ap (λ (j : ℕ). happens cs w (modelled j e.kind ch))
       (omega arith)
   run-push i k [] (c ∷ chs) w same at = absurd (omega arith)
   run-push i k (f ∷ es) [] w same at = absurd (omega arith)
   run-push i k (f ∷ es) (c ∷ chs) w same at = run-push (suc i) k es chs
-      (happens cs w (modelled i f.what c)) (omega arith) (omega arith)
+      (happens cs w (modelled i f.kind c)) (omega arith) (omega arith)
 
   pub lines_from-push : (i k : ℕ) (es : List Event) (chs : List Choice) (w : World BatchContent) →
       length chs ≡ length es → k ≡ i + length es →
       let u = run cs (modelled_from i es chs) w in
       lines_from cs i (es ++ e ∷ []) (chs ++ ch ∷ []) w ≡ lines_from cs i es chs w ++ lines_of_event
-      (length u.frames) e.what ch (outcome u cs (modelled k e.what ch)) ∷ []
+      (length u.frames) e.kind ch (outcome u cs (modelled k e.kind ch)) ∷ []
   lines_from-push i k [] [] w same at = ap
-      (λ (j : ℕ). lines_of_event (length w.frames) e.what ch
-      (outcome w cs (modelled j e.what ch)) ∷ []) (omega arith)
+      (λ (j : ℕ). lines_of_event (length w.frames) e.kind ch
+      (outcome w cs (modelled j e.kind ch)) ∷ []) (omega arith)
   lines_from-push i k [] (c ∷ chs) w same at = absurd (omega arith)
   lines_from-push i k (f ∷ es) [] w same at = absurd (omega arith)
   lines_from-push i k (f ∷ es) (c ∷ chs) w same at =
-      ap (λ (l : List (List Line)). lines_of_event (length w.frames) f.what c
-      (outcome w cs (modelled i f.what c)) ∷ l)
-      (lines_from-push (suc i) k es chs (happens cs w (modelled i f.what c)) (omega arith)
+      ap (λ (l : List (List Line)). lines_of_event (length w.frames) f.kind c
+      (outcome w cs (modelled i f.kind c)) ∷ l)
+      (lines_from-push (suc i) k es chs (happens cs w (modelled i f.kind c)) (omega arith)
       (omega arith))
 
   pub fit-push : (i k : ℕ) (es : List Event) (chs : List Choice) (w : World BatchContent) →
       length chs ≡ length es → k ≡ i + length es → AllFit cs i es chs w →
       let u = run cs (modelled_from i es chs) w in
-      ChoiceFits e ch (outcome u cs (modelled k e.what ch)) →
+      ChoiceFits e ch (outcome u cs (modelled k e.kind ch)) →
       AllFit cs i (es ++ e ∷ []) (chs ++ ch ∷ []) w
   fit-push i k [] [] w same at all one = (
-    subst (λ (j : ℕ). ChoiceFits e ch (outcome w cs (modelled j e.what ch))) (omega arith) one,
+    subst (λ (j : ℕ). ChoiceFits e ch (outcome w cs (modelled j e.kind ch))) (omega arith) one,
     tt,
   )
   fit-push i k [] (c ∷ chs) w same at all one = absurd (omega arith)
   fit-push i k (f ∷ es) [] w same at all one = absurd all
   fit-push i k (f ∷ es) (c ∷ chs) w same at all one = (
     all.0,
-    fit-push (suc i) k es chs (happens cs w (modelled i f.what c)) (omega arith) (omega arith)
+    fit-push (suc i) k es chs (happens cs w (modelled i f.kind c)) (omega arith) (omega arith)
         all.1 one,
   )
 
@@ -69,14 +69,14 @@ module _ (cs : Configurations) (e : Event) (ch : Choice) where
       (old disks new : ℕ → Slots) → length chs ≡ length es → k ≡ i + length es →
       AllFollow state failures cs i es chs w old disks →
       let u = run cs (modelled_from i es chs) w in
-      DisksFollow state failures e ch (outcome u cs (modelled k e.what ch)) disks new →
+      DisksFollow state failures e ch (outcome u cs (modelled k e.kind ch)) disks new →
       AllFollow state failures cs i (es ++ e ∷ []) (chs ++ ch ∷ []) w old new
   follow-push i k [] [] w old disks new same at all one = (
     new,
     subst (λ (d : ℕ → Slots). DisksFollow state failures e ch
-        (outcome w cs (modelled i e.what ch)) d new) all
+        (outcome w cs (modelled i e.kind ch)) d new) all
         (subst (λ (j : ℕ). DisksFollow state failures e ch
-        (outcome w cs (modelled j e.what ch)) disks new) (omega arith) one),
+        (outcome w cs (modelled j e.kind ch)) disks new) (omega arith) one),
     refl,
   )
   follow-push i k [] (c ∷ chs) w old disks new same at all one = absurd (omega arith)
@@ -84,7 +84,7 @@ module _ (cs : Configurations) (e : Event) (ch : Choice) where
   follow-push i k (f ∷ es) (c ∷ chs) w old disks new same at all one = (
     all.0,
     all.1,
-    follow-push (suc i) k es chs (happens cs w (modelled i f.what c)) all.0 disks new
+    follow-push (suc i) k es chs (happens cs w (modelled i f.kind c)) all.0 disks new
         (omega arith) (omega arith) all.2 one,
   )
 
@@ -95,7 +95,7 @@ pub length-lines_from : (cs : Configurations) (i : ℕ) (es : List Event) (chs :
 length-lines_from cs i [] chs w same = refl
 length-lines_from cs i (e ∷ es) [] w same = absurd (omega arith)
 length-lines_from cs i (e ∷ es) (ch ∷ chs) w same =
-    ap suc (length-lines_from cs (suc i) es chs (happens cs w (modelled i e.what ch))
+    ap suc (length-lines_from cs (suc i) es chs (happens cs w (modelled i e.kind ch))
     (omega arith))
 
 -- so many frames more have lines
@@ -109,17 +109,17 @@ pub record Next (cs : Configurations) (w : World BatchContent) (old : ℕ → Sl
     (event : Event) (choice : Choice) (sims : List SimNode) (posted : List Posted)
     (lines : List Line)
     : Type 0 where
-  pub traced : lines ≡ lines_of_event (length w.frames) event.what choice
-      (outcome w cs (modelled i event.what choice))
-  pub fits : ChoiceFits event choice (outcome w cs (modelled i event.what choice))
-  pub counted : frames_of_step lines ≡ length (outcome w cs (modelled i event.what choice)).frames
-  pub frames : AllZip PostedRefines posted (happens cs w (modelled i event.what choice)).frames
+  pub traced : lines ≡ lines_of_event (length w.frames) event.kind choice
+      (outcome w cs (modelled i event.kind choice))
+  pub fits : ChoiceFits event choice (outcome w cs (modelled i event.kind choice))
+  pub counted : frames_of_step lines ≡ length (outcome w cs (modelled i event.kind choice)).frames
+  pub frames : AllZip PostedRefines posted (happens cs w (modelled i event.kind choice)).frames
   pub nodes : map (λ sim. sim.id) sims ≡ at_epoch cs 0
   pub disks : ℕ → Slots
   pub follow : DisksFollow state failures event choice
-      (outcome w cs (modelled i event.what choice)) old disks
+      (outcome w cs (modelled i event.kind choice)) old disks
   pub few : (x : ℕ) → failures (disks x) ≤ i
-  pub each : All (SimNodeRefines (happens cs w (modelled i event.what choice)).nodes disks) sims
+  pub each : All (SimNodeRefines (happens cs w (modelled i event.kind choice)).nodes disks) sims
 
 module _ (cs : Configurations) (events : List Event) (steps : List (List Line))
     (sims : List SimNode) (posted : List Posted) (made : RunRefines sims posted cs events steps)
@@ -168,9 +168,9 @@ module _ (cs : Configurations) (events : List Event) (steps : List (List Line))
             next.counted,
             AllZip-long PostedRefines posted so_far.frames made.frames,
             AllZip-long PostedRefines more
-                (happens cs so_far (modelled i event.what choice)).frames next.frames,
+                (happens cs so_far (modelled i event.kind choice)).frames next.frames,
             length-append so_far.frames
-                (outcome so_far cs (modelled i event.what choice)).frames,
+                (outcome so_far cs (modelled i event.kind choice)).frames,
           );
           nodes = next.nodes;
           disks = next.disks;

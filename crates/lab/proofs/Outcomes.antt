@@ -30,7 +30,7 @@ use Rattle.node.specs.Steps.{reason_of, replies_of, told_as}
 use Rattle.node.specs.Stops.{IsOfMachine}
 use Rattle.lab.specs.declared.input.StepOutcome.{StepOutcome}
 use Rattle.lab.specs.declared.input.StepOutcome.TheVariants as done
-use Rattle.lab.specs.declared.event.What.{What}
+use Rattle.lab.specs.declared.event.EventKind.{EventKind}
 use Rattle.lab.specs.declared.node_state.NodeState.{NodeState}
 use Rattle.lab.specs.declared.report.Line.{Line}
 use Rattle.lab.specs.declared.report.Line.TheVariants as line
@@ -116,55 +116,55 @@ counts_replies (reply ∷ replies) = omega (arith, counts_replies replies)
 -- ---- outcomes
 
 -- a node that stops by itself stops for its device or for memory
-abbrev pub CauseFits : What → Choice → Outcome BatchContent → Type 0
-CauseFits what choice o = o.stopped ≡ true → IfSome (reported_cause what choice.cause) IsOfMachine
+abbrev pub CauseFits : EventKind → Choice → Outcome BatchContent → Type 0
+CauseFits kind choice o = o.stopped ≡ true → IfSome (reported_cause kind choice.cause) IsOfMachine
 
 -- the node stopped where its doing says so, with the cause that was chosen
-abbrev pub StopsSo : What → Choice → StepOutcome → Bool → Type 0
-StopsSo what choice (done.Answered output) stopped = stopped ≡ false
-StopsSo what choice (done.Started epoch count committed) stopped = stopped ≡ false
-StopsSo what choice (done.Stopped traced) stopped =
-    (stopped ≡ true) × (reported_cause what choice.cause ≡ traced)
+abbrev pub StopsSo : EventKind → Choice → StepOutcome → Bool → Type 0
+StopsSo kind choice (done.Answered output) stopped = stopped ≡ false
+StopsSo kind choice (done.Started epoch count committed) stopped = stopped ≡ false
+StopsSo kind choice (done.Stopped traced) stopped =
+    (stopped ≡ true) × (reported_cause kind choice.cause ≡ traced)
 
 -- an event's outcome with its lines: the node that it was for, and the state of that node now
-pub record IsOutcome (cs : Configurations) (w : World BatchContent) (i x : ℕ) (what : What)
+pub record IsOutcome (cs : Configurations) (w : World BatchContent) (i x : ℕ) (kind : EventKind)
     (new : NodeState Slots) (did : StepOutcome) : Type 0 where
   pub choice : Choice
   pub node : Machine
-  pub came : (outcome w cs (modelled i what choice)).came_to ≡ Some (x, node)
+  pub came : (outcome w cs (modelled i kind choice)).came_to ≡ Some (x, node)
   pub is : StateRefines is_honest state new x node
-  pub frames : AreFrames (sent_by did) (outcome w cs (modelled i what choice)).frames
+  pub frames : AreFrames (sent_by did) (outcome w cs (modelled i kind choice)).frames
   pub traced : (n : ℕ) → outcome_lines x n did
-      ≡ lines_of_event n what choice (outcome w cs (modelled i what choice))
+      ≡ lines_of_event n kind choice (outcome w cs (modelled i kind choice))
   pub counted : (n : ℕ) → frames_of_step (outcome_lines x n did)
-      ≡ length (outcome w cs (modelled i what choice)).frames
-  pub fits : CauseFits what choice (outcome w cs (modelled i what choice))
-  pub ends : StopsSo what choice did (outcome w cs (modelled i what choice)).stopped
+      ≡ length (outcome w cs (modelled i kind choice)).frames
+  pub fits : CauseFits kind choice (outcome w cs (modelled i kind choice))
+  pub ends : StopsSo kind choice did (outcome w cs (modelled i kind choice)).stopped
 
 -- what a node's doing is at an outcome
-pub record IsTraced (x : ℕ) (what : What) (choice : Choice) (did : StepOutcome)
+pub record IsTraced (x : ℕ) (kind : EventKind) (choice : Choice) (did : StepOutcome)
     (o : Outcome BatchContent)
     : Type 0 where
   pub frames : AreFrames (sent_by did) o.frames
-  pub traced : (n : ℕ) → outcome_lines x n did ≡ lines_of_event n what choice o
+  pub traced : (n : ℕ) → outcome_lines x n did ≡ lines_of_event n kind choice o
   pub counted : (n : ℕ) → frames_of_step (outcome_lines x n did) ≡ length o.frames
-  pub fits : CauseFits what choice o
-  pub ends : StopsSo what choice did o.stopped
+  pub fits : CauseFits kind choice o
+  pub ends : StopsSo kind choice did o.stopped
 
 abbrev pub chosen : Went → Cause → Choice
 chosen went cause = record { went = went; cause = cause }
 
-module _ (cs : Configurations) (w : World BatchContent) (i x : ℕ) (what : What)
+module _ (cs : Configurations) (w : World BatchContent) (i x : ℕ) (kind : EventKind)
     (new : NodeState Slots)
     (did : StepOutcome) where
   -- with this choice the outcome is this one
   pub as_chosen : (choice : Choice) (o : Outcome BatchContent) (n : Machine) →
-      outcome w cs (modelled i what choice) ≡ o → o.came_to ≡ Some (x, n) →
+      outcome w cs (modelled i kind choice) ≡ o → o.came_to ≡ Some (x, n) →
       StateRefines is_honest state new x n →
-      IsTraced x what choice did o → IsOutcome cs w i x what new did
+      IsTraced x kind choice did o → IsOutcome cs w i x kind new did
   as_chosen choice o n is_o came is tells =
       let same = sym is_o in
-      let all = subst (λ (p : Outcome BatchContent). IsTraced x what choice did p) same tells in
+      let all = subst (λ (p : Outcome BatchContent). IsTraced x kind choice did p) same tells in
       record {
         choice = choice;
         node = n;
@@ -199,7 +199,7 @@ counts_answer n a replies =
     )
 
 -- an input's answer has the lines of the model's
-module _ (x : ℕ) (what : What) (inp : Input) (choice : Choice) (a : Answer BatchContent)
+module _ (x : ℕ) (kind : EventKind) (inp : Input) (choice : Choice) (a : Answer BatchContent)
     (output : Output) (is : IsAnswer inp a output) where
   answer_lines : (n : ℕ) → outcome_lines x n (done.Answered output)
       ≡ answered_lines n a (replies_of inp a.replies)
@@ -209,9 +209,9 @@ module _ (x : ℕ) (what : What) (inp : Input) (choice : Choice) (a : Answer Bat
       (lines_same n output.frames.items a.frames is.frames)
       ∙ ap (λ (rs : List Reply). answered_lines n a rs) is.replied
 
-  answer_traced : (start_trace what (answers x a) ≡ []) →
-      (reply_lines what a.replies ≡ map (λ reply. line.Replied reply) (replies_of inp a.replies)) →
-      IsTraced x what choice (done.Answered output) (answers x a)
+  answer_traced : (start_trace kind (answers x a) ≡ []) →
+      (reply_lines kind a.replies ≡ map (λ reply. line.Replied reply) (replies_of inp a.replies)) →
+      IsTraced x kind choice (done.Answered output) (answers x a)
   answer_traced starts replies = record {
     frames = is.frames;
     traced = λ n. answer_lines n
@@ -224,10 +224,11 @@ module _ (x : ℕ) (what : What) (inp : Input) (choice : Choice) (a : Answer Bat
   }
 
 -- a stop has a line with its cause
-pub stop_traced : (x : ℕ) (what : What) (choice : Choice) (traced : Option Cause) (n : Machine) →
-    reported_cause what choice.cause ≡ traced → IfSome traced IsOfMachine →
-    IsTraced x what choice (done.Stopped traced) (stops x n)
-stop_traced x what choice traced n is of_machine = record {
+pub stop_traced : (x : ℕ) (kind : EventKind) (choice : Choice) (traced : Option Cause)
+    (n : Machine) →
+    reported_cause kind choice.cause ≡ traced → IfSome traced IsOfMachine →
+    IsTraced x kind choice (done.Stopped traced) (stops x n)
+stop_traced x kind choice traced n is of_machine = record {
   frames = refl;
   traced = λ m. ap (λ (c : Option Cause). line.Stopped x c ∷ []) (sym is);
   counted = λ m. refl;
@@ -236,12 +237,12 @@ stop_traced x what choice traced n is of_machine = record {
 }
 
 -- a drop has a line with its reason
-pub drop_traced : (x : ℕ) (what : What) (choice : Choice) (n : Machine)
+pub drop_traced : (x : ℕ) (kind : EventKind) (choice : Choice) (n : Machine)
     (why : model_reason.DropReason) (output : Output) → IsDrop (reason_of why) output →
-    start_trace what (answers x (dropped_for n why)) ≡ [] →
-    IsTraced x what choice (done.Answered output) (answers x (dropped_for n why))
-drop_traced x what choice n why output is starts =
-    answer_traced x what input.Tick choice (dropped_for n why) output (record {
+    start_trace kind (answers x (dropped_for n why)) ≡ [] →
+    IsTraced x kind choice (done.Answered output) (answers x (dropped_for n why))
+drop_traced x kind choice n why output is starts =
+    answer_traced x kind input.Tick choice (dropped_for n why) output (record {
       dropped = is.dropped;
       frames = ap (map (λ (it : Sent). frame_as it.to it.frame)) is.frames;
       replied = is.replied;
@@ -250,65 +251,65 @@ drop_traced x what choice n why output is starts =
 -- ---- inputs
 
 -- replies have the same lines in the model and at the node
-shows_so : (inp : Input) (what : What) (replies : List (request.Reply BatchContent)) →
-    ((r : request.Reply BatchContent) → reply_line what r
+shows_so : (inp : Input) (kind : EventKind) (replies : List (request.Reply BatchContent)) →
+    ((r : request.Reply BatchContent) → reply_line kind r
     ≡ map (λ reply. line.Replied reply) (told_as inp r)) →
-    reply_lines what replies ≡ map (λ reply. line.Replied reply) (replies_of inp replies)
-shows_so inp what [] each = refl
-shows_so inp what (r ∷ replies) each =
-    ap₂ (λ (a b : List Line). a ++ b) (each r) (shows_so inp what replies each)
+    reply_lines kind replies ≡ map (λ reply. line.Replied reply) (replies_of inp replies)
+shows_so inp kind [] each = refl
+shows_so inp kind (r ∷ replies) each =
+    ap₂ (λ (a b : List Line). a ++ b) (each r) (shows_so inp kind replies each)
     ∙ sym (map-append (λ reply. line.Replied reply) (told_as inp r) (replies_of inp replies))
 
 -- an input, as the model has it
-module _ (cs : Configurations) (w : World BatchContent) (i x : ℕ) (what : What) (inp : Input)
+module _ (cs : Configurations) (w : World BatchContent) (i x : ℕ) (kind : EventKind) (inp : Input)
     (new : NodeState Slots) (did : StepOutcome)
-    (at : (choice : Choice) → outcome w cs (modelled i what choice)
+    (at : (choice : Choice) → outcome w cs (modelled i kind choice)
     ≡ cond (w.nodes x).running (as_it_went x (w.nodes x) (answer_to x (w.nodes x) inp) choice.went)
     (answers x (down_answer (w.nodes x) inp)))
-    (causes : (cause : Cause) → reported_cause what cause ≡ Some cause)
-    (starts : (o : Outcome BatchContent) → start_trace what o ≡ [])
-    (replies : (r : request.Reply BatchContent) → reply_line what r
+    (causes : (cause : Cause) → reported_cause kind cause ≡ Some cause)
+    (starts : (o : Outcome BatchContent) → start_trace kind o ≡ [])
+    (replies : (r : request.Reply BatchContent) → reply_line kind r
     ≡ map (λ reply. line.Replied reply) (told_as inp r)) where
-  runs : (choice : Choice) → (w.nodes x).running ≡ true → outcome w cs (modelled i what choice)
+  runs : (choice : Choice) → (w.nodes x).running ≡ true → outcome w cs (modelled i kind choice)
       ≡ as_it_went x (w.nodes x) (answer_to x (w.nodes x) inp) choice.went
   runs choice up = at choice ∙ cond-true _ _ _ up
 
-  rests : (choice : Choice) → (w.nodes x).running ≡ false → outcome w cs (modelled i what choice)
+  rests : (choice : Choice) → (w.nodes x).running ≡ false → outcome w cs (modelled i kind choice)
       ≡ answers x (down_answer (w.nodes x) inp)
   rests choice off = at choice ∙ cond-false _ _ _ off
 
   -- the node answers so
   tells : (a : Answer BatchContent) → (traced : HasAnswered did (IsAnswer inp a)) →
-      IsTraced x what (chosen Answered Disk) did (answers x a)
-  tells a traced = subst (λ (d : StepOutcome). IsTraced x what (chosen Answered Disk) d
+      IsTraced x kind (chosen Answered Disk) did (answers x a)
+  tells a traced = subst (λ (d : StepOutcome). IsTraced x kind (chosen Answered Disk) d
       (answers x a))
       (sym traced.1)
-      (answer_traced x what inp (chosen Answered Disk) a traced.0 traced.2 (starts (answers x a))
-      (shows_so inp what a.replies replies))
+      (answer_traced x kind inp (chosen Answered Disk) a traced.0 traced.2 (starts (answers x a))
+      (shows_so inp kind a.replies replies))
 
   ends : (went : Went) (cause : Cause) (n : Machine) → IsOfMachine cause →
-      did ≡ done.Stopped (Some cause) → IsTraced x what (chosen went cause) did (stops x n)
+      did ≡ done.Stopped (Some cause) → IsTraced x kind (chosen went cause) did (stops x n)
   ends went cause n of_machine is =
-      subst (λ (d : StepOutcome). IsTraced x what (chosen went cause) d (stops x n)) (sym is)
-      (stop_traced x what (chosen went cause) (Some cause) n (causes cause) of_machine)
+      subst (λ (d : StepOutcome). IsTraced x kind (chosen went cause) d (stops x n)) (sym is)
+      (stop_traced x kind (chosen went cause) (Some cause) n (causes cause) of_machine)
 
   pub given : HasHandled is_honest state x (w.nodes x) inp new did →
-      IsOutcome cs w i x what new did
+      IsOutcome cs w i x kind new did
   given (Answers up is traced) =
-      as_chosen cs w i x what new did (chosen Answered Disk)
+      as_chosen cs w i x kind new did (chosen Answered Disk)
       (answers x (answer_to x (w.nodes x) inp)) (answer_to x (w.nodes x) inp).node
       (runs (chosen Answered Disk) up) refl is (tells (answer_to x (w.nodes x) inp) traced)
   given (Ends up cause of_machine (inl before) traced) =
-      as_chosen cs w i x what new did (chosen StoppedBefore cause) (stops x (w.nodes x))
+      as_chosen cs w i x kind new did (chosen StoppedBefore cause) (stops x (w.nodes x))
       (stopped (w.nodes x)) (runs (chosen StoppedBefore cause) up) refl before
       (ends StoppedBefore cause (w.nodes x) of_machine traced)
   given (Ends up cause of_machine (inr behind) traced) =
-      as_chosen cs w i x what new did (chosen StoppedAfter cause)
+      as_chosen cs w i x kind new did (chosen StoppedAfter cause)
       (stops x (answer_to x (w.nodes x) inp).node) (stopped (answer_to x (w.nodes x) inp).node)
       (runs (chosen StoppedAfter cause) up) refl behind
       (ends StoppedAfter cause (answer_to x (w.nodes x) inp).node of_machine traced)
   given (Rests off is traced) =
-      as_chosen cs w i x what new did (chosen Answered Disk)
+      as_chosen cs w i x kind new did (chosen Answered Disk)
       (answers x (down_answer (w.nodes x) inp)) (down_answer (w.nodes x) inp).node
       (rests (chosen Answered Disk) off) refl
       (subst (λ (n : Machine). StateRefines is_honest state new x n) (sym (rests_same inp)) is)

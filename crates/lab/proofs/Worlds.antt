@@ -31,8 +31,8 @@ use Rattle.lab.specs.declared.input.NodeInput.{NodeInput}
 use Rattle.lab.specs.declared.input.NodeInput.TheVariants as to_node
 use Rattle.lab.specs.declared.input.StepOutcome.{StepOutcome}
 use Rattle.lab.specs.declared.event.Event.{Event}
-use Rattle.lab.specs.declared.event.What.{What}
-use Rattle.lab.specs.declared.event.What.TheVariants.{Submit, Get, Deliver, Tick, Start, Stop}
+use Rattle.lab.specs.declared.event.EventKind.{EventKind}
+use Rattle.lab.specs.declared.event.EventKind.TheVariants.{Submit, Get, Deliver, Tick, Start, Stop}
 use Rattle.lab.specs.declared.delivery.Posted.{Posted}
 use Rattle.lab.specs.declared.report.Line.{Line}
 use Rattle.lab.specs.declared.report.Line.TheVariants.{Nothing}
@@ -58,10 +58,10 @@ use Rattle.lab.proofs.Growing.{length-steps, grown, run-push}
 use Rattle.lab.proofs.Addressees.{IsNumbered, addressed, all_numbered, back, kept_all}
 
 -- the delivery that was found is that of the event, by the frames that are posted
-abbrev pub FitsDelivery : List Posted → ℕ → What → Option (ℕ × NodeInput) → Type 0
-FitsDelivery posted i what found = (frames : List (ModelFrame BatchContent)) →
-    AllZip PostedRefines posted frames → MatchOption found (HasNoDelivery frames what)
-    (λ it. IsDeliveryOf frames i what it.0 it.1)
+abbrev pub FitsDelivery : List Posted → ℕ → EventKind → Option (ℕ × NodeInput) → Type 0
+FitsDelivery posted i kind found = (frames : List (ModelFrame BatchContent)) →
+    AllZip PostedRefines posted frames → MatchOption found (HasNoDelivery frames kind)
+    (λ it. IsDeliveryOf frames i kind it.0 it.1)
 
 -- the number is the place of the event behind these
 pub record IsNext (events : List Event) (i : ℕ) : Type 0 where
@@ -142,23 +142,23 @@ module _ (in_order : AlwaysInOrder) (cs : Configurations) (events : List Event)
 
   -- what the event sends is numbered
   sent_numbered : (choice : Choice) →
-      AllByRecursion IsNumbered (outcome w cs (modelled i event.what choice)).frames
+      AllByRecursion IsNumbered (outcome w cs (modelled i event.kind choice)).frames
   sent_numbered choice =
       let more = modelled_from 1 (events ++ event ∷ []) (made.choices ++ choice ∷ []) in
       let here = run-push cs event choice 1 i events made.choices (beginning cs)
       made.trace.one_each (omega (arith, next.at)) in
-      back IsNumbered w.frames (outcome w cs (modelled i event.what choice)).frames
+      back IsNumbered w.frames (outcome w cs (modelled i event.kind choice)).frames
       (subst (λ (v : World BatchContent). AllByRecursion IsNumbered v.frames) here
       (all_numbered cs more (in_order cs more made.lawful)))
 
   -- the world has the node that an event is for
-  has_its_node : (x : ℕ) (node_input : NodeInput) → NamesNode cs event.what →
-      IsDeliveryOf w.frames i event.what x node_input → HasNoNode sims x → ⊥
+  has_its_node : (x : ℕ) (node_input : NodeInput) → NamesNode cs event.kind →
+      IsDeliveryOf w.frames i event.kind x node_input → HasNoNode sims x → ⊥
   has_its_node x node_input names brings none = has_one sims x
-      (subst (λ (c : List ℕ). has c x ≡ true) (sym made.nodes) (has_it event.what names brings))
+      (subst (λ (c : List ℕ). has c x ≡ true) (sym made.nodes) (has_it event.kind names brings))
       none
     where
-      has_it : (what : What) → NamesNode cs what → IsDeliveryOf w.frames i what x node_input →
+      has_it : (kind : EventKind) → NamesNode cs kind → IsDeliveryOf w.frames i kind x node_input →
           has (at_epoch cs 0) x ≡ true
       has_it (Submit node batch) names brings =
           subst (λ (y : ℕ). has (at_epoch cs 0) y ≡ true) (sym brings.0) names
@@ -177,7 +177,7 @@ module _ (in_order : AlwaysInOrder) (cs : Configurations) (events : List Event)
 
   -- a step of the node refines one event more
   refined_next : (x : ℕ) (node_input : NodeInput) (lines : List Line) (now : List SimNode)
-      (more : List Posted) → IsDeliveryOf w.frames i event.what x node_input →
+      (more : List Posted) → IsDeliveryOf w.frames i event.kind x node_input →
       HasStepped sims posted x node_input lines now more →
       RunRefines now more cs (events ++ event ∷ []) (steps ++ lines ∷ [])
   refined_next x node_input lines now more brings t =
@@ -191,21 +191,21 @@ module _ (in_order : AlwaysInOrder) (cs : Configurations) (events : List Event)
       let slots : disk_in old.state ≡ made.disks x =
       (made.each t.index sim t.at.within).disk ∙ ap made.disks was in
       let own = disk_in sim.state in
-      let left : DiskFits state failures (junk_of event.what) t.did (made.disks x) sim.state =
-      subst (λ (d : Slots). DiskFits state failures (junk_of event.what) t.did d sim.state) slots
+      let left : DiskFits state failures (junk_of event.kind) t.did (made.disks x) sim.state =
+      subst (λ (d : Slots). DiskFits state failures (junk_of event.kind) t.did d sim.state) slots
       (subst (λ (j : Option Junk). DiskFits state failures j t.did (disk_in old.state)
       sim.state)
-      (junk_same w.frames i x event.what node_input brings) t.disk) in
+      (junk_same w.frames i x event.kind node_input brings) t.disk) in
       let few = made.few x in
       let may : MayRise (made.disks x) = omega (arith, few, next.at, next.fits) in
-      let out = refined cs w i x sim.state t.did event.what node_input brings
+      let out = refined cs w i x sim.state t.did event.kind node_input brings
       (t.refines x (w.nodes x) before) in
-      let o = outcome w cs (modelled i event.what out.choice) in
+      let o = outcome w cs (modelled i event.kind out.choice) in
       let id : sim.id ≡ x = t.id in
       let long = AllZip-long PostedRefines posted w.frames made.frames in
       grown cs events steps sims posted made i event out.choice now more lines next.at (record {
         traced = t.traced ∙ out.traced (length posted)
-            ∙ ap (λ n. lines_of_event n event.what out.choice o) (sym long);
+            ∙ ap (λ n. lines_of_event n event.kind out.choice o) (sym long);
         fits = record { cause = out.fits };
         counted = ap frames_of_step t.traced ∙ out.counted (length posted);
         frames = subst (λ (l : List Posted). AllZip PostedRefines l (w.frames ++ o.frames))
@@ -221,9 +221,9 @@ module _ (in_order : AlwaysInOrder) (cs : Configurations) (events : List Event)
             (follows (made.disks x) sim.state may event out.choice o x out.node t.did out.is
             out.ends left);
         few = few_more made.disks x own (length events) i next.at made.few
-            (at_most_one (junk_of event.what) t.did (made.disks x) sim.state left may);
+            (at_most_one (junk_of event.kind) t.did (made.disks x) sim.state left may);
         each = subst (λ (l : List SimNode). All (SimNodeRefines (happens cs w
-            (modelled i event.what out.choice)).nodes (with_disk made.disks x own)) l)
+            (modelled i event.kind out.choice)).nodes (with_disk made.disks x own)) l)
             (sym t.others)
             (All-from_recursion (SimNodeRefines (after w o).nodes (with_disk made.disks x own))
             (slice_set sims t.index sim)
@@ -234,9 +234,9 @@ module _ (in_order : AlwaysInOrder) (cs : Configurations) (events : List Event)
 
   -- the event of a step names a node of configuration 0, if it names one
   named_next : (x : ℕ) (node_input : NodeInput) (lines : List Line) (now : List SimNode)
-      (more : List Posted) → IsDeliveryOf w.frames i event.what x node_input →
-      HasStepped sims posted x node_input lines now more → NamesNode cs event.what
-  named_next x node_input lines now more brings t = named event.what brings
+      (more : List Posted) → IsDeliveryOf w.frames i event.kind x node_input →
+      HasStepped sims posted x node_input lines now more → NamesNode cs event.kind
+  named_next x node_input lines now more brings t = named event.kind brings
     where
       has_it : (node : ℕ) → x ≡ node → has (at_epoch cs 0) node ≡ true
       has_it node same =
@@ -246,7 +246,7 @@ module _ (in_order : AlwaysInOrder) (cs : Configurations) (events : List Event)
           (subst (λ (c : List ℕ). has c id ≡ true) made.nodes
           (has_at sims t.index sim t.at.within))
 
-      named : (what : What) → IsDeliveryOf w.frames i what x node_input → NamesNode cs what
+      named : (kind : EventKind) → IsDeliveryOf w.frames i kind x node_input → NamesNode cs kind
       named (Submit node batch) brings = has_it node brings.0
       named (Get node key at) brings = has_it node brings.0
       named (Deliver p) brings = tt
@@ -255,10 +255,10 @@ module _ (in_order : AlwaysInOrder) (cs : Configurations) (events : List Event)
       named (Stop node junk) brings = has_it node brings.0
 
   -- a node that was stopped while it ran has a crash of its disk with the junk
-  stopped_next : (what : What) (x : ℕ) (node_input : NodeInput) (lines : List Line)
+  stopped_next : (kind : EventKind) (x : ℕ) (node_input : NodeInput) (lines : List Line)
       (now : List SimNode)
-      (more : List Posted) → IsDeliveryOf w.frames i what x node_input →
-      HasStepped sims posted x node_input lines now more → StopsNode what sims now
+      (more : List Posted) → IsDeliveryOf w.frames i kind x node_input →
+      HasStepped sims posted x node_input lines now more → StopsNode kind sims now
   stopped_next (Stop node junk) x node_input lines now more brings t =
       let sim = t.sim in
       let old = get_or sims t.index sim in
@@ -278,16 +278,16 @@ module _ (in_order : AlwaysInOrder) (cs : Configurations) (events : List Event)
   stopped_next (Start node) x node_input lines now more brings t = tt
 
   -- no frame has the place
-  nothing_next : HasNoDelivery w.frames event.what →
+  nothing_next : HasNoDelivery w.frames event.kind →
       RunRefines sims posted cs (events ++ event ∷ []) (steps ++ (Nothing ∷ []) ∷ [])
   nothing_next brings =
       let choice : Choice = record { went = Answered; cause = Disk } in
-      let none = nothing_done cs w i event.what choice brings in
-      let same : after w nothing ≡ happens cs w (modelled i event.what choice) =
+      let none = nothing_done cs w i event.kind choice brings in
+      let same : after w nothing ≡ happens cs w (modelled i event.kind choice) =
       ap (after w) (sym none) in
       grown cs events steps sims posted made i event choice sims posted (Nothing ∷ []) next.at
       (record {
-        traced = ap (lines_of_event (length w.frames) event.what choice) (sym none);
+        traced = ap (lines_of_event (length w.frames) event.kind choice) (sym none);
         fits = record {
           cause = λ stops. absurd (false≢true
               (ap (λ (o : Outcome BatchContent). o.stopped) (sym none) ∙ stops));
@@ -298,7 +298,7 @@ module _ (in_order : AlwaysInOrder) (cs : Configurations) (events : List Event)
             (sym (append-nil w.frames)) made.frames);
         nodes = made.nodes;
         disks = made.disks;
-        follow = none_follow event choice (outcome w cs (modelled i event.what choice)) made.disks
+        follow = none_follow event choice (outcome w cs (modelled i event.kind choice)) made.disks
             (ap (λ (o : Outcome BatchContent). o.came_to) none);
         few = λ x. omega (arith, made.few x, next.at);
         each = subst (λ (v : World BatchContent). All (SimNodeRefines v.nodes made.disks) sims) same
@@ -306,46 +306,46 @@ module _ (in_order : AlwaysInOrder) (cs : Configurations) (events : List Event)
       })
 
   -- the same, by what an event was found to bring
-  module _ (found : Option (ℕ × NodeInput)) (fits : FitsDelivery posted i event.what found)
+  module _ (found : Option (ℕ × NodeInput)) (fits : FitsDelivery posted i event.kind found)
     where
       pub nothing_after : found ≡ None →
           RunRefines sims posted cs (events ++ event ∷ []) (steps ++ (Nothing ∷ []) ∷ [])
-      nothing_after is = nothing_next (MatchOption-at_none (HasNoDelivery w.frames event.what)
-          (λ it. IsDeliveryOf w.frames i event.what it.0 it.1) is (fits w.frames made.frames))
+      nothing_after is = nothing_next (MatchOption-at_none (HasNoDelivery w.frames event.kind)
+          (λ it. IsDeliveryOf w.frames i event.kind it.0 it.1) is (fits w.frames made.frames))
 
       -- .. and such an event names no node
-      pub nothing_named : found ≡ None → NamesNode cs event.what
+      pub nothing_named : found ≡ None → NamesNode cs event.kind
       nothing_named is =
-          let brings = MatchOption-at_none (HasNoDelivery w.frames event.what)
-          (λ it. IsDeliveryOf w.frames i event.what it.0 it.1) is
+          let brings = MatchOption-at_none (HasNoDelivery w.frames event.kind)
+          (λ it. IsDeliveryOf w.frames i event.kind it.0 it.1) is
           (fits w.frames made.frames) in
-          subst (λ (what : What). NamesNode cs what) (sym brings.1) tt
+          subst (λ (kind : EventKind). NamesNode cs kind) (sym brings.1) tt
 
       -- .. and stops none
-      pub nothing_stopped : found ≡ None → (now : List SimNode) → StopsNode event.what sims now
+      pub nothing_stopped : found ≡ None → (now : List SimNode) → StopsNode event.kind sims now
       nothing_stopped is now =
-          let brings = MatchOption-at_none (HasNoDelivery w.frames event.what)
-          (λ it. IsDeliveryOf w.frames i event.what it.0 it.1) is
+          let brings = MatchOption-at_none (HasNoDelivery w.frames event.kind)
+          (λ it. IsDeliveryOf w.frames i event.kind it.0 it.1) is
           (fits w.frames made.frames) in
-          subst (λ (what : What). StopsNode what sims now) (sym brings.1) tt
+          subst (λ (kind : EventKind). StopsNode kind sims now) (sym brings.1) tt
 
       module _ (it : ℕ × NodeInput) (is : found ≡ Some it) where
-        brings : IsDeliveryOf w.frames i event.what it.0 it.1
-        brings = MatchOption-at_some (HasNoDelivery w.frames event.what)
-            (λ it. IsDeliveryOf w.frames i event.what it.0 it.1) it is
+        brings : IsDeliveryOf w.frames i event.kind it.0 it.1
+        brings = MatchOption-at_some (HasNoDelivery w.frames event.kind)
+            (λ it. IsDeliveryOf w.frames i event.kind it.0 it.1) it is
             (fits w.frames made.frames)
 
-        pub node_after : NamesNode cs event.what → HasNoNode sims it.0 → ⊥
+        pub node_after : NamesNode cs event.kind → HasNoNode sims it.0 → ⊥
         node_after names none = has_its_node it.0 it.1 names brings none
 
         pub named_after : (lines : List Line) (now : List SimNode) (more : List Posted) →
-            HasStepped sims posted it.0 it.1 lines now more → NamesNode cs event.what
+            HasStepped sims posted it.0 it.1 lines now more → NamesNode cs event.kind
         named_after lines now more t = named_next it.0 it.1 lines now more brings t
 
         pub stopped_after : (lines : List Line) (now : List SimNode) (more : List Posted) →
-            HasStepped sims posted it.0 it.1 lines now more → StopsNode event.what sims now
+            HasStepped sims posted it.0 it.1 lines now more → StopsNode event.kind sims now
         stopped_after lines now more t =
-            stopped_next event.what it.0 it.1 lines now more brings t
+            stopped_next event.kind it.0 it.1 lines now more brings t
 
         pub refined_after : (lines : List Line) (now : List SimNode) (more : List Posted) →
             HasStepped sims posted it.0 it.1 lines now more →
@@ -356,7 +356,7 @@ module _ (in_order : AlwaysInOrder) (cs : Configurations) (events : List Event)
 pub applied_after : (in_order : AlwaysInOrder) (cs : Configurations) (events : List Event)
     (steps : List (List Line)) (old new : LabWorld) (run : HasRun old cs events steps) (i : ℕ)
     (next : IsNext events i) (event : Event) (found : Option (ℕ × NodeInput))
-    (fits : FitsDelivery old.frames.items i event.what found) (it : ℕ × NodeInput) →
+    (fits : FitsDelivery old.frames.items i event.kind found) (it : ℕ × NodeInput) →
     found ≡ Some it → (lines : List Line) → new.steps.items ≡ old.steps.items ++ lines ∷ [] →
     events_in new.events.items ≡ events_in old.events.items ++ event ∷ [] →
     HasStepped old.nodes.items old.frames.items it.0 it.1 lines new.nodes.items new.frames.items →

@@ -10,8 +10,8 @@ use Rattle.chain_core.specs.declared.input.Input.TheVariants as input
 use Rattle.chain_core.specs.Decisions.{frame_as}
 use Rattle.lab.specs.declared.input.NodeInput.{NodeInput}
 use Rattle.lab.specs.declared.input.NodeInput.TheVariants as to_node
-use Rattle.lab.specs.declared.event.What.{What}
-use Rattle.lab.specs.declared.event.What.TheVariants.{Submit, Get, Deliver, Tick, Start, Stop}
+use Rattle.lab.specs.declared.event.EventKind.{EventKind}
+use Rattle.lab.specs.declared.event.EventKind.TheVariants.{Submit, Get, Deliver, Tick, Start, Stop}
 use Rattle.lab.specs.declared.delivery.Posted.{Posted}
 
 -- the input that a frame is to its addressee
@@ -40,7 +40,7 @@ pub record IsDelivered (frames : List (model_frame.Frame BatchContent)) (p x : �
   pub is : node_input ≡ input_of it
 
 -- the event in place i delivers this input to node x, after these frames
-abbrev pub IsDeliveryOf : List (model_frame.Frame BatchContent) → ℕ → What → ℕ → NodeInput
+abbrev pub IsDeliveryOf : List (model_frame.Frame BatchContent) → ℕ → EventKind → ℕ → NodeInput
     → Type 0
 IsDeliveryOf frames i (Submit node batch) x node_input =
     (x ≡ node) × (node_input ≡ to_node.Step (input.Submit i batch))
@@ -52,5 +52,5 @@ IsDeliveryOf frames i (Start node) x node_input = (x ≡ node) × (node_input �
 IsDeliveryOf frames i (Stop node junk) x node_input = (x ≡ node) × (node_input ≡ to_node.Stop junk)
 
 -- the event delivers a frame, and no frame has its place
-abbrev pub HasNoDelivery : List (model_frame.Frame BatchContent) → What → Type 0
-HasNoDelivery frames what = (p : ℕ) × (what ≡ Deliver p) × HasNoFrame frames p
+abbrev pub HasNoDelivery : List (model_frame.Frame BatchContent) → EventKind → Type 0
+HasNoDelivery frames kind = (p : ℕ) × (kind ≡ Deliver p) × HasNoFrame frames p

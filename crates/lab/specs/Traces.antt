@@ -13,7 +13,7 @@ abbrev pub modelled_from : ℕ → List Event → List Choice → List (model.Ev
 modelled_from i [] choices = []
 modelled_from i (event ∷ events) [] = []
 modelled_from i (event ∷ events) (choice ∷ choices) =
-    modelled i event.what choice ∷ modelled_from (suc i) events choices
+    modelled i event.kind choice ∷ modelled_from (suc i) events choices
 
 -- the lines of each of them, from a world on
 abbrev pub lines_from : Configurations → ℕ → List Event → List Choice → model.World BatchContent
@@ -21,8 +21,8 @@ abbrev pub lines_from : Configurations → ℕ → List Event → List Choice �
 lines_from cs i [] choices w = []
 lines_from cs i (event ∷ events) [] w = []
 lines_from cs i (event ∷ events) (choice ∷ choices) w =
-    let e = modelled i event.what choice in
-    lines_of_event (length w.frames) event.what choice (model.outcome w cs e)
+    let e = modelled i event.kind choice in
+    lines_of_event (length w.frames) event.kind choice (model.outcome w cs e)
     ∷ lines_from cs (suc i) events choices (model.happens cs w e)
 
 -- what was chosen fits each of them, from a world on
@@ -31,7 +31,7 @@ abbrev pub AllFit : Configurations → ℕ → List Event → List Choice → mo
 AllFit cs i [] choices w = Unit {0}
 AllFit cs i (event ∷ events) [] w = ⊥
 AllFit cs i (event ∷ events) (choice ∷ choices) w =
-    let e = modelled i event.what choice in
+    let e = modelled i event.kind choice in
     ChoiceFits event choice (model.outcome w cs e)
     × AllFit cs (suc i) events choices (model.happens cs w e)
 

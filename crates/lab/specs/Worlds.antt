@@ -20,8 +20,8 @@ use Rattle.lab.specs.declared.input.NodeInput.{NodeInput}
 use Rattle.lab.specs.declared.input.StepOutcome.{StepOutcome}
 use Rattle.lab.specs.declared.event.Event.{Event}
 use Rattle.lab.specs.declared.event.EventRecord.{EventRecord}
-use Rattle.lab.specs.declared.event.What.{What}
-use Rattle.lab.specs.declared.event.What.TheVariants.{Submit, Get, Deliver, Tick, Start, Stop}
+use Rattle.lab.specs.declared.event.EventKind.{EventKind}
+use Rattle.lab.specs.declared.event.EventKind.TheVariants.{Submit, Get, Deliver, Tick, Start, Stop}
 use Rattle.lab.specs.declared.node_state.NodeState.TheVariants.{Up}
 use Rattle.lab.specs.declared.report.Line.{Line}
 use Rattle.lab.specs.declared.report.Line.TheVariants as line
@@ -143,7 +143,7 @@ pub record IsStopped (old new : List SimNode) (x : ℕ) (junk : Junk) : Type 0 w
       IsCrashOf state failures junk (disk_of node) (disk_in sim.state)
 
 -- a stop event stops the node that it names, with its junk
-abbrev pub StopsNode : What → List SimNode → List SimNode → Type 0
+abbrev pub StopsNode : EventKind → List SimNode → List SimNode → Type 0
 StopsNode (Stop node junk) old new = IsStopped old new node junk
 StopsNode (Submit node batch) old new = Unit {0}
 StopsNode (Get node key at) old new = Unit {0}
@@ -183,11 +183,11 @@ pub record HasRun (world : World) (cs : Configurations) (events : List Event)
 -- node, and the run is as it was.
 pub data HasApplied (old new : World) (cs : Configurations) (events : List Event)
     (steps : List (List Line)) (event : Event) : Type 0 where
-  Takes : NamesNode cs event.what → (lines : List Line)
+  Takes : NamesNode cs event.kind → (lines : List Line)
       → HasRun new cs (events ++ event ∷ []) (steps ++ lines ∷ [])
-      → StopsNode event.what old.nodes.items new.nodes.items
+      → StopsNode event.kind old.nodes.items new.nodes.items
       → HasApplied old new cs events steps event
-  Ignores : (NamesNode cs event.what → ⊥) → HasRun new cs events steps
+  Ignores : (NamesNode cs event.kind → ⊥) → HasRun new cs events steps
       → HasApplied old new cs events steps event
 
 -- a step was refused, and so is every later one

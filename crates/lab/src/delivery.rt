@@ -9,7 +9,7 @@ ghost use Rattle.lab.specs.Deliveries.{IsDeliveryOf, HasNoDelivery};
 ghost use Rattle.lab.specs.Worlds.{PostedRefines};
 
 use crate::input::NodeInput;
-use crate::{LabError, What};
+use crate::{EventKind, LabError};
 use configurations::NodeId;
 use kv_types::Number;
 use link_messages::laws::one_answer;
@@ -125,25 +125,25 @@ pub fn delivery_of(
     alloc: Global,
     posted: &[Posted],
     request: Number,
-    what: &What,
+    kind: &EventKind,
 ) -> Result<Option<(NodeId, NodeInput)>, LabError>
     ensures { (frames : List (ModelFrame BatchContent)) → AllZip PostedRefines posted.now frames →
-        IfOk result (λ found. MatchOption found (HasNoDelivery frames what.now)
-        (λ it. IsDeliveryOf frames request what.now it.0 it.1)) }
+        IfOk result (λ found. MatchOption found (HasNoDelivery frames kind.now)
+        (λ it. IsDeliveryOf frames request kind.now it.0 it.1)) }
 {
-    let (to, input) = match what {
-        What::Submit { node, batch } => {
+    let (to, input) = match kind {
+        EventKind::Submit { node, batch } => {
             let batch = batch.clone()?;
             (*node, NodeInput::Step(Input::Submit { request, batch }))
         }
-        What::Get { node, key, at } => {
+        EventKind::Get { node, key, at } => {
             let (key, at) = (key.clone()?, *at);
             (*node, NodeInput::Step(Input::Get { request, key, at }))
         }
-        What::Deliver { place } => return delivered(alloc, posted, *place),
-        What::Tick { node } => (*node, NodeInput::Step(Input::Tick)),
-        What::Start { node } => (*node, NodeInput::Start),
-        What::Stop { node, junk } => (*node, NodeInput::Stop(junk.clone()?)),
+        EventKind::Deliver { place } => return delivered(alloc, posted, *place),
+        EventKind::Tick { node } => (*node, NodeInput::Step(Input::Tick)),
+        EventKind::Start { node } => (*node, NodeInput::Start),
+        EventKind::Stop { node, junk } => (*node, NodeInput::Stop(junk.clone()?)),
     };
     Ok(Some((to, input)))
 }

@@ -13,7 +13,7 @@ mod trace;
 mod world;
 
 pub use error::LabError;
-pub use event::{Event, EventRecord, What, names_node, names_nodes};
+pub use event::{Event, EventKind, EventRecord, names_node, names_nodes};
 pub use report::{Line, Lines, NodeReport, Numbers, Report};
 pub use runs::run;
 pub use world::World;

@@ -168,7 +168,7 @@ impl World {
         };
         // law: in every run of the model frames are in order
         in_order::<Batch>();
-        let Some(delivery) = delivery_of(alloc, &self.frames, request, &event.what)? else {
+        let Some(delivery) = delivery_of(alloc, &self.frames, request, &event.kind)? else {
             keep(&mut self.events, event)?;
             self.steps.push(one_line(alloc, Line::Nothing)?)?;
             return Ok(());
@@ -191,15 +191,15 @@ impl World {
     /// have does nothing. After an error the world is at its end: every later step is refused.
     pub fn step(&mut self, alloc: Global, event: &Event) -> Result<(), LabError>
         ensures ran { (cs : Configurations) (events : List Event) (steps : List (List Line)) →
-            HasRun self.old cs events steps → NamesNode cs event.now.what →
+            HasRun self.old cs events steps → NamesNode cs event.now.kind →
             OnOk result ((lines : List Line) ×
             HasRun self.new cs (events ++ event.now ∷ []) (steps ++ lines ∷ [])) }
         ensures nothing { (cs : Configurations) (events : List Event) (steps : List (List Line)) →
-            HasRun self.old cs events steps → (NamesNode cs event.now.what → ⊥) →
+            HasRun self.old cs events steps → (NamesNode cs event.now.kind → ⊥) →
             OnOk result (HasRun self.new cs events steps) }
         ensures stopped { (cs : Configurations) (events : List Event) (steps : List (List Line)) →
-            HasRun self.old cs events steps → NamesNode cs event.now.what →
-            OnOk result (StopsNode event.now.what self.old.nodes.items self.new.nodes.items) }
+            HasRun self.old cs events steps → NamesNode cs event.now.kind →
+            OnOk result (StopsNode event.now.kind self.old.nodes.items self.new.nodes.items) }
         ensures ends { MatchResult result (λ _. HasEnded self.new → ⊥) (λ _. HasEnded self.new) }
         ensures again { HasEnded self.old → IsErr result }
     {

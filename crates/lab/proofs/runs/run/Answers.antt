@@ -13,7 +13,7 @@ loop-event-preserved c =
     let i = c.loop-event.event-index in
     let event = c.event-item.result in
     let was = c.loop-event.invariant in
-    let names = subst (λ (e : Event). NamesNode cs e.what) (sym c.event-item.is)
+    let names = subst (λ (e : Event). NamesNode cs e.kind) (sym c.event-item.is)
     (c.requires.named i event c.loop-event-test.true) in
     let ran = c.in_ok-step.ensures.ran cs (take i events) was.0 was.1 names in
     let more = ap (λ (e : Event). take i events ++ e ∷ []) c.event-item.is

@@ -19,7 +19,7 @@ returns-in_default-2 c = λ cs events steps run.
     let at = place_of self cs events steps run c.len.result i c.len.ensures
     c.in-Some.ensures.0 c.in-Some.ensures.1 in
     let found = c.in_ok-delivery.field-0 in
-    let fits = subst (λ (l : List Posted). FitsDelivery l i event.what found)
+    let fits = subst (λ (l : List Posted). FitsDelivery l i event.kind found)
     c.deref.ensures.value c.in_ok-delivery.ensures in
     let none = c.in_default-2.is in
     Takes (nothing_named c.in_order.ensures cs events steps self.nodes.items self.frames.items
@@ -45,7 +45,7 @@ returns-in_default-index_of c = λ cs events steps run.
     let at = place_of self cs events steps run c.len.result i c.len.ensures
     c.in-Some.ensures.0 c.in-Some.ensures.1 in
     let found = c.in_ok-delivery.field-0 in
-    let fits = subst (λ (l : List Posted). FitsDelivery l i event.what found)
+    let fits = subst (λ (l : List Posted). FitsDelivery l i event.kind found)
     c.deref.ensures.value c.in_ok-delivery.ensures in
     let none = subst (λ (l : List SimNode). HasNoNode l it.0) c.deref-2.ensures.value
     (MatchOption-at_none (HasNoNode c.deref-2.result.now it.0)
@@ -67,7 +67,7 @@ returns c = λ cs events steps run.
     let at = place_of self cs events steps run c.len.result i c.len.ensures
     c.in-Some.ensures.0 c.in-Some.ensures.1 in
     let found = c.in_ok-delivery.field-0 in
-    let fits = subst (λ (l : List Posted). FitsDelivery l i event.what found)
+    let fits = subst (λ (l : List Posted). FitsDelivery l i event.kind found)
     c.deref.ensures.value c.in_ok-delivery.ensures in
     applied_after c.in_order.ensures cs events steps self _ run i at event found fits it
     c.in-Some-2.is lines c.in_ok-push-2.ensures.items c.in_ok-keep-2.ensures
