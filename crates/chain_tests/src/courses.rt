@@ -2,7 +2,7 @@
 use configurations::{Config, ConfigError, Configs, NodeId};
 use disk::{Fault, Junk, JunkBytes};
 use kv_types::{Batch, Edit, Key, KvError, Limits, Number, Value};
-use lab::{Event, LabError, Line, Report, What, World, names_nodes, run};
+use lab::{Event, EventKind, LabError, Line, Report, World, names_nodes, run};
 use node::{Reply, Stop};
 use std::alloc::{AllocError, Global};
 use std::test::Fail;
@@ -54,21 +54,21 @@ fn batch(alloc: Global, values: &[Option<&'static str>]) -> Result<Batch, KvErro
     Batch::new(edits)
 }
 
-fn what(alloc: Global, step: &Step) -> Result<What, KvError> {
+fn kind_of(alloc: Global, step: &Step) -> Result<EventKind, KvError> {
     Ok(match step {
-        Step::Submit(node, values) => What::Submit {
+        Step::Submit(node, values) => EventKind::Submit {
             node: id(*node)?,
             batch: batch(alloc, values)?,
         },
-        Step::Get(node, at) => What::Get {
+        Step::Get(node, at) => EventKind::Get {
             node: id(*node)?,
             key: key(alloc)?,
             at: at.map(number),
         },
-        Step::Deliver(place) => What::Deliver { place: *place },
-        Step::Tick(node) => What::Tick { node: id(*node)? },
-        Step::Start(node) => What::Start { node: id(*node)? },
-        Step::Stop(node, junk) => What::Stop {
+        Step::Deliver(place) => EventKind::Deliver { place: *place },
+        Step::Tick(node) => EventKind::Tick { node: id(*node)? },
+        Step::Start(node) => EventKind::Start { node: id(*node)? },
+        Step::Stop(node, junk) => EventKind::Stop {
             node: id(*node)?,
             junk: Junk::Bytes(JunkBytes::new(junk.to_vec(alloc)?)),
         },
@@ -76,9 +76,9 @@ fn what(alloc: Global, step: &Step) -> Result<What, KvError> {
 }
 
 fn event(alloc: Global, step: &Step) -> Result<Event, KvError> {
-    let what = what(alloc, step)?;
+    let kind = kind_of(alloc, step)?;
     let fault = Fault::None;
-    Ok(Event { what, fault })
+    Ok(Event { kind, fault })
 }
 
 fn events_of(alloc: Global, steps: &[Step]) -> Result<Vec<Event>, KvError> {

@@ -1,8 +1,9 @@
 pub mod Events
-pub mod Members
+pub mod SimNodes
 pub mod Traces
 pub mod Disks
-pub mod Comings
+pub mod Deliveries
+pub mod Outcomes
 pub mod Runs
 pub mod History
 pub mod Worlds

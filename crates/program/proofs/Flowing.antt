@@ -5,8 +5,8 @@ use Rattle.std.proofs.Common.{append_assoc, append-nil, length-append, Option, S
 use Rattle.chain_model.specs.Configuration.{Configurations}
 use Rattle.lab.specs.declared.event.Event as lab
 use Rattle.kv_types.specs.declared.error.KvError.{KvError}
-use Rattle.lab.specs.declared.event.What.{What}
-use Rattle.lab.specs.declared.event.What.TheVariants.{Submit, Get, Deliver, Tick, Start, Stop}
+use Rattle.lab.specs.declared.event.EventKind.{EventKind}
+use Rattle.lab.specs.declared.event.EventKind.TheVariants.{Submit, Get, Deliver, Tick, Start, Stop}
 use Rattle.lab.specs.declared.report.Line.{Line}
 use Rattle.lab.specs.declared.world.World.{World}
 use Rattle.lab.specs.declared.report.Report.{Report}
@@ -297,7 +297,7 @@ goes_on world after cs left next it behind all turns turn g own lines is run lef
 -- ---- the turn of a statement
 
 -- an event that delivers no frame leaves all
-leaves_all : (what : What) (left : List ℕ) → ((place : ℕ) → what ≡ Deliver place → ⊥) →
+leaves_all : (what : EventKind) (left : List ℕ) → ((place : ℕ) → what ≡ Deliver place → ⊥) →
     left_by_event what left ≡ left
 leaves_all (Submit node batch) left other = refl
 leaves_all (Get node key at) left other = refl
@@ -306,11 +306,11 @@ leaves_all (Tick node) left other = refl
 leaves_all (Start node) left other = refl
 leaves_all (Stop node junk) left other = refl
 
-pub left_as : (what : What) (left new : List ℕ) → ((place : ℕ) → what ≡ Deliver place → ⊥) →
+pub left_as : (what : EventKind) (left new : List ℕ) → ((place : ℕ) → what ≡ Deliver place → ⊥) →
     new ≡ left → new ≡ left_by_event what left
 left_as what left new other e = e ∙ sym (leaves_all what left other)
 
-pub turn_of_event : (sent : ℕ) (left : List ℕ) (it : Statement) (what : What)
+pub turn_of_event : (sent : ℕ) (left : List ℕ) (it : Statement) (what : EventKind)
     (lines : List Line) → it.meaning ≡ Event what →
     IsTurn sent left it (record { line = it.line; events = 1; remark = None })
     (event what ∷ []) (lines ∷ [])

@@ -7,7 +7,7 @@ use Rattle.std.proofs.Common.{arith}
 use Rattle.std.proofs.lemmas.Grind.{common_steps}
 use Rattle.std.specs.Option.{option_map_or}
 use Rattle.chain_model.specs.Configuration.{Configurations}
-use Rattle.lab.specs.declared.event.What.{What}
+use Rattle.lab.specs.declared.event.EventKind.{EventKind}
 use Rattle.lab.specs.Events.{NamesNode}
 use Rattle.program.specs.declared.script.setup.Setup.{Setup}
 use Rattle.program.specs.declared.script.statement.Before.{Before}
@@ -69,7 +69,7 @@ goes_on before n line lines setup rest item is more =
     go before.configs before.begun n line lines setup rest item is more
 
 -- the statements' events name nodes of the configuration
-has_name : (cs : Configurations) (what : What) (o : Option KvError) → NamesNode cs what
+has_name : (cs : Configurations) (what : EventKind) (o : Option KvError) → NamesNode cs what
     → Names cs (option_map_or (λ e. Invalid e) o (Event what))
 has_name cs what None e = e
 has_name cs what (Some x) e = tt

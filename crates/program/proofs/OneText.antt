@@ -19,8 +19,8 @@ use Rattle.program.specs.Words.{is_plain, byte_text, bytes_text}
 use Rattle.program.specs.Statements.{edit_text, hex_text, IsJunk, IsSpelled}
 use Rattle.program.specs.Words.{AreBytes}
 use Rattle.program.specs.Statements.{AreBytesIn, AreBytesOf, CanBeSaid}
-use Rattle.lab.specs.declared.event.What.{What}
-use Rattle.lab.specs.declared.event.What.TheVariants.{Submit, Get, Deliver, Tick, Start, Stop}
+use Rattle.lab.specs.declared.event.EventKind.{EventKind}
+use Rattle.lab.specs.declared.event.EventKind.TheVariants.{Submit, Get, Deliver, Tick, Start, Stop}
 
 abbrev head : List ℕ → ℕ
 head [] = 0
@@ -224,7 +224,7 @@ one_junk (Bytes a) New word la lb p q = absurd (no_letter a 110 _ la (omega arit
 one_junk (Bytes a) (Bytes b) word la lb p q = rw (one_hex a b la lb (sym p.1 ∙ q.1)) refl
 
 -- what begins the spelling of an event
-abbrev name_of : What → List ℕ
+abbrev name_of : EventKind → List ℕ
 name_of (Submit node edits) = codes "submit"
 name_of (Get node key at) = codes "get"
 name_of (Deliver place) = codes "deliver"
@@ -232,7 +232,7 @@ name_of (Tick node) = codes "tick"
 name_of (Start node) = codes "start"
 name_of (Stop node junk) = codes "stop"
 
-named : (what : What) (words : List (List ℕ)) → IsSpelled what words
+named : (what : EventKind) (words : List (List ℕ)) → IsSpelled what words
     → first_word words ≡ name_of what
 named (Submit node edits) words e = ap first_word e
 named (Get node key None) words e = ap first_word e
@@ -291,14 +291,14 @@ one_stop m n j k words la lb (inr p) (inr q) =
     ) refl
 
 -- the third letters of names all differ
-apart : (a b : What) (words : List (List ℕ)) → IsSpelled a words → IsSpelled b words
+apart : (a b : EventKind) (words : List (List ℕ)) → IsSpelled a words → IsSpelled b words
     → at 2 (name_of a) ≡ at 2 (name_of b)
 apart a b words e f = ap (λ w. at 2 w) (sym (named a words e) ∙ named b words f)
 
 clash : {A : Type 0} (a b : ℕ) → a ≡ b → (a == b) ≡ false → A
 clash a b same differ = absurd (grind (arith, nat_tests))
 
-pub one_event : (a b : What) (words : List (List ℕ)) → CanBeSaid a → CanBeSaid b
+pub one_event : (a b : EventKind) (words : List (List ℕ)) → CanBeSaid a → CanBeSaid b
     → IsSpelled a words → IsSpelled b words → a ≡ b
 one_event (Submit m es) (Submit n fs) words la lb e f =
     let both = sym e ∙ f in

@@ -8,8 +8,8 @@ use Rattle.std.specs.Fmt.{decimal}
 use Rattle.std.proofs.lemmas.Fmt.{digits_value-decimal}
 use Rattle.chain_model.specs.Configuration.{Configurations, has, at_epoch}
 use Rattle.configurations.specs.Configs.{IsConfig}
-use Rattle.lab.specs.declared.event.What.{What}
-use Rattle.lab.specs.declared.event.What.TheVariants.{Submit, Get, Deliver, Tick, Start, Stop}
+use Rattle.lab.specs.declared.event.EventKind.{EventKind}
+use Rattle.lab.specs.declared.event.EventKind.TheVariants.{Submit, Get, Deliver, Tick, Start, Stop}
 use Rattle.lab.specs.Events.{node_in, NamesNode}
 use Rattle.program.specs.declared.script.error.ScriptError.{ScriptError}
 use Rattle.program.specs.declared.script.statement.Before.{Before}
@@ -28,7 +28,7 @@ pub number_back : (n : ℕ) → n < 2 ^ 63 → digits_value 10 (decimal n) ≡ n
 number_back n small = digits_value-decimal own n (omega (arith, small))
 
 -- the node that the words of an event name is that of the event
-pub names : (what : What) (words : List (List ℕ)) → CanBeSaid what → IsSpelled what words
+pub names : (what : EventKind) (words : List (List ℕ)) → CanBeSaid what → IsSpelled what words
     → node_named words ≡ node_in what
 names (Submit n batch) words said e = rw (e, number_back n said.0) refl
 names (Get n key None) words said e = rw (e, number_back n said.0) refl
@@ -40,7 +40,7 @@ names (Stop n junk) words said (inl e) = rw (e.1, number_back n said.0) refl
 names (Stop n junk) words said (inr e) = rw (e.2, number_back n said.0) refl
 
 -- the fault of a statement that is spelled and bears no fault is that of its place
-pub is_of_place : (before : Before) (name : List ℕ) (args cut : List (List ℕ)) (what : What)
+pub is_of_place : (before : Before) (name : List ℕ) (args cut : List (List ℕ)) (what : EventKind)
     → cut ≡ args → cut ≡ before_fault args → false ≡ has_fault args → CanBeSaid what
     → fault_of_words (name ∷ cut) ≡ None → IsSpelled what (name ∷ cut)
     → statement_fault before name args ≡ node_fault before.configs (node_in what)
@@ -57,7 +57,7 @@ stands (Some cs) n e = elim (cases_Bool (has (at_epoch cs 0) n)) [
 ]
 
 -- a statement that stands in its place, and one that does not
-pub is_placed : (before : Before) (name : List ℕ) (args cut : List (List ℕ)) (what : What)
+pub is_placed : (before : Before) (name : List ℕ) (args cut : List (List ℕ)) (what : EventKind)
     (meaning : Meaning) (node : ℕ) → cut ≡ args → cut ≡ before_fault args
     → false ≡ has_fault args → fault_of_words (name ∷ cut) ≡ None → CanBeSaid what
     → IsSpelled what (name ∷ cut) → node_in what ≡ Some node
@@ -71,7 +71,7 @@ is_placed before name args cut what meaning node whole before_it none good said 
       (found.0, found.1, inr (what, said, rw whole at spelled, named, is)),
     )
 
-pub is_misplaced : (before : Before) (name : List ℕ) (args cut : List (List ℕ)) (what : What)
+pub is_misplaced : (before : Before) (name : List ℕ) (args cut : List (List ℕ)) (what : EventKind)
     (node : ℕ) (e : ScriptError) → cut ≡ args → cut ≡ before_fault args
     → false ≡ has_fault args → CanBeSaid what → fault_of_words (name ∷ cut) ≡ None
     → IsSpelled what (name ∷ cut) → node_in what ≡ Some node

@@ -20,8 +20,8 @@ use Rattle.disk.specs.declared.junk.Junk.{Junk}
 use Rattle.disk.specs.declared.junk.Junk.TheVariants.{Old, New, Bytes}
 use Rattle.kv_types.specs.declared.edit.Edit.{Edit}
 use Rattle.kv_types.specs.declared.edit.Edit.TheVariants.{Put, Delete}
-use Rattle.lab.specs.declared.event.What.{What}
-use Rattle.lab.specs.declared.event.What.TheVariants.{Submit, Get, Deliver, Tick, Start, Stop}
+use Rattle.lab.specs.declared.event.EventKind.{EventKind}
+use Rattle.lab.specs.declared.event.EventKind.TheVariants.{Submit, Get, Deliver, Tick, Start, Stop}
 use Rattle.program.specs.Words.{is_plain, byte_text, bytes_text, is_hex, hex_value, escaped}
 use Rattle.program.specs.Words.{are_bytes, is_byte_string, is_number}
 use Rattle.program.specs.Statements.{edit_text, hex_text, IsJunk, IsSpelled, is_edit, is_junk}
@@ -193,7 +193,7 @@ no_texts [] la = refl
 no_texts (e ∷ es) la =
     rw (edit_read e (All-head AreBytesIn e es la), no_texts es (All-tail AreBytesIn e es la)) refl
 
-pub event_read : (what : What) (words : List (List ℕ)) → CanBeSaid what → IsSpelled what words
+pub event_read : (what : EventKind) (words : List (List ℕ)) → CanBeSaid what → IsSpelled what words
     → fault_of_words words ≡ None
 event_read (Submit node edits) words la e =
     rw (

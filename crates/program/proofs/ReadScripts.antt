@@ -13,8 +13,8 @@ use Rattle.disk.specs.declared.junk.Junk.{Junk}
 use Rattle.disk.specs.declared.junk.Junk.TheVariants.{Old, New, Bytes}
 use Rattle.kv_types.specs.declared.edit.Edit.{Edit}
 use Rattle.kv_types.specs.declared.edit.Edit.TheVariants.{Put, Delete}
-use Rattle.lab.specs.declared.event.What.{What}
-use Rattle.lab.specs.declared.event.What.TheVariants.{Submit, Get, Deliver, Tick, Start, Stop}
+use Rattle.lab.specs.declared.event.EventKind.{EventKind}
+use Rattle.lab.specs.declared.event.EventKind.TheVariants.{Submit, Get, Deliver, Tick, Start, Stop}
 use Rattle.lab.specs.Events.{node_in, NamesNode}
 use Rattle.chain_model.specs.Configuration.{Configurations, has, at_epoch}
 use Rattle.configurations.specs.Configs.{IsConfig}
@@ -70,7 +70,7 @@ junk_begins (Bytes bytes) word all is = rw is.1 (hex_begins bytes all)
 text_alone : (k : List ℕ) → AreBytes k → begins_fault (bytes_text k) ≡ false
 text_alone k all = rw (append-nil (bytes_text k)) at (text_begins k [] all)
 
-no_fault : (what : What) (words : List (List ℕ)) → CanBeSaid what → IsSpelled what words →
+no_fault : (what : EventKind) (words : List (List ℕ)) → CanBeSaid what → IsSpelled what words →
     has_fault (drop 1 words) ≡ false
 no_fault (Submit node edits) words said e =
     rw (e, number_begins (decimal node) (number_read node said.0)) (edits_begin edits said.1)
@@ -136,7 +136,7 @@ free : (cs : Configurations) (node : Option ℕ) → IfSome node (λ x. has (at_
 free cs None is = refl
 free cs (Some x) is = rw is refl
 
-good_statement : (cs : Configurations) (begun : Bool) (what : What) (name : List ℕ)
+good_statement : (cs : Configurations) (begun : Bool) (what : EventKind) (name : List ℕ)
     (args : List (List ℕ)) → CanBeSaid what → IsSpelled what (name ∷ args) →
     NamesNode cs what → statement_fault (behind_configs cs begun) name args ≡ None
 good_statement cs begun what name args said spelled named =
@@ -145,7 +145,8 @@ good_statement cs begun what name args said spelled named =
     said (event_read what (name ∷ args) said spelled) spelled
     ∙ free cs (node_in what) named
 
-passes : (cs : Configurations) (begun : Bool) (what : What) (words : List (List ℕ)) (name : List ℕ)
+passes : (cs : Configurations) (begun : Bool) (what : EventKind) (words : List (List ℕ))
+    (name : List ℕ)
     (args : List (List ℕ)) → words ≡ name ∷ args → bytes_eq name (codes "config") ≡ false →
     97 ≤ first_byte (name ∷ args) → CanBeSaid what → IsSpelled what words →
     NamesNode cs what → IsPassed cs begun words
@@ -155,7 +156,7 @@ passes cs begun what words name args e other letter said spelled named = record 
   letter = rw e letter;
 }
 
-event_passes : (cs : Configurations) (begun : Bool) (what : What) (words : List (List ℕ)) →
+event_passes : (cs : Configurations) (begun : Bool) (what : EventKind) (words : List (List ℕ)) →
     CanBeSaid what → IsSpelled what words → NamesNode cs what → IsPassed cs begun words
 event_passes cs begun (Submit n edits) words said e is =
     passes cs begun (Submit n edits) words _ _ e refl (omega arith) said e is

@@ -4,8 +4,8 @@ use Rattle.std.specs.Prelude.{Option, Some, None}
 use Rattle.chain_model.specs.Node.{without}
 use Rattle.disk.specs.declared.fault.Fault.TheVariants as fault
 use Rattle.lab.specs.declared.event.Event as lab
-use Rattle.lab.specs.declared.event.What.{What}
-use Rattle.lab.specs.declared.event.What.TheVariants.{Submit, Get, Deliver, Tick, Start, Stop}
+use Rattle.lab.specs.declared.event.EventKind.{EventKind}
+use Rattle.lab.specs.declared.event.EventKind.TheVariants.{Submit, Get, Deliver, Tick, Start, Stop}
 use Rattle.lab.specs.declared.report.Line.{Line}
 use Rattle.lab.specs.Worlds.{frames_told}
 use Rattle.program.specs.declared.script.statement.Meaning.{Meaning}
@@ -24,15 +24,15 @@ abbrev pub places_after : ℕ → ℕ → List ℕ
 places_after sent zero = []
 places_after sent (suc count) = suc sent ∷ places_after (suc sent) count
 
-abbrev pub event : What → lab.Event
-event what = record { what = what; fault = fault.None }
+abbrev pub event : EventKind → lab.Event
+event what = record { kind = what; fault = fault.None }
 
 -- the events of a flow, where these frames had not been delivered by another statement before it
 -- ended: it delivers them in order of place, up to its bound
 abbrev pub deliveries : List ℕ → List lab.Event
 deliveries left = map (λ place. event (Deliver place)) (take most left)
 
-abbrev pub left_by_event : What → List ℕ → List ℕ
+abbrev pub left_by_event : EventKind → List ℕ → List ℕ
 left_by_event (Deliver place) left = without place left
 left_by_event (Submit node batch) left = left
 left_by_event (Get node key at) left = left

@@ -9,8 +9,8 @@ use Rattle.kv_types.specs.declared.error.KvError.{KvError}
 use Rattle.kv_types.specs.declared.error.KvError.TheVariants.{KeyTooLong, ValueTooLong, NoEdits}
 use Rattle.kv_types.specs.declared.error.KvError.TheVariants.{TooManyEdits, BatchTooLong}
 use Rattle.kv_types.specs.Spelling.{spelling}
-use Rattle.lab.specs.declared.event.What.{What}
-use Rattle.lab.specs.declared.event.What.TheVariants.{Submit, Get, Deliver, Tick, Start, Stop}
+use Rattle.lab.specs.declared.event.EventKind.{EventKind}
+use Rattle.lab.specs.declared.event.EventKind.TheVariants.{Submit, Get, Deliver, Tick, Start, Stop}
 use Rattle.program.specs.declared.script.statement.Meaning.{Meaning}
 use Rattle.program.specs.declared.script.statement.Meaning.TheVariants.{Event, Invalid}
 
@@ -38,7 +38,7 @@ size_error edits =
     if nat_lt MAX_BATCH (length (spelling edits)) then Some BatchTooLong else None
 
 -- the first error of a statement, that of the batch last
-abbrev pub error_of : What → Option KvError
+abbrev pub error_of : EventKind → Option KvError
 error_of (Submit node edits) = option_or (edits_error edits) (size_error edits)
 error_of (Get node key at) = key_error key
 error_of (Deliver place) = None
@@ -47,5 +47,5 @@ error_of (Start node) = None
 error_of (Stop node junk) = None
 
 -- a statement with an error is no event
-abbrev pub meaning_of : What → Meaning
+abbrev pub meaning_of : EventKind → Meaning
 meaning_of what = option_map_or (λ e. Invalid e) (error_of what) (Event what)

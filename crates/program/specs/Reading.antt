@@ -2,8 +2,8 @@
 use Rattle.std.specs.Prelude.{◌≡◌, ◌≢◌, ◌≤◌, ℕ, true, List, [], ◌∷◌, ◌++◌, map, codes}
 use Rattle.std.specs.Prelude.{Some, None, Result, Ok, Err}
 use Rattle.std.specs.Fmt.{decimal}
-use Rattle.lab.specs.declared.event.What.{What}
-use Rattle.lab.specs.declared.event.What.TheVariants as what
+use Rattle.lab.specs.declared.event.EventKind.{EventKind}
+use Rattle.lab.specs.declared.event.EventKind.TheVariants as what
 use Rattle.chain_model.specs.Configuration.{Configurations}
 use Rattle.configurations.specs.Configs.{IsConfig}
 use Rattle.program.specs.declared.script.error.ScriptError.{ScriptError}
@@ -21,7 +21,7 @@ use Rattle.program.specs.Faults.{statement_fault, words_fault, after_words, line
 use Rattle.program.specs.Faults.{after_line, numbered_fault}
 
 -- the event that is asked for
-abbrev pub what_of : Asked → What
+abbrev pub what_of : Asked → EventKind
 what_of (Submit node changes) = what.Submit node changes
 what_of (Get node key at) = what.Get node key at
 what_of (Stop node junk) = what.Stop node junk

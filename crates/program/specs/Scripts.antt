@@ -5,7 +5,7 @@ use Rattle.std.specs.Fmt.{decimal}
 use Rattle.std.specs.List.{slice_split, onto_first}
 use Rattle.chain_model.specs.Configuration.{Configurations}
 use Rattle.kv_types.specs.declared.limits.Limits.{Limits}
-use Rattle.lab.specs.declared.event.What.{What}
+use Rattle.lab.specs.declared.event.EventKind.{EventKind}
 use Rattle.configurations.specs.Configs.{IsConfig}
 use Rattle.lab.specs.Events.{NamesNode}
 use Rattle.program.specs.declared.script.setup.Setup.{Setup}
@@ -36,7 +36,7 @@ statement n meaning = record { line = n; meaning = meaning }
 abbrev pub IsStatement : Configurations → List (List ℕ) → Meaning → Type 0
 IsStatement cs words meaning =
     ((meaning ≡ Flow) × (words ≡ codes "flow" ∷ []))
-    ⊎ ((what : What) × CanBeSaid what × IsSpelled what words × NamesNode cs what
+    ⊎ ((what : EventKind) × CanBeSaid what × IsSpelled what words × NamesNode cs what
     × (meaning ≡ meaning_of what))
 
 -- lines behind the configurations, the first with number n: each is skipped, or is a statement

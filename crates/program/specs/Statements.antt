@@ -11,8 +11,8 @@ use Rattle.kv_types.specs.declared.edit.Edit.{Edit}
 use Rattle.kv_types.specs.declared.edit.Edit.TheVariants.{Put, Delete}
 use Rattle.disk.specs.declared.junk.Junk.{Junk}
 use Rattle.disk.specs.declared.junk.Junk.TheVariants.{Old, New, Bytes}
-use Rattle.lab.specs.declared.event.What.{What}
-use Rattle.lab.specs.declared.event.What.TheVariants.{Submit, Get, Deliver, Tick, Start, Stop}
+use Rattle.lab.specs.declared.event.EventKind.{EventKind}
+use Rattle.lab.specs.declared.event.EventKind.TheVariants.{Submit, Get, Deliver, Tick, Start, Stop}
 use Rattle.program.specs.declared.script.error.ScriptError.{ScriptError}
 use Rattle.program.specs.declared.script.error.ScriptError.TheVariants.{UnknownStatement}
 use Rattle.program.specs.declared.script.error.ScriptError.TheVariants.{WrongNumberOfWords}
@@ -46,7 +46,7 @@ AreBytesOf New = Unit {0}
 AreBytesOf (Bytes bytes) = AreBytes bytes
 
 -- an event of bytes, and of numbers that a script may name
-abbrev pub CanBeSaid : What → Type 0
+abbrev pub CanBeSaid : EventKind → Type 0
 CanBeSaid (Submit node edits) = (node < 2 ^ 63) × All AreBytesIn edits
 CanBeSaid (Get node key None) = (node < 2 ^ 63) × AreBytes key
 CanBeSaid (Get node key (Some at)) = (node < 2 ^ 63) × AreBytes key × (at < 2 ^ 63)
@@ -56,7 +56,7 @@ CanBeSaid (Start node) = node < 2 ^ 63
 CanBeSaid (Stop node junk) = (node < 2 ^ 63) × AreBytesOf junk
 
 -- these words spell the event
-abbrev pub IsSpelled : What → List (List ℕ) → Type 0
+abbrev pub IsSpelled : EventKind → List (List ℕ) → Type 0
 IsSpelled (Submit node edits) words = words ≡ codes "submit" ∷ decimal node ∷ map edit_text edits
 IsSpelled (Get node key None) words =
     words ≡ codes "get" ∷ decimal node ∷ bytes_text key ∷ []

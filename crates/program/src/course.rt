@@ -16,7 +16,7 @@ use crate::turn::{Remark, Turn};
 use configurations::Configs;
 use disk::Fault;
 use kv_types::Limits;
-use lab::{Event, LabError, What, World};
+use lab::{Event, EventKind, LabError, World};
 use std::alloc::{AllocError, Global};
 use std::collections::VecDeque;
 
@@ -66,7 +66,7 @@ impl Course {
     }
 
     // An event happens, and the frames that it sends are left to be delivered.
-    fn give(&mut self, alloc: Global, what: What) -> Result<(), LabError>
+    fn give(&mut self, alloc: Global, what: EventKind) -> Result<(), LabError>
         ensures { (cs : Configurations) (events : List LabEvent) (steps : List (List Line)) →
             HasRun self.old.world cs events steps → NamesNode cs what →
             OnOk result ((lines : List Line)
@@ -76,13 +76,13 @@ impl Course {
     {
         let before = self.world.sent();
         let fault = Fault::None;
-        self.world.step(alloc, &Event { what, fault })?;
+        self.world.step(alloc, &Event { kind: what, fault })?;
         add_places(&mut self.left, before, self.world.sent())?;
         Ok(())
     }
 
     // A statement's event happens. A frame that it delivers is no longer left.
-    fn event(&mut self, alloc: Global, what: &What) -> Result<(), LabError>
+    fn event(&mut self, alloc: Global, what: &EventKind) -> Result<(), LabError>
         ensures { (cs : Configurations) (events : List LabEvent) (steps : List (List Line)) →
             HasRun self.old.world cs events steps → NamesNode cs what.now →
             OnOk result ((lines : List Line)
@@ -91,7 +91,7 @@ impl Course {
             ++ places_after (frames_told steps) (frames_of_step lines)))) }
     {
         self.give(alloc, what.clone()?)?;
-        if let What::Deliver { place } = what {
+        if let EventKind::Deliver { place } = what {
             take_out(&mut self.left, *place);
         }
         Ok(())
@@ -114,7 +114,7 @@ impl Course {
             let Some(place) = self.left.pop_front() else {
                 return Ok(count);
             };
-            self.give(alloc, What::Deliver { place })?;
+            self.give(alloc, EventKind::Deliver { place })?;
             count += 1;
         }
         Ok(count)

@@ -11,7 +11,7 @@ use super::asked::{Asked, Bytes, Change, Changes};
 use super::statement::Meaning;
 use configurations::NodeId;
 use kv_types::{Batch, Edit, Key, KvError, Value};
-use lab::What;
+use lab::EventKind;
 use std::alloc::{AllocError, Global};
 
 fn key_of(bytes: Bytes) -> Result<Key, KvError>
@@ -70,14 +70,14 @@ fn batch(edits: Vec<Edit>) -> Result<Batch, KvError>
 }
 
 fn submit(alloc: Global, node: NodeId, changes: Changes) -> Result<Meaning, AllocError>
-    ensures { IfOk result (λ meaning. meaning ≡ meaning_of (What.Submit node changes)) }
+    ensures { IfOk result (λ meaning. meaning ≡ meaning_of (EventKind.Submit node changes)) }
 {
     let edits = match edits(alloc, changes)? {
         Ok(edits) => edits,
         Err(e) => return Ok(Meaning::Invalid(e)),
     };
     match batch(edits) {
-        Ok(batch) => Ok(Meaning::Event(What::Submit { node, batch })),
+        Ok(batch) => Ok(Meaning::Event(EventKind::Submit { node, batch })),
         Err(e) => Ok(Meaning::Invalid(e)),
     }
 }
@@ -90,11 +90,11 @@ pub fn meaning(alloc: Global, node: NodeId, asked: Asked) -> Result<Meaning, All
     match asked {
         Asked::Submit(_, changes) => submit(alloc, node, changes),
         Asked::Get(_, key, at) => match key_of(key) {
-            Ok(key) => Ok(Meaning::Event(What::Get { node, key, at })),
+            Ok(key) => Ok(Meaning::Event(EventKind::Get { node, key, at })),
             Err(e) => Ok(Meaning::Invalid(e)),
         },
-        Asked::Tick(_) => Ok(Meaning::Event(What::Tick { node })),
-        Asked::Stop(_, junk) => Ok(Meaning::Event(What::Stop { node, junk })),
-        Asked::Start(_) => Ok(Meaning::Event(What::Start { node })),
+        Asked::Tick(_) => Ok(Meaning::Event(EventKind::Tick { node })),
+        Asked::Stop(_, junk) => Ok(Meaning::Event(EventKind::Stop { node, junk })),
+        Asked::Start(_) => Ok(Meaning::Event(EventKind::Start { node })),
     }
 }

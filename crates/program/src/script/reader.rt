@@ -22,7 +22,7 @@ use super::statements::asked_of;
 use super::word::number;
 use configurations::{Config, ConfigError, Configs};
 use kv_types::Limits;
-use lab::What;
+use lab::EventKind;
 use std::alloc::{AllocError, Global};
 
 /// The most bytes of a line, without its line feed.
@@ -154,7 +154,7 @@ fn deliver(before: &Before, args: &[&[u8]]) -> Result<Meaning, ScriptError>
     if before.configs.is_none() {
         return Err(ScriptError::OutOfPlace);
     }
-    Ok(Meaning::Event(What::Deliver { place }))
+    Ok(Meaning::Event(EventKind::Deliver { place }))
 }
 
 // A flow, if it may stand here.

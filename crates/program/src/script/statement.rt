@@ -8,14 +8,14 @@ ghost use Rattle.program.specs.Reading.{after_item, statements_of};
 use super::error::ScriptError;
 use configurations::{Configs, NodeId};
 use kv_types::KvError;
-use lab::What;
+use lab::EventKind;
 use std::alloc::AllocError;
 
 /// What a statement comes to.
 #[derive(Debug, Drop)]
 pub enum Meaning {
     /// Something that happens at a node.
-    Event(What),
+    Event(EventKind),
     /// A key, value or batch that there can't be.
     Invalid(KvError),
     /// Every frame that no statement has delivered yet is delivered.

@@ -1,6 +1,6 @@
 use Rattle.std.proofs.Common.{ℕ, List, ◌++◌, ◌∙◌, sym, ap}
 use Rattle.chain_model.specs.Node.{without}
-use Rattle.lab.specs.declared.event.What.{What}
+use Rattle.lab.specs.declared.event.EventKind.{EventKind}
 use Rattle.lab.specs.Worlds.{frames_told, frames_of_step}
 use Rattle.program.specs.Courses.{left_by_event, places_after}
 use Rattle.program.proofs.Flowing.{left_as}
@@ -14,7 +14,7 @@ returns-in-Deliver c = λ cs events steps run named.
       went.1,
       c.take_out.ensures
           ∙ (ap (λ (l : List ℕ). without c.in-Deliver.place l) went.2
-          ∙ ap (λ (what : What). left_by_event what (c.args.self.now.left.items
+          ∙ ap (λ (what : EventKind). left_by_event what (c.args.self.now.left.items
           ++ places_after (frames_told steps) (frames_of_step went.0))) (sym c.in-Deliver.is)),
     )
 
