@@ -6,7 +6,7 @@ use Rattle.std.proofs.lemmas.List.Elements.{All-nil, All-cons}
 use Rattle.std.proofs.Common.{arith}
 use Rattle.std.proofs.lemmas.Grind.{common_steps}
 use Rattle.std.specs.Option.{option_map_or}
-use Rattle.chain_model.specs.Configuration.{Configurations}
+use Rattle.lab.specs.Configuration.{Configurations}
 use Rattle.lab.specs.declared.event.What.{What}
 use Rattle.lab.specs.Events.{NamesNode}
 use Rattle.program.specs.declared.script.setup.Setup.{Setup}

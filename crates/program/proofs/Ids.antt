@@ -8,11 +8,11 @@ use Rattle.std.specs.Fmt.{decimal}
 use Rattle.std.proofs.lemmas.Bool.{cases_Bool}
 use Rattle.std.proofs.lemmas.Bool.Decides.{nat_tests}
 use Rattle.std.proofs.lemmas.List.Elements.{All-nil, All-cons, All-head, All-tail}
-use Rattle.chain_model.specs.Configuration.{IsId, AllDifferent, has}
-use Rattle.configurations.specs.Configs.{IsConfig}
-use Rattle.configurations.specs.Refusals.{IdsHave, IsLeast}
-use Rattle.configurations.specs.declared.error.ConfigError.{ConfigError}
-use Rattle.configurations.specs.declared.error.ConfigError.TheVariants as fault
+use Rattle.lab.specs.Configuration.{IsId, AllDifferent, has}
+use Rattle.lab.specs.Configs.{IsConfig}
+use Rattle.lab.specs.Refusals.{IdsHave, IsLeast}
+use Rattle.lab.specs.ConfigError.{ConfigError}
+use Rattle.lab.specs.ConfigError.TheVariants as fault
 use Rattle.program.specs.declared.script.error.ScriptError.{ScriptError}
 use Rattle.program.specs.declared.script.error.ScriptError.TheVariants as script
 use Rattle.program.specs.Words.{is_number, begins_fault, has_fault}

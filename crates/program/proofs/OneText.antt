@@ -4,8 +4,8 @@ use Rattle.std.proofs.Common.{sym, ap, ◌∙◌, inl, inr, arith, true, false, 
 use Rattle.std.proofs.Common.{map, ◌≤◌, ◌^◌, codes, Option, Some, None, length, get_or}
 use Rattle.std.specs.Fmt.{decimal}
 use Rattle.std.proofs.lemmas.Fmt.{decimal_injective}
-use Rattle.disk.specs.declared.junk.Junk.{Junk}
-use Rattle.disk.specs.declared.junk.Junk.TheVariants.{Old, New, Bytes}
+use Rattle.lab.specs.Junk.{Junk}
+use Rattle.lab.specs.Junk.TheVariants.{Old, New, Bytes}
 use Rattle.std.specs.Prelude.{All, ◌==◌}
 use Rattle.std.specs.Char.{digit_char}
 use Rattle.std.specs.List.{flat_map}

@@ -6,8 +6,8 @@ use Rattle.std.proofs.lemmas.Grind.{common_steps}
 use Rattle.std.specs.Str.Parse.{digits_value}
 use Rattle.std.specs.Fmt.{decimal}
 use Rattle.std.proofs.lemmas.Fmt.{digits_value-decimal}
-use Rattle.chain_model.specs.Configuration.{Configurations, has, at_epoch}
-use Rattle.configurations.specs.Configs.{IsConfig}
+use Rattle.lab.specs.Configuration.{Configurations, has, at_epoch}
+use Rattle.lab.specs.Configs.{IsConfig}
 use Rattle.lab.specs.declared.event.What.{What}
 use Rattle.lab.specs.declared.event.What.TheVariants.{Submit, Get, Deliver, Tick, Start, Stop}
 use Rattle.lab.specs.Events.{node_in, NamesNode}

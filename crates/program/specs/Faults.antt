@@ -6,7 +6,7 @@ use Rattle.std.specs.List.{list_all}
 use Rattle.std.specs.Option.{option_map_or, option_or}
 use Rattle.std.specs.Str.{bytes_eq}
 use Rattle.std.specs.Str.Parse.{digits_value}
-use Rattle.chain_model.specs.Configuration.{Configurations, has, at_epoch}
+use Rattle.lab.specs.Configuration.{Configurations, has, at_epoch}
 use Rattle.program.specs.declared.script.error.ScriptError.{ScriptError}
 use Rattle.program.specs.declared.script.error.ScriptError.TheVariants.{LineTooLong, BadNumber}
 use Rattle.program.specs.declared.script.error.ScriptError.TheVariants.{UnknownStatement}

@@ -4,8 +4,8 @@ use Rattle.std.specs.Prelude.{Some, None, Result, Ok, Err}
 use Rattle.std.specs.Fmt.{decimal}
 use Rattle.lab.specs.declared.event.What.{What}
 use Rattle.lab.specs.declared.event.What.TheVariants as what
-use Rattle.chain_model.specs.Configuration.{Configurations}
-use Rattle.configurations.specs.Configs.{IsConfig}
+use Rattle.lab.specs.Configuration.{Configurations}
+use Rattle.lab.specs.Configs.{IsConfig}
 use Rattle.program.specs.declared.script.error.ScriptError.{ScriptError}
 use Rattle.program.specs.declared.script.error.ScriptError.TheVariants.{OutOfMemory}
 use Rattle.program.specs.declared.script.asked.Asked.{Asked}

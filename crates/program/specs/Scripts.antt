@@ -3,10 +3,10 @@ use Rattle.std.specs.Prelude.{◌≡◌, ◌⊎◌, ℕ, suc, Bool, true, ◌==�
 use Rattle.std.specs.Prelude.{map, codes}
 use Rattle.std.specs.Fmt.{decimal}
 use Rattle.std.specs.List.{slice_split, onto_first}
-use Rattle.chain_model.specs.Configuration.{Configurations}
+use Rattle.lab.specs.Configuration.{Configurations}
 use Rattle.kv_types.specs.declared.limits.Limits.{Limits}
 use Rattle.lab.specs.declared.event.What.{What}
-use Rattle.configurations.specs.Configs.{IsConfig}
+use Rattle.lab.specs.Configs.{IsConfig}
 use Rattle.lab.specs.Events.{NamesNode}
 use Rattle.program.specs.declared.script.setup.Setup.{Setup}
 use Rattle.program.specs.declared.script.statement.Statement.{Statement}

@@ -9,8 +9,8 @@ use Rattle.std.specs.Str.{bytes_eq}
 use Rattle.std.specs.Char.{digit_char}
 use Rattle.kv_types.specs.declared.edit.Edit.{Edit}
 use Rattle.kv_types.specs.declared.edit.Edit.TheVariants.{Put, Delete}
-use Rattle.disk.specs.declared.junk.Junk.{Junk}
-use Rattle.disk.specs.declared.junk.Junk.TheVariants.{Old, New, Bytes}
+use Rattle.lab.specs.Junk.{Junk}
+use Rattle.lab.specs.Junk.TheVariants.{Old, New, Bytes}
 use Rattle.lab.specs.declared.event.What.{What}
 use Rattle.lab.specs.declared.event.What.TheVariants.{Submit, Get, Deliver, Tick, Start, Stop}
 use Rattle.program.specs.declared.script.error.ScriptError.{ScriptError}

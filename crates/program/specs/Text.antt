@@ -6,14 +6,14 @@ use Rattle.std.specs.List.{flat_map}
 use Rattle.std.specs.Option.{option_map_or}
 use Rattle.kv_types.specs.declared.error.KvError.{KvError}
 use Rattle.kv_types.specs.declared.error.KvError.TheVariants as kv
-use Rattle.link_messages.specs.declared.refusal.Refusal.{Refusal}
-use Rattle.link_messages.specs.declared.refusal.Refusal.TheVariants as refused
-use Rattle.node.specs.declared.output.Reply.{Reply}
-use Rattle.node.specs.declared.output.Reply.TheVariants.{Committed, Value, Refused}
-use Rattle.node.specs.declared.stop.Stop.{Stop}
-use Rattle.node.specs.declared.stop.Stop.TheVariants as stop
-use Rattle.chain_core.specs.declared.drop_reason.DropReason.{DropReason}
-use Rattle.chain_core.specs.declared.drop_reason.DropReason.TheVariants as reason
+use Rattle.lab.specs.Refusal.{Refusal}
+use Rattle.lab.specs.Refusal.TheVariants as refused
+use Rattle.lab.specs.Reply.{Reply}
+use Rattle.lab.specs.Reply.TheVariants.{Committed, Value, Refused}
+use Rattle.lab.specs.Stop.{Stop}
+use Rattle.lab.specs.Stop.TheVariants as stop
+use Rattle.lab.specs.DropReason.{DropReason}
+use Rattle.lab.specs.DropReason.TheVariants as reason
 use Rattle.lab.specs.declared.report.Line.{Line}
 use Rattle.lab.specs.declared.report.Line.TheVariants as line
 use Rattle.program.specs.declared.turn.Turn.{Turn}

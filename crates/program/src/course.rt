@@ -1,8 +1,8 @@
 // A run of statements: the events of each, one after another.
 ghost use Rattle.std.specs.Prelude.{◌≡◌, ℕ, List, [], ◌∷◌, ◌++◌, length, map, take, drop};
 ghost use Rattle.std.specs.Prelude.{OnOk, IfOk, ◌+◌, ◌-◌};
-ghost use Rattle.chain_model.specs.Configuration.{Configurations};
-ghost use Rattle.chain_model.specs.Node.{without};
+ghost use Rattle.lab.specs.Configuration.{Configurations};
+ghost use Rattle.lab.specs.Node.{without};
 ghost use Rattle.lab.specs.declared.event.Event.{Event as LabEvent};
 ghost use Rattle.lab.specs.declared.report.Line.{Line};
 ghost use Rattle.lab.specs.Events.{NamesNode};
@@ -13,10 +13,8 @@ ghost use Rattle.program.specs.Scripts.{Names};
 
 use crate::script::{Meaning, Statement};
 use crate::turn::{Remark, Turn};
-use configurations::Configs;
-use disk::Fault;
 use kv_types::Limits;
-use lab::{Event, LabError, What, World};
+use lab::{Configs, Event, Fault, LabError, What, World};
 use std::alloc::{AllocError, Global};
 use std::collections::VecDeque;
 

@@ -4,8 +4,8 @@ ghost use Rattle.lab.specs.Events.{node_in};
 ghost use Rattle.program.specs.Reading.{what_of};
 ghost use Rattle.program.specs.Edits.{edit_of};
 
-use disk::Junk;
 use kv_types::Number;
+use lab::Junk;
 use std::alloc::{AllocError, Global};
 use std::marker::Model;
 

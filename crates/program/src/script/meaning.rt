@@ -9,9 +9,8 @@ ghost use Rattle.program.specs.Reading.{what_of};
 
 use super::asked::{Asked, Bytes, Change, Changes};
 use super::statement::Meaning;
-use configurations::NodeId;
 use kv_types::{Batch, Edit, Key, KvError, Value};
-use lab::What;
+use lab::{NodeId, What};
 use std::alloc::{AllocError, Global};
 
 fn key_of(bytes: Bytes) -> Result<Key, KvError>

@@ -4,7 +4,7 @@ ghost use Rattle.std.specs.Prelude.{Some, None, IfOk, OnOk, MatchResult, MatchOp
 ghost use Rattle.std.specs.Fmt.{decimal};
 ghost use Rattle.std.specs.List.{list_all};
 ghost use Rattle.std.specs.Str.{bytes_eq};
-ghost use Rattle.configurations.specs.Configs.{IsConfig};
+ghost use Rattle.lab.specs.Configs.{IsConfig};
 ghost use Rattle.program.specs.declared.script.error.ScriptError.TheVariants.{OutOfMemory};
 ghost use Rattle.program.specs.declared.script.error.ScriptError.TheVariants.{BadConfiguration};
 ghost use Rattle.program.specs.Words.{is_number};
@@ -20,9 +20,8 @@ use super::setup::Setup;
 use super::statement::{Before, Item, Meaning, Statement};
 use super::statements::asked_of;
 use super::word::number;
-use configurations::{Config, ConfigError, Configs};
 use kv_types::Limits;
-use lab::What;
+use lab::{Config, ConfigError, Configs, What};
 use std::alloc::{AllocError, Global};
 
 /// The most bytes of a line, without its line feed.

@@ -1,14 +1,13 @@
 // The statements of a script, and what the reader knows between two lines.
 ghost use Rattle.std.specs.Prelude.{◌≡◌, ◌++◌, true, false, Some, None};
 ghost use Rattle.std.specs.Prelude.{IfOk, MatchOption, MatchResult};
-ghost use Rattle.chain_model.specs.Configuration.{has};
+ghost use Rattle.lab.specs.Configuration.{has};
 ghost use Rattle.program.specs.Faults.{node_fault};
 ghost use Rattle.program.specs.Reading.{after_item, statements_of};
 
 use super::error::ScriptError;
-use configurations::{Configs, NodeId};
 use kv_types::KvError;
-use lab::What;
+use lab::{Configs, NodeId, What};
 use std::alloc::AllocError;
 
 /// What a statement comes to.

@@ -10,7 +10,7 @@ use super::asked::{Asked, Bytes};
 use super::edit::changes_of;
 use super::error::ScriptError;
 use super::word::{byte_of, bytes_of, number, numbered};
-use disk::{Junk, JunkBytes};
+use lab::{Junk, JunkBytes};
 use std::alloc::{AllocError, Global};
 
 fn get(alloc: Global, args: &[&[u8]]) -> Result<Asked, ScriptError>

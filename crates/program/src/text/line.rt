@@ -5,10 +5,8 @@ ghost use Rattle.program.specs.Text.{line_text};
 
 use super::names::{CauseText, ReasonText, RefusalText};
 use super::spelled::Spelled;
-use configurations::{Epoch, NodeId};
 use kv_types::Number;
-use lab::Line;
-use node::{Reply, Stop};
+use lab::{Epoch, Line, NodeId, Reply, Stop};
 use std::fmt;
 
 #[derive(Clone, Copy)]

@@ -5,8 +5,7 @@ ghost use Rattle.program.specs.Text.{fault_text};
 
 use crate::script::ScriptError;
 use kv_types::KvError;
-use link_messages::Refusal;
-use node::{DropReason, Stop};
+use lab::{DropReason, Refusal, Stop};
 use std::fmt;
 
 /// A refusal, by its number and name.

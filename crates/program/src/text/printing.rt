@@ -8,8 +8,7 @@ ghost use Rattle.program.specs.Text.{step_text, remark_text, turn_text, run_text
 use super::line::LineText;
 use super::names::ErrorText;
 use crate::turn::{Remark, Turn};
-use lab::{Line, Lines};
-use node::Reply;
+use lab::{Line, Lines, Reply};
 use std::alloc::{AllocError, Global};
 use std::io::{self, Write};
 

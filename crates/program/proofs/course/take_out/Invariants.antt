@@ -1,5 +1,5 @@
 use Rattle.std.proofs.Common.{◌≡◌, take, false}
-use Rattle.chain_model.specs.Configuration.{has}
+use Rattle.lab.specs.Configuration.{has}
 use Rattle.program.proofs.course.take_out.Given as goal
 
 abbrev pub invariant-loop-index : goal.invariant-loop-index

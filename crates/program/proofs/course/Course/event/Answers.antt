@@ -1,5 +1,5 @@
 use Rattle.std.proofs.Common.{ℕ, List, ◌++◌, ◌∙◌, sym, ap}
-use Rattle.chain_model.specs.Node.{without}
+use Rattle.lab.specs.Node.{without}
 use Rattle.lab.specs.declared.event.What.{What}
 use Rattle.lab.specs.Worlds.{frames_told, frames_of_step}
 use Rattle.program.specs.Courses.{left_by_event, places_after}

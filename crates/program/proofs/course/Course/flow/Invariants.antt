@@ -1,5 +1,5 @@
 use Rattle.std.proofs.Common.{◌-◌, List}
-use Rattle.chain_model.specs.Configuration.{Configurations}
+use Rattle.lab.specs.Configuration.{Configurations}
 use Rattle.lab.specs.declared.event.Event as lab
 use Rattle.lab.specs.declared.report.Line.{Line}
 use Rattle.lab.specs.Worlds.{HasRun}

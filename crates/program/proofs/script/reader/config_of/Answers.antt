@@ -1,5 +1,5 @@
 use Rattle.std.proofs.Common.{◌∙◌, subst, List, ℕ}
-use Rattle.configurations.specs.Configs.{IsConfig}
+use Rattle.lab.specs.Configs.{IsConfig}
 use Rattle.program.proofs.Ids.{config_is, no_config_of}
 use Rattle.program.proofs.script.reader.config_of.Goals as goal
 
