@@ -5,7 +5,7 @@ ghost use Rattle.program.specs.Requests.{lab_script as script_of, is_dashed};
 
 use clap::error::ErrorKind;
 use clap::{Arg, ArgAction, Command};
-use std::alloc::Global;
+use std::alloc::{AllocError, Global};
 
 /// What the words ask for.
 pub enum Request<'a> {
@@ -16,7 +16,7 @@ pub enum Request<'a> {
 }
 
 /// Why the words are no request.
-#[derive(Clone, Copy, Debug, PartialEq, Eq)]
+#[derive(Clone, Copy)]
 pub enum WordsError {
     Usage,
     Memory,
@@ -25,19 +25,23 @@ pub enum WordsError {
 /// The line for words that are no request.
 pub const USAGE: &str = "usage: chainstore lab SCRIPT | loop SCRIPT --dir D | dump DIR";
 
-fn parsed<'a>(alloc: Global, words: &'a [&'a str]) -> Result<Option<&'a str>, clap::Error> {
+/// The words that the program knows.
+fn grammar<'a>(alloc: Global) -> Result<Command<'a>, AllocError> {
     let script = Arg::new(alloc, "SCRIPT")
         .required(true)
         .action(ArgAction::Set);
     let lab = Command::new(alloc, "lab")
         .disable_help_flag(true)
         .arg(script)?;
-    let command = Command::new(alloc, "chainstore")
+    Command::new(alloc, "chainstore")
         .subcommand_required(true)
         .disable_help_flag(true)
         .disable_help_subcommand(true)
-        .subcommand(lab)?;
-    let matches = command.try_get_matches_from(words)?;
+        .subcommand(lab)
+}
+
+fn parsed<'a>(alloc: Global, words: &'a [&'a str]) -> Result<Option<&'a str>, clap::Error> {
+    let matches = grammar(alloc)?.try_get_matches_from(words)?;
     match matches.subcommand_matches("lab") {
         None => Ok(None),
         Some(lab) => Ok(lab.get_str("SCRIPT")),

@@ -5,7 +5,7 @@ ghost use Rattle.program.specs.declared.failure.Failure.TheVariants.{Memory};
 
 use crate::run_error::RunError;
 use crate::script::Fault;
-use crate::text::FaultText;
+use crate::text::fault_name;
 use std::alloc::AllocError;
 use std::fmt;
 
@@ -25,7 +25,7 @@ impl fmt::Display for Failure {
         match self {
             Failure::Unreadable => write!(f, "script: unreadable"),
             Failure::Script(fault) => {
-                let (line, text) = (fault.line, FaultText(fault.error));
+                let (line, text) = (fault.line, fault_name(fault.error));
                 write!(f, "line {line}: {text}")
             }
             Failure::Output => write!(f, "output: write"),

@@ -2,7 +2,7 @@
 use kv_types::KvError;
 
 /// What is said of a statement besides the lines of its events.
-#[derive(Clone, Copy, Debug)]
+#[derive(Clone, Copy)]
 pub enum Remark {
     /// A key, value or batch that there can't be: the statement has no event.
     Invalid(KvError),
@@ -12,7 +12,7 @@ pub enum Remark {
 
 /// What a statement did: the line where it stands, how many events it had, and what is said
 /// besides.
-#[derive(Clone, Copy, Debug)]
+#[derive(Clone, Copy)]
 pub struct Turn {
     pub line: u32,
     pub events: usize,

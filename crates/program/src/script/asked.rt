@@ -10,7 +10,7 @@ use std::alloc::{AllocError, Global};
 use std::marker::Model;
 
 /// A byte string of any length.
-#[derive(Debug, Drop)]
+#[derive(Drop)]
 pub struct Bytes {
     bytes: Vec<u8>,
 }
@@ -38,14 +38,14 @@ impl Bytes {
 }
 
 /// An edit whose key and value are of any length.
-#[derive(Debug, Drop)]
+#[derive(Drop)]
 pub enum Change {
     Put(Bytes, Bytes),
     Delete(Bytes),
 }
 
 /// Edits, any number of them.
-#[derive(Debug, Drop)]
+#[derive(Drop)]
 pub struct Changes {
     changes: Vec<Change>,
 }
@@ -84,7 +84,7 @@ impl Changes {
 }
 
 /// What a line asks for, before anything but its spelling is known.
-#[derive(Debug, Drop)]
+#[derive(Drop)]
 pub enum Asked {
     Submit(u64, Changes),
     Get(u64, Bytes, Option<Number>),

@@ -5,7 +5,7 @@ ghost use Rattle.program.specs.Beginnings.{HasExtent, IsFaulty};
 use super::reader::{LINE, LINES};
 
 /// The number of ended lines of a text, and of the bytes behind the last of them.
-#[derive(Clone, Copy, Debug)]
+#[derive(Clone, Copy)]
 pub struct Extent {
     lines: u32,
     line: usize,

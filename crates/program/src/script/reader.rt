@@ -239,7 +239,7 @@ fn item_of(alloc: Global, before: &Before, line: &[u8]) -> Result<Item, ScriptEr
 }
 
 /// A script: what it sets up, and its statements in order.
-#[derive(Debug, Drop)]
+#[derive(Drop)]
 pub struct Script {
     pub setup: Setup,
     pub statements: Vec<Statement>,

@@ -11,7 +11,7 @@ use lab::{Configs, NodeId, What};
 use std::alloc::AllocError;
 
 /// What a statement comes to.
-#[derive(Debug, Drop)]
+#[derive(Drop)]
 pub enum Meaning {
     /// Something that happens at a node.
     Event(What),
@@ -22,14 +22,14 @@ pub enum Meaning {
 }
 
 /// A statement, and the number of the line where it stands, from 1.
-#[derive(Debug, Drop)]
+#[derive(Drop)]
 pub struct Statement {
     pub line: u32,
     pub meaning: Meaning,
 }
 
 /// What one line of a script says.
-#[derive(Debug, Drop)]
+#[derive(Drop)]
 pub enum Item {
     Skipped,
     /// The configurations up to this line.
@@ -38,7 +38,7 @@ pub enum Item {
 }
 
 /// What stands before a line: the configurations, and whether a statement.
-#[derive(Debug, Drop)]
+#[derive(Drop)]
 pub struct Before {
     pub configs: Option<Configs>,
     pub begun: bool,

@@ -6,7 +6,7 @@ ghost use Rattle.program.specs.Text.{event_lines, line_of_request, line_told_at,
 ghost use Rattle.program.specs.Text.{step_text, remark_text, turn_text, run_text, request_of};
 
 use super::line::LineText;
-use super::names::ErrorText;
+use super::names::error_name;
 use crate::turn::{Remark, Turn};
 use lab::{Line, Lines, Reply};
 use std::alloc::{AllocError, Global};
@@ -99,7 +99,7 @@ fn print_remark<W: Write>(here: u32, remark: Option<Remark>, out: &mut W) -> io:
     match remark {
         None => Ok(()),
         Some(Remark::Invalid(error)) => {
-            let text = ErrorText(error);
+            let text = error_name(error);
             writeln!(out, "{here}: invalid {text}")
         }
         Some(Remark::Busy) => writeln!(out, "{here}: busy"),
