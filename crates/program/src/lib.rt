@@ -4,6 +4,7 @@
 mod command;
 mod course;
 mod failure;
+mod plain;
 mod reading;
 mod run_error;
 mod running;
