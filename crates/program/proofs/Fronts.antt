@@ -1,10 +1,8 @@
 -- The front of some bytes, each of which stands for itself.
 use Rattle.std.proofs.Common.{◌≡◌, ◌<◌, ◌≤◌, ℕ, zero, suc, List, [], ◌∷◌, ◌++◌, length, get_or}
 use Rattle.std.proofs.Common.{take, drop, true, false, refl, sym, ap, ◌∙◌, arith, ◌-◌, rules}
-use Rattle.std.proofs.Common.{append_assoc, append-nil}
+use Rattle.std.proofs.Common.{append_assoc}
 use Rattle.std.specs.List.{flat_map}
-use Rattle.std.specs.Prelude.{All}
-use Rattle.std.proofs.lemmas.List.Elements.{All-append, All-weaker}
 use Rattle.std.proofs.lemmas.Grind.{flat_map-append}
 use Rattle.std.proofs.Math.Seq.{take-length}
 use Rattle.std.proofs.lemmas.List.{length-drop}
@@ -14,7 +12,7 @@ use Rattle.std.proofs.lemmas.Bool.Decides.{nat_tests}
 use Rattle.std.proofs.lemmas.List.Elements.{All-nil, All-cons}
 use Rattle.std.proofs.lemmas.Str.{IsUtf8-from_ascii}
 use Rattle.std.proofs.lemmas.Str.Ascii.{IsAscii-from_all}
-use Rattle.program.specs.Words.{is_plain, byte_text, are_bytes, AreBytes, HasPlainFront}
+use Rattle.program.specs.Words.{is_plain, byte_text, are_bytes, HasPlainFront}
 
 small : (b : ℕ) → is_plain b ≡ true → b < 128
 small b e = grind (arith, nat_tests)
@@ -70,8 +68,6 @@ pub is_read : {T E : Type 0} (r : Result T E) (P : T → Type 0) (A : Type 0) (Q
 is_read (Ok x) P A Q m a = search rules
 is_read (Err e) P A Q m a = absurd (m.0 a)
 
--- ---- spelling: what is written, and what is left
-
 front_text : (rest front behind : List ℕ) → HasPlainFront rest front behind
     → flat_map byte_text rest ≡ front ++ flat_map byte_text behind
 front_text rest front behind it = ap (λ (l : List ℕ). flat_map byte_text l) it.parts
@@ -96,31 +92,3 @@ pub first_other : (rest front behind : List ℕ) → HasPlainFront rest front be
 first_other [] front behind it none some = absurd (omega (arith, some))
 first_other (b ∷ bs) [] behind it none some = it.other b bs (sym it.parts)
 first_other (b ∷ bs) (x ∷ front) behind it none some = absurd (omega (arith, none))
-
--- ---- reading: what is read, and what is left
-
-pub read_front : (word rest front behind bytes : List ℕ) → HasPlainFront rest front behind
-    → word ≡ flat_map byte_text bytes ++ rest
-    → word ≡ flat_map byte_text (bytes ++ front) ++ behind
-read_front word rest front behind bytes it e = e
-    ∙ ap (λ (l : List ℕ). flat_map byte_text bytes ++ l) it.parts
-    ∙ sym (append_assoc (flat_map byte_text bytes) front behind)
-    ∙ ap (λ (l : List ℕ). l ++ behind) (ap (λ (l : List ℕ). flat_map byte_text bytes ++ l)
-    (sym it.plain) ∙ sym (flat_map-append byte_text bytes front))
-
-pub read_byte : (word rest after bytes : List ℕ) (b : ℕ) → rest ≡ byte_text b ++ after
-    → word ≡ flat_map byte_text bytes ++ rest
-    → word ≡ flat_map byte_text (bytes ++ b ∷ []) ++ after
-read_byte word rest after bytes b f e = e
-    ∙ ap (λ (l : List ℕ). flat_map byte_text bytes ++ l) f
-    ∙ sym (append_assoc (flat_map byte_text bytes) (byte_text b) after)
-    ∙ ap (λ (l : List ℕ). l ++ after) (ap (λ (l : List ℕ). flat_map byte_text bytes ++ l)
-    (sym (append-nil (byte_text b))) ∙ sym (flat_map-append byte_text bytes (b ∷ [])))
-
-all_less : (front : List ℕ) → All (λ b. b < 128) front → AreBytes front
-all_less front it = All-weaker (λ x. x < 128) (λ x. x < 256) (λ x h. omega (arith, h)) front it
-
-pub bytes_more : (bytes front rest behind : List ℕ) → HasPlainFront rest front behind
-    → AreBytes bytes → AreBytes (bytes ++ front)
-bytes_more bytes front rest behind it each = All-append (λ x. x < 256) bytes front each
-    (all_less front it.small)

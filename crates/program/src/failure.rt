@@ -1,10 +1,10 @@
-// Why a run ended early, and the line that says so.
+//! Why a run ended early, and the line that says so.
 ghost use Rattle.std.specs.Prelude.{◌≡◌, Some};
 ghost use Rattle.program.specs.Failures.{failure_of, failure_text};
 ghost use Rattle.program.specs.declared.failure.Failure.TheVariants.{Memory};
 
 use crate::run_error::RunError;
-use crate::script::Fault;
+use crate::script::ScriptFault;
 use crate::text::fault_name;
 use std::alloc::AllocError;
 use std::fmt;
@@ -13,7 +13,7 @@ use std::fmt;
 #[derive(Clone, Copy, Debug)]
 pub enum Failure {
     Unreadable,
-    Script(Fault),
+    Script(ScriptFault),
     Output,
     Memory,
 }

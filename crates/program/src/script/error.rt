@@ -1,4 +1,4 @@
-// The faults of a script.
+//! The faults of a script.
 ghost use Rattle.std.specs.Prelude.{◌≡◌};
 ghost use Rattle.program.specs.declared.script.error.ScriptError.TheVariants.{OutOfMemory};
 

@@ -1,4 +1,4 @@
-// How far the beginning of a script goes, and whether it shows a fault of the whole.
+//! How far the beginning of a script goes, and whether it shows a fault of the whole.
 ghost use Rattle.std.specs.Prelude.{◌++◌, ◌∷◌, [], ℕ, List, MatchOption};
 ghost use Rattle.program.specs.Beginnings.{HasExtent, IsFaulty};
 

@@ -1,4 +1,4 @@
-// The statements of a script, and what the reader knows between two lines.
+//! The statements of a script, and what the reader knows between two lines.
 ghost use Rattle.std.specs.Prelude.{◌≡◌, ◌++◌, true, false, Some, None};
 ghost use Rattle.std.specs.Prelude.{IfOk, MatchOption, MatchResult};
 ghost use Rattle.lab.specs.Configuration.{has};
@@ -12,7 +12,7 @@ use std::alloc::AllocError;
 
 /// What a statement comes to.
 #[derive(Drop)]
-pub enum Meaning {
+pub enum Action {
     /// Something that happens at a node.
     Event(What),
     /// A key, value or batch that there can't be.
@@ -25,21 +25,21 @@ pub enum Meaning {
 #[derive(Drop)]
 pub struct Statement {
     pub line: u32,
-    pub meaning: Meaning,
+    pub action: Action,
 }
 
 /// What one line of a script says.
 #[derive(Drop)]
-pub enum Item {
+pub enum LineItem {
     Skipped,
     /// The configurations up to this line.
     Config(Configs),
-    Asks(Meaning),
+    Asks(Action),
 }
 
 /// What stands before a line: the configurations, and whether a statement.
 #[derive(Drop)]
-pub struct Before {
+pub struct ParserState {
     pub configs: Option<Configs>,
     pub begun: bool,
 }
@@ -56,27 +56,27 @@ fn id_in(ids: &[NodeId], node: u64) -> Option<NodeId>
     }
 }
 
-impl Before {
+impl ParserState {
     /// What stands before the line after this one, and the statement that was added.
-    pub fn take(
+    pub fn after(
         self,
         statements: &mut Vec<Statement>,
         line: u32,
-        item: Item,
-    ) -> Result<Before, AllocError>
+        item: LineItem,
+    ) -> Result<ParserState, AllocError>
         ensures after { IfOk result (λ after. after ≡ after_item self item) }
         ensures added { IfOk result (λ _.
             statements.new.items ≡ statements.old.items ++ statements_of line item) }
     {
         match item {
-            Item::Skipped => Ok(self),
-            Item::Config(configs) => Ok(Before {
+            LineItem::Skipped => Ok(self),
+            LineItem::Config(configs) => Ok(ParserState {
                 configs: Some(configs),
                 begun: self.begun,
             }),
-            Item::Asks(meaning) => {
-                statements.push(Statement { line, meaning })?;
-                Ok(Before {
+            LineItem::Asks(action) => {
+                statements.push(Statement { line, action })?;
+                Ok(ParserState {
                     configs: self.configs,
                     begun: true,
                 })

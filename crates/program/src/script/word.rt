@@ -1,4 +1,4 @@
-// Words: numbers, byte strings and hex bytes.
+//! Words: numbers, byte strings and hex bytes.
 ghost use Rattle.std.specs.Prelude.{◌≡◌, ◌^◌, ◌<◌, ◌++◌, ◌∷◌, [], true, false, length};
 ghost use Rattle.std.specs.Prelude.{MatchOption, IfOk};
 ghost use Rattle.std.specs.Fmt.{decimal};
@@ -32,7 +32,7 @@ pub fn number(word: &[u8]) -> Option<u64>
 }
 
 /// .. as that of a batch.
-pub fn numbered(word: &[u8]) -> Option<Number>
+pub fn batch_number(word: &[u8]) -> Option<Number>
     ensures { MatchOption result (is_number word.now ≡ false) (λ n. (is_number word.now ≡ true)
         × (n < 2 ^ 63) × (word.now ≡ decimal n) × (digits_value 10 word.now ≡ n)) }
 {

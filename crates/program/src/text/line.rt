@@ -1,4 +1,4 @@
-// The text of each line of a report.
+//! The text of each line of a report.
 ghost use Rattle.std.specs.Prelude.{◌≡◌, Some};
 ghost use Rattle.program.specs.Text.{reply_text, started_text, frame_text, stopped_text};
 ghost use Rattle.program.specs.Text.{line_text};

@@ -1,5 +1,5 @@
 //! Byte strings, as scripts spell them.
-ghost use Rattle.std.specs.Prelude.{◌≡◌, [], Some};
+ghost use Rattle.std.specs.Prelude.{Some};
 ghost use Rattle.program.specs.Words.{bytes_text, HasPlainFront};
 
 use crate::plain::split_plain;

@@ -1,6 +1,5 @@
 use Rattle.std.proofs.Common.{rules, ◌∙◌}
 use Rattle.program.proofs.Texts.{not_bytes, bytes_done}
-use Rattle.program.proofs.Fronts.{read_front, bytes_more}
 use Rattle.program.proofs.script.word.bytes_of.Goals as goal
 
 pub returns-in-None : goal.returns-in-None

@@ -1,4 +1,4 @@
-use Rattle.std.proofs.Common.{◌≡◌, ◌++◌, false, get_or, arith, rules}
+use Rattle.std.proofs.Common.{◌≡◌, ◌++◌, false, get_or, rules}
 use Rattle.std.proofs.Output.{has_written_of_eq, has_written_append}
 use Rattle.program.specs.Words.{is_plain, byte_text}
 use Rattle.program.proofs.Escape.{escape_text}

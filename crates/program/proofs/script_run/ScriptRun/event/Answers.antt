@@ -1,0 +1,30 @@
+use Rattle.std.proofs.Common.{ℕ, List, ◌++◌, ◌∙◌, sym, ap}
+use Rattle.lab.specs.Node.{without}
+use Rattle.lab.specs.declared.event.What.{What}
+use Rattle.lab.specs.Worlds.{frames_told, frames_of_step}
+use Rattle.program.specs.ScriptRuns.{left_after_event, places_after}
+use Rattle.program.proofs.Flowing.{left_as}
+use Rattle.program.proofs.script_run.ScriptRun.event.Goals as goal
+
+pub returns-in-Deliver : goal.returns-in-Deliver
+returns-in-Deliver c = λ cs events steps run named.
+    let gave = rw c.in_ok-clone.ensures at c.in_ok-step.ensures in
+    let went = gave cs events steps run named in (
+      went.0,
+      went.1,
+      c.remove_place.ensures
+          ∙ (ap (λ (l : List ℕ). without c.in-Deliver.place l) went.2
+          ∙ ap (λ (what : What). left_after_event what (c.args.self.now.left.items
+          ++ places_after (frames_told steps) (frames_of_step went.0))) (sym c.in-Deliver.is)),
+    )
+
+pub returns-in_default : goal.returns-in_default
+returns-in_default c = λ cs events steps run named.
+    let gave = rw c.in_ok-clone.ensures at c.in_ok-step.ensures in
+    let went = gave cs events steps run named in (
+      went.0,
+      went.1,
+      left_as c.args.what.now (c.args.self.now.left.items
+          ++ places_after (frames_told steps) (frames_of_step went.0)) c.step.new.self.left.items
+          c.in_default.not-Deliver went.2,
+    )
