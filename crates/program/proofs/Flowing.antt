@@ -332,7 +332,8 @@ result_of_error sent left it e is = record {
   did = rw is (refl, refl);
 }
 
-pub result_of_flow : (sent : ℕ) (left : List ℕ) (it : Statement) (own : List (List Line)) (count : ℕ)
+pub result_of_flow : (sent : ℕ) (left : List ℕ) (it : Statement) (own : List (List Line))
+    (count : ℕ)
     (said : Option Note) → it.action ≡ Flow → count ≡ length own →
     count ≡ length (deliveries (left ++ places_after sent (frames_told own))) →
     busy (drop most (left ++ places_after sent (frames_told own))) ≡ said →
@@ -360,7 +361,8 @@ emptied (x ∷ xs) ys e f = absurd (omega (arith, ap length e, ap length f))
 
 -- the next statement of all
 pub goes_next : (world after : World) (cs : Configurations) (left next : List ℕ)
-    (all : List Statement) (i : ℕ) (d it : Statement) (turns : List StatementResult) (turn : StatementResult) →
+    (all : List Statement) (i : ℕ) (d it : Statement) (turns : List StatementResult)
+    (turn : StatementResult) →
     i < length all →
     it ≡ get_or all i d → (g : Goes world cs left (drop i all) all turns)
     (own : List lab.Event) (lines : List (List Line)) →
@@ -384,7 +386,8 @@ goes_next world after cs left next all i d it turns turn within at g own lines i
 
 -- all statements ran
 pub gone : (world : World) (setup : Setup) (left : List ℕ) (all behind : List Statement)
-    (turns : List StatementResult) (report : Report) (g : Goes world setup.configs left behind all turns) →
+    (turns : List StatementResult) (report : Report)
+    (g : Goes world setup.configs left behind all turns) →
     behind ≡ [] → report.steps.items ≡ g.steps → IsRun setup.configs g.events report →
     OneHistory setup.configs g.events report → HasRunStatements setup all turns report
 gone world setup left all behind turns report g none steps run history =
@@ -392,7 +395,8 @@ gone world setup left all behind turns report g none steps run history =
     subst (λ (b : List Statement). AreResults (frames_told g.steps) left b [] [] []) (sym none)
     (refl, refl, refl) in
     let whole = g.whole [] [] [] nothing in
-    let first = subst (λ (t : List StatementResult). AreResults 0 [] all t (g.events ++ []) (g.steps ++ []))
+    let first = subst (λ (t : List StatementResult). AreResults 0 [] all t (g.events ++ [])
+    (g.steps ++ []))
     (append-nil turns) whole in
     let second = subst (λ (e : List lab.Event). AreResults 0 [] all turns e (g.steps ++ []))
     (append-nil g.events) first in

@@ -71,7 +71,8 @@ is_read (Err e) P A Q m a = absurd (m.0 a)
 front_text : (rest front behind : List ℕ) → HasPlainFront rest front behind
     → flat_map byte_text rest ≡ front ++ flat_map byte_text behind
 front_text rest front behind it = ap (λ (l : List ℕ). flat_map byte_text l) it.parts
-    ∙ flat_map-append byte_text front behind ∙ ap (λ (l : List ℕ). l ++ flat_map byte_text behind) it.plain
+    ∙ flat_map-append byte_text front behind
+    ∙ ap (λ (l : List ℕ). l ++ flat_map byte_text behind) it.plain
 
 pub wrote_front : (done rest front behind all : List ℕ) → HasPlainFront rest front behind
     → done ++ flat_map byte_text rest ≡ all → (done ++ front) ++ flat_map byte_text behind ≡ all

@@ -9,7 +9,8 @@ use Rattle.lab.specs.Configs.{IsConfig}
 use Rattle.program.specs.declared.script.error.ScriptError.{ScriptError}
 use Rattle.program.specs.declared.script.error.ScriptError.TheVariants.{OutOfMemory}
 use Rattle.program.specs.declared.script.command.Command.{Command}
-use Rattle.program.specs.declared.script.command.Command.TheVariants.{Submit, Get, Tick, Stop, Start}
+use Rattle.program.specs.declared.script.command.Command.TheVariants.{Submit, Get, Tick}
+use Rattle.program.specs.declared.script.command.Command.TheVariants.{Stop, Start}
 use Rattle.program.specs.declared.script.statement.ParserState.{ParserState}
 use Rattle.program.specs.declared.script.statement.LineItem.{LineItem}
 use Rattle.program.specs.declared.script.statement.LineItem.TheVariants.{Skipped, Config, Asks}

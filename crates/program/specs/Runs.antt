@@ -18,7 +18,8 @@ use Rattle.program.specs.Text.{run_text}
 
 -- the statements were run at the nodes of the configurations, and all that came of them is of one
 -- history
-pub record HasRunStatements (setup : Setup) (statements : List Statement) (turns : List StatementResult)
+pub record HasRunStatements (setup : Setup) (statements : List Statement)
+    (turns : List StatementResult)
     (report : Report) : Type 0 where
   pub events : List lab.Event
   pub course : AreResults 0 [] statements turns events report.steps.items
@@ -55,14 +56,16 @@ pub record RunHasFailed (text old new : Option (List ℕ)) (failure : Failure) :
   pub part : failure ≡ Output → IsRunOfText text (AppendsPart old new)
 
 -- the run was printed, and no fault was told
-pub record RunIsPrinted (text old_out new_out old_err new_err : Option (List ℕ)) (answer : ℕ) : Type 0
+pub record RunIsPrinted (text old_out new_out old_err new_err : Option (List ℕ))
+    (answer : ℕ) : Type 0
   where
     pub status : answer ≡ 0
     pub run : IsRunOfText text (Appends old_out new_out)
     pub quiet : new_err ≡ old_err
 
 -- the line was told that says why there is no run
-pub record FailureIsReported (text old_out new_out old_err new_err : Option (List ℕ)) (answer : ℕ) : Type 0
+pub record FailureIsReported (text old_out new_out old_err new_err : Option (List ℕ))
+    (answer : ℕ) : Type 0
   where
     pub status : answer ≡ 1
     pub failure : Failure

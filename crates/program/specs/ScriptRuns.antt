@@ -53,7 +53,8 @@ busy (place ∷ places) = Some note.Busy
 
 -- what a statement does, where these frames had not been delivered by another one before it ended:
 -- the lines of its steps, its events, and what is said besides
-abbrev pub IsResultOfAction : Action → List ℕ → List (List Line) → List lab.Event → Option Note → Type 0
+abbrev pub IsResultOfAction : Action → List ℕ → List (List Line) → List lab.Event → Option Note
+    → Type 0
 IsResultOfAction (Event what) left steps events said = (events ≡ event what ∷ []) × (said ≡ None)
 IsResultOfAction (Invalid e) left steps events said =
     (events ≡ []) × (said ≡ Some (note.Invalid e))

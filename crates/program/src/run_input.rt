@@ -6,7 +6,8 @@ ghost use Rattle.program.specs.Scripts.{script_lines, IsScript, Names};
 ghost use Rattle.program.specs.Faults.{script_fault, start};
 ghost use Rattle.program.specs.Text.{event_lines, run_text};
 ghost use Rattle.program.specs.Failures.{IsOfReading, IsFailureOf};
-ghost use Rattle.program.specs.Runs.{HasRunStatements, IsRunOf, IsRunOfText, RunHasFailed, AppendsPart};
+ghost use Rattle.program.specs.Runs.{HasRunStatements, IsRunOf, IsRunOfText};
+ghost use Rattle.program.specs.Runs.{RunHasFailed, AppendsPart};
 ghost use Rattle.program.specs.declared.run_error.RunError.TheVariants as error;
 
 use crate::failure::Failure;

@@ -1,4 +1,5 @@
-use Rattle.std.proofs.Common.{◌≡◌, ◌<◌, ℕ, List, length, get_or, take, false, sym, subst, arith, rules}
+use Rattle.std.proofs.Common.{◌≡◌, ◌<◌, ℕ, List, length, get_or}
+use Rattle.std.proofs.Common.{take, false, sym, subst, arith, rules}
 use Rattle.program.specs.Words.{is_plain, HasPlainFront}
 use Rattle.program.proofs.Fronts.{plain_front, tail}
 use Rattle.program.proofs.plain.split_plain.Goals as goal

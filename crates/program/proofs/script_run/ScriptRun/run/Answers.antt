@@ -4,7 +4,8 @@ use Rattle.std.proofs.lemmas.Bool.Decides.{nat_tests}
 use Rattle.lab.specs.Worlds.{frames_told, frames_of_step}
 use Rattle.program.specs.ScriptRuns.{event, deliveries, left_after_event, places_after, busy, most}
 use Rattle.program.specs.declared.statement_result.Note.TheVariants as note
-use Rattle.program.proofs.Flowing.{result_of_event, result_of_error, result_of_flow, none_left, some_left}
+use Rattle.program.proofs.Flowing.{result_of_event, result_of_error, result_of_flow}
+use Rattle.program.proofs.Flowing.{none_left, some_left}
 use Rattle.program.proofs.script_run.ScriptRun.run.Goals as goal
 
 pub returns-in_ok-event-in-Event : goal.returns-in_ok-event-in-Event
