@@ -2,6 +2,7 @@
 use Rattle.std.proofs.Common.{◌≡◌, ◌≤◌, ◌<◌, ◌+◌, ◌-◌, ℕ, zero, suc, List, [], ◌∷◌, ◌++◌}
 use Rattle.std.proofs.Common.{length, map, take, drop, refl, sym, ap, ap₂, subst, ◌∙◌, arith}
 use Rattle.std.proofs.Common.{append_assoc, append-nil, length-append, Option, Some, None, get_or}
+use Rattle.lab.specs.Node.{without}
 use Rattle.lab.specs.Configuration.{Configurations}
 use Rattle.lab.specs.declared.event.Event as lab
 use Rattle.kv_types.specs.declared.error.KvError.{KvError}
@@ -309,6 +310,13 @@ leaves_all (Stop node junk) left other = refl
 pub left_as : (what : What) (left new : List ℕ) → ((place : ℕ) → what ≡ Deliver place → ⊥) →
     new ≡ left → new ≡ left_after_event what left
 left_as what left new other e = e ∙ sym (leaves_all what left other)
+
+-- an event that delivers a frame leaves the others
+pub left_delivered : (what : What) (place : ℕ) (left mid new : List ℕ) → what ≡ Deliver place →
+    mid ≡ left → new ≡ without place mid → new ≡ left_after_event what left
+left_delivered what place left mid new is same cut = cut
+    ∙ (ap (λ (l : List ℕ). without place l) same
+    ∙ ap (λ (w : What). left_after_event w left) (sym is))
 
 pub result_of_event : (sent : ℕ) (left : List ℕ) (it : Statement) (what : What)
     (lines : List Line) → it.action ≡ Event what →

@@ -1,9 +1,7 @@
-use Rattle.std.proofs.Common.{ℕ, List, ◌++◌, ◌∙◌, sym, ap}
-use Rattle.lab.specs.Node.{without}
-use Rattle.lab.specs.declared.event.What.{What}
+use Rattle.std.proofs.Common.{◌++◌}
 use Rattle.lab.specs.Worlds.{frames_told, frames_of_step}
-use Rattle.program.specs.ScriptRuns.{left_after_event, places_after}
-use Rattle.program.proofs.Flowing.{left_as}
+use Rattle.program.specs.ScriptRuns.{places_after}
+use Rattle.program.proofs.Flowing.{left_as, left_delivered}
 use Rattle.program.proofs.script_run.ScriptRun.event.Goals as goal
 
 pub returns-in-Deliver : goal.returns-in-Deliver
@@ -12,10 +10,9 @@ returns-in-Deliver c = λ cs events steps run named.
     let went = gave cs events steps run named in (
       went.0,
       went.1,
-      c.remove_place.ensures
-          ∙ (ap (λ (l : List ℕ). without c.in-Deliver.place l) went.2
-          ∙ ap (λ (what : What). left_after_event what (c.args.self.now.left.items
-          ++ places_after (frames_told steps) (frames_of_step went.0))) (sym c.in-Deliver.is)),
+      left_delivered c.args.what.now c.in-Deliver.place (c.args.self.now.left.items
+          ++ places_after (frames_told steps) (frames_of_step went.0)) c.step.new.self.left.items _
+          c.in-Deliver.is went.2 c.remove_place.ensures,
     )
 
 pub returns-in_default : goal.returns-in_default
