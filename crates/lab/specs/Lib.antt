@@ -7,3 +7,14 @@ pub mod Outcomes
 pub mod Runs
 pub mod History
 pub mod Worlds
+pub use Rattle.chain_model.specs.Configuration
+pub use Rattle.chain_model.specs.Node
+pub use Rattle.configurations.specs.Configs
+pub use Rattle.configurations.specs.Refusals
+pub use Rattle.configurations.specs.declared.error.ConfigError
+pub use Rattle.chain_model.specs.declared.drop_reason.DropReason
+pub use Rattle.disk.specs.declared.fault.Fault
+pub use Rattle.disk.specs.declared.junk.Junk
+pub use Rattle.chain_model.specs.declared.refusal.Refusal
+pub use Rattle.node.specs.declared.output.Reply
+pub use Rattle.node.specs.declared.stop.Stop

@@ -5,7 +5,7 @@ use Rattle.lab.specs.declared.event.EventKind.{EventKind}
 use Rattle.program.specs.declared.script.setup.Setup.{Setup}
 use Rattle.program.specs.declared.script.statement.Statement.{Statement}
 use Rattle.program.specs.Words.{AreBytes, bytes_text}
-use Rattle.program.specs.Statements.{AreBytesIn, CanBeSaid, edit_text, IsSpelled, fault_of_words}
+use Rattle.program.specs.Statements.{AreBytesIn, CanBeSaid, edit_word, IsSpelled, fault_of_words}
 use Rattle.program.specs.Scripts.{IsScript}
 use Rattle.program.specs.Faults.{script_fault, start}
 
@@ -15,7 +15,7 @@ StringsDiffer = (a b : List ℕ) → AreBytes a → AreBytes b → bytes_text a 
 
 -- no two edits have one spelling
 abbrev pub EditsDiffer : Type 0
-EditsDiffer = (a b : Edit) → AreBytesIn a → AreBytesIn b → edit_text a ≡ edit_text b → a ≡ b
+EditsDiffer = (a b : Edit) → AreBytesIn a → AreBytesIn b → edit_word a ≡ edit_word b → a ≡ b
 
 -- no two events have one spelling
 abbrev pub EventsDiffer : Type 0
