@@ -58,7 +58,7 @@ pub record HasKeys (keys : List (List ℕ)) (n : ℕ) (filter : List ℕ) : Type
   pub exact : (p : ℕ) → p < 8 * length filter →
       HasBit filter p ↔ IsProbe (8 * length filter) (take n keys) p
 
--- each of so many noughts is one
+-- each of these zeros is zero
 pub all_zero : (filter : List ℕ) → AllClonesOf (λ (x y : ℕ). y ≡ x) 0 filter →
     All (λ byte. 0 ≡ byte) filter
 all_zero filter clones = All-from_recursion (λ byte. 0 ≡ byte) filter (each filter clones)

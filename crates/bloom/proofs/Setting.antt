@@ -12,7 +12,7 @@ use Rattle.bloom.specs.Filters.{HasBit}
 bit_here : (b k : ℕ) → IsBitSet (bit_or b (2 ^ k)) k
 bit_here b k none = absurd (omega (arith, pow_pos k, sym (and_or_self (2 ^ k) b) ∙ none))
 
--- .. and every other
+-- every bit but the one that was set
 bit_there : (b j k : ℕ) → j ≢ k → bit_and (bit_or b (2 ^ j)) (2 ^ k) ≡ bit_and b (2 ^ k)
 bit_there b j k apart = and_or_apart (2 ^ k) b (2 ^ j) (pow_apart j k apart)
 

@@ -13,7 +13,7 @@ use Rattle.chain_core.specs.Queues.{front, behind}
 use Rattle.chain_core.specs.Decisions.{Follows}
 use Rattle.chain_core.proofs.Queues.{due_front, not_due_behind, waiting_push, push_in_order}
 
--- a tail commits its whole list, another node what it had committed
+-- a tail commits its full list, another node what it had committed
 pub committed_by : (b : Bool) (n : Machine) →
     (if b then record n { committed = length n.list } else n)
     ≡ record n { committed = if b then length n.list else n.committed }
@@ -100,7 +100,7 @@ module _ (core : Core) (n : Machine) (is : Is core n) where
       subst (λ (k : Machine). Is (record core { count = number; committed = c }) k)
       (sym (committed_by (is_tail n.ids core.id) (record n { list = n.list ++ batch ∷ [] }))) base
 
-  -- after what the successor told
+  -- the state after the successor's report
   pub follows_told : (committed have c has : ℕ) (pending due : List Waiting) →
       c ≡ max core.committed committed → has ≡ max core.successor_has have →
       IsInOrder 0 core.count core.pending →

@@ -15,7 +15,7 @@ pub one_head : (c : List ℕ) (z x : ℕ) → is_head c z ≡ true → (z == x) 
 one_head [] z x h = absurd (false≢true h)
 one_head (y ∷ c) z x h = same_test y z x h
 
--- .. and the tail where the tail is x
+-- x is the tail where the tail is x
 pub one_tail : (c : List ℕ) (z x : ℕ) → is_tail c z ≡ true → (z == x) ≡ is_tail c x
 one_tail [] z x h = absurd (false≢true h)
 one_tail (y ∷ []) z x h = same_test y z x h

@@ -35,7 +35,7 @@ module _ (core : Core) (o : HasOrderedNumbers core) where
       HasOrderedNumbers (record core { count = number; committed = c; pending = pending })
   ordered_longer = longer_where (is_tail core.ids core.id) refl
 
-  -- after what the successor told
+  -- the order after the successor's report
   pub ordered_told : (committed have c has : ℕ) (pending : List Waiting) →
       c ≡ max core.committed committed → has ≡ max core.successor_has have → committed ≤ have →
       have ≤ core.count → IsInOrder 0 core.count pending →

@@ -38,7 +38,7 @@ due_front a m k (p ∷ ps) o = go (nat_le p.number k) refl (due_front p.number m
         let above = leb-false p.number k e in
         rw (e, (none_due p.number m k ps (omega (arith, above)) o.2).0) refl
 
--- .. and the others are behind it
+-- the requests that are not due are behind the front
 pub not_due_behind : (a m k : ℕ) (ps : List Waiting) → IsInOrder a m ps →
     not_due k (waiting ps) ≡ waiting (behind k ps)
 not_due_behind a m k [] o = refl

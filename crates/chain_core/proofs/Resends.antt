@@ -44,7 +44,7 @@ module _ (x : ℕ) (n : Machine) where
   none_sent zero k none = refl
   none_sent (suc c) k none = rw (none, none_sent c (suc k) none) refl
 
--- what has no value is none
+-- an option without a value is `None`
 pub not_some : (o r : Option ℕ) (b : Bool) → r ≡ o → is_some r ≡ not b → b ≡ true → o ≡ None
 not_some o None b e none is = sym e
 not_some o (Some s) b e none is = absurd (true≢false (none ∙ ap not is))

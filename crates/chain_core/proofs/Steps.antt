@@ -15,7 +15,7 @@ use Rattle.chain_core.specs.States.{Machine}
 use Rattle.chain_core.specs.Steps.{Leaves, StepsLeave, StandsLast, OneByOne}
 use Rattle.chain_core.proofs.After.{committed_by}
 
--- who waits is not told
+-- frames do not depend on the pending requests
 same_forward : (s : Option ℕ) (x k : ℕ) (b : Option BatchContent) (n : Machine)
     (ps : List (ℕ × ℕ)) →
     forward_to s x n k b ≡ forward_to s x (record n { pending = ps }) k b

@@ -1,4 +1,4 @@
--- A batch that is appended, and what a tail commits, keep what holds.
+-- A batch that is appended, and what a tail commits, keep the invariant.
 use Rattle.std.proofs.Common.{◌<◌, ◌≡◌, ◌⊎◌, ⊎_elim, ℕ, suc, ◌≤◌, List, [], ◌∷◌, ◌++◌, length}
 use Rattle.std.proofs.Common.{Some, true, false, cond, sym, refl, ◌∙◌, subst, arith, take_all}
 use Rattle.std.proofs.Common.{length-append}
@@ -28,7 +28,7 @@ use Rattle.chain_model.proofs.Sends.{before_known, different, forward_ok, refuse
 -- `lists` are the lists of all nodes after the step.
 module _ {A : Type 0} (cs : List (List ℕ)) (lawful : IsChain cs) (events : List (Event A))
     (h : List A) (lists : ℕ → List A) (x : ℕ) where
-  -- a tail may commit its whole list
+  -- a tail may commit its full list
   pub tail_sound : (n : Node A) → Lands cs events lists x n → is_tail n.ids x ≡ true
       → SoundNode cs events h lists x n → Sound cs events h lists x n.list n.epoch n.ids
       (length n.list) n.floor n.kept
@@ -59,14 +59,14 @@ module _ {A : Type 0} (cs : List (List ℕ)) (lawful : IsChain cs) (events : Lis
     handed = s.handed;
   }
 
-  -- where a tail that commits lands, there lands the node before it commits
+  -- the new list of a tail that commits is its list before
   pub lands_tail : (n : Node A) → Lands cs events lists x (tail_commits x n)
       → Lands cs events lists x n
   lands_tail n at = cond_both (is_tail n.ids x) (record n { committed = length n.list }) n
       (λ m. Lands cs events lists x m → Lands cs events lists x n)
       (λ is at. record { list = at.list; tail = at.tail }) (λ not at. at) at
 
-  -- a tail that commits its whole list keeps what holds
+  -- a tail that commits its full list keeps the invariant
   pub tail_ok : (n : Node A) → Lands cs events lists x n → SoundNode cs events h lists x n
       → AllByRecursion (IsPending events n.list) n.pending
       → AllByRecursion (λ s. n.floor ≤ s) n.snapshots
@@ -93,7 +93,7 @@ module _ {A : Type 0} (cs : List (List ℕ)) (lawful : IsChain cs) (events : Lis
         resend = resend;
       })
 
-  -- one more batch, which stands next in the list of every node before
+  -- one more batch, which is next in the list of every node before
   pub append_sound : (n : Node A) (b : A) → SoundNode cs events h lists x n → has n.ids x ≡ true
       → ((z : ℕ) → Before n.ids z x → place (lists z) (suc (length n.list)) ≡ Some b)
       → Part (n.list ++ b ∷ []) h → Sound cs events h lists x (n.list ++ b ∷ []) n.epoch n.ids
@@ -122,7 +122,7 @@ module _ {A : Type 0} (cs : List (List ℕ)) (lawful : IsChain cs) (events : Lis
     handed = part;
   }
 
-  -- what is pending of a list is pending of a longer one
+  -- a request pending for a list is pending for a longer one
   pub pending_longer : (l : List A) (b : A) (ps : List (ℕ × ℕ))
       → AllByRecursion (IsPending events l) ps → AllByRecursion (IsPending events (l ++ b ∷ [])) ps
   pending_longer l b ps pending = every_map (IsPending events l) (IsPending events (l ++ b ∷ []))
@@ -143,7 +143,7 @@ module _ {A : Type 0} (cs : List (List ℕ)) (lawful : IsChain cs) (events : Lis
       (every_map (IsPending events n.list) (λ (p : ℕ × ℕ). p.0 < suc (length n.list)) n.pending
       (λ p is. omega (arith, place-bounds n.list p.0 is.0 is.1.1)) ok.pending)
 
-  -- what an answer has to be, once it is known where the node lands
+  -- the requirement on an answer, once the node's new list is known
   abbrev pub Keeps : Answer A → Type 0
   Keeps a = Lands cs events lists x a.node → AnswerOk cs events h lists x a
 
@@ -154,7 +154,7 @@ module _ {A : Type 0} (cs : List (List ℕ)) (lawful : IsChain cs) (events : Lis
       forward_ok cs lawful events h lists x m ok.sound here k (successor m.ids x) (place m.list k)
       refl refl
 
-  -- a batch that the head takes
+  -- the head accepts a batch
   accept_ok : (n : Node A) (i : ℕ) (b : A) → NodeOk cs events h lists x n
       → WasHandedIn events i b → Part (n.list ++ b ∷ []) h → is_head n.ids x ≡ true
       → has n.ids x ≡ true → Keeps (accept x n i b)
@@ -183,7 +183,7 @@ module _ {A : Type 0} (cs : List (List ℕ)) (lawful : IsChain cs) (events : Lis
       submit_cases Keeps x n i b (λ why at. refused_ok cs lawful events h lists x n i ok why)
       (λ kept head. accept_ok n i b ok brought part head kept)
 
-  -- what is next in the list of p, and of all before p, is next in those of all before this node
+  -- the next batch of p, and of all before p, is the next batch of all before this node
   append_ok : (n : Node A) (k : ℕ) (b : A) (p : ℕ) → NodeOk cs events h lists x n
       → has n.ids x ≡ true → predecessor n.ids x ≡ Some p
       → ((z : ℕ) → ((z ≡ p) ⊎ Before n.ids z p) → place (lists z) k ≡ Some b)

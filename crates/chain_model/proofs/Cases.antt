@@ -21,14 +21,14 @@ is_some None p e = absurd (false≢true e)
 is_some (Some q) p e = ap (λ k. Some k) (eqb-true q p e)
 
 module _ {A : Type 0} (P : Answer A → Type 0) where
-  -- one of two tests gives an answer, or neither does
+  -- one of two tests selects an answer, or neither does
   guarded : (s t : Bool) (a b c : Answer A) → P a → (s ≡ false → t ≡ true → P b) → P c
       → P (cond s a (cond t b c))
   guarded s t a b c pa pb pc =
       cond_both s a (cond t b c) P (λ _. pa)
       (λ no. cond_both t b c P (λ yes. pb no yes) (λ _. pc))
 
-  -- a submit is refused, or the head takes the batch
+  -- a submit is refused, or the head accepts the batch
   pub submit_cases : (x : ℕ) (n : Node A) (i : ℕ) (b : A) → ((why : Refusal) → P (refused n i why))
       → (has n.ids x ≡ true → is_head n.ids x ≡ true → P (accept x n i b)) → P (submit x n i b)
   submit_cases x n i b refuse take =
@@ -62,7 +62,7 @@ module _ {A : Type 0} (P : Answer A → Type 0) where
       cond_both (low && high) (pass_on x n committed have) (dropped_for n reason.BadAck) P
       (λ both. good (leb-true committed have (and_parts low high both).0)) (λ _. bad)
 
-  -- a frame is dropped, or it comes from where it should
+  -- a frame is dropped, or its sender is the expected neighbour
   from_neighbour : (x : ℕ) (n : Node A) (e : ℕ) (o : Option ℕ) (p : ℕ) (a : Answer A)
       (why : DropReason) → ((why : DropReason) → P (dropped_for n why))
       → (has n.ids x ≡ true → e ≡ n.epoch → o ≡ Some p → P a)
@@ -80,7 +80,7 @@ module _ {A : Type 0} (P : Answer A → Type 0) where
       (eqb-true e n.epoch (not-false (e == n.epoch) same)) (is_some o p is))
       (drops why))
 
-  -- a Forward is dropped, or comes from the predecessor
+  -- a Forward is dropped, or its sender is the predecessor
   pub forward_cases : (x : ℕ) (n : Node A) (to e from k : ℕ) (b : A)
       → ((why : DropReason) → P (dropped_for n why))
       → (has n.ids x ≡ true → e ≡ n.epoch → predecessor n.ids x ≡ Some from
@@ -89,7 +89,7 @@ module _ {A : Type 0} (P : Answer A → Type 0) where
       from_neighbour x n e (predecessor n.ids x) from (take_forward x n k b)
       reason.NotPredecessor drops goes
 
-  -- an Ack is dropped, or comes from the successor
+  -- an Ack is dropped, or its sender is the successor
   pub ack_cases : (x : ℕ) (n : Node A) (to e from committed have : ℕ)
       → ((why : DropReason) → P (dropped_for n why))
       → (has n.ids x ≡ true → e ≡ n.epoch → successor n.ids x ≡ Some from

@@ -16,7 +16,7 @@ abbrev pub Shrink : List ℕ → List (List ℕ) → Type 0
 Shrink c [] = Unit {0}
 Shrink c (d ∷ cs) = Part d c × (length d < length c) × (0 < length d) × Shrink d cs
 
--- what the theorems use of a lawful list
+-- the properties of a lawful list that the theorems use
 abbrev pub IsChain : List (List ℕ) → Type 0
 IsChain [] = ⊥
 IsChain (c ∷ cs) = AllDifferent c × (0 < length c) × Shrink c cs
@@ -35,7 +35,7 @@ shrink_of c (d ∷ cs) each =
           (λ e h. each (suc e) (omega (arith, h))),
     )
 
--- what the theorems use holds of each lawful list
+-- each lawful list has the properties that the theorems use
 pub chain_of : (cs : List (List ℕ)) → Lawful cs → IsChain cs
 chain_of [] lawful = absurd (omega (arith, lawful.at_least_one))
 chain_of (c ∷ cs) lawful = (lawful.different, lawful.nodes, shrink_of c cs lawful.shrinks)
@@ -56,7 +56,7 @@ has_first y c x e = cond-true (y == x) true (has c x) (eq-eqb y x e)
 has_later : (y : ℕ) (c : List ℕ) (x : ℕ) → has c x ≡ true → has (y ∷ c) x ≡ true
 has_later y c x h = cond_both (y == x) true (has c x) (λ b. b ≡ true) (λ e. refl) (λ e. h)
 
--- what a part has, the whole has
+-- the nodes of a sublist are nodes of the list
 pub has_part : (d c : List ℕ) (x : ℕ) → Part d c → has d x ≡ true → has c x ≡ true
 has_part [] c x p h = absurd (false≢true h)
 has_part (y ∷ d) [] x p h = absurd p
@@ -64,7 +64,7 @@ has_part (y ∷ d) (z ∷ c) x (inl p) h = ⊎_elim (λ e. has_first z c x (sym 
     (λ k. has_later z c x (has_part d c x p.1 k)) (has_cases y d x h)
 has_part (y ∷ d) (z ∷ c) x (inr p) h = has_later z c x (has_part (y ∷ d) c x p h)
 
--- what stands before in a part, stands before in the whole
+-- the order of two nodes in a sublist is their order in the list
 pub before_part : (d c : List ℕ) (x y : ℕ) → Part d c → Before d x y → Before c x y
 before_part [] c x y p h = absurd h
 before_part (a ∷ d) [] x y p h = absurd p
@@ -72,7 +72,7 @@ before_part (a ∷ d) (z ∷ c) x y (inl p) (inl h) = inl (sym p.0 ∙ h.0, has_
 before_part (a ∷ d) (z ∷ c) x y (inl p) (inr h) = inr (before_part d c x y p.1 h)
 before_part (a ∷ d) (z ∷ c) x y (inr p) h = inr (before_part (a ∷ d) c x y p h)
 
--- what the whole lacks, a part lacks
+-- a node that the list lacks is in no sublist
 lacks_part : (d c : List ℕ) (x : ℕ) → Part d c → has c x ≡ false → has d x ≡ false
 lacks_part d c x p h = ⊎_elim (λ e. absurd (false≢true (sym h ∙ has_part d c x p e)))
     (λ e. e) (cases_Bool (has d x))
@@ -85,24 +85,24 @@ different_part (y ∷ d) (z ∷ c) (inl p) a =
     (subst (λ k. has d k ≡ false) (sym p.0) (lacks_part d c z p.1 a.0), different_part d c p.1 a.1)
 different_part (y ∷ d) (z ∷ c) (inr p) a = different_part (y ∷ d) c p a.1
 
--- what stands before something is in the list
+-- a node that precedes another is in the list
 pub before_left : (c : List ℕ) (x y : ℕ) → Before c x y → has c x ≡ true
 before_left [] x y h = absurd h
 before_left (z ∷ c) x y (inl h) = has_first z c x h.0
 before_left (z ∷ c) x y (inr h) = has_later z c x (before_left c x y h)
 
--- what something stands before is in the list
+-- a node that another precedes is in the list
 pub before_right : (c : List ℕ) (x y : ℕ) → Before c x y → has c y ≡ true
 before_right [] x y h = absurd h
 before_right (z ∷ c) x y (inl h) = has_later z c y h.1
 before_right (z ∷ c) x y (inr h) = has_later z c y (before_right c x y h)
 
--- nothing stands before the first
+-- no node precedes the first
 none_before_first : (y : ℕ) (c : List ℕ) (x : ℕ) → AllDifferent (y ∷ c) → Before (y ∷ c) x y → ⊥
 none_before_first y c x a (inl h) = false≢true (sym a.0 ∙ h.1)
 none_before_first y c x a (inr h) = false≢true (sym a.0 ∙ before_right c x y h)
 
--- nothing stands before the head
+-- no node precedes the head
 pub none_before_head : (c : List ℕ) (x y : ℕ) → AllDifferent c → is_head c y ≡ true
     → Before c x y → ⊥
 none_before_head [] x y a e h = h
@@ -110,7 +110,7 @@ none_before_head (z ∷ c) x y a e h =
     let same : z ≡ y = eqb-true z y e in
     none_before_first z c x a (subst (λ k. Before (z ∷ c) x k) (sym same) h)
 
--- nothing stands before itself
+-- no node precedes itself
 pub none_before_itself : (c : List ℕ) (x : ℕ) → AllDifferent c → Before c x x → ⊥
 none_before_itself [] x a h = h
 none_before_itself (z ∷ c) x a (inl h) =
@@ -123,7 +123,7 @@ tail_has [] t e = e
 tail_has (y ∷ []) t e = has_first y [] t (eqb-true y t e)
 tail_has (y ∷ z ∷ c) t e = has_later y (z ∷ c) t (tail_has (z ∷ c) t e)
 
--- all of them stand before the tail, but the tail itself
+-- all nodes but the tail precede the tail
 pub before_tail : (c : List ℕ) (x t : ℕ) → is_tail c t ≡ true → has c x ≡ true
     → (x ≡ t) ⊎ Before c x t
 before_tail [] x t e h = absurd (false≢true h)
@@ -134,7 +134,7 @@ before_tail (y ∷ z ∷ c) x t e h =
     (λ k. ⊎_elim (λ s. inl s) (λ b. inr (inr b)) (before_tail (z ∷ c) x t e k))
     (has_cases y (z ∷ c) x h)
 
--- a predecessor stands before
+-- a predecessor precedes its node
 pub predecessor_before : (c : List ℕ) (y p : ℕ) → predecessor c y ≡ Some p → Before c p y
 predecessor_before [] y p e = absurd (cc)
 predecessor_before (a ∷ []) y p e = absurd (cc)
@@ -148,7 +148,7 @@ predecessor_before (a ∷ z ∷ c) y p e =
     (sym (cond-false (z == y) (Some a) (predecessor (z ∷ c) y) t) ∙ e)))
     (cases_Bool (z == y))
 
--- what stands before y is its predecessor, or stands before that
+-- a node before y is its predecessor, or precedes that
 pub before_predecessor : (c : List ℕ) (x y p : ℕ) → AllDifferent c → predecessor c y ≡ Some p
     → Before c x y → (x ≡ p) ⊎ Before c x p
 before_predecessor [] x y p a e h = absurd h
@@ -216,7 +216,7 @@ at_epoch-past [] e past = refl
 at_epoch-past (c ∷ cs) zero past = absurd (omega arith)
 at_epoch-past (c ∷ cs) (suc e) past = at_epoch-past cs e (omega arith)
 
--- what a configuration has, configuration 0 has
+-- each node of a configuration is in configuration 0
 pub created_has : (cs : List (List ℕ)) (e x : ℕ) → IsChain cs → has (at_epoch cs e) x ≡ true
     → has (at_epoch cs 0) x ≡ true
 created_has cs e x w is = elim (cases_lt e (length cs)) [
@@ -280,7 +280,7 @@ part_rest x [] (y ∷ c) p = tt
 part_rest x (z ∷ d) (y ∷ c) (inl p) = inr p.1
 part_rest x (z ∷ d) (y ∷ c) (inr p) = inr (part_rest x (z ∷ d) c p)
 
--- the test finds each part ..
+-- the test accepts each sublist
 pub part_test : (d c : List ℕ) → Part d c → is_part d c ≡ true
 part_test [] c p = refl
 part_test (x ∷ d) [] p = absurd p
@@ -291,7 +291,7 @@ part_test (x ∷ d) (y ∷ c) p =
     (⊎_elim (λ (k : (x ≡ y) × Part d c). absurd (false≢true (sym other ∙ eq-eqb x y k.0)))
     (λ k. k) p))
 
--- .. and nothing else
+-- the test accepts sublists only
 pub test_part : (d c : List ℕ) → is_part d c ≡ true → Part d c
 test_part [] c e = tt
 test_part (x ∷ d) [] e = absurd (false≢true e)

@@ -1,4 +1,4 @@
--- What else follows from what holds of every world.
+-- Consequences of the invariant of every world.
 use Rattle.std.proofs.Common.{All, ◌≡◌, inl, inr, ⊎_elim, ℕ, suc, ◌≤◌, List, [], ◌∷◌, length, map}
 use Rattle.std.proofs.Common.{take, ap₂, refl, None, true, not, nat_le, nat_lt, sym, ◌∙◌, ap}
 use Rattle.std.proofs.Common.{subst, arith, take_all, length-take-le, le-leb, le-ltb}
@@ -29,7 +29,7 @@ use Rattle.chain_model.proofs.WorldGrowth.{only_grows}
 use Rattle.chain_model.proofs.Queries.{least_above}
 use Rattle.chain_model.proofs.Reached.{reached_ok}
 
--- what is a part of images is the image of a part
+-- a sublist of images is the image of a sublist
 part_of_map : {A B : Type 0} (f : A → B) (l : List B) (m : List A) → Part l (map f m)
     → (k : List A) × (Part k m × (map f k ≡ l))
 part_of_map f [] m p = ([], (tt, refl))
@@ -41,7 +41,7 @@ part_of_map f (x ∷ l) (y ∷ m) (inr p) =
     let rest = part_of_map f (x ∷ l) m p in
     (rest.0, (part_more rest.0 m y rest.1.0, rest.1.1))
 
--- the batches handed in, places aside
+-- the submitted batches, without places
 handed_batches : {A : Type 0} (i : ℕ) (es : List (Event A)) → batches (handed_in i es) ≡ handed es
 handed_batches i [] = refl
 handed_batches i (Ask x j (Submit b) went ∷ es) = ap (λ r. b ∷ r) (handed_batches (suc i) es)
@@ -56,7 +56,7 @@ handed_batches i (Start x went ∷ es) = handed_batches (suc i) es
 handed_batches i (Stop x ∷ es) = handed_batches (suc i) es
 handed_batches i (Lost ∷ es) = handed_batches (suc i) es
 
--- what is taken from the batches is taken from the batches with places
+-- a sublist of the batches is the image of a sublist of the batches with places
 taken_of : {A : Type 0} (events : List (Event A)) (l : List A) → Part l (handed events)
     → IsTaken events l
 taken_of events l part = part_of_map (λ (p : ℕ × _). p.1) l (handed_in 1 events)
@@ -68,13 +68,13 @@ is_addressed : {A : Type 0} (cs : List (List ℕ)) (events : List (Event A)) (li
 is_addressed cs events lists (Forward to e from number batch) ok = ok.0
 is_addressed cs events lists (Ack to e from committed have) ok = ok.0
 
--- a good Forward tells the truth
+-- a good Forward is true
 tells_true : {A : Type 0} (cs : List (List ℕ)) (events : List (Event A)) (lists : ℕ → List A)
     (f : Frame A) → FrameOk cs events lists f → TellsTrue cs lists f
 tells_true cs events lists (Forward to e from number batch) ok = ok.1
 tells_true cs events lists (Ack to e from committed have) ok = tt
 
--- a good Ack tells what is committed
+-- a good Ack reports a committed length
 tells_committed : {A : Type 0} (cs : List (List ℕ)) (events : List (Event A))
     (lists : ℕ → List A) (f : Frame A) → FrameOk cs events lists f → TellsCommitted cs events f
 tells_committed cs events lists (Forward to e from number batch) ok = tt
@@ -90,7 +90,7 @@ module _ {A : Type 0} (cs : List (List ℕ)) (lawful : IsChain cs) where
       (node_of cs events x).epoch
   known events x = ((holds events).nodes x).sound.knows
 
-  -- what a node takes for committed, every node of its configuration has
+  -- every node of the configuration has the batches that a node knows as committed
   safe : (events : List (Event A)) (x y : ℕ) → has (at_epoch cs (node_of cs events x).epoch) y
       ≡ true → Begins (take (node_of cs events x).committed (node_of cs events x).list)
       (node_of cs events y).list
@@ -119,7 +119,7 @@ module _ {A : Type 0} (cs : List (List ℕ)) (lawful : IsChain cs) where
       (later_part cs 0 n.epoch lawful (omega arith) s.in_range) before) k)
       (before_tail (at_epoch cs n.epoch) y t is k)
 
-  -- the order of lists, and what frames tell
+  -- the order of lists, and the truth of frames
   pub in_order : (events : List (Event A)) → InOrder cs events
   in_order events =
       let lists = lists_of (reached cs events) in
@@ -176,7 +176,7 @@ module _ {A : Type 0} (cs : List (List ℕ)) (lawful : IsChain cs) where
       ∙ cond-true (nat_le s n.committed) a (refused n i refusal.NotCommitted)
       (le-leb s n.committed high)
 
-  -- a running node whose whole list is committed shows it
+  -- a running node whose full list is committed reads it all
   shows_whole : (w : World A) (t i : ℕ) → (w.nodes t).running ≡ true
       → has (w.nodes t).ids t ≡ true → (w.nodes t).floor ≤ (w.nodes t).committed
       → (w.nodes t).committed ≡ length (w.nodes t).list
@@ -191,7 +191,7 @@ module _ {A : Type 0} (cs : List (List ℕ)) (lawful : IsChain cs) where
       ∙ ap (λ l. Shows i n.committed l ∷ []) (take_all n.committed n.list (omega (arith, whole)))
       ∙ ap (λ s. Shows i s n.list ∷ []) whole
 
-  -- what the last tail shows
+  -- the reads at the last tail
   pub reads_fresh : (events : List (Event A)) → ReadsFresh cs events
   reads_fresh events t is at_last up =
       let w = reached cs events in
@@ -211,7 +211,7 @@ module _ {A : Type 0} (cs : List (List ℕ)) (lawful : IsChain cs) where
             (up_to events t k) (holds events).replies);
       }
 
-  -- what is kept is enough
+  -- the batches that a node keeps are enough
   pub keeps_enough : (events : List (Event A)) → KeepsEnough cs events
   keeps_enough events = record {
     others = λ x y k.

@@ -98,7 +98,7 @@ module _ {A : Type 0} (x : ℕ) where
       (λ is. record { list = refl; epoch = refl; floor = refl; kept = refl; running = refl })
       (λ not. same_refl n)
 
-  -- what is pending is forgotten by a stop
+  -- a stop forgets pending requests
   acknowledged : (n m : Node A) (fs : List (Frame A)) → Same n m → Same n (acknowledge m fs).node
   acknowledged n m fs s = record {
     list = s.list;
@@ -122,7 +122,7 @@ module _ {A : Type 0} (x : ℕ) where
   refuses : (n : Node A) (i : ℕ) (why : Refusal) → GoesOn n (refused n i why)
   refuses n i why = still n (refused n i why) (same_refl n)
 
-  -- the head that takes a batch goes on
+  -- the head that accepts a batch stays running and grows
   accept_goes_on : (n : Node A) (i : ℕ) (b : A) → GoesOn n (accept x n i b)
   accept_goes_on n i b =
       let more = longer_for n i b in
@@ -131,13 +131,13 @@ module _ {A : Type 0} (x : ℕ) where
       longer n b more (accept x n i b) refl (acknowledged more m fs (tail_same more)) refl refl
       refl refl
 
-  -- a node that appends a batch goes on
+  -- a node that appends a batch stays running and grows
   append_goes_on : (n : Node A) (k : ℕ) (b : A) → GoesOn n (append x n k b)
   append_goes_on n k b =
       let more : Node A = record n { list = n.list ++ b ∷ [] } in
       longer n b more (append x n k b) refl (tail_same more) refl refl refl refl
 
-  -- a node that is told what is committed goes on
+  -- a node that learns a committed number stays running and grows
   pass_on_goes_on : (n : Node A) (committed have : ℕ) → GoesOn n (pass_on x n committed have)
   pass_on_goes_on n committed have =
       let m = told n committed have in
@@ -146,7 +146,7 @@ module _ {A : Type 0} (x : ℕ) where
       record { list = refl; epoch = refl; floor = refl; kept = refl; running = refl } in
       still n (pass_on x n committed have) (acknowledged n m fs same)
 
-  -- a node that adopts a later configuration goes on
+  -- a node that adopts a later configuration stays running and grows
   adopt_goes_on : (n : Node A) (e : ℕ) (ids : List ℕ) → n.epoch < e → GoesOn n (adopt x n e ids)
   adopt_goes_on n e ids later =
       let s : Same (moved x n e ids) (tail_commits x (moved x n e ids)) =
@@ -168,7 +168,7 @@ module _ {A : Type 0} (x : ℕ) where
       still n (replied (record n { snapshots = ss }) r)
       (record { list = refl; epoch = refl; floor = refl; kept = refl; running = refl })
 
-  -- so does a node that is asked ..
+  -- a node stays running and grows at a request
   pub ask_goes_on : (n : Node A) (i : ℕ) (q : Request A) → GoesOn n (ask x n i q)
   ask_goes_on n i (Submit b) =
       submit_cases (GoesOn n) x n i b (refuses n i) (λ here head. accept_goes_on n i b)
@@ -183,16 +183,16 @@ module _ {A : Type 0} (x : ℕ) where
       close_cases (GoesOn n) x n i s (refuses n i)
       (snapshots_go_on n (without s n.snapshots) (Closed i s))
 
-  -- .. or has a turn ..
+  -- a node stays running and grows at a tick
   pub tick_goes_on : (n : Node A) → GoesOn n (tick x n)
   tick_goes_on n =
       tick_cases (GoesOn n) x n (still n (resend x n) (same_refl n)) (drops n reason.Removed)
 
-  -- .. or gets a notice ..
+  -- a node stays running and grows at a notice
   pub notice_goes_on : (n : Node A) (e : ℕ) (ids : List ℕ) → GoesOn n (notice x n e ids)
   notice_goes_on n e ids = notice_cases (GoesOn n) x n e ids (drops n) (adopt_goes_on n e ids)
 
-  -- .. or a frame
+  -- a node stays running and grows at a frame
   pub receive_goes_on : (n : Node A) (f : Frame A) → GoesOn n (receive x n f)
   receive_goes_on n (Forward to e p k b) =
       forward_cases (GoesOn n) x n to e p k b (drops n)
@@ -203,7 +203,7 @@ module _ {A : Type 0} (x : ℕ) where
       (λ here now is. take_ack_cases (GoesOn n) x n committed have
       (λ low. pass_on_goes_on n committed have) (drops n reason.BadAck))
 
--- so does every step
+-- every step that answers leaves its node running, and later
 pub steps_go_on : {A : Type 0} → StepsGoOn A
 steps_go_on = record {
   asked = λ x i n q. ask_goes_on x n i q;

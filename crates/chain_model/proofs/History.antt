@@ -14,7 +14,7 @@ use Rattle.chain_model.proofs.Handed.{WasHandedIn, handed}
 use Rattle.chain_model.proofs.Invariant.{ReplyOk, Safe, WorldOk, lists_of}
 use Rattle.chain_model.proofs.Reached.{reached_ok}
 
--- a reply that agrees with the one list: an acknowledged batch was handed in by the request
+-- a reply that agrees with the one list: the request submitted the acknowledged batch
 abbrev pub Speaks : {A : Type 0} → List (Event A) → List A → Reply A → Type 0
 Speaks events B (Committed i n) = (b : _) × (WasHandedIn events i b × (place B n ≡ Some b))
 Speaks events B (Shows i s l) = (s ≤ length B) × (l ≡ take s B)
@@ -45,7 +45,7 @@ module _ {A : Type 0} (events : List (Event A)) (cs : List (List ℕ)) (lists : 
   abbrev GoodReply : Reply A → Type 0
   GoodReply r = ReplyOk cs events lists r
 
-  -- the list that a reply tells of
+  -- the list that a reply is about
   list_of : (r : Reply A) → GoodReply r → (l : List A)
       × ((length l ≡ number_of r) × Safe lists (last_of cs) l)
   list_of (Committed i n) ok = (ok.0, (ok.1.0, ok.1.2))
@@ -54,7 +54,7 @@ module _ {A : Type 0} (events : List (Event A)) (cs : List (List ℕ)) (lists : 
   list_of (Closed i s) ok = ([], (refl, λ y k. begins_nil (lists y)))
   list_of (Refused i why) ok = ([], (refl, λ y k. begins_nil (lists y)))
 
-  -- the longest list that a reply tells of
+  -- the longest list that a reply is about
   longest : (rs : List (Reply A)) → AllByRecursion GoodReply rs → (l : List A)
       × ((length l ≡ top rs) × Safe lists (last_of cs) l)
   longest [] ok = ([], (refl, λ y k. begins_nil (lists y)))

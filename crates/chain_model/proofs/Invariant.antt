@@ -1,4 +1,4 @@
--- What holds of a world after every list of events, and that it goes on to hold as lists grow.
+-- The invariant of a world after every list of events, which stays true as lists grow.
 use Rattle.std.proofs.Common.{◌≡◌, ℕ, ◌<◌, ◌≤◌, List, ◌++◌, length, take, Some, true, false}
 use Rattle.std.specs.List.{AllByRecursion}
 use Rattle.chain_model.specs.Lists.{Begins, Part, place}
@@ -22,8 +22,8 @@ IsKnown cs events x e l =
     (e' : ℕ) × ((e' ≤ e) × (has (at_epoch cs 0) x ≡ true → has (at_epoch cs e') x ≡ true)
     × WasCommitted cs events e' l)
 
--- of node x with list l at epoch e, `lists` being the lists of all nodes and h the batches handed
--- in
+-- The invariant of node x with list l at epoch e, where `lists` has the lists of all nodes and h
+-- the submitted batches.
 pub record Sound {A : Type 0} (cs : List (List ℕ)) (events : List (Event A)) (h : List A)
     (lists : ℕ → List A) (x : ℕ) (l : List A) (e : ℕ) (c : List ℕ)
     (committed floor kept : ℕ) : Type 0 where
@@ -32,7 +32,7 @@ pub record Sound {A : Type 0} (cs : List (List ℕ)) (events : List (Event A)) (
   -- the list of each node that stood before it, and that its configuration has, begins with its
   -- list
   pub behind : (z : ℕ) → Before (at_epoch cs 0) z x → has c z ≡ true → Begins l (lists z)
-  -- what it takes for committed, every node of its configuration has
+  -- every node of the configuration has the batches that the node knows as committed
   pub safe : Safe lists c (take committed l)
   -- and an epoch committed it, its own or an earlier one, which kept the node
   pub known : IsKnown cs events x e (take committed l)
@@ -47,11 +47,11 @@ abbrev pub SoundNode : {A : Type 0} → List (List ℕ) → List (Event A) → L
 SoundNode cs events h lists x n = Sound cs events h lists x n.list n.epoch n.ids n.committed
     n.floor n.kept
 
--- at a number that a request waits for stands a batch that the request handed in
+-- the number of a pending request is the place of the batch that the request submitted
 abbrev pub IsPending : {A : Type 0} → List (Event A) → List A → ℕ × ℕ → Type 0
 IsPending events l p = (b : _) × (WasHandedIn events p.1 b × (place l p.0 ≡ Some b))
 
--- what holds of a node
+-- the invariant of a node
 pub record NodeOk {A : Type 0} (cs : List (List ℕ)) (events : List (Event A)) (h : List A)
     (lists : ℕ → List A) (x : ℕ) (n : Node A) : Type 0 where
   pub sound : Sound cs events h lists x n.list n.epoch n.ids n.committed n.floor n.kept
@@ -63,8 +63,8 @@ pub record NodeOk {A : Type 0} (cs : List (List ℕ)) (events : List (Event A)) 
   pub rising : RisesFrom 0 n.pending
   pub resend : n.running ≡ true → is_tail n.ids x ≡ false → n.committed ≤ n.successor_has
 
--- a frame is to a node of its epoch. A Forward tells of a batch of its sender and of all before the
--- sender, an Ack of what all have
+-- The invariant of a frame. It is addressed to a node of its epoch. A Forward has a batch of its
+-- sender and of all nodes before the sender, an Ack the length of a list that all nodes have.
 abbrev pub FrameOk : {A : Type 0} → List (List ℕ) → List (Event A) → (ℕ → List A) → Frame A → Type 0
 FrameOk cs events lists (Forward to e from number batch) = (has (at_epoch cs e) to ≡ true)
     × ((z : ℕ) → IsUpTo cs e from z → place (lists z) number ≡ Some batch)
@@ -72,7 +72,7 @@ FrameOk cs events lists (Ack to e from committed have) = (has (at_epoch cs e) to
     × ((l : List _) × ((length l ≡ committed) × Safe lists (at_epoch cs e) l
     × CommittedBy cs events e l))
 
--- a reply tells of a list with which the list of every node of the last configuration begins
+-- a reply is about a list with which the list of every node of the last configuration begins
 abbrev pub ReplyOk : {A : Type 0} → List (List ℕ) → List (Event A) → (ℕ → List A) → Reply A → Type 0
 ReplyOk cs events lists (Committed i n) =
     (l : List _) × ((length l ≡ n) × IsPending events l (n, i) × Safe lists (last_of cs) l)
@@ -84,14 +84,14 @@ ReplyOk cs events lists _ = Unit {0}
 abbrev pub lists_of : {A : Type 0} → World A → ℕ → List A
 lists_of w y = (w.nodes y).list
 
--- what holds of a world
+-- the invariant of a world
 pub record WorldOk {A : Type 0} (cs : List (List ℕ)) (events : List (Event A)) (h : List A)
     (w : World A) : Type 0 where
   pub nodes : (x : ℕ) → NodeOk cs events h (lists_of w) x (w.nodes x)
   pub frames : AllByRecursion (FrameOk cs events (lists_of w)) w.frames
   pub replies : AllByRecursion (ReplyOk cs events (lists_of w)) w.replies
 
--- what begins a committed list is committed
+-- a prefix of a committed list is committed
 pub shorter_committed : {A : Type 0} {cs : List (List ℕ)} {events : List (Event A)} (e : ℕ)
     (l m : List A) → Begins l m → WasCommitted cs events e m → WasCommitted cs events e l
 shorter_committed e l m b c = record {
@@ -106,11 +106,11 @@ shorter_committed e l m b c = record {
 
 module _ {A : Type 0} (cs : List (List ℕ)) (events : List (Event A)) (lists more : ℕ → List A)
     (grow : (y : ℕ) → Begins (lists y) (more y)) where
-  -- what every node has, it goes on to have
+  -- growing lists keep the batches that every node has
   pub safe_grows : (c : List ℕ) (l : List A) → Safe lists c l → Safe more c l
   safe_grows c l s y h = begins_trans (s y h) (grow y)
 
-  -- what holds of a node holds as other lists grow ..
+  -- the invariant of a node is kept as other lists grow
   pub node_grows : (h r : List A) (x : ℕ) (n : Node A) → NodeOk cs events h lists x n
       → NodeOk cs events (h ++ r) more x n
   node_grows h r x n ok =
@@ -134,14 +134,14 @@ module _ {A : Type 0} (cs : List (List ℕ)) (events : List (Event A)) (lists mo
         resend = ok.resend;
       }
 
-  -- .. of a frame too ..
+  -- the invariant of a frame is kept as lists grow
   pub frame_grows : (f : Frame A) → FrameOk cs events lists f → FrameOk cs events more f
   frame_grows (Forward to e from number batch) ok =
       (ok.0, λ z b. begins-place number batch (grow z) (ok.1 z b))
   frame_grows (Ack to e from committed have) ok =
       (ok.0, (ok.1.0, (ok.1.1.0, safe_grows (at_epoch cs e) ok.1.0 ok.1.1.1, ok.1.1.2)))
 
-  -- .. and of a reply
+  -- the invariant of a reply is kept as lists grow
   pub reply_grows : (r : Reply A) → ReplyOk cs events lists r → ReplyOk cs events more r
   reply_grows (Committed i n) ok = (ok.0, (ok.1.0, ok.1.1, safe_grows (last_of cs) ok.0 ok.1.2))
   reply_grows (Shows i s l) ok = (ok.0, safe_grows (last_of cs) l ok.1)

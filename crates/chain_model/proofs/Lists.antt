@@ -22,23 +22,23 @@ begins_more l m = record { rest = m; whole = refl }
 pub begins_cons : {A : Type 0} {x : A} {l m : List A} → Begins l m → Begins (x ∷ l) (x ∷ m)
 begins_cons {x = x} b = record { rest = b.rest; whole = ap (λ r. x ∷ r) b.whole }
 
--- what begins a beginning begins the whole
+-- a prefix of a prefix is a prefix of the list
 pub begins_trans : {A : Type 0} {l m n : List A} → Begins l m → Begins m n → Begins l n
 begins_trans {l = l} a b = record {
   rest = a.rest ++ b.rest;
   whole = sym (append_assoc l a.rest b.rest) ∙ ap (λ r. r ++ b.rest) a.whole ∙ b.whole;
 }
 
--- what begins a list is no longer
+-- a prefix is no longer than the list
 pub begins-length : {A : Type 0} {l m : List A} → Begins l m → length l ≤ length m
 begins-length {l = l} {m = m} b = omega (arith, length-append l b.rest, ap length b.whole)
 
--- what stands behind a list stands at the next place
+-- the element behind a list is at the next place
 place_middle : {A : Type 0} (l r : List A) (x : A) → place (l ++ x ∷ r) (suc (length l)) ≡ Some x
 place_middle [] r x = refl
 place_middle (y ∷ l) r x = place_middle l r x
 
--- behind a list's end stands nothing
+-- there is no element behind a list's end
 place_end : {A : Type 0} (l : List A) → place l (suc (length l)) ≡ None
 place_end [] = refl
 place_end (y ∷ l) = place_end l
@@ -60,7 +60,7 @@ begins_next {l = l} {m = m} x b at = go b.rest b.whole
               (sym same) ∙ e;
         }
 
--- what stands at a place stays there as the list grows
+-- an element stays at its place as the list grows
 pub place_in : {A : Type 0} (l r : List A) (n : ℕ) (x : A) → place l n ≡ Some x
     → place (l ++ r) n ≡ Some x
 place_in [] r n x e = absurd (cc)
@@ -68,12 +68,12 @@ place_in (y ∷ l) r zero x e = e
 place_in (y ∷ l) r (suc zero) x e = e
 place_in (y ∷ l) r (suc (suc n)) x e = place_in l r (suc n) x e
 
--- what stands in a beginning stands in the whole
+-- an element of a prefix is an element of the list
 pub begins-place : {A : Type 0} {l m : List A} (n : ℕ) (x : A) → Begins l m → place l n ≡ Some x
     → place m n ≡ Some x
 begins-place {l = l} n x b e = subst (λ k. place k n ≡ Some x) b.whole (place_in l b.rest n x e)
 
--- what is put last stands at the last place
+-- an appended element is at the last place
 pub place_last : {A : Type 0} (l : List A) (x : A) → place (l ++ x ∷ []) (suc (length l)) ≡ Some x
 place_last l x = place_middle l [] x
 
@@ -83,7 +83,7 @@ begins_take zero l = begins_nil l
 begins_take (suc k) [] = begins_nil []
 begins_take (suc k) (x ∷ l) = begins_cons (begins_take k l)
 
--- what begins a list is its first elements
+-- a prefix is the first elements of the list
 pub take_begins : {A : Type 0} (c l : List A) → Begins c l → take (length c) l ≡ c
 take_begins c l b = subst (λ m. take (length c) m ≡ c) b.whole (take_at c b.rest (length c) refl)
 
@@ -94,7 +94,7 @@ take_less (suc j) zero l h = absurd (omega arith)
 take_less (suc j) (suc k) [] h = begins_nil []
 take_less (suc j) (suc k) (x ∷ l) h = begins_cons (take_less j k l (omega arith))
 
--- the first elements of a beginning are those of the whole
+-- the first elements of a prefix are those of the list
 pub take_of_begins : {A : Type 0} (k : ℕ) (l m : List A) → Begins l m → k ≤ length l
     → take k m ≡ take k l
 take_of_begins k l m b h = subst (λ z. take k z ≡ take k l) b.whole (take-append-le k l b.rest h)
@@ -106,7 +106,7 @@ begins_shorter a b m p q h =
     subst (λ l. Begins a l) (take_begins b m q) (subst (λ l. Begins l (take (length b) m))
     (take_begins a m p) (take_less (length a) (length b) m h))
 
--- what stands at an early place stands among the first elements
+-- an element at an early place is among the first elements
 pub place_take : {A : Type 0} (k : ℕ) (l : List A) (n : ℕ) (x : A) → place l n ≡ Some x → n ≤ k
     → place (take k l) n ≡ Some x
 place_take k [] n x e h = absurd (cc)
@@ -116,7 +116,7 @@ place_take (suc k) (y ∷ l) zero x e h = e
 place_take (suc k) (y ∷ l) (suc zero) x e h = e
 place_take (suc k) (y ∷ l) (suc (suc n)) x e h = place_take k l (suc n) x e (omega arith)
 
--- a place that something stands at is no greater than the length
+-- the place of an element is no greater than the length
 pub place-bounds : {A : Type 0} (l : List A) (n : ℕ) (x : A) → place l n ≡ Some x → n ≤ length l
 place-bounds [] n x e = absurd (cc)
 place-bounds (y ∷ l) zero x e = omega arith
@@ -147,11 +147,11 @@ part_append : {A : Type 0} (l r : List A) → Part l (l ++ r)
 part_append [] r = tt
 part_append (x ∷ l) r = inl (refl, part_append l r)
 
--- what begins a list is a part of it
+-- a prefix is a sublist
 pub part_begins : {A : Type 0} {l m : List A} → Begins l m → Part l m
 part_begins {l = l} b = subst (λ z. Part l z) b.whole (part_append l b.rest)
 
--- one more batch is handed in, and it may be taken at once
+-- a sublist stays a sublist when one more batch is submitted
 pub part_wider : {A : Type 0} (l h r : List A) → Part l h → Part l (h ++ r)
 part_wider [] h r p = tt
 part_wider (x ∷ l) [] r p = absurd p
@@ -166,19 +166,19 @@ part_both (x ∷ l) [] b p = absurd p
 part_both (x ∷ l) (y ∷ h) b (inl p) = inl (p.0, part_both l h b p.1)
 part_both (x ∷ l) (y ∷ h) b (inr p) = inr (part_both (x ∷ l) h b p)
 
--- what follows for each element
+-- a consequence for each element
 pub every_map : {A : Type 0} (P Q : A → Type 0) (l : List A) → ((x : A) → P x → Q x)
     → AllByRecursion P l → AllByRecursion Q l
 every_map P Q [] f h = tt
 every_map P Q (x ∷ l) f h = (f x h.0, every_map P Q l f h.1)
 
--- what holds of two lists holds of both in a row
+-- a property of the elements of two lists holds for both in a row
 pub every_append : {A : Type 0} (P : A → Type 0) (l m : List A) → AllByRecursion P l
     → AllByRecursion P m → AllByRecursion P (l ++ m)
 every_append P [] m h k = k
 every_append P (x ∷ l) m h k = (h.0, every_append P l m h.1 k)
 
--- what holds of each holds of what stands at a place
+-- a property of each element holds for the element at a place
 pub every_place : {A : Type 0} (P : A → Type 0) (l : List A) (n : ℕ) (x : A) → place l n ≡ Some x
     → AllByRecursion P l → P x
 every_place P [] n x e h = absurd (cc)

@@ -27,7 +27,7 @@ pub cond_of : {X Y : Type 0} (g : X → Y) (t t' : Bool) (u v : X) (u' v' : Y) �
 cond_of g true t' u v u' v' e p q = p ∙ ap (λ b. cond b u' v') e
 cond_of g false t' u v u' v' e p q = q ∙ ap (λ b. cond b u' v') e
 
--- the answer of a node that has taken batch k
+-- the answer of a node that has appended batch k
 abbrev sent : {A : Type 0} → ℕ → ℕ → Node A → Answer A
 sent x k m = record {
   node = m;
@@ -37,7 +37,7 @@ sent x k m = record {
 }
 
 module _ {A B : Type 0} (f : A → B) where
-  -- what stands at a place of the images is the image of what stands there
+  -- the element at a place of the images is the image of the element there
   pub map-place : (l : List A) (n : ℕ) → place (map f l) n ≡ option_map f (place l n)
   map-place [] n = refl
   map-place (x ∷ l) zero = refl
@@ -48,20 +48,20 @@ module _ {A B : Type 0} (f : A → B) where
   size : (n : Node A) → length (map f n.list) ≡ length n.list
   size n = length-map n.list f
 
-  -- a Forward goes with the map ..
+  -- a Forward commutes with the map
   forward_to_map : (o : Option ℕ) (x : ℕ) (n : Node A) (k : ℕ) (b : Option A)
       → map (frame_map f) (forward_to o x n k b) ≡ forward_to o x (node_map f n) k (option_map f b)
   forward_to_map None x n k b = refl
   forward_to_map (Some s) x n k None = refl
   forward_to_map (Some s) x n k (Some b) = refl
 
-  -- .. of a batch of the list ..
+  -- the Forward of a batch of the list commutes with the map
   forward_map : (x : ℕ) (n : Node A) (k : ℕ) → map (frame_map f) (forward x n k) ≡ forward x
       (node_map f n) k
   forward_map x n k = forward_to_map (successor n.ids x) x n k (place n.list k)
       ∙ ap (λ b. forward_to (successor n.ids x) x (node_map f n) k b) (sym (map-place n.list k))
 
-  -- .. and of several in a row
+  -- several Forwards in a row commute with the map
   forwards_map : (x : ℕ) (n : Node A) (k count : ℕ) → map (frame_map f) (forwards x n k count)
       ≡ forwards x (node_map f n) k count
   forwards_map x n k zero = refl
@@ -117,7 +117,7 @@ module _ {A B : Type 0} (f : A → B) where
       (cond_of g t t b (cond u c d) b' (cond u' c' d') refl eb
       (cond_of g u u' c d c' d' same ec ed))
 
-  -- a batch that the head takes
+  -- the head accepts a batch
   accept_map : (x : ℕ) (n : Node A) (i : ℕ) (b : A)
       → answer_map f (accept x n i b) ≡ accept x (node_map f n) i (f b)
   accept_map x n i b =
@@ -184,7 +184,7 @@ module _ {A B : Type 0} (f : A → B) where
       (sends_map n (ack x n) (ack x n') (Some reason.OtherNumber)
       (ack_to_map (predecessor n.ids x) x n))
 
-  -- what is committed is passed on
+  -- the committed number is reported to the predecessor
   pass_on_map : (x : ℕ) (n : Node A) (committed have : ℕ)
       → answer_map f (pass_on x n committed have) ≡ pass_on x (node_map f n) committed have
   pass_on_map x n committed have =
@@ -281,7 +281,7 @@ module _ {A B : Type 0} (f : A → B) where
       (refused n i refusal.NotCommitted) (refused n' i refusal.Removed)
       (refused n' i refusal.TooOld) a' (refused n' i refusal.NotCommitted) refl refl refl e refl
 
-  -- what is shown
+  -- the answer of a read
   show_map : (n : Node A) (i s : ℕ) → answer_map f (show n i s) ≡ show (node_map f n) i s
   show_map n i s =
       ap (λ l. replied (node_map f n) (Shows i s l)) (sym (take-map f s n.list))

@@ -38,7 +38,7 @@ module _ {A : Type 0} (cs : List (List ℕ)) where
   outcomes_append (e ∷ es) fs w =
       ap (λ os. outcome w cs e ∷ os) (outcomes_append es fs (happens cs w e))
 
-  -- the node that an event came to is as the outcome says
+  -- the node that handled an event is as the outcome says
   node_after : (w : World A) (e : Event A) (x : ℕ) (n : Node A)
       → (outcome w cs e).came_to ≡ Some (x, n) → (happens cs w e).nodes x ≡ n
   node_after w e x n is =
@@ -53,7 +53,7 @@ module _ {A : Type 0} (cs : List (List ℕ)) where
       (cond_both {A = Node A} (x == y) n (w.nodes y) (λ m. m ≡ w.nodes y)
       (λ same. absurd (other (eqb-true x y same))) (λ not. refl))
 
-  -- an event that came to none changes none
+  -- an event that no node handled changes none
   none_after : (w : World A) (e : Event A) (y : ℕ) → (outcome w cs e).came_to ≡ None
       → (happens cs w e).nodes y ≡ w.nodes y
   none_after w e y is = subst (λ c. with_node w.nodes c y ≡ w.nodes y) (sym is) refl

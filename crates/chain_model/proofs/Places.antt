@@ -63,7 +63,7 @@ module _ {A : Type 0} where
   untagged i (Stop x ∷ es) = ap (λ r. Stop x ∷ r) (untagged (suc i) es)
   untagged i (Lost ∷ es) = ap (λ r. Lost ∷ r) (untagged (suc i) es)
 
-  -- they hand in batches with places
+  -- these events submit batches with places
   handed_tagged : (i : ℕ) (es : List (Event A)) → handed (tagged i es) ≡ handed_in i es
   handed_tagged i [] = refl
   handed_tagged i (Ask x j (Submit b) went ∷ es) = ap (λ r. (i, b) ∷ r) (handed_tagged (suc i) es)
@@ -106,7 +106,7 @@ module _ {A : Type 0} where
   number_tagged k (Stop x ∷ es) i q (inr was) = number_tagged (suc k) es i q was
   number_tagged k (Lost ∷ es) i q (inr was) = number_tagged (suc k) es i q was
 
-  -- numbers of requests do not matter for what is handed in
+  -- the submitted batches do not depend on the numbers of requests
   pub handed_in_numbered : (i j : ℕ) (es : List (Event A))
       → handed_in i (numbered j es) ≡ handed_in i es
   handed_in_numbered i j [] = refl
@@ -161,7 +161,7 @@ module _ {A : Type 0} where
   agrees_with es B (Closed i s) ok = tt
   agrees_with es B (Refused i why) ok = tt
 
-  -- so do all replies
+  -- all replies that speak of batches with places agree with the list
   agree_with : (es : List (Event A)) (B : List (ℕ × A)) (rs : List (Reply (ℕ × A)))
       → AllByRecursion (Speaks (tagged 1 es) B) rs
       → AllByRecursion (Agrees B) (map (reply_map batch_of) rs)

@@ -1,4 +1,4 @@
--- Each read, snapshot and tend, each start and stop keeps what holds.
+-- Each read, snapshot and tend, each start and stop keeps the invariant.
 use Rattle.std.proofs.Common.{◌≡◌, ℕ, ◌≤◌, min, max, List, [], ◌∷◌, ◌++◌, length, take, Option}
 use Rattle.std.proofs.Common.{Bool, true, false, ◌==◌, sym, refl, ◌∙◌, arith, length-take-le}
 use Rattle.std.specs.List.{AllByRecursion}
@@ -18,19 +18,19 @@ use Rattle.chain_model.proofs.Cases.{close_cases, open_cases, read_cases}
 use Rattle.chain_model.proofs.Sends.{AnswerOk, Lands, refused_ok, safe_last, silent_ok}
 use Rattle.chain_model.proofs.Appends.{submit_ok, tail_sound}
 
--- the least is below each of them ..
+-- the least is below each of them
 pub least_below : (f m : ℕ) (ts : List ℕ) → f ≤ least m ts
     → (f ≤ m) × AllByRecursion (λ t. f ≤ t) ts
 least_below f m [] le = (le, tt)
 least_below f m (t ∷ ts) le = let rest = least_below f (min m t) ts le in
     (omega (arith, rest.0), (omega (arith, rest.0), rest.1))
 
--- .. and above what is below each
+-- the least is above each number that is below all of them
 pub least_above : (f m : ℕ) (ts : List ℕ) → f ≤ m → AllByRecursion (λ t. f ≤ t) ts → f ≤ least m ts
 least_above f m [] le each = le
 least_above f m (t ∷ ts) le each = least_above f (min m t) ts (omega (arith, le, each.0)) each.1
 
--- what holds of each holds with one left out
+-- a property of each element holds with one left out
 every_without : (P : ℕ → Type 0) (s : ℕ) (ts : List ℕ) → AllByRecursion P ts
     → AllByRecursion P (without s ts)
 every_without P s [] each = tt
@@ -40,7 +40,7 @@ every_without P s (t ∷ ts) each = cond_both (s == t) ts (t ∷ without s ts) (
 -- `lists` are the lists of all nodes after the step.
 module _ {A : Type 0} (cs : List (List ℕ)) (lawful : IsChain cs) (events : List (Event A))
     (h : List A) (lists : ℕ → List A) (x : ℕ) where
-  -- what a node can be read at, every node of the last configuration has
+  -- every node of the last configuration has the batches of a readable number
   readable_last : (n : Node A) (s : ℕ) → NodeOk cs events h lists x n → s ≤ n.committed
       → (length (take s n.list) ≡ s) × Safe lists (last_of cs) (take s n.list)
   readable_last n s ok le = (
@@ -145,7 +145,7 @@ module _ {A : Type 0} (cs : List (List ℕ)) (lawful : IsChain cs) (events : Lis
     resend = λ up t. absurd (false≢true up);
   }
 
-  -- a start takes for committed what its disk shows to be
+  -- a start knows as committed what its disk shows to be
   pub started_ok : (n : Node A) → NodeOk cs events h lists x n → Lands cs events lists x n
       → NodeOk cs events h lists x (started x n)
   started_ok n ok here =
@@ -195,7 +195,7 @@ module _ {A : Type 0} (cs : List (List ℕ)) (lawful : IsChain cs) (events : Lis
         resend = λ up t. omega arith;
       })
 
-  -- what a request may count on
+  -- the premises of a request
   abbrev pub RequestOk : Node A → ℕ → Request A → Type 0
   RequestOk n i (Submit b) = WasHandedIn events i b × Part (n.list ++ b ∷ []) h
   RequestOk n i _ = Unit {0}

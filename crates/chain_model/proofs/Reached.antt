@@ -55,7 +55,7 @@ start_world_ok cs lawful events tails = record {
 
 -- What is reached.
 module _ {A : Type 0} (cs : List (List ℕ)) (lawful : IsChain cs) (events : List (Event A)) where
-  -- what a tail has, at any time of the run, is committed
+  -- the list of a tail, at any time of the run, is committed
   tails_in : (before later : List (Event A)) → before ++ later ≡ events
       → TailsIn cs events (run cs before (beginning cs))
   tails_in before later e t is = record {

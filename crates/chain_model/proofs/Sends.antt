@@ -1,4 +1,4 @@
--- What a node sends and replies tells what holds.
+-- The frames and replies of a node satisfy the invariant.
 use Rattle.std.proofs.Common.{◌≡◌, ⊎_elim, ℕ, zero, suc, ◌≤◌, List, [], ◌∷◌, take, Option, Some}
 use Rattle.std.proofs.Common.{None, true, nat_le, sym, refl, subst, arith, length-take-le}
 use Rattle.std.proofs.Common.{leb-true}
@@ -22,14 +22,14 @@ use Rattle.chain_model.proofs.Configuration.{before_part, has_part, last_epoch, 
 use Rattle.chain_model.proofs.Configuration.{predecessor_before, successor_is_in}
 use Rattle.chain_model.proofs.Invariant.{FrameOk, IsPending, NodeOk, ReplyOk, Safe, SoundNode}
 
--- what an answer has to be
+-- the requirement on an answer
 pub record AnswerOk {A : Type 0} (cs : List (List ℕ)) (events : List (Event A)) (h : List A)
     (lists : ℕ → List A) (x : ℕ) (a : Answer A) : Type 0 where
   pub node : NodeOk cs events h lists x a.node
   pub frames : AllByRecursion (FrameOk cs events lists) a.frames
   pub replies : AllByRecursion (ReplyOk cs events lists) a.replies
 
--- where a node lands: its list in the new world, and what a tail commits by that
+-- the new list of a node in the world, and the batches that a tail commits by it
 pub record Lands {A : Type 0} (cs : List (List ℕ)) (events : List (Event A)) (lists : ℕ → List A)
     (x : ℕ) (n : Node A) : Type 0 where
   pub list : lists x ≡ n.list
@@ -58,7 +58,7 @@ module _ {A : Type 0} (cs : List (List ℕ)) (lawful : IsChain cs) (events : Lis
   different n s = subst (λ c. AllDifferent c) (sym s.knows)
       (all_different cs n.epoch lawful s.in_range)
 
-  -- what every node of a configuration has, every node of the last configuration has
+  -- every node of the last configuration has the batches that a node's configuration has
   pub safe_last : (n : Node A) → SoundNode cs events h lists x n → (l : List A)
       → Safe lists n.ids l → Safe lists (last_of cs) l
   safe_last n s l safe y k =
@@ -69,13 +69,13 @@ module _ {A : Type 0} (cs : List (List ℕ)) (lawful : IsChain cs) (events : Lis
       (omega (arith, last.1.0))) (subst (λ c. has c y ≡ true) last.1.1 k) in
       safe y (subst (λ c. has c y ≡ true) (sym s.knows) its)
 
-  -- what a node's configuration keeps, every earlier one kept
+  -- a node in its own configuration is in every earlier one
   pub kept_earlier : (n : Node A) → SoundNode cs events h lists x n → (e : ℕ) → e ≤ n.epoch
       → has n.ids x ≡ true → has (at_epoch cs e) x ≡ true
   kept_earlier n s e le k = has_part (at_epoch cs n.epoch) (at_epoch cs e) x
       (later_part cs e n.epoch lawful le s.in_range) (subst (λ c. has c x ≡ true) s.knows k)
 
-  -- an acknowledgement tells what is committed
+  -- an acknowledgement reports a committed length
   pub ack_ok : (n : Node A) → SoundNode cs events h lists x n → (o : Option ℕ)
       → predecessor n.ids x ≡ o → AllByRecursion (FrameOk cs events lists) (ack_to o x n)
   ack_ok n s None from = tt
@@ -123,7 +123,7 @@ module _ {A : Type 0} (cs : List (List ℕ)) (lawful : IsChain cs) (events : Lis
       (forward_ok n s here (suc k) (successor n.ids x) (place n.list (suc k)) refl refl)
       (forwards_ok n s here (suc k) count)
 
-  -- who waits for what is committed is told the truth
+  -- the replies to requests whose batches are committed are true
   pub due_ok : (n : Node A) → SoundNode cs events h lists x n → (ps : List (ℕ × ℕ))
       → AllByRecursion (IsPending events n.list) ps
       → AllByRecursion (ReplyOk cs events lists) (due n.committed ps)
@@ -153,7 +153,7 @@ module _ {A : Type 0} (cs : List (List ℕ)) (lawful : IsChain cs) (events : Lis
       ))
       (λ gt. due_ok n s ps pending.1)
 
-  -- who waits for more goes on to wait
+  -- requests of greater numbers stay pending
   pub not_due_ok : (l : List A) (k : ℕ) (ps : List (ℕ × ℕ)) → AllByRecursion (IsPending events l) ps
       → AllByRecursion (IsPending events l) (not_due k ps)
   not_due_ok l k [] pending = tt
@@ -163,12 +163,12 @@ module _ {A : Type 0} (cs : List (List ℕ)) (lawful : IsChain cs) (events : Lis
       (λ le. not_due_ok l k ps pending.1)
       (λ gt. (pending.0, not_due_ok l k ps pending.1))
 
-  -- what is left of numbers that rise rises
+  -- numbers that rise above k rise above a lesser number
   pub rises_less : (j k : ℕ) (ps : List (ℕ × ℕ)) → j ≤ k → RisesFrom k ps → RisesFrom j ps
   rises_less j k [] le up = tt
   rises_less j k (p ∷ ps) le up = (omega (arith, le, up.0), up.1)
 
-  -- those who go on to wait, wait in order
+  -- the requests that stay pending stay in order
   rises_not_due : (k j : ℕ) (ps : List (ℕ × ℕ)) → RisesFrom j ps → RisesFrom j (not_due k ps)
   rises_not_due k j [] up = tt
   rises_not_due k j (p ∷ ps) up =
@@ -176,7 +176,7 @@ module _ {A : Type 0} (cs : List (List ℕ)) (lawful : IsChain cs) (events : Lis
       (λ le. rises_not_due k j ps (rises_less j p.0 ps (omega (arith, up.0)) up.1))
       (λ gt. (up.0, rises_not_due k p.0 ps up.1))
 
-  -- replies to those who wait keep what holds
+  -- replies to those who wait keep the invariant
   pub acknowledge_ok : (n : Node A) (fs : List (Frame A)) → NodeOk cs events h lists x n
       → AllByRecursion (FrameOk cs events lists) fs
       → AnswerOk cs events h lists x (acknowledge n fs)
@@ -194,17 +194,17 @@ module _ {A : Type 0} (cs : List (List ℕ)) (lawful : IsChain cs) (events : Lis
     replies = due_ok n ok.sound n.pending ok.pending;
   }
 
-  -- so does a step that says nothing ..
+  -- a step without frames and replies keeps the invariant
   pub silent_ok : (n : Node A) → NodeOk cs events h lists x n → AnswerOk cs events h lists x
       (silent n)
   silent_ok n ok = record { node = ok; frames = tt; replies = tt }
 
-  -- .. a drop ..
+  -- a drop keeps the invariant
   pub dropped_ok : (n : Node A) → NodeOk cs events h lists x n → (r : _)
       → AnswerOk cs events h lists x (dropped_for n r)
   dropped_ok n ok r = record { node = ok; frames = tt; replies = tt }
 
-  -- .. and a refusal
+  -- a refusal keeps the invariant
   pub refused_ok : (n : Node A) (i : ℕ) → NodeOk cs events h lists x n → (code : Refusal)
       → AnswerOk cs events h lists x (refused n i code)
   refused_ok n i ok code = record { node = ok; frames = tt; replies = (tt, tt) }

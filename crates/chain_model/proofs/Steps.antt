@@ -1,4 +1,4 @@
--- Each frame, notice and tick that comes to a node keeps what holds.
+-- Each frame, notice and tick of a node keeps the invariant.
 use Rattle.std.proofs.Common.{◌≡◌, inl, inr, ⊎_elim, ℕ, ◌<◌, ◌≤◌, max, List, [], length, take}
 use Rattle.std.proofs.Common.{true, cond, nat_lt, sym, refl, ◌∙◌, ap, subst, arith}
 use Rattle.std.specs.List.{AllByRecursion}
@@ -23,7 +23,7 @@ use Rattle.chain_model.proofs.Sends.{AnswerOk, Lands, ack_ok, acknowledge_ok, be
 use Rattle.chain_model.proofs.Sends.{dropped_ok, forwards_ok, kept_earlier}
 use Rattle.chain_model.proofs.Appends.{Keeps, lands_tail, tail_sound, take_forward_ok}
 
--- what holds of two numbers holds of the greater
+-- a property of two numbers holds for the greater
 greater : (a b : ℕ) (P : ℕ → Type 0) → P a → P b → P (max a b)
 greater a b P pa pb =
     ⊎_elim
@@ -34,7 +34,7 @@ greater a b P pa pb =
 -- `lists` are the lists of all nodes after the step.
 module _ {A : Type 0} (cs : List (List ℕ)) (lawful : IsChain cs) (events : List (Event A))
     (h : List A) (lists : ℕ → List A) (x : ℕ) where
-  -- what a node takes for committed is the greater of what it knew and what it is told
+  -- the new committed number is the greater of the old one and the reported one
   told_sound : (n : Node A) (committed have : ℕ) → NodeOk cs events h lists x n
       → lists x ≡ n.list → has n.ids x ≡ true
       → ((l : List A) × ((length l ≡ committed) × Safe lists n.ids l
@@ -70,7 +70,7 @@ module _ {A : Type 0} (cs : List (List ℕ)) (lawful : IsChain cs) (events : Lis
         handed = ok.sound.handed;
       }
 
-  -- what is committed is passed on
+  -- the committed number is reported to the predecessor
   pass_on_ok : (n : Node A) (committed have : ℕ) → NodeOk cs events h lists x n
       → SoundNode cs events h lists x (told n committed have) → committed ≤ have
       → AnswerOk cs events h lists x (pass_on x n committed have)

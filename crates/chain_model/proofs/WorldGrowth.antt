@@ -20,11 +20,11 @@ use Rattle.chain_model.proofs.Lists.{begins_more, begins_refl, begins_trans}
 use Rattle.chain_model.proofs.Growth.{ask_goes_on, grows_refl, grows_trans, notice_goes_on}
 use Rattle.chain_model.proofs.Growth.{receive_goes_on, tend_goes_on, tick_goes_on}
 
--- a stop takes nothing from what outlives it
+-- a stop keeps the persistent state
 stopped_grows : {A : Type 0} (n m : Node A) → Grows n m → Grows n (stopped m)
 stopped_grows n m g = record { list = g.list; epoch = g.epoch; floor = g.floor; kept = g.kept }
 
--- a start takes nothing from it
+-- a start keeps the persistent state
 started_grows : {A : Type 0} (x : ℕ) (n : Node A) → Grows n (started x n)
 started_grows x n = record {
   list = begins_refl n.list;
@@ -47,7 +47,7 @@ module _ {A : Type 0} (w : World A) where
       (λ same. subst (λ z. Grows (w.nodes z) m) (eqb-true x y same) g)
       (λ not. grows_refl (w.nodes y)))
 
-  -- a step, as it went
+  -- a step, however it ended
   went_grows : (x : ℕ) (a : Answer A) (went : Went) → Grows (w.nodes x) a.node
       → AllGrow (as_it_went x (w.nodes x) a went)
   went_grows x a Answered g = put_grows x (answers x a) a.node refl g
@@ -134,13 +134,13 @@ module _ {A : Type 0} (cs : List (List ℕ)) where
   replies_grow (e ∷ es) w = begins_trans (begins_more w.replies (outcome w cs e).replies)
       (replies_grow es (happens cs w e))
 
-  -- a run goes on from where it led
+  -- a run of more events continues from the world of the first
   pub run_append : (es fs : List (Event A)) (w : World A) → run cs (es ++ fs) w ≡ run cs fs
       (run cs es w)
   run_append [] fs w = refl
   run_append (e ∷ es) fs w = run_append es fs (happens cs w e)
 
-  -- a longer run takes nothing back
+  -- a longer run extends a shorter one
   pub only_grows : (es fs : List (Event A)) → OnlyGrows cs es fs
   only_grows es fs =
       let w = reached cs es in

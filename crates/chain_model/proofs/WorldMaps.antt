@@ -19,7 +19,7 @@ use Rattle.chain_model.proofs.NodeMaps.{ask_map, cond_of, map-place_of, notice_m
 use Rattle.chain_model.proofs.NodeMaps.{started_map, tend_map, tick_map}
 
 module _ {A B : Type 0} (f : A → B) where
-  -- a step, as it went
+  -- a step, however it ended
   went_map : (x : ℕ) (n : Node A) (a : Answer A) (a' : Answer B) (went : Went)
       → answer_map f a ≡ a' → outcome_map f (as_it_went x n a went) ≡ as_it_went x (node_map f n)
       a' went
@@ -99,7 +99,7 @@ module _ {A B : Type 0} (f : A → B) where
       (answers x (dropped_for n' reason.NotRunning)) refl refl refl
   outcome_maps cs w Lost = refl
 
-  -- so does the world after it ..
+  -- the world after an event commutes with the map
   with_node_map : (nodes : ℕ → Node A) (o : Option (ℕ × Node A)) (y : ℕ)
       → node_map f (with_node nodes o y) ≡ with_node (λ x. node_map f (nodes x)) (place_map f o) y
   with_node_map nodes None y = refl
@@ -121,7 +121,7 @@ module _ {A B : Type 0} (f : A → B) where
   happens_map cs w e = after_map w (outcome w cs e) ∙ ap (after (world_map f w))
       (outcome_maps cs w e)
 
-  -- .. and a whole run
+  -- a run commutes with the map
   pub run_map : (cs : List (List ℕ)) (es : List (Event A)) (w : World A)
       → world_map f (run cs es w) ≡ run cs (map (event_map f) es) (world_map f w)
   run_map cs [] w = refl

@@ -1,4 +1,4 @@
--- Each event keeps what holds of a world, so a run does.
+-- Each event keeps the invariant of a world, so a run does.
 use Rattle.std.proofs.Common.{◌≡◌, ℕ, List, [], ◌∷◌, ◌++◌, length, Option, Some, None, Bool, true}
 use Rattle.std.proofs.Common.{◌==◌, nat_lt, sym, refl, ap, subst, append_assoc, append-nil}
 use Rattle.std.proofs.Common.{eqb-true, eq-eqb, ltb-true}
@@ -35,7 +35,7 @@ use Rattle.chain_model.proofs.Queries.{RequestOk, ask_ok, started_ok, stopped_ok
 abbrev pub put : {A : Type 0} → World A → ℕ → Answer A → World A
 put w x a = after w (answers x a)
 
--- what the tails of a world have at their epochs is committed
+-- the lists of a world's tails at their epochs are committed
 abbrev pub TailsIn : {A : Type 0} → List (List ℕ) → List (Event A) → World A → Type 0
 TailsIn cs events w = (t : ℕ) → is_tail (at_epoch cs (w.nodes t).epoch) t ≡ true
     → WasCommitted cs events (w.nodes t).epoch (w.nodes t).list
@@ -63,7 +63,7 @@ module _ {A : Type 0} (cs : List (List ℕ)) (lawful : IsChain cs) (events : Lis
   apart x a z other = cond_both {A = Node A} (x == z) a.node (w.nodes z)
       (λ n. n.list ≡ (w.nodes z).list) (λ is. absurd (other (sym (eqb-true x z is)))) (λ not. refl)
 
-  -- a node lands where the answer puts it
+  -- a node's new list is the answer's
   lands : (x : ℕ) (a : Answer A) → TailsIn cs events (put w x a)
       → Lands cs events (new x a) x a.node
   lands x a tails = record {
@@ -73,7 +73,7 @@ module _ {A : Type 0} (cs : List (List ℕ)) (lawful : IsChain cs) (events : Lis
         (eq-eqb x x refl)) (tails x);
   }
 
-  -- an answer that keeps what holds of its node keeps what holds of the world
+  -- an answer that keeps the invariant of its node keeps that of the world
   put_ok : (x : ℕ) (a : Answer A) → Begins (w.nodes x).list a.node.list
       → AnswerOk cs events (h ++ r) (new x a) x a → WorldOk cs events (h ++ r) (put w x a)
   put_ok x a g good = record {
@@ -100,7 +100,7 @@ module _ {A : Type 0} (cs : List (List ℕ)) (lawful : IsChain cs) (events : Lis
     replies = every_append (ReplyOk cs events (lists_of w)) w.replies [] ok.replies tt;
   }
 
-  -- what answer a of node x keeps what holds of it
+  -- what answer a of node x keeps the invariant of it
   abbrev Keeps : ℕ → Answer A → Type 0
   Keeps x a = (lists : ℕ → List A) → ((y : ℕ) → Begins (lists_of w y) (lists y))
       → ((z : ℕ) → (z ≡ x → ⊥) → lists z ≡ lists_of w z) → NodeOk cs events (h ++ r) lists x
@@ -114,7 +114,7 @@ module _ {A : Type 0} (cs : List (List ℕ)) (lawful : IsChain cs) (events : Lis
       (node_grows cs events (lists_of w) (new x a) (grow x a g) h r x (w.nodes x)
       (ok.nodes x)) (lands x a tails))
 
-  -- a step, as it went
+  -- a step, however it ended
   went_ok : (x : ℕ) (a : Answer A) (went : Went) → Begins (w.nodes x).list a.node.list
       → Keeps x a → TailsIn cs events (after w (as_it_went x (w.nodes x) a went))
       → WorldOk cs events (h ++ r) (after w (as_it_went x (w.nodes x) a went))
@@ -130,7 +130,7 @@ module _ {A : Type 0} (cs : List (List ℕ)) (lawful : IsChain cs) (events : Lis
       (stopped_ok cs lawful events (h ++ r) lists x a.node
       (keeps lists up other lifted (record { list = at.list; tail = at.tail })).node)) tails
 
-  -- a drop changes nothing
+  -- a drop keeps the invariant
   drops_ok : (x : ℕ) (why : DropReason)
       → TailsIn cs events (put w x (dropped_for (w.nodes x) why)) → WorldOk cs events (h ++ r)
       (put w x (dropped_for (w.nodes x) why))
@@ -138,7 +138,7 @@ module _ {A : Type 0} (cs : List (List ℕ)) (lawful : IsChain cs) (events : Lis
       (λ lists up other lifted at. dropped_ok cs lawful events (h ++ r) lists x (w.nodes x)
       lifted why) tails
 
-  -- and so it is with a refusal
+  -- a refusal keeps the invariant
   refuses_ok : (x i : ℕ) (why : Refusal)
       → TailsIn cs events (put w x (refused (w.nodes x) i why)) → WorldOk cs events (h ++ r)
       (put w x (refused (w.nodes x) i why))
@@ -146,7 +146,7 @@ module _ {A : Type 0} (cs : List (List ℕ)) (lawful : IsChain cs) (events : Lis
       (begins_refl (w.nodes x).list) (λ lists up other lifted at. refused_ok cs lawful events
       (h ++ r) lists x (w.nodes x) i lifted why) tails
 
-  -- what holds is kept by an outcome
+  -- an outcome keeps the invariant
   abbrev Holds : Outcome A → Type 0
   Holds o = TailsIn cs events (after w o) → WorldOk cs events (h ++ r) (after w o)
 
@@ -240,11 +240,11 @@ module _ {A : Type 0} (cs : List (List ℕ)) (lawful : IsChain cs) (events : Lis
       (λ down. drops_ok x reason.NotRunning)
 
 module _ {A : Type 0} (cs : List (List ℕ)) (lawful : IsChain cs) (events : List (Event A)) where
-  -- what an event hands in, the run hands in
+  -- the batches that an event submits are submitted in the run
   abbrev EventOk : Event A → Type 0
   EventOk e = (i : ℕ) (b : A) → IsHandIn i b e → WasHandedIn events i b
 
-  -- every event keeps what holds
+  -- every event keeps the invariant
   pub happens_ok : (h : List A) (w : World A) → WorldOk cs events h w → (e : Event A) → EventOk e
       → TailsIn cs events (happens cs w e) → WorldOk cs events (h ++ handed_by e) (happens cs w e)
   happens_ok h w ok (Ask x i (Submit b) went) told tails = asked_ok cs lawful events h w ok
@@ -276,7 +276,7 @@ module _ {A : Type 0} (cs : List (List ℕ)) (lawful : IsChain cs) (events : Lis
   Along [] w = Unit {0}
   Along (e ∷ es) w = TailsIn cs events (happens cs w e) × Along es (happens cs w e)
 
-  -- so does every run
+  -- every run keeps the invariant
   pub run_ok : (es : List (Event A)) → AllByRecursion EventOk es → (h : List A) (w : World A)
       → Along es w → WorldOk cs events h w → WorldOk cs events (h ++ handed es) (run cs es w)
   run_ok [] told h w along ok = subst (λ l. WorldOk cs events l w) (sym (append-nil h)) ok

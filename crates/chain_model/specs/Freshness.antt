@@ -11,8 +11,8 @@ IsAtMost s (Shows i n l) = n ≤ s
 IsAtMost s (Opened i n) = n ≤ s
 IsAtMost s _ = Unit {0}
 
--- Node t reads its full list without a number. No earlier acknowledgement, read or snapshot has a
--- number greater than its length.
+-- A read without a number at node t is of its full list. No earlier acknowledgement, read or
+-- snapshot has a number greater than the list's length.
 pub record SeesAll {A : Type 0} (cs : Configurations) (events : List (Event A)) (t : ℕ) : Type 0
   where
     pub shows : (i : ℕ) → (outcome (reached cs events) cs (Ask t i (Read None) Answered)).replies

@@ -20,9 +20,9 @@ pub record IsOrdered {A : Type 0} (n : Node A) : Type 0 where
   -- requests are pending in order of number, so they are replied to in that order
   pub pending : RisesFrom 0 n.pending
 
--- Every node that the epoch keeps has the batches that a node has trimmed, and the node knows so of
--- its successor (van Renesse and Schneider 2004, section 3; floor and kept number are this store's
--- profile).
+-- Every node that a node's epoch keeps has the batches that this node has trimmed. The node knows
+-- so of its successor (van Renesse and Schneider 2004, section 3; floor and kept number are this
+-- store's profile).
 pub record KeepsEnough {A : Type 0} (cs : Configurations) (events : List (Event A)) : Type 0 where
   pub others : (x y : ℕ) → has (at_epoch cs (node_of cs events x).epoch) y ≡ true
       → (node_of cs events x).kept ≤ length (node_of cs events y).list

@@ -8,8 +8,8 @@ use Rattle.chain_model.specs.declared.drop_reason.DropReason.{DropReason}
 use Rattle.chain_model.specs.Frames.{Frame}
 use Rattle.chain_model.specs.Requests.{Reply, Committed, Refused}
 
--- a node (its history, the updates sent on and not known to be at every node, and its place in the
--- chain: van Renesse and Schneider 2004, section 3; the numbers are this store's profile)
+-- A node: its history, the updates sent on and not known to be at every node, and its place in the
+-- chain (van Renesse and Schneider 2004, section 3; the numbers are this store's profile).
 pub record Node (A : Type 0) : Type 0 where
   -- every batch that it has accepted or appended
   pub list : List A

@@ -22,8 +22,8 @@ mod refusal;
 pub use drop_reason::DropReason;
 pub use refusal::Refusal;
 
-/// For every lawful list of configurations and every list of events there is one list of batches,
-/// of which every read and acknowledgement speaks, and with which every last node's list begins.
+/// For every lawful list of configurations and every list of events there is one list of batches.
+/// Every read and acknowledgement agrees with it, and it is a prefix of each last node's list.
 pub fn one_history<B>()
     ensures { (cs : Configurations) (events : List (Event B)) → Lawful cs → OneList cs events }
 {}

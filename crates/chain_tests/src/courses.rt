@@ -1,8 +1,8 @@
-// Runs as they are written down: events in, and what each of them shows out.
+// Runs as scripts of events, and the trace of each event.
 use configurations::{Config, ConfigError, Configs, NodeId};
 use disk::{Fault, Junk, JunkBytes};
 use kv_types::{Batch, Edit, Key, KvError, Limits, Number, Value};
-use lab::{Event, LabError, Line, Report, What, World, names_nodes, run};
+use lab::{Event, EventKind, LabError, Line, Report, World, names_nodes, run};
 use node::{Reply, Stop};
 use std::alloc::{AllocError, Global};
 use std::test::Fail;
@@ -54,21 +54,21 @@ fn batch(alloc: Global, values: &[Option<&'static str>]) -> Result<Batch, KvErro
     Batch::new(edits)
 }
 
-fn what(alloc: Global, step: &Step) -> Result<What, KvError> {
+fn kind_of(alloc: Global, step: &Step) -> Result<EventKind, KvError> {
     Ok(match step {
-        Step::Submit(node, values) => What::Submit {
+        Step::Submit(node, values) => EventKind::Submit {
             node: id(*node)?,
             batch: batch(alloc, values)?,
         },
-        Step::Get(node, at) => What::Get {
+        Step::Get(node, at) => EventKind::Get {
             node: id(*node)?,
             key: key(alloc)?,
             at: at.map(number),
         },
-        Step::Deliver(place) => What::Deliver { place: *place },
-        Step::Tick(node) => What::Tick { node: id(*node)? },
-        Step::Start(node) => What::Start { node: id(*node)? },
-        Step::Stop(node, junk) => What::Stop {
+        Step::Deliver(place) => EventKind::Deliver { place: *place },
+        Step::Tick(node) => EventKind::Tick { node: id(*node)? },
+        Step::Start(node) => EventKind::Start { node: id(*node)? },
+        Step::Stop(node, junk) => EventKind::Stop {
             node: id(*node)?,
             junk: Junk::Bytes(JunkBytes::new(junk.to_vec(alloc)?)),
         },
@@ -76,9 +76,9 @@ fn what(alloc: Global, step: &Step) -> Result<What, KvError> {
 }
 
 fn event(alloc: Global, step: &Step) -> Result<Event, KvError> {
-    let what = what(alloc, step)?;
+    let kind = kind_of(alloc, step)?;
     let fault = Fault::None;
-    Ok(Event { what, fault })
+    Ok(Event { kind, fault })
 }
 
 fn events_of(alloc: Global, steps: &[Step]) -> Result<Vec<Event>, KvError> {
@@ -106,13 +106,13 @@ pub fn report_of(alloc: Global, ids: &[u16], steps: &[Step]) -> Result<Option<Re
     Ok(Some(run(alloc, &configs, &events, &Limits::default())?))
 }
 
-/// What every event of this run shows, an event a line.
+/// The trace of this run, an event a line.
 pub fn shown_of(alloc: Global, ids: &[u16], steps: &[Step]) -> Result<String, Fail> {
     let report = report_of(alloc, ids, steps)?.ok_or("no node")?;
     Ok(shown(alloc, &report)?)
 }
 
-/// What the report of this run tells of each node, a node a line.
+/// The report of this run on each node, a node a line.
 pub fn nodes_of(alloc: Global, ids: &[u16], steps: &[Step]) -> Result<String, Fail> {
     let report = report_of(alloc, ids, steps)?.ok_or("no node")?;
     Ok(nodes_text(alloc, &report)?)
@@ -125,8 +125,8 @@ fn stepped(alloc: Global, world: &mut World, events: &[Event]) -> Result<(), Lab
     Ok(())
 }
 
-/// How many frames a chain of these nodes has sent after these events, and how many steps it tells
-/// of.
+/// The number of frames that a chain of these nodes has sent after these events, and the number of
+/// steps in its report.
 pub fn sent_after(alloc: Global, ids: &[u16], steps: &[Step]) -> Result<(u64, usize), Fail> {
     let configs = configs(alloc, ids)?;
     let events = events_of(alloc, steps)?;
@@ -227,7 +227,7 @@ fn lines_text(alloc: Global, lines: &[Line]) -> Result<String, AllocError> {
     Ok(text)
 }
 
-/// What every event shows, an event a line.
+/// The trace of all events, an event a line.
 pub fn shown(alloc: Global, report: &Report) -> Result<String, AllocError> {
     let mut text = String::new(alloc);
     for lines in &report.steps {
@@ -237,7 +237,7 @@ pub fn shown(alloc: Global, report: &Report) -> Result<String, AllocError> {
     Ok(text)
 }
 
-// How many events a world has taken, and what the last of them showed.
+// The number of events of a world so far, and the trace of the last one.
 fn so_far(alloc: Global, world: &World) -> Result<String, AllocError> {
     let taken = world.events().len();
     match world.report().last() {
@@ -249,7 +249,7 @@ fn so_far(alloc: Global, world: &World) -> Result<String, AllocError> {
     }
 }
 
-/// What a world of these nodes has after each event, an event a line.
+/// The state of a world of these nodes after each event, an event a line.
 pub fn shown_on_the_way(alloc: Global, ids: &[u16], steps: &[Step]) -> Result<String, Fail> {
     let configs = configs(alloc, ids)?;
     let events = events_of(alloc, steps)?;
@@ -262,7 +262,8 @@ pub fn shown_on_the_way(alloc: Global, ids: &[u16], steps: &[Step]) -> Result<St
     Ok(text)
 }
 
-/// How many lines tell that a node stopped, and how many of them that it stopped by itself.
+/// The number of lines that report a stop, and the number of those that report a stop by the node
+/// itself.
 pub fn stops_in(report: &Report) -> (u64, u64) {
     let (mut all, mut own) = (0u64, 0u64);
     for lines in &report.steps {
@@ -276,7 +277,7 @@ pub fn stops_in(report: &Report) -> (u64, u64) {
     (all, own)
 }
 
-// What a report tells of each node, a node a line.
+// The report on each node, a node a line.
 fn nodes_text(alloc: Global, report: &Report) -> Result<String, AllocError> {
     let mut text = String::new(alloc);
     for node in &report.nodes {

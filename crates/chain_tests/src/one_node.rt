@@ -1,8 +1,8 @@
-// Runs of one node: what each event gives, by the rules of a step.
+// Runs of one node: the result of each event, by the rules of a step.
 use crate::courses::{ONE, Step, TWO, report_of, shown_of};
 use std::test::Fail;
 
-// Events, and what each of them shows.
+// Events, and the trace of each.
 static RUNS: [(&[Step], &str); 2] = [
     // Batches are committed and read.
     (

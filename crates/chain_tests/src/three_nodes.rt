@@ -1,4 +1,4 @@
-// Runs of a chain of nodes 1, 2 and 3: what each event shows, by the rules of a step.
+// Runs of a chain of nodes 1, 2 and 3: the trace of each event, by the rules of a step.
 use crate::courses::{
     ONE, Step, TWO, nodes_of, report_of, sent_after, shown_of, shown_on_the_way, stops_in,
 };
@@ -18,7 +18,7 @@ const DOWN: &[Step] = &[
     Step::Submit(2, ONE),
 ];
 
-// Node 2 stops, and again, starts, and stops.
+// Node 2 stops twice, starts, and stops.
 const RESTS: &[Step] = &[
     Step::Submit(1, ONE),
     Step::Stop(2, b""),
@@ -34,7 +34,7 @@ const RESTS: &[Step] = &[
     Step::Stop(2, b"\x01"),
 ];
 
-// Events, and what each of them shows.
+// Events, and the trace of each.
 static RUNS: [(&[Step], &str); 5] = [
     // A batch goes down the chain and back.
     (
@@ -51,7 +51,7 @@ static RUNS: [(&[Step], &str); 5] = [
 9: refused 2 NotHead
 ",
     ),
-    // A Forward that comes again is dropped, and the predecessor told again. An old Ack does nothing.
+    // A repeated Forward is dropped, and acknowledged again. An old Ack changes nothing.
     (
         &[
             Step::Submit(1, ONE),
@@ -78,7 +78,7 @@ dropped OtherNumber / #6 3>2 ack 0 1 1
 10: value 1 at 1
 ",
     ),
-    // A batch that comes before the one it follows is dropped, and sent again at a tick.
+    // A batch that arrives before the one it follows is dropped, and sent again at a tick.
     (
         &[
             Step::Submit(1, ONE),
@@ -121,7 +121,7 @@ node 2 started epoch 0 count 0 committed 0
 node 2 stopped
 ",
     ),
-    // A place without a frame gives nothing.
+    // A place without a frame has no effect.
     (
         &[
             Step::Deliver(0),
@@ -151,7 +151,7 @@ fn what_each_event_shows(rt: HostRuntime) -> Result<(), Fail> {
     Ok(())
 }
 
-// Events, and what the report then tells of each node.
+// Events, and the report on each node after them.
 static NODES: [(&[Step], &str); 2] = [
     (
         DOWN,
@@ -180,7 +180,7 @@ fn what_is_left_of_each_node(rt: HostRuntime) -> Result<(), Fail> {
     Ok(())
 }
 
-// An event that names a node which the chain lacks is no step.
+// An event that names an unknown node is no step.
 #[test]
 fn a_world_is_stepped(rt: HostRuntime) -> Result<(), Fail> {
     let none = sent_after(rt.alloc(), CHAIN, &[])?;
@@ -211,7 +211,7 @@ const WAY: &str = "\
 4 #3 1>2 forward 0 1
 ";
 
-// An event of an unknown node is not taken, and one without a frame is.
+// An event of an unknown node is no step, and one without a frame is a step.
 #[test]
 fn a_world_that_goes_on_shows_what_it_did(rt: HostRuntime) -> Result<(), Fail> {
     let steps = [

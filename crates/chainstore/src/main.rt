@@ -1,7 +1,7 @@
 //! The program: its words and streams go to `serve`, whose status it ends with.
 #![tactic(auto)]
 
-use program::{Failure, refuse, serve, tell};
+use program::{Failure, refuse, report, serve};
 use std::env;
 use std::io::{self, ErrorKind};
 use std::process::ExitCode;
@@ -23,7 +23,7 @@ fn serve_words(rt: &HostRuntime) -> io::Result<u8> {
 fn main(rt: HostRuntime) -> ExitCode {
     let status = match serve_words(&rt) {
         Ok(status) => status,
-        Err(e) if e.kind() == ErrorKind::OutOfMemory => tell(&mut rt.stderr(), Failure::Memory),
+        Err(e) if e.kind() == ErrorKind::OutOfMemory => report(&mut rt.stderr(), Failure::Memory),
         // A word is no text.
         Err(_) => refuse(&mut rt.stderr()),
     };

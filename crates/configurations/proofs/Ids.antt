@@ -16,7 +16,7 @@ pub any_has : (c : List ℕ) (x : ℕ) → list_any (λ y. y == x) c ≡ has c x
 any_has [] x = refl
 any_has (y ∷ c) x = or_is_if (y == x) (list_any (λ z. z == x) c) (has c x) (any_has c x)
 
--- the tail stands at the last place
+-- the tail is at the last place
 pub tail_last : (c : List ℕ) (d : ℕ) → 1 ≤ length c → is_tail c (get_or c (length c - 1) d) ≡ true
 tail_last [] d some = absurd (omega (arith, some))
 tail_last (y ∷ []) d some = eq-eqb y y refl
@@ -32,7 +32,7 @@ later ids = take (length ids - 1) (drop 1 ids)
 later_is : (x : ℕ) (l : List ℕ) → later (x ∷ l) ≡ l
 later_is x l = take_all (length (x ∷ l) - 1) l (omega arith)
 
--- an id that stands again behind the first place is repeated
+-- an id that occurs again behind the first place is repeated
 pub first_repeats : (ids : List ℕ) → 1 ≤ length ids
     → list_any (λ y. y == get_or ids 0 0) (later ids) ≡ true → AllDifferent ids → ⊥
 first_repeats [] some again d = absurd (omega (arith, some))

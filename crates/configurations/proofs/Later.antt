@@ -85,7 +85,7 @@ least_smaller cs h = record { has = not_smaller cs h; least = least }
     least fault.BadId l has = has
     least fault.Memory l has = has
 
--- .. that some is not in order
+-- the first refusal that applies is that some later configuration is not in order
 pub least_in_order : Decides → (cs : List (List ℕ)) → each_later is_smaller cs ≡ true
     → each_later is_in_order cs ≡ false → IsLeast (λ e. ListHas e cs) fault.NotInOrder
 least_in_order decides cs smaller h = record { has = not_in_order decides cs h; least = least }
@@ -102,7 +102,7 @@ least_in_order decides cs smaller h = record { has = not_in_order decides cs h; 
     least fault.BadId l has = has
     least fault.Memory l has = has
 
--- .. that there are too many
+-- the first refusal that applies is that there are too many configurations
 pub least_many : Decides → (cs : List (List ℕ)) → each_later is_smaller cs ≡ true
     → each_later is_in_order cs ≡ true → 16 < length cs
     → IsLeast (λ e. ListHas e cs) fault.TooMany
@@ -138,13 +138,13 @@ lawful_of decides cs some few first smaller nodes ordered = record {
   };
 }
 
--- the configuration of an epoch stands at its place
+-- the configuration of an epoch is at its place
 pub epoch_get : (cs : List (List ℕ)) (e : ℕ) → get_or cs e [] ≡ at_epoch cs e
 epoch_get [] e = refl
 epoch_get (c ∷ cs) zero = refl
 epoch_get (c ∷ cs) (suc e) = epoch_get cs e
 
--- what is found at a place of a list of configurations is that of the epoch
+-- the configuration at a place of the list is that of the epoch
 abbrev pub IsAt : {X : Type 0} → (X → List ℕ) → List (List ℕ) → ℕ → Option X → Type 0
 IsAt now cs e found =
     MatchOption found (length cs ≤ e) (λ it. (e < length cs) × (now it ≡ at_epoch cs e))
@@ -156,7 +156,7 @@ found_in : {X : Type 0} (now : X → List ℕ) (cs : List (List ℕ)) (e : ℕ) 
 found_in now cs e None h = h
 found_in now cs e (Some it) h = (h.0, h.1 [] ∙ epoch_get cs e)
 
--- .. also where list and place go by other names
+-- the configuration of an epoch, for equal lists and places
 pub found_at : {X : Type 0} (now : X → List ℕ) (cs ds : List (List ℕ)) (e d : ℕ)
     (found : Option X) → cs ≡ ds → e ≡ d
     → MatchOption found (length cs ≤ e)

@@ -1,4 +1,5 @@
--- What a sync kept agrees with what a read gives, off the loose places, whatever is called.
+-- The synced bytes agree with the bytes that a read returns, in all synced places, after every
+-- call.
 use Rattle.std.proofs.Common.{◌≡◌, ◌≢◌, ℕ, ◌+◌, List, [], ◌∷◌, ◌++◌, length}
 use Rattle.std.proofs.Common.{Result, Ok, Err}
 use Rattle.std.proofs.Common.{refl, sym, ap, subst, ◌∙◌, inl, inr}
@@ -14,7 +15,7 @@ use Rattle.disk.specs.Calls.{CanBegin, Writes, Cuts}
 use Rattle.disk.specs.Memory.{Agrees, AllAgree}
 use Rattle.disk.proofs.Places.{get-take, overwritten_before, overwritten_after}
 
--- a place that was loose stays loose under one more touch
+-- an unsynced place stays unsynced under one more pending write
 pub loose_still : (end : ℕ) (touches : List Touch) (one : Touch) (place : ℕ)
     → IsLoose end touches place → IsLoose end (touches ++ one ∷ []) place
 loose_still end [] one place loose = absurd loose
@@ -22,7 +23,7 @@ loose_still end (first ∷ touches) one place (inl here) = inl here
 loose_still end (first ∷ touches) one place (inr later) =
     inr (loose_still end touches one place later)
 
--- and the touch loosens its own
+-- a pending write makes its own places unsynced
 pub loose_now : (end : ℕ) (touches : List Touch) (one : Touch) (place : ℕ)
     → Loosens one end place → IsLoose end (touches ++ one ∷ []) place
 loose_now end [] one place here = inl here
@@ -46,7 +47,7 @@ agrees_written at bytes (Kept old kept touches) begins agrees = λ place tight.
       ]
     ]
 
--- and after a cut
+-- they agree after a cut
 agrees_cut : (len : ℕ) (slot : Slot) → Agrees slot → Agrees (cut_to len slot)
 agrees_cut len (Absent back) agrees = tt
 agrees_cut len (Fresh old back) agrees = tt
@@ -58,7 +59,7 @@ agrees_cut len (Kept old kept touches) agrees = λ place tight.
       | inr past ↦ absurd (tight (loose_now (length kept) touches (Cut len) place past))
     ]
 
--- what stays the same agrees
+-- an unchanged slot agrees
 same_agree : (old new : State) → IsSame old new → AllAgree old → AllAgree new
 same_agree old new same all = λ file. subst Agrees (sym (same file)) (all file)
 

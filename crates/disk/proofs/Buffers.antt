@@ -1,4 +1,4 @@
--- A buffer whose covered bytes are put back.
+-- A buffer whose overwritten bytes are restored.
 use Rattle.std.proofs.Common.{◌≡◌, ◌⊎◌, ℕ, suc, ◌+◌, ◌-◌, ◌<◌, ◌≤◌}
 use Rattle.std.proofs.Common.{List, [], ◌∷◌, ◌++◌, length, take, drop}
 use Rattle.std.proofs.Common.{refl, sym, ap, ◌∙◌, inl, inr, append_assoc, length-append, arith}
@@ -36,7 +36,7 @@ extended_at old new place past =
     ∙ get-drop (length old) new (place - length old)
     ∙ ap (slice_get new) (omega arith)
 
--- what a write covered
+-- the bytes that a write has overwritten
 covered_len : (old : List ℕ) (at n : ℕ)
     → length (take n (drop at old)) ≡ min n (length old - at)
 covered_len old at n = length-take n (drop at old) ∙ ap (min n) (length-drop at old)
@@ -76,8 +76,8 @@ back_at old at bytes saved within is place =
         ∙ sym (get-append_left old (drop (length old) (overwritten old at bytes)) place lt)
     behind (inr out) size ge past = sym (extended_at old (overwritten old at bytes) place out)
 
--- What a write covered, put back, gives the old bytes, and behind them what it wrote past their
--- end.
+-- Restoring the bytes that a write has overwritten yields the old bytes, and behind them the bytes
+-- that it wrote past their end.
 pub overwritten_back : (old : List ℕ) (at : ℕ) (bytes saved : List ℕ) → at ≤ length old
     → saved ≡ take (length bytes) (drop at old)
     → overwritten (overwritten old at bytes) at saved
@@ -85,7 +85,7 @@ pub overwritten_back : (old : List ℕ) (at : ℕ) (bytes saved : List ℕ) → 
 overwritten_back old at bytes saved within is =
     same_bytes _ _ (λ place. back_at old at bytes saved within is place)
 
--- what lies behind the places written stays
+-- the bytes behind the places written stay
 pub overwritten-append : (old tail : List ℕ) (at : ℕ) (bytes : List ℕ)
     → at + length bytes ≤ length old
     → overwritten (old ++ tail) at bytes ≡ overwritten old at bytes ++ tail
@@ -128,9 +128,9 @@ take-overwritten old len at bytes inside within = same_bytes _ _ by_place
           ]
     ]
 
--- ---- putting back
+-- ---- restoring
 
--- putting back keeps the buffer's length
+-- restoring keeps the buffer's length
 pub length-uncovered : (buffer : List ℕ) (covered : List Piece) → AllWithin (length buffer) covered
     → length (uncovered buffer covered) ≡ length buffer
 length-uncovered buffer [] within = refl
@@ -145,7 +145,7 @@ length-uncovered buffer (one ∷ later) within =
           (omega (arith, below)),
     )
 
--- what lies behind all that was covered stays
+-- the bytes behind all overwritten ones stay
 pub uncovered-append : (buffer tail : List ℕ) (covered : List Piece)
     → AllWithin (length buffer) covered
     → uncovered (buffer ++ tail) covered ≡ uncovered buffer covered ++ tail
@@ -157,7 +157,7 @@ uncovered-append buffer tail (one ∷ later) within =
     ∙ overwritten-append (uncovered buffer later) tail one.at one.bytes
     (omega (arith, size, within 0 one (omega arith)))
 
--- the latest is put back first
+-- the latest is restored first
 pub uncovered-push : (buffer : List ℕ) (covered : List Piece) (one : Piece)
     → uncovered buffer (covered ++ one ∷ [])
     ≡ uncovered (overwritten buffer one.at one.bytes) covered
@@ -165,7 +165,7 @@ uncovered-push buffer [] one = refl
 uncovered-push buffer (first ∷ later) one =
     ap (λ (b : List ℕ). overwritten b first.at first.bytes) (uncovered-push buffer later one)
 
--- a write over bytes that are saved keeps what can be had back
+-- a write over saved bytes keeps the content that can be restored
 pub kept_stays : (buffer : List ℕ) (covered : List Piece) (one : Piece) (len : ℕ) (bytes : List ℕ)
     → len ≤ length buffer → one.at ≤ length buffer → AllWithin (length buffer) covered
     → one.bytes ≡ take (length bytes) (drop one.at buffer)
@@ -183,7 +183,7 @@ kept_stays buffer covered one len bytes inside within all saved =
     ∙ take-append-le len (uncovered buffer covered) tail
     (omega (arith, length-uncovered buffer covered all))
 
--- one step of putting back
+-- one step of restoring
 pub uncovered-pop : (buffer new : List ℕ) (covered rest : List Piece) (one : Piece)
     → covered ≡ rest ++ one ∷ [] → new ≡ overwritten buffer one.at one.bytes
     → uncovered new rest ≡ uncovered buffer covered
@@ -191,14 +191,14 @@ uncovered-pop buffer new covered rest one parts is =
     ap (λ (b : List ℕ). uncovered b rest) is
     ∙ sym (ap (uncovered buffer) parts ∙ uncovered-push buffer rest one)
 
--- what lies within so many, but for the latest
+-- the overwritten bytes within a length, but for the latest
 pub AllWithin-pop : (len : ℕ) (covered rest : List Piece) (one : Piece)
     → covered ≡ rest ++ one ∷ [] → AllWithin len covered → AllWithin len rest
 AllWithin-pop len covered rest one parts within =
     let all : AllWithin len (rest ++ one ∷ []) = subst (AllWithin len) parts within in
     λ k d lt. grind (arith, common_steps, all k d)
 
--- and the latest
+-- the latest overwritten bytes within a length
 pub AllWithin-last : (len : ℕ) (covered rest : List Piece) (one : Piece)
     → covered ≡ rest ++ one ∷ [] → AllWithin len covered → one.at + length one.bytes ≤ len
 AllWithin-last len covered rest one parts within =

@@ -35,7 +35,7 @@ module _ {D T : Type 0} (is_honest : D → Type 0) (state : D → State) (failur
 pub risen_still : (before mid now : ℕ) → HasRisen before mid → mid ≤ now → HasRisen before now
 risen_still before mid now risen le = λ below. omega (arith, risen below, le)
 
--- and is one over earlier calls
+-- a rise is one over earlier calls too
 pub risen_since : (before mid now : ℕ) → before ≤ mid → mid ≤ now → HasRisen mid now
     → HasRisen before now
 risen_since before mid now first then risen = λ below.

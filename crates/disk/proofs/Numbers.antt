@@ -34,16 +34,16 @@ numbers_of (one ∷ others) =
 is_at_here : (file k : ℕ) → file ≡ k → is_at (nat_cmp file) k ≡ true
 is_at_here file k is = unsigned_tied file k ∙ eq-eqb file k is
 
--- and not at another
+-- a number is not found at another
 is_at_apart : (file k : ℕ) → file ≢ k → is_at (nat_cmp file) k ≡ false
 is_at_apart file k apart = unsigned_tied file k ∙ grind (arith, nat_tests)
 
--- under its own number stands the slot
+-- the slot is under its own number
 state_of_here : (one : ℕ × Slot) (others : List (ℕ × Slot)) (file : ℕ) → file ≡ one.0
     → state_of (one ∷ others) file ≡ one.1
 state_of_here one others file is = rw (is_at_here file one.0 is) refl
 
--- under another stands what the others have
+-- the other slots are under the other numbers
 state_of_others : (one : ℕ × Slot) (others : List (ℕ × Slot)) (file : ℕ) → file ≢ one.0
     → state_of (one ∷ others) file ≡ state_of others file
 state_of_others one others file apart = rw (is_at_apart file one.0 apart) refl
@@ -59,7 +59,7 @@ contains_cases x y xs (suc k, lt, is) = inr (k, omega (arith, lt), is)
 
 -- ---- they rise
 
--- what is below all numbers is below those of the files that are there
+-- a number below all is below those of the existing files
 below_numbers : (k : ℕ) (slots : List (ℕ × Slot))
     → AllByRecursion (λ y. nat_cmp k y ≡ Less) (keys_of slots)
     → AllByRecursion (λ y. nat_cmp k y ≡ Less) (numbers_of slots)
@@ -83,7 +83,7 @@ sorted_numbers (one ∷ others) sorted =
       | false ↦ sorted_numbers others sorted.1
     ]
 
--- ---- and are exact
+-- ---- they are exact
 
 -- a number above all of these is none of them
 apart_from : (k file : ℕ) (xs : List ℕ) → AllByRecursion (λ y. nat_cmp k y ≡ Less) xs
@@ -110,7 +110,7 @@ there_at true one others file is apart rest c =
 there_at false one others file is apart rest c =
     subst (λ (s : Slot). IsSome (seen s)) (sym (state_of_others one others file (apart c))) (rest c)
 
--- what is listed is there
+-- each listed file exists
 is_there : (file : ℕ) (slots : List (ℕ × Slot)) → IsStrictlySortedBy nat_cmp (keys_of slots)
     → Contains (numbers_of slots) file → IsSome (seen (state_of slots file))
 unfolding IsStrictlySortedBy
@@ -138,7 +138,7 @@ listed_at false one others file is rest there (inl here) =
 listed_at false one others file is rest there (inr apart) =
     rest (subst (λ (s : Slot). IsSome (seen s)) (state_of_others one others file apart) there)
 
--- what is there is listed
+-- each existing file is listed
 is_listed : (file : ℕ) (slots : List (ℕ × Slot)) → IsSome (seen (state_of slots file))
     → Contains (numbers_of slots) file
 is_listed file [] there = absurd cc
@@ -188,7 +188,7 @@ insert_entry-last (one ∷ passed) rest number slot sorted =
 
 -- ---- without the slots that hold no file
 
--- no slot stands under a number below all others
+-- there is no slot under a number below all others
 nothing_below : (k file : ℕ) (slots : List (ℕ × Slot)) → file ≡ k
     → AllByRecursion (λ y. nat_cmp k y ≡ Less) (keys_of slots) → state_of slots file ≡ Absent None
 nothing_below k file [] is above = refl

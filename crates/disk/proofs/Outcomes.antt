@@ -22,20 +22,20 @@ use Rattle.disk.proofs.Tears.{get-torn}
 
 -- ---- the tests say what the facts say
 
--- what a test says of two numbers
+-- the meaning of a test of two numbers
 le_is : (a b : ℕ) → nat_le a b ≡ true → a ≤ b
 le_is a b is = grind (arith, nat_tests)
 
--- and another
+-- the meaning of another test
 lt_is : (a b : ℕ) → nat_lt a b ≡ true → a < b
 lt_is a b is = grind (arith, nat_tests)
 
--- what two tests say together
+-- the meaning of two tests together
 both_are : (x y : Bool) → (x && y) ≡ true → (x ≡ true) × (y ≡ true)
 both_are true y is = (refl, is)
 both_are false y is = absurd cc
 
--- a touch that passes the test loosens the place
+-- a write or cut that passes the test makes the place unsynced
 loosens_is : (touch : Touch) (end place : ℕ) → loosens touch end place ≡ true
     → Loosens touch end place
 loosens_is (Wrote at len) end place is =
@@ -46,7 +46,7 @@ loosens_is (Wrote at len) end place is =
     ]
 loosens_is (Cut len) end place is = le_is len place is
 
--- a place that passes the test is loose
+-- a place that passes the test is unsynced
 pub is_loose_is : (end : ℕ) (touches : List Touch) (place : ℕ) → is_loose end touches place ≡ true
     → IsLoose end touches place
 is_loose_is end [] place is = absurd cc
@@ -60,11 +60,11 @@ is_loose_is end (touch ∷ touches) place is =
 is_le : (a b : ℕ) → a ≤ b → nat_le a b ≡ true
 is_le a b le = grind (arith, nat_tests)
 
--- and another
+-- the meaning of another test
 is_lt : (a b : ℕ) → a < b → nat_lt a b ≡ true
 is_lt a b lt = grind (arith, nat_tests)
 
--- a touch that loosens the place passes the test
+-- a write or cut that makes the place unsynced passes the test
 is_loosens : (touch : Touch) (end place : ℕ) → Loosens touch end place
     → loosens touch end place ≡ true
 is_loosens (Wrote at len) end place (inl inside) =
@@ -73,7 +73,7 @@ is_loosens (Wrote at len) end place (inr past) =
     rw (is_le end place past) (or-true (nat_le at place && nat_lt place (at + len)))
 is_loosens (Cut len) end place past = is_le len place past
 
--- a loose place passes the test
+-- an unsynced place passes the test
 pub is_is_loose : (end : ℕ) (touches : List Touch) (place : ℕ) → IsLoose end touches place
     → is_loose end touches place ≡ true
 is_is_loose end [] place loose = absurd loose
@@ -81,15 +81,15 @@ is_is_loose end (touch ∷ touches) place (inl here) = rw (is_loosens touch end 
 is_is_loose end (touch ∷ touches) place (inr later) =
     rw (is_is_loose end touches place later) (or-true (loosens touch end place))
 
--- a tight place does not pass
+-- a synced place does not pass the test
 tight_is : (b : Bool) (end : ℕ) (touches : List Touch) (place : ℕ) → is_loose end touches place ≡ b
     → (IsLoose end touches place → ⊥) → b ≡ false
 tight_is true end touches place is tight = absurd (tight (is_loose_is end touches place is))
 tight_is false end touches place is tight = refl
 
--- ---- a torn file keeps its tight places
+-- ---- a torn file keeps its synced places
 
--- junk changes no tight place
+-- junk changes no synced place
 torn_agrees : (end : ℕ) (touches : List Touch) (junk bytes : List ℕ)
     → AgreesOff end touches (torn end touches junk bytes) bytes
 torn_agrees end touches [] bytes = λ place tight. refl
@@ -120,19 +120,19 @@ left_allowed (Bytes junk) (Fresh bytes back) agrees = tt
 left_allowed (Bytes junk) (Kept bytes kept touches) agrees =
     torn_agrees (length kept) touches junk bytes
 
--- a sure slot is read as it was left
+-- a durable slot reads as the crash left it
 seen-sure : (left : Option (List ℕ)) → seen (sure left) ≡ left
 seen-sure None = refl
 seen-sure (Some bytes) = refl
 
--- what a crash leaves may be left
+-- each crash outcome is allowed
 pub crashes_allowed : (junk : Junk) (old new : State) → AllAgree old → Crashes junk old new
     → MayLeave old (contents new)
 crashes_allowed junk old new all crashes = λ file.
     subst (Leaves (old file)) (sym (ap seen (crashes file) ∙ seen-sure (left_by junk (old file))))
     (left_allowed junk (old file) (all file))
 
--- and is sure
+-- every crash outcome is durable
 pub crashed_is_sure : (junk : Junk) (slot : Slot) → IsSure (crashed junk slot)
 crashed_is_sure junk slot = is_sure (left_by junk slot)
   where
@@ -146,7 +146,7 @@ crashed_none Old = refl
 crashed_none New = refl
 crashed_none (Bytes junk) = refl
 
--- what a crash left no file of says nothing
+-- a slot without a file after a crash says nothing
 pub crashed_says : (junk : Junk) (slots : List (ℕ × Slot))
     → AllByRecursion SaysNothing (map (λ e. (e.0, crashed junk e.1)) slots)
 crashed_says junk [] = tt

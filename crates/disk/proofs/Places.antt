@@ -83,7 +83,7 @@ pub get-append_right : (a b : List ℕ) (place : ℕ) → length a ≤ place
     → slice_get (a ++ b) place ≡ slice_get b (place - length a)
 get-append_right a b place le = grind (arith, common_steps, gets)
 
--- ---- what a write leaves, place by place
+-- ---- the content after a write, place by place
 
 -- a write changes no place before it
 pub overwritten_before : (old : List ℕ) (at : ℕ) (bytes : List ℕ) (place : ℕ)
@@ -97,7 +97,7 @@ pub overwritten_inside : (old : List ℕ) (at : ℕ) (bytes : List ℕ) (place :
     → slice_get (overwritten old at bytes) place ≡ slice_get bytes (place - at)
 overwritten_inside old at bytes place le from lt = grind (arith, common_steps, gets)
 
--- and changes no place behind them
+-- a write changes no place behind its bytes
 pub overwritten_after : (old : List ℕ) (at : ℕ) (bytes : List ℕ) (place : ℕ)
     → at ≤ length old → at + length bytes ≤ place
     → slice_get (overwritten old at bytes) place ≡ slice_get old place

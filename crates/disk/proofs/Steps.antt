@@ -14,7 +14,7 @@ use Rattle.disk.proofs.Places.{same_bytes}
 abbrev pub Only : (Option (List ℕ) → Type 0) → Slot → Type 0
 Only P slot = (left : Option (List ℕ)) → Leaves slot left → P left
 
--- whatever a call was refused for
+-- the outcomes after a refusal
 pub fails_only : (P : Option (List ℕ) → Type 0) (e : DiskError) (old new : State) (file : ℕ)
     (slot : Slot) → Fails e old file slot new → Only P (old file) → Only P slot → Only P (new file)
 fails_only P Failed old new file slot f before behind =
@@ -26,7 +26,7 @@ fails_only P Short old new file slot f before behind =
 fails_only P Memory old new file slot f before behind =
     λ left now. before left (subst (λ (s : Slot). Leaves s left) (f file) now)
 
--- whatever a write answers
+-- the outcomes after a write, whatever it answers
 pub writes_only : {T : Type 0} (P : Option (List ℕ) → Type 0) (result : Result T DiskError)
     (old new : State) (file at : ℕ) (bytes : List ℕ) → Writes old file at bytes result new
     → Only P (old file) → Only P (written at bytes (old file)) → Only P (new file)
@@ -43,7 +43,7 @@ synced_only P (Kept bytes kept touches) before (Some c) now =
     before (Some c) (λ place tight. now place (λ no_touch. no_touch))
 synced_only P (Kept bytes kept touches) before None now = absurd now
 
--- whatever a sync answers
+-- the outcomes after a sync, whatever it answers
 pub syncs_only : {T : Type 0} (P : Option (List ℕ) → Type 0) (result : Result T DiskError)
     (old new : State) (file : ℕ) → Syncs old file result new → Only P (old file) → Only P (new file)
 syncs_only P (Ok x) old new file w before =
@@ -52,7 +52,7 @@ syncs_only P (Ok x) old new file w before =
 syncs_only P (Err e) old new file w before =
     fails_only P e old new file (old file) w.0 before before
 
--- a file that is sure is left as it is
+-- a crash leaves a durable file unchanged
 pub sure_only : (P : Option (List ℕ) → Type 0) (bytes : List ℕ) → P (Some bytes)
     → Only P (Kept bytes bytes [])
 sure_only P bytes p (Some c) now =
@@ -60,7 +60,7 @@ sure_only P bytes p (Some c) now =
     (sym (same_bytes c bytes (λ place. now place (λ no_touch. no_touch)))) p
 sure_only P bytes p None now = absurd now
 
--- what is sure is left exactly
+-- a crash leaves durable content exactly
 pub sure_left : (slot : Slot) (left : Option (List ℕ)) → IsSure slot → Leaves slot left
     → left ≡ seen slot
 sure_left (Absent back) left sure (inl gone) = gone

@@ -21,7 +21,7 @@ get-set_here : (bytes : List ℕ) (place byte : ℕ) → place < length bytes
     → slice_get (slice_set bytes place byte) place ≡ Some byte
 get-set_here bytes place byte lt = grind (arith, common_steps, gets)
 
--- and no other changes
+-- no other byte changes
 get-set_other : (bytes : List ℕ) (place byte other : ℕ) → other ≢ place
     → slice_get (slice_set bytes place byte) other ≡ slice_get bytes other
 get-set_other bytes place byte other apart = grind (arith, common_steps, gets)
@@ -36,7 +36,7 @@ get-enumerated f from (x ∷ bytes) (suc place) =
     get-enumerated f (from + 1) bytes place
     ∙ ap (λ (n : ℕ). option_map (λ byte. f (n, byte)) (slice_get bytes place)) (omega arith)
 
--- what a torn file has at a place
+-- the byte of a torn file at a place
 pub get-torn : (end : ℕ) (touches : List Touch) (junk bytes : List ℕ) (place : ℕ) → 0 < length junk
     → slice_get (torn end touches junk bytes) place
     ≡ option_map (λ byte. torn_byte end touches junk (place, byte)) (slice_get bytes place)
@@ -53,7 +53,7 @@ mod_more n m =
     sym (ap (λ (k : ℕ). k % m) (omega (arith, mod-add-div n m))
     ∙ add-mul-mod_self_left (n % m + 1) m (n / m))
 
--- the next place begins behind one loose place more, or behind as many
+-- the next place has one more unsynced place before it, or as many
 loose_before_loose : (end : ℕ) (touches : List Touch) (place : ℕ)
     → is_loose end touches place ≡ true
     → loose_before end touches (place + 1) ≡ loose_before end touches place + 1
@@ -61,7 +61,7 @@ loose_before_loose end touches place loose =
     ap (loose_before end touches) (add-one place)
     ∙ ap (λ (b : Bool). loose_before end touches place + (if b then 1 else 0)) loose
 
--- a tight place adds none
+-- a synced place adds none
 loose_before_tight : (end : ℕ) (touches : List Touch) (place : ℕ)
     → is_loose end touches place ≡ false
     → loose_before end touches (place + 1) ≡ loose_before end touches place

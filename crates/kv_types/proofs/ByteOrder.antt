@@ -45,7 +45,7 @@ only_Less Less e = refl
 only_Less Equal e = absurd cc
 only_Less Greater e = absurd cc
 
--- what `<` answers
+-- the answer of `<`
 pub lt_below : (a b : List ℕ) → IsTrue (is_lt (slice_cmp nat_cmp a b)) ↔ IsBelow a b
 lt_below a b =
     (λ e. below-Less a b (only_Less (slice_cmp nat_cmp a b) e), λ h. ap is_lt (Less-below a b h))

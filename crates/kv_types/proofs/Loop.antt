@@ -9,7 +9,7 @@ use Rattle.kv_types.specs.declared.error.KvError.TheVariants.{TooManyEdits, Batc
 use Rattle.kv_types.specs.declared.error.KvError.TheVariants.{Memory, BadLimit}
 use Rattle.kv_types.specs.Reading.{◌>>=◌, Fails, edit_at, edits_at}
 
--- what was read before, and what is still read
+-- the edits or values read before, and those still to read
 abbrev pub with_front : List Edit → Option (List Edit × List ℕ) → Option (List Edit × List ℕ)
 with_front front read = read >>= λ x. Some (front ++ x.0, x.1)
 

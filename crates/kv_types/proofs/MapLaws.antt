@@ -1,4 +1,4 @@
--- The map as a function gives what the last edits give.
+-- The map as a function has exactly the values that the last edits put.
 use Rattle.std.proofs.Common.{◌≡◌, ◌≢◌, ℕ, Bool, true, false, cond, List, [], ◌∷◌, ◌++◌, All}
 use Rattle.std.proofs.Common.{Option, Some, None, MatchOption, refl, sym, ap, subst, ◌∙◌}
 use Rattle.std.specs.Option.{option_or, option_flatten}
@@ -34,7 +34,7 @@ flatten_one : (same : Bool) (left : Option (List ℕ)) (before : Option (Option 
 flatten_one true left before = refl
 flatten_one false left before = refl
 
--- what a key has with one more edit
+-- the value of a key after one more edit
 pub one_more : (edits : List Edit) (edit : Edit) (key : List ℕ) (had : Option (List ℕ))
     → had ≡ option_flatten (last_edit edits key)
     → cond (bytes_eq (key_of edit) key) (left_by edit) had
@@ -49,7 +49,7 @@ one_more edits edit key had is =
 abbrev Others : List ℕ → List Edit → Type 0
 Others key edits = All (λ later. key_of later ≢ key) edits
 
--- where an answer of `last_edit` comes from
+-- the edit behind an answer of `last_edit`
 abbrev Says : List Edit → List ℕ → Option (Option (List ℕ)) → Type 0
 Says edits key found =
     MatchOption found (Others key edits)

@@ -1,4 +1,4 @@
--- Lists whose elements stand in an order, and what is among them.
+-- Ordered lists, and their elements.
 use Rattle.std.proofs.Common.{◌≡◌, ◌<◌, ◌-◌, ◌⊎◌, inl, inr, ℕ, zero, suc, List, [], ◌∷◌, length}
 use Rattle.std.proofs.Common.{get_or, reverse, All, AllPairs, Contains, refl, sym, ap, subst, ◌∙◌}
 use Rattle.std.proofs.Common.{arith}
@@ -40,7 +40,7 @@ All-among P xs h k d lt = h (get_or xs k d) (among_get xs k d lt)
 pub among_of_All : {X : Type 0} (P : X → Type 0) (xs : List X) (x : X) → All P xs → Among x xs → P x
 among_of_All P xs x h a = let p = place_of xs x a in subst P (p.2 x) (h p.0 x p.1)
 
--- ---- each comes before all that follow it
+-- ---- each element precedes all that follow it
 
 abbrev pub Rises : {X : Type 0} → (X → X → Type 0) → List X → Type 0
 Rises R [] = Unit {0}

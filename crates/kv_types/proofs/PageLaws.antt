@@ -106,7 +106,7 @@ first_fits limit size row rows keeps =
       omega (arith, small, sum_by-cons row_size row rows, sum_by-cons row_size row []),
     )
 
--- where nothing was taken, the first row would not fit
+-- an empty page means that the first row does not fit
 stops : (limit size : ℕ) (left : List Row) (row : Row) (rows k : List Row) → left ≡ row ∷ rows ++ k
     → IsFull limit size [] left → KeepsLimits limit size (row ∷ rows) → ⊥
 stops limit size left row rows k is full keeps =

@@ -1,4 +1,4 @@
--- The rows that `walk_of` gives are all rows of the map in the range, in the order of the walk.
+-- The rows of `walk_of` are all rows of the map in the range, in the order of the walk.
 use Rattle.std.proofs.Common.{◌≡◌, ◌⊎◌, inl, inr, ℕ, Bool, true, false, not, cond, List, [], ◌∷◌}
 use Rattle.std.proofs.Common.{reverse, All, AllPairs, Contains, Option, Some, None, IfSome}
 use Rattle.std.proofs.Common.{Ordering, is_eq, refl, sym, ap, subst, ◌∙◌}
@@ -24,7 +24,7 @@ use Rattle.kv_types.proofs.ByteOrder.{below-Less, lt_below, below_is_strict}
 use Rattle.kv_types.proofs.Ordered.{Among, Contains-among, All-among, Rises, AllPairs-rises}
 use Rattle.kv_types.proofs.Ordered.{Contains-reverse, All-reverse, AllPairs-reverse}
 
--- ---- what `cmp` says of two keys
+-- ---- the answers of `cmp` for two keys
 
 says : (a b : List ℕ) (o : Ordering) → slice_cmp nat_cmp a b ≡ o
     → MatchOrdering o (IsBelow a b) (a ≡ b) (IsBelow b a)

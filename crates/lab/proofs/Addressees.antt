@@ -1,4 +1,4 @@
--- Frames are to nodes of configuration 0, and what is sent is kept as a frame in range.
+-- Frames are to nodes of configuration 0, and each one that is sent is posted, in range.
 use Rattle.std.proofs.Common.{◌≡◌, ℕ, zero, suc, ◌≤◌, List, [], ◌∷◌, ◌++◌, map}
 use Rattle.std.proofs.Common.{Option, Some, None, true, refl, sym, ap, subst, ◌∙◌, arith}
 use Rattle.std.proofs.Common.{inl}
@@ -16,8 +16,8 @@ use Rattle.link_messages.specs.declared.frame.Frame.TheVariants as frame
 use Rattle.link_messages.specs.Spelling.{HasBounds}
 use Rattle.chain_core.specs.declared.sending.Sent.{Sent}
 use Rattle.chain_core.specs.Decisions.{AreFrames, frame_as}
-use Rattle.lab.specs.declared.posted.Posted.{Posted}
-use Rattle.lab.specs.Worlds.{IsKept, IsPosted}
+use Rattle.lab.specs.declared.delivery.Posted.{Posted}
+use Rattle.lab.specs.Worlds.{PostedRefines, IsPosted}
 use Rattle.lab.proofs.Places.{place_zero, place_each}
 
 -- ---- addressees
@@ -115,10 +115,10 @@ bounds to (frame.Opened request number) f is numbered = tt
 bounds to (frame.Refused request why) f is numbered = tt
 bounds to (frame.Closed request number) f is numbered = tt
 
--- what is sent is kept
+-- the frames that are sent are posted
 pub kept_all : (more : List Posted) (sent : List Sent) (frames : List (ModelFrame BatchContent)) →
     AllZip IsPosted more sent → AreFrames sent frames → AllByRecursion IsNumbered frames →
-    AllZip IsKept more frames
+    AllZip PostedRefines more frames
 kept_all [] [] [] posted are numbered = tt
 kept_all [] [] (f ∷ frames) posted are numbered = absurd (cc)
 kept_all [] (s ∷ sent) frames posted are numbered = absurd posted

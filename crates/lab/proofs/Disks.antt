@@ -1,4 +1,4 @@
--- What is left of a disk, by what its node did.
+-- The disk behind an outcome of its node.
 use Rattle.std.proofs.Common.{◌≡◌, ℕ, ◌+◌, ◌^◌, ◌-◌, ◌<◌, ◌≤◌, Option, Some, None, false}
 use Rattle.std.proofs.Common.{cond, ◌==◌, refl, sym, subst, ◌∙◌, eq-eqb, eqb-true, arith}
 use Rattle.std.proofs.lemmas.Bool.{cond_both, cond-true, cond-false, false≢true}
@@ -12,27 +12,27 @@ use Rattle.chain_model.specs.World.{Outcome}
 use Rattle.chain_core.specs.States.{Machine}
 use Rattle.node.specs.declared.stop.Stop.{Stop as Cause}
 use Rattle.node.specs.declared.stop.Stop.TheVariants.{Disk, Damaged, Memory, NotCreated}
-use Rattle.lab.specs.declared.coming.Did.{Did}
-use Rattle.lab.specs.declared.coming.Did.TheVariants as did
+use Rattle.lab.specs.declared.input.StepOutcome.{StepOutcome}
+use Rattle.lab.specs.declared.input.StepOutcome.TheVariants as done
 use Rattle.lab.specs.declared.event.Event.{Event}
-use Rattle.lab.specs.declared.event.What.{What}
-use Rattle.lab.specs.declared.event.What.TheVariants.{Submit, Get, Deliver, Tick, Start, Stop}
-use Rattle.lab.specs.declared.member.Member.{Member}
-use Rattle.lab.specs.declared.member.Member.TheVariants.{Running, Resting}
-use Rattle.lab.specs.Comings.{HasCrashed, DiskEnds, DiskLeft}
+use Rattle.lab.specs.declared.event.EventKind.{EventKind}
+use Rattle.lab.specs.declared.event.EventKind.TheVariants.{Submit, Get, Deliver, Tick, Start, Stop}
+use Rattle.lab.specs.declared.node_state.NodeState.{NodeState}
+use Rattle.lab.specs.declared.node_state.NodeState.TheVariants.{Up, Down}
+use Rattle.lab.specs.Outcomes.{HasCrashed, DiskEnds, DiskFits}
 use Rattle.lab.specs.Disks.{junk_of, IsCrashOf, IsEndOf, IsStopOf, DiskFollows, DisksFollow}
-use Rattle.lab.specs.Events.{cause_told}
-use Rattle.lab.specs.Members.{Choice, Is, IsResting, disk_in, is_honest, state, failures}
-use Rattle.lab.proofs.Happenings.{StopsSo}
+use Rattle.lab.specs.Events.{reported_cause}
+use Rattle.lab.specs.SimNodes.{Choice, StateRefines, IsDown, disk_in, is_honest, state, failures}
+use Rattle.lab.proofs.Outcomes.{StopsSo}
 
 -- a node stopped by itself and left this disk, which then crashed
 pub ends_by : {D : Type 0} (state : D → State) (failures : D → ℕ) (cause : Cause) (old left : D)
-    (member : Member D) → HasCrashed state failures Old left member →
+    (new : NodeState D) → HasCrashed state failures Old left new →
     (cause ≡ Disk → Rises (failures old) (failures left)) →
     ((cause ≡ Disk → ⊥) → failures left ≡ failures old) →
-    DiskEnds state failures cause old (disk_in member)
-ends_by state failures cause old left (Running node) crashed failed others = absurd crashed
-ends_by state failures cause old left (Resting disk) crashed failed others = record {
+    DiskEnds state failures cause old (disk_in new)
+ends_by state failures cause old left (Up node) crashed failed others = absurd crashed
+ends_by state failures cause old left (Down disk) crashed failed others = record {
   failed = λ is. subst (λ (n : ℕ). Rises (failures old) n) (sym crashed.count) (failed is);
   others = λ other. crashed.count ∙ others other;
   left = state left;
@@ -45,11 +45,11 @@ MayRise disk = failures disk < 2 ^ 64 - 1
 
 -- ---- one disk
 
-crash_of : (junk : Junk) (old : Slots) (member : Member Slots) →
-    HasCrashed state failures junk old member →
-    IsCrashOf state failures junk old (disk_in member)
-crash_of junk old (Running node) crashed = absurd crashed
-crash_of junk old (Resting disk) crashed = crashed
+crash_of : (junk : Junk) (old : Slots) (new : NodeState Slots) →
+    HasCrashed state failures junk old new →
+    IsCrashOf state failures junk old (disk_in new)
+crash_of junk old (Up node) crashed = absurd crashed
+crash_of junk old (Down disk) crashed = crashed
 
 end_of : (cause : Cause) (old new : Slots) → DiskEnds state failures cause old new → MayRise old →
     IsEndOf state failures cause old new
@@ -61,76 +61,77 @@ end_of cause old new ends may = record {
 }
 
 -- no call failed but for one of a node that stopped by itself
-pub at_most_one : (junk : Option Junk) (does : Did) (old : Slots) (member : Member Slots) →
-    DiskLeft state failures junk does old member → MayRise old →
-    failures (disk_in member) ≤ failures old + 1
-at_most_one junk (did.Answered output) old member left may = omega (arith, left.count)
-at_most_one junk (did.Started epoch count committed) old member left may = omega (arith, left.count)
-at_most_one None (did.Stopped None) old member left may = absurd left
-at_most_one (Some junk) (did.Stopped None) old member left may =
-    omega (arith, (crash_of junk old member left).count)
-at_most_one junk (did.Stopped (Some Disk)) old member left may =
+pub at_most_one : (junk : Option Junk) (did : StepOutcome) (old : Slots) (new : NodeState Slots) →
+    DiskFits state failures junk did old new → MayRise old →
+    failures (disk_in new) ≤ failures old + 1
+at_most_one junk (done.Answered output) old new left may = omega (arith, left.count)
+at_most_one junk (done.Started epoch count committed) old new left may = omega (arith, left.count)
+at_most_one None (done.Stopped None) old new left may = absurd left
+at_most_one (Some junk) (done.Stopped None) old new left may =
+    omega (arith, (crash_of junk old new left).count)
+at_most_one junk (done.Stopped (Some Disk)) old new left may =
     omega (arith, (left.failed refl).below may)
-at_most_one junk (did.Stopped (Some Damaged)) old member left may =
+at_most_one junk (done.Stopped (Some Damaged)) old new left may =
     omega (arith, left.others (λ e. cc))
-at_most_one junk (did.Stopped (Some Memory)) old member left may =
+at_most_one junk (done.Stopped (Some Memory)) old new left may =
     omega (arith, left.others (λ e. cc))
-at_most_one junk (did.Stopped (Some NotCreated)) old member left may =
+at_most_one junk (done.Stopped (Some NotCreated)) old new left may =
     omega (arith, left.others (λ e. cc))
 
-module _ (old : Slots) (member : Member Slots) (may : MayRise old) where
+module _ (old : Slots) (new : NodeState Slots) (may : MayRise old) where
   -- a stop is that of the event, or by itself for the cause that was chosen
-  stop_of : (what : What) (choice : Choice) (told : Option Cause) →
-      cause_told what choice.cause ≡ told → DiskLeft state failures (junk_of what)
-      (did.Stopped told) old member →
-      IsStopOf state failures (junk_of what) choice.cause old (disk_in member)
-  stop_of (Stop x junk) choice told is left = crash_of junk old member
-      (subst (λ (c : Option Cause). DiskLeft state failures (Some junk) (did.Stopped c) old member)
+  stop_of : (kind : EventKind) (choice : Choice) (traced : Option Cause) →
+      reported_cause kind choice.cause ≡ traced → DiskFits state failures (junk_of kind)
+      (done.Stopped traced) old new →
+      IsStopOf state failures (junk_of kind) choice.cause old (disk_in new)
+  stop_of (Stop x junk) choice traced is left = crash_of junk old new
+      (subst (λ (c : Option Cause). DiskFits state failures (Some junk) (done.Stopped c) old new)
       (sym is) left)
-  stop_of (Submit x batch) choice told is left = by_itself choice.cause told is left
+  stop_of (Submit x batch) choice traced is left = by_itself choice.cause traced is left
     where
-      by_itself : (cause : Cause) (told : Option Cause) → Some cause ≡ told →
-          DiskLeft state failures None (did.Stopped told) old member →
-          IsEndOf state failures cause old (disk_in member)
-      by_itself cause told is left = end_of cause old (disk_in member)
-          (subst (λ (c : Option Cause). DiskLeft state failures None (did.Stopped c) old member)
+      by_itself : (cause : Cause) (traced : Option Cause) → Some cause ≡ traced →
+          DiskFits state failures None (done.Stopped traced) old new →
+          IsEndOf state failures cause old (disk_in new)
+      by_itself cause traced is left = end_of cause old (disk_in new)
+          (subst (λ (c : Option Cause). DiskFits state failures None (done.Stopped c) old new)
           (sym is) left) may
-  stop_of (Get x key at) choice told is left = end_of choice.cause old (disk_in member)
-      (subst (λ (c : Option Cause). DiskLeft state failures None (did.Stopped c) old member)
+  stop_of (Get x key at) choice traced is left = end_of choice.cause old (disk_in new)
+      (subst (λ (c : Option Cause). DiskFits state failures None (done.Stopped c) old new)
       (sym is) left) may
-  stop_of (Deliver p) choice told is left = end_of choice.cause old (disk_in member)
-      (subst (λ (c : Option Cause). DiskLeft state failures None (did.Stopped c) old member)
+  stop_of (Deliver p) choice traced is left = end_of choice.cause old (disk_in new)
+      (subst (λ (c : Option Cause). DiskFits state failures None (done.Stopped c) old new)
       (sym is) left) may
-  stop_of (Tick x) choice told is left = end_of choice.cause old (disk_in member)
-      (subst (λ (c : Option Cause). DiskLeft state failures None (did.Stopped c) old member)
+  stop_of (Tick x) choice traced is left = end_of choice.cause old (disk_in new)
+      (subst (λ (c : Option Cause). DiskFits state failures None (done.Stopped c) old new)
       (sym is) left) may
-  stop_of (Start x) choice told is left = end_of choice.cause old (disk_in member)
-      (subst (λ (c : Option Cause). DiskLeft state failures None (did.Stopped c) old member)
+  stop_of (Start x) choice traced is left = end_of choice.cause old (disk_in new)
+      (subst (λ (c : Option Cause). DiskFits state failures None (done.Stopped c) old new)
       (sym is) left) may
 
-  -- a member that is a machine which does not run rests
-  rests_so : (m : Member Slots) (x : ℕ) (n : Machine) → Is is_honest state m x n →
-      n.running ≡ false → IsResting m
-  rests_so (Running node) x n is off = absurd (false≢true (sym off ∙ is.core.running))
-  rests_so (Resting disk) x n is off = tt
+  -- a state that refines a machine which does not run is down
+  rests_so : (m : NodeState Slots) (x : ℕ) (n : Machine) → StateRefines is_honest state m x n →
+      n.running ≡ false → IsDown m
+  rests_so (Up node) x n is off = absurd (false≢true (sym off ∙ is.core.running))
+  rests_so (Down disk) x n is off = tt
 
   -- what the node left is what the event's outcome leaves
   pub follows : (event : Event) (choice : Choice) (o : Outcome BatchContent) (x : ℕ) (n : Machine)
-      (does : Did) → Is is_honest state member x n → StopsSo event.what choice does o.stopped →
-      DiskLeft state failures (junk_of event.what) does old member →
-      DiskFollows state failures event choice o n old (disk_in member)
-  follows event choice o x n (did.Answered output) is ends left = record {
+      (did : StepOutcome) → StateRefines is_honest state new x n →
+      StopsSo event.kind choice did o.stopped →
+      DiskFits state failures (junk_of event.kind) did old new →
+      DiskFollows state failures event choice o n old (disk_in new)
+  follows event choice o x n (done.Answered output) is ends left = record {
     stops = λ stops. absurd (false≢true (sym ends ∙ stops));
     count = λ _. left.count;
-    rests = λ _. λ off. left.same (rests_so member x n is off);
+    rests = λ _. λ off. left.same (rests_so new x n is off);
   }
-  follows event choice o x n (did.Started epoch count committed) is ends left = record {
+  follows event choice o x n (done.Started epoch count committed) is ends left = record {
     stops = λ stops. absurd (false≢true (sym ends ∙ stops));
     count = λ _. left.count;
-    rests = λ _. λ off. left.same (rests_so member x n is off);
+    rests = λ _. λ off. left.same (rests_so new x n is off);
   }
-  follows event choice o x n (did.Stopped told) is ends left = record {
-    stops = λ _. stop_of event.what choice told ends.1 left;
+  follows event choice o x n (done.Stopped traced) is ends left = record {
+    stops = λ _. stop_of event.kind choice traced ends.1 left;
     count = λ goes. absurd (false≢true (sym goes ∙ ends.0));
     rests = λ goes. absurd (false≢true (sym goes ∙ ends.0));
   }
@@ -150,7 +151,7 @@ pub disk_elsewhere : (disks : ℕ → Slots) (x : ℕ) (own : Slots) (y : ℕ) �
     with_disk disks x own y ≡ disks y
 disk_elsewhere disks x own y other = cond-false (y == x) own (disks y) other
 
--- what the node that an event came to left is what the event leaves of all disks
+-- what the node that an event was for left is what the event leaves of all disks
 pub all_follow : (event : Event) (choice : Choice) (o : Outcome BatchContent) (x : ℕ) (n : Machine)
     (disks : ℕ → Slots) (own : Slots) → o.came_to ≡ Some (x, n) →
     DiskFollows state failures event choice o n (disks x) own →
@@ -168,7 +169,7 @@ all_follow event choice o x n disks own came follow = record {
       (sym (eqb-true y x same)) came))) (λ other. refl);
 }
 
--- an event that came to none leaves them
+-- an event that was for none leaves them
 pub none_follow : (event : Event) (choice : Choice) (o : Outcome BatchContent) (disks : ℕ → Slots) →
     o.came_to ≡ None → DisksFollow state failures event choice o disks disks
 none_follow event choice o disks none = record {

@@ -10,58 +10,58 @@ use Rattle.chain_model.specs.Configuration.{Configurations, at_epoch}
 use Rattle.chain_model.specs.World.{World, run, reached, beginning, happens, outcome}
 use Rattle.disk.specs.Memory.{Slots}
 use Rattle.lab.specs.declared.event.Event.{Event}
-use Rattle.lab.specs.declared.posted.Posted.{Posted}
+use Rattle.lab.specs.declared.delivery.Posted.{Posted}
 use Rattle.lab.specs.declared.report.Line.{Line}
-use Rattle.lab.specs.declared.seat.Seat.{Seat}
+use Rattle.lab.specs.declared.sim_node.SimNode.{SimNode}
 use Rattle.lab.specs.Disks.{DisksFollow, AllFollow}
-use Rattle.lab.specs.Events.{modelled, lines_of, ChoiceFits}
-use Rattle.lab.specs.Members.{Choice, state, failures}
-use Rattle.lab.specs.Traces.{modelled_from, told_from, AllFit}
-use Rattle.lab.specs.Worlds.{IsKept, IsSeated, HasMade, frames_told, frames_of_step}
+use Rattle.lab.specs.Events.{modelled, lines_of_event, ChoiceFits}
+use Rattle.lab.specs.SimNodes.{Choice, state, failures}
+use Rattle.lab.specs.Traces.{modelled_from, lines_from, AllFit}
+use Rattle.lab.specs.Worlds.{PostedRefines, SimNodeRefines, RunRefines, frames_told, frames_of_step}
 
 -- one event more at the end
 module _ (cs : Configurations) (e : Event) (ch : Choice) where
   pub run-push : (i k : ℕ) (es : List Event) (chs : List Choice) (w : World BatchContent) →
       length chs ≡ length es → k ≡ i + length es →
       run cs (modelled_from i (es ++ e ∷ []) (chs ++ ch ∷ [])) w ≡ happens cs
-      (run cs (modelled_from i es chs) w) (modelled k e.what ch)
-  run-push i k [] [] w same at = ap (λ (j : ℕ). happens cs w (modelled j e.what ch))
+      (run cs (modelled_from i es chs) w) (modelled k e.kind ch)
+  run-push i k [] [] w same at = ap (λ (j : ℕ). happens cs w (modelled j e.kind ch))
       (omega arith)
   run-push i k [] (c ∷ chs) w same at = absurd (omega arith)
   run-push i k (f ∷ es) [] w same at = absurd (omega arith)
   run-push i k (f ∷ es) (c ∷ chs) w same at = run-push (suc i) k es chs
-      (happens cs w (modelled i f.what c)) (omega arith) (omega arith)
+      (happens cs w (modelled i f.kind c)) (omega arith) (omega arith)
 
-  pub told_from-push : (i k : ℕ) (es : List Event) (chs : List Choice) (w : World BatchContent) →
+  pub lines_from-push : (i k : ℕ) (es : List Event) (chs : List Choice) (w : World BatchContent) →
       length chs ≡ length es → k ≡ i + length es →
       let u = run cs (modelled_from i es chs) w in
-      told_from cs i (es ++ e ∷ []) (chs ++ ch ∷ []) w ≡ told_from cs i es chs w ++ lines_of
-      (length u.frames) e.what ch (outcome u cs (modelled k e.what ch)) ∷ []
-  told_from-push i k [] [] w same at = ap
-      (λ (j : ℕ). lines_of (length w.frames) e.what ch
-      (outcome w cs (modelled j e.what ch)) ∷ []) (omega arith)
-  told_from-push i k [] (c ∷ chs) w same at = absurd (omega arith)
-  told_from-push i k (f ∷ es) [] w same at = absurd (omega arith)
-  told_from-push i k (f ∷ es) (c ∷ chs) w same at =
-      ap (λ (l : List (List Line)). lines_of (length w.frames) f.what c
-      (outcome w cs (modelled i f.what c)) ∷ l)
-      (told_from-push (suc i) k es chs (happens cs w (modelled i f.what c)) (omega arith)
+      lines_from cs i (es ++ e ∷ []) (chs ++ ch ∷ []) w ≡ lines_from cs i es chs w ++ lines_of_event
+      (length u.frames) e.kind ch (outcome u cs (modelled k e.kind ch)) ∷ []
+  lines_from-push i k [] [] w same at = ap
+      (λ (j : ℕ). lines_of_event (length w.frames) e.kind ch
+      (outcome w cs (modelled j e.kind ch)) ∷ []) (omega arith)
+  lines_from-push i k [] (c ∷ chs) w same at = absurd (omega arith)
+  lines_from-push i k (f ∷ es) [] w same at = absurd (omega arith)
+  lines_from-push i k (f ∷ es) (c ∷ chs) w same at =
+      ap (λ (l : List (List Line)). lines_of_event (length w.frames) f.kind c
+      (outcome w cs (modelled i f.kind c)) ∷ l)
+      (lines_from-push (suc i) k es chs (happens cs w (modelled i f.kind c)) (omega arith)
       (omega arith))
 
   pub fit-push : (i k : ℕ) (es : List Event) (chs : List Choice) (w : World BatchContent) →
       length chs ≡ length es → k ≡ i + length es → AllFit cs i es chs w →
       let u = run cs (modelled_from i es chs) w in
-      ChoiceFits e ch (outcome u cs (modelled k e.what ch)) →
+      ChoiceFits e ch (outcome u cs (modelled k e.kind ch)) →
       AllFit cs i (es ++ e ∷ []) (chs ++ ch ∷ []) w
   fit-push i k [] [] w same at all one = (
-    subst (λ (j : ℕ). ChoiceFits e ch (outcome w cs (modelled j e.what ch))) (omega arith) one,
+    subst (λ (j : ℕ). ChoiceFits e ch (outcome w cs (modelled j e.kind ch))) (omega arith) one,
     tt,
   )
   fit-push i k [] (c ∷ chs) w same at all one = absurd (omega arith)
   fit-push i k (f ∷ es) [] w same at all one = absurd all
   fit-push i k (f ∷ es) (c ∷ chs) w same at all one = (
     all.0,
-    fit-push (suc i) k es chs (happens cs w (modelled i f.what c)) (omega arith) (omega arith)
+    fit-push (suc i) k es chs (happens cs w (modelled i f.kind c)) (omega arith) (omega arith)
         all.1 one,
   )
 
@@ -69,14 +69,14 @@ module _ (cs : Configurations) (e : Event) (ch : Choice) where
       (old disks new : ℕ → Slots) → length chs ≡ length es → k ≡ i + length es →
       AllFollow state failures cs i es chs w old disks →
       let u = run cs (modelled_from i es chs) w in
-      DisksFollow state failures e ch (outcome u cs (modelled k e.what ch)) disks new →
+      DisksFollow state failures e ch (outcome u cs (modelled k e.kind ch)) disks new →
       AllFollow state failures cs i (es ++ e ∷ []) (chs ++ ch ∷ []) w old new
   follow-push i k [] [] w old disks new same at all one = (
     new,
     subst (λ (d : ℕ → Slots). DisksFollow state failures e ch
-        (outcome w cs (modelled i e.what ch)) d new) all
+        (outcome w cs (modelled i e.kind ch)) d new) all
         (subst (λ (j : ℕ). DisksFollow state failures e ch
-        (outcome w cs (modelled j e.what ch)) disks new) (omega arith) one),
+        (outcome w cs (modelled j e.kind ch)) disks new) (omega arith) one),
     refl,
   )
   follow-push i k [] (c ∷ chs) w old disks new same at all one = absurd (omega arith)
@@ -84,21 +84,21 @@ module _ (cs : Configurations) (e : Event) (ch : Choice) where
   follow-push i k (f ∷ es) (c ∷ chs) w old disks new same at all one = (
     all.0,
     all.1,
-    follow-push (suc i) k es chs (happens cs w (modelled i f.what c)) all.0 disks new
+    follow-push (suc i) k es chs (happens cs w (modelled i f.kind c)) all.0 disks new
         (omega arith) (omega arith) all.2 one,
   )
 
 -- each event has its lines
-pub length-told_from : (cs : Configurations) (i : ℕ) (es : List Event) (chs : List Choice)
+pub length-lines_from : (cs : Configurations) (i : ℕ) (es : List Event) (chs : List Choice)
     (w : World BatchContent) → length chs ≡ length es →
-    length (told_from cs i es chs w) ≡ length es
-length-told_from cs i [] chs w same = refl
-length-told_from cs i (e ∷ es) [] w same = absurd (omega arith)
-length-told_from cs i (e ∷ es) (ch ∷ chs) w same =
-    ap suc (length-told_from cs (suc i) es chs (happens cs w (modelled i e.what ch))
+    length (lines_from cs i es chs w) ≡ length es
+length-lines_from cs i [] chs w same = refl
+length-lines_from cs i (e ∷ es) [] w same = absurd (omega arith)
+length-lines_from cs i (e ∷ es) (ch ∷ chs) w same =
+    ap suc (length-lines_from cs (suc i) es chs (happens cs w (modelled i e.kind ch))
     (omega arith))
 
--- so many frames more are told of
+-- so many frames more have lines
 pub frames_told-push : (steps : List (List Line)) (lines : List Line) →
     frames_told (steps ++ lines ∷ []) ≡ frames_told steps + frames_of_step lines
 frames_told-push [] lines = omega arith
@@ -106,80 +106,83 @@ frames_told-push (step ∷ steps) lines = omega (arith, frames_told-push steps l
 
 -- what the event in place i makes of a world, and its lines
 pub record Next (cs : Configurations) (w : World BatchContent) (old : ℕ → Slots) (i : ℕ)
-    (event : Event) (choice : Choice) (seats : List Seat) (posted : List Posted) (lines : List Line)
+    (event : Event) (choice : Choice) (sims : List SimNode) (posted : List Posted)
+    (lines : List Line)
     : Type 0 where
-  pub told : lines ≡ lines_of (length w.frames) event.what choice
-      (outcome w cs (modelled i event.what choice))
-  pub fits : ChoiceFits event choice (outcome w cs (modelled i event.what choice))
-  pub counted : frames_of_step lines ≡ length (outcome w cs (modelled i event.what choice)).frames
-  pub frames : AllZip IsKept posted (happens cs w (modelled i event.what choice)).frames
-  pub nodes : map (λ seat. seat.id) seats ≡ at_epoch cs 0
+  pub traced : lines ≡ lines_of_event (length w.frames) event.kind choice
+      (outcome w cs (modelled i event.kind choice))
+  pub fits : ChoiceFits event choice (outcome w cs (modelled i event.kind choice))
+  pub counted : frames_of_step lines ≡ length (outcome w cs (modelled i event.kind choice)).frames
+  pub frames : AllZip PostedRefines posted (happens cs w (modelled i event.kind choice)).frames
+  pub nodes : map (λ sim. sim.id) sims ≡ at_epoch cs 0
   pub disks : ℕ → Slots
   pub follow : DisksFollow state failures event choice
-      (outcome w cs (modelled i event.what choice)) old disks
+      (outcome w cs (modelled i event.kind choice)) old disks
   pub few : (x : ℕ) → failures (disks x) ≤ i
-  pub each : All (IsSeated (happens cs w (modelled i event.what choice)).nodes disks) seats
+  pub each : All (SimNodeRefines (happens cs w (modelled i event.kind choice)).nodes disks) sims
 
 module _ (cs : Configurations) (events : List Event) (steps : List (List Line))
-    (seats : List Seat) (posted : List Posted) (made : HasMade seats posted cs events steps) where
-  -- the world of the model so far
-  abbrev pub so_far : World BatchContent
-  so_far = reached cs (modelled_from 1 events made.choices)
+    (sims : List SimNode) (posted : List Posted) (made : RunRefines sims posted cs events steps)
+  where
+    -- the world of the model so far
+    abbrev pub so_far : World BatchContent
+    so_far = reached cs (modelled_from 1 events made.choices)
 
-  -- there are as many steps as events
-  pub length-steps : length steps ≡ length events
-  length-steps = ap length made.trace.told
-      ∙ length-told_from cs 1 events made.choices (beginning cs) made.trace.one_each
+    -- there are as many steps as events
+    pub length-steps : length steps ≡ length events
+    length-steps = ap length made.trace.traced
+        ∙ length-lines_from cs 1 events made.choices (beginning cs) made.trace.one_each
 
-  -- what comes next is one event more
-  pub grown : (i : ℕ) (event : Event) (choice : Choice) (now : List Seat) (more : List Posted)
-      (lines : List Line) → i ≡ length events + 1 →
-      Next cs so_far made.disks i event choice now more lines →
-      HasMade now more cs (events ++ event ∷ []) (steps ++ lines ∷ [])
-  grown i event choice now more lines at next =
-      let place : i ≡ 1 + length events = omega (arith, at) in
-      let here = run-push cs event choice 1 i events made.choices (beginning cs)
-      made.trace.one_each place in
-      record {
-        lawful = made.lawful;
-        choices = made.choices ++ choice ∷ [];
-        trace = record {
-          one_each = omega (
+    -- the next step is one event more
+    pub grown : (i : ℕ) (event : Event) (choice : Choice) (now : List SimNode) (more : List Posted)
+        (lines : List Line) → i ≡ length events + 1 →
+        Next cs so_far made.disks i event choice now more lines →
+        RunRefines now more cs (events ++ event ∷ []) (steps ++ lines ∷ [])
+    grown i event choice now more lines at next =
+        let place : i ≡ 1 + length events = omega (arith, at) in
+        let here = run-push cs event choice 1 i events made.choices (beginning cs)
+        made.trace.one_each place in
+        record {
+          lawful = made.lawful;
+          choices = made.choices ++ choice ∷ [];
+          trace = record {
+            one_each = omega (
+              arith,
+              length-append made.choices (choice ∷ []),
+              length-append events (event ∷ []),
+              made.trace.one_each,
+            );
+            fits = fit-push cs event choice 1 i events made.choices (beginning cs)
+                made.trace.one_each place made.trace.fits next.fits;
+            traced = ap₂ (λ (a : List (List Line)) (b : List Line). a ++ b ∷ []) made.trace.traced
+                next.traced
+                ∙ sym (lines_from-push cs event choice 1 i events made.choices (beginning cs)
+                made.trace.one_each place);
+          };
+          frames = subst (λ (v : World BatchContent). AllZip PostedRefines more v.frames) (sym here)
+              next.frames;
+          sent = omega (
             arith,
-            length-append made.choices (choice ∷ []),
-            length-append events (event ∷ []),
-            made.trace.one_each,
+            frames_told-push steps lines,
+            made.sent,
+            next.counted,
+            AllZip-long PostedRefines posted so_far.frames made.frames,
+            AllZip-long PostedRefines more
+                (happens cs so_far (modelled i event.kind choice)).frames next.frames,
+            length-append so_far.frames
+                (outcome so_far cs (modelled i event.kind choice)).frames,
           );
-          fits = fit-push cs event choice 1 i events made.choices (beginning cs)
-              made.trace.one_each place made.trace.fits next.fits;
-          told = ap₂ (λ (a : List (List Line)) (b : List Line). a ++ b ∷ []) made.trace.told
-              next.told
-              ∙ sym (told_from-push cs event choice 1 i events made.choices (beginning cs)
-              made.trace.one_each place);
-        };
-        frames = subst (λ (v : World BatchContent). AllZip IsKept more v.frames) (sym here)
-            next.frames;
-        sent = omega (
-          arith,
-          frames_told-push steps lines,
-          made.sent,
-          next.counted,
-          AllZip-long IsKept posted so_far.frames made.frames,
-          AllZip-long IsKept more
-              (happens cs so_far (modelled i event.what choice)).frames next.frames,
-          length-append so_far.frames
-              (outcome so_far cs (modelled i event.what choice)).frames,
-        );
-        nodes = next.nodes;
-        disks = next.disks;
-        after = record {
-          first = made.after.first;
-          begun = made.after.begun;
-          follow = follow-push cs event choice 1 i events made.choices (beginning cs)
-              made.after.first made.disks next.disks made.trace.one_each place made.after.follow
-              next.follow;
-        };
-        few = λ x. omega (arith, next.few x, at, length-append events (event ∷ []));
-        each = subst (λ (v : World BatchContent). All (IsSeated v.nodes next.disks) now) (sym here)
-            next.each;
-      }
+          nodes = next.nodes;
+          disks = next.disks;
+          after = record {
+            first = made.after.first;
+            begun = made.after.begun;
+            follow = follow-push cs event choice 1 i events made.choices (beginning cs)
+                made.after.first made.disks next.disks made.trace.one_each place made.after.follow
+                next.follow;
+          };
+          few = λ x. omega (arith, next.few x, at, length-append events (event ∷ []));
+          each = subst (λ (v : World BatchContent). All (SimNodeRefines v.nodes next.disks) now)
+              (sym here)
+              next.each;
+        }

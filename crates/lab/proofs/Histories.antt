@@ -7,22 +7,22 @@ use Rattle.std.proofs.lemmas.List.Elements.{All-from_recursion}
 use Rattle.kv_types.specs.Content.{BatchContent}
 use Rattle.kv_types.specs.Maps.{map_of}
 use Rattle.chain_model.specs.Configuration.{Configurations}
-use Rattle.chain_model.specs.declared.drop_reason.DropReason.{DropReason}
+use Rattle.chain_model.specs.declared.drop_DropReason.{DropReason}
 use Rattle.chain_model.specs.Frames.{Frame, Forward, Ack}
 use Rattle.chain_model.specs.Headline.{Agrees, numbered, handed_in}
 use Rattle.chain_model.specs.Requests.{Reply, Committed, Shows, Opened, Closed, Refused}
 use Rattle.chain_model.specs.World.{Event as ModelEvent, World, Outcome, outcome, outcomes, happens}
 use Rattle.chain_core.specs.States.{Machine}
 use Rattle.lab.specs.declared.event.Event.{Event}
-use Rattle.lab.specs.declared.event.What.{What}
-use Rattle.lab.specs.declared.event.What.TheVariants.{Submit, Get, Deliver, Tick, Start, Stop}
+use Rattle.lab.specs.declared.event.EventKind.{EventKind}
+use Rattle.lab.specs.declared.event.EventKind.TheVariants.{Submit, Get, Deliver, Tick, Start, Stop}
 use Rattle.lab.specs.declared.report.Line.{Line}
 use Rattle.lab.specs.declared.report.Line.TheVariants.{Stopped}
-use Rattle.lab.specs.Events.{modelled, lines_of, lines_at, lines_if, dropped_lines, if_started}
-use Rattle.lab.specs.Events.{start_lines, frame_lines, reply_line, reply_lines, cause_told}
-use Rattle.lab.specs.Members.{Choice}
-use Rattle.lab.specs.Traces.{modelled_from, told_from}
-use Rattle.lab.specs.History.{Placed, LineSpeaksOf, StepSpeaksOf, handed_from}
+use Rattle.lab.specs.Events.{modelled, lines_of_event, lines_at, lines_if, dropped_lines, if_started}
+use Rattle.lab.specs.Events.{start_trace, frame_lines, reply_line, reply_lines, reported_cause}
+use Rattle.lab.specs.SimNodes.{Choice}
+use Rattle.lab.specs.Traces.{modelled_from, lines_from}
+use Rattle.lab.specs.History.{Placed, LineSpeaksOf, StepSpeaksOf, submitted_from}
 
 -- ---- events
 
@@ -31,11 +31,11 @@ pub numbered_same : (i : ℕ) (events : List Event) (chs : List Choice) →
     numbered i (modelled_from i events chs) ≡ modelled_from i events chs
 numbered_same i [] chs = refl
 numbered_same i (event ∷ events) [] = refl
-numbered_same i (event ∷ events) (ch ∷ chs) = one event.what (numbered_same (suc i) events chs)
+numbered_same i (event ∷ events) (ch ∷ chs) = one event.kind (numbered_same (suc i) events chs)
   where
-    one : (what : What) →
+    one : (kind : EventKind) →
         numbered (suc i) (modelled_from (suc i) events chs) ≡ modelled_from (suc i) events chs
-        → numbered i (modelled i what ch ∷ modelled_from (suc i) events chs) ≡ modelled i what
+        → numbered i (modelled i kind ch ∷ modelled_from (suc i) events chs) ≡ modelled i kind
         ch ∷ modelled_from (suc i) events chs
     one (Submit x batch) later
         = ap (λ (l : List (ModelEvent BatchContent)). modelled i (Submit x batch) ch ∷ l) later
@@ -50,18 +50,19 @@ numbered_same i (event ∷ events) (ch ∷ chs) = one event.what (numbered_same 
     one (Stop x junk) later
         = ap (λ (l : List (ModelEvent BatchContent)). modelled i (Stop x junk) ch ∷ l) later
 
--- what the model's events hand in is what the events hand in
-pub handed_same : (i : ℕ) (events : List Event) (chs : List Choice) → length chs ≡ length events →
-    handed_in i (modelled_from i events chs) ≡ handed_from i events
-handed_same i [] chs same = refl
-handed_same i (event ∷ events) [] same = absurd (omega arith)
-handed_same i (event ∷ events) (ch ∷ chs) same = one event.what
-    (handed_same (suc i) events chs (omega arith))
+-- the model's events submit what the events submit
+pub submitted_same : (i : ℕ) (events : List Event) (chs : List Choice) →
+    length chs ≡ length events →
+    handed_in i (modelled_from i events chs) ≡ submitted_from i events
+submitted_same i [] chs same = refl
+submitted_same i (event ∷ events) [] same = absurd (omega arith)
+submitted_same i (event ∷ events) (ch ∷ chs) same = one event.kind
+    (submitted_same (suc i) events chs (omega arith))
   where
-    one : (what : What) →
-        handed_in (suc i) (modelled_from (suc i) events chs) ≡ handed_from (suc i) events
-        → handed_in i (modelled i what ch ∷ modelled_from (suc i) events chs) ≡ handed_from i
-        (record { what = what; fault = event.fault } ∷ events)
+    one : (kind : EventKind) →
+        handed_in (suc i) (modelled_from (suc i) events chs) ≡ submitted_from (suc i) events
+        → handed_in i (modelled i kind ch ∷ modelled_from (suc i) events chs) ≡ submitted_from i
+        (record { kind = kind; fault = event.fault } ∷ events)
     one (Submit x batch) later = ap (λ (l : List Placed). (i, batch) ∷ l) later
     one (Get x key at) later = later
     one (Deliver p) later = later
@@ -87,10 +88,10 @@ back : {A : Type 0} (P : A → Type 0) (xs ys : List A) → AllByRecursion P (xs
 back P [] ys all = all
 back P (x ∷ xs) ys all = back P xs ys all.1
 
-module _ (B : List Placed) (what : What) where
+module _ (B : List Placed) (kind : EventKind) where
   -- each line speaks of B
   abbrev Each : List Line → Type 0
-  Each lines = AllByRecursion (LineSpeaksOf B what) lines
+  Each lines = AllByRecursion (LineSpeaksOf B kind) lines
 
   dropped : (why : Option DropReason) → Each (dropped_lines why)
   dropped None = tt
@@ -106,8 +107,8 @@ module _ (B : List Placed) (what : What) where
   sent n (Forward to epoch from number batch ∷ frames) = (tt, sent (suc n) frames)
   sent n (Ack to epoch from committed have ∷ frames) = (tt, sent (suc n) frames)
 
-starts : (B : List Placed) (what : What) (o : Outcome BatchContent) →
-    Each B what (start_lines what o)
+starts : (B : List Placed) (kind : EventKind) (o : Outcome BatchContent) →
+    Each B kind (start_trace kind o)
 starts B (Submit x batch) o = tt
 starts B (Get x key at) o = tt
 starts B (Deliver p) o = tt
@@ -116,8 +117,8 @@ starts B (Start x) o = if_start B (Start x) o.dropped o.came_to
 starts B (Stop x junk) o = tt
 
 -- a read's reply speaks of B where the model's does
-shown : (B : List Placed) (what : What) (i s : ℕ) (l : List BatchContent) →
-    Agrees B (Shows i s l) → Each B what (reply_line what (Shows i s l))
+shown : (B : List Placed) (kind : EventKind) (i s : ℕ) (l : List BatchContent) →
+    Agrees B (Shows i s l) → Each B kind (reply_line kind (Shows i s l))
 shown B (Submit x batch) i s l agrees = tt
 shown B (Get x key at) i s l agrees =
     ((agrees.0, ap (λ (m : List BatchContent). map_of m key) agrees.1), tt)
@@ -127,60 +128,61 @@ shown B (Start x) i s l agrees = tt
 shown B (Stop x junk) i s l agrees = tt
 
 -- a reply speaks of B where the model's does
-speaks : (B : List Placed) (what : What) (r : Reply BatchContent) → Agrees B r →
-    Each B what (reply_line what r)
-speaks B what (Committed i n) agrees = (agrees, tt)
-speaks B what (Shows i s l) agrees = shown B what i s l agrees
-speaks B what (Opened i s) agrees = tt
-speaks B what (Closed i s) agrees = tt
-speaks B what (Refused i why) agrees = (tt, tt)
+speaks : (B : List Placed) (kind : EventKind) (r : Reply BatchContent) → Agrees B r →
+    Each B kind (reply_line kind r)
+speaks B kind (Committed i n) agrees = (agrees, tt)
+speaks B kind (Shows i s l) agrees = shown B kind i s l agrees
+speaks B kind (Opened i s) agrees = tt
+speaks B kind (Closed i s) agrees = tt
+speaks B kind (Refused i why) agrees = (tt, tt)
 
-replied : (B : List Placed) (what : What) (replies : List (Reply BatchContent)) →
-    AllByRecursion (Agrees B) replies → Each B what (reply_lines what replies)
-replied B what [] agree = tt
-replied B what (r ∷ replies) agree =
-    both (LineSpeaksOf B what) (reply_line what r) (reply_lines what replies)
-    (speaks B what r agree.0) (replied B what replies agree.1)
+replied : (B : List Placed) (kind : EventKind) (replies : List (Reply BatchContent)) →
+    AllByRecursion (Agrees B) replies → Each B kind (reply_lines kind replies)
+replied B kind [] agree = tt
+replied B kind (r ∷ replies) agree =
+    both (LineSpeaksOf B kind) (reply_line kind r) (reply_lines kind replies)
+    (speaks B kind r agree.0) (replied B kind replies agree.1)
 
 -- the lines of an event at a node speak of B where the replies of its outcome do
-lines_speak_at : (B : List Placed) (x n : ℕ) (what : What) (choice : Choice)
+lines_speak_at : (B : List Placed) (x n : ℕ) (kind : EventKind) (choice : Choice)
     (o : Outcome BatchContent) → AllByRecursion (Agrees B) o.replies →
-    Each B what (lines_at x n what choice o)
-lines_speak_at B x n what choice o agree =
-    let Of = LineSpeaksOf B what in
-    let replies = reply_lines what o.replies in
-    cond_both o.stopped (Stopped x (cause_told what choice.cause) ∷ [])
-    (dropped_lines o.dropped ++ (start_lines what o ++ (frame_lines n o.frames ++ replies)))
-    (Each B what) (λ stops. (tt, tt))
+    Each B kind (lines_at x n kind choice o)
+lines_speak_at B x n kind choice o agree =
+    let Of = LineSpeaksOf B kind in
+    let replies = reply_lines kind o.replies in
+    cond_both o.stopped (Stopped x (reported_cause kind choice.cause) ∷ [])
+    (dropped_lines o.dropped ++ (start_trace kind o ++ (frame_lines n o.frames ++ replies)))
+    (Each B kind) (λ stops. (tt, tt))
     (λ goes_on. both Of (dropped_lines o.dropped)
-    (start_lines what o ++ (frame_lines n o.frames ++ replies)) (dropped B what o.dropped)
-    (both Of (start_lines what o) (frame_lines n o.frames ++ replies) (starts B what o)
-    (both Of (frame_lines n o.frames) replies (sent B what n o.frames)
-    (replied B what o.replies agree))))
+    (start_trace kind o ++ (frame_lines n o.frames ++ replies)) (dropped B kind o.dropped)
+    (both Of (start_trace kind o) (frame_lines n o.frames ++ replies) (starts B kind o)
+    (both Of (frame_lines n o.frames) replies (sent B kind n o.frames)
+    (replied B kind o.replies agree))))
 
--- .. and so do those of one that came to none
-lines_speak : (B : List Placed) (at : Option (ℕ × Machine)) (n : ℕ) (what : What) (choice : Choice)
+-- so do the lines of an event that was for none
+lines_speak : (B : List Placed) (at : Option (ℕ × Machine)) (n : ℕ) (kind : EventKind)
+    (choice : Choice)
     (o : Outcome BatchContent) → AllByRecursion (Agrees B) o.replies →
-    Each B what (lines_if at n what choice o)
-lines_speak B None n what choice o agree = (tt, tt)
-lines_speak B (Some at) n what choice o agree = lines_speak_at B at.0 n what choice o agree
+    Each B kind (lines_if at n kind choice o)
+lines_speak B None n kind choice o agree = (tt, tt)
+lines_speak B (Some at) n kind choice o agree = lines_speak_at B at.0 n kind choice o agree
 
 -- .. and so do those of all events
 pub all_speak : (B : List Placed) (cs : Configurations) (i : ℕ) (events : List Event)
     (chs : List Choice) (w : World BatchContent) → length chs ≡ length events
     → AllByRecursion (Agrees B) (flat_map (λ (o : Outcome BatchContent). o.replies)
     (outcomes cs (modelled_from i events chs) w))
-    → AllZip (StepSpeaksOf B) events (told_from cs i events chs w)
+    → AllZip (StepSpeaksOf B) events (lines_from cs i events chs w)
 all_speak B cs i [] chs w same agree = tt
 all_speak B cs i (event ∷ events) [] w same agree = absurd (omega arith)
 all_speak B cs i (event ∷ events) (ch ∷ chs) w same agree =
-    let e = modelled i event.what ch in
+    let e = modelled i event.kind ch in
     let o = outcome w cs e in
     let n = length w.frames in
     let later = flat_map (λ (p : Outcome BatchContent). p.replies)
     (outcomes cs (modelled_from (suc i) events chs) (happens cs w e)) in (
-      All-from_recursion (LineSpeaksOf B event.what) (lines_of n event.what ch o)
-          (lines_speak B o.came_to n event.what ch o
+      All-from_recursion (LineSpeaksOf B event.kind) (lines_of_event n event.kind ch o)
+          (lines_speak B o.came_to n event.kind ch o
           (front (Agrees B) o.replies later agree)),
       all_speak B cs (suc i) events chs (happens cs w e) (omega arith)
           (back (Agrees B) o.replies later agree),

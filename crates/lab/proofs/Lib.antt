@@ -3,12 +3,12 @@ mod Disks
 mod Posting
 mod Reading
 mod Places
-mod Happenings
-mod Arrivals
-mod Seating
+mod Outcomes
+mod Deliveries
+mod SimNodes
 mod Growing
 mod Addressees
-mod Stepping
+mod Worlds
 mod Nodes
 mod Histories
 mod Reports

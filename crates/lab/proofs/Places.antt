@@ -9,8 +9,8 @@ use Rattle.std.proofs.lemmas.List.Elements.{All-get_or}
 use Rattle.kv_types.specs.Content.{BatchContent}
 use Rattle.chain_model.specs.Lists.{place}
 use Rattle.chain_model.specs.Frames.{Frame as ModelFrame}
-use Rattle.lab.specs.declared.posted.Posted.{Posted}
-use Rattle.lab.specs.Worlds.{IsKept}
+use Rattle.lab.specs.declared.delivery.Posted.{Posted}
+use Rattle.lab.specs.Worlds.{PostedRefines}
 
 -- there is no place 0
 pub place_zero : {A : Type 0} (l : List A) → place l 0 ≡ None
@@ -46,9 +46,9 @@ place_at l p i x at within is =
     ap (place l) at ∙ place_index l i ∙ slice_get-get_or l i x within
     ∙ ap (λ y. Some y) (sym (is x))
 
--- where nothing is kept the model has no frame
+-- where nothing is posted the model has no frame
 pub none_kept : (posted : List Posted) (frames : List (ModelFrame BatchContent)) (p : ℕ) →
-    AllZip IsKept posted frames → place posted p ≡ None → place frames p ≡ None
+    AllZip PostedRefines posted frames → place posted p ≡ None → place frames p ≡ None
 none_kept [] [] p each none = refl
 none_kept [] (f ∷ frames) p each none = absurd each
 none_kept (x ∷ posted) [] p each none = absurd each
@@ -60,15 +60,15 @@ none_kept (x ∷ posted) (f ∷ frames) (suc zero) each none = absurd (some_none
 none_kept (x ∷ posted) (f ∷ frames) (suc (suc p)) each none =
     none_kept posted frames (suc p) each.1 none
 
--- a frame of the model that is kept so
+-- a frame of the model that this posted one refines
 pub record Has (frames : List (ModelFrame BatchContent)) (p : ℕ) (posted : Posted) : Type 0 where
   pub frame : ModelFrame BatchContent
   pub there : place frames p ≡ Some frame
-  pub kept : IsKept posted frame
+  pub kept : PostedRefines posted frame
 
--- what is kept in a place is a frame of the model in that place
+-- the posted frame in a place refines a frame of the model in that place
 pub some_kept : (posted : List Posted) (frames : List (ModelFrame BatchContent)) (p : ℕ)
-    (x : Posted) → AllZip IsKept posted frames → place posted p ≡ Some x → Has frames p x
+    (x : Posted) → AllZip PostedRefines posted frames → place posted p ≡ Some x → Has frames p x
 some_kept [] frames p x each is = absurd (none_some is)
   where
     none_some : None ≡ Some x → ⊥
@@ -81,7 +81,7 @@ some_kept (y ∷ posted) (f ∷ frames) zero x each is = absurd (none_some is)
 some_kept (y ∷ posted) (f ∷ frames) (suc zero) x each is = record {
   frame = f;
   there = refl;
-  kept = subst (λ (z : Posted). IsKept z f) (same is) each.0;
+  kept = subst (λ (z : Posted). PostedRefines z f) (same is) each.0;
 }
   where
     same : Some y ≡ Some x → y ≡ x

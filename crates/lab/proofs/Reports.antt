@@ -17,20 +17,20 @@ use Rattle.chain_core.specs.States.{Machine}
 use Rattle.node.specs.declared.node.Node.{Node}
 use Rattle.node.specs.Steps.{Runs, AlwaysRests, disk_of}
 use Rattle.lab.specs.declared.event.Event.{Event}
-use Rattle.lab.specs.declared.member.Member.{Member}
-use Rattle.lab.specs.declared.member.Member.TheVariants.{Running, Resting}
-use Rattle.lab.specs.declared.posted.Posted.{Posted}
+use Rattle.lab.specs.declared.node_state.NodeState.{NodeState}
+use Rattle.lab.specs.declared.node_state.NodeState.TheVariants.{Up, Down}
+use Rattle.lab.specs.declared.delivery.Posted.{Posted}
 use Rattle.lab.specs.declared.report.Line.{Line}
 use Rattle.lab.specs.declared.report.NodeReport.{NodeReport}
 use Rattle.lab.specs.declared.report.Report.{Report}
-use Rattle.lab.specs.declared.seat.Seat.{Seat}
+use Rattle.lab.specs.declared.sim_node.SimNode.{SimNode}
 use Rattle.lab.specs.Disks.{HaveDisks, IsDiskOf}
 use Rattle.lab.specs.History.{Placed, IsHistory, StepSpeaksOf, HasAll}
-use Rattle.lab.specs.Members.{Choice, Is, disk_in, is_honest, state, failures}
-use Rattle.lab.specs.Runs.{IsRun, Tells}
+use Rattle.lab.specs.SimNodes.{Choice, StateRefines, disk_in, is_honest, state, failures}
+use Rattle.lab.specs.Runs.{IsRun, RunningRefines}
 use Rattle.lab.specs.Traces.{modelled_from, IsTrace}
-use Rattle.lab.specs.Worlds.{IsSeated, IsLeft, AreLeft, HasMade}
-use Rattle.lab.proofs.Histories.{numbered_same, handed_same, all_speak}
+use Rattle.lab.specs.Worlds.{SimNodeRefines, IsLeft, AreLeft, RunRefines}
+use Rattle.lab.proofs.Histories.{numbered_same, submitted_same, all_speak}
 
 -- the model's one list is that of the lines and of the disks
 pub one_of : {D N : Type 0} (state : D → State) (failures : D → ℕ) (id : N → ℕ) (disk : N → D)
@@ -54,9 +54,9 @@ one_of state failures id disk cs events choices steps nodes trace disks one made
     record {
       B = one.B;
       taken = subst (λ (l : List Placed). Part one.B l)
-          (handed_same 1 events choices trace.one_each) one.taken;
+          (submitted_same 1 events choices trace.one_each) one.taken;
       speaks = subst (λ (l : List (List Line)). AllZip (StepSpeaksOf one.B) events l)
-          (sym trace.told)
+          (sym trace.traced)
           (all_speak one.B cs 1 events choices (beginning cs) trace.one_each replies);
       stands = All-weaker
           (λ node. IsDiskOf state (id node) (node_of cs es (id node)) (disk node)
@@ -73,11 +73,11 @@ one_of state failures id disk cs events choices steps nodes trace disks one made
           )) nodes disks.each;
     }
 
-module _ (seats : List Seat) (posted : List Posted) (cs : Configurations) (events : List Event)
-    (steps : List (List Line)) (made : HasMade seats posted cs events steps) where
+module _ (sims : List SimNode) (posted : List Posted) (cs : Configurations) (events : List Event)
+    (steps : List (List Line)) (made : RunRefines sims posted cs events steps) where
   -- what is left of a world's nodes is a run
   pub run_left : (report : Report) → report.steps.items ≡ steps →
-      AreLeft seats report.nodes.items → IsRun cs events report
+      AreLeft sims report.nodes.items → IsRun cs events report
   run_left report same left =
       let nodes = report.nodes.items in
       let machines = node_of cs (modelled_from 1 events made.choices) in
@@ -95,31 +95,33 @@ module _ (seats : List Seat) (posted : List Posted) (cs : Configurations) (event
               (λ n. IsDiskOf state n.id (machines n.id) n.disk (made.disks n.id))
               (λ n left. left.disk) nodes each;
         };
-        numbers = All-weaker Left (λ n. Tells n.running (machines n.id)) (λ n left. left.numbers)
+        numbers = All-weaker Left (λ n. RunningRefines n.running (machines n.id))
+            (λ n left. left.numbers)
             nodes each;
       }
 
   -- and the disks of its nodes are those that its run left so far
   pub disks_so_far : ((node : Node Slots) (x : ℕ) (n : Machine) → Runs is_honest state node x n →
       AlwaysRests (state (disk_of node)) x n) →
-      HaveDisks state failures (λ (seat : Seat). seat.id) (λ (seat : Seat). disk_in seat.member) cs
-      events made.choices seats
+      HaveDisks state failures (λ (sim : SimNode). sim.id) (λ (sim : SimNode). disk_in sim.state) cs
+      events made.choices sims
   disks_so_far law =
       let machines = node_of cs (modelled_from 1 events made.choices) in
       record {
         ids = made.nodes;
         disks = made.disks;
         after = made.after;
-        each = All-weaker (IsSeated machines made.disks)
-            (λ seat. IsDiskOf state seat.id (machines seat.id) (disk_in seat.member)
-            (made.disks seat.id))
-            (λ seat seated. record {
-              same = seated.disk;
-              stands = stands seat.member seat.id (machines seat.id) seated.is;
-            }) seats made.each;
+        each = All-weaker (SimNodeRefines machines made.disks)
+            (λ sim. IsDiskOf state sim.id (machines sim.id) (disk_in sim.state)
+            (made.disks sim.id))
+            (λ sim refined_at. record {
+              same = refined_at.disk;
+              stands = stands sim.state sim.id (machines sim.id) refined_at.is;
+            }) sims made.each;
       }
     where
-      stands : (member : Member Slots) (x : ℕ) (n : Machine) → Is is_honest state member x n →
-          AlwaysRests (state (disk_in member)) x n
-      stands (Running node) x n is = law node x n is
-      stands (Resting disk) x n is = is.1
+      stands : (new : NodeState Slots) (x : ℕ) (n : Machine) →
+          StateRefines is_honest state new x n →
+          AlwaysRests (state (disk_in new)) x n
+      stands (Up node) x n is = law node x n is
+      stands (Down disk) x n is = is.1

@@ -1,4 +1,4 @@
--- What a disk that crashed stands for.
+-- What a disk that crashed represents.
 use Rattle.std.proofs.Common.{◌≡◌, ◌⊎◌, ℕ, inl, inr, sym, subst}
 use Rattle.kv_types.specs.Content.{BatchContent}
 use Rattle.disk.specs.declared.junk.Junk.{Junk}
@@ -9,7 +9,7 @@ use Rattle.chain_core.specs.States.{Machine}
 use Rattle.node.specs.Steps.{Rests, AlwaysRests, StopsAs}
 
 module _ (left_exactly : SureIsLeft) (always_sure : CrashedIsSure) where
-  -- a disk that crashed stands for what it reads as
+  -- a disk that crashed represents what it reads as
   crashed_rests : (junk : Junk) (old new : State) (x : ℕ) (n : Machine) → Crashes junk old new →
       Rests (contents new) x n → AlwaysRests new x (stopped n)
   crashed_rests junk old new x n crashes r left now =
@@ -19,7 +19,7 @@ module _ (left_exactly : SureIsLeft) (always_sure : CrashedIsSure) where
       (sym (left_exactly new left file (is_sure file) now)) j in
       subst (λ (l : Contents). Rests l x (stopped n)) same r
 
-  -- a crash leaves what stands for the node as before the step or as after it
+  -- a crash leaves what represents the node as before the step or as after it
   pub rests_as : (junk : Junk) (old new : State) (x : ℕ) (n : Machine) (a : Answer BatchContent) →
       Crashes junk old new → MayLeave old (contents new) → StopsAs old x n a →
       AlwaysRests new x (stopped n) ⊎ AlwaysRests new x (stopped a.node)
@@ -27,9 +27,3 @@ module _ (left_exactly : SureIsLeft) (always_sure : CrashedIsSure) where
     | inl before ↦ inl (crashed_rests junk old new x n crashes before)
     | inr behind ↦ inr (crashed_rests junk old new x a.node crashes behind)
   ]
-
-  -- .. or for the node as it was, where nothing else stands
-  pub rests_on : (junk : Junk) (old new : State) (x : ℕ) (n : Machine) → Crashes junk old new →
-      MayLeave old (contents new) → AlwaysRests old x n → AlwaysRests new x (stopped n)
-  rests_on junk old new x n crashes allowed rests =
-      crashed_rests junk old new x n crashes (rests (contents new) allowed)

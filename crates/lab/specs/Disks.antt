@@ -13,14 +13,14 @@ use Rattle.node.specs.declared.stop.Stop.{Stop as Cause}
 use Rattle.node.specs.declared.stop.Stop.TheVariants.{Disk}
 use Rattle.node.specs.Steps.{AlwaysRests}
 use Rattle.lab.specs.declared.event.Event.{Event}
-use Rattle.lab.specs.declared.event.What.{What}
-use Rattle.lab.specs.declared.event.What.TheVariants.{Submit, Get, Deliver, Tick, Start, Stop}
+use Rattle.lab.specs.declared.event.EventKind.{EventKind}
+use Rattle.lab.specs.declared.event.EventKind.TheVariants.{Submit, Get, Deliver, Tick, Start, Stop}
 use Rattle.lab.specs.Events.{modelled}
-use Rattle.lab.specs.Members.{Choice}
+use Rattle.lab.specs.SimNodes.{Choice}
 use Rattle.lab.specs.Traces.{modelled_from}
 
 -- the junk of a stop event
-abbrev pub junk_of : What → Option Junk
+abbrev pub junk_of : EventKind → Option Junk
 junk_of (Stop node junk) = Some junk
 junk_of (Submit node batch) = None
 junk_of (Get node key at) = None
@@ -48,14 +48,14 @@ abbrev pub IsStopOf : {D : Type 0} → (D → State) → (D → ℕ) → Option 
 IsStopOf state failures (Some junk) cause old new = IsCrashOf state failures junk old new
 IsStopOf state failures None cause old new = IsEndOf state failures cause old new
 
--- what an event leaves of the disk of the node that it came to, which is n after it
+-- what an event leaves of the disk of the node that it was for, which is n after it
 pub record DiskFollows {D : Type 0} (state : D → State) (failures : D → ℕ) (event : Event)
     (choice : Choice) (o : model.Outcome BatchContent) (n : Machine) (old new : D) : Type 0 where
   pub stops : o.stopped ≡ true →
-      IsStopOf state failures (junk_of event.what) choice.cause old new
+      IsStopOf state failures (junk_of event.kind) choice.cause old new
   -- where the node did not stop, no call of its disk failed
   pub count : o.stopped ≡ false → failures new ≡ failures old
-  -- a node that did not run, and still does not, has the same disk
+  -- a node that was down, and still is, has the same disk
   pub rests : o.stopped ≡ false → n.running ≡ false → new ≡ old
 
 -- what an event leaves of all disks, by the ids of their nodes
@@ -71,7 +71,7 @@ abbrev pub AllFollow : {D : Type 0} → (D → State) → (D → ℕ) → Config
 AllFollow state failures cs i [] choices w old new = new ≡ old
 AllFollow state failures cs i (event ∷ events) [] w old new = ⊥
 AllFollow {D} state failures cs i (event ∷ events) (choice ∷ choices) w old new =
-    let o = model.outcome w cs (modelled i event.what choice) in
+    let o = model.outcome w cs (modelled i event.kind choice) in
     (next : ℕ → D) × DisksFollow state failures event choice o old next
     × AllFollow state failures cs (suc i) events choices (model.after w o) next new
 
@@ -82,7 +82,7 @@ pub record AreDisksAfter {D : Type 0} (state : D → State) (failures : D → �
   pub begun : (x : ℕ) → failures (first x) ≡ 0
   pub follow : AllFollow state failures cs 1 events choices (model.beginning cs) first disks
 
--- the node's disk is this one, and stands for its machine's whole list, as it reads and whatever a
+-- the node's disk is this one, and represents its machine's whole list, as it reads and whatever a
 -- crash leaves
 pub record IsDiskOf {D : Type 0} (state : D → State) (x : ℕ) (n : Machine) (disk own : D) : Type 0
   where

@@ -1,4 +1,4 @@
--- Events as the chain's model has them, and the lines that tell what they did.
+-- Events as the chain's model has them, and the lines of their outcomes.
 use Rattle.std.specs.Prelude.{◌≡◌, ℕ, suc, List, [], ◌∷◌, ◌++◌, length, Option, Some, None}
 use Rattle.std.specs.Prelude.{IfSome, true, if◌then◌else◌, All}
 use Rattle.std.specs.List.{flat_map}
@@ -14,14 +14,14 @@ use Rattle.node.specs.declared.stop.Stop.{Stop as Cause}
 use Rattle.node.specs.declared.output.Reply.TheVariants as reply
 use Rattle.node.specs.Stops.{IsOfMachine}
 use Rattle.lab.specs.declared.event.Event.{Event}
-use Rattle.lab.specs.declared.event.What.{What}
-use Rattle.lab.specs.declared.event.What.TheVariants.{Submit, Get, Deliver, Tick, Start, Stop}
+use Rattle.lab.specs.declared.event.EventKind.{EventKind}
+use Rattle.lab.specs.declared.event.EventKind.TheVariants.{Submit, Get, Deliver, Tick, Start, Stop}
 use Rattle.lab.specs.declared.report.Line.{Line}
 use Rattle.lab.specs.declared.report.Line.TheVariants as line
-use Rattle.lab.specs.Members.{Choice}
+use Rattle.lab.specs.SimNodes.{Choice}
 
 -- the node that an event names; a frame goes to its addressee
-abbrev pub node_in : What → Option ℕ
+abbrev pub node_in : EventKind → Option ℕ
 node_in (Submit node batch) = Some node
 node_in (Get node key at) = Some node
 node_in (Deliver place) = None
@@ -30,15 +30,15 @@ node_in (Start node) = Some node
 node_in (Stop node junk) = Some node
 
 -- an event names a node of configuration 0
-abbrev pub NamesNode : Configurations → What → Type 0
-NamesNode cs what = IfSome (node_in what) (λ x. has (at_epoch cs 0) x ≡ true)
+abbrev pub NamesNode : Configurations → EventKind → Type 0
+NamesNode cs kind = IfSome (node_in kind) (λ x. has (at_epoch cs 0) x ≡ true)
 
--- .. and so does each of these, if it names one
+-- each of these events does, if it names one
 abbrev pub NamesNodes : Configurations → List Event → Type 0
-NamesNodes cs events = All (λ event. NamesNode cs event.what) events
+NamesNodes cs events = All (λ event. NamesNode cs event.kind) events
 
 -- the event in place i, as the model has it, by what was chosen in it
-abbrev pub modelled : ℕ → What → Choice → model.Event BatchContent
+abbrev pub modelled : ℕ → EventKind → Choice → model.Event BatchContent
 modelled i (Submit node batch) choice =
     model.Ask node i (model_request.Submit batch) choice.went
 modelled i (Get node key at) choice = model.Ask node i (model_request.Read at) choice.went
@@ -47,12 +47,12 @@ modelled i (Tick node) choice = model.Tick node choice.went
 modelled i (Start node) choice = model.Start node choice.went
 modelled i (Stop node junk) choice = model.Stop node
 
--- a drop is told with its reason
+-- a drop has a line with its reason
 abbrev pub dropped_lines : Option DropReason → List Line
 dropped_lines None = []
 dropped_lines (Some why) = line.Dropped why ∷ []
 
--- a node that was started tells its numbers
+-- a node that was started has a line with its numbers
 abbrev pub start_line : ℕ → Machine → Line
 start_line x n = line.Started x n.epoch (length n.list) n.committed
 
@@ -61,15 +61,15 @@ if_started None None = []
 if_started None (Some at) = start_line at.0 at.1 ∷ []
 if_started (Some why) at = []
 
-abbrev pub start_lines : What → model.Outcome BatchContent → List Line
-start_lines (Start node) o = if_started o.dropped o.came_to
-start_lines (Submit node batch) o = []
-start_lines (Get node key at) o = []
-start_lines (Deliver place) o = []
-start_lines (Tick node) o = []
-start_lines (Stop node junk) o = []
+abbrev pub start_trace : EventKind → model.Outcome BatchContent → List Line
+start_trace (Start node) o = if_started o.dropped o.came_to
+start_trace (Submit node batch) o = []
+start_trace (Get node key at) o = []
+start_trace (Deliver place) o = []
+start_trace (Tick node) o = []
+start_trace (Stop node junk) o = []
 
--- a frame that is sent is told with its place among all, from 1
+-- a frame that is sent has a line with its place among all, from 1
 abbrev pub frame_line : ℕ → model_frame.Frame BatchContent → Line
 frame_line place (model_frame.Forward to epoch from number batch) =
     line.Forwarded place from to epoch number
@@ -81,8 +81,8 @@ abbrev pub frame_lines : ℕ → List (model_frame.Frame BatchContent) → List 
 frame_lines sent [] = []
 frame_lines sent (frame ∷ frames) = frame_line (suc sent) frame ∷ frame_lines (suc sent) frames
 
--- a read is told what its key has in the map of the batches that it shows
-abbrev pub value_lines : What → ℕ → ℕ → List BatchContent → List Line
+-- the line of a read has what its key has in the map of the batches that it shows
+abbrev pub value_lines : EventKind → ℕ → ℕ → List BatchContent → List Line
 value_lines (Get node key at) i s batches =
     line.Replied (reply.Value i s (map_of batches key)) ∷ []
 value_lines (Submit node batch) i s batches = []
@@ -91,47 +91,46 @@ value_lines (Tick node) i s batches = []
 value_lines (Start node) i s batches = []
 value_lines (Stop node junk) i s batches = []
 
-abbrev pub reply_line : What → model_request.Reply BatchContent → List Line
-reply_line what (model_request.Committed i k) = line.Replied (reply.Committed i k) ∷ []
-reply_line what (model_request.Shows i s batches) = value_lines what i s batches
-reply_line what (model_request.Opened i s) = []
-reply_line what (model_request.Closed i s) = []
-reply_line what (model_request.Refused i why) =
+abbrev pub reply_line : EventKind → model_request.Reply BatchContent → List Line
+reply_line kind (model_request.Committed i k) = line.Replied (reply.Committed i k) ∷ []
+reply_line kind (model_request.Shows i s batches) = value_lines kind i s batches
+reply_line kind (model_request.Opened i s) = []
+reply_line kind (model_request.Closed i s) = []
+reply_line kind (model_request.Refused i why) =
     line.Replied (reply.Refused i why) ∷ []
 
-abbrev pub reply_lines : What → List (model_request.Reply BatchContent) → List Line
-reply_lines what replies = flat_map (reply_line what) replies
+abbrev pub reply_lines : EventKind → List (model_request.Reply BatchContent) → List Line
+reply_lines kind replies = flat_map (reply_line kind) replies
 
--- a node that stops by itself tells the cause
-abbrev pub cause_told : What → Cause → Option Cause
-cause_told (Stop node junk) cause = None
-cause_told (Submit node batch) cause = Some cause
-cause_told (Get node key at) cause = Some cause
-cause_told (Deliver place) cause = Some cause
-cause_told (Tick node) cause = Some cause
-cause_told (Start node) cause = Some cause
+-- a node that stops by itself reports the cause
+abbrev pub reported_cause : EventKind → Cause → Option Cause
+reported_cause (Stop node junk) cause = None
+reported_cause (Submit node batch) cause = Some cause
+reported_cause (Get node key at) cause = Some cause
+reported_cause (Deliver place) cause = Some cause
+reported_cause (Tick node) cause = Some cause
+reported_cause (Start node) cause = Some cause
 
--- the lines of an event that came to node x: why it was dropped, then a start, then frames, then
+-- the lines of an event at node x: why it was dropped, then a start, then frames, then
 -- replies
-abbrev pub lines_at : ℕ → ℕ → What → Choice → model.Outcome BatchContent → List Line
-lines_at x sent what choice o =
-    if o.stopped then line.Stopped x (cause_told what choice.cause) ∷ []
-    else dropped_lines o.dropped ++ (start_lines what o
-    ++ (frame_lines sent o.frames ++ reply_lines what o.replies))
+abbrev pub lines_at : ℕ → ℕ → EventKind → Choice → model.Outcome BatchContent → List Line
+lines_at x sent kind choice o =
+    if o.stopped then line.Stopped x (reported_cause kind choice.cause) ∷ []
+    else dropped_lines o.dropped ++ (start_trace kind o
+    ++ (frame_lines sent o.frames ++ reply_lines kind o.replies))
 
 -- the lines of an event, after so many frames
-abbrev pub lines_if : Option (ℕ × Machine) → ℕ → What → Choice → model.Outcome BatchContent
+abbrev pub lines_if : Option (ℕ × Machine) → ℕ → EventKind → Choice → model.Outcome BatchContent
     → List Line
-lines_if None sent what choice o = line.Nothing ∷ []
-lines_if (Some at) sent what choice o = lines_at at.0 sent what choice o
+lines_if None sent kind choice o = line.Nothing ∷ []
+lines_if (Some at) sent kind choice o = lines_at at.0 sent kind choice o
 
--- the lines that tell what an event did after so many frames, and of a node that stopped by itself
--- why
-abbrev pub lines_of : ℕ → What → Choice → model.Outcome BatchContent → List Line
-lines_of sent what choice o = lines_if o.came_to sent what choice o
+-- the lines of an event after so many frames, and of a node that stopped by itself the cause
+abbrev pub lines_of_event : ℕ → EventKind → Choice → model.Outcome BatchContent → List Line
+lines_of_event sent kind choice o = lines_if o.came_to sent kind choice o
 
 -- What was chosen fits the event and its outcome. An event that bears a fault is as one without.
 pub record ChoiceFits (event : Event) (choice : Choice) (o : model.Outcome BatchContent) : Type 0
   where
     -- a node stops by itself for its device or for memory alone
-    pub cause : o.stopped ≡ true → IfSome (cause_told event.what choice.cause) IsOfMachine
+    pub cause : o.stopped ≡ true → IfSome (reported_cause event.kind choice.cause) IsOfMachine

@@ -12,20 +12,20 @@ use Rattle.node.specs.Files.{DiskRepresents}
 use Rattle.node.specs.declared.output.Reply.{Reply}
 use Rattle.node.specs.declared.output.Reply.TheVariants.{Committed, Value, Refused}
 use Rattle.lab.specs.declared.event.Event.{Event}
-use Rattle.lab.specs.declared.event.What.{What}
-use Rattle.lab.specs.declared.event.What.TheVariants.{Submit, Get, Deliver, Tick, Start, Stop}
+use Rattle.lab.specs.declared.event.EventKind.{EventKind}
+use Rattle.lab.specs.declared.event.EventKind.TheVariants.{Submit, Get, Deliver, Tick, Start, Stop}
 use Rattle.lab.specs.declared.report.Line.{Line}
 use Rattle.lab.specs.declared.report.Line.TheVariants as line
 use Rattle.lab.specs.declared.report.NodeReport.{NodeReport}
 use Rattle.lab.specs.declared.report.Report.{Report}
-use Rattle.lab.specs.Members.{state}
+use Rattle.lab.specs.SimNodes.{state}
 
 -- a batch with the place of its event
 abbrev pub Placed : Type 0
 Placed = ℕ × BatchContent
 
--- the batches that events hand in, the first event being in place i
-abbrev pub with_batch : ℕ → What → List Placed → List Placed
+-- the batches that events submit, the first event being in place i
+abbrev pub with_batch : ℕ → EventKind → List Placed → List Placed
 with_batch i (Submit node batch) later = (i, batch) ∷ later
 with_batch i (Get node key at) later = later
 with_batch i (Deliver place) later = later
@@ -33,12 +33,12 @@ with_batch i (Tick node) later = later
 with_batch i (Start node) later = later
 with_batch i (Stop node junk) later = later
 
-abbrev pub handed_from : ℕ → List Event → List Placed
-handed_from i [] = []
-handed_from i (event ∷ events) = with_batch i event.what (handed_from (suc i) events)
+abbrev pub submitted_from : ℕ → List Event → List Placed
+submitted_from i [] = []
+submitted_from i (event ∷ events) = with_batch i event.kind (submitted_from (suc i) events)
 
 -- a read at s shows what its key has in the map of B's first s batches
-abbrev pub ShowsOf : List Placed → What → ℕ → Option (List ℕ) → Type 0
+abbrev pub ShowsOf : List Placed → EventKind → ℕ → Option (List ℕ) → Type 0
 ShowsOf B (Get node key at) s value =
     (s ≤ length B) × (value ≡ map_of (take s (batches B)) key)
 ShowsOf B (Submit node batch) s value = ⊥
@@ -48,23 +48,23 @@ ShowsOf B (Start node) s value = ⊥
 ShowsOf B (Stop node junk) s value = ⊥
 
 -- an acknowledgement of n to request i says that place n of B is the batch of event i
-abbrev pub SpeaksOf : List Placed → What → Reply → Type 0
-SpeaksOf B what (Committed i n) = (batch : BatchContent) × (place B n ≡ Some (i, batch))
-SpeaksOf B what (Value i s value) = ShowsOf B what s value
-SpeaksOf B what (Refused i refusal) = Unit {0}
+abbrev pub SpeaksOf : List Placed → EventKind → Reply → Type 0
+SpeaksOf B kind (Committed i n) = (batch : BatchContent) × (place B n ≡ Some (i, batch))
+SpeaksOf B kind (Value i s value) = ShowsOf B kind s value
+SpeaksOf B kind (Refused i refusal) = Unit {0}
 
-abbrev pub LineSpeaksOf : List Placed → What → Line → Type 0
-LineSpeaksOf B what (line.Replied reply) = SpeaksOf B what reply
-LineSpeaksOf B what line.Nothing = Unit {0}
-LineSpeaksOf B what (line.Dropped reason) = Unit {0}
-LineSpeaksOf B what (line.Started node epoch count committed) = Unit {0}
-LineSpeaksOf B what (line.Forwarded place from to epoch number) = Unit {0}
-LineSpeaksOf B what (line.Acknowledged place from to epoch committed have) = Unit {0}
-LineSpeaksOf B what (line.Stopped node cause) = Unit {0}
+abbrev pub LineSpeaksOf : List Placed → EventKind → Line → Type 0
+LineSpeaksOf B kind (line.Replied reply) = SpeaksOf B kind reply
+LineSpeaksOf B kind line.Nothing = Unit {0}
+LineSpeaksOf B kind (line.Dropped reason) = Unit {0}
+LineSpeaksOf B kind (line.Started node epoch count committed) = Unit {0}
+LineSpeaksOf B kind (line.Forwarded place from to epoch number) = Unit {0}
+LineSpeaksOf B kind (line.Acknowledged place from to epoch committed have) = Unit {0}
+LineSpeaksOf B kind (line.Stopped node cause) = Unit {0}
 
 -- each line of an event speaks of B
 abbrev pub StepSpeaksOf : List Placed → Event → List Line → Type 0
-StepSpeaksOf B event lines = All (LineSpeaksOf B event.what) lines
+StepSpeaksOf B event lines = All (LineSpeaksOf B event.kind) lines
 
 -- whatever a crash leaves of node x's disk represents the node with a list that begins with B
 abbrev pub HasAll : List Placed → ℕ → State → Type 0
@@ -77,8 +77,8 @@ pub record IsHistory {D N : Type 0} (state : D → State) (id : N → ℕ) (disk
     (cs : Configurations) (events : List Event) (steps : List (List Line)) (nodes : List N)
     : Type 0 where
   pub B : List Placed
-  -- .. taken in order and none twice from the batches handed in
-  pub taken : Part B (handed_from 1 events)
+  -- .. taken in order and none twice from the batches that were submitted
+  pub taken : Part B (submitted_from 1 events)
   -- .. of which every read and every acknowledgement speaks
   pub speaks : AllZip (StepSpeaksOf B) events steps
   -- .. and which every node of the last configuration has on its disk

@@ -1,4 +1,4 @@
--- The report of a run, and the run of the model that it tells of.
+-- The report of a run, and the run of the model that it refines.
 use Rattle.std.specs.Prelude.{◌≡◌, List, length, Option, Some, None, true, false, All}
 use Rattle.std.specs.Prelude.{replicate}
 use Rattle.chain_model.specs.Configuration.{Configurations}
@@ -9,11 +9,11 @@ use Rattle.lab.specs.declared.report.Numbers.{Numbers}
 use Rattle.lab.specs.declared.report.NodeReport.{NodeReport}
 use Rattle.lab.specs.declared.report.Report.{Report}
 use Rattle.lab.specs.Disks.{HaveDisks}
-use Rattle.lab.specs.Members.{Choice, state, failures}
+use Rattle.lab.specs.SimNodes.{Choice, state, failures}
 use Rattle.lab.specs.Traces.{modelled_from, IsTrace}
 
--- a machine's numbers; it has no tables yet
-pub record AreOf (n : Machine) (numbers : Numbers) : Type 0 where
+-- the numbers are the machine's; it has no tables yet
+pub record NumbersRefine (n : Machine) (numbers : Numbers) : Type 0 where
   pub epoch : numbers.epoch ≡ n.epoch
   pub count : numbers.count ≡ length n.list
   pub committed : numbers.committed ≡ n.committed
@@ -21,18 +21,18 @@ pub record AreOf (n : Machine) (numbers : Numbers) : Type 0 where
   pub kept : numbers.kept ≡ n.kept
   pub tables : numbers.tables ≡ replicate 7 0
 
--- a running machine tells its numbers, and one that rests none
-abbrev pub Tells : Option Numbers → Machine → Type 0
-Tells None n = n.running ≡ false
-Tells (Some numbers) n = (n.running ≡ true) × AreOf n numbers
+-- a running machine has its numbers in a report, and one that is down has none
+abbrev pub RunningRefines : Option Numbers → Machine → Type 0
+RunningRefines None n = n.running ≡ false
+RunningRefines (Some numbers) n = (n.running ≡ true) × NumbersRefine n numbers
 
 -- The report is a run of the model over exactly these events: how each step went was chosen, and
--- then each event has the lines of what it did, and each node is what the run made of it. Its disk
--- is what the events left of it, and stands for its machine's whole list.
+-- then each event has the lines of its outcome, and each node is the one behind the run. Its disk
+-- is the one that the events left, and represents its machine's whole list.
 pub record IsRun (cs : Configurations) (events : List Event) (report : Report) : Type 0 where
   pub choices : List Choice
   pub trace : IsTrace cs events choices report.steps.items
   pub disks : HaveDisks state failures (λ (node : NodeReport). node.id)
       (λ (node : NodeReport). node.disk) cs events choices report.nodes.items
-  pub numbers : All (λ node. Tells node.running
+  pub numbers : All (λ node. RunningRefines node.running
       (model.node_of cs (modelled_from 1 events choices) node.id)) report.nodes.items

@@ -5,25 +5,25 @@ use Rattle.chain_model.specs.Configuration.{Configurations}
 use Rattle.chain_model.specs.World as model
 use Rattle.lab.specs.declared.event.Event.{Event}
 use Rattle.lab.specs.declared.report.Line.{Line}
-use Rattle.lab.specs.Events.{modelled, lines_of, ChoiceFits}
-use Rattle.lab.specs.Members.{Choice}
+use Rattle.lab.specs.Events.{modelled, lines_of_event, ChoiceFits}
+use Rattle.lab.specs.SimNodes.{Choice}
 
 -- the events from place i on, as the model has them, by what was chosen in each
 abbrev pub modelled_from : ℕ → List Event → List Choice → List (model.Event BatchContent)
 modelled_from i [] choices = []
 modelled_from i (event ∷ events) [] = []
 modelled_from i (event ∷ events) (choice ∷ choices) =
-    modelled i event.what choice ∷ modelled_from (suc i) events choices
+    modelled i event.kind choice ∷ modelled_from (suc i) events choices
 
 -- the lines of each of them, from a world on
-abbrev pub told_from : Configurations → ℕ → List Event → List Choice → model.World BatchContent
+abbrev pub lines_from : Configurations → ℕ → List Event → List Choice → model.World BatchContent
     → List (List Line)
-told_from cs i [] choices w = []
-told_from cs i (event ∷ events) [] w = []
-told_from cs i (event ∷ events) (choice ∷ choices) w =
-    let e = modelled i event.what choice in
-    lines_of (length w.frames) event.what choice (model.outcome w cs e)
-    ∷ told_from cs (suc i) events choices (model.happens cs w e)
+lines_from cs i [] choices w = []
+lines_from cs i (event ∷ events) [] w = []
+lines_from cs i (event ∷ events) (choice ∷ choices) w =
+    let e = modelled i event.kind choice in
+    lines_of_event (length w.frames) event.kind choice (model.outcome w cs e)
+    ∷ lines_from cs (suc i) events choices (model.happens cs w e)
 
 -- what was chosen fits each of them, from a world on
 abbrev pub AllFit : Configurations → ℕ → List Event → List Choice → model.World BatchContent
@@ -31,14 +31,14 @@ abbrev pub AllFit : Configurations → ℕ → List Event → List Choice → mo
 AllFit cs i [] choices w = Unit {0}
 AllFit cs i (event ∷ events) [] w = ⊥
 AllFit cs i (event ∷ events) (choice ∷ choices) w =
-    let e = modelled i event.what choice in
+    let e = modelled i event.kind choice in
     ChoiceFits event choice (model.outcome w cs e)
     × AllFit cs (suc i) events choices (model.happens cs w e)
 
 -- By these choices, one for each event, the events are a run of the model, and each has the lines
--- of what it did.
+-- of its outcome.
 pub record IsTrace (cs : Configurations) (events : List Event) (choices : List Choice)
     (steps : List (List Line)) : Type 0 where
   pub one_each : length choices ≡ length events
   pub fits : AllFit cs 1 events choices (model.beginning cs)
-  pub told : steps ≡ told_from cs 1 events choices (model.beginning cs)
+  pub traced : steps ≡ lines_from cs 1 events choices (model.beginning cs)

@@ -1,4 +1,4 @@
--- A world of code, and the run of the model that it has made.
+-- A world of simulated nodes, and the run of the model that it refines.
 use Rattle.std.specs.Prelude.{◌≡◌, ℕ, ◌+◌, ◌≤◌, List, [], ◌∷◌, ◌++◌, length, map, Some}
 use Rattle.std.specs.Prelude.{All, true, ◌≢◌, ◌<◌, get_or, slice_set}
 use Rattle.std.specs.List.{AllZip, HoldsAt}
@@ -16,27 +16,29 @@ use Rattle.link_messages.specs.Spelling.{IsFrame, HasBounds, spelling}
 use Rattle.chain_core.specs.Decisions.{frame_as}
 use Rattle.chain_core.specs.States.{Machine}
 use Rattle.chain_core.specs.declared.sending.Sent.{Sent}
-use Rattle.lab.specs.declared.coming.Coming.{Coming}
-use Rattle.lab.specs.declared.coming.Did.{Did}
+use Rattle.lab.specs.declared.input.NodeInput.{NodeInput}
+use Rattle.lab.specs.declared.input.StepOutcome.{StepOutcome}
 use Rattle.lab.specs.declared.event.Event.{Event}
 use Rattle.lab.specs.declared.event.EventRecord.{EventRecord}
-use Rattle.lab.specs.declared.event.What.{What}
-use Rattle.lab.specs.declared.event.What.TheVariants.{Submit, Get, Deliver, Tick, Start, Stop}
-use Rattle.lab.specs.declared.member.Member.TheVariants.{Running}
+use Rattle.lab.specs.declared.event.EventKind.{EventKind}
+use Rattle.lab.specs.declared.event.EventKind.TheVariants.{Submit, Get, Deliver, Tick, Start, Stop}
+use Rattle.lab.specs.declared.node_state.NodeState.TheVariants.{Up}
 use Rattle.lab.specs.declared.report.Line.{Line}
 use Rattle.lab.specs.declared.report.Line.TheVariants as line
-use Rattle.lab.specs.declared.posted.Posted.{Posted}
+use Rattle.lab.specs.declared.delivery.Posted.{Posted}
 use Rattle.lab.specs.declared.report.NodeReport.{NodeReport}
-use Rattle.lab.specs.declared.seat.Seat.{Seat}
+use Rattle.lab.specs.declared.sim_node.SimNode.{SimNode}
 use Rattle.lab.specs.declared.world.World.{World}
-use Rattle.lab.specs.Members.{Choice, Is, disk_in, is_honest, state, failures}
-use Rattle.lab.specs.Comings.{Happened, DiskLeft, junk_with, sent_by, did_lines}
+use Rattle.lab.specs.SimNodes.{Choice, StateRefines, disk_in, is_honest, state, failures}
+use Rattle.lab.specs.Events.{NamesNode}
+use Rattle.lab.specs.Outcomes.{OutcomeRefines, DiskFits, StateFollows, input_junk, sent_by}
+use Rattle.lab.specs.Outcomes.{outcome_lines}
 use Rattle.lab.specs.Disks.{AreDisksAfter, HaveDisks, IsDiskOf, IsCrashOf}
 use Rattle.lab.specs.History.{IsHistory}
-use Rattle.lab.specs.Runs.{Tells}
+use Rattle.lab.specs.Runs.{RunningRefines}
 use Rattle.lab.specs.Traces.{modelled_from, IsTrace}
 
--- how many frames a line tells of
+-- how many frames a line shows
 abbrev pub frames_in : Line → ℕ
 frames_in (line.Forwarded place from to epoch number) = 1
 frames_in (line.Acknowledged place from to epoch committed have) = 1
@@ -46,7 +48,7 @@ frames_in (line.Started node epoch count committed) = 0
 frames_in (line.Replied reply) = 0
 frames_in (line.Stopped node cause) = 0
 
--- .. the lines of a step tell of, and those of all steps
+-- how many frames the lines of a step show, and those of all steps
 abbrev pub frames_of_step : List Line → ℕ
 frames_of_step [] = 0
 frames_of_step (line ∷ lines) = frames_in line + frames_of_step lines
@@ -55,93 +57,93 @@ abbrev pub frames_told : List (List Line) → ℕ
 frames_told [] = 0
 frames_told (step ∷ steps) = frames_of_step step + frames_told steps
 
--- a frame of the model is kept: its addressee, and its bytes
-pub record IsKept (posted : Posted) (frame : model_frame.Frame BatchContent) : Type 0 where
+-- a posted frame refines one of the model: it has its addressee and its bytes
+pub record PostedRefines (posted : Posted) (frame : model_frame.Frame BatchContent) : Type 0 where
   pub it : Frame
   pub same : frame_as posted.to it ≡ Some frame
   pub lawful : IsFrame it
   pub bytes : posted.bytes.items ≡ spelling it
 
--- what is kept of a frame that was sent: it is one in range where its fields have their bounds
+-- a frame that was sent is posted: it is in range where its fields have their bounds
 pub record IsPosted (posted : Posted) (sent : Sent) : Type 0 where
   pub to : posted.to ≡ sent.to
   pub bytes : posted.bytes.items ≡ spelling sent.frame
   pub lawful : HasBounds sent.frame → IsFrame sent.frame
 
--- these frames are kept behind those that were
-pub record Keeps (old : List Posted) (sent : List Sent) (new : List Posted) : Type 0 where
+-- these frames are posted behind those that were
+pub record HasPosted (old : List Posted) (sent : List Sent) (new : List Posted) : Type 0 where
   pub more : List Posted
   pub whole : new ≡ old ++ more
   pub each : AllZip IsPosted more sent
 
--- node x has its seat in this place
-pub record IsSeatOf (seats : List Seat) (index x : ℕ) : Type 0 where
-  pub within : index < length seats
-  pub id : HoldsAt (λ seat. seat.id ≡ x) seats index
+-- node x is the node at this index
+pub record IsIndexOf (sims : List SimNode) (index x : ℕ) : Type 0 where
+  pub within : index < length sims
+  pub id : HoldsAt (λ sim. sim.id ≡ x) sims index
 
--- .. or in none
-abbrev pub HasNoSeat : List Seat → ℕ → Type 0
-HasNoSeat seats x = All (λ seat. seat.id ≢ x) seats
+-- node x is none of these
+abbrev pub HasNoNode : List SimNode → ℕ → Type 0
+HasNoNode sims x = All (λ sim. sim.id ≢ x) sims
 
--- what came went to the node in this seat, and this is now in it
-pub record WasHanded (old : List Seat) (index : ℕ) (comes : Coming) (does : Did) (new : List Seat)
-    : Type 0 where
-  pub seat : Seat
-  pub whole : new ≡ slice_set old index seat
-  pub id : seat.id ≡ (get_or old index seat).id
-  pub happened : (x : ℕ) (n : Machine) → Is is_honest state (get_or old index seat).member x n →
-      Happened is_honest state x n comes seat.member does
-  pub disk : DiskLeft state failures (junk_with comes) does
-      (disk_in (get_or old index seat).member) seat.member
-
--- a node of the lab is the machine of its id, and has the disk of its id
-pub record IsSeated (nodes : ℕ → Machine) (disks : ℕ → Slots) (seat : Seat) : Type 0 where
-  pub is : Is is_honest state seat.member seat.id (nodes seat.id)
-  pub disk : disk_in seat.member ≡ disks seat.id
+-- a simulated node refines the machine of its id, and has the disk of its id
+pub record SimNodeRefines (nodes : ℕ → Machine) (disks : ℕ → Slots) (sim : SimNode) : Type 0 where
+  pub is : StateRefines is_honest state sim.state sim.id (nodes sim.id)
+  pub disk : disk_in sim.state ≡ disks sim.id
 
 -- a node that was just created with this configuration: no call of its disk failed
-pub record IsCreated (config : List ℕ) (seat : Seat) : Type 0 where
-  pub is : Is is_honest state seat.member seat.id (created config)
-  pub count : failures (disk_in seat.member) ≡ 0
+pub record IsCreated (config : List ℕ) (sim : SimNode) : Type 0 where
+  pub is : StateRefines is_honest state sim.state sim.id (created config)
+  pub count : failures (disk_in sim.state) ≡ 0
 
--- these nodes were just created with this configuration, each in its seat
-pub record AreCreated (config ids : List ℕ) (seats : List Seat) : Type 0 where
-  pub nodes : map (λ seat. seat.id) seats ≡ ids
-  pub each : All (IsCreated config) seats
+-- these nodes were just created with this configuration, in this order
+pub record AreCreated (config ids : List ℕ) (sims : List SimNode) : Type 0 where
+  pub nodes : map (λ sim. sim.id) sims ≡ ids
+  pub each : All (IsCreated config) sims
 
--- what is left of a node that is this machine and has this disk
+-- the report of a node that is this machine and has this disk, at the end of a run
 pub record IsLeft (n : Machine) (own : Slots) (left : NodeReport) : Type 0 where
   pub disk : IsDiskOf state left.id n left.disk own
-  pub numbers : Tells left.running n
+  pub numbers : RunningRefines left.running n
 
--- this is left of the nodes in these seats
-pub record AreLeft (seats : List Seat) (nodes : List NodeReport) : Type 0 where
-  pub ids : map (λ node. node.id) nodes ≡ map (λ seat. seat.id) seats
-  pub each : (machines : ℕ → Machine) (disks : ℕ → Slots) → All (IsSeated machines disks) seats →
+-- these reports are of these nodes, at the end of a run
+pub record AreLeft (sims : List SimNode) (nodes : List NodeReport) : Type 0 where
+  pub ids : map (λ node. node.id) nodes ≡ map (λ sim. sim.id) sims
+  pub each : (machines : ℕ → Machine) (disks : ℕ → Slots) → All
+      (SimNodeRefines machines disks) sims →
       All (λ node. IsLeft (machines node.id) (disks node.id) node) nodes
 
--- what came to node x, what is told of it, and which frames are kept and who is in the seats now
-pub record WasTold (seats : List Seat) (posted : List Posted) (x : ℕ) (comes : Coming)
-    (lines : List Line) (now : List Seat) (more : List Posted) : Type 0 where
+-- Node x took a step by this input: its outcome and its new state refine every machine that it was,
+-- the frames that it sent are posted, and these are its lines. Every other node is as it was.
+pub record HasStepped (sims : List SimNode) (posted : List Posted) (x : ℕ) (node_input : NodeInput)
+    (lines : List Line) (now : List SimNode) (more : List Posted) : Type 0 where
   pub index : ℕ
-  pub at : IsSeatOf seats index x
-  pub does : Did
-  pub handed : WasHanded seats index comes does now
-  pub kept : Keeps posted (sent_by does) more
-  pub told : lines ≡ did_lines x (length posted) does
+  pub at : IsIndexOf sims index x
+  pub sim : SimNode
+  pub others : now ≡ slice_set sims index sim
+  pub id : sim.id ≡ x
+  pub did : StepOutcome
+  pub refines : (y : ℕ) (n : Machine) →
+      StateRefines is_honest state (get_or sims index sim).state y n →
+      OutcomeRefines is_honest state y n node_input sim.state did
+  pub disk : DiskFits state failures (input_junk node_input) did
+      (disk_in (get_or sims index sim).state) sim.state
+  pub follows : StateFollows is_honest state failures (get_or sims index sim).state node_input
+      sim.state
+  pub sent : HasPosted posted (sent_by did) more
+  pub traced : lines ≡ outcome_lines x (length posted) did
 
--- Node x was stopped with this junk, in its seat: if it ran, a crash with the junk is what its disk
--- is left as. Every other seat is as it was.
-pub record IsStopped (old new : List Seat) (x : ℕ) (junk : Junk) : Type 0 where
+-- Node x was stopped with this junk: if it ran, its disk is a crash with the junk of the disk that
+-- it had. Every other node is as it was.
+pub record IsStopped (old new : List SimNode) (x : ℕ) (junk : Junk) : Type 0 where
   pub index : ℕ
-  pub at : IsSeatOf old index x
-  pub seat : Seat
-  pub others : new ≡ slice_set old index seat
-  pub crashes : (node : Node Slots) → (get_or old index seat).member ≡ Running node →
-      IsCrashOf state failures junk (disk_of node) (disk_in seat.member)
+  pub at : IsIndexOf old index x
+  pub sim : SimNode
+  pub others : new ≡ slice_set old index sim
+  pub crashes : (node : Node Slots) → (get_or old index sim).state ≡ Up node →
+      IsCrashOf state failures junk (disk_of node) (disk_in sim.state)
 
 -- a stop event stops the node that it names, with its junk
-abbrev pub StopsNode : What → List Seat → List Seat → Type 0
+abbrev pub StopsNode : EventKind → List SimNode → List SimNode → Type 0
 StopsNode (Stop node junk) old new = IsStopped old new node junk
 StopsNode (Submit node batch) old new = Unit {0}
 StopsNode (Get node key at) old new = Unit {0}
@@ -149,47 +151,59 @@ StopsNode (Deliver place) old new = Unit {0}
 StopsNode (Tick node) old new = Unit {0}
 StopsNode (Start node) old new = Unit {0}
 
--- The nodes and frames have come of these events, and these are the lines of each: how each step
--- went was chosen, and then nodes, disks, frames and lines are those of the model's run.
-pub record HasMade (seats : List Seat) (posted : List Posted) (cs : Configurations)
+-- Nodes, posted frames and lines refine the model's run of these events: how each step went was
+-- chosen, and then nodes, disks, frames and lines are those of that run.
+pub record RunRefines (sims : List SimNode) (posted : List Posted) (cs : Configurations)
     (events : List Event) (steps : List (List Line)) : Type 0 where
   pub lawful : Lawful cs
   pub choices : List Choice
   pub trace : IsTrace cs events choices steps
-  pub frames : AllZip IsKept posted (model.reached cs (modelled_from 1 events choices)).frames
+  pub frames : AllZip PostedRefines posted (model.reached cs
+      (modelled_from 1 events choices)).frames
   pub sent : frames_told steps ≡ length posted
-  pub nodes : map (λ seat. seat.id) seats ≡ at_epoch cs 0
+  pub nodes : map (λ sim. sim.id) sims ≡ at_epoch cs 0
   pub disks : ℕ → Slots
   pub after : AreDisksAfter state failures cs events choices disks
   -- no disk failed more often than there are events
   pub few : (x : ℕ) → failures (disks x) ≤ length events
-  pub each : All (IsSeated (model.node_of cs (modelled_from 1 events choices)) disks) seats
+  pub each : All (SimNodeRefines (model.node_of cs (modelled_from 1 events choices)) disks) sims
 
--- the events that were taken
+-- the events that were applied
 abbrev pub events_in : List EventRecord → List Event
 events_in taken = map (λ it. it.event) taken
 
--- the world has taken these events, and keeps them and the lines of each
+-- the world has applied these events, and keeps them and the lines of each
 pub record HasRun (world : World) (cs : Configurations) (events : List Event)
     (steps : List (List Line)) : Type 0 where
   pub kept : world.steps.items ≡ steps
   pub taken : events_in world.events.items ≡ events
-  pub made : HasMade world.seats.items world.frames.items cs events steps
+  pub made : RunRefines world.nodes.items world.frames.items cs events steps
+
+-- The event names a node of the world, or none, and was applied with its lines. Or it names another
+-- node, and the run is as it was.
+pub data HasApplied (old new : World) (cs : Configurations) (events : List Event)
+    (steps : List (List Line)) (event : Event) : Type 0 where
+  Takes : NamesNode cs event.kind → (lines : List Line)
+      → HasRun new cs (events ++ event ∷ []) (steps ++ lines ∷ [])
+      → StopsNode event.kind old.nodes.items new.nodes.items
+      → HasApplied old new cs events steps event
+  Ignores : (NamesNode cs event.kind → ⊥) → HasRun new cs events steps
+      → HasApplied old new cs events steps event
 
 -- a step was refused, and so is every later one
 abbrev pub HasEnded : World → Type 0
 HasEnded world = world.ended ≡ true
 
 -- the lines so far are those of a run of the model over these events, and each node has the disk
--- that they left, which stands for its machine's whole list
+-- that they left, which represents its machine's whole list
 pub record IsRunSoFar (world : World) (cs : Configurations) (events : List Event)
     (steps : List (List Line)) : Type 0 where
   pub choices : List Choice
   pub trace : IsTrace cs events choices steps
-  pub disks : HaveDisks state failures (λ (seat : Seat). seat.id)
-      (λ (seat : Seat). disk_in seat.member) cs events choices world.seats.items
+  pub disks : HaveDisks state failures (λ (sim : SimNode). sim.id)
+      (λ (sim : SimNode). disk_in sim.state) cs events choices world.nodes.items
 
 -- .. and there is one history of them
 abbrev pub HasHistory : World → Configurations → List Event → List (List Line) → Type 0
-HasHistory world cs events steps = IsHistory state (λ (seat : Seat). seat.id)
-    (λ (seat : Seat). disk_in seat.member) cs events steps world.seats.items
+HasHistory world cs events steps = IsHistory state (λ (sim : SimNode). sim.id)
+    (λ (sim : SimNode). disk_in sim.state) cs events steps world.nodes.items

@@ -10,7 +10,7 @@ use std::alloc::AllocError;
 /// One step of one node. A request has the number of its event's place, from 1.
 #[derive(Debug, Drop)]
 pub struct Event {
-    pub what: What,
+    pub kind: EventKind,
     /// A fault of the disk during the step. It has no effect yet.
     pub fault: Fault,
 }
@@ -20,7 +20,7 @@ impl Event {
         ensures { IfOk result (λ event. event ≡ self.now) }
     {
         Ok(Event {
-            what: self.what.clone()?,
+            kind: self.kind.clone()?,
             fault: self.fault.clone()?,
         })
     }
@@ -33,7 +33,7 @@ pub struct EventRecord {
 }
 
 #[derive(Debug, Drop)]
-pub enum What {
+pub enum EventKind {
     Submit {
         node: NodeId,
         batch: Batch,
@@ -63,38 +63,38 @@ pub enum What {
     },
 }
 
-impl What {
+impl EventKind {
     /// The node that the event names; a frame goes to its addressee.
     pub fn node(&self) -> Option<NodeId>
         ensures { result ≡ node_in self.now }
     {
         match self {
-            What::Submit { node, .. }
-            | What::Get { node, .. }
-            | What::Tick { node }
-            | What::Start { node }
-            | What::Stop { node, .. } => Some(*node),
-            What::Deliver { .. } => None,
+            EventKind::Submit { node, .. }
+            | EventKind::Get { node, .. }
+            | EventKind::Tick { node }
+            | EventKind::Start { node }
+            | EventKind::Stop { node, .. } => Some(*node),
+            EventKind::Deliver { .. } => None,
         }
     }
 
-    pub fn clone(&self) -> Result<What, AllocError>
-        ensures { IfOk result (λ what. what ≡ self.now) }
+    pub fn clone(&self) -> Result<EventKind, AllocError>
+        ensures { IfOk result (λ kind. kind ≡ self.now) }
     {
         Ok(match self {
-            What::Submit { node, batch } => What::Submit {
+            EventKind::Submit { node, batch } => EventKind::Submit {
                 node: *node,
                 batch: batch.clone()?,
             },
-            What::Get { node, key, at } => What::Get {
+            EventKind::Get { node, key, at } => EventKind::Get {
                 node: *node,
                 key: key.clone()?,
                 at: *at,
             },
-            What::Deliver { place } => What::Deliver { place: *place },
-            What::Tick { node } => What::Tick { node: *node },
-            What::Start { node } => What::Start { node: *node },
-            What::Stop { node, junk } => What::Stop {
+            EventKind::Deliver { place } => EventKind::Deliver { place: *place },
+            EventKind::Tick { node } => EventKind::Tick { node: *node },
+            EventKind::Start { node } => EventKind::Start { node: *node },
+            EventKind::Stop { node, junk } => EventKind::Stop {
                 node: *node,
                 junk: junk.clone()?,
             },
@@ -103,10 +103,10 @@ impl What {
 }
 
 /// Whether an event names a node of the first configuration, if it names one.
-pub fn names_node(configs: &Configs, what: &What) -> bool
-    ensures { IsTrue result ↔ NamesNode configs.now what.now }
+pub fn names_node(configs: &Configs, kind: &EventKind) -> bool
+    ensures { IsTrue result ↔ NamesNode configs.now kind.now }
 {
-    match what.node() {
+    match kind.node() {
         Some(node) => configs.first().has(node),
         None => true,
     }
@@ -116,5 +116,5 @@ pub fn names_node(configs: &Configs, what: &What) -> bool
 pub fn names_nodes(configs: &Configs, events: &[Event]) -> bool
     ensures { IsTrue result ↔ NamesNodes configs.now events.now }
 {
-    events.iter().all(|event| names_node(configs, &event.what))
+    events.iter().all(|event| names_node(configs, &event.kind))
 }

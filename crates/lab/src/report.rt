@@ -1,4 +1,4 @@
-// The report of a run: the lines of each event, and what is left of each node.
+// The report of a run: the lines of each event, and each node at the end.
 ghost use Rattle.std.specs.Prelude.{◌≡◌};
 
 use configurations::{Epoch, NodeId};
@@ -7,7 +7,7 @@ use kv_types::Number;
 use node::{DropReason, Reply, Stop};
 use std::marker::Model;
 
-/// One line of what an event did.
+/// One line of the trace of an event.
 #[derive(Debug, Drop)]
 pub enum Line {
     /// No frame has the place.
@@ -19,7 +19,7 @@ pub enum Line {
         count: Number,
         committed: Number,
     },
-    /// A batch was sent on. The frame has this place, from 1, among all that were ever sent.
+    /// A batch was forwarded. The frame has this place, from 1, among all that were ever sent.
     Forwarded {
         place: u64,
         from: NodeId,
@@ -27,7 +27,7 @@ pub enum Line {
         epoch: Epoch,
         number: Number,
     },
-    /// A node told its predecessor what it knows to be committed, and how many batches it has.
+    /// A node acknowledged to its predecessor: what it knows to be committed, and its count.
     Acknowledged {
         place: u64,
         from: NodeId,
@@ -94,7 +94,7 @@ pub struct NodeReport {
     pub running: Option<Numbers>,
 }
 
-/// What a run did, event by event, and what it left.
+/// The lines of a run, event by event, and its nodes at the end.
 #[derive(Drop)]
 pub struct Report {
     /// One for each event.

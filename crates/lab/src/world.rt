@@ -1,5 +1,6 @@
 // A world of simulated nodes, stepped event by event.
 ghost use Rattle.std.specs.Prelude.{◌≡◌, ℕ, List, [], ◌∷◌, ◌++◌, IfOk, IsErr, MatchResult, OnOk};
+ghost use Rattle.std.specs.Prelude.{MatchOption};
 ghost use Rattle.std.specs.Prelude.{map};
 ghost use Rattle.chain_model.specs.Configuration.{Configurations};
 ghost use Rattle.lab.specs.declared.event.Event.{Event};
@@ -8,19 +9,18 @@ ghost use Rattle.lab.specs.Events.{NamesNode};
 ghost use Rattle.chain_core.specs.States.{Machine};
 ghost use Rattle.disk.specs.Memory.{Slots};
 ghost use Rattle.node.specs.Steps.{disk_of};
-ghost use Rattle.lab.specs.Members.{Is, disk_in, is_honest, state};
+ghost use Rattle.lab.specs.SimNodes.{StateRefines, disk_in, is_honest, state};
 ghost use Rattle.lab.specs.Runs.{IsRun};
 ghost use Rattle.lab.specs.History.{OneHistory};
-ghost use Rattle.lab.specs.Worlds.{HasRun, HasEnded, AreCreated, AreLeft, IsCreated, IsLeft};
-ghost use Rattle.lab.specs.Worlds.{IsRunSoFar, HasHistory, StopsNode, events_in, frames_told};
+ghost use Rattle.lab.specs.Worlds.{HasRun, HasApplied, HasEnded, AreCreated, AreLeft, IsCreated};
+ghost use Rattle.lab.specs.Worlds.{IsLeft, IsRunSoFar, HasHistory, StopsNode, IsIndexOf, HasNoNode};
+ghost use Rattle.lab.specs.Worlds.{events_in, frames_told};
 
-use crate::arrival::brought;
-use crate::member::Member;
-use crate::posted::Posted;
+use crate::delivery::{Posted, delivery_of};
+use crate::node_state::NodeState;
 use crate::report::{Line, Lines, NodeReport, Numbers, Report};
-use crate::seat::Seat;
-use crate::seats::{give, seat_of};
-use crate::telling::one_line;
+use crate::sim_node::SimNode;
+use crate::trace::{one_line, trace_of};
 use crate::{Event, EventRecord, LabError};
 use chain_model::{in_order, made_of_outcomes, one_history};
 use configurations::{Config, Configs, NodeId};
@@ -29,13 +29,14 @@ use kv_types::{Batch, Limits, Number};
 use node::laws::disks_represent;
 use node::{Node, Stop};
 use std::alloc::{AllocError, Global};
+use std::mem;
 
-/// The nodes of a chain on disks in memory, every frame that they ever sent, and every line of what
-/// they did so far. An event is one step of one of them.
+/// The nodes of a chain on disks in memory, every frame that they ever sent, and the trace so far.
+/// An event is one step of one of them.
 #[derive(Drop)]
 pub struct World {
     limits: Limits,
-    seats: Vec<Seat>,
+    nodes: Vec<SimNode>,
     frames: Vec<Posted>,
     events: Vec<EventRecord>,
     steps: Vec<Lines>,
@@ -49,15 +50,15 @@ fn created_node(
     id: NodeId,
     config: &Config,
     limits: &Limits,
-) -> Result<Seat, LabError>
-    ensures id { IfOk result (λ seat. seat.id ≡ id) }
+) -> Result<SimNode, LabError>
+    ensures id { IfOk result (λ node. node.id ≡ id) }
     ensures created { IfOk result (IsCreated config.now) }
 {
     let disk = MemDisk::new(alloc);
     match Node::create(alloc, disk, id, config, limits) {
-        Ok(node) => Ok(Seat {
+        Ok(node) => Ok(SimNode {
             id,
-            member: Member::Running(node),
+            state: NodeState::Up(node),
         }),
         Err(refused) => {
             // A new disk fails at no call that fits, so only memory can be wanting.
@@ -69,27 +70,28 @@ fn created_node(
 }
 
 // All nodes of a configuration, in order.
-fn created_nodes(alloc: Global, config: &Config, limits: &Limits) -> Result<Vec<Seat>, LabError>
-    ensures { IfOk result (λ seats. AreCreated config.now config.now seats.items) }
+fn created_nodes(alloc: Global, config: &Config, limits: &Limits) -> Result<Vec<SimNode>, LabError>
+    ensures { IfOk result (λ nodes. AreCreated config.now config.now nodes.items) }
 {
-    let mut seats = Vec::new(alloc);
+    let mut nodes = Vec::new(alloc);
     for id in config.ids() {
-        seats.push(created_node(alloc, *id, config, limits)?)?;
+        nodes.push(created_node(alloc, *id, config, limits)?)?;
     }
-    Ok(seats)
+    Ok(nodes)
 }
 
-// What is left of a node.
-fn left_of(seat: Seat) -> NodeReport
-    ensures left { (n : Machine) (disk : Slots) → Is is_honest state seat.member seat.id n →
-        disk_in seat.member ≡ disk → IsLeft n disk result }
-    ensures id { result.id ≡ seat.id }
-    ensures runs { (node : _) → seat.member ≡ Member.Running node → result.disk ≡ disk_of node }
-    ensures rests { (disk : _) → seat.member ≡ Member.Resting disk → result.disk ≡ disk }
+// The report of a node, at the end of a run.
+fn left_of(node: SimNode) -> NodeReport
+    ensures left { (n : Machine) (disk : Slots) →
+        StateRefines is_honest state node.state node.id n →
+        disk_in node.state ≡ disk → IsLeft n disk result }
+    ensures id { result.id ≡ node.id }
+    ensures runs { (up : _) → node.state ≡ NodeState.Up up → result.disk ≡ disk_of up }
+    ensures rests { (disk : _) → node.state ≡ NodeState.Down disk → result.disk ≡ disk }
 {
-    let Seat { id, member } = seat;
-    match member {
-        Member::Running(node) => {
+    let SimNode { id, state } = node;
+    match state {
+        NodeState::Up(node) => {
             let running = Some(Numbers {
                 epoch: node.epoch(),
                 count: node.count(),
@@ -101,7 +103,7 @@ fn left_of(seat: Seat) -> NodeReport
             let disk = node.into_disk();
             NodeReport { id, disk, running }
         }
-        Member::Resting(disk) => NodeReport {
+        NodeState::Down(disk) => NodeReport {
             id,
             disk,
             running: None,
@@ -109,18 +111,18 @@ fn left_of(seat: Seat) -> NodeReport
     }
 }
 
-// .. and of all nodes, in order.
-fn left_of_all(alloc: Global, seats: Vec<Seat>) -> Result<Vec<NodeReport>, AllocError>
-    ensures { IfOk result (λ nodes. AreLeft seats.items nodes.items) }
+// The reports of all nodes, in order.
+fn left_of_all(alloc: Global, nodes: Vec<SimNode>) -> Result<Vec<NodeReport>, AllocError>
+    ensures { IfOk result (λ reports. AreLeft nodes.items reports.items) }
 {
-    let mut nodes = Vec::new(alloc);
-    for seat in seats {
-        nodes.push(left_of(seat))?;
+    let mut reports = Vec::new(alloc);
+    for node in nodes {
+        reports.push(left_of(node))?;
     }
-    Ok(nodes)
+    Ok(reports)
 }
 
-// An event is taken. Its lines are not there yet.
+// Keeps an event that is applied. Its lines are not there yet.
 fn keep(events: &mut Vec<EventRecord>, event: &Event) -> Result<(), AllocError>
     ensures { OnOk result (events_in events.new.items
         ≡ events_in events.old.items ++ event.now ∷ []) }
@@ -128,6 +130,14 @@ fn keep(events: &mut Vec<EventRecord>, event: &Event) -> Result<(), AllocError>
     let event = event.clone()?;
     events.push(EventRecord { event })?;
     Ok(())
+}
+
+// Where the node with this id is.
+fn index_of(nodes: &[SimNode], id: NodeId) -> Option<usize>
+    ensures { MatchOption result (HasNoNode nodes.now id)
+        (λ index. IsIndexOf nodes.now index id) }
+{
+    nodes.iter().position(|node| node.id == id)
 }
 
 impl World {
@@ -138,7 +148,7 @@ impl World {
     {
         Ok(World {
             limits: *limits,
-            seats: created_nodes(alloc, configs.first(), limits)?,
+            nodes: created_nodes(alloc, configs.first(), limits)?,
             frames: Vec::new(alloc),
             events: Vec::new(alloc),
             steps: Vec::new(alloc),
@@ -146,61 +156,59 @@ impl World {
         })
     }
 
-    fn happen(&mut self, alloc: Global, event: &Event) -> Result<(), LabError>
-        ensures ran { (cs : Configurations) (events : List Event) (steps : List (List Line)) →
-            HasRun self.old cs events steps → NamesNode cs event.now.what →
-            OnOk result ((lines : List Line) ×
-            HasRun self.new cs (events ++ event.now ∷ []) (steps ++ lines ∷ [])) }
-        ensures nothing { (cs : Configurations) (events : List Event) (steps : List (List Line)) →
-            HasRun self.old cs events steps → (NamesNode cs event.now.what → ⊥) →
-            OnOk result (HasRun self.new cs events steps) }
-        ensures stopped { (cs : Configurations) (events : List Event) (steps : List (List Line)) →
-            HasRun self.old cs events steps → NamesNode cs event.now.what →
-            OnOk result (StopsNode event.now.what self.old.seats.items self.new.seats.items) }
+    // Applies an event to the node that it is for, if the world has it.
+    fn apply(&mut self, alloc: Global, event: &Event) -> Result<(), LabError>
+        ensures { (cs : Configurations) (events : List Event) (steps : List (List Line)) →
+            HasRun self.old cs events steps →
+            OnOk result (HasApplied self.old self.new cs events steps event.now) }
     {
         // No run that memory holds has more events than there are numbers.
         let Some(request) = Number::new(self.steps.len() as u64 + 1) else {
             return Err(LabError::Memory);
         };
-        // A theorem of the chain's model: the call brings it, and does nothing.
+        // law: in every run of the model frames are in order
         in_order::<Batch>();
-        let Some(arrival) = brought(alloc, &self.frames, request, &event.what)? else {
+        let Some(delivery) = delivery_of(alloc, &self.frames, request, &event.kind)? else {
             keep(&mut self.events, event)?;
             self.steps.push(one_line(alloc, Line::Nothing)?)?;
             return Ok(());
         };
-        let Some(index) = seat_of(&self.seats, arrival.to) else {
+        let (to, input) = delivery;
+        let Some(index) = index_of(&self.nodes, to) else {
             return Ok(());
         };
         keep(&mut self.events, event)?;
-        let (seats, frames) = (&mut self.seats, &mut self.frames);
-        let lines = give(alloc, seats, frames, index, arrival, &self.limits)?;
+        let state = NodeState::Down(MemDisk::new(alloc));
+        let node = mem::replace(&mut self.nodes[index], SimNode { id: to, state });
+        let (state, outcome) = node.state.dispatch(alloc, input, &self.limits)?;
+        self.nodes[index] = SimNode { id: to, state };
+        let lines = trace_of(alloc, &mut self.frames, to, outcome)?;
         self.steps.push(lines)?;
         Ok(())
     }
 
-    /// Gives the node that it is for an event. One that names a node which the world does not have
-    /// does nothing. After an error the world is at its end: every later step is refused.
+    /// Applies an event to the node that it is for. One that names a node which the world does not
+    /// have does nothing. After an error the world is at its end: every later step is refused.
     pub fn step(&mut self, alloc: Global, event: &Event) -> Result<(), LabError>
         ensures ran { (cs : Configurations) (events : List Event) (steps : List (List Line)) →
-            HasRun self.old cs events steps → NamesNode cs event.now.what →
+            HasRun self.old cs events steps → NamesNode cs event.now.kind →
             OnOk result ((lines : List Line) ×
             HasRun self.new cs (events ++ event.now ∷ []) (steps ++ lines ∷ [])) }
         ensures nothing { (cs : Configurations) (events : List Event) (steps : List (List Line)) →
-            HasRun self.old cs events steps → (NamesNode cs event.now.what → ⊥) →
+            HasRun self.old cs events steps → (NamesNode cs event.now.kind → ⊥) →
             OnOk result (HasRun self.new cs events steps) }
         ensures stopped { (cs : Configurations) (events : List Event) (steps : List (List Line)) →
-            HasRun self.old cs events steps → NamesNode cs event.now.what →
-            OnOk result (StopsNode event.now.what self.old.seats.items self.new.seats.items) }
+            HasRun self.old cs events steps → NamesNode cs event.now.kind →
+            OnOk result (StopsNode event.now.kind self.old.nodes.items self.new.nodes.items) }
         ensures ends { MatchResult result (λ _. HasEnded self.new → ⊥) (λ _. HasEnded self.new) }
         ensures again { HasEnded self.old → IsErr result }
     {
         if self.ended {
             return Err(LabError::Memory);
         }
-        let happened = self.happen(alloc, event);
-        self.ended = happened.is_err();
-        happened
+        let applied = self.apply(alloc, event);
+        self.ended = applied.is_err();
+        applied
     }
 
     /// How many frames were sent so far.
@@ -211,7 +219,7 @@ impl World {
         self.frames.len() as u64
     }
 
-    /// What the run did so far: the lines of each event. The world keeps the disks.
+    /// The lines of each event so far. The world keeps the disks.
     pub fn report(&self) -> &[Lines]
         ensures steps { (cs : Configurations) (events : List Event) (steps : List (List Line)) →
             HasRun self.now cs events steps → result.now ≡ steps }
@@ -220,15 +228,15 @@ impl World {
         ensures history { (cs : Configurations) (events : List Event) (steps : List (List Line)) →
             HasRun self.now cs events steps → HasHistory self.now cs events result.now }
     {
-        // Theorems of the chain's model: a call brings one, and does nothing.
+        // laws: a run of the model has one history, and is made of its outcomes
         one_history::<Batch>();
         made_of_outcomes::<Batch>();
-        // A law of nodes.
+        // law: the disk of a running node represents it
         disks_represent::<MemDisk>();
         &self.steps
     }
 
-    /// The events that the world took so far.
+    /// The events that were applied so far.
     pub fn events(&self) -> &[EventRecord]
         ensures { (cs : Configurations) (events : List Event) (steps : List (List Line)) →
             HasRun self.now cs events steps → events_in result.now ≡ events }
@@ -236,7 +244,7 @@ impl World {
         &self.events
     }
 
-    /// What the run did, and what it left of each node.
+    /// The report of the run: its lines, and each node at the end.
     pub fn finish(self, alloc: Global) -> Result<Report, LabError>
         ensures steps { (cs : Configurations) (events : List Event) (steps : List (List Line)) →
             HasRun self cs events steps → IfOk result (λ report. report.steps.items ≡ steps) }
@@ -247,7 +255,7 @@ impl World {
         ensures ended { HasEnded self → IsErr result }
     {
         let World {
-            seats,
+            nodes,
             steps,
             limits: _limits,
             frames: _frames,
@@ -257,8 +265,8 @@ impl World {
         if ended {
             return Err(LabError::Memory);
         }
-        let nodes = left_of_all(alloc, seats)?;
-        // Theorems of the chain's model: a call brings one, and does nothing.
+        let nodes = left_of_all(alloc, nodes)?;
+        // laws: a run of the model has one history, and is made of its outcomes
         one_history::<Batch>();
         made_of_outcomes::<Batch>();
         Ok(Report { steps, nodes })

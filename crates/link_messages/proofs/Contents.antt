@@ -11,7 +11,7 @@ use Rattle.link_messages.specs.Stream.{HasKind, Begins, IsMalformed, IsTooMuch}
 use Rattle.link_messages.specs.Reading.{Reader, reader_of, ended, read_by, content_at}
 use Rattle.link_messages.proofs.FrameLaws.{reader_is, known, unknown, frame_again}
 
--- what there is to tell of content
+-- the verdict on content
 abbrev pub Verdict : Result Frame FrameError → List ℕ → Type 0
 Verdict (Ok f) content = Begins content f []
 Verdict (Err fault.BadKind) content = HasKind content → ⊥
@@ -35,7 +35,7 @@ no_bad_field : (f : Frame) (behind : List ℕ) → ended (Some (f, behind)) ≡ 
 no_bad_field f [] e = absurd cc
 no_bad_field f (b ∷ behind) e = absurd cc
 
--- ---- what is read is so
+-- ---- the value that is read is right
 
 verdict_of_read : TestDecidesConfig →
     (k : ℕ) (bytes : List ℕ) (read : Reader Frame) → reader_of k ≡ Some read

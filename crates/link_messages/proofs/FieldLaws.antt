@@ -1,4 +1,4 @@
--- The reader of each field gives what was spelled.
+-- The reader of each field reads back its spelling.
 use Rattle.std.proofs.Common.{◌≡◌, ℕ, zero, suc, ◌<◌, ◌≤◌, ◌^◌, Bool, true, false, ◌&&◌}
 use Rattle.std.proofs.Common.{List, ◌++◌, length, Option, Some, None, IfSome, All, refl}
 use Rattle.std.proofs.Common.{sym}
@@ -121,9 +121,15 @@ config_reads decides =
     ))
     (counted_reads u8_reads u16_reads)
 
+<<<<<<< HEAD
 -- what `Config::read_from` found is what is read
 pub config_front : TestDecidesConfig → {R : Type 0} (now : R → List ℕ) (bytes : List ℕ)
     (found : Option (List ℕ × R)) → IsBytes bytes
+=======
+-- the value that `Config::read_from` found is the value that is read
+pub config_front : {R : Type 0} (now : R → List ℕ) (bytes : List ℕ) (found : Option (List ℕ × R))
+    → IsBytes bytes
+>>>>>>> origin/main
     → IfSome found (λ x. (bytes ≡ config_text x.0 ++ now x.1) × IsConfig x.0)
     → ((ids rest : List ℕ) → IsConfig ids → bytes ≡ config_text ids ++ rest
     → IsSomeAnd found (λ x. (x.0 ≡ ids) × (now x.1 ≡ rest)))

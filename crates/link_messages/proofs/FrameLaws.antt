@@ -1,4 +1,4 @@
--- Frames: the reader of each kind gives what was spelled, and each frame keeps the limit.
+-- Frames: the reader of each kind reads back its spelling, and each frame keeps the limit.
 use Rattle.std.proofs.Common.{◌≡◌, ℕ, zero, suc, ◌+◌, ◌*◌, ◌<◌, ◌≤◌, Bool, true, false, List, []}
 use Rattle.std.proofs.Common.{◌∷◌, ◌++◌, length}
 use Rattle.std.proofs.Common.{Option, Some, None, IfSome, refl, ap, subst, ◌∙◌, arith}

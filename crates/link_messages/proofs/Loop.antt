@@ -7,7 +7,7 @@ use Rattle.link_messages.specs.declared.error.FrameError.{FrameError}
 use Rattle.link_messages.specs.declared.error.FrameError.TheVariants as fault
 use Rattle.link_messages.specs.Reading.{Reader, Fails, many}
 
--- what was read before, and what is still read
+-- the edits or values read before, and those still to read
 abbrev pub with_front : {A : Type 0} → List A → Option (List A × List ℕ)
     → Option (List A × List ℕ)
 with_front front read = read >>= λ x. Some (front ++ x.0, x.1)

@@ -1,4 +1,4 @@
--- A reader gives what was spelled and nothing else; and so do readers made of such readers.
+-- A reader reads back what was spelled and nothing else; and so do readers built from such readers.
 use Rattle.std.proofs.Common.{◌≡◌, ℕ, zero, suc, ◌+◌, ◌%◌, ◌^◌, ◌<◌, ◌≤◌, Bool, true, false, cond}
 use Rattle.std.proofs.Common.{ltb, List}
 use Rattle.std.proofs.Common.{[], ◌∷◌, ◌++◌, length, take, drop, Option, Some, None, IfSome, refl}
@@ -63,7 +63,7 @@ both_reads {A} {B} {IsA} {IsB} {spell_a} {spell_b} {first} {second} f s =
           ∙ rw (f.again x.0 (spell_b x.1 ++ rest) is.0, s.again x.1 rest is.1) refl;
     }
 
--- ---- what is read, made into something else
+-- ---- a reading with a function applied to its value
 
 pub made_reads : {A B : Type 0} {Is : A → Type 0} {spell : A → List ℕ} {read : Reader A}
     (make : A → B) (of : B → A) → ((b : B) → make (of b) ≡ b) → ((a : A) → of (make a) ≡ a)
@@ -96,7 +96,7 @@ right_reads to from r =
       again = λ a rest is. r.again a rest (from a is);
     }
 
--- ---- what passes a test
+-- ---- a reading whose value passes a test
 
 passed : {A : Type 0} (b : Bool) (x y : A) → cond b (Some x) None ≡ Some y
     → (b ≡ true) × (x ≡ y)
@@ -135,7 +135,7 @@ IsBytes-take n bytes h i =
           (omega arith)
     ]
 
--- numbers of a width stand in so many bytes, up to a bound
+-- numbers below a bound are spelled and read back in this width
 pub record IsWide (w : Width) (bound : ℕ) : Type 0 where
   pub len : (n : ℕ) → length (to_be_bytes w n) ≡ byte_len w
   pub back : (bytes : List ℕ) → length bytes ≡ byte_len w → IsBytes bytes
@@ -285,7 +285,7 @@ optional_reads {A} {Is} {spell} {read} r =
       again = optional_again r;
     }
 
--- ---- so many, one behind the other
+-- ---- a given number of readings, one behind the other
 
 many_takes : {A : Type 0} {Is : A → Type 0} {spell : A → List ℕ} {read : Reader A}
     → Reads Is spell read → (n : ℕ) (bytes : List ℕ) (x : List A × List ℕ) → IsBytes bytes

@@ -1,4 +1,4 @@
--- What stands at the front of a stream has one answer, and a stream has one list of frames.
+-- The bytes at the front of a stream have one answer, and a stream has one list of frames.
 use Rattle.std.proofs.Common.{◌≡◌, inl, inr, ℕ, ◌+◌, ◌<◌, ◌≤◌, false, true, cond, ltb, eqb}
 use Rattle.std.proofs.Common.{List, [], ◌∷◌, ◌++◌, length, take, drop, Option, Some, None, Result}
 use Rattle.std.proofs.Common.{Ok}
@@ -27,7 +27,7 @@ use Rattle.link_messages.proofs.Readers.{IsBytes-take, IsBytes-drop}
 use Rattle.link_messages.proofs.FrameLaws.{frames_fit}
 use Rattle.link_messages.proofs.Contents.{Verdict, verdict, one_verdict}
 
--- ---- what the code answers
+-- ---- the answers of the code
 
 pub told_length : (n : ℕ) (front bytes : List ℕ) → front ≡ take 4 bytes → n ≡ big_number 4 front
     → n ≡ length_field bytes
@@ -114,13 +114,13 @@ front_fault decides bytes n e fits long told some few there read =
     fault_or decides e bytes (take n (drop 4 bytes)) (whole bytes n fits long told some few there)
     (small bytes n fits) read
 
--- ---- what stands at the front of bytes
+-- ---- the shapes of the bytes at the front
 
--- nothing whole yet, a length that is no frame's, or whole content
+-- an incomplete frame, a length out of bounds, or complete content
 abbrev Shape : Type 0
 Shape = Result (Option (List ℕ)) FrameError
 
--- by the length that the bytes tell
+-- the case by the length in the first bytes
 abbrev shape_by : List ℕ → ℕ → Shape
 shape_by bytes n = cond (ltb MAX_FRAME n) (Err fault.TooLong)
     (cond (eqb n 0) (Err fault.BadField)

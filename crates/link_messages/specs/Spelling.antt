@@ -47,7 +47,7 @@ optional spell (Some x) = 1 ∷ spell x
 abbrev pub at_text : Option ℕ → List ℕ
 at_text at = optional u64 at
 
--- the first key, the bound, the way and the limit
+-- the first key, the bound, the direction and the limit
 abbrev pub range_text : Span → List ℕ
 range_text range =
     text range.from ++ (optional text range.to ++ (truth range.backward ++ u32 range.limit))

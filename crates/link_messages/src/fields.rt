@@ -92,7 +92,7 @@ pub fn put_range(out: &mut Vec<u8>, range: &Range) -> Result<(), AllocError>
     put_u32(out, range.limit())
 }
 
-// ---- reading: from the front of the bytes, which are left at what is behind it
+// ---- reading: from the front of the bytes, which then hold the bytes behind the field
 
 #[tactic(auto, unfolding(crate::specs::Reading::epoch_at))]
 pub fn epoch_of(bytes: &mut &[u8]) -> Result<Epoch, FrameError>

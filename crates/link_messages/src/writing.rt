@@ -184,7 +184,7 @@ fn room_for(frame: &Frame) -> usize {
     }
 }
 
-/// The one spelling of the frame.
+/// The one spelling of the frame in bytes.
 pub fn write(alloc: Global, frame: &Frame) -> Result<Vec<u8>, AllocError>
     ensures spelled { IfOk result (λ bytes. bytes.items ≡ spelling frame.now) }
     ensures lawful { IfOk result (λ _. HasBounds frame.now → IsFrame frame.now) }

@@ -114,7 +114,7 @@ fn stays(alloc: Global, bytes: &[u8], fault: FrameError) -> bool {
     fed && first && again && more && reader.next().err() == Some(fault)
 }
 
-/// Bytes that are no frame, and their fault.
+/// Bytes that are no frame, and their error.
 static FAULTS: [(&[u8], FrameError); 4] = [
     (&[0, 2, 0, 1], FrameError::TooLong),
     (&[0, 0, 0, 0], FrameError::BadField),

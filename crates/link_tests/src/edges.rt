@@ -116,7 +116,7 @@ static TEXTS: [(&[u8], u16, Option<FrameError>); 4] = [
     ),
 ];
 
-/// The fault of a frame of this front and a text of this length.
+/// The error of a frame of this front and a text of this length.
 fn text_fault(alloc: Global, front: &[u8], len: u16) -> Result<Option<FrameError>, Fail> {
     let mut content = front.to_vec(alloc)?;
     put_text(&mut content, len)?;

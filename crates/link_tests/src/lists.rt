@@ -1,4 +1,4 @@
-// Which lists are configurations and lists of them, and which fault is told of the others.
+// Lists that are configurations, lists of configurations, and the errors of other lists.
 use configurations::{Config, ConfigError, Configs, Epoch, NodeId};
 use std::alloc::Global;
 use std::test::Fail;
@@ -7,7 +7,7 @@ const SIXTEEN: &[u16] = &[2, 3, 4, 5, 6, 7, 8, 9, 10, 11, 12, 13, 14, 15, 16, 17
 
 const SEVENTEEN: &[u16] = &[1, 2, 3, 4, 5, 6, 7, 8, 9, 10, 11, 12, 13, 14, 15, 16, 17];
 
-/// The fault of a list of ids, if it has one. Want of memory is no answer.
+/// The error of a list of ids, if it has one. Want of memory fails the test.
 fn fault_of(alloc: Global, ids: &[u16]) -> Result<Option<ConfigError>, ConfigError> {
     match Config::new(alloc, ids.to_vec(alloc)?) {
         Ok(_) => Ok(None),
@@ -16,7 +16,7 @@ fn fault_of(alloc: Global, ids: &[u16]) -> Result<Option<ConfigError>, ConfigErr
     }
 }
 
-/// The fault of a list of configurations, if it has one.
+/// The error of a list of configurations, if it has one.
 fn fault_of_list(alloc: Global, lists: &[&[u16]]) -> Result<Option<ConfigError>, ConfigError> {
     let mut configs = Vec::new(alloc);
     for ids in lists {
@@ -25,7 +25,7 @@ fn fault_of_list(alloc: Global, lists: &[&[u16]]) -> Result<Option<ConfigError>,
     Ok(Configs::new(configs).err())
 }
 
-/// Lists of ids, and the fault of each.
+/// Lists of ids, and the error of each.
 static IDS: [(&[u16], Option<ConfigError>); 8] = [
     (&[1], None),
     (&[3, 65535, 1], None),
@@ -46,7 +46,7 @@ fn ids(rt: HostRuntime) -> Result<(), Fail> {
     Ok(())
 }
 
-/// Lists of configurations, and the fault of each.
+/// Lists of configurations, and the error of each.
 static LISTS: [(&[&[u16]], Option<ConfigError>); 7] = [
     (&[&[1]], None),
     (&[&[1, 2, 3], &[1, 3], &[3]], None),
@@ -69,8 +69,8 @@ fn lists(rt: HostRuntime) -> Result<(), Fail> {
     Ok(())
 }
 
-/// The fault of a list of configurations, each without the first node of the one before, if it
-/// has one.
+/// The error of a list of configurations, each without the first node of the one before, if it has
+/// one.
 fn fault_of_shrinking(alloc: Global) -> Result<Option<ConfigError>, ConfigError> {
     let mut configs = Vec::new(alloc);
     for left_out in 0..16 {
@@ -116,7 +116,7 @@ fn plain(id: Option<NodeId>) -> Option<u16> {
     }
 }
 
-/// Which nodes stand before and after this one, and whether it is there.
+/// The neighbours of this node, and whether the configuration has it.
 fn about(alloc: Global, id: u16) -> Result<(Option<u16>, Option<u16>, bool), ConfigError> {
     let config = config(alloc)?;
     let id = NodeId::new(id).ok_or(ConfigError::BadId)?;
@@ -127,14 +127,14 @@ fn about(alloc: Global, id: u16) -> Result<(Option<u16>, Option<u16>, bool), Con
     ))
 }
 
-/// Its head, its tail and how long a copy is.
+/// The head, the tail and the length of a copy.
 fn ends(alloc: Global) -> Result<(u16, u16, usize), ConfigError> {
     let config = config(alloc)?;
     let len = config.clone()?.ids().len();
     Ok((config.head().get(), config.tail().get(), len))
 }
 
-/// A node, those before and after it, and whether it is there.
+/// A node, its neighbours, and whether the configuration has it.
 static NEIGHBOURS: [(u16, Option<u16>, Option<u16>, bool); 4] = [
     (5, None, Some(2), true),
     (2, Some(5), Some(9), true),

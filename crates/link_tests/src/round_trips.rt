@@ -34,10 +34,10 @@ fn value_of(alloc: Global, len: usize) -> Result<Value, Fail> {
     Ok(Value::new(vec![in alloc; 118u8; len]?)?)
 }
 
-/// Lengths of keys and values, with which a batch is spelled in 65,536 bytes.
+/// The lengths of keys and values in a batch that is spelled in 65,536 bytes.
 const BATCH: [(usize, usize); 4] = [(1024, 16384), (1024, 16384), (1024, 16384), (0, 13290)];
 
-/// The same of rows, which make a page of 98,304 bytes.
+/// The lengths of keys and values in rows of a page of 98,304 bytes.
 const PAGE: [(usize, usize); 6] = [
     (1024, 16384),
     (1024, 16384),
@@ -118,7 +118,7 @@ fn link_of(alloc: Global, kind: u8, big: bool) -> Result<Frame, Fail> {
     })
 }
 
-/// What a client asks, by its kind.
+/// A client's request, by its kind.
 fn request_of(alloc: Global, kind: u8, big: bool) -> Result<Frame, Fail> {
     let (request, at) = (number_of(big)?, at_of(big)?);
     Ok(match kind {
@@ -144,7 +144,7 @@ fn request_of(alloc: Global, kind: u8, big: bool) -> Result<Frame, Fail> {
     })
 }
 
-/// What a client is answered, by its kind.
+/// A reply to a client, by its kind.
 fn reply_of(alloc: Global, kind: u8, big: bool) -> Result<Frame, Fail> {
     let request = number_of(big)?;
     let number = request;

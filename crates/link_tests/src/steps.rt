@@ -1,4 +1,4 @@
-// What a node decides, whom it answers and what it sends, by the rules of a step.
+// The decisions, replies and frames of a node, by the rules of a step.
 use chain_core::{CoreError, CoreState, Decision, Done, DropReason, Input, Sent, decide};
 use configurations::{Config, Epoch, NodeId};
 use kv_types::{Batch, Edit, Key, Number};
@@ -6,20 +6,20 @@ use link_messages::Refusal;
 use std::alloc::Global;
 use std::test::Fail;
 
-// What comes to a node.
+// The inputs of a node.
 #[derive(Clone, Copy, Debug, Drop)]
 enum Comes {
-    // A batch, for this request.
+    // A client's batch, with this request number.
     Submit(u64),
     Get(Option<u64>),
-    // A batch of this epoch, node and number.
+    // A Forward with this epoch, sender and number.
     Forward(u32, u16, u64),
-    // From this epoch and node: what is committed, and what it has.
+    // An Ack with this epoch, sender, committed number and number of batches.
     Ack(u32, u16, u64, u64),
     Tick,
 }
 
-// What is decided.
+// The decisions on inputs.
 #[derive(Clone, Copy, PartialEq)]
 enum Gives {
     Accept,
@@ -88,7 +88,7 @@ fn input(alloc: Global, comes: Comes) -> Result<Input, CoreError> {
     }
 }
 
-/// What is decided, and how many requests are answered once it is done.
+/// The decision, and the number of requests that are answered once it is done.
 fn step(alloc: Global, state: &mut CoreState, comes: Comes) -> Result<(Gives, usize), CoreError> {
     let (gives, done) = match decide(state, input(alloc, comes)?) {
         Decision::Accept { request, .. } => (Gives::Accept, Done::Accepted { request }),
@@ -103,7 +103,7 @@ fn step(alloc: Global, state: &mut CoreState, comes: Comes) -> Result<(Gives, us
     Ok((gives, state.after(alloc, done)?.len()))
 }
 
-/// A node of the chain 1, 2, 3 as it is created.
+/// A node of the chain 1, 2, 3 at its creation.
 fn created(alloc: Global, id: u16) -> Result<CoreState, CoreError> {
     let (_, id) = origin(0, id)?;
     let ids = [1, 2, 3].to_vec(alloc)?;
@@ -111,7 +111,7 @@ fn created(alloc: Global, id: u16) -> Result<CoreState, CoreError> {
     Ok(CoreState::created(alloc, id, config))
 }
 
-/// The node that a frame is for.
+/// The addressee of a frame.
 fn to(sent: &Option<Sent>) -> Option<u16> {
     match sent {
         Some(sent) => Some(sent.to.get()),
@@ -119,7 +119,7 @@ fn to(sent: &Option<Sent>) -> Option<u16> {
     }
 }
 
-// What comes to a head in turn, what it decides, and how many requests are answered.
+// The inputs of a head in turn, its decisions, and the numbers of answered requests.
 static HEAD: [(Comes, Gives, usize); 14] = [
     (Comes::Get(None), Gives::Show(0), 0),
     (Comes::Submit(1), Gives::Accept, 0),
@@ -160,7 +160,7 @@ fn a_head(rt: HostRuntime) -> Result<(), Fail> {
     Ok(())
 }
 
-// A new node, what comes to it, and what it decides.
+// A new node, an input, and its decision.
 static OTHERS: [(u16, Comes, Gives); 7] = [
     (2, Comes::Submit(1), Gives::Refuse(Refusal::NotHead)),
     (2, Comes::Forward(0, 1, 2), Gives::TellAgain),

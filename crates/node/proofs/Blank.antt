@@ -32,7 +32,7 @@ pub has_bytes : (bytes : Option (List ℕ)) (len : ℕ) → (len ≡ 0 → ⊥) 
 has_bytes None len some is = some is
 has_bytes (Some it) len some is = omega (arith, some, is)
 
--- bytes that stand for records are blank exactly where there are none
+-- bytes that represent records are blank exactly where there are none
 blank_none : OneList → (bytes : Option (List ℕ)) (records : List (List ℕ)) → HasBytes bytes →
     IsLog bytes records → IsBlankFile bytes → records ≡ []
 blank_none law None records has stands blank = absurd has

@@ -1,4 +1,4 @@
--- Causes of a stop, by what the layers below tell.
+-- Causes of a stop, by the errors of the layers below.
 use Rattle.std.proofs.Common.{◌≡◌, ◌⊎◌, ℕ, ◌≤◌, List, length, Result, Ok, Err, inl, inr, ap, arith}
 use Rattle.std.specs.Prelude.{IfErr, OnErr, OnOk, IsErrOf}
 use Rattle.record_log.specs.declared.error.LogError.{LogError}
@@ -9,7 +9,7 @@ use Rattle.node.specs.declared.stop.Stop.{Stop}
 use Rattle.node.specs.declared.stop.Stop.TheVariants as stop
 use Rattle.node.specs.Stops.{log_stop, IsOfMachine}
 
--- a log that works on its own file tells of the machine alone
+-- a log that works on its own file reports environment errors alone
 pub of_machine : (e : LogError) → log_stands.IsOfMachine e → IsOfMachine (log_stop e)
 of_machine e (inl failed) = inl (ap log_stop failed)
 of_machine e (inr memory) = inr (ap log_stop memory)
@@ -19,7 +19,7 @@ pub working_log : (e : LogError) → log_stands.IsOfMachine e ⊎ (e ≡ log.Fai
 working_log e (inl machine) works = of_machine e machine
 working_log e (inr failed) works = absurd (works failed)
 
--- what is no damage is of the machine
+-- a stop that is no damage is an environment error
 pub undamaged : {T : Type 0} (result : Result T Stop) →
     IfErr result (λ e. (e ≡ stop.Damaged) ⊎ (e ≡ stop.Memory)) →
     (IsErrOf result stop.Damaged → ⊥) → IfErr result IsOfMachine
@@ -27,7 +27,7 @@ undamaged (Ok x) only whole = tt
 undamaged (Err e) (inl damaged) whole = absurd (whole (ap (λ d. Err d) damaged))
 undamaged (Err e) (inr memory) whole = inr memory
 
--- a log that takes what fits and works tells of the machine alone
+-- a log that works, with a record that fits, reports environment errors alone
 pub met : (limit : ℕ) (e : LogError) (old new : Log) (one : List ℕ) →
     log_stands.Tells {T = Unit {0}} limit (Err e) old new one → length one ≤ limit →
     (log_stands.HasFailed old → ⊥) → log_stands.IsMet e → IsOfMachine (log_stop e)
@@ -41,12 +41,12 @@ met limit log.TooLong old new one tells fits works (inr own) =
     absurd (omega (arith, long, fits))
 met limit log.Failed old new one tells fits works (inr own) = absurd (works tells.0)
 
--- what holds anyway holds of a refusal
+-- a property of every result holds of a refusal
 pub on_err : {T E P : Type 0} (result : Result T E) → P → OnErr result P
 on_err (Ok x) p = tt
 on_err (Err e) p = p
 
--- .. and of an answer
+-- a property of every result holds of an answer
 pub on_ok : {T E P : Type 0} (result : Result T E) → P → OnOk result P
 on_ok (Ok x) p = p
 on_ok (Err e) p = tt

@@ -25,7 +25,7 @@ use Rattle.chain_core.specs.States.{Machine}
 use Rattle.chain_model.specs.Lists.{place}
 use Rattle.node.proofs.Records.{records_from-push, length-ends}
 
--- what two calls kept, both have
+-- two calls in a row keep what each keeps
 pub kept_on : {engine : Engine} {a b c : State} → KeepsStore engine a b → KeepsStore engine b c →
     KeepsStore engine a c
 kept_on first second = record {
@@ -47,7 +47,7 @@ holds_in old new log records same h = record {
   end = h.end;
 }
 
--- a file that a crash leaves as it is stands for what it stands for
+-- a durable file represents what it represented
 stands_left : SureIsLeft → (disk : State) (file : ℕ) (bytes : List ℕ)
     (records : List (List ℕ)) → disk file ≡ Kept bytes bytes [] → StandsFor bytes records →
     (left : Contents) → MayLeave disk left → IsLog (left file) records
@@ -77,7 +77,7 @@ sure_of_id disk log x ids id config file start h = record {
   identity = subst (λ (s : ℕ). StandsFor (drop s h.bytes) (identity_records x ids)) start h.stands;
 }
 
--- .. and where it is the same file
+-- the identity file is that of the node where it is the same file
 pub id_in : (old new : State) (x : ℕ) (ids : List ℕ) → new identity_file ≡ old identity_file →
     IsSureOfId old x ids → IsSureOfId new x ids
 id_in old new x ids same s = record {
@@ -109,7 +109,7 @@ has_numbers_of disk engine x n s = record {
   kept = s.numbers.none_dropped;
 }
 
--- what an engine holds, by other names of the same numbers
+-- the state that an engine holds, for equal numbers
 pub holds_as : (disk : State) (engine : Engine) (x e d : ℕ) (ids js : List ℕ)
     (list more : List BatchContent) (f g k h : ℕ) → d ≡ e → js ≡ ids → more ≡ list → g ≡ f →
     h ≡ k → EngineHolds disk engine x e ids list f k → EngineHolds disk engine x d js more g h
@@ -122,7 +122,7 @@ at_next [] i d within = absurd (omega (arith, within))
 at_next (first ∷ list) zero d within = refl
 at_next (first ∷ list) (suc i) d within = at_next list i d (omega (arith, within))
 
--- the batch of a number stands one place before it
+-- the batch of a number is one place before it
 pub stands_at : (list batches : List BatchContent) (k : ℕ) (batch found : BatchContent) → 1 ≤ k →
     k ≤ length batches → list ≡ batches → found ≡ get_or batches (k - 1) found → batch ≡ found →
     place list k ≡ Some batch
@@ -252,7 +252,7 @@ module _ (law : SureIsLeft) (old : State) (engine : Engine) (x epoch : ℕ) (ids
         numbers = s.numbers;
       }
 
--- a read gives what a crash may leave
+-- the content that a read returns is a crash outcome
 reads_left : (slot : Slot) → Leaves slot (seen slot)
 reads_left (Absent back) = inl refl
 reads_left (Fresh bytes back) = tt

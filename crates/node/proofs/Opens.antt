@@ -22,7 +22,7 @@ use Rattle.node.specs.Layout.{batch_record, records_from}
 use Rattle.node.specs.Files.{IsLog, HasId, IsSureId}
 use Rattle.node.proofs.Engines.{holds_in, sure_of_id, only_one}
 
--- what a file has it has where it is the same
+-- an unchanged file has the same records
 pub has_in : (old new : State) (file : ℕ) (records : List (List ℕ)) → new file ≡ old file →
     IsLog (seen (old file)) records → HasRecords new file 0 records
 has_in old new file records same had =
@@ -44,7 +44,7 @@ one_identity unique x y xs ys is_x is_y of_x of_y same =
     ap (λ (l : List ℕ). l ++ []) (ap (drop 2) same) in
     (id, (unique xs ys [] [] of_x of_y texts).0)
 
--- what a disk has stands for one node and configuration at most
+-- a disk represents at most one node and configuration
 pub same_identity : OneList → ConfigTextIsUnique → (left : Contents) (x y : ℕ)
     (xs ys : List ℕ) → HasId left x xs → HasId left y ys → (x ≡ y) × (xs ≡ ys)
 same_identity law unique left x y xs ys s t =
@@ -95,7 +95,7 @@ found_id (Ok it) s0 s1 s2 s3 log same_before same_after at o is records =
     }
 found_id (Err e) s0 s1 s2 s3 log same_before same_after at o is records = tt
 
--- what the only record of a log names
+-- the identity that the only record of a log names
 pub named_by : (disk : State) (log : Log) (records : List (List ℕ)) (one : List ℕ)
     (result : Result Identity Stop) → Holds disk log records → count_of log ≡ 1 →
     slice_get records 0 ≡ Some one →

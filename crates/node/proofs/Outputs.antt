@@ -42,13 +42,13 @@ made_of (Some it) P value number made some =
     let same : it ≡ number = cc in
     sym same ∙ made.1
 
--- requests that are due are told what the machine replies
+-- the replies to due requests are the replies of the machine
 pub replies_due : (input : Input) (due : List Waiting) →
     map told_to due ≡ replies_of input (core.replies_of due)
 replies_due input [] = refl
 replies_due input (it ∷ due) = ap (λ l. told_to it ∷ l) (replies_due input due)
 
--- what is said after the store's part is what the rule tells
+-- the output after the store's part is the answer of the rule
 pub tells_rule : (x : ℕ) (n : Machine) (input : Input) (batch : BatchContent) (d : Done)
     (a : Answer BatchContent) (due : List Waiting) (sent : List (Frame BatchContent))
     (result : Result Output Stop) → Leaves x n batch d a → a.replies ≡ core.replies_of due →
@@ -66,7 +66,7 @@ tells_rule x n input batch d a due sent (Err e) leaves replied frames says = tt
 pub greater : (a b : ℕ) → is_gt (nat_cmp a b) ≡ nat_lt b a
 greater a b = grind (arith, nat_tests)
 
--- what a read shows is shown for whatever asked for it
+-- the output of a read is the output for the input that requested it
 pub tells_read : (n : Machine) (input : Input) (request at : ℕ) (key : List ℕ)
     (result : Result Output Stop) → IsReadOf n input (decision.Show request key at) →
     ((number : Option ℕ) →

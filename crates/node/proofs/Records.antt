@@ -90,7 +90,7 @@ all_read disk log records i list h all before =
     omega (arith, all, ap length h.ends, length-ends 0 records) in
     sym (take_all i records size) ∙ before
 
--- a record of a batch is shorter than a log takes
+-- a record of a batch is shorter than the limit of a log
 pub record_fits : (number : ℕ) (batch : BatchContent) → IsBatch batch →
     length (batch_record number batch) ≤ 16777216
 record_fits number batch is =

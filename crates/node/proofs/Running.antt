@@ -77,7 +77,7 @@ appended_list n batch (done.Accepted request) has = refl
 appended_list n batch done.Appended has = refl
 appended_list n batch (done.Told committed have) has = absurd has
 
--- what is counted after the store's part was done
+-- the count after the store's part
 counted : StepsLeave → (old new : Core) (batch : BatchContent) (d : Done) (due : List Waiting) →
     ((n : Machine) (batch : BatchContent) → Is old n →
     core.Follows new (done_of old.id n batch d) due) →
@@ -86,7 +86,7 @@ counted law old new batch d due after =
     let n = machine_with old in
     sym (after n batch (has_numbers old)).is.count ∙ ap length (law old.id n batch d).list
 
--- .. one batch more where one was appended
+-- one batch more is counted where one was appended
 pub counts_appended : StepsLeave → (old new : Core) (d : Done) (due : List Waiting) →
     HasAppended d →
     ((n : Machine) (batch : BatchContent) → Is old n →
@@ -96,7 +96,7 @@ counts_appended law old new d due has after =
     counted law old new [] d due after ∙ ap length (appended_list n [] d has)
     ∙ length-append n.list ([] ∷ []) ∙ ap (λ k. k + 1) (length-replicate old.count [])
 
--- .. and as many as before after a word of the successor
+-- as many batches as before are counted after a report of the successor
 pub counts_told : StepsLeave → (old new : Core) (committed have : ℕ) (due : List Waiting) →
     ((n : Machine) (batch : BatchContent) → Is old n →
     core.Follows new (done_of old.id n batch (done.Told committed have)) due) →
@@ -137,14 +137,14 @@ represents_appended left x n batch (done.Accepted request) has it = it
 represents_appended left x n batch done.Appended has it = it
 represents_appended left x n batch (done.Told committed have) has it = absurd has
 
--- what a disk represents, by other names of the same numbers
+-- the state that a disk represents, for equal numbers
 represents_as : (left : Contents) (x e d : ℕ) (ids js : List ℕ) (list more : List BatchContent)
     (f g k h : ℕ) → d ≡ e → js ≡ ids → more ≡ list → g ≡ f → h ≡ k →
     DiskRepresents left x e ids list f k → DiskRepresents left x d js more g h
 represents_as left x e d ids js list more f g k h of_epoch of_ids of_list of_floor of_kept it =
     rw (of_epoch, of_ids, of_list, of_floor, of_kept) it
 
--- while a batch is appended, the disk stands for the machine before or after
+-- during an append the disk represents the machine before or after
 pub stops_between : (disk : State) (x : ℕ) (n : Machine) (batch : BatchContent) (d : Done)
     (a : Answer BatchContent) → Leaves x n batch d a → HasAppended d →
     KeepsOneOf disk x n.epoch n.ids n.list (n.list ++ batch ∷ []) n.floor n.kept →
@@ -168,7 +168,7 @@ copy_after old new n m x batch copy is ids old_id new_id copied =
     let same_id : new.id ≡ old.id = new_id ∙ sym old_id in
     rw (same_ids, same_id) copied
 
--- the number of a batch that was taken
+-- the number of an appended batch
 pub number_taken : (x : ℕ) (n : Machine) (batch : BatchContent) (d : Done)
     (a : Answer BatchContent) →
     Leaves x n batch d a → HasAppended d → length a.node.list ≡ suc (length n.list)
@@ -180,7 +180,7 @@ number_taken x n batch d a leaves has =
       length-append n.list (batch ∷ []),
     )
 
--- .. at which it stands
+-- the appended batch is at its number
 pub taken_stands : StandsLast → (x : ℕ) (n : Machine) (batch : BatchContent) (d : Done)
     (a : Answer BatchContent) (count : ℕ) → Leaves x n batch d a → HasAppended d →
     count ≡ suc (length n.list) → place a.node.list count ≡ Some batch
@@ -189,7 +189,7 @@ taken_stands law x n batch d a count leaves has number =
     ∙ ap (place (n.list ++ batch ∷ [])) number ∙ law n.list batch
 
 module _ {D : Type 0} (is_honest : D → Type 0) (state : D → State) where
-  -- whatever a crash leaves of its disk stands for it
+  -- every crash outcome of its disk represents the node
   pub rests : SureIsLeft → (node : Node D) (x : ℕ) (n : Machine) →
       Runs is_honest state node x n → AlwaysRests (state node.disk) x n
   rests law node x n r left leaves =
@@ -230,7 +230,7 @@ module _ {D : Type 0} (is_honest : D → Type 0) (state : D → State) where
         id = id;
       }
 
-  -- what it then tells is the machine's answer, and for want of memory it stops
+  -- the output is the machine's answer, and for want of memory the node stops
   pub ends : SureIsLeft → (node : Node D) (x : ℕ) (n : Machine) (input : Input)
       (a : Answer BatchContent) (result : Result Output Stop) → Runs is_honest state node x a.node →
       IfOk result (Tells input a) → IfErr result (λ e. e ≡ stop.Memory) →
@@ -260,7 +260,7 @@ module _ {D : Type 0} (is_honest : D → Type 0) (state : D → State) where
       subst (λ (d : Decision). Ends is_honest state node x n (rule_of x n d)
       (Answers is_honest state node x input (rule_of x n d)) result) (sym is) done
 
-  -- .. and so it is after the store's part
+  -- the rule is that of the decision, also after the store's part
   pub ends_rule : SureIsLeft → (node : Node D) (x : ℕ) (n : Machine) (input : Input)
       (batch : BatchContent) (d : Done) (a : Answer BatchContent) (due told : List Waiting)
       (sent : ℕ → List (Frame BatchContent)) (result : Result Output Stop) →
@@ -287,7 +287,7 @@ module _ {D : Type 0} (is_honest : D → Type 0) (state : D → State) where
   ends_stopped node x n a IsDone result e is machine honest stops =
       rw is (record { done = machine; stopped = (honest, stops) })
 
-  -- what was opened runs as the machine that was started
+  -- the node of an opened engine refines the machine that was started
   module _ (node : Node D) (identity : Identity)
       (is : (n : Machine) → HasNumbersOf node.engine n → n.ids ≡ identity.config →
       Is node.core (started identity.id n)) where
@@ -304,7 +304,7 @@ module _ {D : Type 0} (is_honest : D → Type 0) (state : D → State) where
           id = id ∙ opened.id;
         }
 
-    -- .. and as a node that its disk stood for
+    -- the started node is one that its disk represented
     pub starts : (old : D) (n : Machine) → n.ids ≡ identity.config →
         Rests (contents (state old)) identity.id n → is_honest node.disk →
         IsOpened (state node.disk) identity node.engine identity.id n.epoch n.ids n.list n.floor

@@ -1,4 +1,4 @@
--- What a node's files hold, for now: a log with its id and configuration, and a log of batches.
+-- The layout of a node's files, for now: a log with its id and configuration, and a log of batches.
 use Rattle.std.specs.Prelude.{◌≡◌, ◌⊎◌, ℕ, suc, List, [], ◌∷◌, ◌++◌}
 use Rattle.std.specs.Int.{w16, w64, to_be_bytes}
 use Rattle.kv_types.specs.Content.{BatchContent}

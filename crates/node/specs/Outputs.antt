@@ -1,4 +1,5 @@
--- How a step ends and what it keeps, and what private functions promise one another of its answer.
+-- The end of a step and the state that it keeps, and the contracts of private functions on its
+-- answer.
 use Rattle.std.specs.Prelude.{◌≡◌, ℕ, List, Option, Some, None, Result, MatchResult}
 use Rattle.std.specs.Prelude.{OnErr, OnOk}
 use Rattle.kv_types.specs.Content.{BatchContent}

@@ -1,5 +1,5 @@
--- A node of code and a node of the chain's model: what a running one and a stopped one's disk stand
--- for, and what a step answers.
+-- Refinement of the chain's model by a running node and by a stopped node's disk, and the answers
+-- of a step.
 use Rattle.std.specs.Prelude.{◌≡◌, ◌⊎◌, ℕ, List, [], ◌∷◌}
 use Rattle.std.specs.List.{flat_map}
 use Rattle.kv_types.specs.Content.{BatchContent}
@@ -50,7 +50,7 @@ pub record MayStep {D : Type 0} (node : Node D) : Type 0 where
   pub count : node.core.count ≡ engine_count node.engine
   pub kept : node.core.kept ≡ engine_kept node.engine
 
--- what the client of a read is shown: what its key has in the map of these batches
+-- the reply to a client's read: the value of its key in the map of these batches
 abbrev pub value_for : Input → ℕ → ℕ → List BatchContent → List Reply
 value_for (input.Get request key at) i s batches =
     reply.Value i s (map_of batches key) ∷ []

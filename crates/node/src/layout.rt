@@ -38,7 +38,7 @@ pub fn identity_record(alloc: Global, id: NodeId, config: &Config) -> Result<Vec
     Ok(out)
 }
 
-/// The id and configuration whose record this is.
+/// The identity that this record represents.
 pub fn identity_of(alloc: Global, bytes: &[u8]) -> Result<Identity, Stop>
     ensures found { IfOk result (λ it. bytes.now ≡ identity_record it.id it.config) }
     ensures is { IfOk result (λ it. IsId it.id × IsConfig it.config) }

@@ -1,5 +1,5 @@
-// What a node sends and replies, from its creation on. The lines and what is printed are a
-// script's: the node is created at line 1, and a request has its line's number.
+// The frames and replies of a node, from its creation on. Lines and outputs are those of a script:
+// the node is created at line 1, and a request has its line's number.
 use crate::running::{Line, Running, batch_of, created_in, number, started};
 use configurations::{Epoch, NodeId};
 use disk::{Crash, Junk, JunkBytes};
@@ -143,7 +143,7 @@ fn text_of(alloc: Global, output: &Output) -> Result<String, AllocError> {
     Ok(text)
 }
 
-/// The machine stops and starts, and the node is started.
+/// Stops and starts the machine and the node.
 fn restarted(alloc: Global, running: Running, junk: &[u8]) -> Result<Running, Fail> {
     let mut disk = running.node.into_disk();
     disk.crash(Junk::Bytes(JunkBytes::new(junk.to_vec(alloc)?)));
@@ -157,7 +157,7 @@ fn stepped(alloc: Global, running: Running, input: Input) -> Result<(Running, St
     Ok((Running { node }, text))
 }
 
-/// A node after a line, and what is printed for it.
+/// The node after a line, and the output of the line.
 fn done(
     alloc: Global,
     running: Running,
@@ -293,7 +293,7 @@ const MIDDLE: Course = &[
     (10, Line::Submit(A1), "10: refused 2 NotHead"),
     (11, Line::Get("a", None), "11: value 1 at 1"),
     (12, Line::Tick, "2>1 ack 0 1 1"),
-    // It knows its configuration again, and of no commitment.
+    // It recovers its configuration, and knows of no commitment.
     (13, Line::Restart(&[]), "13: count 1 committed 0"),
     (14, Line::Tick, "2>3 forward 0 1 / 2>1 ack 0 0 1"),
     (15, Line::Forward(0, 1, 2), "2>3 forward 0 2"),
@@ -315,7 +315,7 @@ const TAIL: Course = &[
     (8, Line::Tick, "3>2 ack 0 1 1"),
 ];
 
-// Node 4 is not in it.
+// Node 4 is not in the configuration.
 const REMOVED: Course = &[
     (2, Line::Submit(A1), "2: refused 7 Removed"),
     (3, Line::Get("a", None), "3: refused 7 Removed"),
@@ -338,7 +338,7 @@ fn nodes_of_three(rt: HostRuntime) -> Result<(), Fail> {
     Ok(())
 }
 
-/// A head that took so many batches.
+/// A head that accepted this many batches.
 fn head_of(alloc: Global, batches: u64) -> Result<Running, Fail> {
     let mut running = created_in(alloc, 1, &[1, 2])?;
     for _ in 0..batches {

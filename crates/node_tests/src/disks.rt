@@ -1,4 +1,4 @@
-// Which disks are started, and what stands on them.
+// Disks on which a node starts, disks on which none does, and the bytes of both.
 use crate::running::{Running, batch_of, created, created_in, number, started};
 use disk::{Disk, DiskError, MemDisk};
 use node::{Input, Stop};
@@ -36,7 +36,7 @@ fn disk_of(
     Ok(disk)
 }
 
-/// Why the disk is not started, or else how many batches the node has. Want of memory is no answer.
+/// The refusal of a start, or else the number of the node's batches. Want of memory fails the test.
 fn answer(alloc: Global, disk: MemDisk) -> Result<(Option<Stop>, u64), Stop> {
     match started(alloc, disk) {
         Ok(running) => Ok((None, running.node.count().get())),
@@ -71,13 +71,13 @@ static IDENTITIES: [(Option<&[u8]>, Option<Stop>); 15] = [
     (Some(&[]), BLANK),
     (Some(&[0]), BLANK),
     (Some(NODE_1), None),
-    // It ends before its last gate, and in its record.
+    // The file ends before its last gate, and in its record.
     (Some(&[1, 0, 0, 0, 5, 0, 1, 1, 0, 1]), DAMAGED),
     (Some(&[1, 0, 0, 0, 5, 0, 1]), DAMAGED),
-    // It is in another configuration, or in none.
+    // The node is in another configuration, or in none.
     (Some(NODE_2), None),
     (Some(&[1, 0, 0, 0, 5, 0, 1, 1, 0, 2, 0]), None),
-    // Id 0 as its own and among the ids, an id twice, no id, too few, half an id, two records.
+    // Id 0 as its own and among the ids, a repeated id, no id, too few, half an id, two records.
     (Some(&[1, 0, 0, 0, 5, 0, 0, 1, 0, 1, 0]), DAMAGED),
     (Some(&[1, 0, 0, 0, 5, 0, 1, 1, 0, 0, 0]), DAMAGED),
     (Some(&[1, 0, 0, 0, 7, 0, 1, 2, 0, 1, 0, 1, 0]), DAMAGED),
@@ -124,7 +124,7 @@ const TRAILING: &[u8] = &[
     1, 0, 0, 0, 0x12, 0, 0, 0, 0, 0, 0, 0, 1, 0, 1, 1, 0, 1, 0x61, 0, 1, 0x31, 0, 0,
 ];
 
-// Batch 1, and what a stop in the next append may leave behind its gate.
+// Batch 1, and a possible crash outcome of the next append behind its gate.
 const TORN: &[u8] = &[
     1, 0, 0, 0, 0x11, 0, 0, 0, 0, 0, 0, 0, 1, 0, 1, 1, 0, 1, 0x61, 0, 1, 0x31, 0, //
     1, 1, 1, 1, 1, 1, 1, 1, 1, 1, 1, 1, 1, 1, 1, 1, 1, 1, 1, 1, 1, 1,
@@ -141,7 +141,7 @@ static BATCHES: [(Option<&[u8]>, (Option<Stop>, u64)); 11] = [
     (Some(GAP), (DAMAGED, 0)),
     (Some(LATE), (DAMAGED, 0)),
     (Some(TRAILING), (DAMAGED, 0)),
-    // It ends before its last gate, and in its record.
+    // The file ends before its last gate, and in its record.
     (
         Some(&[
             1, 0, 0, 0, 0x11, 0, 0, 0, 0, 0, 0, 0, 1, 0, 1, 1, 0, 1, 0x61, 0, 1, 0x31,
@@ -161,7 +161,7 @@ fn files_of_batches(rt: HostRuntime) -> Result<(), Fail> {
     Ok(())
 }
 
-/// The disk of node 1 that took the batch a=1.
+/// The disk of node 1 with the batch a=1.
 fn disk_behind(alloc: Global, running: Running) -> Result<MemDisk, Fail> {
     let mut node = running.node;
     let batch = batch_of(alloc, &[("a", Some("1"))])?;

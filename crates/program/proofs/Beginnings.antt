@@ -14,12 +14,12 @@ use Rattle.std.proofs.lemmas.List.Elements.{All-nil, All-cons, All-head, All-tai
 use Rattle.program.specs.declared.script.error.ScriptError.{ScriptError}
 use Rattle.program.specs.declared.script.error.ScriptError.TheVariants.{LineTooLong, TooManyLines}
 use Rattle.program.specs.declared.script.extent.Extent.{Extent}
-use Rattle.program.specs.declared.script.statement.Before.{Before}
+use Rattle.program.specs.declared.script.statement.ParserState.{ParserState}
 use Rattle.program.specs.declared.failure.Failure.{Failure}
 use Rattle.program.specs.declared.failure.Failure.TheVariants.{Unreadable, Script, Output}
 use Rattle.program.specs.declared.failure.Failure.TheVariants.{Memory}
 use Rattle.program.specs.Failures.{IsFailureOf, IsOfInput, IsOfReading}
-use Rattle.program.specs.Scripts.{lines_of}
+use Rattle.program.specs.Scripts.{script_lines}
 use Rattle.program.specs.Faults.{script_fault, start, numbered_fault, line_fault, after_line}
 use Rattle.program.specs.Beginnings.{HasExtent, IsFaulty, IsEnough}
 
@@ -41,7 +41,7 @@ plain_more (a ∷ bytes) b plain other =
 
 -- bytes without a line feed are a whole line before one
 whole_line : (bytes more : List ℕ) → IsPlain bytes →
-    lines_of (bytes ++ 10 ∷ more) ≡ bytes ∷ lines_of more
+    script_lines (bytes ++ 10 ∷ more) ≡ bytes ∷ script_lines more
 whole_line [] more plain = refl
 whole_line (b ∷ bytes) more plain =
     rw (
@@ -85,7 +85,7 @@ line_more text old new lines line has = record {
     snoc text 10 more,
     has.same (10 ∷ more),
     whole_line has.behind more has.plain,
-    snoc has.ended has.behind (lines_of more),
+    snoc has.ended has.behind (script_lines more),
   ) refl;
   lines = size_more has.ended has.behind old.lines has.lines ∙ sym lines;
   line = sym line;
@@ -123,7 +123,7 @@ above : (a b : ℕ) → a < b → nat_lt a b ≡ true
 above a b less = grind (arith, nat_tests)
 
 -- more than 100000 lines
-many_stay : (before : Before) (n : ℕ) (ended : List (List ℕ)) → n ≤ 100001 →
+many_stay : (before : ParserState) (n : ℕ) (ended : List (List ℕ)) → n ≤ 100001 →
     100001 < n + length ended → Stays (λ more. script_fault before n (ended ++ more))
 many_stay before n [] few many = absurd (omega (arith, few, many))
 many_stay before n (line ∷ ended) few many = elim (is_late n) [
@@ -137,7 +137,7 @@ many_stay before n (line ∷ ended) few many = elim (is_late n) [
 ]
 
 -- a line of more than 262144 bytes
-long_stays : (before : Before) (n : ℕ) (ended : List (List ℕ)) (line : List ℕ) →
+long_stays : (before : ParserState) (n : ℕ) (ended : List (List ℕ)) (line : List ℕ) →
     262144 < length line →
     Stays (λ (rest : List ℕ × List (List ℕ)). script_fault before n
     (ended ++ (line ++ rest.0) ∷ rest.1))
@@ -159,16 +159,16 @@ onto b (line ∷ lines) = ((line, lines), refl)
 -- bytes without a line feed begin a line
 begins : (b : ℕ) (bytes more : List ℕ) → IsPlain (b ∷ bytes) →
     (rest : List ℕ × List (List ℕ))
-    × (lines_of ((b ∷ bytes) ++ more) ≡ ((b ∷ bytes) ++ rest.0) ∷ rest.1)
+    × (script_lines ((b ∷ bytes) ++ more) ≡ ((b ∷ bytes) ++ rest.0) ∷ rest.1)
 begins b [] more plain =
-    let first = onto b (lines_of more) in
+    let first = onto b (script_lines more) in
     (first.0, rw (All-head (λ b. (b == 10) ≡ false) b [] plain) first.1)
 begins b (c ∷ bytes) more plain =
     let later = begins c bytes more (All-tail (λ b. (b == 10) ≡ false) b (c ∷ bytes) plain) in
     (later.0, rw (All-head (λ b. (b == 10) ≡ false) b (c ∷ bytes) plain, later.1) refl)
 
 long_line : (text : List ℕ) (ended : List (List ℕ)) (behind : List ℕ) → IsPlain behind →
-    ((more : List ℕ) → lines_of (text ++ more) ≡ ended ++ lines_of (behind ++ more)) →
+    ((more : List ℕ) → script_lines (text ++ more) ≡ ended ++ script_lines (behind ++ more)) →
     262144 < length behind → IsFaulty text
 long_line text ended [] plain same long = absurd (omega (arith, long))
 long_line text ended (b ∷ bytes) plain same long =
@@ -188,7 +188,7 @@ pub too_many : (text : List ℕ) (extent : Extent) → HasExtent text extent →
 too_many text extent has many =
     let count = has.lines in
     let stays = many_stay start 1 has.ended (omega arith) (omega (arith, many, count)) in
-    (stays.0, λ more. rw (has.same more) (stays.1 (lines_of (has.behind ++ more))))
+    (stays.0, λ more. rw (has.same more) (stays.1 (script_lines (has.behind ++ more))))
 
 -- ---- what was read is enough
 
@@ -231,7 +231,7 @@ pub fault_read : (old new : Option (List ℕ)) (text : List ℕ) → Consumes ol
 fault_read None new text consumed faulty = tt
 fault_read (Some xs) None text consumed faulty = absurd consumed
 fault_read (Some xs) (Some ys) text consumed faulty =
-    let alone : script_fault start 1 (lines_of text) ≡ Some faulty.0 =
+    let alone : script_fault start 1 (script_lines text) ≡ Some faulty.0 =
     rw (append-nil text) at (faulty.1 []) in
     record {
       fault = rw consumed (faulty.1 ys ∙ sym alone);

@@ -3,7 +3,7 @@ use Rattle.std.proofs.Common.{◌≡◌, ◌≢◌, ◌+◌, ◌-◌, ◌<◌, �
 use Rattle.std.proofs.Common.{take, drop, refl, arith, add-one, false}
 use Rattle.std.specs.Prelude.{◌==◌}
 use Rattle.std.proofs.lemmas.Bool.Decides.{nat_tests}
-use Rattle.program.specs.Scripts.{lines_of}
+use Rattle.program.specs.Scripts.{script_lines}
 use Rattle.program.proofs.Places.{rest_is}
 
 eq_false : (a b : ℕ) → a ≢ b → (a == b) ≡ false
@@ -11,7 +11,7 @@ eq_false a b ne = grind (arith, nat_tests)
 
 pub lines_at : (t : List ℕ) (i : ℕ) → i < length t → get_or t i 0 ≡ 10 → ((k : ℕ) → k < i
     → get_or t k 0 ≢ 10)
-    → lines_of t ≡ take i t ∷ lines_of (take (length t - (i + 1)) (drop (i + 1) t))
+    → script_lines t ≡ take i t ∷ script_lines (take (length t - (i + 1)) (drop (i + 1) t))
 lines_at [] i short end before = absurd (omega arith)
 lines_at (b ∷ bs) zero short end before = rw (rest_is 1 (b ∷ bs), end) refl
 lines_at (b ∷ bs) (suc i) short end before =
@@ -25,7 +25,7 @@ lines_at (b ∷ bs) (suc i) short end before =
     ) refl
 
 pub one_line : (t : List ℕ) → 0 < length t → ((k : ℕ) → k < length t → get_or t k 0 ≢ 10)
-    → lines_of t ≡ t ∷ []
+    → script_lines t ≡ t ∷ []
 one_line [] some before = absurd (omega arith)
 one_line (b ∷ []) some before = rw (eq_false b 10 (before 0 (omega arith))) refl
 one_line (b ∷ c ∷ bs) some before = rw (

@@ -2,11 +2,12 @@
 use Rattle.std.proofs.Common.{◌≡◌, ◌≤◌, ◌<◌, ◌+◌, ◌-◌, ℕ, zero, suc, List, [], ◌∷◌, ◌++◌}
 use Rattle.std.proofs.Common.{length, map, take, drop, refl, sym, ap, ap₂, subst, ◌∙◌, arith}
 use Rattle.std.proofs.Common.{append_assoc, append-nil, length-append, Option, Some, None, get_or}
-use Rattle.chain_model.specs.Configuration.{Configurations}
+use Rattle.lab.specs.Node.{without}
+use Rattle.lab.specs.Configuration.{Configurations}
 use Rattle.lab.specs.declared.event.Event as lab
 use Rattle.kv_types.specs.declared.error.KvError.{KvError}
-use Rattle.lab.specs.declared.event.What.{What}
-use Rattle.lab.specs.declared.event.What.TheVariants.{Submit, Get, Deliver, Tick, Start, Stop}
+use Rattle.lab.specs.declared.event.EventKind.{EventKind}
+use Rattle.lab.specs.declared.event.EventKind.TheVariants.{Submit, Get, Deliver, Tick, Start, Stop}
 use Rattle.lab.specs.declared.report.Line.{Line}
 use Rattle.lab.specs.declared.world.World.{World}
 use Rattle.lab.specs.declared.report.Report.{Report}
@@ -16,13 +17,13 @@ use Rattle.lab.specs.Worlds.{HasRun, frames_told, frames_of_step}
 use Rattle.std.proofs.Math.Seq.{drop-cons}
 use Rattle.program.specs.declared.script.setup.Setup.{Setup}
 use Rattle.program.specs.declared.script.statement.Statement.{Statement}
-use Rattle.program.specs.declared.script.statement.Meaning.TheVariants.{Event, Invalid, Flow}
-use Rattle.program.specs.declared.turn.Turn.{Turn}
-use Rattle.program.specs.declared.turn.Remark.{Remark}
-use Rattle.program.specs.declared.turn.Remark.TheVariants as remark
-use Rattle.program.specs.Runs.{HasRunAll}
-use Rattle.program.specs.Courses.{places_after, event, deliveries, left_by, left_by_event}
-use Rattle.program.specs.Courses.{most, busy, IsTurn, IsCourse}
+use Rattle.program.specs.declared.script.statement.Action.TheVariants.{Event, Invalid, Flow}
+use Rattle.program.specs.declared.statement_result.StatementResult.{StatementResult}
+use Rattle.program.specs.declared.statement_result.Note.{Note}
+use Rattle.program.specs.declared.statement_result.Note.TheVariants as note
+use Rattle.program.specs.Runs.{HasRunStatements}
+use Rattle.program.specs.ScriptRuns.{places_after, event, deliveries, left_after, left_after_event}
+use Rattle.program.specs.ScriptRuns.{most, busy, IsResult, AreResults}
 
 -- ---- places and frames add up
 
@@ -250,13 +251,13 @@ flowed_most world cs events steps old left count f reached =
 
 -- statements ran so far, and with those that are left make the whole
 pub record Goes (world : World) (cs : Configurations) (left : List ℕ) (behind all : List Statement)
-    (turns : List Turn) : Type 0 where
+    (turns : List StatementResult) : Type 0 where
   pub events : List lab.Event
   pub steps : List (List Line)
   pub run : HasRun world cs events steps
-  pub whole : (ts : List Turn) (es : List lab.Event) (ss : List (List Line)) →
-      IsCourse (frames_told steps) left behind ts es ss →
-      IsCourse 0 [] all (turns ++ ts) (events ++ es) (steps ++ ss)
+  pub whole : (ts : List StatementResult) (es : List lab.Event) (ss : List (List Line)) →
+      AreResults (frames_told steps) left behind ts es ss →
+      AreResults 0 [] all (turns ++ ts) (events ++ es) (steps ++ ss)
 
 pub goes_nowhere : (world : World) (cs : Configurations) (left : List ℕ) (all : List Statement) →
     HasRun world cs [] [] → left ≡ [] → Goes world cs left all all []
@@ -264,41 +265,41 @@ goes_nowhere world cs left all run none = record {
   events = [];
   steps = [];
   run = run;
-  whole = λ ts es ss c. subst (λ (l : List ℕ). IsCourse 0 l all ts es ss) none c;
+  whole = λ ts es ss c. subst (λ (l : List ℕ). AreResults 0 l all ts es ss) none c;
 }
 
 -- one statement more
 pub goes_on : (world after : World) (cs : Configurations) (left next : List ℕ) (it : Statement)
-    (behind all : List Statement) (turns : List Turn) (turn : Turn)
+    (behind all : List Statement) (turns : List StatementResult) (turn : StatementResult)
     (g : Goes world cs left (it ∷ behind) all turns) (own : List lab.Event)
-    (lines : List (List Line)) → IsTurn (frames_told g.steps) left it turn own lines →
+    (lines : List (List Line)) → IsResult (frames_told g.steps) left it turn own lines →
     HasRun after cs (g.events ++ own) (g.steps ++ lines) →
-    next ≡ left_by it.meaning (left ++ places_after (frames_told g.steps) (frames_told lines)) →
+    next ≡ left_after it.action (left ++ places_after (frames_told g.steps) (frames_told lines)) →
     Goes after cs next behind all (turns ++ turn ∷ [])
 goes_on world after cs left next it behind all turns turn g own lines is run left_is = record {
   events = g.events ++ own;
   steps = g.steps ++ lines;
   run = run;
   whole = λ ts es ss c.
-      let first = subst (λ (k : ℕ). IsCourse k next behind ts es ss)
+      let first = subst (λ (k : ℕ). AreResults k next behind ts es ss)
       (frames_told-more g.steps lines) c in
-      let second = subst (λ (l : List ℕ). IsCourse (frames_told g.steps + frames_told lines) l
+      let second = subst (λ (l : List ℕ). AreResults (frames_told g.steps + frames_told lines) l
       behind ts es ss) left_is first in
       let one = g.whole (turn ∷ ts) (own ++ es) (lines ++ ss)
       (turn, own, lines, ts, es, ss, is, refl, refl, refl, second) in
-      subst (λ (t : List Turn). IsCourse 0 [] all t ((g.events ++ own) ++ es)
+      subst (λ (t : List StatementResult). AreResults 0 [] all t ((g.events ++ own) ++ es)
       ((g.steps ++ lines) ++ ss)) (sym (append_assoc turns (turn ∷ []) ts))
-      (subst (λ (e : List lab.Event). IsCourse 0 [] all (turns ++ turn ∷ ts) e
+      (subst (λ (e : List lab.Event). AreResults 0 [] all (turns ++ turn ∷ ts) e
       ((g.steps ++ lines) ++ ss)) (sym (append_assoc g.events own es))
-      (subst (λ (s : List (List Line)). IsCourse 0 [] all (turns ++ turn ∷ ts)
+      (subst (λ (s : List (List Line)). AreResults 0 [] all (turns ++ turn ∷ ts)
       (g.events ++ (own ++ es)) s) (sym (append_assoc g.steps lines ss)) one));
 }
 
 -- ---- the turn of a statement
 
 -- an event that delivers no frame leaves all
-leaves_all : (what : What) (left : List ℕ) → ((place : ℕ) → what ≡ Deliver place → ⊥) →
-    left_by_event what left ≡ left
+leaves_all : (what : EventKind) (left : List ℕ) → ((place : ℕ) → what ≡ Deliver place → ⊥) →
+    left_after_event what left ≡ left
 leaves_all (Submit node batch) left other = refl
 leaves_all (Get node key at) left other = refl
 leaves_all (Deliver place) left other = absurd (other place refl)
@@ -306,50 +307,58 @@ leaves_all (Tick node) left other = refl
 leaves_all (Start node) left other = refl
 leaves_all (Stop node junk) left other = refl
 
-pub left_as : (what : What) (left new : List ℕ) → ((place : ℕ) → what ≡ Deliver place → ⊥) →
-    new ≡ left → new ≡ left_by_event what left
+pub left_as : (what : EventKind) (left new : List ℕ) → ((place : ℕ) → what ≡ Deliver place → ⊥) →
+    new ≡ left → new ≡ left_after_event what left
 left_as what left new other e = e ∙ sym (leaves_all what left other)
 
-pub turn_of_event : (sent : ℕ) (left : List ℕ) (it : Statement) (what : What)
-    (lines : List Line) → it.meaning ≡ Event what →
-    IsTurn sent left it (record { line = it.line; events = 1; remark = None })
+-- an event that delivers a frame leaves the others
+pub left_delivered : (what : EventKind) (place : ℕ) (left mid new : List ℕ) → what ≡ Deliver place →
+    mid ≡ left → new ≡ without place mid → new ≡ left_after_event what left
+left_delivered what place left mid new is same cut = cut
+    ∙ (ap (λ (l : List ℕ). without place l) same
+    ∙ ap (λ (w : EventKind). left_after_event w left) (sym is))
+
+pub result_of_event : (sent : ℕ) (left : List ℕ) (it : Statement) (what : EventKind)
+    (lines : List Line) → it.action ≡ Event what →
+    IsResult sent left it (record { line = it.line; events = 1; note = None })
     (event what ∷ []) (lines ∷ [])
-turn_of_event sent left it what lines is = record {
+result_of_event sent left it what lines is = record {
   line = refl;
   count = refl;
   each = refl;
   did = rw is (refl, refl);
 }
 
-pub turn_of_error : (sent : ℕ) (left : List ℕ) (it : Statement) (e : KvError) →
-    it.meaning ≡ Invalid e →
-    IsTurn sent left it (record { line = it.line; events = 0; remark = Some (remark.Invalid e) })
+pub result_of_error : (sent : ℕ) (left : List ℕ) (it : Statement) (e : KvError) →
+    it.action ≡ Invalid e →
+    IsResult sent left it (record { line = it.line; events = 0; note = Some (note.Invalid e) })
     [] []
-turn_of_error sent left it e is = record {
+result_of_error sent left it e is = record {
   line = refl;
   count = refl;
   each = refl;
   did = rw is (refl, refl);
 }
 
-pub turn_of_flow : (sent : ℕ) (left : List ℕ) (it : Statement) (own : List (List Line)) (count : ℕ)
-    (said : Option Remark) → it.meaning ≡ Flow → count ≡ length own →
+pub result_of_flow : (sent : ℕ) (left : List ℕ) (it : Statement) (own : List (List Line))
+    (count : ℕ)
+    (said : Option Note) → it.action ≡ Flow → count ≡ length own →
     count ≡ length (deliveries (left ++ places_after sent (frames_told own))) →
     busy (drop most (left ++ places_after sent (frames_told own))) ≡ said →
-    IsTurn sent left it (record { line = it.line; events = count; remark = said })
+    IsResult sent left it (record { line = it.line; events = count; note = said })
     (deliveries (left ++ places_after sent (frames_told own))) own
-turn_of_flow sent left it own count said is each events remarks = record {
+result_of_flow sent left it own count said is each events notes = record {
   line = refl;
   count = events;
   each = sym each ∙ events;
-  did = rw is (refl, sym remarks);
+  did = rw is (refl, sym notes);
 }
 
 pub none_left : (xs : List ℕ) → length xs ≡ 0 → busy xs ≡ None
 none_left [] e = refl
 none_left (x ∷ xs) e = absurd (omega (arith, e))
 
-pub some_left : (xs : List ℕ) → (length xs ≡ 0 → ⊥) → busy xs ≡ Some remark.Busy
+pub some_left : (xs : List ℕ) → (length xs ≡ 0 → ⊥) → busy xs ≡ Some note.Busy
 some_left [] e = absurd (e refl)
 some_left (x ∷ xs) e = refl
 
@@ -360,13 +369,14 @@ emptied (x ∷ xs) ys e f = absurd (omega (arith, ap length e, ap length f))
 
 -- the next statement of all
 pub goes_next : (world after : World) (cs : Configurations) (left next : List ℕ)
-    (all : List Statement) (i : ℕ) (d it : Statement) (turns : List Turn) (turn : Turn) →
+    (all : List Statement) (i : ℕ) (d it : Statement) (turns : List StatementResult)
+    (turn : StatementResult) →
     i < length all →
     it ≡ get_or all i d → (g : Goes world cs left (drop i all) all turns)
     (own : List lab.Event) (lines : List (List Line)) →
-    IsTurn (frames_told g.steps) left it turn own lines →
+    IsResult (frames_told g.steps) left it turn own lines →
     HasRun after cs (g.events ++ own) (g.steps ++ lines) →
-    next ≡ left_by it.meaning (left ++ places_after (frames_told g.steps) (frames_told lines)) →
+    next ≡ left_after it.action (left ++ places_after (frames_told g.steps) (frames_told lines)) →
     Goes after cs next (drop (suc i) all) all (turns ++ turn ∷ [])
 goes_next world after cs left next all i d it turns turn within at g own lines is run left_is =
     let parts : drop i all ≡ it ∷ drop (suc i) all = drop-cons all i d within
@@ -375,32 +385,34 @@ goes_next world after cs left next all i d it turns turn within at g own lines i
       events = g.events;
       steps = g.steps;
       run = g.run;
-      whole = subst (λ (b : List Statement). (ts : List Turn) (es : List lab.Event)
-          (ss : List (List Line)) → IsCourse (frames_told g.steps) left b ts es ss →
-          IsCourse 0 [] all (turns ++ ts) (g.events ++ es) (g.steps ++ ss)) parts g.whole;
+      whole = subst (λ (b : List Statement). (ts : List StatementResult) (es : List lab.Event)
+          (ss : List (List Line)) → AreResults (frames_told g.steps) left b ts es ss →
+          AreResults 0 [] all (turns ++ ts) (g.events ++ es) (g.steps ++ ss)) parts g.whole;
     } in
     goes_on world after cs left next it (drop (suc i) all) all turns turn h own lines is run
     left_is
 
 -- all statements ran
 pub gone : (world : World) (setup : Setup) (left : List ℕ) (all behind : List Statement)
-    (turns : List Turn) (report : Report) (g : Goes world setup.configs left behind all turns) →
+    (turns : List StatementResult) (report : Report)
+    (g : Goes world setup.configs left behind all turns) →
     behind ≡ [] → report.steps.items ≡ g.steps → IsRun setup.configs g.events report →
-    OneHistory setup.configs g.events report → HasRunAll setup all turns report
+    OneHistory setup.configs g.events report → HasRunStatements setup all turns report
 gone world setup left all behind turns report g none steps run history =
-    let nothing : IsCourse (frames_told g.steps) left behind [] [] [] =
-    subst (λ (b : List Statement). IsCourse (frames_told g.steps) left b [] [] []) (sym none)
+    let nothing : AreResults (frames_told g.steps) left behind [] [] [] =
+    subst (λ (b : List Statement). AreResults (frames_told g.steps) left b [] [] []) (sym none)
     (refl, refl, refl) in
     let whole = g.whole [] [] [] nothing in
-    let first = subst (λ (t : List Turn). IsCourse 0 [] all t (g.events ++ []) (g.steps ++ []))
+    let first = subst (λ (t : List StatementResult). AreResults 0 [] all t (g.events ++ [])
+    (g.steps ++ []))
     (append-nil turns) whole in
-    let second = subst (λ (e : List lab.Event). IsCourse 0 [] all turns e (g.steps ++ []))
+    let second = subst (λ (e : List lab.Event). AreResults 0 [] all turns e (g.steps ++ []))
     (append-nil g.events) first in
-    let third = subst (λ (s : List (List Line)). IsCourse 0 [] all turns g.events s)
+    let third = subst (λ (s : List (List Line)). AreResults 0 [] all turns g.events s)
     (append-nil g.steps) second in
     record {
       events = g.events;
-      course = subst (λ (s : List (List Line)). IsCourse 0 [] all turns g.events s) (sym steps)
+      course = subst (λ (s : List (List Line)). AreResults 0 [] all turns g.events s) (sym steps)
           third;
       ran = run;
       history = history;

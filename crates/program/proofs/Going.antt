@@ -6,23 +6,23 @@ use Rattle.std.proofs.lemmas.List.Elements.{All-nil, All-cons}
 use Rattle.std.proofs.Common.{arith}
 use Rattle.std.proofs.lemmas.Grind.{common_steps}
 use Rattle.std.specs.Option.{option_map_or}
-use Rattle.chain_model.specs.Configuration.{Configurations}
-use Rattle.lab.specs.declared.event.What.{What}
+use Rattle.lab.specs.Configuration.{Configurations}
+use Rattle.lab.specs.declared.event.EventKind.{EventKind}
 use Rattle.lab.specs.Events.{NamesNode}
 use Rattle.program.specs.declared.script.setup.Setup.{Setup}
-use Rattle.program.specs.declared.script.statement.Before.{Before}
-use Rattle.program.specs.declared.script.statement.Item.{Item}
-use Rattle.program.specs.declared.script.statement.Item.TheVariants.{Skipped, Config, Asks}
+use Rattle.program.specs.declared.script.statement.ParserState.{ParserState}
+use Rattle.program.specs.declared.script.statement.LineItem.{LineItem}
+use Rattle.program.specs.declared.script.statement.LineItem.TheVariants.{Skipped, Config, Asks}
 use Rattle.program.specs.declared.script.statement.Statement.{Statement}
-use Rattle.program.specs.Meanings.{error_of}
-use Rattle.program.specs.declared.script.statement.Meaning.TheVariants.{Event, Invalid}
+use Rattle.program.specs.Actions.{error_of}
+use Rattle.program.specs.declared.script.statement.Action.TheVariants.{Event, Invalid}
 use Rattle.kv_types.specs.declared.error.KvError.{KvError}
 use Rattle.std.proofs.Common.{Bool}
-use Rattle.program.specs.declared.script.statement.Meaning.{Meaning}
+use Rattle.program.specs.declared.script.statement.Action.{Action}
 use Rattle.program.specs.Scripts.{IsScript, AreStatements, IsStatement, Names, SetsUp, statement}
 use Rattle.program.specs.Scripts.{words_of}
 use Rattle.program.specs.Faults.{script_fault}
-use Rattle.program.specs.Reading.{IsItem, after_item, statements_of, Takes}
+use Rattle.program.specs.Reading.{IsItem, after_item, statements_of, ReadsNext}
 
 -- lines that may stand behind configurations, if there were some
 abbrev pub IsRest : Option Configurations → ℕ → List (List ℕ) → Setup → List Statement → Type 0
@@ -36,7 +36,7 @@ one_of : (own cs : Configurations) → Some own ≡ Some cs → cs ≡ own
 one_of own cs at = sym (ap (λ o. option_map_or (λ x. x) o []) at)
 
 go : (before : Option Configurations) (begun : Bool) (n : ℕ) (line : List ℕ)
-    (lines : List (List ℕ)) (setup : Setup) (rest : List Statement) (item : Item)
+    (lines : List (List ℕ)) (setup : Setup) (rest : List Statement) (item : LineItem)
     → IsItem (record { configs = before; begun = begun }) line item
     → IsRest (after_item (record { configs = before; begun = begun }) item).configs
     (suc n) lines setup rest → IsRest before n (line ∷ lines) setup (statements_of n item ++ rest)
@@ -46,14 +46,14 @@ go None begun n line lines setup rest (Config own) (ids, words, good, one, free)
     inr (ids, words, good, rw one at more.0, rw one at more.1)
 go (Some own) begun n line lines setup rest (Config new) (ids, words, good, one, free) more =
     absurd (filled own free)
-go None begun n line lines setup rest (Asks meaning) (found, at, is) more =
+go None begun n line lines setup rest (Asks action) (found, at, is) more =
     absurd (filled found (sym at))
-go (Some own) begun n line lines setup rest (Asks meaning) (found, at, is) more = (
+go (Some own) begun n line lines setup rest (Asks action) (found, at, is) more = (
   more.0,
   inr (
-    meaning,
+    action,
     rest,
-    subst (λ (it : Configurations). IsStatement it (words_of line) meaning)
+    subst (λ (it : Configurations). IsStatement it (words_of line) action)
         (one_of own found at) is,
     refl,
     more.1,
@@ -61,35 +61,35 @@ go (Some own) begun n line lines setup rest (Asks meaning) (found, at, is) more 
 )
 
 -- one line more in front
-pub goes_on : (before : Before) (n : ℕ) (line : List ℕ) (lines : List (List ℕ)) (setup : Setup)
-    (rest : List Statement) (item : Item) → IsItem before line item
+pub goes_on : (before : ParserState) (n : ℕ) (line : List ℕ) (lines : List (List ℕ)) (setup : Setup)
+    (rest : List Statement) (item : LineItem) → IsItem before line item
     → IsRest (after_item before item).configs (suc n) lines setup rest
     → IsRest before.configs n (line ∷ lines) setup (statements_of n item ++ rest)
 goes_on before n line lines setup rest item is more =
     go before.configs before.begun n line lines setup rest item is more
 
 -- the statements' events name nodes of the configuration
-has_name : (cs : Configurations) (what : What) (o : Option KvError) → NamesNode cs what
+has_name : (cs : Configurations) (what : EventKind) (o : Option KvError) → NamesNode cs what
     → Names cs (option_map_or (λ e. Invalid e) o (Event what))
 has_name cs what None e = e
 has_name cs what (Some x) e = tt
 
-names : (cs : Configurations) (words : List (List ℕ)) (meaning : Meaning)
-    → IsStatement cs words meaning → Names cs meaning
-names cs words meaning (inl is) = rw is.0 tt
-names cs words meaning (inr (what, said, spelled, named, same)) =
+names : (cs : Configurations) (words : List (List ℕ)) (action : Action)
+    → IsStatement cs words action → Names cs action
+names cs words action (inl is) = rw is.0 tt
+names cs words action (inr (what, said, spelled, named, same)) =
     rw same (has_name cs what (error_of what) named)
 
 abbrev pub AllName : Configurations → List Statement → Type 0
-AllName cs ss = All (λ it. Names cs it.meaning) ss
+AllName cs ss = All (λ it. Names cs it.action) ss
 
 behind : (cs : Configurations) (n : ℕ) (lines : List (List ℕ)) (ss : List Statement)
     → AreStatements cs n lines ss → AllName cs ss
 behind cs n [] ss e = rw e (All-nil _)
 behind cs n (line ∷ lines) ss (inl more) = behind cs (suc n) lines ss more.1
-behind cs n (line ∷ lines) ss (inr (meaning, rest, is, same, more)) =
-    rw same (All-cons (λ it. Names cs it.meaning) (statement n meaning) rest
-    (names cs (words_of line) meaning is) (behind cs (suc n) lines rest more))
+behind cs n (line ∷ lines) ss (inr (action, rest, is, same, more)) =
+    rw same (All-cons (λ it. Names cs it.action) (statement n action) rest
+    (names cs (words_of line) action is) (behind cs (suc n) lines rest more))
 
 pub all_name : (n : ℕ) (lines : List (List ℕ)) (setup : Setup) (ss : List Statement)
     → IsScript n lines setup ss → AllName setup.configs ss
@@ -99,9 +99,9 @@ all_name n (line ∷ lines) setup ss (inr (ids, words, good, up, more)) =
     rw up.configs (behind (ids ∷ []) (suc n) lines ss more)
 
 -- one line is taken
-pub takes_on : (before after : Before) (n : ℕ) (line : List ℕ) (lines : List (List ℕ))
+pub takes_on : (before after : ParserState) (n : ℕ) (line : List ℕ) (lines : List (List ℕ))
     (old new : List Statement) (goal : Setup → List Statement → Type 0)
-    → Takes before n line old new (Ok after)
+    → ReadsNext before n line old new (Ok after)
     → ((setup : Setup) (rest : List Statement) → IsRest before.configs n (line ∷ lines) setup rest
     → goal setup (old ++ rest))
     → (setup : Setup) (rest : List Statement) → IsRest after.configs (n + 1) lines setup rest
@@ -120,8 +120,8 @@ takes_on before after n line lines old new goal (
     rw (added, append_assoc) (found setup (statements_of n item ++ rest)
     (goes_on before n line lines setup rest item is (rw (same, add-one) at more)))
 
-pub keeps_fault : (before after : Before) (n : ℕ) (line : List ℕ) (lines : List (List ℕ))
-    (old new : List Statement) → Takes before n line old new (Ok after)
+pub keeps_fault : (before after : ParserState) (n : ℕ) (line : List ℕ) (lines : List (List ℕ))
+    (old new : List Statement) → ReadsNext before n line old new (Ok after)
     → script_fault after (n + 1) lines ≡ script_fault before n (line ∷ lines)
 keeps_fault before after n line lines old new (good, few, later, taken) = rw (
   good,

@@ -5,8 +5,8 @@ use Rattle.std.specs.Prelude.{◌==◌}
 use Rattle.std.specs.List.{remove}
 use Rattle.std.proofs.lemmas.Bool.{cases_Bool}
 use Rattle.std.proofs.lemmas.Bool.Decides.{nat_tests}
-use Rattle.chain_model.specs.Configuration.{has}
-use Rattle.chain_model.specs.Node.{without}
+use Rattle.lab.specs.Configuration.{has}
+use Rattle.lab.specs.Node.{without}
 
 apart : (x place : ℕ) → (x ≡ place → ⊥) → (x == place) ≡ false
 apart x place differ = grind (arith, nat_tests)

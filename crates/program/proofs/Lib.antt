@@ -1,4 +1,5 @@
 pub mod Numbers
+pub mod Fronts
 pub mod Texts
 pub mod Edits
 pub mod Places

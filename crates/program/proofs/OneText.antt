@@ -4,8 +4,8 @@ use Rattle.std.proofs.Common.{sym, ap, ◌∙◌, inl, inr, arith, true, false, 
 use Rattle.std.proofs.Common.{map, ◌≤◌, ◌^◌, codes, Option, Some, None, length, get_or}
 use Rattle.std.specs.Fmt.{decimal}
 use Rattle.std.proofs.lemmas.Fmt.{decimal_injective}
-use Rattle.disk.specs.declared.junk.Junk.{Junk}
-use Rattle.disk.specs.declared.junk.Junk.TheVariants.{Old, New, Bytes}
+use Rattle.lab.specs.Junk.{Junk}
+use Rattle.lab.specs.Junk.TheVariants.{Old, New, Bytes}
 use Rattle.std.specs.Prelude.{All, ◌==◌}
 use Rattle.std.specs.Char.{digit_char}
 use Rattle.std.specs.List.{flat_map}
@@ -16,11 +16,11 @@ use Rattle.std.proofs.lemmas.List.Elements.{All-head, All-tail}
 use Rattle.kv_types.specs.declared.edit.Edit.{Edit}
 use Rattle.kv_types.specs.declared.edit.Edit.TheVariants.{Put, Delete}
 use Rattle.program.specs.Words.{is_plain, byte_text, bytes_text}
-use Rattle.program.specs.Statements.{edit_text, hex_text, IsJunk, IsSpelled}
+use Rattle.program.specs.Statements.{edit_word, hex_text, IsJunk, IsSpelled}
 use Rattle.program.specs.Words.{AreBytes}
 use Rattle.program.specs.Statements.{AreBytesIn, AreBytesOf, CanBeSaid}
-use Rattle.lab.specs.declared.event.What.{What}
-use Rattle.lab.specs.declared.event.What.TheVariants.{Submit, Get, Deliver, Tick, Start, Stop}
+use Rattle.lab.specs.declared.event.EventKind.{EventKind}
+use Rattle.lab.specs.declared.event.EventKind.TheVariants.{Submit, Get, Deliver, Tick, Start, Stop}
 
 abbrev head : List ℕ → ℕ
 head [] = 0
@@ -83,11 +83,11 @@ one_byte b c xs ys lb lc e = elim (begins b xs) [
 ]
 
 -- nothing, or a sign that stands in no byte's text
-abbrev Ends : List ℕ → Type 0
-Ends [] = Unit {0}
-Ends (x ∷ xs) = x ≡ 61
+abbrev RunEnds : List ℕ → Type 0
+RunEnds [] = Unit {0}
+RunEnds (x ∷ xs) = x ≡ 61
 
-starts : (b : ℕ) (xs ys : List ℕ) → Ends ys → byte_text b ++ xs ≡ ys → ⊥
+starts : (b : ℕ) (xs ys : List ℕ) → RunEnds ys → byte_text b ++ xs ≡ ys → ⊥
 starts b xs [] ends e = elim (begins b xs) [
   | inl p ↦ grind (arith, common_steps)
   | inr p ↦ grind (arith, common_steps)
@@ -97,7 +97,7 @@ starts b xs (y ∷ ys) ends e = elim (begins b xs) [
   | inr p ↦ let at : 37 ≡ 61 = ap head (sym p.1 ∙ e) ∙ ends in omega (arith, at)
 ]
 
-one_flat : (a b xs ys : List ℕ) → AreBytes a → AreBytes b → Ends xs → Ends ys
+one_flat : (a b xs ys : List ℕ) → AreBytes a → AreBytes b → RunEnds xs → RunEnds ys
     → flat_map byte_text a ++ xs ≡ flat_map byte_text b ++ ys → (a ≡ b) × (xs ≡ ys)
 one_flat [] [] xs ys la lb ex ey e = (refl, e)
 one_flat [] (c ∷ b) xs ys la lb ex ey e =
@@ -122,7 +122,7 @@ no_at b xs ys e = elim (begins b xs) [
 ]
 
 -- byte strings before what ends them
-one_string : (a b xs ys : List ℕ) → AreBytes a → AreBytes b → Ends xs → Ends ys
+one_string : (a b xs ys : List ℕ) → AreBytes a → AreBytes b → RunEnds xs → RunEnds ys
     → bytes_text a ++ xs ≡ bytes_text b ++ ys → (a ≡ b) × (xs ≡ ys)
 one_string [] [] xs ys la lb ex ey e = (refl, ap rest e)
 one_string [] (c ∷ b) xs ys la lb ex ey e =
@@ -152,7 +152,7 @@ no_dash (b ∷ k) xs ys e = elim (begins b (flat_map byte_text k ++ xs)) [
       omega (arith, at)
 ]
 
-pub one_edit : (a b : Edit) → AreBytesIn a → AreBytesIn b → edit_text a ≡ edit_text b → a ≡ b
+pub one_edit : (a b : Edit) → AreBytesIn a → AreBytesIn b → edit_word a ≡ edit_word b → a ≡ b
 one_edit (Put k v) (Put l w) la lb e =
     let parts = one_string k l (61 ∷ bytes_text v) (61 ∷ bytes_text w) la.0 lb.0 refl refl e in
     rw (parts.0, one_text v w la.1 lb.1 (ap rest parts.1)) refl
@@ -164,7 +164,7 @@ one_edit (Delete k) (Delete l) la lb e = rw (one_text k l la lb (ap rest e)) ref
 -- ---- whole statements
 
 one_list : (a b : List Edit) → All AreBytesIn a → All AreBytesIn b
-    → map edit_text a ≡ map edit_text b → a ≡ b
+    → map edit_word a ≡ map edit_word b → a ≡ b
 one_list [] [] la lb e = refl
 one_list [] (d ∷ b) la lb e = absurd (grind (arith, common_steps))
 one_list (c ∷ a) [] la lb e = absurd (grind (arith, common_steps))
@@ -224,7 +224,7 @@ one_junk (Bytes a) New word la lb p q = absurd (no_letter a 110 _ la (omega arit
 one_junk (Bytes a) (Bytes b) word la lb p q = rw (one_hex a b la lb (sym p.1 ∙ q.1)) refl
 
 -- what begins the spelling of an event
-abbrev name_of : What → List ℕ
+abbrev name_of : EventKind → List ℕ
 name_of (Submit node edits) = codes "submit"
 name_of (Get node key at) = codes "get"
 name_of (Deliver place) = codes "deliver"
@@ -232,7 +232,7 @@ name_of (Tick node) = codes "tick"
 name_of (Start node) = codes "start"
 name_of (Stop node junk) = codes "stop"
 
-named : (what : What) (words : List (List ℕ)) → IsSpelled what words
+named : (what : EventKind) (words : List (List ℕ)) → IsSpelled what words
     → first_word words ≡ name_of what
 named (Submit node edits) words e = ap first_word e
 named (Get node key None) words e = ap first_word e
@@ -291,14 +291,14 @@ one_stop m n j k words la lb (inr p) (inr q) =
     ) refl
 
 -- the third letters of names all differ
-apart : (a b : What) (words : List (List ℕ)) → IsSpelled a words → IsSpelled b words
+apart : (a b : EventKind) (words : List (List ℕ)) → IsSpelled a words → IsSpelled b words
     → at 2 (name_of a) ≡ at 2 (name_of b)
 apart a b words e f = ap (λ w. at 2 w) (sym (named a words e) ∙ named b words f)
 
 clash : {A : Type 0} (a b : ℕ) → a ≡ b → (a == b) ≡ false → A
 clash a b same differ = absurd (grind (arith, nat_tests))
 
-pub one_event : (a b : What) (words : List (List ℕ)) → CanBeSaid a → CanBeSaid b
+pub one_event : (a b : EventKind) (words : List (List ℕ)) → CanBeSaid a → CanBeSaid b
     → IsSpelled a words → IsSpelled b words → a ≡ b
 one_event (Submit m es) (Submit n fs) words la lb e f =
     let both = sym e ∙ f in

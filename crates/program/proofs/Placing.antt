@@ -6,19 +6,19 @@ use Rattle.std.proofs.lemmas.Grind.{common_steps}
 use Rattle.std.specs.Str.Parse.{digits_value}
 use Rattle.std.specs.Fmt.{decimal}
 use Rattle.std.proofs.lemmas.Fmt.{digits_value-decimal}
-use Rattle.chain_model.specs.Configuration.{Configurations, has, at_epoch}
-use Rattle.configurations.specs.Configs.{IsConfig}
-use Rattle.lab.specs.declared.event.What.{What}
-use Rattle.lab.specs.declared.event.What.TheVariants.{Submit, Get, Deliver, Tick, Start, Stop}
+use Rattle.lab.specs.Configuration.{Configurations, has, at_epoch}
+use Rattle.lab.specs.Configs.{IsConfig}
+use Rattle.lab.specs.declared.event.EventKind.{EventKind}
+use Rattle.lab.specs.declared.event.EventKind.TheVariants.{Submit, Get, Deliver, Tick, Start, Stop}
 use Rattle.lab.specs.Events.{node_in, NamesNode}
 use Rattle.program.specs.declared.script.error.ScriptError.{ScriptError}
-use Rattle.program.specs.declared.script.statement.Before.{Before}
-use Rattle.program.specs.declared.script.statement.Item.TheVariants.{Config}
-use Rattle.program.specs.declared.script.statement.Meaning.{Meaning}
-use Rattle.program.specs.declared.script.statement.Meaning.TheVariants.{Event, Flow}
+use Rattle.program.specs.declared.script.statement.ParserState.{ParserState}
+use Rattle.program.specs.declared.script.statement.LineItem.TheVariants.{Config}
+use Rattle.program.specs.declared.script.statement.Action.{Action}
+use Rattle.program.specs.declared.script.statement.Action.TheVariants.{Event, Flow}
 use Rattle.program.specs.Words.{has_fault, before_fault}
 use Rattle.program.specs.Statements.{CanBeSaid, IsSpelled, fault_of_words}
-use Rattle.program.specs.Meanings.{meaning_of}
+use Rattle.program.specs.Actions.{action_of}
 use Rattle.program.specs.Faults.{node_named, node_fault, statement_fault, config_fault, numbers_of}
 use Rattle.program.specs.Reading.{Places, ReadsWords}
 use Rattle.program.proofs.Numbers.{own}
@@ -28,7 +28,7 @@ pub number_back : (n : ℕ) → n < 2 ^ 63 → digits_value 10 (decimal n) ≡ n
 number_back n small = digits_value-decimal own n (omega (arith, small))
 
 -- the node that the words of an event name is that of the event
-pub names : (what : What) (words : List (List ℕ)) → CanBeSaid what → IsSpelled what words
+pub names : (what : EventKind) (words : List (List ℕ)) → CanBeSaid what → IsSpelled what words
     → node_named words ≡ node_in what
 names (Submit n batch) words said e = rw (e, number_back n said.0) refl
 names (Get n key None) words said e = rw (e, number_back n said.0) refl
@@ -40,7 +40,7 @@ names (Stop n junk) words said (inl e) = rw (e.1, number_back n said.0) refl
 names (Stop n junk) words said (inr e) = rw (e.2, number_back n said.0) refl
 
 -- the fault of a statement that is spelled and bears no fault is that of its place
-pub is_of_place : (before : Before) (name : List ℕ) (args cut : List (List ℕ)) (what : What)
+pub is_of_place : (before : ParserState) (name : List ℕ) (args cut : List (List ℕ)) (what : EventKind)
     → cut ≡ args → cut ≡ before_fault args → false ≡ has_fault args → CanBeSaid what
     → fault_of_words (name ∷ cut) ≡ None → IsSpelled what (name ∷ cut)
     → statement_fault before name args ≡ node_fault before.configs (node_in what)
@@ -57,13 +57,13 @@ stands (Some cs) n e = elim (cases_Bool (has (at_epoch cs 0) n)) [
 ]
 
 -- a statement that stands in its place, and one that does not
-pub is_placed : (before : Before) (name : List ℕ) (args cut : List (List ℕ)) (what : What)
-    (meaning : Meaning) (node : ℕ) → cut ≡ args → cut ≡ before_fault args
+pub is_placed : (before : ParserState) (name : List ℕ) (args cut : List (List ℕ)) (what : EventKind)
+    (action : Action) (node : ℕ) → cut ≡ args → cut ≡ before_fault args
     → false ≡ has_fault args → fault_of_words (name ∷ cut) ≡ None → CanBeSaid what
     → IsSpelled what (name ∷ cut) → node_in what ≡ Some node
-    → node_fault before.configs (Some node) ≡ None → meaning ≡ meaning_of what
-    → Places before name args (Ok meaning)
-is_placed before name args cut what meaning node whole before_it none good said spelled at free is =
+    → node_fault before.configs (Some node) ≡ None → action ≡ action_of what
+    → Places before name args (Ok action)
+is_placed before name args cut what action node whole before_it none good said spelled at free is =
     let found = stands before.configs node free in
     let named : NamesNode found.0 what = rw at found.2 in (
       is_of_place before name args cut what whole before_it none said good spelled
@@ -71,7 +71,7 @@ is_placed before name args cut what meaning node whole before_it none good said 
       (found.0, found.1, inr (what, said, rw whole at spelled, named, is)),
     )
 
-pub is_misplaced : (before : Before) (name : List ℕ) (args cut : List (List ℕ)) (what : What)
+pub is_misplaced : (before : ParserState) (name : List ℕ) (args cut : List (List ℕ)) (what : EventKind)
     (node : ℕ) (e : ScriptError) → cut ≡ args → cut ≡ before_fault args
     → false ≡ has_fault args → CanBeSaid what → fault_of_words (name ∷ cut) ≡ None
     → IsSpelled what (name ∷ cut) → node_in what ≡ Some node
@@ -80,7 +80,7 @@ pub is_misplaced : (before : Before) (name : List ℕ) (args cut : List (List �
 is_misplaced before name args cut what node e whole before_it none said good spelled at fault =
     λ _. is_of_place before name args cut what whole before_it none said good spelled ∙ rw at fault
 
-pub is_config : (before : Before) (words args : List (List ℕ)) (ids : List ℕ)
+pub is_config : (before : ParserState) (words args : List (List ℕ)) (ids : List ℕ)
     → words ≡ codes "config" ∷ args → args ≡ map decimal ids → IsConfig ids
     → numbers_of args ≡ ids → before.configs ≡ None → config_fault before args ≡ None
     → (cs : Configurations) → cs ≡ ids ∷ [] → ReadsWords before words (Ok (Config cs))
@@ -96,7 +96,7 @@ some_config : (configs : Option Configurations) → is_none configs ≡ false �
 some_config None e = grind (arith, common_steps)
 some_config (Some cs) e = (cs, refl)
 
-pub delivers : (before : Before) (args cut : List (List ℕ)) (place : ℕ) → cut ≡ args
+pub delivers : (before : ParserState) (args cut : List (List ℕ)) (place : ℕ) → cut ≡ args
     → cut ≡ before_fault args → false ≡ has_fault args → place < 2 ^ 63
     → cut ≡ decimal place ∷ [] → is_none before.configs ≡ false
     → Places before (codes "deliver") args (Ok (Event (Deliver place)))
@@ -110,7 +110,7 @@ delivers before args cut place whole before_it none small is some =
       (found.0, found.1, inr (Deliver place, small, rw whole at spelled, tt, refl)),
     )
 
-pub flows : (before : Before) (args cut : List (List ℕ)) → cut ≡ args → cut ≡ before_fault args
+pub flows : (before : ParserState) (args cut : List (List ℕ)) → cut ≡ args → cut ≡ before_fault args
     → false ≡ has_fault args → cut ≡ [] → is_none before.configs ≡ false
     → Places before (codes "flow") args (Ok Flow)
 flows before args cut whole before_it none is some =

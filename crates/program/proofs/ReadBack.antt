@@ -16,15 +16,15 @@ use Rattle.std.proofs.lemmas.Bool.Decides.{nat_tests}
 use Rattle.std.proofs.lemmas.Fmt.{digits_decimal, digits_value-decimal, decimal_nonempty}
 use Rattle.std.proofs.lemmas.Fmt.{first_decimal, length-decimal-le}
 use Rattle.std.proofs.lemmas.List.Elements.{All-head, All-tail}
-use Rattle.disk.specs.declared.junk.Junk.{Junk}
-use Rattle.disk.specs.declared.junk.Junk.TheVariants.{Old, New, Bytes}
+use Rattle.lab.specs.Junk.{Junk}
+use Rattle.lab.specs.Junk.TheVariants.{Old, New, Bytes}
 use Rattle.kv_types.specs.declared.edit.Edit.{Edit}
 use Rattle.kv_types.specs.declared.edit.Edit.TheVariants.{Put, Delete}
-use Rattle.lab.specs.declared.event.What.{What}
-use Rattle.lab.specs.declared.event.What.TheVariants.{Submit, Get, Deliver, Tick, Start, Stop}
+use Rattle.lab.specs.declared.event.EventKind.{EventKind}
+use Rattle.lab.specs.declared.event.EventKind.TheVariants.{Submit, Get, Deliver, Tick, Start, Stop}
 use Rattle.program.specs.Words.{is_plain, byte_text, bytes_text, is_hex, hex_value, escaped}
 use Rattle.program.specs.Words.{are_bytes, is_byte_string, is_number}
-use Rattle.program.specs.Statements.{edit_text, hex_text, IsJunk, IsSpelled, is_edit, is_junk}
+use Rattle.program.specs.Statements.{edit_word, hex_text, IsJunk, IsSpelled, is_edit, is_junk}
 use Rattle.program.specs.Statements.{are_pairs, is_bad_number, is_bad_text, is_bad_junk}
 use Rattle.program.specs.Statements.{fault_of_words, Kind}
 use Rattle.program.specs.Statements.Kind.{edit}
@@ -149,7 +149,7 @@ no_dash (b ∷ bs) xs la = elim (cases_Bool (is_plain b)) [
   | inr f ↦ rw f refl
 ]
 
-edit_read : (e : Edit) → AreBytesIn e → is_edit (edit_text e) ≡ true
+edit_read : (e : Edit) → AreBytesIn e → is_edit (edit_word e) ≡ true
 edit_read (Delete key) la = rw (bytes_read key la) refl
 edit_read (Put key value) la =
     let t = bytes_text key in
@@ -188,20 +188,20 @@ no_junk [] = refl
 no_junk (w ∷ ws) = no_junk ws
 
 no_texts : (es : List Edit) → All AreBytesIn es → list_any is_bad_text (edits_at
-    (map edit_text es)) ≡ false
+    (map edit_word es)) ≡ false
 no_texts [] la = refl
 no_texts (e ∷ es) la =
     rw (edit_read e (All-head AreBytesIn e es la), no_texts es (All-tail AreBytesIn e es la)) refl
 
-pub event_read : (what : What) (words : List (List ℕ)) → CanBeSaid what → IsSpelled what words
+pub event_read : (what : EventKind) (words : List (List ℕ)) → CanBeSaid what → IsSpelled what words
     → fault_of_words words ≡ None
 event_read (Submit node edits) words la e =
     rw (
       e,
       number_read node la.0,
-      no_numbers (map edit_text edits),
+      no_numbers (map edit_word edits),
       no_texts edits la.1,
-      no_junk (map edit_text edits),
+      no_junk (map edit_word edits),
     ) refl
 event_read (Get node key None) words la e =
     rw (e, number_read node la.0, bytes_read key la.1) refl

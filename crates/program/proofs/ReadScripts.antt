@@ -9,30 +9,29 @@ use Rattle.std.specs.List.{onto_first}
 use Rattle.std.proofs.lemmas.Bool.{cases_Bool}
 use Rattle.std.proofs.lemmas.Bool.Decides.{nat_tests}
 use Rattle.std.proofs.lemmas.List.Elements.{All-head, All-tail}
-use Rattle.disk.specs.declared.junk.Junk.{Junk}
-use Rattle.disk.specs.declared.junk.Junk.TheVariants.{Old, New, Bytes}
+use Rattle.lab.specs.Junk.{Junk}
+use Rattle.lab.specs.Junk.TheVariants.{Old, New, Bytes}
 use Rattle.kv_types.specs.declared.edit.Edit.{Edit}
 use Rattle.kv_types.specs.declared.edit.Edit.TheVariants.{Put, Delete}
-use Rattle.lab.specs.declared.event.What.{What}
-use Rattle.lab.specs.declared.event.What.TheVariants.{Submit, Get, Deliver, Tick, Start, Stop}
+use Rattle.lab.specs.declared.event.EventKind.{EventKind}
+use Rattle.lab.specs.declared.event.EventKind.TheVariants.{Submit, Get, Deliver, Tick, Start, Stop}
 use Rattle.lab.specs.Events.{node_in, NamesNode}
-use Rattle.chain_model.specs.Configuration.{Configurations, has, at_epoch}
-use Rattle.configurations.specs.Configs.{IsConfig}
-use Rattle.program.specs.declared.script.statement.Meaning.{Meaning}
+use Rattle.lab.specs.Configuration.{Configurations, has, at_epoch}
+use Rattle.lab.specs.Configs.{IsConfig}
+use Rattle.program.specs.declared.script.statement.Action.{Action}
 use Rattle.program.specs.declared.script.setup.Setup.{Setup}
-use Rattle.program.specs.declared.script.statement.Before.{Before}
+use Rattle.program.specs.declared.script.statement.ParserState.{ParserState}
 use Rattle.program.specs.declared.script.statement.Statement.{Statement}
 use Rattle.program.specs.Words.{AreBytes, is_plain, bytes_text}
 use Rattle.program.specs.Words.{begins_fault, has_fault, before_fault}
-use Rattle.program.specs.Statements.{AreBytesIn, AreBytesOf, CanBeSaid, edit_text, hex_text, IsJunk}
+use Rattle.program.specs.Statements.{AreBytesIn, AreBytesOf, CanBeSaid, edit_word, hex_text, IsJunk}
 use Rattle.program.specs.Statements.{IsSpelled}
 use Rattle.program.specs.Scripts.{words_of, is_skipped, AreStatements, IsStatement, IsScript}
 use Rattle.program.specs.Faults.{statement_fault, words_fault, line_fault, after_words, after_line}
 use Rattle.program.specs.Faults.{script_fault, start, node_fault}
 use Rattle.program.proofs.FaultWords.{all_before}
 use Rattle.program.proofs.Placing.{is_of_place}
-use Rattle.configurations.proofs.IsConfig.{config_is}
-use Rattle.program.proofs.Ids.{number_begins, ids_read}
+use Rattle.program.proofs.Ids.{number_begins, ids_read, config_is}
 use Rattle.program.proofs.ReadBack.{number_read, event_read}
 
 -- ---- no word of an event begins a fault
@@ -44,11 +43,11 @@ text_begins (b ∷ k) xs all = elim (cases_Bool (is_plain b)) [
   | inr f ↦ rw f refl
 ]
 
-edit_begins : (e : Edit) → AreBytesIn e → begins_fault (edit_text e) ≡ false
+edit_begins : (e : Edit) → AreBytesIn e → begins_fault (edit_word e) ≡ false
 edit_begins (Put key value) all = text_begins key (61 ∷ bytes_text value) all.0
 edit_begins (Delete key) all = refl
 
-edits_begin : (edits : List Edit) → All AreBytesIn edits → has_fault (map edit_text edits) ≡ false
+edits_begin : (edits : List Edit) → All AreBytesIn edits → has_fault (map edit_word edits) ≡ false
 edits_begin [] all = refl
 edits_begin (e ∷ edits) all =
     rw (edit_begins e (All-head AreBytesIn e edits all))
@@ -70,7 +69,7 @@ junk_begins (Bytes bytes) word all is = rw is.1 (hex_begins bytes all)
 text_alone : (k : List ℕ) → AreBytes k → begins_fault (bytes_text k) ≡ false
 text_alone k all = rw (append-nil (bytes_text k)) at (text_begins k [] all)
 
-no_fault : (what : What) (words : List (List ℕ)) → CanBeSaid what → IsSpelled what words →
+no_fault : (what : EventKind) (words : List (List ℕ)) → CanBeSaid what → IsSpelled what words →
     has_fault (drop 1 words) ≡ false
 no_fault (Submit node edits) words said e =
     rw (e, number_begins (decimal node) (number_read node said.0)) (edits_begin edits said.1)
@@ -122,7 +121,7 @@ not_skipped (b ∷ bs) c e letter = elim (cases_Bool (b == 32)) [
 
 -- ---- a line that is a statement has no fault
 
-abbrev behind_configs : Configurations → Bool → Before
+abbrev behind_configs : Configurations → Bool → ParserState
 behind_configs cs begun = record { configs = Some cs; begun = begun }
 
 -- what is to be said of the words of such a line
@@ -136,7 +135,7 @@ free : (cs : Configurations) (node : Option ℕ) → IfSome node (λ x. has (at_
 free cs None is = refl
 free cs (Some x) is = rw is refl
 
-good_statement : (cs : Configurations) (begun : Bool) (what : What) (name : List ℕ)
+good_statement : (cs : Configurations) (begun : Bool) (what : EventKind) (name : List ℕ)
     (args : List (List ℕ)) → CanBeSaid what → IsSpelled what (name ∷ args) →
     NamesNode cs what → statement_fault (behind_configs cs begun) name args ≡ None
 good_statement cs begun what name args said spelled named =
@@ -145,7 +144,7 @@ good_statement cs begun what name args said spelled named =
     said (event_read what (name ∷ args) said spelled) spelled
     ∙ free cs (node_in what) named
 
-passes : (cs : Configurations) (begun : Bool) (what : What) (words : List (List ℕ)) (name : List ℕ)
+passes : (cs : Configurations) (begun : Bool) (what : EventKind) (words : List (List ℕ)) (name : List ℕ)
     (args : List (List ℕ)) → words ≡ name ∷ args → bytes_eq name (codes "config") ≡ false →
     97 ≤ first_byte (name ∷ args) → CanBeSaid what → IsSpelled what words →
     NamesNode cs what → IsPassed cs begun words
@@ -155,7 +154,7 @@ passes cs begun what words name args e other letter said spelled named = record 
   letter = rw e letter;
 }
 
-event_passes : (cs : Configurations) (begun : Bool) (what : What) (words : List (List ℕ)) →
+event_passes : (cs : Configurations) (begun : Bool) (what : EventKind) (words : List (List ℕ)) →
     CanBeSaid what → IsSpelled what words → NamesNode cs what → IsPassed cs begun words
 event_passes cs begun (Submit n edits) words said e is =
     passes cs begun (Submit n edits) words _ _ e refl (omega arith) said e is
@@ -175,13 +174,13 @@ event_passes cs begun (Stop n junk) words said (inr e) is =
     passes cs begun (Stop n junk) words _ _ e.2 refl (omega arith) said (inr e) is
 
 statement_passes : (cs : Configurations) (begun : Bool) (words : List (List ℕ))
-    (meaning : Meaning) → IsStatement cs words meaning → IsPassed cs begun words
-statement_passes cs begun words meaning (inl is) = record {
+    (action : Action) → IsStatement cs words action → IsPassed cs begun words
+statement_passes cs begun words action (inl is) = record {
   good = rw is.1 refl;
   after = rw is.1 refl;
   letter = rw is.1 (omega arith);
 }
-statement_passes cs begun words meaning (inr (what, said, spelled, named, same)) =
+statement_passes cs begun words action (inr (what, said, spelled, named, same)) =
     event_passes cs begun what words said spelled named
 
 -- ---- line by line
@@ -192,19 +191,19 @@ short_line line short = grind (arith, nat_tests)
 few_lines : (n : ℕ) → n ≤ 100000 → nat_lt 100000 n ≡ false
 few_lines n few = grind (arith, nat_tests)
 
-passed : (before after : Before) (n : ℕ) (line : List ℕ) (lines : List (List ℕ)) → n ≤ 100000 →
+passed : (before after : ParserState) (n : ℕ) (line : List ℕ) (lines : List (List ℕ)) → n ≤ 100000 →
     line_fault before line ≡ None → after_line before line ≡ after →
     script_fault after (suc n) lines ≡ None → script_fault before n (line ∷ lines) ≡ None
 passed before after n line lines few good later rest = rw (good, few_lines n few, later) rest
 
-skipped : (before : Before) (n : ℕ) (line : List ℕ) (lines : List (List ℕ)) →
+skipped : (before : ParserState) (n : ℕ) (line : List ℕ) (lines : List (List ℕ)) →
     length line ≤ 262144 → n ≤ 100000 → is_skipped line ≡ true →
     script_fault before (suc n) lines ≡ None → script_fault before n (line ∷ lines) ≡ None
 skipped before n line lines short few skip rest =
     passed before before n line lines few (rw (short_line line short, skip) refl) (rw skip refl)
     rest
 
-stated : (before after : Before) (n : ℕ) (line : List ℕ) (lines : List (List ℕ)) →
+stated : (before after : ParserState) (n : ℕ) (line : List ℕ) (lines : List (List ℕ)) →
     length line ≤ 262144 → n ≤ 100000 → 97 ≤ first_byte (words_of line) →
     words_fault before (words_of line) ≡ None → after_words before (words_of line) ≡ after →
     script_fault after (suc n) lines ≡ None → script_fault before n (line ∷ lines) ≡ None
@@ -227,8 +226,8 @@ statements_read cs begun n (line ∷ lines) statements short few (inl more) =
     (statements_read cs begun (suc n) lines statements
     (All-tail (λ l. length l ≤ 262144) line lines short) (omega (arith, few)) more.1)
 statements_read cs begun n (line ∷ lines) statements short few
-    (inr (meaning, rest, is, same, more)) =
-    let p = statement_passes cs begun (words_of line) meaning is in
+    (inr (action, rest, is, same, more)) =
+    let p = statement_passes cs begun (words_of line) action is in
     stated (behind_configs cs begun) (behind_configs cs true) n line lines
     (All-head (λ l. length l ≤ 262144) line lines short) (omega (arith, few)) p.letter p.good
     p.after

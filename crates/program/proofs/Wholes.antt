@@ -9,10 +9,10 @@ use Rattle.program.specs.declared.run_error.RunError.{RunError}
 use Rattle.program.specs.declared.run_error.RunError.TheVariants.{Write, Memory}
 use Rattle.program.specs.declared.script.setup.Setup.{Setup}
 use Rattle.program.specs.declared.script.statement.Statement.{Statement}
-use Rattle.program.specs.Scripts.{lines_of, IsScript}
+use Rattle.program.specs.Scripts.{script_lines, IsScript}
 use Rattle.program.specs.Faults.{script_fault, start}
 use Rattle.program.specs.Failures.{failure_of, IsFailureOf, IsOfReading}
-use Rattle.program.specs.Runs.{IsRunOf, IsRunOfText, AppendsPart, HasFailed, Ends}
+use Rattle.program.specs.Runs.{IsRunOf, IsRunOfText, AppendsPart, RunHasFailed, RunEnds}
 
 -- what follows from a thing holds where there is a value, if the thing does
 pub on_ok_map : {T E P Q : Type 0} (r : Result T E) → (P → Q) → OnOk r P → OnOk r Q
@@ -39,10 +39,10 @@ any_text (Some t) = tt
 
 -- a run that ended early
 pub failed_run : (text old new : Option (List ℕ)) (setup : Setup) (statements : List Statement)
-    (e : RunError) → IfSome text (λ t. IsScript 1 (lines_of t) setup statements)
-    → IfSome text (λ t. script_fault start 1 (lines_of t) ≡ None) → (e ≡ Memory → new ≡ old)
+    (e : RunError) → IfSome text (λ t. IsScript 1 (script_lines t) setup statements)
+    → IfSome text (λ t. script_fault start 1 (script_lines t) ≡ None) → (e ≡ Memory → new ≡ old)
     → (e ≡ Write → IsRunOf setup statements (AppendsPart old new))
-    → HasFailed text old new (failure_of e)
+    → RunHasFailed text old new (failure_of e)
 failed_run text old new setup statements Write spelled fault untouched part = record {
   cause = any_text text;
   untouched = λ other. absurd (other refl);
@@ -62,7 +62,7 @@ failed_run text old new setup statements Memory spelled fault untouched part = r
 
 -- a script that was not read
 pub failed_reading : (text out : Option (List ℕ)) (f : Failure) → IsOfReading f
-    → IfSome text (λ t. IsFailureOf t f) → HasFailed text out out f
+    → IfSome text (λ t. IsFailureOf t f) → RunHasFailed text out out f
 failed_reading text out Unreadable is cause = record {
   cause = cause;
   untouched = λ _. refl;
@@ -82,7 +82,7 @@ failed_reading text out failure.Memory is cause = record {
 
 -- a run that was printed, whatever was read
 pub printed : (text old_out new_out old_err new_err : Option (List ℕ)) (answer : ℕ)
-    → Ends text old_out new_out old_err new_err answer → answer ≡ 0
+    → RunEnds text old_out new_out old_err new_err answer → answer ≡ 0
     → IsRunOfText None (Appends old_out new_out)
 printed text old_out new_out old_err new_err answer (inl prints) zero = record {
   setup = prints.run.setup;
@@ -98,7 +98,7 @@ printed text old_out new_out old_err new_err answer (inr fails) zero =
 pub answered : {E : Type 0} (status : Result ℕ E) (answer : ℕ)
     (text old_out new_out old_err new_err : Option (List ℕ))
     → MatchResult status (λ s. answer ≡ s) (λ _. answer ≡ 1)
-    → IfOk status (Ends text old_out new_out old_err new_err) → answer ≡ 0
+    → IfOk status (RunEnds text old_out new_out old_err new_err) → answer ≡ 0
     → IsRunOfText None (Appends old_out new_out)
 answered (Ok s) answer text old_out new_out old_err new_err is ends zero =
     printed text old_out new_out old_err new_err s ends (sym is ∙ zero)

@@ -1,9 +1,9 @@
 -- The edit that a change is.
 use Rattle.kv_types.specs.declared.edit.Edit.{Edit}
 use Rattle.kv_types.specs.declared.edit.Edit.TheVariants as edit
-use Rattle.program.specs.declared.script.asked.Change.{Change}
-use Rattle.program.specs.declared.script.asked.Change.TheVariants.{Put, Delete}
+use Rattle.program.specs.declared.script.command.RawEdit.{RawEdit}
+use Rattle.program.specs.declared.script.command.RawEdit.TheVariants.{Put, Delete}
 
-abbrev pub edit_of : Change → Edit
+abbrev pub edit_of : RawEdit → Edit
 edit_of (Put key value) = edit.Put key value
 edit_of (Delete key) = edit.Delete key

@@ -7,7 +7,7 @@ use Rattle.program.specs.declared.failure.Failure.TheVariants.{Memory}
 use Rattle.program.specs.declared.run_error.RunError.{RunError}
 use Rattle.program.specs.declared.run_error.RunError.TheVariants as run
 use Rattle.program.specs.declared.script.error.ScriptError.TheVariants.{OutOfMemory}
-use Rattle.program.specs.Scripts.{lines_of}
+use Rattle.program.specs.Scripts.{script_lines}
 use Rattle.program.specs.Faults.{script_fault, start}
 use Rattle.program.specs.Text.{fault_text}
 
@@ -24,13 +24,13 @@ failure_text Output = codes "output: write"
 failure_text Memory = codes "run: memory"
 
 -- the line that tells of a failure
-abbrev pub line_told : Failure → List ℕ
-line_told failure = failure_text failure ++ 10 ∷ []
+abbrev pub failure_line : Failure → List ℕ
+failure_line failure = failure_text failure ++ 10 ∷ []
 
 -- a fault of the script is the least of its first faulty line; only want of memory may come before
 abbrev pub IsFailureOf : List ℕ → Failure → Type 0
 IsFailureOf text (Script f) =
-    f.error ≢ OutOfMemory → script_fault start 1 (lines_of text) ≡ Some (f.line, f.error)
+    f.error ≢ OutOfMemory → script_fault start 1 (script_lines text) ≡ Some (f.line, f.error)
 IsFailureOf text Unreadable = Unit {0}
 IsFailureOf text Output = Unit {0}
 IsFailureOf text Memory = Unit {0}

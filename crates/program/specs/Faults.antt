@@ -6,8 +6,8 @@ use Rattle.std.specs.List.{list_all}
 use Rattle.std.specs.Option.{option_map_or, option_or}
 use Rattle.std.specs.Str.{bytes_eq}
 use Rattle.std.specs.Str.Parse.{digits_value}
-use Rattle.chain_model.specs.Configuration.{Configurations, has, at_epoch}
-use Rattle.configurations.specs.Configs.{is_config}
+use Rattle.lab.specs.Configuration.{Configurations, has, at_epoch}
+use Rattle.lab.specs.Configs.{is_config}
 use Rattle.program.specs.declared.script.error.ScriptError.{ScriptError}
 use Rattle.program.specs.declared.script.error.ScriptError.TheVariants.{LineTooLong, BadNumber}
 use Rattle.program.specs.declared.script.error.ScriptError.TheVariants.{UnknownStatement}
@@ -15,7 +15,7 @@ use Rattle.program.specs.declared.script.error.ScriptError.TheVariants.{BadFault
 use Rattle.program.specs.declared.script.error.ScriptError.TheVariants.{BadConfiguration}
 use Rattle.program.specs.declared.script.error.ScriptError.TheVariants.{UnknownNode}
 use Rattle.program.specs.declared.script.error.ScriptError.TheVariants.{TooManyLines}
-use Rattle.program.specs.declared.script.statement.Before.{Before}
+use Rattle.program.specs.declared.script.statement.ParserState.{ParserState}
 use Rattle.program.specs.Words.{is_number, has_fault, before_fault}
 use Rattle.program.specs.Statements.{fault_of_words}
 use Rattle.program.specs.Scripts.{is_skipped, words_of}
@@ -29,7 +29,7 @@ abbrev pub fault_word : List (List ℕ) → Option ScriptError
 fault_word args = if has_fault args then Some BadFault else None
 
 -- there is one configuration, and no statement stands before it
-abbrev pub config_fault : Before → List (List ℕ) → Option ScriptError
+abbrev pub config_fault : ParserState → List (List ℕ) → Option ScriptError
 config_fault before args =
     if not (list_all is_number (before_fault args)) then Some BadNumber else
     if has_fault args then Some BadFault else
@@ -51,24 +51,24 @@ node_named (name ∷ word ∷ args) =
     if bytes_eq name (codes "deliver") then None else Some (digits_value 10 word)
 
 -- the least fault of a statement, by its words, its fault, its place
-abbrev pub statement_fault : Before → List ℕ → List (List ℕ) → Option ScriptError
+abbrev pub statement_fault : ParserState → List ℕ → List (List ℕ) → Option ScriptError
 statement_fault before name args =
     option_or (fault_of_words (name ∷ before_fault args))
     (option_or (fault_word args) (node_fault before.configs (node_named (name ∷ args))))
 
-abbrev pub words_fault : Before → List (List ℕ) → Option ScriptError
+abbrev pub words_fault : ParserState → List (List ℕ) → Option ScriptError
 words_fault before [] = Some UnknownStatement
 words_fault before (name ∷ args) =
     if bytes_eq name (codes "config") then config_fault before args
     else statement_fault before name args
 
 -- the least fault of a line, but for the number of lines
-abbrev pub line_fault : Before → List ℕ → Option ScriptError
+abbrev pub line_fault : ParserState → List ℕ → Option ScriptError
 line_fault before line =
     if nat_lt 262144 (length line) then Some LineTooLong else
     if is_skipped line then None else words_fault before (words_of line)
 
-abbrev pub after_words : Before → List (List ℕ) → Before
+abbrev pub after_words : ParserState → List (List ℕ) → ParserState
 after_words before [] = before
 after_words before (name ∷ args) =
     if bytes_eq name (codes "config")
@@ -76,23 +76,23 @@ after_words before (name ∷ args) =
     else record { configs = before.configs; begun = true }
 
 -- what stands before the line after this one
-abbrev pub after_line : Before → List ℕ → Before
+abbrev pub after_line : ParserState → List ℕ → ParserState
 after_line before line =
     if is_skipped line then before else after_words before (words_of line)
 
 -- a line's fault; that it is one line too many counts last
-abbrev pub numbered_fault : Before → ℕ → List ℕ → Option ScriptError
+abbrev pub numbered_fault : ParserState → ℕ → List ℕ → Option ScriptError
 numbered_fault before n line =
     option_or (line_fault before line) (if nat_lt 100000 n then Some TooManyLines else None)
 
 -- the least fault of the first faulty line, the first line having number n; that there is no
 -- configuration counts for the line after the last
-abbrev pub script_fault : Before → ℕ → List (List ℕ) → Option (ℕ × ScriptError)
+abbrev pub script_fault : ParserState → ℕ → List (List ℕ) → Option (ℕ × ScriptError)
 script_fault before n [] = if is_none before.configs then Some (n, BadConfiguration) else None
 script_fault before n (line ∷ lines) =
     option_map_or (λ e. Some (n, e)) (numbered_fault before n line)
     (script_fault (after_line before line) (suc n) lines)
 
 -- nothing stands before the first line
-abbrev pub start : Before
+abbrev pub start : ParserState
 start = record { configs = None; begun = false }

@@ -1,11 +1,11 @@
 -- Nothing has two meanings, and what is spelled is read.
 use Rattle.std.specs.Prelude.{◌≡◌, ◌≤◌, ℕ, List, All, length, None}
 use Rattle.kv_types.specs.declared.edit.Edit.{Edit}
-use Rattle.lab.specs.declared.event.What.{What}
+use Rattle.lab.specs.declared.event.EventKind.{EventKind}
 use Rattle.program.specs.declared.script.setup.Setup.{Setup}
 use Rattle.program.specs.declared.script.statement.Statement.{Statement}
 use Rattle.program.specs.Words.{AreBytes, bytes_text}
-use Rattle.program.specs.Statements.{AreBytesIn, CanBeSaid, edit_text, IsSpelled, fault_of_words}
+use Rattle.program.specs.Statements.{AreBytesIn, CanBeSaid, edit_word, IsSpelled, fault_of_words}
 use Rattle.program.specs.Scripts.{IsScript}
 use Rattle.program.specs.Faults.{script_fault, start}
 
@@ -15,16 +15,16 @@ StringsDiffer = (a b : List ℕ) → AreBytes a → AreBytes b → bytes_text a 
 
 -- no two edits have one spelling
 abbrev pub EditsDiffer : Type 0
-EditsDiffer = (a b : Edit) → AreBytesIn a → AreBytesIn b → edit_text a ≡ edit_text b → a ≡ b
+EditsDiffer = (a b : Edit) → AreBytesIn a → AreBytesIn b → edit_word a ≡ edit_word b → a ≡ b
 
 -- no two events have one spelling
 abbrev pub EventsDiffer : Type 0
-EventsDiffer = (a b : What) (words : List (List ℕ)) → CanBeSaid a → CanBeSaid b
+EventsDiffer = (a b : EventKind) (words : List (List ℕ)) → CanBeSaid a → CanBeSaid b
     → IsSpelled a words → IsSpelled b words → a ≡ b
 
 -- the words that spell an event have no fault of their own
 abbrev pub EventsAreRead : Type 0
-EventsAreRead = (what : What) (words : List (List ℕ)) → CanBeSaid what → IsSpelled what words
+EventsAreRead = (what : EventKind) (words : List (List ℕ)) → CanBeSaid what → IsSpelled what words
     → fault_of_words words ≡ None
 
 -- a script has no fault, where its lines are neither too long nor too many

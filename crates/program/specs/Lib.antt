@@ -1,14 +1,14 @@
 pub mod Words
 pub mod Statements
-pub mod Meanings
+pub mod Actions
 pub mod Scripts
 pub mod Faults
 pub mod Edits
 pub mod Reading
-pub mod Courses
+pub mod ScriptRuns
 pub mod Text
 pub mod Failures
-pub mod Requests
+pub mod Invocations
 pub mod Runs
 pub mod Laws
 pub mod Beginnings

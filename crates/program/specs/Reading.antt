@@ -2,26 +2,27 @@
 use Rattle.std.specs.Prelude.{◌≡◌, ◌≢◌, ◌≤◌, ℕ, true, List, [], ◌∷◌, ◌++◌, map, codes}
 use Rattle.std.specs.Prelude.{Some, None, Result, Ok, Err}
 use Rattle.std.specs.Fmt.{decimal}
-use Rattle.lab.specs.declared.event.What.{What}
-use Rattle.lab.specs.declared.event.What.TheVariants as what
-use Rattle.chain_model.specs.Configuration.{Configurations}
-use Rattle.configurations.specs.Configs.{IsConfig}
+use Rattle.lab.specs.declared.event.EventKind.{EventKind}
+use Rattle.lab.specs.declared.event.EventKind.TheVariants as what
+use Rattle.lab.specs.Configuration.{Configurations}
+use Rattle.lab.specs.Configs.{IsConfig}
 use Rattle.program.specs.declared.script.error.ScriptError.{ScriptError}
 use Rattle.program.specs.declared.script.error.ScriptError.TheVariants.{OutOfMemory}
-use Rattle.program.specs.declared.script.asked.Asked.{Asked}
-use Rattle.program.specs.declared.script.asked.Asked.TheVariants.{Submit, Get, Tick, Stop, Start}
-use Rattle.program.specs.declared.script.statement.Before.{Before}
-use Rattle.program.specs.declared.script.statement.Item.{Item}
-use Rattle.program.specs.declared.script.statement.Item.TheVariants.{Skipped, Config, Asks}
-use Rattle.program.specs.declared.script.statement.Meaning.{Meaning}
+use Rattle.program.specs.declared.script.command.Command.{Command}
+use Rattle.program.specs.declared.script.command.Command.TheVariants.{Submit, Get, Tick}
+use Rattle.program.specs.declared.script.command.Command.TheVariants.{Stop, Start}
+use Rattle.program.specs.declared.script.statement.ParserState.{ParserState}
+use Rattle.program.specs.declared.script.statement.LineItem.{LineItem}
+use Rattle.program.specs.declared.script.statement.LineItem.TheVariants.{Skipped, Config, Asks}
+use Rattle.program.specs.declared.script.statement.Action.{Action}
 use Rattle.program.specs.declared.script.statement.Statement.{Statement}
 use Rattle.program.specs.Statements.{CanBeSaid, IsSpelled, fault_of_words}
 use Rattle.program.specs.Scripts.{IsStatement, is_skipped, words_of, statement}
 use Rattle.program.specs.Faults.{statement_fault, words_fault, after_words, line_fault}
 use Rattle.program.specs.Faults.{after_line, numbered_fault}
 
--- the event that is asked for
-abbrev pub what_of : Asked → What
+-- the event that a command asks for
+abbrev pub what_of : Command → EventKind
 what_of (Submit node changes) = what.Submit node changes
 what_of (Get node key at) = what.Get node key at
 what_of (Stop node junk) = what.Stop node junk
@@ -29,60 +30,60 @@ what_of (Tick node) = what.Tick node
 what_of (Start node) = what.Start node
 
 -- a reader gives the statement that is spelled, or the least fault, unless memory runs out
-abbrev pub Reads : List (List ℕ) → Result Asked ScriptError → Type 0
-Reads words (Ok asked) =
-    (fault_of_words words ≡ None) × CanBeSaid (what_of asked) × IsSpelled (what_of asked) words
-Reads words (Err e) = (e ≢ OutOfMemory) → fault_of_words words ≡ Some e
+abbrev pub ReadsCommand : List (List ℕ) → Result Command ScriptError → Type 0
+ReadsCommand words (Ok command) =
+    (fault_of_words words ≡ None) × CanBeSaid (what_of command) × IsSpelled (what_of command) words
+ReadsCommand words (Err e) = (e ≢ OutOfMemory) → fault_of_words words ≡ Some e
 
 -- the words say so, behind such lines
-abbrev pub IsItemOfWords : Before → List (List ℕ) → Item → Type 0
+abbrev pub IsItemOfWords : ParserState → List (List ℕ) → LineItem → Type 0
 IsItemOfWords before words Skipped = ⊥
 IsItemOfWords before words (Config cs) =
     (ids : List ℕ) × (words ≡ codes "config" ∷ map decimal ids) × IsConfig ids
     × (cs ≡ ids ∷ []) × (before.configs ≡ None)
-IsItemOfWords before words (Asks meaning) =
-    (cs : Configurations) × (before.configs ≡ Some cs) × IsStatement cs words meaning
+IsItemOfWords before words (Asks action) =
+    (cs : Configurations) × (before.configs ≡ Some cs) × IsStatement cs words action
 
 -- the line says so
-abbrev pub IsItem : Before → List ℕ → Item → Type 0
+abbrev pub IsItem : ParserState → List ℕ → LineItem → Type 0
 IsItem before line Skipped = is_skipped line ≡ true
 IsItem before line item = IsItemOfWords before (words_of line) item
 
 -- what an item leaves for the lines behind it
-abbrev pub after_item : Before → Item → Before
+abbrev pub after_item : ParserState → LineItem → ParserState
 after_item before Skipped = before
 after_item before (Config cs) = record { configs = Some cs; begun = before.begun }
-after_item before (Asks meaning) = record { configs = before.configs; begun = true }
+after_item before (Asks action) = record { configs = before.configs; begun = true }
 
-abbrev pub statements_of : ℕ → Item → List Statement
+abbrev pub statements_of : ℕ → LineItem → List Statement
 statements_of n Skipped = []
 statements_of n (Config cs) = []
-statements_of n (Asks meaning) = statement n meaning ∷ []
+statements_of n (Asks action) = statement n action ∷ []
 
 -- a statement that may stand here
-abbrev pub Places : Before → List ℕ → List (List ℕ) → Result Meaning ScriptError → Type 0
-Places before name args (Ok meaning) =
+abbrev pub Places : ParserState → List ℕ → List (List ℕ) → Result Action ScriptError → Type 0
+Places before name args (Ok action) =
     (statement_fault before name args ≡ None)
-    × ((cs : Configurations) × (before.configs ≡ Some cs) × IsStatement cs (name ∷ args) meaning)
+    × ((cs : Configurations) × (before.configs ≡ Some cs) × IsStatement cs (name ∷ args) action)
 Places before name args (Err e) = (e ≢ OutOfMemory) → statement_fault before name args ≡ Some e
 
-abbrev pub ReadsWords : Before → List (List ℕ) → Result Item ScriptError → Type 0
+abbrev pub ReadsWords : ParserState → List (List ℕ) → Result LineItem ScriptError → Type 0
 ReadsWords before words (Ok item) =
     (words_fault before words ≡ None) × IsItemOfWords before words item
     × (after_words before words ≡ after_item before item)
 ReadsWords before words (Err e) = (e ≢ OutOfMemory) → words_fault before words ≡ Some e
 
-abbrev pub ReadsLine : Before → List ℕ → Result Item ScriptError → Type 0
+abbrev pub ReadsLine : ParserState → List ℕ → Result LineItem ScriptError → Type 0
 ReadsLine before line (Ok item) =
     (line_fault before line ≡ None) × IsItem before line item
     × (after_line before line ≡ after_item before item)
 ReadsLine before line (Err e) = (e ≢ OutOfMemory) → line_fault before line ≡ Some e
 
 -- a line that is one too many counts last
-abbrev pub Takes : Before → ℕ → List ℕ → List Statement → List Statement
-    → Result Before ScriptError → Type 0
-Takes before n line old new (Ok after) =
+abbrev pub ReadsNext : ParserState → ℕ → List ℕ → List Statement → List Statement
+    → Result ParserState ScriptError → Type 0
+ReadsNext before n line old new (Ok after) =
     (numbered_fault before n line ≡ None) × (n ≤ 100000) × (after_line before line ≡ after)
-    × ((item : Item) × IsItem before line item × (after ≡ after_item before item)
+    × ((item : LineItem) × IsItem before line item × (after ≡ after_item before item)
     × (new ≡ old ++ statements_of n item))
-Takes before n line old new (Err e) = (e ≢ OutOfMemory) → numbered_fault before n line ≡ Some e
+ReadsNext before n line old new (Err e) = (e ≢ OutOfMemory) → numbered_fault before n line ≡ Some e

@@ -9,28 +9,29 @@ use Rattle.program.specs.declared.failure.Failure.{Failure}
 use Rattle.program.specs.declared.failure.Failure.TheVariants.{Output}
 use Rattle.program.specs.declared.script.setup.Setup.{Setup}
 use Rattle.program.specs.declared.script.statement.Statement.{Statement}
-use Rattle.program.specs.declared.turn.Turn.{Turn}
-use Rattle.program.specs.Courses.{IsCourse}
-use Rattle.program.specs.Scripts.{lines_of, IsScript}
+use Rattle.program.specs.declared.statement_result.StatementResult.{StatementResult}
+use Rattle.program.specs.ScriptRuns.{AreResults}
+use Rattle.program.specs.Scripts.{script_lines, IsScript}
 use Rattle.program.specs.Faults.{script_fault, start}
-use Rattle.program.specs.Failures.{IsFailureOf, line_told}
+use Rattle.program.specs.Failures.{IsFailureOf, failure_line}
 use Rattle.program.specs.Text.{run_text}
 
 -- the statements were run at the nodes of the configurations, and all that came of them is of one
 -- history
-pub record HasRunAll (setup : Setup) (statements : List Statement) (turns : List Turn)
+pub record HasRunStatements (setup : Setup) (statements : List Statement)
+    (turns : List StatementResult)
     (report : Report) : Type 0 where
   pub events : List lab.Event
-  pub course : IsCourse 0 [] statements turns events report.steps.items
+  pub course : AreResults 0 [] statements turns events report.steps.items
   pub ran : IsRun setup.configs events report
   pub history : OneHistory setup.configs events report
 
 -- .. and this was done with the text of exactly that run
 pub record IsRunOf (setup : Setup) (statements : List Statement) (done : List ℕ → Type 0) : Type 0
   where
-    pub turns : List Turn
+    pub turns : List StatementResult
     pub report : Report
-    pub run : HasRunAll setup statements turns report
+    pub run : HasRunStatements setup statements turns report
     pub wrote : done (run_text turns report.steps.items)
 
 -- what was read, where that is known, is a script without a fault, and this was done with the text
@@ -38,8 +39,8 @@ pub record IsRunOf (setup : Setup) (statements : List Statement) (done : List �
 pub record IsRunOfText (text : Option (List ℕ)) (done : List ℕ → Type 0) : Type 0 where
   pub setup : Setup
   pub statements : List Statement
-  pub spelled : IfSome text (λ t. IsScript 1 (lines_of t) setup statements)
-  pub fault : IfSome text (λ t. script_fault start 1 (lines_of t) ≡ None)
+  pub spelled : IfSome text (λ t. IsScript 1 (script_lines t) setup statements)
+  pub fault : IfSome text (λ t. script_fault start 1 (script_lines t) ≡ None)
   pub run : IsRunOf setup statements done
 
 -- a beginning of a text was written
@@ -49,35 +50,37 @@ pub record AppendsPart (old new : Option (List ℕ)) (text : List ℕ) : Type 0 
 
 -- why there is no run: nothing was written, but a beginning of its text where the output takes no
 -- more
-pub record HasFailed (text old new : Option (List ℕ)) (failure : Failure) : Type 0 where
+pub record RunHasFailed (text old new : Option (List ℕ)) (failure : Failure) : Type 0 where
   pub cause : IfSome text (λ t. IsFailureOf t failure)
   pub untouched : failure ≢ Output → new ≡ old
   pub part : failure ≡ Output → IsRunOfText text (AppendsPart old new)
 
 -- the run was printed, and no fault was told
-pub record Prints (text old_out new_out old_err new_err : Option (List ℕ)) (answer : ℕ) : Type 0
+pub record RunIsPrinted (text old_out new_out old_err new_err : Option (List ℕ))
+    (answer : ℕ) : Type 0
   where
     pub status : answer ≡ 0
     pub run : IsRunOfText text (Appends old_out new_out)
     pub quiet : new_err ≡ old_err
 
 -- the line was told that says why there is no run
-pub record Fails (text old_out new_out old_err new_err : Option (List ℕ)) (answer : ℕ) : Type 0
+pub record FailureIsReported (text old_out new_out old_err new_err : Option (List ℕ))
+    (answer : ℕ) : Type 0
   where
     pub status : answer ≡ 1
     pub failure : Failure
-    pub failed : HasFailed text old_out new_out failure
-    pub told : Appends old_err new_err (line_told failure)
+    pub failed : RunHasFailed text old_out new_out failure
+    pub told : Appends old_err new_err (failure_line failure)
 
 -- how a run ends: with status 0 it was printed, with status 1 it is told why not
-abbrev pub Ends : Option (List ℕ) → Option (List ℕ) → Option (List ℕ) → Option (List ℕ)
+abbrev pub RunEnds : Option (List ℕ) → Option (List ℕ) → Option (List ℕ) → Option (List ℕ)
     → Option (List ℕ) → ℕ → Type 0
-Ends text old_out new_out old_err new_err answer =
-    Prints text old_out new_out old_err new_err answer
-    ⊎ Fails text old_out new_out old_err new_err answer
+RunEnds text old_out new_out old_err new_err answer =
+    RunIsPrinted text old_out new_out old_err new_err answer
+    ⊎ FailureIsReported text old_out new_out old_err new_err answer
 
 -- .. whatever standard error takes of the line
-abbrev pub EndsAs : Option (List ℕ) → Option (List ℕ) → Option (List ℕ) → ℕ → Type 0
-EndsAs text old new answer =
+abbrev pub RunEndsAs : Option (List ℕ) → Option (List ℕ) → Option (List ℕ) → ℕ → Type 0
+RunEndsAs text old new answer =
     ((answer ≡ 0) × IsRunOfText text (Appends old new))
-    ⊎ ((answer ≡ 1) × ((failure : Failure) × HasFailed text old new failure))
+    ⊎ ((answer ≡ 1) × ((failure : Failure) × RunHasFailed text old new failure))

@@ -3,22 +3,22 @@ use Rattle.std.specs.Prelude.{◌≡◌, ◌⊎◌, ℕ, suc, Bool, true, ◌==�
 use Rattle.std.specs.Prelude.{map, codes}
 use Rattle.std.specs.Fmt.{decimal}
 use Rattle.std.specs.List.{slice_split, onto_first}
-use Rattle.chain_model.specs.Configuration.{Configurations}
+use Rattle.lab.specs.Configuration.{Configurations}
 use Rattle.kv_types.specs.declared.limits.Limits.{Limits}
-use Rattle.lab.specs.declared.event.What.{What}
-use Rattle.configurations.specs.Configs.{IsConfig}
+use Rattle.lab.specs.declared.event.EventKind.{EventKind}
+use Rattle.lab.specs.Configs.{IsConfig}
 use Rattle.lab.specs.Events.{NamesNode}
 use Rattle.program.specs.declared.script.setup.Setup.{Setup}
 use Rattle.program.specs.declared.script.statement.Statement.{Statement}
-use Rattle.program.specs.declared.script.statement.Meaning.{Meaning}
-use Rattle.program.specs.declared.script.statement.Meaning.TheVariants.{Event, Invalid, Flow}
+use Rattle.program.specs.declared.script.statement.Action.{Action}
+use Rattle.program.specs.declared.script.statement.Action.TheVariants.{Event, Invalid, Flow}
 use Rattle.program.specs.Statements.{CanBeSaid, IsSpelled}
-use Rattle.program.specs.Meanings.{meaning_of}
+use Rattle.program.specs.Actions.{action_of}
 
 -- the lines of a text, each ended by a line feed, which the last may lack
-abbrev pub lines_of : List ℕ → List (List ℕ)
-lines_of [] = []
-lines_of (b ∷ bs) = if b == 10 then [] ∷ lines_of bs else onto_first b (lines_of bs)
+abbrev pub script_lines : List ℕ → List (List ℕ)
+script_lines [] = []
+script_lines (b ∷ bs) = if b == 10 then [] ∷ script_lines bs else onto_first b (script_lines bs)
 
 -- the words of a line, between single spaces
 abbrev pub words_of : List ℕ → List (List ℕ)
@@ -29,23 +29,23 @@ abbrev pub is_skipped : List ℕ → Bool
 is_skipped [] = true
 is_skipped (b ∷ bs) = b == 35
 
-abbrev pub statement : ℕ → Meaning → Statement
-statement n meaning = record { line = n; meaning = meaning }
+abbrev pub statement : ℕ → Action → Statement
+statement n action = record { line = n; action = action }
 
 -- words say what a statement comes to, at nodes of the first of these configurations
-abbrev pub IsStatement : Configurations → List (List ℕ) → Meaning → Type 0
-IsStatement cs words meaning =
-    ((meaning ≡ Flow) × (words ≡ codes "flow" ∷ []))
-    ⊎ ((what : What) × CanBeSaid what × IsSpelled what words × NamesNode cs what
-    × (meaning ≡ meaning_of what))
+abbrev pub IsStatement : Configurations → List (List ℕ) → Action → Type 0
+IsStatement cs words action =
+    ((action ≡ Flow) × (words ≡ codes "flow" ∷ []))
+    ⊎ ((what : EventKind) × CanBeSaid what × IsSpelled what words × NamesNode cs what
+    × (action ≡ action_of what))
 
 -- lines behind the configurations, the first with number n: each is skipped, or is a statement
 abbrev pub AreStatements : Configurations → ℕ → List (List ℕ) → List Statement → Type 0
 AreStatements cs n [] statements = statements ≡ []
 AreStatements cs n (line ∷ lines) statements =
     ((is_skipped line ≡ true) × AreStatements cs (suc n) lines statements)
-    ⊎ ((meaning : Meaning) × (rest : List Statement) × IsStatement cs (words_of line) meaning
-    × (statements ≡ statement n meaning ∷ rest) × AreStatements cs (suc n) lines rest)
+    ⊎ ((action : Action) × (rest : List Statement) × IsStatement cs (words_of line) action
+    × (statements ≡ statement n action ∷ rest) × AreStatements cs (suc n) lines rest)
 
 -- the limits of a script that sets none
 abbrev pub AreDefault : Limits → Type 0
@@ -68,7 +68,7 @@ IsScript n (line ∷ lines) setup statements =
     × SetsUp setup (ids ∷ []) × AreStatements (ids ∷ []) (suc n) lines statements)
 
 -- an event names a node of the first configuration, if it names one
-abbrev pub Names : Configurations → Meaning → Type 0
+abbrev pub Names : Configurations → Action → Type 0
 Names cs (Event what) = NamesNode cs what
 Names cs (Invalid e) = Unit {0}
 Names cs Flow = Unit {0}

@@ -9,10 +9,10 @@ use Rattle.std.specs.Str.{bytes_eq}
 use Rattle.std.specs.Char.{digit_char}
 use Rattle.kv_types.specs.declared.edit.Edit.{Edit}
 use Rattle.kv_types.specs.declared.edit.Edit.TheVariants.{Put, Delete}
-use Rattle.disk.specs.declared.junk.Junk.{Junk}
-use Rattle.disk.specs.declared.junk.Junk.TheVariants.{Old, New, Bytes}
-use Rattle.lab.specs.declared.event.What.{What}
-use Rattle.lab.specs.declared.event.What.TheVariants.{Submit, Get, Deliver, Tick, Start, Stop}
+use Rattle.lab.specs.Junk.{Junk}
+use Rattle.lab.specs.Junk.TheVariants.{Old, New, Bytes}
+use Rattle.lab.specs.declared.event.EventKind.{EventKind}
+use Rattle.lab.specs.declared.event.EventKind.TheVariants.{Submit, Get, Deliver, Tick, Start, Stop}
 use Rattle.program.specs.declared.script.error.ScriptError.{ScriptError}
 use Rattle.program.specs.declared.script.error.ScriptError.TheVariants.{UnknownStatement}
 use Rattle.program.specs.declared.script.error.ScriptError.TheVariants.{WrongNumberOfWords}
@@ -21,9 +21,9 @@ use Rattle.program.specs.declared.script.error.ScriptError.TheVariants.{BadFault
 use Rattle.program.specs.Words.{AreBytes, bytes_text, is_byte_string, is_number, is_hex}
 
 -- KEY=VALUE or -KEY
-abbrev pub edit_text : Edit → List ℕ
-edit_text (Put key value) = bytes_text key ++ 61 ∷ bytes_text value
-edit_text (Delete key) = 45 ∷ bytes_text key
+abbrev pub edit_word : Edit → List ℕ
+edit_word (Put key value) = bytes_text key ++ 61 ∷ bytes_text value
+edit_word (Delete key) = 45 ∷ bytes_text key
 
 -- two digits for each byte
 abbrev pub hex_text : List ℕ → List ℕ
@@ -46,7 +46,7 @@ AreBytesOf New = Unit {0}
 AreBytesOf (Bytes bytes) = AreBytes bytes
 
 -- an event of bytes, and of numbers that a script may name
-abbrev pub CanBeSaid : What → Type 0
+abbrev pub CanBeSaid : EventKind → Type 0
 CanBeSaid (Submit node edits) = (node < 2 ^ 63) × All AreBytesIn edits
 CanBeSaid (Get node key None) = (node < 2 ^ 63) × AreBytes key
 CanBeSaid (Get node key (Some at)) = (node < 2 ^ 63) × AreBytes key × (at < 2 ^ 63)
@@ -56,8 +56,8 @@ CanBeSaid (Start node) = node < 2 ^ 63
 CanBeSaid (Stop node junk) = (node < 2 ^ 63) × AreBytesOf junk
 
 -- these words spell the event
-abbrev pub IsSpelled : What → List (List ℕ) → Type 0
-IsSpelled (Submit node edits) words = words ≡ codes "submit" ∷ decimal node ∷ map edit_text edits
+abbrev pub IsSpelled : EventKind → List (List ℕ) → Type 0
+IsSpelled (Submit node edits) words = words ≡ codes "submit" ∷ decimal node ∷ map edit_word edits
 IsSpelled (Get node key None) words =
     words ≡ codes "get" ∷ decimal node ∷ bytes_text key ∷ []
 IsSpelled (Get node key (Some at)) words =

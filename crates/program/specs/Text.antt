@@ -6,19 +6,19 @@ use Rattle.std.specs.List.{flat_map}
 use Rattle.std.specs.Option.{option_map_or}
 use Rattle.kv_types.specs.declared.error.KvError.{KvError}
 use Rattle.kv_types.specs.declared.error.KvError.TheVariants as kv
-use Rattle.chain_model.specs.declared.refusal.Refusal.{Refusal}
-use Rattle.chain_model.specs.declared.refusal.Refusal.TheVariants as refused
-use Rattle.node.specs.declared.output.Reply.{Reply}
-use Rattle.node.specs.declared.output.Reply.TheVariants.{Committed, Value, Refused}
-use Rattle.node.specs.declared.stop.Stop.{Stop}
-use Rattle.node.specs.declared.stop.Stop.TheVariants as stop
-use Rattle.chain_model.specs.declared.drop_reason.DropReason.{DropReason}
-use Rattle.chain_model.specs.declared.drop_reason.DropReason.TheVariants as reason
+use Rattle.lab.specs.Refusal.{Refusal}
+use Rattle.lab.specs.Refusal.TheVariants as refused
+use Rattle.lab.specs.Reply.{Reply}
+use Rattle.lab.specs.Reply.TheVariants.{Committed, Value, Refused}
+use Rattle.lab.specs.Stop.{Stop}
+use Rattle.lab.specs.Stop.TheVariants as stop
+use Rattle.lab.specs.DropReason.{DropReason}
+use Rattle.lab.specs.DropReason.TheVariants as reason
 use Rattle.lab.specs.declared.report.Line.{Line}
 use Rattle.lab.specs.declared.report.Line.TheVariants as line
-use Rattle.program.specs.declared.turn.Turn.{Turn}
-use Rattle.program.specs.declared.turn.Remark.{Remark}
-use Rattle.program.specs.declared.turn.Remark.TheVariants as remark
+use Rattle.program.specs.declared.statement_result.StatementResult.{StatementResult}
+use Rattle.program.specs.declared.statement_result.Note.{Note}
+use Rattle.program.specs.declared.statement_result.Note.TheVariants as note
 use Rattle.program.specs.declared.script.error.ScriptError.{ScriptError}
 use Rattle.program.specs.declared.script.error.ScriptError.TheVariants as fault
 use Rattle.program.specs.Words.{bytes_text}
@@ -113,11 +113,11 @@ abbrev pub line_texts : Line → List (List ℕ)
 line_texts line = line_text line ∷ []
 
 -- a line of output: a number of a line of the script, and what is said of it
-abbrev pub numbered : ℕ → List ℕ → List ℕ
-numbered n text = decimal n ++ (codes ": " ++ (text ++ 10 ∷ []))
+abbrev pub numbered_line : ℕ → List ℕ → List ℕ
+numbered_line n text = decimal n ++ (codes ": " ++ (text ++ 10 ∷ []))
 
 -- the lines of the script where the events stand, in order
-abbrev pub event_lines : List Turn → List ℕ
+abbrev pub event_lines : List StatementResult → List ℕ
 event_lines turns = flat_map (λ turn. replicate turn.events turn.line) turns
 
 -- the line of a request, which has the number of its event, from 1; one of no event stands here
@@ -131,42 +131,42 @@ request_of (Value request n value) = request
 request_of (Refused request refusal) = request
 
 -- a reply is told at its request's line, all else here
-abbrev pub line_told_at : List ℕ → ℕ → Line → ℕ
-line_told_at events here (line.Replied reply) = line_of_request events here (request_of reply)
-line_told_at events here line.Nothing = here
-line_told_at events here (line.Dropped reason) = here
-line_told_at events here (line.Started node epoch count committed) = here
-line_told_at events here (line.Forwarded place from to epoch number) = here
-line_told_at events here (line.Acknowledged place from to epoch committed have) = here
-line_told_at events here (line.Stopped node cause) = here
+abbrev pub reply_place : List ℕ → ℕ → Line → ℕ
+reply_place events here (line.Replied reply) = line_of_request events here (request_of reply)
+reply_place events here line.Nothing = here
+reply_place events here (line.Dropped reason) = here
+reply_place events here (line.Started node epoch count committed) = here
+reply_place events here (line.Forwarded place from to epoch number) = here
+reply_place events here (line.Acknowledged place from to epoch committed have) = here
+reply_place events here (line.Stopped node cause) = here
 
-abbrev pub told_text : List ℕ → ℕ → Line → List ℕ
-told_text events here line =
-    flat_map (numbered (line_told_at events here line)) (line_texts line)
+abbrev pub line_output : List ℕ → ℕ → Line → List ℕ
+line_output events here line =
+    flat_map (numbered_line (reply_place events here line)) (line_texts line)
 
 abbrev pub step_text : List ℕ → ℕ → List Line → List ℕ
-step_text events here step = flat_map (told_text events here) step
+step_text events here step = flat_map (line_output events here) step
 
 -- what is said of a statement besides
-abbrev pub remark_text : ℕ → Option Remark → List ℕ
-remark_text here None = []
-remark_text here (Some (remark.Invalid e)) = numbered here (codes "invalid " ++ error_text e)
-remark_text here (Some remark.Busy) = numbered here (codes "busy")
+abbrev pub note_text : ℕ → Option Note → List ℕ
+note_text here None = []
+note_text here (Some (note.Invalid e)) = numbered_line here (codes "invalid " ++ error_text e)
+note_text here (Some note.Busy) = numbered_line here (codes "busy")
 
 -- what is printed at a statement: the lines of its steps, then what is said of it
-abbrev pub turn_text : List ℕ → Turn → List (List Line) → List ℕ
-turn_text events turn steps =
+abbrev pub result_text : List ℕ → StatementResult → List (List Line) → List ℕ
+result_text events turn steps =
     flat_map (step_text events turn.line) (take turn.events steps)
-    ++ remark_text turn.line turn.remark
+    ++ note_text turn.line turn.note
 
-abbrev pub turns_text : List ℕ → List Turn → List (List Line) → List ℕ
-turns_text events [] steps = []
-turns_text events (turn ∷ turns) steps =
-    turn_text events turn steps ++ turns_text events turns (drop turn.events steps)
+abbrev pub results_text : List ℕ → List StatementResult → List (List Line) → List ℕ
+results_text events [] steps = []
+results_text events (turn ∷ turns) steps =
+    result_text events turn steps ++ results_text events turns (drop turn.events steps)
 
 -- the text of a run of statements, each event of which had a step
-abbrev pub run_text : List Turn → List (List Line) → List ℕ
-run_text turns steps = turns_text (event_lines turns) turns steps
+abbrev pub run_text : List StatementResult → List (List Line) → List ℕ
+run_text turns steps = results_text (event_lines turns) turns steps
 
 -- the text of what is wrong with a script's line
 abbrev pub fault_text : ScriptError → List ℕ

@@ -2,7 +2,7 @@
 use Rattle.std.specs.Prelude.{ℕ, ◌+◌, ◌-◌, ◌*◌, ◌/◌, ◌%◌, ◌^◌, Bool, true, false, ◌&&◌, ◌||◌, not}
 use Rattle.std.specs.Prelude.{◌<◌, All}
 use Rattle.std.specs.Prelude.{◌==◌, nat_lt, nat_le, if◌then◌else◌, List, [], ◌∷◌, length}
-use Rattle.std.specs.Prelude.{slice_index}
+use Rattle.std.specs.Prelude.{slice_index, ◌≡◌, ◌++◌}
 use Rattle.std.specs.List.{flat_map, list_any}
 use Rattle.std.specs.Char.{digit_char}
 use Rattle.std.specs.Str.{all_ascii_digits}
@@ -47,6 +47,15 @@ are_bytes (a ∷ b ∷ []) = is_plain a && is_plain b
 are_bytes (a ∷ b ∷ c ∷ bs) =
     if is_plain a then are_bytes (b ∷ c ∷ bs)
     else (a == 37) && is_hex b && is_hex c && not (is_plain (escaped b c)) && are_bytes bs
+
+-- bytes begin with these, each of which stands for itself, and go on with others, the first of
+-- which doesn't
+pub record HasPlainFront (bytes front behind : List ℕ) : Type 0 where
+  pub parts : bytes ≡ front ++ behind
+  pub plain : flat_map byte_text front ≡ front
+  pub reads : are_bytes bytes ≡ are_bytes behind
+  pub small : All (λ b. b < 128) front
+  pub other : (b : ℕ) (bs : List ℕ) → behind ≡ b ∷ bs → is_plain b ≡ false
 
 -- whether a word is a byte string
 abbrev pub is_byte_string : List ℕ → Bool

@@ -1,11 +1,11 @@
-// Why a run ended early, and the line that says so.
+//! Why a run ended early, and the line that says so.
 ghost use Rattle.std.specs.Prelude.{◌≡◌, Some};
 ghost use Rattle.program.specs.Failures.{failure_of, failure_text};
 ghost use Rattle.program.specs.declared.failure.Failure.TheVariants.{Memory};
 
 use crate::run_error::RunError;
-use crate::script::Fault;
-use crate::text::FaultText;
+use crate::script::ScriptFault;
+use crate::text::fault_name;
 use std::alloc::AllocError;
 use std::fmt;
 
@@ -13,7 +13,7 @@ use std::fmt;
 #[derive(Clone, Copy, Debug)]
 pub enum Failure {
     Unreadable,
-    Script(Fault),
+    Script(ScriptFault),
     Output,
     Memory,
 }
@@ -25,7 +25,7 @@ impl fmt::Display for Failure {
         match self {
             Failure::Unreadable => write!(f, "script: unreadable"),
             Failure::Script(fault) => {
-                let (line, text) = (fault.line, FaultText(fault.error));
+                let (line, text) = (fault.line, fault_name(fault.error));
                 write!(f, "line {line}: {text}")
             }
             Failure::Output => write!(f, "output: write"),

@@ -1,19 +1,20 @@
 //! What the program does: it reads a script, runs it at a chain's nodes, and prints what happens.
 #![tactic(auto)]
 
-mod command;
-mod course;
 mod failure;
+mod invocation;
+mod plain;
 mod reading;
 mod run_error;
-mod running;
+mod run_input;
 mod script;
-mod serving;
+mod script_run;
+mod service;
+mod statement_result;
 mod text;
-mod turn;
 mod writing;
 
 pub use failure::Failure;
 pub use script::laws::{scripts_are_read, spellings_differ};
-pub use script::{Fault, ScriptError};
-pub use serving::{refuse, serve, serve_script, tell};
+pub use script::{ScriptError, ScriptFault};
+pub use service::{refuse, report, serve, serve_script};

@@ -47,7 +47,7 @@ fn read_some<R: Read>(input: &mut R, chunk: &mut [u8]) -> Result<Option<usize>, 
 }
 
 /// The text of a script, or a beginning of it that shows the fault of the whole.
-pub fn text_of<R: Read>(alloc: Global, input: &mut R) -> Result<Vec<u8>, Failure>
+pub fn script_text<R: Read>(alloc: Global, input: &mut R) -> Result<Vec<u8>, Failure>
     ensures read { IfOk result (λ text.
         IfSome (R.remaining input.old) (λ whole. IsEnough whole text.items)) }
     ensures cause { IfErr result IsOfInput }

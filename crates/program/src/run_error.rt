@@ -6,7 +6,7 @@ use lab::LabError;
 use std::alloc::{AllocError, AllocFailed};
 
 /// Why a run of a script ended early.
-#[derive(Clone, Copy, Debug)]
+#[derive(Clone, Copy)]
 pub enum RunError {
     /// The output takes no more. A beginning of the run's text may have been written.
     Write = 1,

@@ -1,4 +1,4 @@
-// Calls of the program, and their results.
+// What comes of the program's words.
 use program::serve;
 use std::alloc::AllocError;
 
@@ -10,7 +10,7 @@ pub struct Outcome {
 }
 
 impl Outcome {
-    // Expected texts on standard output and on standard error.
+    // Whether this is on standard output and on standard error.
     pub fn tells(&self, out: &[u8], err: &[u8]) -> bool {
         self.out.as_slice() == out && self.err.as_slice() == err
     }
@@ -28,7 +28,7 @@ pub fn ran(rt: &HostRuntime, script: &[u8]) -> Outcome {
     called(rt, &["chainstore", "lab", "-"], script)
 }
 
-// The bytes, repeated this many times.
+// The bytes so many times.
 pub fn times(rt: &HostRuntime, bytes: &[u8], count: u32) -> Result<Vec<u8>, AllocError> {
     let mut all = Vec::new(rt.alloc());
     for _ in 0..count {

@@ -3,15 +3,15 @@ use crate::calls::ran;
 use std::io::{self, Write};
 use std::test::Fail;
 
-// The number of submitted batches.
+// How many batches are submitted.
 const SUBMITS: u32 = 200;
 
-// The next of a fixed list of pseudorandom numbers.
+// The next of a fixed list of numbers that look like chance.
 fn next(seed: u32) -> u32 {
     seed.wrapping_mul(1664525).wrapping_add(1013904223)
 }
 
-// A submit at the head, then frames in no order: some repeated, some at a place without a frame.
+// A submit at the head, then frames in no order: some again, some of a place that no frame has.
 fn put_submit(script: &mut Vec<u8>, i: u32) -> io::Result<()> {
     writeln!(script, "submit 1 k{i}={i}")?;
     let mut seed = i;
@@ -23,7 +23,7 @@ fn put_submit(script: &mut Vec<u8>, i: u32) -> io::Result<()> {
     Ok(())
 }
 
-// The submits, with two stops between, then ticks until every node has every batch.
+// The submits, with two stops between, then turns to send again until all is everywhere.
 fn put_course(script: &mut Vec<u8>) -> io::Result<()> {
     script.write_all(b"config 1 2 3\n")?;
     for i in 0..SUBMITS {
@@ -41,7 +41,7 @@ fn put_course(script: &mut Vec<u8>) -> io::Result<()> {
     Ok(())
 }
 
-// A read of each key at each node, and its answer once every batch is committed everywhere.
+// A read of each key at each node, and what it tells once all is committed everywhere.
 fn put_reads(script: &mut Vec<u8>, told: &mut Vec<u8>, mut line: u32) -> io::Result<()> {
     for i in 0..SUBMITS {
         for node in 1..4 {
@@ -64,7 +64,7 @@ fn all_nodes_come_to_the_same_rows(rt: HostRuntime) -> Result<(), Fail> {
     Ok(())
 }
 
-// A flow that reaches its bound reports so, and the next one continues.
+// A flow that reaches its bound says so, and the next one goes on.
 #[test]
 fn a_flow_has_a_bound(rt: HostRuntime) -> Result<(), Fail> {
     let mut script = b"config 1 2\n".to_vec(rt.alloc())?;

@@ -1,4 +1,5 @@
-// Scripts that can't be read to their end, or have none, scripts at a path, and outputs that fail.
+// Scripts that can't be read to their end, or have none, scripts at a path, and outputs that take
+// no more.
 use crate::calls::called;
 use crate::streams::{Broken, Endless, Full};
 use program::serve;
@@ -12,7 +13,7 @@ const SCRIPT: &[u8] = b"config 1\nsubmit 1 a=1\nget 1 a\n";
 
 const TEXT: &[u8] = b"2: committed 1\n3: value 1 at 1\n";
 
-// Beginnings of a script before the error, its kind, and the error's report. The half of a line
+// Beginnings of a script before the error, its kind, and what is told of it. The half of a line
 // that was read would be a statement of its own.
 const UNREADABLE: &[(&str, ErrorKind, &str)] = &[
     ("", ErrorKind::Other, "script: unreadable\n"),
@@ -42,7 +43,7 @@ fn a_script_that_breaks_off_is_not_run(rt: HostRuntime) {
     }
 }
 
-// Bytes without an end, the greatest number of them that is read, and the report.
+// Bytes that come for ever, the most of them that are read, and what is told.
 const ENDLESS: &[(u8, usize, &str)] = &[
     (b'a', 300000, "line 1: line too long\n"),
     (b'\n', 150000, "line 100001: too many lines\n"),
@@ -63,7 +64,7 @@ fn a_script_without_an_end_is_read_as_far_as_its_fault(rt: HostRuntime) {
     }
 }
 
-// The program runs the file and not the standard input.
+// The file is run and not the standard input.
 #[test]
 fn a_script_at_a_path_is_run(rt: HostRuntime) -> Result<(), Fail> {
     let path = "script_at_a_path";
@@ -76,7 +77,7 @@ fn a_script_at_a_path_is_run(rt: HostRuntime) -> Result<(), Fail> {
     Ok(())
 }
 
-// The output is a prefix of the text, and the failure is reported.
+// However much is taken, it is a beginning of the text, and the failure is told.
 #[test]
 fn an_output_takes_a_beginning(rt: HostRuntime) {
     for room in 0..TEXT.len() {
@@ -88,7 +89,7 @@ fn an_output_takes_a_beginning(rt: HostRuntime) {
     }
 }
 
-// A writer that keeps the bytes until a flush fails only in the flush.
+// A writer that keeps the bytes until it is flushed fails only then.
 #[test]
 fn an_output_is_flushed(rt: HostRuntime) -> Result<(), Fail> {
     for (room, status, told) in [(8, 1, "output: write\n"), (TEXT.len(), 0, "")] {

@@ -1,4 +1,4 @@
-// Scripts with errors, and the report of the first error.
+// Scripts with a fault, and the line that tells of the first one.
 use crate::calls::ran;
 
 const FAULTS: &[(&str, &str)] = &[
@@ -76,13 +76,12 @@ const FAULTS: &[(&str, &str)] = &[
     ("config 1\nget 2 a\n", "line 2: unknown node\n"),
     ("config 1\nget 0 a\n", "line 2: unknown node\n"),
     ("config 1\nstart 65537\n", "line 2: unknown node\n"),
-    // Of several errors in a line the first in this order is reported, and of several lines the
-    // first.
+    // Of several faults of a line the first in this order, of several lines the first.
     ("config 1\nget 01 %2D !fail\n", "line 2: bad number\n"),
     ("config 1\nget 2 %2D\n", "line 2: bad bytes\n"),
     ("config 1\nget 2 a !fail 1\n", "line 2: bad fault\n"),
     ("config 1\nget 2 a\nfly\n", "line 2: unknown node\n"),
-    // Nothing runs before the complete script is read.
+    // Nothing runs before all is read.
     (
         "config 1\nsubmit 1 a=1\nfly\n",
         "line 3: unknown statement\n",

@@ -1,4 +1,4 @@
-//! Tests of the program: the output of scripts, their errors, and the program's words.
+//! Tests of the program: scripts and what is printed of them, faults, the program's words.
 #![tactic(auto)]
 
 #[cfg(test)]

@@ -1,4 +1,4 @@
-// Scripts that run, and the output of each event.
+// Scripts that run, and what is printed of each event.
 use crate::calls::ran;
 
 const RUNS: &[(&str, &str)] = &[
@@ -24,7 +24,7 @@ const RUNS: &[(&str, &str)] = &[
         "# a comment\n\nconfig 65535\n\n# one more\nget 65535 a",
         "6: none at 0\n",
     ),
-    // Prefixes of the list of batches.
+    // Beginnings of the list of batches.
     (
         "config 1\nsubmit 1 a=1\nsubmit 1 -a\nget 1 a 0\nget 1 a 1\nget 1 a 2\nget 1 a\n\
          get 1 a 3\n",
@@ -36,7 +36,7 @@ const RUNS: &[(&str, &str)] = &[
         "config 1\nsubmit 1 @=%00%2d%ff %2da=@\nget 1 @\nget 1 %2da\n",
         "2: committed 1\n3: value %00%2d%ff at 1\n4: value @ at 1\n",
     ),
-    // A stopped node is not asked, and it recovers every acknowledged batch, whatever the junk.
+    // A stopped node is not asked, and all that it had told comes back, whatever the junk.
     (
         "config 3\nsubmit 3 a=1\nstop 3 old\nsubmit 3 a=2\nstop 3\nstart 3\nget 3 a\nstop 3 new\n\
          start 3\nstart 3\nget 3 a\n",
@@ -50,13 +50,13 @@ const RUNS: &[(&str, &str)] = &[
         "2: invalid 3 NoEdits\n3: committed 1\n4: value 1 at 1\n",
     ),
     ("config 1", ""),
-    // Frames go down the chain and back, and one is delivered twice.
+    // Down the chain and back, with a frame that comes twice.
     (
         "config 1 2 3\nsubmit 1 a=1\ndeliver 1\ndeliver 1\ndeliver 2\ndeliver 4\ndeliver 5\n",
         "2: #1 1>2 forward 0 1\n3: #2 2>3 forward 0 1\n4: dropped OtherNumber\n\
          4: #3 2>1 ack 0 0 1\n5: #4 3>2 ack 0 1 1\n6: #5 2>1 ack 0 1 1\n2: committed 1\n",
     ),
-    // A frame overtakes another, a tick sends again, and an older acknowledgement changes nothing.
+    // A frame that overtakes another, a tick that sends again, an older acknowledgement.
     (
         "config 1 2\nsubmit 1 a=1\nsubmit 1 b=2\ndeliver 2\ntick 1\ndeliver 4\ndeliver 5\n\
          deliver 7\ndeliver 6\nget 1 b\n",
@@ -65,7 +65,7 @@ const RUNS: &[(&str, &str)] = &[
          6: #6 2>1 ack 0 1 1\n7: #7 2>1 ack 0 2 2\n2: committed 1\n3: committed 2\n\
          10: value 2 at 2\n",
     ),
-    // Any node answers reads below the committed number; only the head accepts batches.
+    // Reads below what is committed, at any node; only the head takes batches.
     (
         "config 1 2 3\nsubmit 1 a=1\nflow\nsubmit 1 a=2\ndeliver 5\nget 2 a 2\nget 2 a\n\
          submit 2 b=1\n",
@@ -81,7 +81,7 @@ const RUNS: &[(&str, &str)] = &[
          6: #4 2>1 ack 0 0 1\n7: #5 3>2 ack 0 1 1\n7: dropped OtherNumber\n\
          7: #6 3>2 ack 0 1 1\n7: #7 2>1 ack 0 1 1\n2: committed 1\n8: value 1 at 1\n",
     ),
-    // A node that does not run drops its inputs, and refuses its clients.
+    // A node that does not run drops what comes, and refuses its clients.
     (
         "config 1 2\nsubmit 1 a=1\nstop 2\ndeliver 1\ntick 2\nstop 2\nget 2 a\nsubmit 2 a=2\n\
          start 1\n",
@@ -89,7 +89,7 @@ const RUNS: &[(&str, &str)] = &[
          5: dropped NotRunning\n6: dropped NotRunning\n7: refused 1 NotRunning\n\
          8: refused 1 NotRunning\n9: dropped Running\n",
     ),
-    // A deliver of a place without a frame does nothing: the flow delivers the frame later.
+    // A place that no frame has yet is not delivered by this: the flow delivers it later.
     (
         "config 1 2\ndeliver 0\ndeliver 1\nsubmit 1 a=1\nflow\nflow\ndeliver 3\n",
         "2: nothing\n3: nothing\n4: #1 1>2 forward 0 1\n5: #2 2>1 ack 0 1 1\n4: committed 1\n\

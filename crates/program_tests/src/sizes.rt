@@ -1,10 +1,9 @@
-// Lines, scripts, keys, values and batches at their greatest size, and one byte or item beyond.
+// Lines, scripts, keys, values and batches at their greatest size, and one more.
 use crate::calls::{Outcome, ran, times};
 use std::alloc::AllocError;
 use std::test::Fail;
 
-// A script whose second line begins with `head`, repeats `piece` this many times, and ends with
-// `tail`.
+// A script whose second line begins with `head`, has `piece` so many times, and ends with `tail`.
 fn script(
     rt: &HostRuntime,
     head: &[u8],

@@ -1,7 +1,7 @@
-// Streams that fail: a reader in the middle, a writer at its end, and a reader without an end.
+// Streams that fail, a reader half way, a writer at its end, and a reader that never ends.
 use std::io::{self, ErrorKind, Read, Write};
 
-// Returns these bytes, and then fails in this way.
+// Gives these bytes, and then fails in this way.
 #[derive(Drop)]
 pub struct Broken<'a> {
     pub bytes: &'a [u8],
@@ -17,7 +17,7 @@ impl Read for Broken<'_> {
     }
 }
 
-// Returns one byte without an end, and counts the bytes.
+// Gives one byte for ever, and counts how many it gave.
 #[derive(Drop)]
 pub struct Endless {
     pub byte: u8,
@@ -32,7 +32,7 @@ impl Read for Endless {
     }
 }
 
-// Accepts this many bytes, and then fails.
+// Takes so many bytes, and then fails.
 #[derive(Drop)]
 pub struct Full {
     pub taken: Vec<u8>,

@@ -1,4 +1,4 @@
-// The program's words, and its standard error for other words.
+// The program's words, and what goes to standard error where they ask for nothing.
 use crate::calls::called;
 
 const USAGE: &[u8] = b"usage: chainstore lab SCRIPT | loop SCRIPT --dir D | dump DIR\n";

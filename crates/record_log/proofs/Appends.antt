@@ -17,19 +17,19 @@ use Rattle.record_log.proofs.Fronts.{ends_push, end_push}
 use Rattle.record_log.proofs.Pushes.{pushed_is}
 use Rattle.record_log.proofs.Ways.{Gate, gate_at, way_stands, pushed_stands}
 
--- where nothing was done, the old records stand
+-- an unchanged file has the old records
 pub unchanged : (disk : State) (log : Log) (records : List (List ℕ)) (one : List ℕ) →
     Holds disk log records → LeavesAt disk log.file (IsOldOrNew log.start records one)
 unchanged disk log records one h =
     let P : Option (List ℕ) → Type 0 = λ left. IsSomeAnd left (IsOldOrNew log.start records one) in
     subst (λ (slot : Slot). Only P slot) (sym h.sure) (sure_only P h.bytes (inl h.stands))
 
--- the device's failure and want of memory are met, as a log tells them
+-- the log reports the device's failure and want of memory as expected refusals
 pub is_met : (e : DiskError) → (e ≡ disk.Failed) ⊎ (e ≡ disk.Memory) → IsMet (log_error e)
 is_met e (inl failed) = rw failed (inl (inl refl))
 is_met e (inr memory) = rw memory (inl (inr refl))
 
--- A log that holds records, one more of them, and the place that the code takes for its gate.
+-- A log that holds records, one more record, and the place of its gate as the code computes it.
 module _ (old : State) (log : Log) (records : List (List ℕ)) (one : List ℕ) (gate : ℕ)
     (h : Holds old log records) (short : length one < 2 ^ 32)
     (counts : log.start + log.end + 1 < 2 ^ 64 → gate ≡ log.start + log.end) where
@@ -38,7 +38,7 @@ module _ (old : State) (log : Log) (records : List (List ℕ)) (one : List ℕ) 
       gate_at h.bytes log.start (log.start + log.end) records h.start h.stands
       (omega (arith, h.end))
 
-  -- the code takes the right place
+  -- the code computes the right place
   pub gate_is : gate ≡ log.start + log.end
   gate_is = let within = the_gate.within in counts (omega (arith, within, h.fits))
 
@@ -46,7 +46,7 @@ module _ (old : State) (log : Log) (records : List (List ℕ)) (one : List ℕ) 
   pub gate_within : gate < length h.bytes
   gate_within = let within = the_gate.within in omega (arith, gate_is, within)
 
-  -- so what a crash leaves on the way stands for the records, or for one more
+  -- a crash outcome on the way represents the records, with or without the new one
   on_the_way : (left : Option (List ℕ)) →
       IsSomeAnd left (IsOnTheWay h.bytes (log.start + log.end) (behind_of one)) →
       IsSomeAnd left (IsOldOrNew log.start records one)
@@ -54,7 +54,7 @@ module _ (old : State) (log : Log) (records : List (List ℕ)) (one : List ℕ) 
   on_the_way (Some c) way =
       way_stands h.bytes log.start (log.start + log.end) records one short the_gate c way
 
-  -- what a crash leaves while the record is put behind the gate
+  -- the crash outcomes while the record is written behind the gate
   pub crashed : (new : State) (behind : List ℕ) → behind ≡ behind_of one →
       ((bytes : List ℕ) → IsSureOf old log.file bytes → gate < length bytes →
       LeavesAt new log.file (IsOnTheWay bytes gate behind)) →
@@ -76,7 +76,7 @@ module _ (old : State) (log : Log) (records : List (List ℕ)) (one : List ℕ) 
       ∙ ap (λ (k : ℕ). Kept (pushed h.bytes k behind) (pushed h.bytes k behind) []) gate_is
       ∙ ap (λ (b : List ℕ). Kept (pushed h.bytes place b) (pushed h.bytes place b) []) is
 
-  -- what the log holds with the record behind an open gate
+  -- the records of the log with the new one behind an open gate
   pub appended : (new : State) (after : Log) (behind : List ℕ) (header : ℕ) → behind ≡ behind_of one
       → IsSureOf new log.file (pushed h.bytes gate behind) × (gate + 1 + length behind < 2 ^ 63)
       → after.file ≡ log.file → after.start ≡ log.start → header ≡ min (log.end + 5) (2 ^ 64 - 1)

@@ -12,7 +12,7 @@ use Rattle.std.proofs.lemmas.List.{length-take, drop_all, take-append-drop}
 use Rattle.record_log.specs.Grammar.{entry, StandsFor}
 use Rattle.record_log.proofs.Fronts.{split_same}
 
--- ---- the parts that the code takes
+-- ---- the parts that the code reads
 
 -- the test for no bytes finds none
 pub is_nothing : (bytes : List ℕ) (empty : Bool) → empty ≡ eqb (length bytes) 0 → empty ≡ true
@@ -33,7 +33,7 @@ split_is bytes front back n before behind =
     sym (take-append-drop n bytes) ∙ ap (λ (f : List ℕ). f ++ drop n bytes) (sym before)
     ∙ ap (λ (b : List ℕ). front ++ b) (sym behind)
 
--- bytes taken from bytes are bytes
+-- a part of bytes is a list of bytes
 pub fits_within : (bytes : List ℕ) (n k : ℕ) (part : List ℕ) → ((i : ℕ) → get_or bytes i 0 < 256)
     → part ≡ take n (drop k bytes) → (i : ℕ) → get_or part i 0 < 256
 fits_within bytes n k part fits is i = rw is (elim (cases_lt i n) [
@@ -44,7 +44,7 @@ fits_within bytes n k part fits is i = rw is (elim (cases_lt i n) [
       )
 ])
 
--- ---- what stands for no records
+-- ---- bytes that represent no records
 
 -- no bytes at all
 pub nothing : (bytes : List ℕ) (records : List (List ℕ)) → bytes ≡ [] → StandsFor bytes records → ⊥
@@ -91,7 +91,7 @@ no_record bytes rest head tail records open_gate parts four short s =
     ap length same.1 ∙ length-append one.0 one.1 in
     omega (arith, len, size, short)
 
--- nothing stands past the end
+-- there is no byte past the end
 pub nothing_past : (bytes : List ℕ) (start : ℕ) (records : List (List ℕ)) → length bytes < start
     → StandsFor (drop start bytes) records → ⊥
 nothing_past bytes start records past s =

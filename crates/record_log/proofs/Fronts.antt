@@ -43,7 +43,7 @@ pub end_push : (at : ℕ) (records : List (List ℕ)) (one : List ℕ)
 end_push at [] one = refl
 end_push at (first ∷ others) one = end_push (at + 5 + length first) others one
 
--- and its end is one more
+-- its end is one place more in the list of ends
 pub ends_push : (at : ℕ) (records : List (List ℕ)) (one : List ℕ)
     → ends_from at (records ++ one ∷ [])
     ≡ ends_from at records ++ (end_of at records + 5 + length one) ∷ []
@@ -81,7 +81,7 @@ passed_push bytes rest ends end p one after place short is place_is =
       end_is = behind ∙ sym (end_push 0 p.records one);
     }
 
--- ---- no bytes stand for two lists
+-- ---- bytes represent at most one list
 
 -- two texts with the same bytes and the same length in front are the same
 pub split_same : (a b x y : List ℕ) → length a ≡ length b → a ++ x ≡ b ++ y → (a ≡ b) × (x ≡ y)
@@ -110,7 +110,7 @@ one_entry a b x y short_a short_b e =
     ∙ from_be_bytes-to_be_bytes_4 (length b) short_b in
     split_same a b x y same first.1
 
--- what stands for records stands for those at its front, and then others
+-- bytes that represent records represent those at the front, and then others
 pub stands_behind : (bytes : List ℕ) (records : List (List ℕ)) (rest : List ℕ) (all : List (List ℕ))
     → Front bytes records rest → StandsFor bytes all → (more : List (List ℕ))
     × (all ≡ records ++ more) × StandsFor rest more
@@ -127,7 +127,7 @@ stands_behind bytes (first ∷ others) rest (one ∷ all) f s =
     let tails = below.1 in
     (below.0, cc, below.2)
 
--- two lists that the bytes stand for are the same
+-- two lists that the bytes represent are equal
 pub one_reading : (bytes : List ℕ) (a b : List (List ℕ)) → StandsFor bytes a → StandsFor bytes b
     → a ≡ b
 one_reading bytes [] [] s t = refl

@@ -12,7 +12,7 @@ use Rattle.record_log.specs.Stands.{Declines, DeclinesBytes, HasRecords, Holds, 
 use Rattle.record_log.proofs.Fronts.{one_reading}
 use Rattle.record_log.proofs.First.{nothing_past}
 
--- a file that ends before the log begins stands for no records
+-- a file that ends before the log begins represents no records
 pub declines_bytes : (e : LogError) (bytes : Option (List ℕ)) (start : ℕ) →
     DeclinesBytes e bytes start → Declines e bytes start
 declines_bytes (log.Disk disk.Failed) bytes start why = tt
@@ -25,7 +25,7 @@ declines_bytes log.Memory bytes start why = tt
 declines_bytes log.TooLong bytes start why = absurd why
 declines_bytes log.Failed bytes start why = absurd why
 
--- a file that stands for records is refused for the machine's sake alone
+-- opening a file that represents records is refused for environment errors alone
 pub declined : (e : LogError) (bytes : Option (List ℕ)) (start : ℕ) (records : List (List ℕ))
     → Declines e bytes start →
     IsSomeAnd bytes (λ it. StandsFor (drop start it) records) → IsOfMachine e

@@ -17,7 +17,7 @@ use Rattle.record_log.specs.Push.{pushed, IsOnTheWay, IsSureOf}
 abbrev pub OnTheWay : List ℕ → ℕ → List ℕ → Option (List ℕ) → Type 0
 OnTheWay bytes gate behind left = IsSomeAnd left (IsOnTheWay bytes gate behind)
 
--- one write loosens what it writes and what is past the synced end
+-- one write makes its places unsynced, and those past the synced end
 tight : (end at len place : ℕ) → place < end → (at ≤ place → place < at + len → ⊥)
     → IsLoose end (Wrote at len ∷ []) place → ⊥
 tight end at len place inside apart loose = elim loose [
@@ -43,7 +43,7 @@ module _ (bytes : List ℕ) (gate : ℕ) (behind : List ℕ) (within : gate < le
       take_same (gate + 1) first bytes
       (λ place lt. overwritten_before bytes (gate + 1) behind place (omega arith) lt)
 
-  -- what is before the gate
+  -- the bytes before the gate
   gate_len : length (take gate bytes) ≡ gate
   gate_len = omega (arith, length-take gate bytes)
 
@@ -138,7 +138,7 @@ module _ (bytes : List ℕ) (gate : ℕ) (behind : List ℕ) (within : gate < le
       ) in
       whole c long before middle
 
-  -- ---- the calls, of a file that is sure as they begin
+  -- ---- the calls, on a file that is durable at first
 
   -- the first write, whatever it answers
   pub first_write : {T : Type 0} (file : ℕ) (result : Result T DiskError) (old new : State)

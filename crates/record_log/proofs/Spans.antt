@@ -60,7 +60,7 @@ length-ends : (at : ℕ) (records : List (List ℕ)) → length (ends_from at re
 length-ends at [] = refl
 length-ends at (first ∷ others) = ap suc (length-ends (at + 5 + length first) others)
 
--- The place and the length that the code takes for a record's bytes are those of the record.
+-- The place and the length of a record's bytes as the code computes them are those of the record.
 module _ (disk : State) (log : Log) (records : List (List ℕ)) (i begin len at : ℕ)
     (h : Holds disk log records) (within : i < length log.ends.items)
     (begin_is : begin ≡ min (slice_index_or (0 ∷ log.ends.items) i 0 + 5) (2 ^ 64 - 1))
@@ -102,7 +102,7 @@ module _ (disk : State) (log : Log) (records : List (List ℕ)) (i begin len at 
         fits = omega (arith, size, cut, front, one, start, h.start);
       }
 
-  -- what is read there is the record
+  -- the bytes that are read there are the record
   pub given : (part : List ℕ) → IsPart disk log.file at len part → slice_get records i ≡ Some part
   given part read =
       let s = span in

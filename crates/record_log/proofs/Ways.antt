@@ -1,4 +1,4 @@
--- What a file stands for while a record is appended.
+-- The records that a file represents during an append.
 use Rattle.std.proofs.Common.{◌≡◌, ◌≢◌, ℕ, ◌+◌, ◌^◌, ◌<◌, ◌≤◌, List, [], ◌∷◌, ◌++◌, length, get_or}
 use Rattle.std.proofs.Common.{take, drop, refl, sym, ap, subst, ◌∙◌, inl, inr, append_assoc}
 use Rattle.std.proofs.Common.{length-append, arith}
@@ -12,7 +12,7 @@ use Rattle.record_log.specs.Stands.{IsOldOrNew}
 use Rattle.record_log.proofs.Fronts.{Front, front_closed, front_push}
 use Rattle.record_log.proofs.Pushes.{pushed_is}
 
--- what stands for records is their text and a closed gate
+-- the bytes of records are their text and a closed gate
 pub front_of : (bytes : List ℕ) (records : List (List ℕ)) → StandsFor bytes records
     → (rest : List ℕ) × Front bytes records rest × IsClosed rest
 front_of bytes [] s = (bytes, refl, s)
@@ -45,7 +45,7 @@ text_of at bytes (first ∷ others) rest f =
           (below.text ++ other, f.1, regrouped, below.again other);
     }
 
--- the log's gate, and what other bytes with the same front stand for
+-- the log's gate, and the records of other bytes with the same front
 pub record Gate (bytes : List ℕ) (start gate : ℕ) (records : List (List ℕ)) : Type 0 where
   pub within : gate < length bytes
   pub closed : get_or bytes gate 0 ≢ 1
@@ -118,7 +118,7 @@ closed_stands bytes start gate records g c value rest shut is =
     front_closed (drop start c) records (value ∷ rest) (g.again c (value ∷ rest) is)
     (value, rest, shut, refl)
 
--- what is on the way stands for the records, or for one more
+-- a content on the way represents the records, with or without the new one
 pub way_stands : (bytes : List ℕ) (start gate : ℕ) (records : List (List ℕ)) (one : List ℕ)
     → length one < 2 ^ 32 → Gate bytes start gate records → (c : List ℕ)
     → IsOnTheWay bytes gate (behind_of one) c → IsOldOrNew start records one c
@@ -140,7 +140,7 @@ way_stands bytes start gate records one short g c (inr way) =
       | inr shut ↦ inl (closed_stands bytes start gate records g c way.0 behind shut way.2)
     ]
 
--- what all four calls made stands for one more
+-- the content after all four calls represents one record more
 pub pushed_stands : (bytes : List ℕ) (start gate : ℕ) (records : List (List ℕ)) (one : List ℕ)
     → length one < 2 ^ 32 → Gate bytes start gate records
     → StandsFor (drop start (pushed bytes gate (behind_of one))) (records ++ one ∷ [])

@@ -1,4 +1,4 @@
-// Batches in bytes both ways, and limits at their edges.
+// Batches written and read as bytes, and limits at their edges.
 use kv_types::{Batch, Edit, Key, KvError, Limits, Number, Page, Range, Row, Value, value_at};
 use std::alloc::Global;
 use std::test::Fail;
@@ -69,20 +69,20 @@ fn one_edit_is_spelled_so(rt: HostRuntime) -> Result<(), Fail> {
     Ok(())
 }
 
-/// What is made, at an edge of what is taken.
+/// A value at an edge of the accepted range.
 #[derive(Clone, Copy, Debug, Drop)]
 enum Made {
     /// A key of this length.
     Key(usize),
     /// A value of this length.
     Value(usize),
-    /// A batch of so many deletions.
+    /// A batch of this many deletions.
     Deletions(usize),
     /// Three puts of the longest value, and one of this length: 49,178 bytes and the value.
     LongBatch(usize),
     /// A batch of this spelling.
     Spelled(&'static [u8]),
-    /// A range of so many rows.
+    /// A range of this many rows.
     Range(u32),
 }
 
@@ -115,7 +115,7 @@ fn make(alloc: Global, made: Made) -> Result<(), KvError> {
     Ok(())
 }
 
-/// Why it is not made, if it is not. Want of memory ends the test.
+/// The refusal, if it is refused. Want of memory ends the test.
 fn refusal_of(alloc: Global, made: Made) -> Result<Option<KvError>, KvError> {
     match make(alloc, made) {
         Err(KvError::Memory) => Err(KvError::Memory),
@@ -237,7 +237,7 @@ fn default_limits(rt: HostRuntime) {
 
 const GREATEST: u64 = (1 << 63) - 1;
 
-/// A value, whether it is a number, and whether a number follows it.
+/// A value, whether it is a number, and whether a next number follows it.
 static NUMBERS: [(u64, bool, bool); 4] = [
     (0, true, true),
     (GREATEST - 1, true, true),
@@ -272,7 +272,7 @@ fn two_batches(alloc: Global) -> Result<[Batch; 2], KvError> {
     Ok([batch_of(alloc, &first)?, batch_of(alloc, &[(b"b", None)])?])
 }
 
-/// Whether the batches give the key this value.
+/// Whether the batches map the key to this value.
 fn is_found(
     alloc: Global,
     batches: &[Batch],
@@ -282,7 +282,7 @@ fn is_found(
     Ok(is_value(value_at(batches, &key_of(alloc, key)?), want))
 }
 
-/// A key, and the value that they give it.
+/// A key, and its value after the batches.
 static FOUND: [(&[u8], Option<&[u8]>); 3] = [(b"a", Some(b"2")), (b"b", None), (b"c", None)];
 
 #[test]
@@ -379,7 +379,7 @@ fn row_of(alloc: Global) -> Result<Row, KvError> {
     Ok(Row { key, value })
 }
 
-/// A row's size, and of a page of its copy how many rows it has, and whether there are more.
+/// A row's size; for a page of its copy the number of rows, and whether the range has more.
 fn copied_row(alloc: Global) -> Result<(usize, usize, bool), KvError> {
     let row = row_of(alloc)?;
     let page = Page::new(vec![in alloc; row.clone()?]?, true);

@@ -3,7 +3,7 @@ use disk::{Crash, Disk, DiskError, Fault, Junk, JunkBytes, MemDisk};
 use std::alloc::{AllocError, Global};
 use std::test::Fail;
 
-// What is done to a file.
+// A write, cut, sync or removal of a file.
 #[derive(Clone, Copy, Debug, Drop)]
 enum Act {
     Write(u64, &'static [u8]),
@@ -23,7 +23,7 @@ fn perform(disk: &mut MemDisk, act: Act) -> Result<(), DiskError> {
     }
 }
 
-// A want of memory changes nothing, so the call can be made again.
+// A want of memory changes nothing, so the call can be repeated.
 fn run(disk: &mut MemDisk, acts: &[Act]) -> Result<(), DiskError> {
     for one in acts {
         if let Err(e) = perform(disk, *one) {
@@ -55,7 +55,7 @@ fn is_content(
     })
 }
 
-// What a crash leaves in the loose places.
+// The crash outcomes of the unsynced places.
 #[derive(Clone, Copy, Debug, Drop)]
 enum Loose {
     Old,
@@ -72,8 +72,8 @@ fn crash(alloc: Global, disk: &mut MemDisk, loose: Loose) -> Result<(), AllocErr
     Ok(())
 }
 
-// Whether this is the content after these acts, a crash, and more crashes, which find nothing
-// loose.
+// Whether this is the content after these acts, a crash, and more crashes, which find every place
+// synced.
 fn leaves(alloc: Global, acts: &[Act], loose: Loose, want: Option<&[u8]>) -> Result<bool, Fail> {
     let mut disk = MemDisk::new(alloc);
     run(&mut disk, acts)?;
@@ -87,7 +87,7 @@ const ABC: Act = Act::Write(0, b"abc");
 
 const DE: Act = Act::Write(0, b"de");
 
-// After the acts: what a crash leaves by `Old`, by `New`, and with the junk 1, 2, 3.
+// The crash outcomes after the acts by `Old`, by `New`, and with the junk 1, 2, 3.
 type Row = (
     &'static [Act],
     Option<&'static [u8]>,
@@ -97,9 +97,9 @@ type Row = (
 
 static ROWS: [Row; 14] = [
     (&[], None, None, None),
-    // Sure.
+    // Durable.
     (&[ABC, Act::Sync], Some(b"abc"), Some(b"abc"), Some(b"abc")),
-    // Never synced: it may be absent, and is loose everywhere.
+    // Never synced: it may be absent, and all its places are unsynced.
     (&[ABC], None, Some(b"abc"), Some(&[1, 2, 3])),
     (
         &[ABC, Act::Write(3, b"de")],
@@ -107,7 +107,7 @@ static ROWS: [Row; 14] = [
         Some(b"abcde"),
         Some(&[1, 2, 3, 1, 2]),
     ),
-    // The places written are loose, and those past the synced end.
+    // The places written are unsynced, and those past the synced end.
     (
         &[ABC, Act::Sync, Act::Write(1, b"X")],
         Some(b"abc"),
@@ -131,7 +131,7 @@ static ROWS: [Row; 14] = [
         Some(b"XbYZW"),
         Some(&[1, b'b', 2, 3, 1]),
     ),
-    // The places past a cut are loose.
+    // The places past a cut are unsynced.
     (
         &[ABC, Act::Sync, Act::Cut(1)],
         Some(b"abc"),
@@ -150,7 +150,7 @@ static ROWS: [Row; 14] = [
         Some(b"a"),
         Some(b"a"),
     ),
-    // A removed file may be back as its last sync left it.
+    // A removed file may reappear with its synced content.
     (
         &[ABC, Act::Sync, Act::Write(0, b"X"), Act::Remove],
         Some(b"abc"),
@@ -158,7 +158,7 @@ static ROWS: [Row; 14] = [
         None,
     ),
     (&[ABC, Act::Remove], None, None, None),
-    // Its number was used again.
+    // A removed file's number is used again.
     (
         &[ABC, Act::Sync, Act::Remove, DE],
         Some(b"abc"),
@@ -228,10 +228,10 @@ fn has_files(disk: &mut MemDisk, want: &[u64]) -> Result<bool, DiskError> {
     Ok(disk.files()?.as_slice() == want)
 }
 
-// The files and what they are then, by the junk 6, 7.
+// The files and their contents after a crash with the junk 6, 7.
 static BEGUN: [(u64, &[u8]); 3] = [(2, &[6, 7, 6]), (5, b"five"), (9, &[6, 7, 6, 7, 6])];
 
-// Whether the file is this then.
+// Whether the file has this content after the crash.
 fn begins(alloc: Global, file: u64, want: &[u8]) -> Result<bool, DiskError> {
     let mut disk = three_files(alloc)?;
     crash(alloc, &mut disk, Loose::Bytes(&[6, 7]))?;
@@ -307,7 +307,7 @@ fn attempt(disk: &mut MemDisk, call: Try) -> Result<(), DiskError> {
     }
 }
 
-// Why a call is refused. A want of memory changes nothing, so the call can be made again.
+// The refusal of a call. A want of memory changes nothing, so the call can be repeated.
 fn refusal_of(disk: &mut MemDisk, call: Try) -> Option<DiskError> {
     match attempt(disk, call) {
         Err(DiskError::Memory) => attempt(disk, call).err(),
@@ -321,7 +321,7 @@ const SHORT: Option<DiskError> = Some(DiskError::Short);
 
 const FAILED: Option<DiskError> = Some(DiskError::Failed);
 
-// Calls, one after another, and why each is refused.
+// Calls, one after another, and the refusal of each.
 static CALLS: [(Try, Option<DiskError>); 20] = [
     (Try::Length(1), MISSING),
     (Try::Length(5), None),
@@ -345,7 +345,7 @@ static CALLS: [(Try, Option<DiskError>); 20] = [
     (Try::Write(1, 0), None),
 ];
 
-// The first row that is answered otherwise.
+// The first row with another answer.
 fn first_wrong(disk: &mut MemDisk) -> Option<usize> {
     for (row, (call, want)) in CALLS.iter().enumerate() {
         if refusal_of(disk, *call) != *want {

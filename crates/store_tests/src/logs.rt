@@ -1,4 +1,4 @@
-// The bytes of whole logs, openings, and failures that stay.
+// The bytes of complete logs, openings, and failures that stay.
 use disk::{Crash, Disk, DiskError, Junk, JunkBytes, MemDisk};
 use record_log::{Log, LogError};
 use std::alloc::{AllocError, Global};
@@ -12,17 +12,17 @@ const FIRST: &[u8] = &[0, 0, 0, 0, 0, 0, 0, 1, 0, 1, 1, 0, 1, b'a', 0, 1, b'1'];
 // The number 2 and the batch that puts 2 at a.
 const SECOND: &[u8] = &[0, 0, 0, 0, 0, 0, 0, 2, 0, 1, 1, 0, 1, b'a', 0, 1, b'2'];
 
-// The log of the first: an open gate, the length, the record, and a closed gate.
+// The log of the first record: an open gate, the length, the record, and a closed gate.
 const LOG: &[u8] = &[
     1, 0, 0, 0, 0x11, 0, 0, 0, 0, 0, 0, 0, 1, 0, 1, 1, 0, 1, b'a', 0, 1, b'1', 0,
 ];
 
-// What an append of the second writes behind that gate.
+// The bytes that an append of the second record writes behind that gate.
 const BEHIND: &[u8] = &[
     0, 0, 0, 0x11, 0, 0, 0, 0, 0, 0, 0, 2, 0, 1, 1, 0, 1, b'a', 0, 1, b'2', 0,
 ];
 
-// The log of both.
+// The log of both records.
 const BOTH: &[u8] = &[
     1, 0, 0, 0, 0x11, 0, 0, 0, 0, 0, 0, 0, 1, 0, 1, 1, 0, 1, b'a', 0, 1, b'1', 1, 0, 0, 0, 0x11, 0,
     0, 0, 0, 0, 0, 0, 2, 0, 1, 1, 0, 1, b'a', 0, 1, b'2', 0,
@@ -54,7 +54,7 @@ fn disk_with(alloc: Global, file: Option<&[u8]>) -> Result<MemDisk, DiskError> {
     Ok(disk)
 }
 
-// The calls of a log and a disk, without what they promise.
+// The calls of a log and a disk, without their contracts.
 fn open(alloc: Global, disk: &mut MemDisk, start: u64) -> Result<Log, LogError> {
     Log::open(alloc, disk, FILE, start)
 }
@@ -81,7 +81,7 @@ fn has(alloc: Global, disk: &mut MemDisk, log: &Log, want: &[&[u8]]) -> Result<b
     Ok(same)
 }
 
-// Whether the log that is opened has these records and no others.
+// Whether the log has these records and no others after opening.
 fn opens(alloc: Global, disk: &mut MemDisk, want: &[&[u8]]) -> Result<bool, LogError> {
     let log = open(alloc, disk, 0)?;
     has(alloc, disk, &log, want)
@@ -99,7 +99,7 @@ static LOGS: [(&[&[u8]], &[u8]); 5] = [
     ),
 ];
 
-// Whether such a log has its records, also when it is opened, and its bytes.
+// Whether such a log has its records, also after opening, and its bytes.
 fn is_logged(
     alloc: Global,
     records: &[&[u8]],
@@ -150,7 +150,7 @@ fn a_stop_before_the_first_sync(rt: HostRuntime) -> Result<(), Fail> {
     Ok(())
 }
 
-// The machine stops with the gate written, and the log is opened and takes the last record.
+// The machine stops with the gate written, and the opened log has the last record.
 fn stopped_at_the_gate(alloc: Global, junk: Junk) -> Result<(MemDisk, Log), LogError> {
     let mut disk = on_the_way(alloc)?;
     disk.sync(FILE)?;
@@ -190,7 +190,7 @@ fn a_stop_before_the_last_sync(rt: HostRuntime) -> Result<(), Fail> {
 
 const SHORT: Option<LogError> = Some(LogError::Disk(DiskError::Short));
 
-// A file, where its log begins, why it is not opened, and how many records it has.
+// A file, the place where its log begins, the refusal of opening, and the number of records.
 type Opening = (Option<&'static [u8]>, u64, Option<LogError>, usize);
 
 static OPENINGS: [Opening; 22] = [
@@ -206,14 +206,14 @@ static OPENINGS: [Opening; 22] = [
     (Some(&[255, 0, 0]), 0, None, 0),
     (Some(&[0, 1, 2]), 0, None, 0),
     (Some(&[9, 1, 0]), 2, None, 0),
-    // It ends in the length.
+    // The log ends in the length.
     (Some(&[1]), 0, SHORT, 0),
     (Some(&[1, 0, 0, 0]), 0, SHORT, 0),
-    // It ends in the record.
+    // The log ends in the record.
     (Some(&[1, 0, 0, 0, 1]), 0, SHORT, 0),
     (Some(&[1, 0, 0, 0, 2, 0]), 0, SHORT, 0),
     (Some(&[1, 255, 255, 255, 255, 0]), 0, SHORT, 0),
-    // It ends without its last gate.
+    // The log ends without its last gate.
     (Some(&[1, 0, 0, 0, 0]), 0, SHORT, 0),
     (Some(&[1, 0, 0, 0, 1, 5]), 0, SHORT, 0),
     (Some(&[1, 0, 0, 0, 0, 1]), 0, SHORT, 0),
@@ -224,7 +224,7 @@ static OPENINGS: [Opening; 22] = [
     (Some(&[1, 1, 0, 0, 0, 0, 1, 0, 0, 0, 1, 1, 0]), 1, None, 2),
 ];
 
-// Why a call was refused, if it was. Want of memory ends the test.
+// The refusal of a call, if it was refused. Want of memory ends the test.
 fn refusal(answer: Result<(), LogError>) -> Result<Option<LogError>, LogError> {
     match answer {
         Ok(()) => Ok(None),
@@ -233,7 +233,7 @@ fn refusal(answer: Result<(), LogError>) -> Result<Option<LogError>, LogError> {
     }
 }
 
-// Why such a file is not opened, and how many records its log has.
+// The refusal of opening such a file, and the number of records of its log.
 fn opening(
     alloc: Global,
     file: Option<&[u8]>,
@@ -263,7 +263,7 @@ fn is_appended(alloc: Global, file: &[u8], start: u64, want: &[u8]) -> Result<bo
     Ok(is_content(alloc, &mut disk, want)?)
 }
 
-// A file, where its log begins, and the file after an append of one byte.
+// A file, the place where its log begins, and the file after an append of one byte.
 static APPENDS: [(&[u8], u64, &[u8]); 4] = [
     (&[0], 0, &[1, 0, 0, 0, 1, b'z', 0]),
     // Behind the closed gate the file has more.
@@ -286,8 +286,8 @@ fn an_append_writes_its_own_bytes(rt: HostRuntime) -> Result<(), Fail> {
     Ok(())
 }
 
-// What an append of so many bytes to a log of one record answers, and how many records then are
-// in the log, and in the log that is opened after it.
+// The answer of an append of this many bytes to a log of one record, and the number of records
+// then, in the log and after opening.
 fn sized(alloc: Global, len: usize) -> Result<(Option<LogError>, usize, usize), LogError> {
     let mut disk = MemDisk::new(alloc);
     let mut log = log_of(alloc, &mut disk, &[b"one"])?;
@@ -298,7 +298,7 @@ fn sized(alloc: Global, len: usize) -> Result<(Option<LogError>, usize, usize), 
     Ok((why, log.len(), again.len()))
 }
 
-// The length of a record, and what comes of it.
+// The length of a record, and the result of its append.
 static SIZES: [(usize, (Option<LogError>, usize, usize)); 3] = [
     (0, (None, 3, 3)),
     (16_777_216, (None, 3, 3)),
@@ -314,14 +314,14 @@ fn sizes_at_their_edges(rt: HostRuntime) -> Result<(), Fail> {
     Ok(())
 }
 
-// The file is taken away under its log.
+// The file is removed under its log.
 fn failed(alloc: Global, disk: &mut MemDisk) -> Result<Log, LogError> {
     let log = log_of(alloc, disk, &[b"one"])?;
     disk.remove(FILE)?;
     Ok(log)
 }
 
-// Why the log's first record is not given, where it has one record.
+// The refusal of the log's first record, where it has one record.
 fn record_refusal(alloc: Global, disk: &mut MemDisk, log: &Log) -> Option<LogError> {
     if log.len() != 1 {
         return None;

@@ -1,11 +1,11 @@
-// The faults of a script.
+//! The faults of a script.
 ghost use Rattle.std.specs.Prelude.{◌≡◌};
 ghost use Rattle.program.specs.declared.script.error.ScriptError.TheVariants.{OutOfMemory};
 
 use std::alloc::{AllocError, AllocFailed};
 
 /// What is wrong with a line, in the order in which it is looked for.
-#[derive(Clone, Copy, Debug, PartialEq, Eq)]
+#[derive(Clone, Copy, Debug)]
 pub enum ScriptError {
     LineTooLong = 1,
     UnknownStatement,

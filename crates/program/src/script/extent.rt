@@ -1,11 +1,11 @@
-// How far the beginning of a script goes, and whether it shows a fault of the whole.
+//! How far the beginning of a script goes, and whether it shows a fault of the whole.
 ghost use Rattle.std.specs.Prelude.{◌++◌, ◌∷◌, [], ℕ, List, MatchOption};
 ghost use Rattle.program.specs.Beginnings.{HasExtent, IsFaulty};
 
 use super::reader::{LINE, LINES};
 
 /// The number of ended lines of a text, and of the bytes behind the last of them.
-#[derive(Clone, Copy, Debug)]
+#[derive(Clone, Copy)]
 pub struct Extent {
     lines: u32,
     line: usize,

@@ -1,4 +1,4 @@
-// The words of a fault at a statement's end.
+//! The words of a fault at a statement's end.
 ghost use Rattle.std.specs.Prelude.{◌≡◌, false, map, position, take};
 ghost use Rattle.std.specs.Prelude.{MatchOption};
 ghost use Rattle.program.specs.Words.{begins_fault, has_fault, before_fault};

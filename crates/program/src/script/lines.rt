@@ -1,8 +1,8 @@
-// The lines of a text, and the words of a line.
+//! The lines of a text, and the words of a line.
 ghost use Rattle.std.specs.Prelude.{◌≡◌, ◌≢◌, ◌<◌, ◌∷◌, ℕ, length, map, slice_index};
 ghost use Rattle.std.specs.Prelude.{IfOk, IfSome, IfNone};
 ghost use Rattle.std.specs.Iterator.{YieldsFirstRef, item_count};
-ghost use Rattle.program.specs.Scripts.{lines_of, words_of};
+ghost use Rattle.program.specs.Scripts.{script_lines, words_of};
 
 use std::alloc::{AllocError, Global};
 
@@ -18,7 +18,7 @@ fn end_of_line(text: &[u8]) -> Option<usize>
 /// The first line of a text, and what follows it.
 fn first_line(text: &[u8]) -> (&[u8], &[u8])
     requires { 0 < length text.now }
-    ensures { lines_of text.now ≡ result.0.now ∷ lines_of result.1.now }
+    ensures { script_lines text.now ≡ result.0.now ∷ script_lines result.1.now }
 {
     match end_of_line(text) {
         None => (text, &[]),
@@ -28,14 +28,14 @@ fn first_line(text: &[u8]) -> (&[u8], &[u8])
 
 /// The lines of a text.
 #[derive(Drop)]
-pub struct Lines<'a>(pub &'a [u8]);
+pub struct ScriptLines<'a>(pub &'a [u8]);
 
-impl<'a> Iterator for Lines<'a> {
+impl<'a> Iterator for ScriptLines<'a> {
     type Item = &'a [u8];
 
-    ghost next_gives = { YieldsFirstRef (λ s. lines_of s.0.now) };
+    ghost next_gives = { YieldsFirstRef (λ s. script_lines s.0.now) };
 
-    ghost remaining = { item_count (λ s. lines_of s.0.now) };
+    ghost remaining = { item_count (λ s. script_lines s.0.now) };
 
     fn next(&mut self) -> Option<&'a [u8]> {
         if self.0.is_empty() {

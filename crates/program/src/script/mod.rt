@@ -1,13 +1,13 @@
 //! Reads the script of a run.
 
-mod asked;
+mod action;
+mod command;
 mod edit;
 mod error;
 mod extent;
 mod fault;
 pub mod laws;
 mod lines;
-mod meaning;
 mod reader;
 mod setup;
 mod statement;
@@ -16,6 +16,6 @@ mod word;
 
 pub use error::ScriptError;
 pub use extent::Extent;
-pub use reader::{Fault, Script, read_script};
+pub use reader::{Script, ScriptFault, read_script};
 pub use setup::Setup;
-pub use statement::{Meaning, Statement};
+pub use statement::{Action, Statement};

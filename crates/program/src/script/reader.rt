@@ -1,28 +1,27 @@
-// The reader of scripts: all statements, or the first fault.
+//! The reader of scripts: all statements, or the first fault.
 ghost use Rattle.std.specs.Prelude.{◌≡◌, ◌≢◌, ◌⊎◌, ◌++◌, ◌∷◌, [], map, codes, true, false};
 ghost use Rattle.std.specs.Prelude.{Some, None, IfOk, OnOk, MatchResult, MatchOption, All};
 ghost use Rattle.std.specs.Fmt.{decimal};
 ghost use Rattle.std.specs.List.{list_all};
 ghost use Rattle.std.specs.Str.{bytes_eq};
-ghost use Rattle.configurations.specs.Configs.{IsConfig, is_config};
+ghost use Rattle.lab.specs.Configs.{IsConfig, is_config};
 ghost use Rattle.program.specs.declared.script.error.ScriptError.TheVariants.{OutOfMemory};
 ghost use Rattle.program.specs.declared.script.error.ScriptError.TheVariants.{BadConfiguration};
 ghost use Rattle.program.specs.Words.{is_number};
-ghost use Rattle.program.specs.Scripts.{lines_of, is_skipped, IsScript, Names};
+ghost use Rattle.program.specs.Scripts.{script_lines, is_skipped, IsScript, Names};
 ghost use Rattle.program.specs.Faults.{numbers_of, config_fault, script_fault, start};
-ghost use Rattle.program.specs.Reading.{ReadsLine, ReadsWords, Places, Takes};
+ghost use Rattle.program.specs.Reading.{ReadsLine, ReadsWords, Places, ReadsNext};
 
+use super::action::action;
 use super::error::ScriptError;
 use super::fault::split_fault;
-use super::lines::{Lines, words};
-use super::meaning::meaning;
+use super::lines::{ScriptLines, words};
 use super::setup::Setup;
-use super::statement::{Before, Item, Meaning, Statement};
-use super::statements::asked_of;
+use super::statement::{Action, LineItem, ParserState, Statement};
+use super::statements::command_of;
 use super::word::number;
-use configurations::{Config, ConfigError, Configs};
 use kv_types::Limits;
-use lab::What;
+use lab::{Config, ConfigError, Configs, EventKind};
 use std::alloc::{AllocError, Global};
 
 /// The most bytes of a line, without its line feed.
@@ -113,7 +112,7 @@ fn only(alloc: Global, config: Config) -> Result<Configs, ScriptError>
 }
 
 // The configuration of a line, which is the only one.
-fn config(alloc: Global, before: &Before, args: &[&[u8]]) -> Result<Config, ScriptError>
+fn config(alloc: Global, before: &ParserState, args: &[&[u8]]) -> Result<Config, ScriptError>
     ensures { MatchResult result
         (λ config. (config_fault before.now (map (λ w. w.now) args.now) ≡ None)
         × (map (λ w. w.now) args.now ≡ map decimal config) × IsConfig config
@@ -138,7 +137,7 @@ fn config(alloc: Global, before: &Before, args: &[&[u8]]) -> Result<Config, Scri
 }
 
 // A frame's delivery, if it may stand here.
-fn deliver(before: &Before, args: &[&[u8]]) -> Result<Meaning, ScriptError>
+fn deliver(before: &ParserState, args: &[&[u8]]) -> Result<Action, ScriptError>
     ensures { Places before.now (codes "deliver") (map (λ w. w.now) args.now) result }
 {
     let (words, has_fault) = split_fault(args);
@@ -154,11 +153,11 @@ fn deliver(before: &Before, args: &[&[u8]]) -> Result<Meaning, ScriptError>
     if before.configs.is_none() {
         return Err(ScriptError::OutOfPlace);
     }
-    Ok(Meaning::Event(What::Deliver { place }))
+    Ok(Action::Event(EventKind::Deliver { place }))
 }
 
 // A flow, if it may stand here.
-fn flow(before: &Before, args: &[&[u8]]) -> Result<Meaning, ScriptError>
+fn flow(before: &ParserState, args: &[&[u8]]) -> Result<Action, ScriptError>
     ensures { Places before.now (codes "flow") (map (λ w. w.now) args.now) result }
 {
     let (words, has_fault) = split_fault(args);
@@ -171,36 +170,36 @@ fn flow(before: &Before, args: &[&[u8]]) -> Result<Meaning, ScriptError>
     if before.configs.is_none() {
         return Err(ScriptError::OutOfPlace);
     }
-    Ok(Meaning::Flow)
+    Ok(Action::Flow)
 }
 
 /// What a statement that names a node comes to, if it may stand here.
 fn placed(
     alloc: Global,
-    before: &Before,
+    before: &ParserState,
     name: &[u8],
     args: &[&[u8]],
-) -> Result<Meaning, ScriptError>
+) -> Result<Action, ScriptError>
     requires deliver { bytes_eq name.now (codes "deliver") ≡ false }
     requires flow { bytes_eq name.now (codes "flow") ≡ false }
     ensures { Places before.now name.now (map (λ w. w.now) args.now) result }
 {
     let (words, has_fault) = split_fault(args);
-    let asked = asked_of(alloc, name, words)?;
+    let command = command_of(alloc, name, words)?;
     if has_fault {
         return Err(ScriptError::BadFault);
     }
-    let node = before.place(asked.node())?;
-    Ok(meaning(alloc, node, asked)?)
+    let node = before.place(command.node())?;
+    Ok(action(alloc, node, command)?)
 }
 
 /// What a statement comes to, if it may stand here.
 fn statement(
     alloc: Global,
-    before: &Before,
+    before: &ParserState,
     name: &[u8],
     args: &[&[u8]],
-) -> Result<Meaning, ScriptError>
+) -> Result<Action, ScriptError>
     ensures { Places before.now name.now (map (λ w. w.now) args.now) result }
 {
     if name == b"deliver".as_slice() {
@@ -212,7 +211,11 @@ fn statement(
     }
 }
 
-fn item_of_words(alloc: Global, before: &Before, words: &[&[u8]]) -> Result<Item, ScriptError>
+fn item_of_words(
+    alloc: Global,
+    before: &ParserState,
+    words: &[&[u8]],
+) -> Result<LineItem, ScriptError>
     ensures { ReadsWords before.now (map (λ w. w.now) words.now) result }
 {
     let [name, args @ ..] = words else {
@@ -220,27 +223,27 @@ fn item_of_words(alloc: Global, before: &Before, words: &[&[u8]]) -> Result<Item
     };
     if *name == b"config".as_slice() {
         let config = config(alloc, before, args)?;
-        return Ok(Item::Config(only(alloc, config)?));
+        return Ok(LineItem::Config(only(alloc, config)?));
     }
-    Ok(Item::Asks(statement(alloc, before, name, args)?))
+    Ok(LineItem::Asks(statement(alloc, before, name, args)?))
 }
 
 /// What a line says, behind what stands before it.
-fn item_of(alloc: Global, before: &Before, line: &[u8]) -> Result<Item, ScriptError>
+fn item_of(alloc: Global, before: &ParserState, line: &[u8]) -> Result<LineItem, ScriptError>
     ensures { ReadsLine before.now line.now result }
 {
     if line.len() > LINE {
         return Err(ScriptError::LineTooLong);
     }
     if skips(line) {
-        return Ok(Item::Skipped);
+        return Ok(LineItem::Skipped);
     }
     let words = words(alloc, line)?;
     item_of_words(alloc, before, &words)
 }
 
 /// A script: what it sets up, and its statements in order.
-#[derive(Debug, Drop)]
+#[derive(Drop)]
 pub struct Script {
     pub setup: Setup,
     pub statements: Vec<Statement>,
@@ -248,49 +251,49 @@ pub struct Script {
 
 /// The first faulty line, and its least fault.
 #[derive(Clone, Copy, Debug)]
-pub struct Fault {
+pub struct ScriptFault {
     pub line: u32,
     pub error: ScriptError,
 }
 
 /// Adds what line `number` says, and answers what then stands before the next line.
-fn take_line(
+fn read_line(
     alloc: Global,
-    before: Before,
+    before: ParserState,
     number: u32,
     line: &[u8],
     statements: &mut Vec<Statement>,
-) -> Result<Before, ScriptError>
-    ensures { Takes before number line.now statements.old.items statements.new.items result }
+) -> Result<ParserState, ScriptError>
+    ensures { ReadsNext before number line.now statements.old.items statements.new.items result }
 {
     let item = item_of(alloc, &before, line)?;
     if number > LINES {
         return Err(ScriptError::TooManyLines);
     }
-    Ok(before.take(statements, number, item)?)
+    Ok(before.after(statements, number, item)?)
 }
 
 /// The script that a text spells. Only for want of memory it may be refused with another error than
 /// the least of its first faulty line.
-pub fn read_script(alloc: Global, text: &[u8]) -> Result<Script, Fault>
+pub fn read_script(alloc: Global, text: &[u8]) -> Result<Script, ScriptFault>
     ensures found { IfOk result (λ script.
-        IsScript 1 (lines_of text.now) script.setup script.statements.items) }
-    ensures fault { MatchResult result (λ _. script_fault start 1 (lines_of text.now) ≡ None)
+        IsScript 1 (script_lines text.now) script.setup script.statements.items) }
+    ensures fault { MatchResult result (λ _. script_fault start 1 (script_lines text.now) ≡ None)
         (λ f. f.error ≢ OutOfMemory →
-        script_fault start 1 (lines_of text.now) ≡ Some (f.line, f.error)) }
+        script_fault start 1 (script_lines text.now) ≡ Some (f.line, f.error)) }
     ensures node { IfOk result (λ script.
-        All (λ it. Names script.setup.configs it.meaning) script.statements.items) }
+        All (λ it. Names script.setup.configs it.action) script.statements.items) }
 {
-    let mut before = Before {
+    let mut before = ParserState {
         configs: None,
         begun: false,
     };
     let mut statements = Vec::new(alloc);
     let mut number = 1u32;
-    for line in Lines(text) {
-        match take_line(alloc, before, number, line, &mut statements) {
+    for line in ScriptLines(text) {
+        match read_line(alloc, before, number, line, &mut statements) {
             Ok(after) => before = after,
-            Err(error) => return Err(Fault {
+            Err(error) => return Err(ScriptFault {
                 line: number,
                 error,
             }),
@@ -298,7 +301,7 @@ pub fn read_script(alloc: Global, text: &[u8]) -> Result<Script, Fault>
         number += 1;
     }
     let Some(configs) = before.into_configs() else {
-        return Err(Fault {
+        return Err(ScriptFault {
             line: number,
             error: ScriptError::BadConfiguration,
         });

@@ -1,21 +1,20 @@
-// The statements of a script, and what the reader knows between two lines.
+//! The statements of a script, and what the reader knows between two lines.
 ghost use Rattle.std.specs.Prelude.{◌≡◌, ◌++◌, true, false, Some, None};
 ghost use Rattle.std.specs.Prelude.{IfOk, MatchOption, MatchResult};
-ghost use Rattle.chain_model.specs.Configuration.{has};
+ghost use Rattle.lab.specs.Configuration.{has};
 ghost use Rattle.program.specs.Faults.{node_fault};
 ghost use Rattle.program.specs.Reading.{after_item, statements_of};
 
 use super::error::ScriptError;
-use configurations::{Configs, NodeId};
 use kv_types::KvError;
-use lab::What;
+use lab::{Configs, NodeId, EventKind};
 use std::alloc::AllocError;
 
 /// What a statement comes to.
-#[derive(Debug, Drop)]
-pub enum Meaning {
+#[derive(Drop)]
+pub enum Action {
     /// Something that happens at a node.
-    Event(What),
+    Event(EventKind),
     /// A key, value or batch that there can't be.
     Invalid(KvError),
     /// Every frame that no statement has delivered yet is delivered.
@@ -23,24 +22,24 @@ pub enum Meaning {
 }
 
 /// A statement, and the number of the line where it stands, from 1.
-#[derive(Debug, Drop)]
+#[derive(Drop)]
 pub struct Statement {
     pub line: u32,
-    pub meaning: Meaning,
+    pub action: Action,
 }
 
 /// What one line of a script says.
-#[derive(Debug, Drop)]
-pub enum Item {
+#[derive(Drop)]
+pub enum LineItem {
     Skipped,
     /// The configurations up to this line.
     Config(Configs),
-    Asks(Meaning),
+    Asks(Action),
 }
 
 /// What stands before a line: the configurations, and whether a statement.
-#[derive(Debug, Drop)]
-pub struct Before {
+#[derive(Drop)]
+pub struct ParserState {
     pub configs: Option<Configs>,
     pub begun: bool,
 }
@@ -57,27 +56,27 @@ fn id_in(ids: &[NodeId], node: u64) -> Option<NodeId>
     }
 }
 
-impl Before {
+impl ParserState {
     /// What stands before the line after this one, and the statement that was added.
-    pub fn take(
+    pub fn after(
         self,
         statements: &mut Vec<Statement>,
         line: u32,
-        item: Item,
-    ) -> Result<Before, AllocError>
+        item: LineItem,
+    ) -> Result<ParserState, AllocError>
         ensures after { IfOk result (λ after. after ≡ after_item self item) }
         ensures added { IfOk result (λ _.
             statements.new.items ≡ statements.old.items ++ statements_of line item) }
     {
         match item {
-            Item::Skipped => Ok(self),
-            Item::Config(configs) => Ok(Before {
+            LineItem::Skipped => Ok(self),
+            LineItem::Config(configs) => Ok(ParserState {
                 configs: Some(configs),
                 begun: self.begun,
             }),
-            Item::Asks(meaning) => {
-                statements.push(Statement { line, meaning })?;
-                Ok(Before {
+            LineItem::Asks(action) => {
+                statements.push(Statement { line, action })?;
+                Ok(ParserState {
                     configs: self.configs,
                     begun: true,
                 })

@@ -1,20 +1,20 @@
-// Each statement, read from its words.
+//! Each statement, read from its words.
 ghost use Rattle.std.specs.Prelude.{◌≡◌, ◌∷◌, ◌<◌, nat_lt, length, true, false, map, codes};
 ghost use Rattle.std.specs.Prelude.{MatchOption, IfOk};
 ghost use Rattle.std.specs.Str.{bytes_eq};
 ghost use Rattle.program.specs.Statements.{are_pairs, hex_text, is_junk, AreBytesOf, IsJunk};
 ghost use Rattle.program.specs.Words.{AreBytes};
-ghost use Rattle.program.specs.Reading.{Reads};
+ghost use Rattle.program.specs.Reading.{ReadsCommand};
 
-use super::asked::{Asked, Bytes};
-use super::edit::changes_of;
+use super::command::{Bytes, Command};
+use super::edit::raw_edits_of;
 use super::error::ScriptError;
-use super::word::{byte_of, bytes_of, number, numbered};
-use disk::{Junk, JunkBytes};
+use super::word::{batch_number, byte_of, bytes_of, number};
+use lab::{Junk, JunkBytes};
 use std::alloc::{AllocError, Global};
 
-fn get(alloc: Global, args: &[&[u8]]) -> Result<Asked, ScriptError>
-    ensures { Reads (codes "get" ∷ map (λ w. w.now) args.now) result }
+fn get(alloc: Global, args: &[&[u8]]) -> Result<Command, ScriptError>
+    ensures { ReadsCommand (codes "get" ∷ map (λ w. w.now) args.now) result }
 {
     let (node, key, at) = match args {
         [node, key] => (node, key, None),
@@ -26,43 +26,43 @@ fn get(alloc: Global, args: &[&[u8]]) -> Result<Asked, ScriptError>
     };
     let at = match at {
         None => None,
-        Some(at) => match numbered(at) {
+        Some(at) => match batch_number(at) {
             None => return Err(ScriptError::BadNumber),
             at => at,
         },
     };
     match bytes_of(alloc, key)? {
         None => Err(ScriptError::BadBytes),
-        Some(key) => Ok(Asked::Get(node, Bytes::new(key), at)),
+        Some(key) => Ok(Command::Get(node, Bytes::new(key), at)),
     }
 }
 
-fn tick(args: &[&[u8]]) -> Result<Asked, ScriptError>
-    ensures { Reads (codes "tick" ∷ map (λ w. w.now) args.now) result }
+fn tick(args: &[&[u8]]) -> Result<Command, ScriptError>
+    ensures { ReadsCommand (codes "tick" ∷ map (λ w. w.now) args.now) result }
 {
     match args {
         [node] => match number(node) {
             None => Err(ScriptError::BadNumber),
-            Some(node) => Ok(Asked::Tick(node)),
+            Some(node) => Ok(Command::Tick(node)),
         },
         _ => Err(ScriptError::WrongNumberOfWords),
     }
 }
 
-fn start(args: &[&[u8]]) -> Result<Asked, ScriptError>
-    ensures { Reads (codes "start" ∷ map (λ w. w.now) args.now) result }
+fn start(args: &[&[u8]]) -> Result<Command, ScriptError>
+    ensures { ReadsCommand (codes "start" ∷ map (λ w. w.now) args.now) result }
 {
     match args {
         [node] => match number(node) {
             None => Err(ScriptError::BadNumber),
-            Some(node) => Ok(Asked::Start(node)),
+            Some(node) => Ok(Command::Start(node)),
         },
         _ => Err(ScriptError::WrongNumberOfWords),
     }
 }
 
-fn submit(alloc: Global, args: &[&[u8]]) -> Result<Asked, ScriptError>
-    ensures { Reads (codes "submit" ∷ map (λ w. w.now) args.now) result }
+fn submit(alloc: Global, args: &[&[u8]]) -> Result<Command, ScriptError>
+    ensures { ReadsCommand (codes "submit" ∷ map (λ w. w.now) args.now) result }
 {
     let [node, edits @ ..] = args else {
         return Err(ScriptError::WrongNumberOfWords);
@@ -70,9 +70,9 @@ fn submit(alloc: Global, args: &[&[u8]]) -> Result<Asked, ScriptError>
     let Some(node) = number(node) else {
         return Err(ScriptError::BadNumber);
     };
-    match changes_of(alloc, edits)? {
+    match raw_edits_of(alloc, edits)? {
         None => Err(ScriptError::BadBytes),
-        Some(changes) => Ok(Asked::Submit(node, changes)),
+        Some(changes) => Ok(Command::Submit(node, changes)),
     }
 }
 
@@ -109,8 +109,8 @@ fn junk_of(alloc: Global, word: &[u8]) -> Result<Option<Junk>, AllocError>
     }
 }
 
-fn stop(alloc: Global, args: &[&[u8]]) -> Result<Asked, ScriptError>
-    ensures { Reads (codes "stop" ∷ map (λ w. w.now) args.now) result }
+fn stop(alloc: Global, args: &[&[u8]]) -> Result<Command, ScriptError>
+    ensures { ReadsCommand (codes "stop" ∷ map (λ w. w.now) args.now) result }
 {
     let (node, junk) = match args {
         [node] => (node, None),
@@ -127,14 +127,14 @@ fn stop(alloc: Global, args: &[&[u8]]) -> Result<Asked, ScriptError>
             Some(junk) => junk,
         },
     };
-    Ok(Asked::Stop(node, junk))
+    Ok(Command::Stop(node, junk))
 }
 
 /// What the words behind the name of a statement that names a node ask for, or their least fault.
-pub fn asked_of(alloc: Global, name: &[u8], args: &[&[u8]]) -> Result<Asked, ScriptError>
+pub fn command_of(alloc: Global, name: &[u8], args: &[&[u8]]) -> Result<Command, ScriptError>
     requires deliver { bytes_eq name.now (codes "deliver") ≡ false }
     requires flow { bytes_eq name.now (codes "flow") ≡ false }
-    ensures { Reads (name.now ∷ map (λ w. w.now) args.now) result }
+    ensures { ReadsCommand (name.now ∷ map (λ w. w.now) args.now) result }
 {
     if name == b"submit".as_slice() {
         submit(alloc, args)

@@ -1,12 +1,13 @@
-// Words: numbers, byte strings and hex bytes.
+//! Words: numbers, byte strings and hex bytes.
 ghost use Rattle.std.specs.Prelude.{◌≡◌, ◌^◌, ◌<◌, ◌++◌, ◌∷◌, [], true, false, length};
 ghost use Rattle.std.specs.Prelude.{MatchOption, IfOk};
 ghost use Rattle.std.specs.Fmt.{decimal};
 ghost use Rattle.std.specs.Str.Parse.{digits_value};
-ghost use Rattle.program.specs.Words.{AreBytes, is_plain, byte_text, bytes_text, are_bytes};
+ghost use Rattle.program.specs.Words.{AreBytes, byte_text, bytes_text, are_bytes};
 ghost use Rattle.program.specs.Words.{is_byte_string, is_number, is_hex, hex_value};
 ghost use Rattle.program.specs.Statements.{are_pairs, hex_text};
 
+use crate::plain::{is_itself, split_plain};
 use kv_types::Number;
 use std::alloc::{AllocError, Global};
 
@@ -31,17 +32,11 @@ pub fn number(word: &[u8]) -> Option<u64>
 }
 
 /// .. as that of a batch.
-pub fn numbered(word: &[u8]) -> Option<Number>
+pub fn batch_number(word: &[u8]) -> Option<Number>
     ensures { MatchOption result (is_number word.now ≡ false) (λ n. (is_number word.now ≡ true)
         × (n < 2 ^ 63) × (word.now ≡ decimal n) × (digits_value 10 word.now ≡ n)) }
 {
     Number::new(number(word)?)
-}
-
-fn is_itself(byte: u8) -> bool
-    ensures { result ≡ is_plain byte }
-{
-    byte.is_ascii_alphanumeric() || byte == b'_' || byte == b'.'
 }
 
 pub fn hex_digit(byte: u8) -> Option<u8>
@@ -96,12 +91,18 @@ pub fn bytes_of(alloc: Global, word: &[u8]) -> Result<Option<Vec<u8>>, AllocErro
     }
     let mut rest = word;
     while !rest.is_empty() {
-        match first_byte(rest) {
-            None => return Ok(None),
-            Some((byte, after)) => {
-                bytes.push(byte)?;
-                rest = after;
+        let (plain, behind) = split_plain(rest);
+        if plain.is_empty() {
+            match first_byte(rest) {
+                None => return Ok(None),
+                Some((byte, after)) => {
+                    bytes.push(byte)?;
+                    rest = after;
+                }
             }
+        } else {
+            bytes.extend_from_slice(plain)?;
+            rest = behind;
         }
     }
     if bytes.is_empty() {

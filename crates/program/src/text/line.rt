@@ -1,14 +1,12 @@
-// The text of each line of a report.
+//! The text of each line of a report.
 ghost use Rattle.std.specs.Prelude.{◌≡◌, Some};
 ghost use Rattle.program.specs.Text.{reply_text, started_text, frame_text, stopped_text};
 ghost use Rattle.program.specs.Text.{line_text};
 
-use super::names::{CauseText, ReasonText, RefusalText};
+use super::names::{cause_name, reason_name, refusal_name};
 use super::spelled::Spelled;
-use configurations::{Epoch, NodeId};
 use kv_types::Number;
-use lab::Line;
-use node::{Reply, Stop};
+use lab::{Epoch, Line, NodeId, Reply, Stop};
 use std::fmt;
 
 #[derive(Clone, Copy)]
@@ -18,31 +16,22 @@ impl fmt::Display for ReplyText<'_> {
     ghost output = { λ it. Some (reply_text it.0.now) };
 
     fn fmt<W: fmt::Write>(&self, f: &mut fmt::Formatter<W>) -> fmt::Result {
-        match self.0 {
-            Reply::Committed { number, .. } => {
-                let number = number.get();
-                write!(f, "committed {number}")
-            }
+        match *self.0 {
+            Reply::Committed { number, .. } => write!(f, "committed {}", number.get()),
             Reply::Value {
                 number,
                 value: None,
                 ..
-            } => {
-                let number = number.get();
-                write!(f, "none at {number}")
-            }
+            } => write!(f, "none at {}", number.get()),
             Reply::Value {
                 number,
-                value: Some(value),
+                value: Some(ref value),
                 ..
             } => {
-                let (value, number) = (Spelled(value.as_bytes()), number.get());
-                write!(f, "value {value} at {number}")
+                let value = Spelled(value.as_bytes());
+                write!(f, "value {value} at {}", number.get())
             }
-            Reply::Refused { refusal, .. } => {
-                let refusal = RefusalText(*refusal);
-                write!(f, "refused {refusal}")
-            }
+            Reply::Refused { refusal, .. } => write!(f, "refused {}", refusal_name(refusal)),
         }
     }
 }
@@ -97,7 +86,7 @@ impl fmt::Display for StoppedText {
         match self.1 {
             None => write!(f, "node {node} stopped"),
             Some(cause) => {
-                let cause = CauseText(cause);
+                let cause = cause_name(cause);
                 write!(f, "node {node} stopped: {cause}")
             }
         }
@@ -147,16 +136,16 @@ impl fmt::Display for LineText<'_> {
     ghost output = { λ it. Some (line_text it.0.now) };
 
     fn fmt<W: fmt::Write>(&self, f: &mut fmt::Formatter<W>) -> fmt::Result {
-        match self.0 {
+        match *self.0 {
             Line::Nothing => write!(f, "nothing"),
-            Line::Replied(reply) => write!(f, "{}", ReplyText(reply)),
-            Line::Dropped(reason) => write!(f, "dropped {}", ReasonText(*reason)),
+            Line::Replied(ref reply) => write!(f, "{}", ReplyText(reply)),
+            Line::Dropped(reason) => write!(f, "dropped {}", reason_name(reason)),
             Line::Started {
                 node,
                 epoch,
                 count,
                 committed,
-            } => write!(f, "{}", StartedText::of(*node, *epoch, *count, *committed)),
+            } => write!(f, "{}", StartedText::of(node, epoch, count, committed)),
             Line::Forwarded {
                 place,
                 from,
@@ -164,7 +153,7 @@ impl fmt::Display for LineText<'_> {
                 epoch,
                 number,
             } => {
-                let frame = FrameText::of(*place, *from, *to, "forward", *epoch);
+                let frame = FrameText::of(place, from, to, "forward", epoch);
                 write!(f, "{frame} {}", number.get())
             }
             Line::Acknowledged {
@@ -175,10 +164,10 @@ impl fmt::Display for LineText<'_> {
                 committed,
                 have,
             } => {
-                let frame = FrameText::of(*place, *from, *to, "ack", *epoch);
+                let frame = FrameText::of(place, from, to, "ack", epoch);
                 write!(f, "{frame} {} {}", committed.get(), have.get())
             }
-            Line::Stopped { node, cause } => write!(f, "{}", StoppedText(*node, *cause)),
+            Line::Stopped { node, cause } => write!(f, "{}", StoppedText(node, cause)),
         }
     }
 }

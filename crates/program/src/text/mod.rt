@@ -5,5 +5,5 @@ mod names;
 mod printing;
 mod spelled;
 
-pub use names::FaultText;
+pub use names::fault_name;
 pub use printing::{event_places, print_run};

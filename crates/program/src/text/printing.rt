@@ -1,20 +1,19 @@
-// The text of a whole run.
+//! The text of a whole run.
 ghost use Rattle.std.specs.Prelude.{◌≡◌, ◌++◌, drop, replicate, OnOk, IfOk};
 ghost use Rattle.std.specs.List.{flat_map};
 ghost use Rattle.std.specs.Io.KnownBytes.{Appends};
-ghost use Rattle.program.specs.Text.{event_lines, line_of_request, line_told_at, told_text};
-ghost use Rattle.program.specs.Text.{step_text, remark_text, turn_text, run_text, request_of};
+ghost use Rattle.program.specs.Text.{event_lines, line_of_request, reply_place, line_output};
+ghost use Rattle.program.specs.Text.{step_text, note_text, result_text, run_text, request_of};
 
 use super::line::LineText;
-use super::names::ErrorText;
-use crate::turn::{Remark, Turn};
-use lab::{Line, Lines};
-use node::Reply;
+use super::names::error_name;
+use crate::statement_result::{Note, StatementResult};
+use lab::{Line, Lines, Reply};
 use std::alloc::{AllocError, Global};
 use std::io::{self, Write};
 
 /// The lines of the script where the events stand.
-pub fn event_places(alloc: Global, turns: &[Turn]) -> Result<Vec<u32>, AllocError>
+pub fn event_places(alloc: Global, turns: &[StatementResult]) -> Result<Vec<u32>, AllocError>
     ensures { IfOk result (λ events. events.items ≡ event_lines turns.now) }
 {
     let mut events = Vec::new(alloc);
@@ -55,8 +54,8 @@ fn line_of(events: &[u32], here: u32, request: u64) -> u32
 }
 
 /// Where a line of the report is told: a reply at its request, all else here.
-fn told_at(events: &[u32], here: u32, line: &Line) -> u32
-    ensures { result ≡ line_told_at events.now here line.now }
+fn place_of(events: &[u32], here: u32, line: &Line) -> u32
+    ensures { result ≡ reply_place events.now here line.now }
 {
     match line {
         Line::Replied(reply) => line_of(events, here, request(reply)),
@@ -66,9 +65,9 @@ fn told_at(events: &[u32], here: u32, line: &Line) -> u32
 
 fn print_line<W: Write>(events: &[u32], here: u32, line: &Line, out: &mut W) -> io::Result<()>
     ensures { OnOk result (Appends (W.contents out.old) (W.contents out.new)
-        (told_text events.now here line.now)) }
+        (line_output events.now here line.now)) }
 {
-    let number = told_at(events, here, line);
+    let number = place_of(events, here, line);
     let text = LineText(line);
     writeln!(out, "{number}: {text}")
 }
@@ -93,41 +92,41 @@ fn print_steps<W: Write>(events: &[u32], here: u32, steps: &[Lines], out: &mut W
     Ok(())
 }
 
-fn print_remark<W: Write>(here: u32, remark: Option<Remark>, out: &mut W) -> io::Result<()>
+fn print_note<W: Write>(here: u32, note: Option<Note>, out: &mut W) -> io::Result<()>
     ensures { OnOk result (Appends (W.contents out.old) (W.contents out.new)
-        (remark_text here remark)) }
+        (note_text here note)) }
 {
-    match remark {
+    match note {
         None => Ok(()),
-        Some(Remark::Invalid(error)) => {
-            let text = ErrorText(error);
+        Some(Note::Invalid(error)) => {
+            let text = error_name(error);
             writeln!(out, "{here}: invalid {text}")
         }
-        Some(Remark::Busy) => writeln!(out, "{here}: busy"),
+        Some(Note::Busy) => writeln!(out, "{here}: busy"),
     }
 }
 
 /// Prints a statement's turn, and answers the steps of those behind it.
-fn print_turn<'a, W: Write>(
+fn print_result<'a, W: Write>(
     events: &[u32],
-    turn: &Turn,
+    turn: &StatementResult,
     steps: &'a [Lines],
     out: &mut W,
 ) -> io::Result<&'a [Lines]>
     ensures text { OnOk result (Appends (W.contents out.old) (W.contents out.new)
-        (turn_text events.now turn.now steps.now)) }
+        (result_text events.now turn.now steps.now)) }
     ensures behind { IfOk result (λ left. left.now ≡ drop turn.now.events steps.now) }
 {
     let (own, behind) = steps.split_at(turn.events.min(steps.len()));
     print_steps(events, turn.line, own, out)?;
-    print_remark(turn.line, turn.remark, out)?;
+    print_note(turn.line, turn.note, out)?;
     Ok(behind)
 }
 
 /// Prints the run of statements, one turn after another. `places` are the lines of the events.
 pub fn print_run<W: Write>(
     places: &[u32],
-    turns: &[Turn],
+    turns: &[StatementResult],
     steps: &[Lines],
     out: &mut W,
 ) -> io::Result<()>
@@ -137,7 +136,7 @@ pub fn print_run<W: Write>(
 {
     let mut left = steps;
     for turn in turns {
-        left = print_turn(places, turn, left, out)?;
+        left = print_result(places, turn, left, out)?;
     }
     Ok(())
 }

@@ -1,25 +1,16 @@
-// Byte strings, as scripts spell them.
+//! Byte strings, as scripts spell them.
 ghost use Rattle.std.specs.Prelude.{Some};
-ghost use Rattle.program.specs.Words.{byte_text, bytes_text};
+ghost use Rattle.program.specs.Words.{bytes_text, HasPlainFront};
 
+use crate::plain::split_plain;
 use std::fmt;
 
-/// A byte of a byte string.
-#[derive(Clone, Copy)]
-struct SpelledByte(u8);
-
-impl fmt::Display for SpelledByte {
-    ghost output = { λ b. Some (byte_text b.0) };
-
-    fn fmt<W: fmt::Write>(&self, f: &mut fmt::Formatter<W>) -> fmt::Result {
-        let byte = self.0;
-        if byte.is_ascii_alphanumeric() || byte == b'_' || byte == b'.' {
-            let plain = char::from(byte);
-            write!(f, "{plain}")
-        } else {
-            write!(f, "%{byte:02x}")
-        }
-    }
+/// The bytes at the front that stand for themselves, as text, and what follows them.
+fn plain_front(bytes: &[u8]) -> (&str, &[u8])
+    ensures { HasPlainFront bytes.now result.0.now result.1.now }
+{
+    let (front, behind) = split_plain(bytes);
+    (str::from_utf8(front).unwrap(), behind)
 }
 
 /// A byte string, as a script spells it.
@@ -31,11 +22,19 @@ impl fmt::Display for Spelled<'_> {
 
     fn fmt<W: fmt::Write>(&self, f: &mut fmt::Formatter<W>) -> fmt::Result {
         if self.0.is_empty() {
-            return write!(f, "@");
+            return f.write_str("@");
         }
-        for byte in self.0 {
-            let text = SpelledByte(*byte);
-            write!(f, "{text}")?;
+        let mut rest = self.0;
+        while let [byte, after @ ..] = rest {
+            let (plain, behind) = plain_front(rest);
+            if plain.is_empty() {
+                let byte = *byte;
+                write!(f, "%{byte:02x}")?;
+                rest = after;
+            } else {
+                f.write_str(plain)?;
+                rest = behind;
+            }
         }
         Ok(())
     }

@@ -3,7 +3,7 @@ use Rattle.disk.proofs.Tears.{IsTornTo, torn_loose, torn_tight, torn_all}
 use Rattle.disk.proofs.tear.tear.Goals.{then-is_loose, else-is_loose}
 use Rattle.disk.proofs.tear.tear.Goals as goal
 
--- a loose place takes the next junk byte, and another stays
+-- an unsynced place gets the next junk byte, and a synced place stays
 pub loop-place-preserved : goal.loop-place-preserved
 loop-place-preserved c =
     let some : 0 < length c.args.junk.now = search rules in

@@ -1,17 +1,17 @@
 use Rattle.std.proofs.Common.{sym, ap, subst, ◌∙◌}
 use Rattle.disk.specs.Memory.{Slots}
-use Rattle.lab.specs.declared.member.Member.{Member}
-use Rattle.lab.specs.Members.{Is, disk_in, is_honest, state}
+use Rattle.lab.specs.declared.node_state.NodeState.{NodeState}
+use Rattle.lab.specs.SimNodes.{StateRefines, disk_in, is_honest, state}
 use Rattle.lab.proofs.world.left_of.Goals as goal
 
-pub returns-in-Running-clause-left : goal.returns-in-Running-clause-left
-returns-in-Running-clause-left c = λ n disk is own.
-    let x = c.args.seat.id in
-    let r = subst (λ (m : Member Slots). Is is_honest state m x n) c.in-Running.is is in
+pub returns-in-Up-clause-left : goal.returns-in-Up-clause-left
+returns-in-Up-clause-left c = λ n disk is own.
+    let x = c.args.node.id in
+    let r = subst (λ (m : NodeState Slots). StateRefines is_honest state m x n) c.in-Up.is is in
     record {
       disk = record {
         same = c.into_disk-disk.ensures.disk
-            ∙ (ap (λ (m : Member Slots). disk_in m) (sym c.in-Running.is) ∙ own);
+            ∙ (ap (λ (m : NodeState Slots). disk_in m) (sym c.in-Up.is) ∙ own);
         stands = c.into_disk-disk.ensures.rests x n r;
       };
       numbers = (

@@ -1,8 +1,8 @@
 use Rattle.lab.proofs.Nodes.{left_next}
 use Rattle.lab.proofs.world.left_of_all.Goals as goal
 
-pub loop-seat-preserved : goal.loop-seat-preserved
-loop-seat-preserved c =
-    left_next c.loop-seat.yielded c.loop-seat.nodes.items c.push.new.self.items c.in-Some.seat
+pub loop-node-preserved : goal.loop-node-preserved
+loop-node-preserved c =
+    left_next c.loop-node.yielded c.loop-node.reports.items c.push.new.self.items c.in-Some.node
     c.left_of.result c.left_of.ensures.id c.left_of.ensures.left c.in_ok-push.ensures.items
-    c.loop-seat.invariant
+    c.loop-node.invariant

@@ -6,7 +6,7 @@ use Rattle.node.proofs.Causes.{working_log, undamaged}
 use Rattle.node.proofs.Records.{numbered_at}
 use Rattle.node.proofs.engine.batch_at.Goals as goal
 
--- the log works, so it tells of the machine alone
+-- the log works, so it reports environment errors alone
 pub returns-in_err-record-clause-damaged : goal.returns-in_err-record-clause-damaged
 returns-in_err-record-clause-damaged g c = λ list honest h each.
     let p = err_from_is_err_and c.from_residual.result c.from_residual.ensures.1 in

@@ -14,7 +14,7 @@ returns-then-len-eq0-clause-blank g c = λ records honest h.
     none_held (g.D.Disk.state c.args.disk.now) c.args.log.now records h
     (omega (arith, c.len.ensures, c.if-len-eq0.true))
 
--- the log works, so it tells of the machine alone
+-- the log works, so it reports environment errors alone
 pub returns-in_err-record-clause-named : goal.returns-in_err-record-clause-named
 returns-in_err-record-clause-named g c = λ x ids honest id config h.
     let p = err_from_is_err_and c.from_residual.result c.from_residual.ensures.1 in

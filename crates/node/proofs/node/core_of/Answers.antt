@@ -23,7 +23,7 @@ returns-clause-count c =
     (record { epoch = refl; ids = refl; count = size; floor = refl; kept = refl }) in
     sym is.count ∙ size ∙ c.count.ensures
 
--- .. and has given up as many
+-- the state has the same number of trimmed batches
 pub returns-clause-kept : goal.returns-clause-kept
 returns-clause-kept c =
     let count = c.count.result in

@@ -2,7 +2,7 @@ use Rattle.std.proofs.Common.{refl}
 use Rattle.record_log.proofs.Fronts.{front_closed, stands_behind, passed_push}
 use Rattle.record_log.proofs.scan.scan.Goals as goal
 
--- what stands for records does so behind those that were passed
+-- the bytes of records have the remaining records behind those that were passed
 pub returns-in-Err-clause-short : goal.returns-in-Err-clause-short
 returns-in-Err-clause-short c = λ _ records s.
     let passed = c.loop-ends.invariant in

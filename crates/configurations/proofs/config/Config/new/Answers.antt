@@ -4,7 +4,7 @@ use Rattle.std.proofs.lemmas.List.Elements.{All-more}
 use Rattle.chain_model.specs.Configuration.{IsId}
 use Rattle.configurations.proofs.config.Config.new.Goals as goal
 
--- the id that the loop is at is taken
+-- the id that the loop is at is appended
 pub loop-id-preserved : goal.loop-id-preserved
 loop-id-preserved c =
     let i = c.loop-id.id-index in

@@ -60,6 +60,6 @@ invariant_of-result c =
     let few = subst (λ n. n ≤ 16) len c.if-len-gt-MAX_CONFIGS.false in
     lawful_of c.is_part_decides.ensures cs some few config smaller nodes ordered
 
--- .. so the list is lawful
+-- the list is lawful
 pub returns-clause-made : goal.returns-clause-made
 returns-clause-made c = (refl, invariant_of-result c)

@@ -4,7 +4,7 @@ use Rattle.disk.specs.Memory.{Slots, state_of}
 use Rattle.disk.proofs.Outcomes.{crashes_allowed}
 use Rattle.disk.proofs.memory.MemDiskCrash.crash.Goals as goal
 
--- what was synced agrees with what a read gave
+-- the synced bytes agree with the bytes that a read returned
 pub returns-clause-allowed : goal.returns-clause-allowed
 returns-clause-allowed c = λ honest.
     let left = state_of c.crash_in.new.slots.entries in

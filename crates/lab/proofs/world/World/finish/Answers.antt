@@ -1,6 +1,6 @@
 use Rattle.lab.specs.declared.report.NodeReport.{NodeReport}
 use Rattle.lab.specs.declared.report.Report.{Report}
-use Rattle.lab.specs.Members.{state, failures}
+use Rattle.lab.specs.SimNodes.{state, failures}
 use Rattle.lab.specs.Runs.{IsRun}
 use Rattle.lab.specs.Traces.{modelled_from}
 use Rattle.lab.proofs.Reports.{one_of, run_left}
@@ -9,14 +9,14 @@ use Rattle.lab.proofs.world.World.finish.Goals as goal
 pub returns-clause-run : goal.returns-clause-run
 returns-clause-run c = λ cs events steps run.
     let report : Report = record { steps = c.args.self.steps; nodes = c.in_ok-nodes.nodes } in
-    run_left c.args.self.seats.items c.args.self.frames.items cs events steps run.made report
+    run_left c.args.self.nodes.items c.args.self.frames.items cs events steps run.made report
     run.kept c.in_ok-nodes.ensures
 
 pub returns-clause-history : goal.returns-clause-history
 returns-clause-history c = λ cs events steps run.
     let report : Report = record { steps = c.args.self.steps; nodes = c.in_ok-nodes.nodes } in
     let is : IsRun cs events report =
-    run_left c.args.self.seats.items c.args.self.frames.items cs events steps run.made report
+    run_left c.args.self.nodes.items c.args.self.frames.items cs events steps run.made report
     run.kept c.in_ok-nodes.ensures in
     let es = modelled_from 1 events is.choices in
     one_of state failures (λ (node : NodeReport). node.id) (λ (node : NodeReport). node.disk) cs

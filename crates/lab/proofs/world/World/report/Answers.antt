@@ -1,7 +1,7 @@
 use Rattle.std.proofs.Common.{List, subst, sym, ◌∙◌}
 use Rattle.lab.specs.declared.report.Line.{Line}
-use Rattle.lab.specs.declared.seat.Seat.{Seat}
-use Rattle.lab.specs.Members.{disk_in, state, failures}
+use Rattle.lab.specs.declared.sim_node.SimNode.{SimNode}
+use Rattle.lab.specs.SimNodes.{disk_in, state, failures}
 use Rattle.lab.specs.Traces.{modelled_from, IsTrace}
 use Rattle.lab.specs.Worlds.{HasHistory}
 use Rattle.lab.proofs.Reports.{one_of, disks_so_far}
@@ -15,7 +15,7 @@ returns-clause-run c = λ cs events steps run.
       choices = made.choices;
       trace = subst (λ (l : List (List Line)). IsTrace cs events made.choices l)
           (sym (c.deref.ensures.value ∙ run.kept)) made.trace;
-      disks = disks_so_far self.seats.items self.frames.items cs events steps made
+      disks = disks_so_far self.nodes.items self.frames.items cs events steps made
           c.disks_represent.ensures;
     }
 
@@ -26,8 +26,8 @@ returns-clause-history c = λ cs events steps run.
     let es = modelled_from 1 events made.choices in
     subst (λ (l : List (List Line)). HasHistory self cs events l)
     (sym (c.deref.ensures.value ∙ run.kept))
-    (one_of state failures (λ (seat : Seat). seat.id) (λ (seat : Seat). disk_in seat.member) cs
-    events made.choices steps self.seats.items made.trace
-    (disks_so_far self.seats.items self.frames.items cs events steps made
+    (one_of state failures (λ (sim : SimNode). sim.id) (λ (sim : SimNode). disk_in sim.state) cs
+    events made.choices steps self.nodes.items made.trace
+    (disks_so_far self.nodes.items self.frames.items cs events steps made
     c.disks_represent.ensures) (c.one_history.ensures cs es made.lawful)
     (c.made_of_outcomes.ensures cs es))

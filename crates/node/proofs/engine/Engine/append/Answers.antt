@@ -22,7 +22,7 @@ returns-in_err-reserve-clause-crash g c = λ x epoch ids list floor kept honest 
     unchanged c.sure_is_left.ensures (g.D.Disk.state c.args.disk.now) c.args.self.now x epoch ids
     list floor kept s c.args.batch is_batch
 
--- the log works and takes the record, so it tells of the machine alone
+-- the log works and the record fits, so it reports environment errors alone
 pub returns-in_err-append-clause-appended : goal.returns-in_err-append-clause-appended
 returns-in_err-append-clause-appended g c = λ x epoch ids list floor kept honest s.
     let result = c.from_residual-in_err-append.result in

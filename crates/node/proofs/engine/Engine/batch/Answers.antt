@@ -3,7 +3,7 @@ use Rattle.chain_model.specs.Lists.{place}
 use Rattle.node.proofs.Engines.{stands_at}
 use Rattle.node.proofs.engine.Engine.batch.Goals as goal
 
--- the batch of a number stands one place before it
+-- the batch of a number is one place before it
 pub returns-clause-found : goal.returns-clause-found
 returns-clause-found g c = λ x epoch ids list floor kept honest s.
     let at = c.get.result in

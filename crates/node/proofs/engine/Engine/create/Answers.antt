@@ -55,7 +55,7 @@ returns-clause-created g c = λ honest.
       numbers = record { first = refl; not_raised = refl; none_dropped = refl };
     }
 
--- the log works and takes the record, so it tells of the machine alone
+-- the log works and the record fits, so it reports environment errors alone
 pub returns-in_err-append-clause-created : goal.returns-in_err-append-clause-created
 returns-in_err-append-clause-created g c = λ honest.
     let honest_a = c.length_of.ensures.kept.honest.1 honest in

@@ -31,7 +31,7 @@ returns-in_err-due-clause-ends g c = λ x n input r.
     ends_stopped g.D.Disk.is_honest g.D.Disk.state c.take.new.self x n a _ result p.0 p.1
     (subst IsOfMachine (sym p.2) e.done) e.stopped.0 e.stopped.1
 
--- the batch that was taken is sent
+-- the appended batch is sent
 pub returns-clause-ends : goal.returns-clause-ends
 returns-clause-ends g c = λ x n input r.
     let batch = c.args.batch in

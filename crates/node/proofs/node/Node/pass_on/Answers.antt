@@ -37,7 +37,7 @@ returns-clause-works g c =
     on_ok c.output_of.result
     (record { usable = may.usable; count = count ∙ may.count; kept = kept ∙ may.kept })
 
--- what the successor told is passed on where more is committed
+-- the successor's report is passed on where more is committed
 pub returns-clause-ends : goal.returns-clause-ends
 returns-clause-ends g c = λ x n input r.
     let old = c.args.self.now in

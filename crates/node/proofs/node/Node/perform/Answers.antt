@@ -25,7 +25,7 @@ returns-in-PassOn-clause-ends g c = λ x n input read r.
     (decision.PassOn c.in-PassOn.committed c.in-PassOn.have) c.pass_on.result c.in-PassOn.is
     (c.pass_on.ensures.ends x n input r)
 
--- what changes nothing is told by the node's numbers and batches
+-- the output of a rule that changes nothing follows from the node's numbers and batches
 pub returns-in-TellAgain-clause-ends : goal.returns-in-TellAgain-clause-ends
 returns-in-TellAgain-clause-ends g c = λ x n input read r.
     let tells = subst (λ (y : ℕ). IfOk c.tell_again.result (Tells input (tell_again y n))) r.id

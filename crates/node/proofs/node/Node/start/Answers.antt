@@ -8,7 +8,7 @@ use Rattle.node.proofs.Engines.{as_read}
 use Rattle.std.proofs.Common.{refl}
 use Rattle.node.proofs.node.Node.start.Goals as goal
 
--- a disk that rests as a machine stands for it as it reads
+-- a disk that always represents a machine represents it as it reads
 pub returns-in-Ok-clause-started : goal.returns-in-Ok-clause-started
 returns-in-Ok-clause-started g c = λ x n honest rests.
     let s0 = g.D.Disk.state c.args.disk in

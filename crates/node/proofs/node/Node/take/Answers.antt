@@ -8,7 +8,7 @@ use Rattle.node.proofs.Running.{holds_appended}
 use Rattle.node.proofs.Running.{stops_between, goes_on, ends_stopped}
 use Rattle.node.proofs.node.Node.take.Goals as goal
 
--- the store stopped, and a crash leaves its batches with the new one or without
+-- the store stopped, and a crash leaves its batches with or without the new one
 pub returns-in_err-append-clause-ends : goal.returns-in_err-append-clause-ends
 returns-in_err-append-clause-ends g c = λ x n r.
     let a = done_of x n c.args.batch c.args.done in
@@ -23,7 +23,7 @@ returns-in_err-append-clause-ends g c = λ x n r.
     ends_stopped g.D.Disk.is_honest g.D.Disk.state node x n a _ c.from_residual.result p.0 p.1
     (subst IsOfMachine (sym p.2) appended) (c.append.ensures.kept.honest.1 r.honest) stops
 
--- the batch is on the disk, and memory was wanted
+-- the batch is durable, and memory ran out
 pub returns-in_err-after-clause-ends : goal.returns-in_err-after-clause-ends
 returns-in_err-after-clause-ends g c = λ x n r.
     let a = done_of x n c.args.batch c.args.done in
@@ -38,7 +38,7 @@ returns-in_err-after-clause-ends g c = λ x n r.
     ends_stopped g.D.Disk.is_honest g.D.Disk.state node x n a _ result p.0 p.1 (inr p.2)
     (c.append.ensures.kept.honest.1 r.honest) stops
 
--- it is the machine of the rule
+-- the node refines the machine of the rule
 pub returns-clause-ends : goal.returns-clause-ends
 returns-clause-ends g c = λ x n r.
     let batch = c.args.batch in
@@ -56,7 +56,7 @@ returns-clause-ends g c = λ x n r.
     (c.in_ok-after.ensures.same ∙ r.id) in
     record { done = record { runs = runs; replied = follows.replied }; stopped = tt }
 
--- one batch more is counted, and none was given up
+-- one batch more is counted, and none was trimmed
 pub returns-clause-kept : goal.returns-clause-kept
 returns-clause-kept g c =
     let usable = c.in_ok-append.ensures.usable in

@@ -1,7 +1,6 @@
 use Rattle.std.proofs.Common.{◌∙◌, subst, List, ℕ}
-use Rattle.configurations.specs.Configs.{IsConfig}
-use Rattle.configurations.proofs.IsConfig.{config_is}
-use Rattle.program.proofs.Ids.{no_config_of}
+use Rattle.lab.specs.Configs.{IsConfig}
+use Rattle.program.proofs.Ids.{config_is, no_config_of}
 use Rattle.program.proofs.script.reader.config_of.Goals as goal
 
 pub returns-in-Ok : goal.returns-in-Ok

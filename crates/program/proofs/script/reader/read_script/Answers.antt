@@ -1,6 +1,6 @@
 use Rattle.std.proofs.Common.{arith, append-nil, refl, sym, ◌∙◌, []}
 use Rattle.program.specs.declared.script.setup.Setup.{Setup}
-use Rattle.program.specs.Scripts.{lines_of, IsScript}
+use Rattle.program.specs.Scripts.{script_lines, IsScript}
 use Rattle.program.proofs.Going.{takes_on, keeps_fault, all_name}
 use Rattle.program.proofs.script.reader.read_script.Goals as goal
 
@@ -8,11 +8,11 @@ pub loop-line-preserved : goal.loop-line-preserved
 loop-line-preserved c =
     let before = c.loop-line.before in let n = c.loop-line.number in let line =
     c.in-Some.line.now in
-    let lines = lines_of c.next.new.self.0.now in let old = c.loop-line.statements.items in
-    let taken = rw c.in-Ok.is at c.take_line.ensures in
+    let lines = script_lines c.next.new.self.0.now in let old = c.loop-line.statements.items in
+    let taken = rw c.in-Ok.is at c.read_line.ensures in
     record {
       found = takes_on before c.in-Ok.after n line lines old _ (λ setup rest. IsScript 1
-          (lines_of c.args.text.now) setup rest) taken (λ setup rest h.
+          (script_lines c.args.text.now) setup rest) taken (λ setup rest h.
           c.loop-line.invariant.found setup rest (rw c.in-Some.ensures.steps h));
       fault = keeps_fault before c.in-Ok.after n line lines old _ taken
           ∙ rw c.in-Some.ensures.steps at c.loop-line.invariant.fault;
@@ -37,7 +37,7 @@ returns-clause-node c =
       configs = c.in-Some-into_configs.configs;
       limits = c.default-limits.result;
     } in
-    all_name 1 (lines_of c.args.text.now) setup c.loop-line.statements.items
+    all_name 1 (script_lines c.args.text.now) setup c.loop-line.statements.items
     (rw (← append-nil c.loop-line.statements.items)
     (c.loop-line.invariant.found setup [] (rw (
       c.in-None.ensures.steps.0,

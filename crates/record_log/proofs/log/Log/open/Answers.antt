@@ -14,7 +14,7 @@ returns-in_err-bytes-clause-told g c = λ honest.
     let why = c.in_err-bytes.ensures.read honest in
     rw (p.1, p.2) (declines_bytes c.in_err-bytes.field-0.0 bytes c.args.start why)
 
--- so a file that stands for records is refused for the machine's sake alone
+-- opening a file that represents records is refused for environment errors alone
 pub returns-in_err-bytes-clause-opened : goal.returns-in_err-bytes-clause-opened
 returns-in_err-bytes-clause-opened g c = λ records honest stood.
     let p = err_from_is_err_and c.from_residual.result c.from_residual.ensures.1 in

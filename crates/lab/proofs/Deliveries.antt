@@ -1,0 +1,222 @@
+-- The outcome of what an event delivers, by the kind of event.
+use Rattle.std.proofs.Common.{◌≡◌, ℕ, List, map, Option, Some, None, refl, sym}
+use Rattle.std.proofs.Common.{ap, subst, ◌∙◌}
+use Rattle.std.proofs.lemmas.Bool.{cond-true, cond-false, false≢true}
+use Rattle.kv_types.specs.Content.{BatchContent}
+use Rattle.disk.specs.declared.junk.Junk.{Junk}
+use Rattle.disk.specs.Memory.{Slots}
+use Rattle.chain_model.specs.Configuration.{Configurations}
+use Rattle.chain_model.specs.Lists.{place}
+use Rattle.chain_model.specs.declared.drop_reason.DropReason.TheVariants as reason
+use Rattle.chain_model.specs.Frames.{Frame as ModelFrame}
+use Rattle.chain_model.specs.Requests as request
+use Rattle.chain_model.specs.Node.{dropped_for, silent, started, stopped}
+use Rattle.chain_model.specs.World.{World, Answered, StoppedBefore, outcome, answers}
+use Rattle.chain_model.specs.World.{stops, delivered, nothing}
+use Rattle.link_messages.specs.declared.frame.Frame.{Frame}
+use Rattle.link_messages.specs.declared.frame.Frame.TheVariants as frame
+use Rattle.chain_core.specs.declared.input.Input.{Input}
+use Rattle.chain_core.specs.declared.input.Input.TheVariants as input
+use Rattle.chain_core.specs.Decisions.{frame_as}
+use Rattle.node.specs.declared.stop.Stop.TheVariants.{Disk}
+use Rattle.node.specs.Steps.{told_as}
+use Rattle.lab.specs.declared.input.NodeInput.{NodeInput}
+use Rattle.lab.specs.declared.input.StepOutcome.{StepOutcome}
+use Rattle.lab.specs.declared.event.EventKind.{EventKind}
+use Rattle.lab.specs.declared.event.EventKind.TheVariants.{Submit, Get, Deliver, Tick, Start, Stop}
+use Rattle.lab.specs.declared.node_state.NodeState.{NodeState}
+use Rattle.lab.specs.declared.report.Line.TheVariants as line
+use Rattle.lab.specs.Events.{modelled, reply_line}
+use Rattle.lab.specs.Deliveries.{IsDeliveryOf, HasNoDelivery, input_of}
+use Rattle.lab.specs.Outcomes.{HasStarted, Starts, Fails, RunsOn, HasStopped, Stops, RestsOn}
+use Rattle.lab.specs.Outcomes.{OutcomeRefines, input_junk}
+use Rattle.lab.specs.Disks.{junk_of}
+use Rattle.lab.specs.SimNodes.{Choice, is_honest, state}
+use Rattle.lab.proofs.Outcomes.{IsOutcome, IsTraced, chosen, as_chosen, given, stop_traced}
+use Rattle.lab.proofs.Outcomes.{drop_traced}
+
+-- each kind has the lines of replies that the node has
+abbrev RepliesSo : EventKind → Input → Type 0
+RepliesSo kind inp = (r : request.Reply BatchContent) → reply_line kind r
+    ≡ map (λ reply. line.Replied reply) (told_as inp r)
+
+submit_replies : (x i : ℕ) (batch : BatchContent) →
+    RepliesSo (Submit x batch) (input.Submit i batch)
+submit_replies x i batch (request.Committed j k) = refl
+submit_replies x i batch (request.Shows j s l) = refl
+submit_replies x i batch (request.Opened j s) = refl
+submit_replies x i batch (request.Closed j s) = refl
+submit_replies x i batch (request.Refused j why) = refl
+
+get_replies : (x i : ℕ) (key : List ℕ) (at : Option ℕ) →
+    RepliesSo (Get x key at) (input.Get i key at)
+get_replies x i key at (request.Committed j k) = refl
+get_replies x i key at (request.Shows j s l) = refl
+get_replies x i key at (request.Opened j s) = refl
+get_replies x i key at (request.Closed j s) = refl
+get_replies x i key at (request.Refused j why) = refl
+
+forward_replies : (p epoch from number : ℕ) (batch : BatchContent) →
+    RepliesSo (Deliver p) (input.Forward epoch from number batch)
+forward_replies p epoch from number batch (request.Committed j k) = refl
+forward_replies p epoch from number batch (request.Shows j s l) = refl
+forward_replies p epoch from number batch (request.Opened j s) = refl
+forward_replies p epoch from number batch (request.Closed j s) = refl
+forward_replies p epoch from number batch (request.Refused j why) = refl
+
+ack_replies : (p epoch from committed have : ℕ) →
+    RepliesSo (Deliver p) (input.Ack epoch from committed have)
+ack_replies p epoch from committed have (request.Committed j k) = refl
+ack_replies p epoch from committed have (request.Shows j s l) = refl
+ack_replies p epoch from committed have (request.Opened j s) = refl
+ack_replies p epoch from committed have (request.Closed j s) = refl
+ack_replies p epoch from committed have (request.Refused j why) = refl
+
+tick_replies : (x : ℕ) → RepliesSo (Tick x) input.Tick
+tick_replies x (request.Committed j k) = refl
+tick_replies x (request.Shows j s l) = refl
+tick_replies x (request.Opened j s) = refl
+tick_replies x (request.Closed j s) = refl
+tick_replies x (request.Refused j why) = refl
+
+module _ (cs : Configurations) (w : World BatchContent) (i x : ℕ) (new : NodeState Slots)
+    (did : StepOutcome)
+  where
+    -- a frame in a place is delivered to its addressee
+    to_addressee : (p : ℕ) (it : Frame) (f : ModelFrame BatchContent) (choice : Choice) →
+        place w.frames p ≡ Some f → frame_as x it ≡ Some f →
+        outcome w cs (modelled i (Deliver p) choice) ≡ delivered w (frame_as x it) choice.went
+    to_addressee p it f choice there same =
+        ap (λ (o : Option (ModelFrame BatchContent)). delivered w o choice.went) (there ∙ sym same)
+
+    deliver : (p : ℕ) (it : Frame) (f : ModelFrame BatchContent) → place w.frames p ≡ Some f →
+        frame_as x it ≡ Some f → OutcomeRefines is_honest state x (w.nodes x)
+        (input_of it) new did →
+        IsOutcome cs w i x (Deliver p) new did
+    deliver p (frame.Forward epoch from number batch) f there same was =
+        given cs w i x (Deliver p) (input.Forward epoch from number batch) new did
+        (λ choice. to_addressee p (frame.Forward epoch from number batch) f choice there same)
+        (λ cause. refl) (λ o. refl) (forward_replies p epoch from number batch) was
+    deliver p (frame.Ack epoch from committed have) f there same was =
+        given cs w i x (Deliver p) (input.Ack epoch from committed have) new did
+        (λ choice. to_addressee p (frame.Ack epoch from committed have) f choice there same)
+        (λ cause. refl) (λ o. refl) (ack_replies p epoch from committed have) was
+    deliver p (frame.Notice epoch config) f there same was = absurd (cc)
+    deliver p (frame.Submit request batch) f there same was = absurd (cc)
+    deliver p (frame.Get request at key) f there same was = absurd (cc)
+    deliver p (frame.Rows request at range) f there same was = absurd (cc)
+    deliver p (frame.Open request at) f there same was = absurd (cc)
+    deliver p (frame.Close request number) f there same was = absurd (cc)
+    deliver p (frame.Committed request number) f there same was = absurd (cc)
+    deliver p (frame.Value request number value) f there same was = absurd (cc)
+    deliver p (frame.RowsAre request number page) f there same was = absurd (cc)
+    deliver p (frame.Opened request number) f there same was = absurd (cc)
+    deliver p (frame.Refused request why) f there same was = absurd (cc)
+    deliver p (frame.Closed request number) f there same was = absurd (cc)
+
+    start : HasStarted is_honest state x (w.nodes x) new did →
+        IsOutcome cs w i x (Start x) new did
+    start (Starts off is traced) =
+        let o = answers x (silent (started x (w.nodes x))) in
+        as_chosen cs w i x (Start x) new did (chosen Answered Disk) o
+        (started x (w.nodes x)) (cond-false _ _ _ off) refl is
+        (subst (λ (d : StepOutcome). IsTraced x (Start x) (chosen Answered Disk) d o) (sym traced)
+        (record {
+          frames = refl;
+          traced = λ n. refl;
+          counted = λ n. refl;
+          fits = λ stops. absurd (false≢true stops);
+          ends = refl;
+        }))
+    start (Fails off cause of_machine is traced) =
+        as_chosen cs w i x (Start x) new did (chosen StoppedBefore cause) (stops x (w.nodes x))
+        (stopped (w.nodes x)) (cond-false _ _ _ off) refl is
+        (subst (λ (d : StepOutcome). IsTraced x (Start x) (chosen StoppedBefore cause) d
+        (stops x (w.nodes x))) (sym traced)
+        (stop_traced x (Start x) (chosen StoppedBefore cause) (Some cause) (w.nodes x) refl
+        of_machine))
+    start (RunsOn up is traced) =
+        let o = answers x (dropped_for (w.nodes x) reason.Running) in
+        as_chosen cs w i x (Start x) new did (chosen Answered Disk) o (w.nodes x)
+        (cond-true _ _ _ up) refl is
+        (subst (λ (d : StepOutcome). IsTraced x (Start x) (chosen Answered Disk) d o) (sym traced.1)
+        (drop_traced x (Start x) (chosen Answered Disk) (w.nodes x) reason.Running traced.0
+        traced.2 refl))
+
+    stop : (junk : Junk) → HasStopped is_honest state x (w.nodes x) new did →
+        IsOutcome cs w i x (Stop x junk) new did
+    stop junk (Stops up is traced) =
+        as_chosen cs w i x (Stop x junk) new did (chosen Answered Disk) (stops x (w.nodes x))
+        (stopped (w.nodes x)) (cond-true _ _ _ up) refl is
+        (subst (λ (d : StepOutcome). IsTraced x (Stop x junk) (chosen Answered Disk) d
+        (stops x (w.nodes x))) (sym traced)
+        (stop_traced x (Stop x junk) (chosen Answered Disk) None (w.nodes x) refl tt))
+    stop junk (RestsOn off is traced) =
+        let o = answers x (dropped_for (w.nodes x) reason.NotRunning) in
+        as_chosen cs w i x (Stop x junk) new did (chosen Answered Disk) o (w.nodes x)
+        (cond-false _ _ _ off) refl is
+        (subst (λ (d : StepOutcome). IsTraced x (Stop x junk) (chosen Answered Disk) d o)
+        (sym traced.1)
+        (drop_traced x (Stop x junk) (chosen Answered Disk) (w.nodes x) reason.NotRunning
+        traced.0 traced.2 refl))
+
+    -- the outcome of the input that an event delivers is the event's
+    pub refined : (kind : EventKind) (node_input : NodeInput) → IsDeliveryOf w.frames i kind x
+        node_input →
+        OutcomeRefines is_honest state x (w.nodes x) node_input new did →
+        IsOutcome cs w i x kind new did
+    refined (Submit node batch) node_input brings was =
+        subst (λ (y : ℕ). IsOutcome cs w i x (Submit y batch) new did) brings.0
+        (given cs w i x (Submit x batch) (input.Submit i batch) new did (λ choice. refl)
+        (λ cause. refl) (λ o. refl) (submit_replies x i batch)
+        (subst (λ (k : NodeInput). OutcomeRefines is_honest state x
+        (w.nodes x) k new did) brings.1 was))
+    refined (Get node key at) node_input brings was =
+        subst (λ (y : ℕ). IsOutcome cs w i x (Get y key at) new did) brings.0
+        (given cs w i x (Get x key at) (input.Get i key at) new did (λ choice. refl)
+        (λ cause. refl) (λ o. refl) (get_replies x i key at)
+        (subst (λ (k : NodeInput). OutcomeRefines is_honest state x
+        (w.nodes x) k new did) brings.1 was))
+    refined (Deliver p) node_input brings was =
+        deliver p brings.it brings.frame brings.there brings.same
+        (subst (λ (k : NodeInput). OutcomeRefines is_honest state x
+        (w.nodes x) k new did) brings.is was)
+    refined (Tick node) node_input brings was =
+        subst (λ (y : ℕ). IsOutcome cs w i x (Tick y) new did) brings.0
+        (given cs w i x (Tick x) input.Tick new did (λ choice. refl)
+        (λ cause. refl) (λ o. refl) (tick_replies x)
+        (subst (λ (k : NodeInput). OutcomeRefines is_honest state x
+        (w.nodes x) k new did) brings.1 was))
+    refined (Start node) node_input brings was =
+        subst (λ (y : ℕ). IsOutcome cs w i x (Start y) new did) brings.0
+        (start (subst (λ (k : NodeInput). OutcomeRefines is_honest state x (w.nodes x) k new did)
+        brings.1 was))
+    refined (Stop node junk) node_input brings was =
+        subst (λ (y : ℕ). IsOutcome cs w i x (Stop y junk) new did) brings.0
+        (stop junk (subst (λ (k : NodeInput). OutcomeRefines is_honest state x
+        (w.nodes x) k new did)
+        brings.1 was))
+
+-- an event without a frame does nothing
+pub nothing_done : (cs : Configurations) (w : World BatchContent) (i : ℕ) (kind : EventKind)
+    (choice : Choice) → HasNoDelivery w.frames kind →
+    outcome w cs (modelled i kind choice) ≡ nothing
+nothing_done cs w i kind choice brings =
+    ap (λ (e : EventKind). outcome w cs (modelled i e choice)) brings.1
+    ∙ ap (λ (o : Option (ModelFrame BatchContent)). delivered w o choice.went) brings.2
+
+-- the junk of a stop is that of its input
+pub junk_same : (frames : List (ModelFrame BatchContent)) (i x : ℕ) (kind : EventKind)
+    (node_input : NodeInput) →
+    IsDeliveryOf frames i kind x node_input → input_junk node_input ≡ junk_of kind
+junk_same frames i x (Submit node batch) node_input brings = ap input_junk brings.1
+junk_same frames i x (Get node key at) node_input brings = ap input_junk brings.1
+junk_same frames i x (Deliver p) node_input brings = ap input_junk brings.is ∙ none_with brings.it
+  where
+    none_with : (it : Frame) → input_junk (input_of it) ≡ None
+    none_with (frame.Forward epoch from number batch) = refl
+    none_with (frame.Ack epoch from committed have) = refl
+    none_with _ = refl
+junk_same frames i x (Tick node) node_input brings = ap input_junk brings.1
+junk_same frames i x (Start node) node_input brings = ap input_junk brings.1
+junk_same frames i x (Stop node junk) node_input brings = ap input_junk brings.1

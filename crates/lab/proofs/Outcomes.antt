@@ -1,0 +1,318 @@
+-- The outcome of a step refines an event of the model's world, and has its lines.
+use Rattle.std.proofs.Common.{◌≡◌, ℕ, suc, ◌+◌, List, [], ◌∷◌, ◌++◌, length, map, Option, Some}
+use Rattle.std.proofs.Common.{None, true, false, cond, inl, inr, refl, sym, ap, ap₂, subst, ◌∙◌}
+use Rattle.std.proofs.Common.{arith}
+use Rattle.std.proofs.lemmas.List.{map-append}
+use Rattle.std.specs.Prelude.{Bool, IfSome}
+use Rattle.std.proofs.lemmas.Bool.{cond-true, cond-false, false≢true}
+use Rattle.kv_types.specs.Content.{BatchContent}
+use Rattle.disk.specs.Memory.{Slots}
+use Rattle.chain_model.specs.Configuration.{Configurations}
+use Rattle.chain_model.specs.declared.drop_reason.DropReason.{DropReason}
+use Rattle.chain_model.specs.Frames as model_frame
+use Rattle.chain_model.specs.Frames.{Frame as ModelFrame, addressee}
+use Rattle.chain_model.specs.Requests as request
+use Rattle.chain_model.specs.Node.{Answer, dropped_for, stopped}
+use Rattle.chain_model.specs.World.{World, Outcome, Went, Answered, StoppedBefore, StoppedAfter}
+use Rattle.chain_model.specs.World.{outcome, answers, stops, as_it_went}
+use Rattle.link_messages.specs.declared.frame.Frame.{Frame}
+use Rattle.link_messages.specs.declared.frame.Frame.TheVariants as frame
+use Rattle.chain_core.specs.declared.input.Input.{Input}
+use Rattle.chain_core.specs.declared.input.Input.TheVariants as input
+use Rattle.chain_core.specs.declared.sending.Sent.{Sent}
+use Rattle.chain_core.specs.Decisions.{AreFrames, answer_to, frame_as}
+use Rattle.chain_core.specs.States.{Machine}
+use Rattle.node.specs.declared.output.Output.{Output}
+use Rattle.node.specs.declared.output.Reply.{Reply}
+use Rattle.node.specs.declared.stop.Stop.{Stop as Cause}
+use Rattle.node.specs.declared.stop.Stop.TheVariants.{Disk}
+use Rattle.node.specs.Steps.{replies_of, told_as}
+use Rattle.node.specs.Stops.{IsOfMachine}
+use Rattle.lab.specs.declared.input.StepOutcome.{StepOutcome}
+use Rattle.lab.specs.declared.input.StepOutcome.TheVariants as done
+use Rattle.lab.specs.declared.event.EventKind.{EventKind}
+use Rattle.lab.specs.declared.node_state.NodeState.{NodeState}
+use Rattle.lab.specs.declared.report.Line.{Line}
+use Rattle.lab.specs.declared.report.Line.TheVariants as line
+use Rattle.lab.specs.Events.{modelled, lines_of_event, dropped_lines, start_trace, frame_line}
+use Rattle.lab.specs.Events.{frame_lines}
+use Rattle.lab.specs.Events.{reply_line, reply_lines, reported_cause}
+use Rattle.lab.specs.SimNodes.{StateRefines, Choice, is_honest, state}
+use Rattle.lab.specs.Outcomes.{down_answer, IsAnswer, IsDrop, HasAnswered}
+use Rattle.lab.specs.Outcomes.{HasHandled, Answers, Ends, Rests}
+use Rattle.lab.specs.Outcomes.{sent_by, sent_as, sent_lines}
+use Rattle.lab.specs.Outcomes.{outcome_lines}
+use Rattle.lab.specs.Worlds.{frames_of_step}
+
+-- ---- lines
+
+-- a frame that is sent has the line of the model's
+line_same : (p to : ℕ) (it : Frame) (f : ModelFrame BatchContent) → frame_as to it ≡ Some f →
+    sent_as p to it ≡ frame_line p f
+line_same p to (frame.Forward epoch from number batch) f is =
+    subst (λ (o : Option (ModelFrame BatchContent)). HasLine o) is refl
+  where
+    HasLine : Option (ModelFrame BatchContent) → Type 0
+    HasLine None = Unit {0}
+    HasLine (Some g) = line.Forwarded p from to epoch number ≡ frame_line p g
+line_same p to (frame.Ack epoch from committed have) f is =
+    subst (λ (o : Option (ModelFrame BatchContent)). HasLine o) is refl
+  where
+    HasLine : Option (ModelFrame BatchContent) → Type 0
+    HasLine None = Unit {0}
+    HasLine (Some g) = line.Acknowledged p from to epoch committed have ≡ frame_line p g
+line_same p to (frame.Notice epoch config) f is = absurd (cc)
+line_same p to (frame.Submit request batch) f is = absurd (cc)
+line_same p to (frame.Get request at key) f is = absurd (cc)
+line_same p to (frame.Rows request at range) f is = absurd (cc)
+line_same p to (frame.Open request at) f is = absurd (cc)
+line_same p to (frame.Close request number) f is = absurd (cc)
+line_same p to (frame.Committed request number) f is = absurd (cc)
+line_same p to (frame.Value request number value) f is = absurd (cc)
+line_same p to (frame.RowsAre request number page) f is = absurd (cc)
+line_same p to (frame.Opened request number) f is = absurd (cc)
+line_same p to (frame.Refused request why) f is = absurd (cc)
+line_same p to (frame.Closed request number) f is = absurd (cc)
+
+-- .. and so are all of them
+lines_same : (n : ℕ) (sent : List Sent) (frames : List (ModelFrame BatchContent)) →
+    AreFrames sent frames → sent_lines n sent ≡ frame_lines n frames
+lines_same n [] [] are = refl
+lines_same n [] (f ∷ frames) are = absurd (cc)
+lines_same n (s ∷ sent) [] are = absurd (cc)
+lines_same n (s ∷ sent) (f ∷ frames) are =
+    let first : frame_as s.to s.frame ≡ Some f = cc in
+    let more : map (λ (it : Sent). frame_as it.to it.frame) sent ≡ map Some frames = cc in
+    ap₂ (λ (l : Line) (ls : List Line). l ∷ ls) (line_same (suc n) s.to s.frame f first)
+    (lines_same (suc n) sent frames more)
+
+-- how many frames lines show
+counts_both : (a b : List Line) → frames_of_step (a ++ b) ≡ frames_of_step a + frames_of_step b
+counts_both [] b = omega arith
+counts_both (x ∷ a) b = omega (arith, counts_both a b)
+
+counts_drop : (why : Option DropReason) → frames_of_step (dropped_lines why) ≡ 0
+counts_drop None = refl
+counts_drop (Some why) = refl
+
+counts_frames : (n : ℕ) (frames : List (ModelFrame BatchContent)) →
+    frames_of_step (frame_lines n frames) ≡ length frames
+counts_frames n [] = refl
+counts_frames n (model_frame.Forward to epoch from number batch ∷ frames) =
+    omega (arith, counts_frames (suc n) frames)
+counts_frames n (model_frame.Ack to epoch from committed have ∷ frames) =
+    omega (arith, counts_frames (suc n) frames)
+
+counts_replies : (replies : List Reply) →
+    frames_of_step (map (λ reply. line.Replied reply) replies) ≡ 0
+counts_replies [] = refl
+counts_replies (reply ∷ replies) = omega (arith, counts_replies replies)
+
+-- ---- outcomes
+
+-- a node that stops by itself stops for its device or for memory
+abbrev pub CauseFits : EventKind → Choice → Outcome BatchContent → Type 0
+CauseFits kind choice o = o.stopped ≡ true → IfSome (reported_cause kind choice.cause) IsOfMachine
+
+-- the node stopped where its doing says so, with the cause that was chosen
+abbrev pub StopsSo : EventKind → Choice → StepOutcome → Bool → Type 0
+StopsSo kind choice (done.Answered output) stopped = stopped ≡ false
+StopsSo kind choice (done.Started epoch count committed) stopped = stopped ≡ false
+StopsSo kind choice (done.Stopped traced) stopped =
+    (stopped ≡ true) × (reported_cause kind choice.cause ≡ traced)
+
+-- an event's outcome with its lines: the node that it was for, and the state of that node now
+pub record IsOutcome (cs : Configurations) (w : World BatchContent) (i x : ℕ) (kind : EventKind)
+    (new : NodeState Slots) (did : StepOutcome) : Type 0 where
+  pub choice : Choice
+  pub node : Machine
+  pub came : (outcome w cs (modelled i kind choice)).came_to ≡ Some (x, node)
+  pub is : StateRefines is_honest state new x node
+  pub frames : AreFrames (sent_by did) (outcome w cs (modelled i kind choice)).frames
+  pub traced : (n : ℕ) → outcome_lines x n did
+      ≡ lines_of_event n kind choice (outcome w cs (modelled i kind choice))
+  pub counted : (n : ℕ) → frames_of_step (outcome_lines x n did)
+      ≡ length (outcome w cs (modelled i kind choice)).frames
+  pub fits : CauseFits kind choice (outcome w cs (modelled i kind choice))
+  pub ends : StopsSo kind choice did (outcome w cs (modelled i kind choice)).stopped
+
+-- what a node's doing is at an outcome
+pub record IsTraced (x : ℕ) (kind : EventKind) (choice : Choice) (did : StepOutcome)
+    (o : Outcome BatchContent)
+    : Type 0 where
+  pub frames : AreFrames (sent_by did) o.frames
+  pub traced : (n : ℕ) → outcome_lines x n did ≡ lines_of_event n kind choice o
+  pub counted : (n : ℕ) → frames_of_step (outcome_lines x n did) ≡ length o.frames
+  pub fits : CauseFits kind choice o
+  pub ends : StopsSo kind choice did o.stopped
+
+abbrev pub chosen : Went → Cause → Choice
+chosen went cause = record { went = went; cause = cause }
+
+module _ (cs : Configurations) (w : World BatchContent) (i x : ℕ) (kind : EventKind)
+    (new : NodeState Slots)
+    (did : StepOutcome) where
+  -- with this choice the outcome is this one
+  pub as_chosen : (choice : Choice) (o : Outcome BatchContent) (n : Machine) →
+      outcome w cs (modelled i kind choice) ≡ o → o.came_to ≡ Some (x, n) →
+      StateRefines is_honest state new x n →
+      IsTraced x kind choice did o → IsOutcome cs w i x kind new did
+  as_chosen choice o n is_o came is tells =
+      let same = sym is_o in
+      let all = subst (λ (p : Outcome BatchContent). IsTraced x kind choice did p) same tells in
+      record {
+        choice = choice;
+        node = n;
+        came = ap (λ (p : Outcome BatchContent). p.came_to) is_o ∙ came;
+        is = is;
+        frames = all.frames;
+        traced = all.traced;
+        counted = all.counted;
+        fits = all.fits;
+        ends = all.ends;
+      }
+
+-- ---- answers and stops
+
+-- the lines of an answer, part by part
+abbrev answered_lines : ℕ → Answer BatchContent → List Reply → List Line
+answered_lines n a replies =
+    dropped_lines a.dropped
+    ++ (frame_lines n a.frames ++ map (λ reply. line.Replied reply) replies)
+
+counts_answer : (n : ℕ) (a : Answer BatchContent) (replies : List Reply) →
+    frames_of_step (answered_lines n a replies) ≡ length a.frames
+counts_answer n a replies =
+    let traced = map (λ reply. line.Replied reply) replies in
+    omega (
+      arith,
+      counts_both (dropped_lines a.dropped) (frame_lines n a.frames ++ traced),
+      counts_both (frame_lines n a.frames) traced,
+      counts_drop a.dropped,
+      counts_frames n a.frames,
+      counts_replies replies,
+    )
+
+-- an input's answer has the lines of the model's
+module _ (x : ℕ) (kind : EventKind) (inp : Input) (choice : Choice) (a : Answer BatchContent)
+    (output : Output) (is : IsAnswer inp a output) where
+  answer_lines : (n : ℕ) → outcome_lines x n (done.Answered output)
+      ≡ answered_lines n a (replies_of inp a.replies)
+  answer_lines n =
+      ap₂ (λ (d f : List Line). d ++ (f ++ map (λ reply. line.Replied reply) output.replies.items))
+      (ap dropped_lines is.dropped)
+      (lines_same n output.frames.items a.frames is.frames)
+      ∙ ap (λ (rs : List Reply). answered_lines n a rs) is.replied
+
+  answer_traced : (start_trace kind (answers x a) ≡ []) →
+      (reply_lines kind a.replies ≡ map (λ reply. line.Replied reply) (replies_of inp a.replies)) →
+      IsTraced x kind choice (done.Answered output) (answers x a)
+  answer_traced starts replies = record {
+    frames = is.frames;
+    traced = λ n. answer_lines n
+        ∙ ap₂ (λ (s r : List Line). dropped_lines a.dropped ++ (s ++ (frame_lines n a.frames ++ r)))
+        (sym starts) (sym replies);
+    counted = λ n. ap frames_of_step (answer_lines n)
+        ∙ counts_answer n a (replies_of inp a.replies);
+    fits = λ stops. absurd (false≢true stops);
+    ends = refl;
+  }
+
+-- a stop has a line with its cause
+pub stop_traced : (x : ℕ) (kind : EventKind) (choice : Choice) (traced : Option Cause)
+    (n : Machine) →
+    reported_cause kind choice.cause ≡ traced → IfSome traced IsOfMachine →
+    IsTraced x kind choice (done.Stopped traced) (stops x n)
+stop_traced x kind choice traced n is of_machine = record {
+  frames = refl;
+  traced = λ m. ap (λ (c : Option Cause). line.Stopped x c ∷ []) (sym is);
+  counted = λ m. refl;
+  fits = λ stops. subst (λ (c : Option Cause). IfSome c IsOfMachine) (sym is) of_machine;
+  ends = (refl, is);
+}
+
+-- a drop has a line with its reason
+pub dropped_linesd : (x : ℕ) (kind : EventKind) (choice : Choice) (n : Machine)
+    (why : DropReason) (output : Output) → IsDrop why output →
+    start_trace kind (answers x (dropped_for n why)) ≡ [] →
+    IsTraced x kind choice (done.Answered output) (answers x (dropped_for n why))
+dropped_linesd x kind choice n why output is starts =
+    answer_traced x kind input.Tick choice (dropped_for n why) output (record {
+      dropped = is.dropped;
+      frames = ap (map (λ (it : Sent). frame_as it.to it.frame)) is.frames;
+      replied = is.replied;
+    }) starts refl
+
+-- ---- inputs
+
+-- replies have the same lines in the model and at the node
+shows_so : (inp : Input) (kind : EventKind) (replies : List (request.Reply BatchContent)) →
+    ((r : request.Reply BatchContent) → reply_line kind r
+    ≡ map (λ reply. line.Replied reply) (told_as inp r)) →
+    reply_lines kind replies ≡ map (λ reply. line.Replied reply) (replies_of inp replies)
+shows_so inp kind [] each = refl
+shows_so inp kind (r ∷ replies) each =
+    ap₂ (λ (a b : List Line). a ++ b) (each r) (shows_so inp kind replies each)
+    ∙ sym (map-append (λ reply. line.Replied reply) (told_as inp r) (replies_of inp replies))
+
+-- an input, as the model has it
+module _ (cs : Configurations) (w : World BatchContent) (i x : ℕ) (kind : EventKind) (inp : Input)
+    (new : NodeState Slots) (did : StepOutcome)
+    (at : (choice : Choice) → outcome w cs (modelled i kind choice)
+    ≡ cond (w.nodes x).running (as_it_went x (w.nodes x) (answer_to x (w.nodes x) inp) choice.went)
+    (answers x (down_answer (w.nodes x) inp)))
+    (causes : (cause : Cause) → reported_cause kind cause ≡ Some cause)
+    (starts : (o : Outcome BatchContent) → start_trace kind o ≡ [])
+    (replies : (r : request.Reply BatchContent) → reply_line kind r
+    ≡ map (λ reply. line.Replied reply) (told_as inp r)) where
+  runs : (choice : Choice) → (w.nodes x).running ≡ true → outcome w cs (modelled i kind choice)
+      ≡ as_it_went x (w.nodes x) (answer_to x (w.nodes x) inp) choice.went
+  runs choice up = at choice ∙ cond-true _ _ _ up
+
+  rests : (choice : Choice) → (w.nodes x).running ≡ false → outcome w cs (modelled i kind choice)
+      ≡ answers x (down_answer (w.nodes x) inp)
+  rests choice off = at choice ∙ cond-false _ _ _ off
+
+  -- the node answers so
+  tells : (a : Answer BatchContent) → (traced : HasAnswered did (IsAnswer inp a)) →
+      IsTraced x kind (chosen Answered Disk) did (answers x a)
+  tells a traced = subst (λ (d : StepOutcome). IsTraced x kind (chosen Answered Disk) d
+      (answers x a))
+      (sym traced.1)
+      (answer_traced x kind inp (chosen Answered Disk) a traced.0 traced.2 (starts (answers x a))
+      (shows_so inp kind a.replies replies))
+
+  ends : (went : Went) (cause : Cause) (n : Machine) → IsOfMachine cause →
+      did ≡ done.Stopped (Some cause) → IsTraced x kind (chosen went cause) did (stops x n)
+  ends went cause n of_machine is =
+      subst (λ (d : StepOutcome). IsTraced x kind (chosen went cause) d (stops x n)) (sym is)
+      (stop_traced x kind (chosen went cause) (Some cause) n (causes cause) of_machine)
+
+  pub given : HasHandled is_honest state x (w.nodes x) inp new did →
+      IsOutcome cs w i x kind new did
+  given (Answers up is traced) =
+      as_chosen cs w i x kind new did (chosen Answered Disk)
+      (answers x (answer_to x (w.nodes x) inp)) (answer_to x (w.nodes x) inp).node
+      (runs (chosen Answered Disk) up) refl is (tells (answer_to x (w.nodes x) inp) traced)
+  given (Ends up cause of_machine (inl before) traced) =
+      as_chosen cs w i x kind new did (chosen StoppedBefore cause) (stops x (w.nodes x))
+      (stopped (w.nodes x)) (runs (chosen StoppedBefore cause) up) refl before
+      (ends StoppedBefore cause (w.nodes x) of_machine traced)
+  given (Ends up cause of_machine (inr behind) traced) =
+      as_chosen cs w i x kind new did (chosen StoppedAfter cause)
+      (stops x (answer_to x (w.nodes x) inp).node) (stopped (answer_to x (w.nodes x) inp).node)
+      (runs (chosen StoppedAfter cause) up) refl behind
+      (ends StoppedAfter cause (answer_to x (w.nodes x) inp).node of_machine traced)
+  given (Rests off is traced) =
+      as_chosen cs w i x kind new did (chosen Answered Disk)
+      (answers x (down_answer (w.nodes x) inp)) (down_answer (w.nodes x) inp).node
+      (rests (chosen Answered Disk) off) refl
+      (subst (λ (n : Machine). StateRefines is_honest state new x n) (sym (rests_same inp)) is)
+      (tells (down_answer (w.nodes x) inp) traced)
+    where
+      rests_same : (inp : Input) → (down_answer (w.nodes x) inp).node ≡ w.nodes x
+      rests_same (input.Submit request batch) = refl
+      rests_same (input.Get request key at) = refl
+      rests_same (input.Forward epoch from number batch) = refl
+      rests_same (input.Ack epoch from committed have) = refl
+      rests_same input.Tick = refl

@@ -1,0 +1,379 @@
+-- A step of the lab's world is a step of the model's.
+use Rattle.std.proofs.Common.{◌≡◌, ℕ, ◌+◌, ◌≤◌, List, [], ◌∷◌, ◌++◌, length, get_or, slice_set}
+use Rattle.std.proofs.Common.{true}
+use Rattle.std.proofs.Common.{refl, sym, ap, subst, ◌∙◌, arith, append-nil}
+use Rattle.std.proofs.Math.Seq.{map-set_same}
+use Rattle.std.proofs.lemmas.List.{set-set, get_or_default}
+use Rattle.std.specs.Prelude.{All, Option, Some, None, MatchOption}
+use Rattle.std.proofs.lemmas.Bool.{false≢true}
+use Rattle.std.proofs.lemmas.Option.{MatchOption-at_none, MatchOption-at_some}
+use Rattle.std.specs.List.{AllZip, AllByRecursion}
+use Rattle.std.proofs.lemmas.List.Elements.{recursion_from_All, All-from_recursion}
+use Rattle.std.proofs.lemmas.Slice.Zip.{AllZip-long}
+use Rattle.kv_types.specs.declared.bounds.TheConstants.{MAX_NUMBER}
+use Rattle.kv_types.specs.Content.{BatchContent}
+use Rattle.disk.specs.declared.junk.Junk.{Junk}
+use Rattle.disk.specs.Memory.{Slots}
+use Rattle.chain_model.specs.Configuration.{Configurations, Lawful, AllDifferent, has}
+use Rattle.chain_model.specs.Configuration.{at_epoch}
+use Rattle.chain_model.specs.Frames.{Frame as ModelFrame}
+use Rattle.chain_model.specs.InOrder.{InOrder}
+use Rattle.chain_model.specs.World.{Event as ModelEvent, World, Outcome, Answered, reached}
+use Rattle.chain_model.specs.World.{beginning}
+use Rattle.chain_model.specs.World.{outcome, happens, after, nothing}
+use Rattle.node.specs.declared.node.Node.{Node}
+use Rattle.node.specs.declared.stop.Stop.TheVariants.{Disk}
+use Rattle.node.specs.Steps.{disk_of}
+use Rattle.chain_core.specs.States.{Machine}
+use Rattle.lab.specs.declared.node_state.NodeState.{NodeState}
+use Rattle.lab.specs.declared.node_state.NodeState.TheVariants.{Up, Down}
+use Rattle.lab.specs.declared.input.NodeInput.{NodeInput}
+use Rattle.lab.specs.declared.input.NodeInput.TheVariants as to_node
+use Rattle.lab.specs.declared.input.StepOutcome.{StepOutcome}
+use Rattle.lab.specs.declared.event.Event.{Event}
+use Rattle.lab.specs.declared.event.EventKind.{EventKind}
+use Rattle.lab.specs.declared.event.EventKind.TheVariants.{Submit, Get, Deliver, Tick, Start, Stop}
+use Rattle.lab.specs.declared.delivery.Posted.{Posted}
+use Rattle.lab.specs.declared.report.Line.{Line}
+use Rattle.lab.specs.declared.report.Line.TheVariants.{Nothing}
+use Rattle.lab.specs.declared.sim_node.SimNode.{SimNode}
+use Rattle.lab.specs.declared.world.World.{World as LabWorld}
+use Rattle.lab.specs.Events.{modelled, lines_of_event, NamesNode}
+use Rattle.lab.specs.SimNodes.{StateRefines, Choice, disk_in, is_honest, state, failures}
+use Rattle.lab.specs.Deliveries.{IsDeliveryOf, HasNoDelivery}
+use Rattle.lab.specs.Outcomes.{DiskFits, HasCrashed, OutcomeRefines, StateFollows}
+use Rattle.lab.specs.Outcomes.{input_junk, outcome_lines, sent_by}
+use Rattle.lab.specs.Disks.{junk_of, IsCrashOf}
+use Rattle.lab.specs.Traces.{modelled_from}
+use Rattle.lab.specs.Worlds.{PostedRefines, SimNodeRefines, HasNoNode, HasStepped, RunRefines}
+use Rattle.lab.specs.Worlds.{HasRun}
+use Rattle.lab.specs.Worlds.{HasApplied, HasPosted, IsIndexOf, StopsNode, Takes, events_in}
+use Rattle.lab.specs.Worlds.{frames_of_step}
+use Rattle.lab.proofs.Posting.{zip_both}
+use Rattle.lab.proofs.Deliveries.{refined, nothing_done, junk_same}
+use Rattle.lab.proofs.Disks.{MayRise, with_disk, all_follow, none_follow, follows, few_more}
+use Rattle.lab.proofs.Disks.{at_most_one}
+use Rattle.lab.proofs.SimNodes.{ids_of, has_at, has_one, refined_at}
+use Rattle.lab.proofs.Growing.{length-steps, grown, run-push}
+use Rattle.lab.proofs.Addressees.{IsNumbered, addressed, all_numbered, back, kept_all}
+
+-- the delivery that was found is that of the event, by the frames that are posted
+abbrev pub FitsDelivery : List Posted → ℕ → EventKind → Option (ℕ × NodeInput) → Type 0
+FitsDelivery posted i kind found = (frames : List (ModelFrame BatchContent)) →
+    AllZip PostedRefines posted frames → MatchOption found (HasNoDelivery frames kind)
+    (λ it. IsDeliveryOf frames i kind it.0 it.1)
+
+-- the number is the place of the event behind these
+pub record IsNext (events : List Event) (i : ℕ) : Type 0 where
+  pub at : i ≡ length events + 1
+  pub fits : i ≤ MAX_NUMBER
+
+-- an event's place is one more than there are steps
+pub place_of : (world : LabWorld) (cs : Configurations) (events : List Event)
+    (steps : List (List Line)) → HasRun world cs events steps → (n i : ℕ) →
+    n ≡ world.steps.len → n + 1 ≤ MAX_NUMBER → i ≡ n + 1 → IsNext events i
+place_of world cs events steps run n i long fits is = record {
+  at = omega (
+    arith,
+    is,
+    long,
+    world.steps.ok.0,
+    ap length run.kept,
+    length-steps cs events steps world.nodes.items world.frames.items run.made,
+  );
+  fits = subst (λ (k : ℕ). k ≤ MAX_NUMBER) (sym is) fits;
+}
+
+-- a running node that was stopped is down, and its disk is a crash of the one that it had
+crash_of : (junk : Junk) (own : Node Slots) (old new : NodeState Slots) → old ≡ Up own →
+    StateFollows is_honest state failures old (to_node.Stop junk) new →
+    IsCrashOf state failures junk (disk_of own) (disk_in new)
+crash_of junk own old new runs follows =
+    crashed new (subst (λ (m : NodeState Slots). StateFollows is_honest state failures m
+    (to_node.Stop junk) new) runs follows tt)
+  where
+    crashed : (left : NodeState Slots) → HasCrashed state failures junk (disk_of own) left →
+        IsCrashOf state failures junk (disk_of own) (disk_in left)
+    crashed (Up other) has = absurd has
+    crashed (Down disk) has = has
+
+-- the node at this index was replaced twice, by its new state in the end
+pub stepped : (old : List SimNode) (i x : ℕ) (between was was' now : SimNode)
+    (node_input : NodeInput) (did : StepOutcome) (posted more : List Posted) (lines : List Line) →
+    IsIndexOf old i x → was ≡ get_or old i was' → now.id ≡ x →
+    ((y : ℕ) (n : Machine) → StateRefines is_honest state was.state y n →
+    OutcomeRefines is_honest state y n node_input now.state did) →
+    DiskFits state failures (input_junk node_input) did (disk_in was.state) now.state →
+    StateFollows is_honest state failures was.state node_input now.state →
+    HasPosted posted (sent_by did) more → lines ≡ outcome_lines x (length posted) did →
+    HasStepped old posted x node_input lines (slice_set (slice_set old i between) i now) more
+stepped old i x between was was' now node_input did posted more lines at out id refines disk
+    follows sent traced =
+    let is : was ≡ get_or old i now = out ∙ get_or_default old i was' now at.within in
+    record {
+      index = i;
+      at = at;
+      sim = now;
+      others = set-set old i between now;
+      id = id;
+      did = did;
+      refines = λ y n r. refines y n
+          (subst (λ (s : SimNode). StateRefines is_honest state s.state y n) (sym is) r);
+      disk = subst (λ (s : SimNode). DiskFits state failures (input_junk node_input) did
+          (disk_in s.state) now.state) is disk;
+      follows = subst (λ (s : SimNode). StateFollows is_honest state failures s.state node_input
+          now.state) is follows;
+      sent = sent;
+      traced = traced;
+    }
+
+-- in every run frames are in order
+abbrev pub AlwaysInOrder : Type 0
+AlwaysInOrder = (cs : Configurations) (es : List (ModelEvent BatchContent)) → Lawful cs →
+    InOrder cs es
+
+module _ (in_order : AlwaysInOrder) (cs : Configurations) (events : List Event)
+    (steps : List (List Line)) (sims : List SimNode) (posted : List Posted)
+    (made : RunRefines sims posted cs events steps) (i : ℕ) (next : IsNext events i)
+    (event : Event) where
+  -- the world of the model so far
+  abbrev pub w : World BatchContent
+  w = reached cs (modelled_from 1 events made.choices)
+
+  -- what the event sends is numbered
+  sent_numbered : (choice : Choice) →
+      AllByRecursion IsNumbered (outcome w cs (modelled i event.kind choice)).frames
+  sent_numbered choice =
+      let more = modelled_from 1 (events ++ event ∷ []) (made.choices ++ choice ∷ []) in
+      let here = run-push cs event choice 1 i events made.choices (beginning cs)
+      made.trace.one_each (omega (arith, next.at)) in
+      back IsNumbered w.frames (outcome w cs (modelled i event.kind choice)).frames
+      (subst (λ (v : World BatchContent). AllByRecursion IsNumbered v.frames) here
+      (all_numbered cs more (in_order cs more made.lawful)))
+
+  -- the world has the node that an event is for
+  has_its_node : (x : ℕ) (node_input : NodeInput) → NamesNode cs event.kind →
+      IsDeliveryOf w.frames i event.kind x node_input → HasNoNode sims x → ⊥
+  has_its_node x node_input names brings none = has_one sims x
+      (subst (λ (c : List ℕ). has c x ≡ true) (sym made.nodes) (has_it event.kind names brings))
+      none
+    where
+      has_it : (kind : EventKind) → NamesNode cs kind → IsDeliveryOf w.frames i kind x node_input →
+          has (at_epoch cs 0) x ≡ true
+      has_it (Submit node batch) names brings =
+          subst (λ (y : ℕ). has (at_epoch cs 0) y ≡ true) (sym brings.0) names
+      has_it (Get node key at) names brings =
+          subst (λ (y : ℕ). has (at_epoch cs 0) y ≡ true) (sym brings.0) names
+      has_it (Deliver p) names brings =
+          let es = modelled_from 1 events made.choices in
+          addressed cs es (in_order cs es made.lawful) p x brings.it brings.frame
+          brings.there brings.same
+      has_it (Tick node) names brings =
+          subst (λ (y : ℕ). has (at_epoch cs 0) y ≡ true) (sym brings.0) names
+      has_it (Start node) names brings =
+          subst (λ (y : ℕ). has (at_epoch cs 0) y ≡ true) (sym brings.0) names
+      has_it (Stop node junk) names brings =
+          subst (λ (y : ℕ). has (at_epoch cs 0) y ≡ true) (sym brings.0) names
+
+  -- a step of the node refines one event more
+  refined_next : (x : ℕ) (node_input : NodeInput) (lines : List Line) (now : List SimNode)
+      (more : List Posted) → IsDeliveryOf w.frames i event.kind x node_input →
+      HasStepped sims posted x node_input lines now more →
+      RunRefines now more cs (events ++ event ∷ []) (steps ++ lines ∷ [])
+  refined_next x node_input lines now more brings t =
+      let sim = t.sim in
+      let all = recursion_from_All (SimNodeRefines w.nodes made.disks) sims made.each in
+      let old = get_or sims t.index sim in
+      let was : old.id ≡ x = t.at.id sim in
+      let before : StateRefines is_honest state old.state x (w.nodes x) =
+      subst (λ (y : ℕ). StateRefines is_honest state old.state y (w.nodes y)) was
+      (made.each t.index sim t.at.within).is in
+      let slots : disk_in old.state ≡ made.disks x =
+      (made.each t.index sim t.at.within).disk ∙ ap made.disks was in
+      let own = disk_in sim.state in
+      let left : DiskFits state failures (junk_of event.kind) t.did (made.disks x) sim.state =
+      subst (λ (d : Slots). DiskFits state failures (junk_of event.kind) t.did d sim.state) slots
+      (subst (λ (j : Option Junk). DiskFits state failures j t.did (disk_in old.state)
+      sim.state)
+      (junk_same w.frames i x event.kind node_input brings) t.disk) in
+      let few = made.few x in
+      let may : MayRise (made.disks x) = omega (arith, few, next.at, next.fits) in
+      let out = refined cs w i x sim.state t.did event.kind node_input brings
+      (t.refines x (w.nodes x) before) in
+      let o = outcome w cs (modelled i event.kind out.choice) in
+      let id : sim.id ≡ x = t.id in
+      let long = AllZip-long PostedRefines posted w.frames made.frames in
+      grown cs events steps sims posted made i event out.choice now more lines next.at (record {
+        traced = t.traced ∙ out.traced (length posted)
+            ∙ ap (λ n. lines_of_event n event.kind out.choice o) (sym long);
+        fits = record { cause = out.fits };
+        counted = ap frames_of_step t.traced ∙ out.counted (length posted);
+        frames = subst (λ (l : List Posted). AllZip PostedRefines l (w.frames ++ o.frames))
+            (sym t.sent.whole)
+            (zip_both PostedRefines posted t.sent.more w.frames o.frames made.frames
+            (kept_all t.sent.more (sent_by t.did) o.frames t.sent.each out.frames
+            (sent_numbered out.choice)));
+        nodes = ap ids_of t.others
+            ∙ map-set_same (λ (s : SimNode). s.id) sims t.index sim sim
+            (t.id ∙ sym was) ∙ made.nodes;
+        disks = with_disk made.disks x own;
+        follow = all_follow event out.choice o x out.node made.disks own out.came
+            (follows (made.disks x) sim.state may event out.choice o x out.node t.did out.is
+            out.ends left);
+        few = few_more made.disks x own (length events) i next.at made.few
+            (at_most_one (junk_of event.kind) t.did (made.disks x) sim.state left may);
+        each = subst (λ (l : List SimNode). All (SimNodeRefines (happens cs w
+            (modelled i event.kind out.choice)).nodes (with_disk made.disks x own)) l)
+            (sym t.others)
+            (All-from_recursion (SimNodeRefines (after w o).nodes (with_disk made.disks x own))
+            (slice_set sims t.index sim)
+            (refined_at w made.disks o x out.node own out.came sims t.index sim t.at.within
+            (subst (λ (c : List ℕ). AllDifferent c) (sym made.nodes) made.lawful.different)
+            was id out.is refl all));
+      })
+
+  -- the event of a step names a node of configuration 0, if it names one
+  named_next : (x : ℕ) (node_input : NodeInput) (lines : List Line) (now : List SimNode)
+      (more : List Posted) → IsDeliveryOf w.frames i event.kind x node_input →
+      HasStepped sims posted x node_input lines now more → NamesNode cs event.kind
+  named_next x node_input lines now more brings t = named event.kind brings
+    where
+      has_it : (node : ℕ) → x ≡ node → has (at_epoch cs 0) node ≡ true
+      has_it node same =
+          let sim = t.sim in
+          let id = (get_or sims t.index sim).id in
+          subst (λ (y : ℕ). has (at_epoch cs 0) y ≡ true) (t.at.id sim ∙ same)
+          (subst (λ (c : List ℕ). has c id ≡ true) made.nodes
+          (has_at sims t.index sim t.at.within))
+
+      named : (kind : EventKind) → IsDeliveryOf w.frames i kind x node_input → NamesNode cs kind
+      named (Submit node batch) brings = has_it node brings.0
+      named (Get node key at) brings = has_it node brings.0
+      named (Deliver p) brings = tt
+      named (Tick node) brings = has_it node brings.0
+      named (Start node) brings = has_it node brings.0
+      named (Stop node junk) brings = has_it node brings.0
+
+  -- a node that was stopped while it ran has a crash of its disk with the junk
+  stopped_next : (kind : EventKind) (x : ℕ) (node_input : NodeInput) (lines : List Line)
+      (now : List SimNode)
+      (more : List Posted) → IsDeliveryOf w.frames i kind x node_input →
+      HasStepped sims posted x node_input lines now more → StopsNode kind sims now
+  stopped_next (Stop node junk) x node_input lines now more brings t =
+      let sim = t.sim in
+      let old = get_or sims t.index sim in
+      record {
+        index = t.index;
+        at = subst (λ (y : ℕ). IsIndexOf sims t.index y) brings.0 t.at;
+        sim = sim;
+        others = t.others;
+        crashes = λ own runs. crash_of junk own old.state sim.state runs
+            (subst (λ (k : NodeInput). StateFollows is_honest state failures old.state k sim.state)
+            brings.1 t.follows);
+      }
+  stopped_next (Submit node batch) x node_input lines now more brings t = tt
+  stopped_next (Get node key at) x node_input lines now more brings t = tt
+  stopped_next (Deliver p) x node_input lines now more brings t = tt
+  stopped_next (Tick node) x node_input lines now more brings t = tt
+  stopped_next (Start node) x node_input lines now more brings t = tt
+
+  -- no frame has the place
+  nothing_next : HasNoDelivery w.frames event.kind →
+      RunRefines sims posted cs (events ++ event ∷ []) (steps ++ (Nothing ∷ []) ∷ [])
+  nothing_next brings =
+      let choice : Choice = record { went = Answered; cause = Disk } in
+      let none = nothing_done cs w i event.kind choice brings in
+      let same : after w nothing ≡ happens cs w (modelled i event.kind choice) =
+      ap (after w) (sym none) in
+      grown cs events steps sims posted made i event choice sims posted (Nothing ∷ []) next.at
+      (record {
+        traced = ap (lines_of_event (length w.frames) event.kind choice) (sym none);
+        fits = record {
+          cause = λ stops. absurd (false≢true
+              (ap (λ (o : Outcome BatchContent). o.stopped) (sym none) ∙ stops));
+        };
+        counted = ap (λ (o : Outcome BatchContent). length o.frames) (sym none);
+        frames = subst (λ (v : World BatchContent). AllZip PostedRefines posted v.frames) same
+            (subst (λ (l : List (ModelFrame BatchContent)). AllZip PostedRefines posted l)
+            (sym (append-nil w.frames)) made.frames);
+        nodes = made.nodes;
+        disks = made.disks;
+        follow = none_follow event choice (outcome w cs (modelled i event.kind choice)) made.disks
+            (ap (λ (o : Outcome BatchContent). o.came_to) none);
+        few = λ x. omega (arith, made.few x, next.at);
+        each = subst (λ (v : World BatchContent). All (SimNodeRefines v.nodes made.disks) sims) same
+            made.each;
+      })
+
+  -- the same, by what an event was found to bring
+  module _ (found : Option (ℕ × NodeInput)) (fits : FitsDelivery posted i event.kind found)
+    where
+      pub nothing_after : found ≡ None →
+          RunRefines sims posted cs (events ++ event ∷ []) (steps ++ (Nothing ∷ []) ∷ [])
+      nothing_after is = nothing_next (MatchOption-at_none (HasNoDelivery w.frames event.kind)
+          (λ it. IsDeliveryOf w.frames i event.kind it.0 it.1) is (fits w.frames made.frames))
+
+      -- .. and such an event names no node
+      pub nothing_named : found ≡ None → NamesNode cs event.kind
+      nothing_named is =
+          let brings = MatchOption-at_none (HasNoDelivery w.frames event.kind)
+          (λ it. IsDeliveryOf w.frames i event.kind it.0 it.1) is
+          (fits w.frames made.frames) in
+          subst (λ (kind : EventKind). NamesNode cs kind) (sym brings.1) tt
+
+      -- .. and stops none
+      pub nothing_stopped : found ≡ None → (now : List SimNode) → StopsNode event.kind sims now
+      nothing_stopped is now =
+          let brings = MatchOption-at_none (HasNoDelivery w.frames event.kind)
+          (λ it. IsDeliveryOf w.frames i event.kind it.0 it.1) is
+          (fits w.frames made.frames) in
+          subst (λ (kind : EventKind). StopsNode kind sims now) (sym brings.1) tt
+
+      module _ (it : ℕ × NodeInput) (is : found ≡ Some it) where
+        brings : IsDeliveryOf w.frames i event.kind it.0 it.1
+        brings = MatchOption-at_some (HasNoDelivery w.frames event.kind)
+            (λ it. IsDeliveryOf w.frames i event.kind it.0 it.1) it is
+            (fits w.frames made.frames)
+
+        pub node_after : NamesNode cs event.kind → HasNoNode sims it.0 → ⊥
+        node_after names none = has_its_node it.0 it.1 names brings none
+
+        pub named_after : (lines : List Line) (now : List SimNode) (more : List Posted) →
+            HasStepped sims posted it.0 it.1 lines now more → NamesNode cs event.kind
+        named_after lines now more t = named_next it.0 it.1 lines now more brings t
+
+        pub stopped_after : (lines : List Line) (now : List SimNode) (more : List Posted) →
+            HasStepped sims posted it.0 it.1 lines now more → StopsNode event.kind sims now
+        stopped_after lines now more t =
+            stopped_next event.kind it.0 it.1 lines now more brings t
+
+        pub refined_after : (lines : List Line) (now : List SimNode) (more : List Posted) →
+            HasStepped sims posted it.0 it.1 lines now more →
+            RunRefines now more cs (events ++ event ∷ []) (steps ++ lines ∷ [])
+        refined_after lines now more t = refined_next it.0 it.1 lines now more brings t
+
+-- a step of the node that an event is for applies the event
+pub applied_after : (in_order : AlwaysInOrder) (cs : Configurations) (events : List Event)
+    (steps : List (List Line)) (old new : LabWorld) (run : HasRun old cs events steps) (i : ℕ)
+    (next : IsNext events i) (event : Event) (found : Option (ℕ × NodeInput))
+    (fits : FitsDelivery old.frames.items i event.kind found) (it : ℕ × NodeInput) →
+    found ≡ Some it → (lines : List Line) → new.steps.items ≡ old.steps.items ++ lines ∷ [] →
+    events_in new.events.items ≡ events_in old.events.items ++ event ∷ [] →
+    HasStepped old.nodes.items old.frames.items it.0 it.1 lines new.nodes.items new.frames.items →
+    HasApplied old new cs events steps event
+applied_after in_order cs events steps old new run i next event found fits it is lines kept taken
+    t =
+    let sims = old.nodes.items in
+    let posted = old.frames.items in
+    let now = new.nodes.items in
+    let more = new.frames.items in
+    Takes (named_after in_order cs events steps sims posted run.made i next event found fits it is
+    lines now more t) lines
+    (record {
+      kept = kept ∙ ap (λ (a : List (List Line)). a ++ lines ∷ []) run.kept;
+      taken = taken ∙ ap (λ (l : List Event). l ++ event ∷ []) run.taken;
+      made = refined_after in_order cs events steps sims posted run.made i next event found fits it
+          is lines now more t;
+    })
+    (stopped_after in_order cs events steps sims posted run.made i next event found fits it is
+    lines now more t)

@@ -1,9 +1,0 @@
-use Rattle.std.proofs.Common.{List, take}
-use Rattle.lab.specs.declared.report.Line.{Line}
-use Rattle.lab.specs.Worlds.{HasRun}
-use Rattle.lab.proofs.whole.run.Given as goal
-
--- the world has taken so many events
-abbrev pub invariant-loop-event : goal.invariant-loop-event
-invariant-loop-event l =
-    (steps : List (List Line)) × HasRun l.world l.fn.configs (take l.event-index l.events) steps

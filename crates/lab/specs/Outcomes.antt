@@ -1,0 +1,225 @@
+-- The outcomes of a simulated node: the state that each input leaves, its disk and its lines.
+use Rattle.std.specs.Prelude.{◌≡◌, ◌⊎◌, ℕ, List, [], ◌∷◌, ◌++◌, length, map, Option}
+use Rattle.std.specs.Prelude.{Some, None, suc, true, false}
+use Rattle.kv_types.specs.Content.{BatchContent}
+use Rattle.disk.specs.declared.junk.Junk.{Junk}
+use Rattle.disk.specs.declared.junk.Junk.TheVariants.{Old}
+use Rattle.disk.specs.Calls.{Rises}
+use Rattle.disk.specs.Crashes.{Crashes}
+use Rattle.disk.specs.State.{State}
+use Rattle.chain_model.specs.Node.{Answer, dropped_for, refused, started, stopped}
+use Rattle.link_messages.specs.declared.frame.Frame.{Frame}
+use Rattle.link_messages.specs.declared.frame.Frame.TheVariants as frame
+use Rattle.chain_model.specs.declared.refusal.Refusal.TheVariants as refusal
+use Rattle.chain_model.specs.declared.drop_reason.DropReason.{DropReason}
+use Rattle.chain_model.specs.declared.drop_reason.DropReason.TheVariants as reason
+use Rattle.chain_core.specs.declared.input.Input.{Input}
+use Rattle.chain_core.specs.declared.input.Input.TheVariants as input
+use Rattle.chain_core.specs.declared.sending.Sent.{Sent}
+use Rattle.chain_core.specs.Decisions.{AreFrames, answer_to}
+use Rattle.chain_core.specs.States.{Machine}
+use Rattle.node.specs.declared.output.Output.{Output}
+use Rattle.node.specs.declared.output.Reply.TheVariants as reply
+use Rattle.node.specs.declared.stop.Stop.{Stop as Cause}
+use Rattle.node.specs.declared.stop.Stop.TheVariants.{Disk}
+use Rattle.node.specs.Steps.{replies_of, disk_of}
+use Rattle.node.specs.Stops.{IsOfMachine}
+use Rattle.lab.specs.declared.input.NodeInput.{NodeInput}
+use Rattle.lab.specs.declared.input.NodeInput.TheVariants as to_node
+use Rattle.lab.specs.declared.input.StepOutcome.{StepOutcome}
+use Rattle.lab.specs.declared.input.StepOutcome.TheVariants as done
+use Rattle.lab.specs.declared.node_state.NodeState.{NodeState}
+use Rattle.lab.specs.declared.node_state.NodeState.TheVariants.{Up, Down}
+use Rattle.lab.specs.declared.report.Line.{Line}
+use Rattle.lab.specs.declared.report.Line.TheVariants as line
+use Rattle.lab.specs.Disks.{IsCrashOf}
+use Rattle.lab.specs.Events.{dropped_lines}
+use Rattle.lab.specs.SimNodes.{StateRefines, IsDown, disk_in}
+
+-- ---- what a node answers
+
+-- the answer of a node that is down: a client is refused, all else is dropped
+abbrev pub down_answer : Machine → Input → Answer BatchContent
+down_answer n (input.Submit i batch) = refused n i refusal.NotRunning
+down_answer n (input.Get i key at) = refused n i refusal.NotRunning
+down_answer n (input.Forward epoch from number batch) = dropped_for n reason.NotRunning
+down_answer n (input.Ack epoch from committed have) = dropped_for n reason.NotRunning
+down_answer n input.Tick = dropped_for n reason.NotRunning
+
+-- the output has the drop, the frames and the replies of this answer of the machine
+pub record IsAnswer (inp : Input) (a : Answer BatchContent) (output : Output) : Type 0 where
+  pub dropped : output.dropped ≡ a.dropped
+  pub frames : AreFrames output.frames.items a.frames
+  pub replied : output.replies.items ≡ replies_of inp a.replies
+
+-- the input was dropped, and nothing else done
+pub record IsDrop (why : DropReason) (output : Output) : Type 0 where
+  pub dropped : output.dropped ≡ Some why
+  pub frames : output.frames.items ≡ []
+  pub replied : output.replies.items ≡ []
+
+-- request i was refused as the node is down, and nothing else done
+pub record IsRefusal (i : ℕ) (output : Output) : Type 0 where
+  pub dropped : output.dropped ≡ None
+  pub frames : output.frames.items ≡ []
+  pub replied : output.replies.items ≡ reply.Refused i refusal.NotRunning ∷ []
+
+-- the node answered, and such is the output
+abbrev pub HasAnswered : StepOutcome → (Output → Type 0) → Type 0
+HasAnswered did P = (output : Output) × (did ≡ done.Answered output) × P output
+
+-- ---- outcomes of node x, which was machine n, and the state that each leaves
+
+-- an input of a step: the node ran and answered; or it stopped by itself, for its device or for
+-- memory, as before the step or as after it; or it is down
+pub data HasHandled {D : Type 0} (is_honest : D → Type 0) (state : D → State) (x : ℕ) (n : Machine)
+    (inp : Input) (new : NodeState D) (did : StepOutcome) : Type 0 where
+  Answers : n.running ≡ true → StateRefines is_honest state new x (answer_to x n inp).node
+      → HasAnswered did (IsAnswer inp (answer_to x n inp))
+      → HasHandled is_honest state x n inp new did
+  Ends : n.running ≡ true → (cause : Cause) → IsOfMachine cause
+      → StateRefines is_honest state new x (stopped n)
+      ⊎ StateRefines is_honest state new x (stopped (answer_to x n inp).node)
+      → did ≡ done.Stopped (Some cause) → HasHandled is_honest state x n inp new did
+  Rests : n.running ≡ false → StateRefines is_honest state new x n
+      → HasAnswered did (IsAnswer inp (down_answer n inp))
+      → HasHandled is_honest state x n inp new did
+
+-- a node was started: it runs as the machine that was started, or could not, for its device or for
+-- memory; or it ran
+pub data HasStarted {D : Type 0} (is_honest : D → Type 0) (state : D → State) (x : ℕ)
+    (n : Machine) (new : NodeState D) (did : StepOutcome) : Type 0 where
+  Starts : n.running ≡ false → StateRefines is_honest state new x (started x n)
+      → did ≡ done.Started n.epoch (length n.list) (started x n).committed
+      → HasStarted is_honest state x n new did
+  Fails : n.running ≡ false → (cause : Cause) → IsOfMachine cause
+      → StateRefines is_honest state new x (stopped n)
+      → did ≡ done.Stopped (Some cause) → HasStarted is_honest state x n new did
+  RunsOn : n.running ≡ true → StateRefines is_honest state new x n →
+      HasAnswered did (IsDrop reason.Running)
+      → HasStarted is_honest state x n new did
+
+-- a node was stopped: it is down, or was
+pub data HasStopped {D : Type 0} (is_honest : D → Type 0) (state : D → State) (x : ℕ)
+    (n : Machine) (new : NodeState D) (did : StepOutcome) : Type 0 where
+  Stops : n.running ≡ true → StateRefines is_honest state new x (stopped n) →
+      did ≡ done.Stopped None
+      → HasStopped is_honest state x n new did
+  RestsOn : n.running ≡ false → StateRefines is_honest state new x n →
+      HasAnswered did (IsDrop reason.NotRunning)
+      → HasStopped is_honest state x n new did
+
+-- what is no frame between nodes is dropped, for this reason if the node runs
+pub data HasDropped {D : Type 0} (is_honest : D → Type 0) (state : D → State) (x : ℕ) (n : Machine)
+    (why : DropReason) (new : NodeState D) (did : StepOutcome) : Type 0 where
+  Drops : n.running ≡ true → StateRefines is_honest state new x n → HasAnswered did (IsDrop why)
+      → HasDropped is_honest state x n why new did
+  DropsResting : n.running ≡ false → StateRefines is_honest state new x n
+      → HasAnswered did (IsDrop reason.NotRunning)
+      → HasDropped is_honest state x n why new did
+
+-- this input left node x, which was machine n, in this state with this outcome
+abbrev pub OutcomeRefines : {D : Type 0} → (D → Type 0) → (D → State) → ℕ → Machine → NodeInput
+    → NodeState D
+    → StepOutcome → Type 0
+OutcomeRefines is_honest state x n (to_node.Step inp) new did =
+    HasHandled is_honest state x n inp new did
+OutcomeRefines is_honest state x n (to_node.BadFrame why) new did =
+    HasDropped is_honest state x n why new did
+OutcomeRefines is_honest state x n to_node.Start new did = HasStarted is_honest state x n new did
+OutcomeRefines is_honest state x n (to_node.Stop junk) new did =
+    HasStopped is_honest state x n new did
+
+-- ---- the disk behind an outcome
+
+-- the junk of an input that stops a node
+abbrev pub input_junk : NodeInput → Option Junk
+input_junk (to_node.Stop junk) = Some junk
+input_junk (to_node.Step inp) = None
+input_junk (to_node.BadFrame why) = None
+input_junk to_node.Start = None
+
+-- no call of the disk failed, and a node that is down has the same one
+pub record DiskStays {D : Type 0} (failures : D → ℕ) (old : D) (new : NodeState D) : Type 0 where
+  pub count : failures (disk_in new) ≡ failures old
+  pub same : IsDown new → disk_in new ≡ old
+
+-- a node that was stopped is down, and its disk crashed with this junk
+abbrev pub HasCrashed : {D : Type 0} → (D → State) → (D → ℕ) → Junk → D → NodeState D → Type 0
+HasCrashed state failures junk old (Up node) = ⊥
+HasCrashed state failures junk old (Down disk) = IsCrashOf state failures junk old disk
+
+abbrev pub HasCrashedWith : {D : Type 0} → (D → State) → (D → ℕ) → Option Junk → D → NodeState D
+    → Type 0
+HasCrashedWith state failures (Some junk) old new = HasCrashed state failures junk old new
+HasCrashedWith state failures None old new = ⊥
+
+-- a node stopped by itself: a call of the disk failed if that is the cause, and else none; what was
+-- left of the disk crashed so that each file is as it was synced
+pub record DiskEnds {D : Type 0} (state : D → State) (failures : D → ℕ) (cause : Cause)
+    (old new : D) : Type 0 where
+  pub failed : cause ≡ Disk → Rises (failures old) (failures new)
+  pub others : (cause ≡ Disk → ⊥) → failures new ≡ failures old
+  pub left : State
+  pub crashes : Crashes Old left (state new)
+
+-- the disk that a node had and the one behind its outcome
+abbrev pub DiskFits : {D : Type 0} → (D → State) → (D → ℕ) → Option Junk → StepOutcome → D
+    → NodeState D
+    → Type 0
+DiskFits state failures junk (done.Answered output) old new = DiskStays failures old new
+DiskFits state failures junk (done.Started epoch count committed) old new =
+    DiskStays failures old new
+DiskFits state failures junk (done.Stopped None) old new =
+    HasCrashedWith state failures junk old new
+DiskFits state failures junk (done.Stopped (Some cause)) old new =
+    DiskEnds state failures cause old (disk_in new)
+
+-- ---- the state behind an input, whatever the machine
+
+-- an input that the node ignores leaves its state as it was, and one that stops a running node
+-- leaves a crash of its disk with the junk
+abbrev pub StateFollows : {D : Type 0} → (D → Type 0) → (D → State) → (D → ℕ) → NodeState D
+    → NodeInput → NodeState D → Type 0
+StateFollows is_honest state failures (Up node) (to_node.Step inp) new = Unit {0}
+StateFollows is_honest state failures (Up node) (to_node.BadFrame why) new = new ≡ Up node
+StateFollows is_honest state failures (Up node) to_node.Start new = new ≡ Up node
+StateFollows is_honest state failures (Up node) (to_node.Stop junk) new =
+    is_honest (disk_of node) → HasCrashed state failures junk (disk_of node) new
+StateFollows is_honest state failures (Down disk) (to_node.Step inp) new = new ≡ Down disk
+StateFollows is_honest state failures (Down disk) (to_node.BadFrame why) new = new ≡ Down disk
+StateFollows is_honest state failures (Down disk) to_node.Start new = Unit {0}
+StateFollows is_honest state failures (Down disk) (to_node.Stop junk) new = new ≡ Down disk
+
+-- ---- the lines of an outcome
+
+-- the frames that a node sent
+abbrev pub sent_by : StepOutcome → List Sent
+sent_by (done.Answered output) = output.frames.items
+sent_by (done.Started epoch count committed) = []
+sent_by (done.Stopped cause) = []
+
+-- the line of a frame that was sent, with its place among all, from 1. (Nodes send these two.)
+abbrev pub sent_as : ℕ → ℕ → Frame → Line
+sent_as p to (frame.Forward epoch from number batch) = line.Forwarded p from to epoch number
+sent_as p to (frame.Ack epoch from committed have) =
+    line.Acknowledged p from to epoch committed have
+sent_as p to _ = line.Dropped reason.NotForNodes
+
+abbrev pub sent_line : ℕ → Sent → Line
+sent_line p sent = sent_as p sent.to sent.frame
+
+-- the frames that are sent after so many others
+abbrev pub sent_lines : ℕ → List Sent → List Line
+sent_lines before [] = []
+sent_lines before (sent ∷ more) = sent_line (suc before) sent ∷ sent_lines (suc before) more
+
+-- the lines of an outcome of node x, after so many frames
+abbrev pub outcome_lines : ℕ → ℕ → StepOutcome → List Line
+outcome_lines x before (done.Answered output) =
+    dropped_lines output.dropped
+    ++ (sent_lines before output.frames.items
+    ++ map (λ reply. line.Replied reply) output.replies.items)
+outcome_lines x before (done.Started epoch count committed) =
+    line.Started x epoch count committed ∷ []
+outcome_lines x before (done.Stopped cause) = line.Stopped x cause ∷ []

@@ -1,0 +1,72 @@
+// The inputs of a simulated node, and the outcomes of its steps.
+ghost use Rattle.std.specs.Prelude.{IfOk};
+ghost use Rattle.chain_core.specs.States.{Machine};
+ghost use Rattle.lab.specs.Outcomes.{IsAnswer, IsDrop, IsRefusal, down_answer};
+
+use configurations::Epoch;
+use disk::Junk;
+use kv_types::Number;
+use link_messages::Refusal;
+use node::{DropReason, Input, Output, Reply, Stop};
+use std::alloc::{AllocError, Global};
+
+/// What an event delivers to a node.
+#[derive(Drop)]
+pub enum NodeInput {
+    Step(Input),
+    /// No frame between nodes, and the reason to drop it.
+    BadFrame(DropReason),
+    Start,
+    /// The machine stops, and its disk crashes.
+    Stop(Junk),
+}
+
+/// How a step of a node ended.
+#[derive(Drop)]
+pub enum StepOutcome {
+    Answered(Output),
+    Started {
+        epoch: Epoch,
+        count: Number,
+        committed: Number,
+    },
+    /// It stopped: for the event's sake, or by itself and then for this cause.
+    Stopped(Option<Stop>),
+}
+
+/// The output of a node that drops its input.
+pub fn dropped(alloc: Global, why: DropReason) -> Output
+    ensures { IsDrop why result }
+{
+    Output {
+        dropped: Some(why),
+        frames: Vec::new(alloc),
+        replies: Vec::new(alloc),
+    }
+}
+
+// The output of a node that is down, to a request.
+fn refused(alloc: Global, request: Number) -> Result<Output, AllocError>
+    ensures { IfOk result (IsRefusal request) }
+{
+    let refusal = Refusal::NotRunning;
+    let mut replies = Vec::new(alloc);
+    replies.push(Reply::Refused { request, refusal })?;
+    Ok(Output {
+        dropped: None,
+        frames: Vec::new(alloc),
+        replies,
+    })
+}
+
+/// The output of a node that is down: a client is refused, all else is dropped.
+pub fn output_down(alloc: Global, input: &Input) -> Result<Output, AllocError>
+    ensures { (n : Machine) → IfOk result (IsAnswer input.now (down_answer n input.now)) }
+{
+    match input {
+        Input::Submit { request, .. } | Input::Get { request, .. } => refused(alloc, *request),
+        Input::Forward { .. } | Input::Ack { .. } | Input::Tick => {
+            Ok(dropped(alloc, DropReason::NotRunning))
+        }
+    }
+}

@@ -1,0 +1,14 @@
+use Rattle.std.proofs.Common.{rules}
+use Rattle.program.proofs.Beginnings.{not_read, of_reading}
+use Rattle.program.proofs.run_input.input_script.Goals as goal
+
+pub returns-in_err-text-clause-fault : goal.returns-in_err-text-clause-fault
+returns-in_err-text-clause-fault g c =
+    let failed = not_read (g.R.Read.remaining c.args.input.now) c.in_err-text.field-0.0
+    c.in_err-text.ensures.cause in
+    search (rules, failed)
+
+pub returns-in_err-text-clause-cause : goal.returns-in_err-text-clause-cause
+returns-in_err-text-clause-cause g c =
+    let failed = of_reading c.in_err-text.field-0.0 c.in_err-text.ensures.cause in
+    search (rules, failed)

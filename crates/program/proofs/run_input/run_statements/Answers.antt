@@ -1,0 +1,34 @@
+use Rattle.std.proofs.Common.{subst, sym, arith, add-one, drop}
+use Rattle.program.specs.declared.script.statement.Statement.{Statement}
+use Rattle.program.specs.Scripts.{Names}
+use Rattle.program.proofs.Flowing.{goes_next, gone, drop_past}
+use Rattle.program.proofs.run_input.run_statements.Goals as goal
+
+pub loop-statement-preserved : goal.loop-statement-preserved
+loop-statement-preserved c =
+    let cs = c.args.setup.now.configs in
+    let all = c.args.statements.now in
+    let i = c.loop-statement.statement-index in
+    let g = c.loop-statement.invariant in
+    let it = c.statement-item.result in
+    let names = subst (λ (x : Statement). Names cs x.action) (sym c.statement-item.is)
+    (c.requires i _ c.loop-statement-test.true) in
+    let took = c.in_ok-run.ensures cs g.events g.steps g.run names in
+    rw (add-one, c.in_ok-push.ensures.items) (goes_next c.loop-statement.course.world
+    c.run.new.self.world cs c.loop-statement.course.left.items c.run.new.self.left.items all i
+    _ it c.loop-statement.turns.items c.in_ok-run.field-0 c.loop-statement-test.true
+    c.statement-item.is g took.0 took.1 took.2 took.3 took.4)
+
+pub returns : goal.returns
+returns c =
+    let setup = c.args.setup.now in
+    let all = c.args.statements.now in
+    let i = c.loop-statement.statement-index in
+    let g = c.loop-statement.invariant in
+    let made = c.in_ok-report.ensures in
+    gone c.loop-statement.course.world setup c.loop-statement.course.left.items all (drop i all)
+    c.loop-statement.turns.items c.in_ok-report.report g
+    (drop_past all i (omega (arith, c.loop-statement-test.false)))
+    (made.steps setup.configs g.events g.steps g.run)
+    (made.run setup.configs g.events g.steps g.run)
+    (made.history setup.configs g.events g.steps g.run)

@@ -1,9 +1,0 @@
-use Rattle.std.proofs.Common.{drop}
-use Rattle.program.proofs.Flowing.{Goes}
-use Rattle.program.proofs.running.run_all.Given as goal
-
--- the statements so far ran, and with those that are left make the whole
-abbrev pub invariant-loop-statement : goal.invariant-loop-statement
-invariant-loop-statement l =
-    Goes l.course.world l.setup.configs l.course.left.items (drop l.statement-index l.statements)
-    l.statements l.turns.items

@@ -1,0 +1,10 @@
+use Rattle.std.proofs.Common.{rules}
+use Rattle.program.proofs.Edits.{is_put}
+use Rattle.program.proofs.script.edit.raw_edit_of.Goals as goal
+
+pub returns : goal.returns
+returns c = search (
+  rules,
+  is_put c.args.word.now c.in-Some-3.key.items c.in-Some-4.value.items
+      c.in-Some-place_of_equals.place,
+)

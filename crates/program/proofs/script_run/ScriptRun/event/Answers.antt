@@ -1,0 +1,27 @@
+use Rattle.std.proofs.Common.{◌++◌}
+use Rattle.lab.specs.Worlds.{frames_told, frames_of_step}
+use Rattle.program.specs.ScriptRuns.{places_after}
+use Rattle.program.proofs.Flowing.{left_as, left_delivered}
+use Rattle.program.proofs.script_run.ScriptRun.event.Goals as goal
+
+pub returns-in-Deliver : goal.returns-in-Deliver
+returns-in-Deliver c = λ cs events steps run named.
+    let gave = rw c.in_ok-clone.ensures at c.in_ok-step.ensures in
+    let went = gave cs events steps run named in (
+      went.0,
+      went.1,
+      left_delivered c.args.kind.now c.in-Deliver.place (c.args.self.now.left.items
+          ++ places_after (frames_told steps) (frames_of_step went.0)) c.step.new.self.left.items _
+          c.in-Deliver.is went.2 c.remove_place.ensures,
+    )
+
+pub returns-in_default : goal.returns-in_default
+returns-in_default c = λ cs events steps run named.
+    let gave = rw c.in_ok-clone.ensures at c.in_ok-step.ensures in
+    let went = gave cs events steps run named in (
+      went.0,
+      went.1,
+      left_as c.args.kind.now (c.args.self.now.left.items
+          ++ places_after (frames_told steps) (frames_of_step went.0)) c.step.new.self.left.items
+          c.in_default.not-Deliver went.2,
+    )

@@ -1,0 +1,51 @@
+-- What a statement comes to: its event, or the first thing wrong with its keys, values or batch.
+use Rattle.std.specs.Prelude.{ℕ, ◌==◌, nat_lt, if◌then◌else◌, List, [], ◌∷◌, length}
+use Rattle.std.specs.Prelude.{Option, Some, None}
+use Rattle.std.specs.Option.{option_map_or, option_or}
+use Rattle.kv_types.specs.declared.bounds.TheConstants.{MAX_KEY, MAX_VALUE, MAX_EDITS, MAX_BATCH}
+use Rattle.kv_types.specs.declared.edit.Edit.{Edit}
+use Rattle.kv_types.specs.declared.edit.Edit.TheVariants.{Put, Delete}
+use Rattle.kv_types.specs.declared.error.KvError.{KvError}
+use Rattle.kv_types.specs.declared.error.KvError.TheVariants.{KeyTooLong, ValueTooLong, NoEdits}
+use Rattle.kv_types.specs.declared.error.KvError.TheVariants.{TooManyEdits, BatchTooLong}
+use Rattle.kv_types.specs.Spelling.{spelling}
+use Rattle.lab.specs.declared.event.EventKind.{EventKind}
+use Rattle.lab.specs.declared.event.EventKind.TheVariants.{Submit, Get, Deliver, Tick, Start, Stop}
+use Rattle.program.specs.declared.script.statement.Action.{Action}
+use Rattle.program.specs.declared.script.statement.Action.TheVariants.{Event, Invalid}
+
+abbrev pub key_error : List ℕ → Option KvError
+key_error key = if nat_lt MAX_KEY (length key) then Some KeyTooLong else None
+
+abbrev pub value_error : List ℕ → Option KvError
+value_error value = if nat_lt MAX_VALUE (length value) then Some ValueTooLong else None
+
+-- of an edit, the key comes before the value
+abbrev pub edit_error : Edit → Option KvError
+edit_error (Put key value) = option_or (key_error key) (value_error value)
+edit_error (Delete key) = key_error key
+
+-- the first error of the edits in order
+abbrev pub edits_error : List Edit → Option KvError
+edits_error [] = None
+edits_error (edit ∷ edits) = option_or (edit_error edit) (edits_error edits)
+
+-- what is wrong with the edits as one batch
+abbrev pub size_error : List Edit → Option KvError
+size_error edits =
+    if length edits == 0 then Some NoEdits else
+    if nat_lt MAX_EDITS (length edits) then Some TooManyEdits else
+    if nat_lt MAX_BATCH (length (spelling edits)) then Some BatchTooLong else None
+
+-- the first error of a statement, that of the batch last
+abbrev pub error_of : EventKind → Option KvError
+error_of (Submit node edits) = option_or (edits_error edits) (size_error edits)
+error_of (Get node key at) = key_error key
+error_of (Deliver place) = None
+error_of (Tick node) = None
+error_of (Start node) = None
+error_of (Stop node junk) = None
+
+-- a statement with an error is no event
+abbrev pub action_of : EventKind → Action
+action_of what = option_map_or (λ e. Invalid e) (error_of what) (Event what)

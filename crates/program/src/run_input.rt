@@ -1,0 +1,123 @@
+//! From a script's bytes to the bytes that are printed.
+ghost use Rattle.std.specs.Prelude.{◌≡◌, All, IfOk, IfErr, IfSome, OnOk};
+ghost use Rattle.std.specs.Prelude.{None};
+ghost use Rattle.std.specs.Io.KnownBytes.{Appends};
+ghost use Rattle.program.specs.Scripts.{script_lines, IsScript, Names};
+ghost use Rattle.program.specs.Faults.{script_fault, start};
+ghost use Rattle.program.specs.Text.{event_lines, run_text};
+ghost use Rattle.program.specs.Failures.{IsOfReading, IsFailureOf};
+ghost use Rattle.program.specs.Runs.{HasRunStatements, IsRunOf, IsRunOfText};
+ghost use Rattle.program.specs.Runs.{RunHasFailed, AppendsPart};
+ghost use Rattle.program.specs.declared.run_error.RunError.TheVariants as error;
+
+use crate::failure::Failure;
+use crate::reading;
+use crate::run_error::RunError;
+use crate::script::{Script, Setup, Statement, read_script};
+use crate::script_run::ScriptRun;
+use crate::statement_result::StatementResult;
+use crate::text::{event_places, print_run};
+use crate::writing::write_whole;
+use lab::{LabError, Lines, Report};
+use std::alloc::Global;
+use std::io::{Read, Write};
+
+/// Runs the statements one after another, each in its turn.
+fn run_statements(
+    alloc: Global,
+    setup: &Setup,
+    statements: &[Statement],
+) -> Result<(Vec<StatementResult>, Report), LabError>
+    requires { All (λ it. Names setup.now.configs it.action) statements.now }
+    ensures { IfOk result (λ it. HasRunStatements setup.now statements.now it.0.items it.1) }
+{
+    let mut course = ScriptRun::new(alloc, &setup.configs, &setup.limits)?;
+    let mut turns = Vec::new(alloc);
+    for statement in statements {
+        turns.push(course.run(alloc, statement)?)?;
+    }
+    let report = course.world.finish(alloc)?;
+    Ok((turns, report))
+}
+
+/// The text of a run. It is made whole before any of it is written.
+fn text_of_run(
+    alloc: Global,
+    turns: &[StatementResult],
+    steps: &[Lines],
+) -> Result<Vec<u8>, RunError>
+    ensures text { IfOk result (λ text. text.items ≡ run_text turns.now steps.now) }
+    ensures cause { IfErr result (λ e. e ≡ error.Memory) }
+{
+    let places = event_places(alloc, turns)?;
+    let mut text = Vec::new(alloc);
+    match print_run(&places, turns, steps, &mut text) {
+        Ok(()) => Ok(text),
+        // Bytes that are kept need nothing but memory.
+        Err(_) => Err(RunError::Memory),
+    }
+}
+
+/// Writes a text, and all of it has then left the writer.
+fn print<W: Write>(text: &[u8], out: &mut W) -> Result<(), RunError>
+    ensures whole { OnOk result (Appends (W.contents out.old) (W.contents out.new) text.now) }
+    ensures part { AppendsPart (W.contents out.old) (W.contents out.new) text.now }
+    ensures cause { IfErr result (λ e. e ≡ error.Write) }
+{
+    write_whole(text, out)?;
+    match out.flush() {
+        Ok(()) => Ok(()),
+        Err(_) => Err(RunError::Write),
+    }
+}
+
+/// Runs a script at the nodes of its first configuration, and writes what happened.
+fn run_script<W: Write>(alloc: Global, script: &Script, out: &mut W) -> Result<(), RunError>
+    requires { All (λ it. Names script.now.setup.configs it.action) script.now.statements.items }
+    ensures run { OnOk result (IsRunOf script.now.setup script.now.statements.items
+        (Appends (W.contents out.old) (W.contents out.new))) }
+    ensures untouched { IfErr result (λ e. e ≡ error.Memory →
+        W.contents out.new ≡ W.contents out.old) }
+    ensures part { IfErr result (λ e. e ≡ error.Write →
+        IsRunOf script.now.setup script.now.statements.items
+        (AppendsPart (W.contents out.old) (W.contents out.new))) }
+{
+    let (turns, report) = run_statements(alloc, &script.setup, &script.statements)?;
+    let text = text_of_run(alloc, &turns, &report.steps)?;
+    print(&text, out)
+}
+
+/// The script that is read.
+fn input_script<R: Read>(alloc: Global, input: &mut R) -> Result<Script, Failure>
+    ensures found { IfOk result (λ script. IfSome (R.remaining input.old) (λ text.
+        IsScript 1 (script_lines text) script.setup script.statements.items)) }
+    ensures lawful { OnOk result (IfSome (R.remaining input.old) (λ text.
+        script_fault start 1 (script_lines text) ≡ None)) }
+    ensures fault { IfErr result (λ failure. IfSome (R.remaining input.old) (λ text.
+        IsFailureOf text failure)) }
+    ensures cause { IfErr result IsOfReading }
+    ensures node { IfOk result (λ script.
+        All (λ it. Names script.setup.configs it.action) script.statements.items) }
+{
+    let text = reading::script_text(alloc, input)?;
+    match read_script(alloc, &text) {
+        Ok(script) => Ok(script),
+        Err(fault) => Err(Failure::Script(fault)),
+    }
+}
+
+/// Reads a script whole, runs it, and writes what happened.
+pub fn run_input<R: Read, W: Write>(
+    alloc: Global,
+    input: &mut R,
+    out: &mut W,
+) -> Result<(), Failure>
+    ensures run { OnOk result (IsRunOfText (R.remaining input.old)
+        (Appends (W.contents out.old) (W.contents out.new))) }
+    ensures failed { IfErr result
+        (RunHasFailed (R.remaining input.old) (W.contents out.old) (W.contents out.new)) }
+{
+    let script = input_script(alloc, input)?;
+    run_script(alloc, &script, out)?;
+    Ok(())
+}

@@ -1,0 +1,99 @@
+//! What a statement asks for: an event, all frames that are left, or nothing valid.
+ghost use Rattle.std.specs.Prelude.{◌≡◌, None, Some, map, IfOk, MatchResult};
+ghost use Rattle.std.specs.Option.{option_or};
+ghost use Rattle.lab.specs.Events.{node_in};
+ghost use Rattle.program.specs.Edits.{edit_of};
+ghost use Rattle.program.specs.Actions.{key_error, value_error, edit_error, edits_error};
+ghost use Rattle.program.specs.Actions.{size_error, action_of};
+ghost use Rattle.program.specs.Reading.{what_of};
+
+use super::command::{Bytes, Command, RawEdit, RawEdits};
+use super::statement::Action;
+use kv_types::{Batch, Edit, Key, KvError, Value};
+use lab::{NodeId, EventKind};
+use std::alloc::{AllocError, Global};
+
+fn key_of(bytes: Bytes) -> Result<Key, KvError>
+    ensures { MatchResult result (λ key. (key_error bytes ≡ None) × (key ≡ bytes))
+        (λ e. key_error bytes ≡ Some e) }
+{
+    Key::new(bytes.into_vec())
+}
+
+fn value_of(bytes: Bytes) -> Result<Value, KvError>
+    ensures { MatchResult result (λ value. (value_error bytes ≡ None) × (value ≡ bytes))
+        (λ e. value_error bytes ≡ Some e) }
+{
+    Value::new(bytes.into_vec())
+}
+
+/// The edit that a change makes. A key's error comes before its value's.
+fn edit(change: RawEdit) -> Result<Edit, KvError>
+    ensures { MatchResult result
+        (λ edit. (edit_error (edit_of change) ≡ None) × (edit ≡ edit_of change))
+        (λ e. edit_error (edit_of change) ≡ Some e) }
+{
+    match change {
+        RawEdit::Put(key, value) => {
+            let key = key_of(key)?;
+            let value = value_of(value)?;
+            Ok(Edit::Put(key, value))
+        }
+        RawEdit::Delete(key) => Ok(Edit::Delete(key_of(key)?)),
+    }
+}
+
+/// The edits that changes make, or the first error of one of them.
+fn edits(alloc: Global, changes: RawEdits) -> Result<Result<Vec<Edit>, KvError>, AllocError>
+    ensures { IfOk result (λ made. MatchResult made
+        (λ edits. (edits_error changes ≡ None) × (edits.items ≡ changes))
+        (λ e. edits_error changes ≡ Some e)) }
+{
+    let mut edits = Vec::new(alloc);
+    for change in changes.into_vec() {
+        match edit(change) {
+            Ok(edit) => edits.push(edit)?,
+            Err(e) => return Ok(Err(e)),
+        }
+    }
+    Ok(Ok(edits))
+}
+
+/// The batch that edits make, if they may be one.
+fn batch(edits: Vec<Edit>) -> Result<Batch, KvError>
+    ensures { MatchResult result
+        (λ batch. (size_error edits.items ≡ None) × (batch ≡ edits.items))
+        (λ e. size_error edits.items ≡ Some e) }
+{
+    Batch::new(edits)
+}
+
+fn submit(alloc: Global, node: NodeId, changes: RawEdits) -> Result<Action, AllocError>
+    ensures { IfOk result (λ action. action ≡ action_of (EventKind.Submit node changes)) }
+{
+    let edits = match edits(alloc, changes)? {
+        Ok(edits) => edits,
+        Err(e) => return Ok(Action::Invalid(e)),
+    };
+    match batch(edits) {
+        Ok(batch) => Ok(Action::Event(EventKind::Submit { node, batch })),
+        Err(e) => Ok(Action::Invalid(e)),
+    }
+}
+
+/// What comes of a statement that names this node.
+pub fn action(alloc: Global, node: NodeId, command: Command) -> Result<Action, AllocError>
+    requires { node_in (what_of command) ≡ Some node }
+    ensures { IfOk result (λ action. action ≡ action_of (what_of command)) }
+{
+    match command {
+        Command::Submit(_, changes) => submit(alloc, node, changes),
+        Command::Get(_, key, at) => match key_of(key) {
+            Ok(key) => Ok(Action::Event(EventKind::Get { node, key, at })),
+            Err(e) => Ok(Action::Invalid(e)),
+        },
+        Command::Tick(_) => Ok(Action::Event(EventKind::Tick { node })),
+        Command::Stop(_, junk) => Ok(Action::Event(EventKind::Stop { node, junk })),
+        Command::Start(_) => Ok(Action::Event(EventKind::Start { node })),
+    }
+}

@@ -1,0 +1,157 @@
+//! A run of statements: the events of each, one after another.
+ghost use Rattle.std.specs.Prelude.{◌≡◌, ℕ, List, [], ◌∷◌, ◌++◌, length, map, take, drop};
+ghost use Rattle.std.specs.Prelude.{OnOk, IfOk, ◌+◌, ◌-◌};
+ghost use Rattle.lab.specs.Configuration.{Configurations};
+ghost use Rattle.lab.specs.Node.{without};
+ghost use Rattle.lab.specs.declared.event.Event.{Event as LabEvent};
+ghost use Rattle.lab.specs.declared.report.Line.{Line};
+ghost use Rattle.lab.specs.Events.{NamesNode};
+ghost use Rattle.lab.specs.Worlds.{HasRun, frames_told, frames_of_step};
+ghost use Rattle.program.specs.ScriptRuns.{event, deliveries, left_after, left_after_event};
+ghost use Rattle.program.specs.ScriptRuns.{IsResult, places_after, most};
+ghost use Rattle.program.specs.Scripts.{Names};
+
+use crate::script::{Action, Statement};
+use crate::statement_result::{Note, StatementResult};
+use kv_types::Limits;
+use lab::{Configs, Event, Fault, LabError, EventKind, World};
+use std::alloc::{AllocError, Global};
+use std::collections::VecDeque;
+
+/// The most frames that one flow delivers.
+const MOST: usize = 10000;
+
+/// A run of statements so far: the world, and the places of the frames that no statement has
+/// delivered yet.
+#[derive(Drop)]
+pub struct ScriptRun {
+    pub world: World,
+    pub left: VecDeque<u64>,
+}
+
+// The places of the frames that were sent between.
+fn add_places(left: &mut VecDeque<u64>, before: u64, now: u64) -> Result<(), AllocError>
+    ensures { OnOk result
+        (left.new.items ≡ left.old.items ++ places_after before (now - before)) }
+{
+    for sent in before..now {
+        left.push_back(sent + 1)?;
+    }
+    Ok(())
+}
+
+// A place that is there is left out.
+fn remove_place(left: &mut VecDeque<u64>, place: u64)
+    ensures { left.new.items ≡ without place left.old.items }
+{
+    for index in 0..left.len() {
+        if left[index] == place {
+            left.remove(index);
+            return;
+        }
+    }
+}
+
+impl ScriptRun {
+    pub fn new(alloc: Global, configs: &Configs, limits: &Limits) -> Result<ScriptRun, LabError>
+        ensures run { IfOk result (λ course. HasRun course.world configs.now [] []) }
+        ensures left { IfOk result (λ course. course.left.items ≡ []) }
+    {
+        Ok(ScriptRun {
+            world: World::new(alloc, configs, limits)?,
+            left: VecDeque::new(alloc),
+        })
+    }
+
+    // An event happens, and the frames that it sends are left to be delivered.
+    fn step(&mut self, alloc: Global, kind: EventKind) -> Result<(), LabError>
+        ensures { (cs : Configurations) (events : List LabEvent) (steps : List (List Line)) →
+            HasRun self.old.world cs events steps → NamesNode cs kind →
+            OnOk result ((lines : List Line)
+            × HasRun self.new.world cs (events ++ event kind ∷ []) (steps ++ lines ∷ [])
+            × (self.new.left.items ≡ self.old.left.items
+            ++ places_after (frames_told steps) (frames_of_step lines))) }
+    {
+        let before = self.world.sent();
+        let fault = Fault::None;
+        self.world.step(alloc, &Event { kind, fault })?;
+        add_places(&mut self.left, before, self.world.sent())?;
+        Ok(())
+    }
+
+    // A statement's event happens. A frame that it delivers is no longer left.
+    fn event(&mut self, alloc: Global, kind: &EventKind) -> Result<(), LabError>
+        ensures { (cs : Configurations) (events : List LabEvent) (steps : List (List Line)) →
+            HasRun self.old.world cs events steps → NamesNode cs kind.now →
+            OnOk result ((lines : List Line)
+            × HasRun self.new.world cs (events ++ event kind.now ∷ []) (steps ++ lines ∷ [])
+            × (self.new.left.items ≡ left_after_event kind.now (self.old.left.items
+            ++ places_after (frames_told steps) (frames_of_step lines)))) }
+    {
+        self.step(alloc, kind.clone()?)?;
+        if let EventKind::Deliver { place } = kind {
+            remove_place(&mut self.left, *place);
+        }
+        Ok(())
+    }
+
+    // The frames that are left are delivered, up to the bound. It answers how many.
+    fn flow(&mut self, alloc: Global) -> Result<usize, LabError>
+        ensures { (cs : Configurations) (events : List LabEvent) (steps : List (List Line)) →
+            HasRun self.old.world cs events steps →
+            IfOk result (λ count. (own : List (List Line))
+            × HasRun self.new.world cs (events ++ deliveries (self.old.left.items
+            ++ places_after (frames_told steps) (frames_told own))) (steps ++ own)
+            × (count ≡ length own) × (count ≡ length (deliveries (self.old.left.items
+            ++ places_after (frames_told steps) (frames_told own))))
+            × (self.new.left.items ≡ drop most (self.old.left.items
+            ++ places_after (frames_told steps) (frames_told own)))) }
+    {
+        let mut count = 0;
+        while count < MOST {
+            let Some(place) = self.left.pop_front() else {
+                return Ok(count);
+            };
+            self.step(alloc, EventKind::Deliver { place })?;
+            count += 1;
+        }
+        Ok(count)
+    }
+
+    /// Runs a statement.
+    pub fn run(&mut self, alloc: Global, statement: &Statement) -> Result<StatementResult, LabError>
+        ensures { (cs : Configurations) (events : List LabEvent) (steps : List (List Line)) →
+            HasRun self.old.world cs events steps → Names cs statement.now.action →
+            IfOk result (λ turn. (own : List LabEvent) × (lines : List (List Line))
+            × IsResult (frames_told steps) self.old.left.items statement.now turn own lines
+            × HasRun self.new.world cs (events ++ own) (steps ++ lines)
+            × (self.new.left.items ≡ left_after statement.now.action (self.old.left.items
+            ++ places_after (frames_told steps) (frames_told lines)))) }
+    {
+        let line = statement.line;
+        match &statement.action {
+            Action::Event(kind) => {
+                self.event(alloc, kind)?;
+                Ok(StatementResult {
+                    line,
+                    events: 1,
+                    note: None,
+                })
+            }
+            Action::Invalid(error) => Ok(StatementResult {
+                line,
+                events: 0,
+                note: Some(Note::Invalid(*error)),
+            }),
+            Action::Flow => {
+                let events = self.flow(alloc)?;
+                let note = if self.left.is_empty() {
+                    None
+                } else {
+                    Some(Note::Busy)
+                };
+                Ok(StatementResult { line, events, note })
+            }
+        }
+    }
+}
