@@ -121,15 +121,9 @@ config_reads decides =
     ))
     (counted_reads u8_reads u16_reads)
 
-<<<<<<< HEAD
--- what `Config::read_from` found is what is read
+-- the value that `Config::read_from` found is the value that is read
 pub config_front : TestDecidesConfig → {R : Type 0} (now : R → List ℕ) (bytes : List ℕ)
     (found : Option (List ℕ × R)) → IsBytes bytes
-=======
--- the value that `Config::read_from` found is the value that is read
-pub config_front : {R : Type 0} (now : R → List ℕ) (bytes : List ℕ) (found : Option (List ℕ × R))
-    → IsBytes bytes
->>>>>>> origin/main
     → IfSome found (λ x. (bytes ≡ config_text x.0 ++ now x.1) × IsConfig x.0)
     → ((ids rest : List ℕ) → IsConfig ids → bytes ≡ config_text ids ++ rest
     → IsSomeAnd found (λ x. (x.0 ≡ ids) × (now x.1 ≡ rest)))

@@ -14,20 +14,8 @@ behind_id bytes x xs is =
     let text = config_text xs in
     rw is (take_all (suc (suc (length text)) - 2) text (omega arith) ∙ sym (append-nil text))
 
-<<<<<<< HEAD
--- a record of a configuration is shorter than a log takes
-pub identity_fits : ConfigTextIsShort → (x : ℕ) (xs : List ℕ) → IsConfig xs →
-=======
--- .. and nothing more
-pub nothing_behind : (bytes : List ℕ) (x : ℕ) (xs ids after : List ℕ) → IsConfig xs →
-    IsConfig ids → bytes ≡ identity_record x xs →
-    take (length bytes - 2) (drop 2 bytes) ≡ config_text ids ++ after → after ≡ []
-nothing_behind bytes x xs ids after of_xs of_ids is split =
-    (one_config ids xs after [] of_ids of_xs (sym split ∙ behind_id bytes x xs is)).1
-
 -- a record of a configuration is shorter than the limit of a log
-pub identity_fits : (x : ℕ) (xs : List ℕ) → IsConfig xs →
->>>>>>> origin/main
+pub identity_fits : ConfigTextIsShort → (x : ℕ) (xs : List ℕ) → IsConfig xs →
     length (identity_record x xs) ≤ 16777216
 identity_fits short x xs config =
     omega (arith, length-append (to_be_bytes w16 x) (config_text xs), short xs config)
