@@ -6,7 +6,7 @@ abbrev pub abc : List ℕ
 abc = 97 ∷ 98 ∷ 99 ∷ []
 
 -- the hashes of `abc`, its probes among 64 bits, and the lengths of filters
-pub record Examples : Type 0 where
+pub record FilterExamples : Type 0 where
   pub first : first_hash abc ≡ 13436514500253700074
   pub second : second_hash abc ≡ 4702110809750118947
   pub probes : map (probe 64 abc) (0 ∷ 1 ∷ 2 ∷ 3 ∷ 4 ∷ 5 ∷ 6 ∷ []) ≡

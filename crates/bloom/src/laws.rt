@@ -1,7 +1,7 @@
 //! Laws of the definitions that contracts use. The functions do nothing: their clauses are the
 //! laws.
 ghost use Rattle.bloom.specs.Filters.{FiltersCover};
-ghost use Rattle.bloom.specs.Examples.{Examples};
+ghost use Rattle.bloom.specs.Examples.{FilterExamples};
 
 /// The filter of some keys covers each of them.
 pub fn filters_cover()
@@ -10,5 +10,5 @@ pub fn filters_cover()
 
 /// The hashes, probes and filter of the key `abc`, worked out.
 pub fn examples()
-    ensures { Examples }
+    ensures { FilterExamples }
 {}

@@ -4,13 +4,14 @@ use Rattle.std.proofs.Common.{false, refl, sym, ap, subst, ◌∙◌, length-app
 use Rattle.std.specs.Prelude.{if◌then◌else◌, Option, Some, SomeIff}
 use Rattle.kv_types.specs.Content.{BatchContent}
 use Rattle.chain_model.specs.Configuration.{is_tail}
-use Rattle.chain_model.specs.Node.{due, not_due}
-use Rattle.chain_model.specs.Rules.{accept, append, pass_on, longer_for}
+use Rattle.chain_model.specs.Machine.{due, not_due}
+use Rattle.chain_model.specs.Rules.{accept, append, on_ack, longer_for}
 use Rattle.chain_model.specs.Rules.{acknowledge, forward}
-use Rattle.chain_core.specs.declared.waiting.Waiting.{Waiting}
-use Rattle.chain_core.specs.States.{Machine, Core, Is, IsInOrder, waiting, replies_of}
+use Rattle.chain_core.specs.declared.pending_submit.PendingSubmit.{PendingSubmit}
+use Rattle.chain_core.specs.States.{Machine, Core, CoreRefines, IsInOrder, waiting}
+use Rattle.chain_core.specs.States.{committed_responses}
 use Rattle.chain_core.specs.Queues.{front, behind}
-use Rattle.chain_core.specs.Decisions.{Follows}
+use Rattle.chain_core.specs.Decisions.{CoreFollows}
 use Rattle.chain_core.proofs.Queues.{due_front, not_due_behind, waiting_push, push_in_order}
 
 -- a tail commits its full list, another node what it had committed
@@ -31,19 +32,20 @@ next_of o P old count number found some same =
     let at : P × (number ≡ old + 1) = subst (λ (q : Option ℕ). SomeIff q P (old + 1)) some found in
     omega (arith, at.1, same)
 
-module _ (core : Core) (n : Machine) (is : Is core n) where
+module _ (core : Core) (n : Machine) (is : CoreRefines core n) where
   -- after a batch of the head
   module _ (i : ℕ) (batch : BatchContent) (number c : ℕ) (next : number ≡ suc core.count)
       (ordered : IsInOrder 0 core.count core.pending)
       (commits : c ≡ (if is_tail core.ids core.id then number else core.committed)) where
-    abbrev pub all : List Waiting
+    abbrev pub all : List PendingSubmit
     all = core.pending ++ record { number = number; request = i } ∷ []
 
-    pub follows_accept : (pending due : List Waiting) → pending ≡ behind c all → due ≡ front c all →
-        Follows (record core { count = number; committed = c; pending = pending })
+    pub follows_accept : (pending due : List PendingSubmit) → pending ≡ behind c all → due ≡ front c
+        all →
+        CoreFollows (record core { count = number; committed = c; pending = pending })
         (accept core.id n i batch) due
     follows_accept pending answered left out =
-        let asked : Waiting = record { number = number; request = i } in
+        let asked : PendingSubmit = record { number = number; request = i } in
         let new : Core = record core { count = number; committed = c; pending = pending } in
         let c' = if is_tail n.ids core.id then length (n.list ++ batch ∷ []) else n.committed in
         let m : Machine = record (longer_for n i batch) { committed = c' } in
@@ -52,7 +54,8 @@ module _ (core : Core) (n : Machine) (is : Is core n) where
         let rises = push_in_order 0 core.count core.pending asked ordered (omega arith) next in
         let waits : m.pending ≡ waiting all =
         rw (is.pending, is.count, ← next) (sym (waiting_push core.pending asked)) in
-        let base : Follows new (acknowledge m (forward core.id m (suc (length n.list)))) answered =
+        let base : CoreFollows new (acknowledge m (forward core.id m (suc (length n.list))))
+            answered =
         record {
           is = record {
             epoch = is.epoch;
@@ -69,23 +72,23 @@ module _ (core : Core) (n : Machine) (is : Is core n) where
           };
           replied = ap (λ (k : ℕ). due {A = BatchContent} k m.pending) same
               ∙ (ap (due {A = BatchContent} c) waits
-              ∙ (due_front 0 number c all rises ∙ ap replies_of (sym out)));
+              ∙ (due_front 0 number c all rises ∙ ap committed_responses (sym out)));
         } in
-        subst (λ (k : Machine). Follows new
+        subst (λ (k : Machine). CoreFollows new
         (acknowledge k (forward core.id k (suc (length n.list)))) answered)
         (sym (committed_by (is_tail n.ids core.id) (longer_for n i batch))) base
 
   -- after a batch of the predecessor
   pub follows_append : (batch : BatchContent) (number c : ℕ) → number ≡ suc core.count →
       c ≡ (if is_tail core.ids core.id then number else core.committed) →
-      Is (record core { count = number; committed = c })
+      CoreRefines (record core { count = number; committed = c })
       (append core.id n (suc (length n.list)) batch).node
   follows_append batch number c next commits =
       let c' = if is_tail n.ids core.id then length (n.list ++ batch ∷ []) else n.committed in
       let m : Machine = record n { list = n.list ++ batch ∷ []; committed = c' } in
       let long = longer n batch core.count number is.count next in
       let same : c' ≡ c = rw (is.ids, long, is.committed) (sym commits) in
-      let base : Is (record core { count = number; committed = c }) m = record {
+      let base : CoreRefines (record core { count = number; committed = c }) m = record {
         epoch = is.epoch;
         ids = is.ids;
         count = long;
@@ -97,16 +100,16 @@ module _ (core : Core) (n : Machine) (is : Is core n) where
         pending = is.pending;
         running = is.running;
       } in
-      subst (λ (k : Machine). Is (record core { count = number; committed = c }) k)
+      subst (λ (k : Machine). CoreRefines (record core { count = number; committed = c }) k)
       (sym (committed_by (is_tail n.ids core.id) (record n { list = n.list ++ batch ∷ [] }))) base
 
   -- the state after the successor's report
-  pub follows_told : (committed have c has : ℕ) (pending due : List Waiting) →
+  pub follows_told : (committed have c has : ℕ) (pending due : List PendingSubmit) →
       c ≡ max core.committed committed → has ≡ max core.successor_has have →
       IsInOrder 0 core.count core.pending →
       pending ≡ behind c core.pending → due ≡ front c core.pending →
-      Follows (record core { committed = c; successor_has = has; pending = pending })
-      (pass_on core.id n committed have) due
+      CoreFollows (record core { committed = c; successor_has = has; pending = pending })
+      (on_ack core.id n committed have) due
   follows_told committed have c has pending answered greater more ordered left out =
       let same : max n.committed committed ≡ c =
       ap (λ (k : ℕ). max k committed) is.committed ∙ sym greater in
@@ -126,5 +129,5 @@ module _ (core : Core) (n : Machine) (is : Is core n) where
         };
         replied = ap (λ (k : ℕ). due {A = BatchContent} k n.pending) same
             ∙ (ap (due {A = BatchContent} c) is.pending
-            ∙ (due_front 0 core.count c core.pending ordered ∙ ap replies_of (sym out)));
+            ∙ (due_front 0 core.count c core.pending ordered ∙ ap committed_responses (sym out)));
       }

@@ -3,12 +3,12 @@ use Rattle.std.proofs.Common.{◌≡◌, ◌≤◌, ℕ, suc, List, Bool, true, 
 use Rattle.std.specs.Prelude.{if◌then◌else◌}
 use Rattle.std.proofs.lemmas.Bool.{true≢false}
 use Rattle.chain_model.specs.Configuration.{is_tail}
-use Rattle.chain_core.specs.declared.waiting.Waiting.{Waiting}
+use Rattle.chain_core.specs.declared.pending_submit.PendingSubmit.{PendingSubmit}
 use Rattle.chain_core.specs.States.{Core, HasOrderedNumbers, IsInOrder}
 
 module _ (core : Core) (o : HasOrderedNumbers core) where
   longer_where : (b : Bool) → is_tail core.ids core.id ≡ b → (number c : ℕ)
-      (pending : List Waiting) → number ≡ suc core.count →
+      (pending : List PendingSubmit) → number ≡ suc core.count →
       c ≡ (if b then number else core.committed) → IsInOrder 0 number pending →
       HasOrderedNumbers (record core { count = number; committed = c; pending = pending })
   longer_where true tail number c pending next commits rises = record {
@@ -29,14 +29,14 @@ module _ (core : Core) (o : HasOrderedNumbers core) where
   }
 
   -- after one more batch, which a tail commits
-  pub ordered_longer : (number c : ℕ) (pending : List Waiting) → number ≡ suc core.count →
+  pub ordered_longer : (number c : ℕ) (pending : List PendingSubmit) → number ≡ suc core.count →
       c ≡ (if is_tail core.ids core.id then number else core.committed) →
       IsInOrder 0 number pending →
       HasOrderedNumbers (record core { count = number; committed = c; pending = pending })
   ordered_longer = longer_where (is_tail core.ids core.id) refl
 
   -- the order after the successor's report
-  pub ordered_told : (committed have c has : ℕ) (pending : List Waiting) →
+  pub ordered_told : (committed have c has : ℕ) (pending : List PendingSubmit) →
       c ≡ max core.committed committed → has ≡ max core.successor_has have → committed ≤ have →
       have ≤ core.count → IsInOrder 0 core.count pending →
       HasOrderedNumbers (record core { committed = c; successor_has = has; pending = pending })

@@ -4,18 +4,18 @@ use Rattle.std.proofs.Common.{false, refl, ap, arith}
 use Rattle.std.specs.Prelude.{nat_le}
 use Rattle.std.proofs.lemmas.Bool.{leb-false, lt-leb}
 use Rattle.kv_types.specs.Content.{BatchContent}
-use Rattle.chain_model.specs.Node.{due, not_due}
-use Rattle.chain_core.specs.declared.waiting.Waiting.{Waiting}
-use Rattle.chain_core.specs.States.{IsInOrder, waiting, replies_of}
+use Rattle.chain_model.specs.Machine.{due, not_due}
+use Rattle.chain_core.specs.declared.pending_submit.PendingSubmit.{PendingSubmit}
+use Rattle.chain_core.specs.States.{IsInOrder, waiting, committed_responses}
 use Rattle.chain_core.specs.Queues.{front, behind}
 
-lower : (a b m : ℕ) (ps : List Waiting) → a ≤ b → IsInOrder b m ps → IsInOrder a m ps
+lower : (a b m : ℕ) (ps : List PendingSubmit) → a ≤ b → IsInOrder b m ps → IsInOrder a m ps
 lower a b m [] le o = tt
 lower a b m (p ∷ ps) le o = (omega (arith, le, o.0), o.1, o.2)
 
 -- above k none is due
 
-none_due : (a m k : ℕ) (ps : List Waiting) → k ≤ a → IsInOrder a m ps →
+none_due : (a m k : ℕ) (ps : List PendingSubmit) → k ≤ a → IsInOrder a m ps →
     (due {A = BatchContent} k (waiting ps) ≡ []) × (not_due k (waiting ps) ≡ waiting ps)
 none_due a m k [] le o = (refl, refl)
 none_due a m k (p ∷ ps) le o =
@@ -25,21 +25,21 @@ none_due a m k (p ∷ ps) le o =
     (rw (later, rest.0) refl, rw (later, rest.1) refl)
 
 -- those due are the front
-pub due_front : (a m k : ℕ) (ps : List Waiting) → IsInOrder a m ps →
-    due {A = BatchContent} k (waiting ps) ≡ replies_of (front k ps)
+pub due_front : (a m k : ℕ) (ps : List PendingSubmit) → IsInOrder a m ps →
+    due {A = BatchContent} k (waiting ps) ≡ committed_responses (front k ps)
 due_front a m k [] o = refl
 due_front a m k (p ∷ ps) o = go (nat_le p.number k) refl (due_front p.number m k ps o.2)
   where
     go : (b : Bool) → nat_le p.number k ≡ b →
-        due {A = BatchContent} k (waiting ps) ≡ replies_of (front k ps) →
-        due {A = BatchContent} k (waiting (p ∷ ps)) ≡ replies_of (front k (p ∷ ps))
+        due {A = BatchContent} k (waiting ps) ≡ committed_responses (front k ps) →
+        due {A = BatchContent} k (waiting (p ∷ ps)) ≡ committed_responses (front k (p ∷ ps))
     go true e rest = rw (e, rest) refl
     go false e rest =
         let above = leb-false p.number k e in
         rw (e, (none_due p.number m k ps (omega (arith, above)) o.2).0) refl
 
 -- the requests that are not due are behind the front
-pub not_due_behind : (a m k : ℕ) (ps : List Waiting) → IsInOrder a m ps →
+pub not_due_behind : (a m k : ℕ) (ps : List PendingSubmit) → IsInOrder a m ps →
     not_due k (waiting ps) ≡ waiting (behind k ps)
 not_due_behind a m k [] o = refl
 not_due_behind a m k (p ∷ ps) o = go (nat_le p.number k) refl (not_due_behind p.number m k ps o.2)
@@ -51,7 +51,7 @@ not_due_behind a m k (p ∷ ps) o = go (nat_le p.number k) refl (not_due_behind 
         let above = leb-false p.number k e in
         rw (e, (none_due p.number m k ps (omega (arith, above)) o.2).1) refl
 
-pub behind_in_order : (a m k : ℕ) (ps : List Waiting) → IsInOrder a m ps →
+pub behind_in_order : (a m k : ℕ) (ps : List PendingSubmit) → IsInOrder a m ps →
     IsInOrder a m (behind k ps)
 behind_in_order a m k [] o = tt
 behind_in_order a m k (p ∷ ps) o = go (nat_le p.number k) refl (behind_in_order p.number m k ps o.2)
@@ -64,25 +64,26 @@ behind_in_order a m k (p ∷ ps) o = go (nat_le p.number k) refl (behind_in_orde
     go false e rest = rw e o
 
 -- more numbers are left
-pub raise : (a m k : ℕ) (ps : List Waiting) → IsInOrder a m ps → m ≤ k → IsInOrder a k ps
+pub raise : (a m k : ℕ) (ps : List PendingSubmit) → IsInOrder a m ps → m ≤ k → IsInOrder a k ps
 raise a m k [] o le = tt
 raise a m k (p ∷ ps) o le = (o.0, omega (arith, o.1, le), raise p.number m k ps o.2 le)
 
 -- one more request waits, for the next number
-pub push_in_order : (a m : ℕ) (ps : List Waiting) (w : Waiting) → IsInOrder a m ps → a ≤ m →
+pub push_in_order : (a m : ℕ) (ps : List PendingSubmit) (w : PendingSubmit) → IsInOrder a m ps → a ≤
+    m →
     w.number ≡ suc m → IsInOrder a w.number (ps ++ w ∷ [])
 push_in_order a m [] w o le e = (omega (arith, le, e), omega arith, tt)
 push_in_order a m (p ∷ ps) w o le e =
     (o.0, omega (arith, o.1, e), push_in_order p.number m ps w o.2 o.1 e)
 
-pub waiting_push : (ps : List Waiting) (w : Waiting) →
+pub waiting_push : (ps : List PendingSubmit) (w : PendingSubmit) →
     waiting (ps ++ w ∷ []) ≡ waiting ps ++ (w.number, w.request) ∷ []
 waiting_push [] w = refl
 waiting_push (p ∷ ps) w =
     ap (λ (l : List (ℕ × ℕ)). (p.number, p.request) ∷ l) (waiting_push ps w)
 
 -- no more are due than there are numbers
-pub front_few : (a m k : ℕ) (ps : List Waiting) → IsInOrder a m ps → a ≤ m →
+pub front_few : (a m k : ℕ) (ps : List PendingSubmit) → IsInOrder a m ps → a ≤ m →
     a + length (front k ps) ≤ m
 front_few a m k [] o le = omega (arith, le)
 front_few a m k (p ∷ ps) o le = go (nat_le p.number k) refl (front_few p.number m k ps o.2 o.1)
@@ -92,7 +93,7 @@ front_few a m k (p ∷ ps) o le = go (nat_le p.number k) refl (front_few p.numbe
     go true e rest = rw e (omega (arith, o.0, rest))
     go false e rest = rw e (omega (arith, le))
 
-pub front_push : (k : ℕ) (ps : List Waiting) (w : Waiting) →
+pub front_push : (k : ℕ) (ps : List PendingSubmit) (w : PendingSubmit) →
     length (front k (ps ++ w ∷ [])) ≤ length (front k ps) + 1
 front_push k [] w = go (nat_le w.number k) refl
   where

@@ -5,7 +5,7 @@ use Rattle.std.specs.Option.{is_some}
 use Rattle.std.proofs.lemmas.Bool.{true≢false}
 use Rattle.kv_types.specs.Content.{BatchContent}
 use Rattle.chain_model.specs.Configuration.{successor}
-use Rattle.chain_model.specs.Frames.{Frame}
+use Rattle.chain_model.specs.Messages.{Message}
 use Rattle.chain_model.specs.Lists.{place}
 use Rattle.chain_model.specs.Rules.{forward, forward_to, forwards}
 use Rattle.chain_core.specs.States.{Machine}
@@ -37,7 +37,7 @@ module _ (x : ℕ) (n : Machine) where
   sent_to_count (suc c) (suc m) k few last =
       let less = sent_to_count c m (suc k) (omega (arith, few))
       (λ l. omega (arith, last (omega (arith, l)))) in
-      ap (λ (fs : List (Frame BatchContent)). forward x n (suc k) ++ fs) less
+      ap (λ (fs : List (Message BatchContent)). forward x n (suc k) ++ fs) less
 
   -- nothing is sent without a successor
   pub none_sent : (c k : ℕ) → successor n.ids x ≡ None → forwards x n k c ≡ []

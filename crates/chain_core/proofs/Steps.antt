@@ -5,14 +5,14 @@ use Rattle.std.proofs.Common.{arith}
 use Rattle.std.specs.Prelude.{if◌then◌else◌, nat_lt}
 use Rattle.kv_types.specs.Content.{BatchContent}
 use Rattle.chain_model.specs.Configuration.{is_tail, predecessor, successor}
-use Rattle.chain_model.specs.Frames.{Frame}
+use Rattle.chain_model.specs.Messages.{Message}
 use Rattle.chain_model.specs.Lists.{place}
-use Rattle.chain_model.specs.Node.{Answer, not_due}
+use Rattle.chain_model.specs.Machine.{Answer, not_due}
 use Rattle.chain_model.specs.Rules.{ack, ack_to, acknowledge, forward, forward_to, forwards}
-use Rattle.chain_model.specs.Rules.{longer_for, told}
+use Rattle.chain_model.specs.Rules.{longer_for, acked}
 use Rattle.chain_core.specs.declared.done.Done.TheVariants as done
 use Rattle.chain_core.specs.States.{Machine}
-use Rattle.chain_core.specs.Steps.{Leaves, StepsLeave, StandsLast, OneByOne}
+use Rattle.chain_core.specs.Steps.{StepLeaves, StepsLeave, StandsLast, OneByOne}
 use Rattle.chain_core.proofs.After.{committed_by}
 
 -- frames do not depend on the pending requests
@@ -38,7 +38,7 @@ module _ (x : ℕ) (n : Machine) (batch : BatchContent) where
   abbrev c : ℕ
   c = if is_tail n.ids x then length long else n.committed
 
-  accepted : (i : ℕ) → Leaves x n batch (done.Accepted i)
+  accepted : (i : ℕ) → StepLeaves x n batch (done.Accepted i)
       (acknowledge (record (longer_for n i batch) { committed = c })
       (forward x (record (longer_for n i batch) { committed = c }) next))
   accepted i =
@@ -55,7 +55,7 @@ module _ (x : ℕ) (n : Machine) (batch : BatchContent) where
 
 pub steps_leave : StepsLeave
 steps_leave x n batch (done.Accepted i) =
-    subst (λ (m : Machine). Leaves x n batch (done.Accepted i)
+    subst (λ (m : Machine). StepLeaves x n batch (done.Accepted i)
     (acknowledge m (forward x m (suc (length n.list)))))
     (sym (committed_by (is_tail n.ids x) (longer_for n i batch))) (accepted x n batch i)
 steps_leave x n batch done.Appended =
@@ -67,7 +67,7 @@ steps_leave x n batch done.Appended =
     } in
     let c = if is_tail n.ids x then length (n.list ++ batch ∷ []) else n.committed in
     let m : Machine = record n { list = n.list ++ batch ∷ []; committed = c } in
-    let base : Leaves x n batch done.Appended (answer m) = record {
+    let base : StepLeaves x n batch done.Appended (answer m) = record {
       list = refl;
       epoch = refl;
       ids = refl;
@@ -76,10 +76,10 @@ steps_leave x n batch done.Appended =
       frames = refl;
       dropped = refl;
     } in
-    subst (λ (k : Machine). Leaves x n batch done.Appended (answer k))
+    subst (λ (k : Machine). StepLeaves x n batch done.Appended (answer k))
     (sym (committed_by (is_tail n.ids x) (record n { list = n.list ++ batch ∷ [] }))) base
-steps_leave x n batch (done.Told committed have) =
-    let m : Machine = told n committed have in
+steps_leave x n batch (done.Acked committed have) =
+    let m : Machine = acked n committed have in
     record {
       list = refl;
       epoch = refl;
@@ -87,7 +87,7 @@ steps_leave x n batch (done.Told committed have) =
       floor = refl;
       kept = refl;
       frames = ap
-          (λ (fs : List (Frame BatchContent)). if nat_lt n.committed committed then fs else [])
+          (λ (fs : List (Message BatchContent)). if nat_lt n.committed committed then fs else [])
           (same_ack (predecessor n.ids x) x m (not_due m.committed m.pending));
       dropped = refl;
     }
@@ -105,5 +105,5 @@ one_by_one x n k (suc m) =
     let others = forwards x n (suc k) m in
     let same : suc k + m ≡ k + suc m = omega arith in
     let rest = one_by_one x n (suc k) m ∙ ap (λ (j : ℕ). others ++ forward x n (suc j)) same in
-    ap (λ (fs : List (Frame BatchContent)). first ++ fs) rest
+    ap (λ (fs : List (Message BatchContent)). first ++ fs) rest
     ∙ sym (append_assoc first others (forward x n (suc (k + suc m))))

@@ -3,11 +3,11 @@ use Rattle.std.specs.Prelude.{◌≡◌, ◌≤◌, ◌<◌, ℕ, suc, List, len
 use Rattle.std.specs.Prelude.{Some, None}
 use Rattle.kv_types.specs.declared.bounds.TheConstants.{MAX_NUMBER}
 use Rattle.kv_types.specs.Content.{BatchContent}
-use Rattle.chain_model.specs.Frames as model_frame
+use Rattle.chain_model.specs.Messages as model_frame
 use Rattle.chain_model.specs.Requests as model_request
-use Rattle.chain_model.specs.Node.{Answer, dropped_for, refused}
-use Rattle.chain_model.specs.Rules.{ask, receive, tick, accept, append, tell_again, pass_on}
-use Rattle.chain_model.specs.Rules.{resend, show}
+use Rattle.chain_model.specs.Machine.{Answer, dropped_for, refused}
+use Rattle.chain_model.specs.Rules.{ask, receive, tick, accept, append, ack_duplicate, on_ack}
+use Rattle.chain_model.specs.Rules.{resend, reply_read}
 use Rattle.link_messages.specs.declared.frame.Frame.{Frame}
 use Rattle.link_messages.specs.declared.frame.Frame.TheVariants as frame
 use Rattle.chain_core.specs.declared.input.Input.{Input}
@@ -17,8 +17,8 @@ use Rattle.chain_core.specs.declared.decision.Decision.TheVariants as decision
 use Rattle.chain_core.specs.declared.done.Done.{Done}
 use Rattle.chain_core.specs.declared.done.Done.TheVariants as done
 use Rattle.chain_core.specs.declared.sending.Sent.{Sent}
-use Rattle.chain_core.specs.declared.waiting.Waiting.{Waiting}
-use Rattle.chain_core.specs.States.{Machine, Core, Is, replies_of}
+use Rattle.chain_core.specs.declared.pending_submit.PendingSubmit.{PendingSubmit}
+use Rattle.chain_core.specs.States.{Machine, Core, CoreRefines, committed_responses}
 
 -- the answer of the machine of node x to an input
 abbrev pub answer_to : ℕ → Machine → Input → Answer BatchContent
@@ -34,18 +34,18 @@ answer_to x n input.Tick = tick x n
 abbrev pub rule_of : ℕ → Machine → Decision → Answer BatchContent
 rule_of x n (decision.Accept request batch) = accept x n request batch
 rule_of x n (decision.Append batch) = append x n (suc (length n.list)) batch
-rule_of x n decision.TellAgain = tell_again x n
-rule_of x n (decision.PassOn committed have) = pass_on x n committed have
-rule_of x n (decision.Show request key at) = show n request at
+rule_of x n decision.AckDuplicate = ack_duplicate x n
+rule_of x n (decision.OnAck committed have) = on_ack x n committed have
+rule_of x n (decision.Read request key at) = reply_read n request at
 rule_of x n decision.Resend = resend x n
 rule_of x n (decision.Refuse request why) = refused n request why
 rule_of x n (decision.Drop why) = dropped_for n why
 
 -- the read is of the requested key, at a number from the floor to the committed number
 abbrev pub IsReadOf : Machine → Input → Decision → Type 0
-IsReadOf n (input.Get request key at) (decision.Show same other s) =
+IsReadOf n (input.Get request key at) (decision.Read same other s) =
     (other ≡ key) × (n.floor ≤ s) × (s ≤ n.committed)
-IsReadOf n input (decision.Show same other s) = ⊥
+IsReadOf n input (decision.Read same other s) = ⊥
 IsReadOf n input _ = Unit {0}
 
 -- the machine's answer is the rule that the decision names
@@ -57,29 +57,30 @@ pub record Decides (x : ℕ) (n : Machine) (input : Input) (decision : Decision)
 abbrev pub done_of : ℕ → Machine → BatchContent → Done → Answer BatchContent
 done_of x n batch (done.Accepted request) = accept x n request batch
 done_of x n batch done.Appended = append x n (suc (length n.list)) batch
-done_of x n batch (done.Told committed have) = pass_on x n committed have
+done_of x n batch (done.Acked committed have) = on_ack x n committed have
 
 -- The bounds of a decision by the count. A number is left for a batch. A successor reports at most
 -- as many batches committed as it has, and has at most as many as the node.
-abbrev pub HasRoomFor : ℕ → Decision → Type 0
-HasRoomFor count (decision.Accept request batch) = count < MAX_NUMBER
-HasRoomFor count (decision.Append batch) = count < MAX_NUMBER
-HasRoomFor count (decision.PassOn committed have) = (committed ≤ have) × (have ≤ count)
-HasRoomFor count _ = Unit {0}
+abbrev pub DecisionFitsCount : ℕ → Decision → Type 0
+DecisionFitsCount count (decision.Accept request batch) = count < MAX_NUMBER
+DecisionFitsCount count (decision.Append batch) = count < MAX_NUMBER
+DecisionFitsCount count (decision.OnAck committed have) = (committed ≤ have) × (have ≤ count)
+DecisionFitsCount count _ = Unit {0}
 
 -- the bounds of a step's store part by the count
-abbrev pub HasRoom : ℕ → Done → Type 0
-HasRoom count (done.Accepted request) = count < MAX_NUMBER
-HasRoom count done.Appended = count < MAX_NUMBER
-HasRoom count (done.Told committed have) = (committed ≤ have) × (have ≤ count)
+abbrev pub DoneFitsCount : ℕ → Done → Type 0
+DoneFitsCount count (done.Accepted request) = count < MAX_NUMBER
+DoneFitsCount count done.Appended = count < MAX_NUMBER
+DoneFitsCount count (done.Acked committed have) = (committed ≤ have) × (have ≤ count)
 
 -- the state refines the machine of the answer, and these requests have its replies
-pub record Follows (new : Core) (answer : Answer BatchContent) (due : List Waiting) : Type 0 where
-  pub is : Is new answer.node
-  pub replied : answer.replies ≡ replies_of due
+pub record CoreFollows (new : Core) (answer : Answer BatchContent) (due : List PendingSubmit) : Type
+    0 where
+  pub is : CoreRefines new answer.node
+  pub replied : answer.replies ≡ committed_responses due
 
 -- the model's frame of a frame between nodes
-abbrev pub frame_as : ℕ → Frame → Option (model_frame.Frame BatchContent)
+abbrev pub frame_as : ℕ → Frame → Option (model_frame.Message BatchContent)
 frame_as to (frame.Forward epoch from number batch) =
     Some (model_frame.Forward to epoch from number batch)
 frame_as to (frame.Ack epoch from committed have) =
@@ -87,5 +88,5 @@ frame_as to (frame.Ack epoch from committed have) =
 frame_as to _ = None
 
 -- the sent frames are these frames of the model, one by one
-abbrev pub AreFrames : List Sent → List (model_frame.Frame BatchContent) → Type 0
+abbrev pub AreFrames : List Sent → List (model_frame.Message BatchContent) → Type 0
 AreFrames sent frames = map (λ it. frame_as it.to it.frame) sent ≡ map Some frames

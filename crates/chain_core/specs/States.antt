@@ -2,14 +2,14 @@
 use Rattle.std.specs.Prelude.{◌≡◌, ◌≤◌, ◌<◌, ℕ, List, [], ◌∷◌, length, map, true, false}
 use Rattle.kv_types.specs.Content.{BatchContent}
 use Rattle.chain_model.specs.Configuration.{is_tail}
-use Rattle.chain_model.specs.Node as model
-use Rattle.chain_model.specs.Requests.{Reply, Committed}
-use Rattle.chain_core.specs.declared.waiting.Waiting.{Waiting}
-use Rattle.chain_core.specs.declared.at_rest.AtRest.{AtRest}
+use Rattle.chain_model.specs.Machine as model
+use Rattle.chain_model.specs.Requests.{Response, Committed}
+use Rattle.chain_core.specs.declared.pending_submit.PendingSubmit.{PendingSubmit}
+use Rattle.chain_core.specs.declared.persistent_state.PersistentState.{PersistentState}
 
 -- the machine of a node whose batches are lists of edits
 abbrev pub Machine : Type 0
-Machine = model.Node BatchContent
+Machine = model.MachineState BatchContent
 
 -- the state of a node besides its batches
 pub record Core : Type 0 where
@@ -22,14 +22,14 @@ pub record Core : Type 0 where
   pub kept : ℕ
   pub successor_has : ℕ
   pub snapshots : List ℕ
-  pub pending : List Waiting
+  pub pending : List PendingSubmit
 
 -- pending requests as the model has them
-abbrev pub waiting : List Waiting → List (ℕ × ℕ)
+abbrev pub waiting : List PendingSubmit → List (ℕ × ℕ)
 waiting pending = map (λ it. (it.number, it.request)) pending
 
 -- a running machine has these numbers
-pub record Is (core : Core) (n : Machine) : Type 0 where
+pub record CoreRefines (core : Core) (n : Machine) : Type 0 where
   pub epoch : n.epoch ≡ core.epoch
   pub ids : n.ids ≡ core.ids
   pub count : length n.list ≡ core.count
@@ -42,7 +42,7 @@ pub record Is (core : Core) (n : Machine) : Type 0 where
   pub running : n.running ≡ true
 
 -- a stopped machine has these numbers, which are persistent
-pub record IsAtRest (rest : AtRest) (n : Machine) : Type 0 where
+pub record PersistentRefines (rest : PersistentState) (n : Machine) : Type 0 where
   pub epoch : n.epoch ≡ rest.epoch
   pub ids : n.ids ≡ rest.config
   pub count : length n.list ≡ rest.count
@@ -50,7 +50,7 @@ pub record IsAtRest (rest : AtRest) (n : Machine) : Type 0 where
   pub kept : n.kept ≡ rest.kept
 
 -- the numbers of the requests rise, each above the first bound and at most the second
-abbrev pub IsInOrder : (above most : ℕ) → List Waiting → Type 0
+abbrev pub IsInOrder : (above most : ℕ) → List PendingSubmit → Type 0
 IsInOrder above most [] = Unit {0}
 IsInOrder above most (it ∷ rest) =
     (above < it.number) × (it.number ≤ most) × IsInOrder it.number most rest
@@ -66,5 +66,5 @@ pub record HasOrderedNumbers (core : Core) : Type 0 where
   pub pending : IsInOrder 0 core.count core.pending
 
 -- each request is acknowledged: its batch is committed
-abbrev pub replies_of : List Waiting → List (Reply BatchContent)
-replies_of due = map (λ it. Committed it.request it.number) due
+abbrev pub committed_responses : List PendingSubmit → List (Response BatchContent)
+committed_responses due = map (λ it. Committed it.request it.number) due

@@ -3,9 +3,9 @@ use Rattle.std.specs.Prelude.{◌≡◌, ℕ, suc, ◌+◌, List, [], ◌∷◌,
 use Rattle.std.specs.Prelude.{if◌then◌else◌, nat_lt}
 use Rattle.kv_types.specs.Content.{BatchContent}
 use Rattle.chain_model.specs.Configuration.{is_tail}
-use Rattle.chain_model.specs.Frames.{Frame}
+use Rattle.chain_model.specs.Messages.{Message}
 use Rattle.chain_model.specs.Lists.{place}
-use Rattle.chain_model.specs.Node.{Answer}
+use Rattle.chain_model.specs.Machine.{Answer}
 use Rattle.chain_model.specs.Rules.{ack, forward, forwards}
 use Rattle.chain_core.specs.declared.done.Done.{Done}
 use Rattle.chain_core.specs.declared.done.Done.TheVariants as done
@@ -16,42 +16,43 @@ use Rattle.chain_core.specs.Decisions.{done_of}
 abbrev pub list_after : Machine → BatchContent → Done → List BatchContent
 list_after n batch (done.Accepted request) = n.list ++ batch ∷ []
 list_after n batch done.Appended = n.list ++ batch ∷ []
-list_after n batch (done.Told committed have) = n.list
+list_after n batch (done.Acked committed have) = n.list
 
 -- the epoch after the step
 abbrev pub epoch_after : Machine → Done → ℕ
 epoch_after n (done.Accepted request) = n.epoch
 epoch_after n done.Appended = n.epoch
-epoch_after n (done.Told committed have) = n.epoch
+epoch_after n (done.Acked committed have) = n.epoch
 
 -- the configuration after the step
 abbrev pub ids_after : Machine → Done → List ℕ
 ids_after n (done.Accepted request) = n.ids
 ids_after n done.Appended = n.ids
-ids_after n (done.Told committed have) = n.ids
+ids_after n (done.Acked committed have) = n.ids
 
 -- the floor after the step
 abbrev pub floor_after : Machine → Done → ℕ
 floor_after n (done.Accepted request) = n.floor
 floor_after n done.Appended = n.floor
-floor_after n (done.Told committed have) = n.floor
+floor_after n (done.Acked committed have) = n.floor
 
 -- the kept number after the step
 abbrev pub kept_after : Machine → Done → ℕ
 kept_after n (done.Accepted request) = n.kept
 kept_after n done.Appended = n.kept
-kept_after n (done.Told committed have) = n.kept
+kept_after n (done.Acked committed have) = n.kept
 
 -- the frames of the step, by the state of the new machine
-abbrev pub frames_after : ℕ → Machine → Done → Machine → List (Frame BatchContent)
+abbrev pub frames_after : ℕ → Machine → Done → Machine → List (Message BatchContent)
 frames_after x old (done.Accepted request) new = forward x new (suc (length old.list))
 frames_after x old done.Appended new =
     forward x new (suc (length old.list)) ++ (if is_tail new.ids x then ack x new else [])
-frames_after x old (done.Told committed have) new =
+frames_after x old (done.Acked committed have) new =
     if nat_lt old.committed committed then ack x new else []
 
 -- the persistent state is the one that each kind of step leaves, and these frames are sent
-pub record Leaves (x : ℕ) (n : Machine) (batch : BatchContent) (d : Done) (a : Answer BatchContent)
+pub record StepLeaves (x : ℕ) (n : Machine) (batch : BatchContent) (d : Done)
+    (a : Answer BatchContent)
     : Type 0 where
   pub list : a.node.list ≡ list_after n batch d
   pub epoch : a.node.epoch ≡ epoch_after n d
@@ -63,7 +64,7 @@ pub record Leaves (x : ℕ) (n : Machine) (batch : BatchContent) (d : Done) (a :
 
 abbrev pub StepsLeave : Type 0
 StepsLeave = (x : ℕ) (n : Machine) (batch : BatchContent) (d : Done) →
-    Leaves x n batch d (done_of x n batch d)
+    StepLeaves x n batch d (done_of x n batch d)
 
 -- an appended batch is at the next place
 abbrev pub StandsLast : Type 0

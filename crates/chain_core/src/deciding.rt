@@ -1,7 +1,7 @@
 // The rule for each input, by the numbers of the node that receives it.
 ghost use Rattle.std.specs.Prelude.{◌≡◌};
-ghost use Rattle.chain_core.specs.States.{Machine, Is};
-ghost use Rattle.chain_core.specs.Decisions.{Decides, HasRoomFor};
+ghost use Rattle.chain_core.specs.States.{Machine, CoreRefines};
+ghost use Rattle.chain_core.specs.Decisions.{Decides, DecisionFitsCount};
 
 use crate::{CoreState, Decision, DropReason, Input};
 use configurations::{Epoch, NodeId};
@@ -10,9 +10,9 @@ use kv_types::{Batch, Key, Number};
 use link_messages::Refusal;
 
 fn of_submit(state: &CoreState, request: Number, batch: Batch) -> Decision
-    ensures decides { (n : Machine) → Is state.now n →
+    ensures decides { (n : Machine) → CoreRefines state.now n →
         Decides state.now.id n (Input.Submit request batch) result }
-    ensures room { HasRoomFor state.now.count result }
+    ensures room { DecisionFitsCount state.now.count result }
 {
     if state.is_removed() {
         let refusal = Refusal::Removed;
@@ -30,9 +30,9 @@ fn of_submit(state: &CoreState, request: Number, batch: Batch) -> Decision
 }
 
 fn of_get(state: &CoreState, request: Number, key: Key, at: Option<Number>) -> Decision
-    ensures decides { (n : Machine) → Is state.now n →
+    ensures decides { (n : Machine) → CoreRefines state.now n →
         Decides state.now.id n (Input.Get request key at) result }
-    ensures room { HasRoomFor state.now.count result }
+    ensures room { DecisionFitsCount state.now.count result }
 {
     let number = at.unwrap_or(state.committed());
     if state.is_removed() {
@@ -47,7 +47,7 @@ fn of_get(state: &CoreState, request: Number, key: Key, at: Option<Number>) -> D
         let refusal = Refusal::NotCommitted;
         return Decision::Refuse { request, refusal };
     }
-    Decision::Show {
+    Decision::Read {
         request,
         key,
         at: number,
@@ -61,9 +61,9 @@ fn of_forward(
     number: Number,
     batch: Batch,
 ) -> Decision
-    ensures decides { (n : Machine) → Is state.now n →
+    ensures decides { (n : Machine) → CoreRefines state.now n →
         Decides state.now.id n (Input.Forward epoch from number batch) result }
-    ensures room { HasRoomFor state.now.count result }
+    ensures room { DecisionFitsCount state.now.count result }
 {
     if state.is_removed() {
         return Decision::Drop(DropReason::Removed);
@@ -75,7 +75,7 @@ fn of_forward(
         return Decision::Drop(DropReason::NotPredecessor);
     }
     if number.get() != state.count().get() + 1 {
-        return Decision::TellAgain;
+        return Decision::AckDuplicate;
     }
     Decision::Append { batch }
 }
@@ -87,9 +87,9 @@ fn of_ack(
     committed: Number,
     have: Number,
 ) -> Decision
-    ensures decides { (n : Machine) → Is state.now n →
+    ensures decides { (n : Machine) → CoreRefines state.now n →
         Decides state.now.id n (Input.Ack epoch from committed have) result }
-    ensures room { HasRoomFor state.now.count result }
+    ensures room { DecisionFitsCount state.now.count result }
 {
     if state.is_removed() {
         return Decision::Drop(DropReason::Removed);
@@ -103,13 +103,13 @@ fn of_ack(
     if committed > have || have > state.count() {
         return Decision::Drop(DropReason::BadAck);
     }
-    Decision::PassOn { committed, have }
+    Decision::OnAck { committed, have }
 }
 
 fn of_tick(state: &CoreState) -> Decision
-    ensures decides { (n : Machine) → Is state.now n →
+    ensures decides { (n : Machine) → CoreRefines state.now n →
         Decides state.now.id n Input.Tick result }
-    ensures room { HasRoomFor state.now.count result }
+    ensures room { DecisionFitsCount state.now.count result }
 {
     if state.is_removed() {
         return Decision::Drop(DropReason::Removed);
@@ -119,8 +119,9 @@ fn of_tick(state: &CoreState) -> Decision
 
 /// Decides what a node does with an input. It changes nothing.
 pub fn decide(state: &CoreState, input: Input) -> Decision
-    ensures decides { (n : Machine) → Is state.now n → Decides state.now.id n input result }
-    ensures room { HasRoomFor state.now.count result }
+    ensures decides { (n : Machine) → CoreRefines state.now n → Decides state.now.id n input result
+        }
+    ensures room { DecisionFitsCount state.now.count result }
 {
     match input {
         Input::Submit { request, batch } => of_submit(state, request, batch),

@@ -16,15 +16,15 @@ pub enum Decision {
         batch: Batch,
     },
     /// The node drops a batch with an unexpected number, and acknowledges again to its predecessor.
-    TellAgain,
+    AckDuplicate,
     /// The node applies its successor's report, and reports to its predecessor if more is
     /// committed.
-    PassOn {
+    OnAck {
         committed: Number,
         have: Number,
     },
     /// The node answers the client with the value of the key at this number.
-    Show {
+    Read {
         request: Number,
         key: Key,
         at: Number,

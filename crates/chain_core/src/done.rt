@@ -10,5 +10,5 @@ pub enum Done {
     /// The predecessor's batch was appended.
     Appended,
     /// The successor reported these numbers.
-    Told { committed: Number, have: Number },
+    Acked { committed: Number, have: Number },
 }

@@ -1,7 +1,7 @@
 //! The rules of a step of a node: the decision on an input, and the state after it.
 #![tactic(auto)]
 
-mod at_rest;
+mod persistent_state;
 mod deciding;
 mod decision;
 mod done;
@@ -11,9 +11,9 @@ pub mod laws;
 mod queue;
 mod sending;
 mod state;
-mod waiting;
+mod pending_submit;
 
-pub use at_rest::AtRest;
+pub use persistent_state::PersistentState;
 pub use chain_model::DropReason;
 pub use deciding::decide;
 pub use decision::Decision;
@@ -22,4 +22,4 @@ pub use error::CoreError;
 pub use input::Input;
 pub use sending::Sent;
 pub use state::CoreState;
-pub use waiting::Waiting;
+pub use pending_submit::PendingSubmit;

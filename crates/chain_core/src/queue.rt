@@ -3,12 +3,12 @@ ghost use Rattle.std.specs.Prelude.{◌≡◌, ◌≤◌, ◌+◌, ◌++◌, len
 ghost use Rattle.std.specs.Vec.{vec_len, vec_capacity};
 ghost use Rattle.chain_core.specs.Queues.{front, behind};
 
-use crate::Waiting;
+use crate::PendingSubmit;
 use kv_types::Number;
 use std::collections::VecDeque;
 
 // The number of requests at the front with numbers up to this one.
-pub(crate) fn count_due(pending: &VecDeque<Waiting>, upto: Number) -> usize
+pub(crate) fn count_due(pending: &VecDeque<PendingSubmit>, upto: Number) -> usize
     ensures { result ≡ length (front upto pending.now.items) }
 {
     let mut count = 0;
@@ -22,7 +22,8 @@ pub(crate) fn count_due(pending: &VecDeque<Waiting>, upto: Number) -> usize
 }
 
 // Moves the requests at the front with numbers up to this one to the end of `due`.
-pub(crate) fn move_due(pending: &mut VecDeque<Waiting>, due: &mut Vec<Waiting>, upto: Number)
+pub(crate) fn move_due(pending: &mut VecDeque<PendingSubmit>, due: &mut Vec<PendingSubmit>, upto:
+Number)
     requires { vec_len due.old + length (front upto pending.old.items) ≤ vec_capacity due.old }
     ensures due { due.new.items ≡ due.old.items ++ front upto pending.old.items }
     ensures pending { pending.new.items ≡ behind upto pending.old.items }

@@ -4,7 +4,7 @@ ghost use Rattle.std.specs.Prelude.{option_to_list};
 ghost use Rattle.chain_model.specs.Configuration.{successor};
 ghost use Rattle.chain_model.specs.Lists.{place};
 ghost use Rattle.chain_model.specs.Rules.{ack, forward, forwards};
-ghost use Rattle.chain_core.specs.States.{Machine, Is};
+ghost use Rattle.chain_core.specs.States.{Machine, CoreRefines};
 ghost use Rattle.chain_core.specs.Decisions.{AreFrames};
 
 use crate::CoreState;
@@ -26,7 +26,7 @@ pub struct Sent {
 impl CoreState {
     /// The acknowledgement for the predecessor: the committed number and the number of batches.
     pub fn ack(&self) -> Option<Sent>
-        ensures { (n : Machine) → Is self.now n →
+        ensures { (n : Machine) → CoreRefines self.now n →
             AreFrames (option_to_list result) (ack self.now.id n) }
     {
         let to = self.predecessor()?;
@@ -41,7 +41,7 @@ impl CoreState {
 
     /// The frame of a batch for the successor.
     pub fn forward(&self, number: Number, batch: Batch) -> Option<Sent>
-        ensures { (n : Machine) → Is self.now n → place n.list number ≡ Some batch →
+        ensures { (n : Machine) → CoreRefines self.now n → place n.list number ≡ Some batch →
             AreFrames (option_to_list result) (forward self.now.id n number) }
     {
         let to = self.successor()?;
@@ -62,7 +62,7 @@ impl CoreState {
         ensures to { result.start < result.end →
             IsSome (successor self.now.ids self.now.id) }
         ensures kept { result.start < result.end → self.now.kept < result.start }
-        ensures all { (n : Machine) → Is self.now n →
+        ensures all { (n : Machine) → CoreRefines self.now n →
             forwards self.now.id n n.successor_has 16
             ≡ forwards self.now.id n n.successor_has (result.end - result.start) }
     {

@@ -5,13 +5,14 @@ ghost use Rattle.std.specs.Prelude.{IfOk, OnErr};
 ghost use Rattle.kv_types.specs.declared.bounds.TheConstants.{MAX_NUMBER};
 ghost use Rattle.kv_types.specs.Content.{BatchContent};
 ghost use Rattle.chain_model.specs.Configuration.{has, is_head, is_tail, predecessor, successor};
-ghost use Rattle.chain_model.specs.Node.{created, started};
-ghost use Rattle.chain_model.specs.Rules.{accept, append, pass_on};
-ghost use Rattle.chain_core.specs.States.{Machine, Is, IsAtRest, HasOrderedNumbers};
-ghost use Rattle.chain_core.specs.Decisions.{Follows, HasRoom, done_of};
+ghost use Rattle.chain_model.specs.Machine.{created, started};
+ghost use Rattle.chain_model.specs.Rules.{accept, append, on_ack};
+ghost use Rattle.chain_core.specs.States.{Machine, CoreRefines, PersistentRefines};
+ghost use Rattle.chain_core.specs.States.{HasOrderedNumbers};
+ghost use Rattle.chain_core.specs.Decisions.{CoreFollows, DoneFitsCount, done_of};
 
 use crate::queue::{count_due, move_due};
-use crate::{AtRest, CoreError, Done, Waiting};
+use crate::{PersistentState, CoreError, Done, PendingSubmit};
 use configurations::{Config, Epoch, NodeId};
 use kv_types::Number;
 use std::alloc::Global;
@@ -31,7 +32,7 @@ pub struct CoreState {
     kept: Number,
     successor_has: Number,
     snapshots: Vec<Number>,
-    pending: VecDeque<Waiting>,
+    pending: VecDeque<PendingSubmit>,
 }
 
 impl Model for CoreState {
@@ -68,7 +69,7 @@ impl CoreState {
     /// A node at its creation, with configuration 0.
     pub fn created(alloc: Global, id: NodeId, config: Config) -> CoreState
         ensures id { result.id ≡ id }
-        ensures is { Is result (created config) }
+        ensures is { CoreRefines result (created config) }
     {
         CoreState {
             id,
@@ -85,9 +86,10 @@ impl CoreState {
     }
 
     /// Starts a node from its persistent state.
-    pub fn started(alloc: Global, rest: AtRest) -> CoreState
+    pub fn started(alloc: Global, rest: PersistentState) -> CoreState
         ensures id { result.id ≡ rest.id }
-        ensures is { (n : Machine) → IsAtRest rest n → Is result (started rest.id n) }
+        ensures is { (n : Machine) → PersistentRefines rest n → CoreRefines result
+            (started rest.id n) }
     {
         let committed = if is_tail(&rest.config, rest.id) {
             rest.count
@@ -210,11 +212,11 @@ impl CoreState {
     }
 
     // Accepts one more batch at the head, for a pending request. A tail commits it.
-    fn accept(&mut self, alloc: Global, request: Number) -> Result<Vec<Waiting>, CoreError>
+    fn accept(&mut self, alloc: Global, request: Number) -> Result<Vec<PendingSubmit>, CoreError>
         requires { self.old.count < MAX_NUMBER }
-        ensures after { (n : Machine) (batch : BatchContent) → Is self.old n →
+        ensures after { (n : Machine) (batch : BatchContent) → CoreRefines self.old n →
             IfOk result (λ due.
-            Follows self.new (accept self.old.id n request batch) due.items) }
+            CoreFollows self.new (accept self.old.id n request batch) due.items) }
         ensures rises { self.old.committed ≤ self.new.committed }
         ensures same { self.new.id ≡ self.old.id }
         ensures memory { OnErr result (self.new ≡ self.old) }
@@ -223,7 +225,7 @@ impl CoreState {
         let committed = self.committed_with(number);
         let mut due = Vec::new(alloc);
         due.reserve(count_due(&self.pending, committed) + 1)?;
-        self.pending.push_back(Waiting { number, request })?;
+        self.pending.push_back(PendingSubmit { number, request })?;
         self.count = number;
         self.committed = committed;
         move_due(&mut self.pending, &mut due, committed);
@@ -233,8 +235,8 @@ impl CoreState {
     // Appends one more batch of the predecessor. A tail commits it.
     fn append(&mut self)
         requires { self.old.count < MAX_NUMBER }
-        ensures after { (n : Machine) (batch : BatchContent) → Is self.old n →
-            Is self.new (append self.old.id n (suc (length n.list)) batch).node }
+        ensures after { (n : Machine) (batch : BatchContent) → CoreRefines self.old n →
+            CoreRefines self.new (append self.old.id n (suc (length n.list)) batch).node }
         ensures rises { self.old.committed ≤ self.new.committed }
         ensures same { self.new.id ≡ self.old.id }
     {
@@ -249,10 +251,10 @@ impl CoreState {
         alloc: Global,
         committed: Number,
         have: Number,
-    ) -> Result<Vec<Waiting>, CoreError>
+    ) -> Result<Vec<PendingSubmit>, CoreError>
         requires { (committed ≤ have) × (have ≤ self.old.count) }
-        ensures after { (n : Machine) → Is self.old n → IfOk result (λ due.
-            Follows self.new (pass_on self.old.id n committed have) due.items) }
+        ensures after { (n : Machine) → CoreRefines self.old n → IfOk result (λ due.
+            CoreFollows self.new (on_ack self.old.id n committed have) due.items) }
         ensures rises { self.old.committed ≤ self.new.committed }
         ensures same { self.new.id ≡ self.old.id }
         ensures memory { OnErr result (self.new ≡ self.old) }
@@ -268,10 +270,10 @@ impl CoreState {
 
     /// Applies the store's part of a step to the state. Returns the requests whose batches are now
     /// committed, in order of number.
-    pub fn after(&mut self, alloc: Global, done: Done) -> Result<Vec<Waiting>, CoreError>
-        requires { HasRoom self.old.count done }
-        ensures after { (n : Machine) (batch : BatchContent) → Is self.old n →
-            IfOk result (λ due. Follows self.new (done_of self.old.id n batch done) due.items) }
+    pub fn after(&mut self, alloc: Global, done: Done) -> Result<Vec<PendingSubmit>, CoreError>
+        requires { DoneFitsCount self.old.count done }
+        ensures after { (n : Machine) (batch : BatchContent) → CoreRefines self.old n →
+            IfOk result (λ due. CoreFollows self.new (done_of self.old.id n batch done) due.items) }
         ensures rises { self.old.committed ≤ self.new.committed }
         ensures same { self.new.id ≡ self.old.id }
         ensures memory { OnErr result (self.new ≡ self.old) }
@@ -282,7 +284,7 @@ impl CoreState {
                 self.append();
                 Ok(Vec::new(alloc))
             }
-            Done::Told { committed, have } => self.pass_on(alloc, committed, have),
+            Done::Acked { committed, have } => self.pass_on(alloc, committed, have),
         }
     }
 }

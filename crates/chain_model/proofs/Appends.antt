@@ -4,15 +4,16 @@ use Rattle.std.proofs.Common.{Some, true, false, cond, sym, refl, ◌∙◌, sub
 use Rattle.std.proofs.Common.{length-append}
 use Rattle.std.specs.List.{AllByRecursion}
 use Rattle.std.proofs.lemmas.Bool.{cond_both, false≢true}
-use Rattle.chain_model.specs.Lists.{Begins, Part, place}
-use Rattle.chain_model.specs.Configuration.{Before, at_epoch, has, is_head, is_tail, predecessor}
+use Rattle.chain_model.specs.Lists.{IsPrefix, Part, place}
+use Rattle.chain_model.specs.Configuration.{IsBeforeIn, at_epoch, has, is_head, is_tail}
+use Rattle.chain_model.specs.Configuration.{predecessor}
 use Rattle.chain_model.specs.Configuration.{successor}
-use Rattle.chain_model.specs.Node.{Answer, Node}
+use Rattle.chain_model.specs.Machine.{Answer, MachineState}
 use Rattle.chain_model.specs.Rules.{accept, ack, append, forward, longer_for, submit}
-use Rattle.chain_model.specs.Rules.{tail_commits, take_forward}
-use Rattle.chain_model.specs.World.{Event}
-use Rattle.chain_model.specs.InOrder.{WasCommitted}
-use Rattle.chain_model.specs.KeepsEnough.{RisesFrom}
+use Rattle.chain_model.specs.Rules.{tail_commits, receive_forward}
+use Rattle.chain_model.specs.System.{SystemEvent}
+use Rattle.chain_model.specs.Order.{WasCommitted}
+use Rattle.chain_model.specs.Retention.{RisesFrom}
 use Rattle.chain_model.proofs.Lists.{begins_more, begins_next, begins_refl, every_append}
 use Rattle.chain_model.proofs.Lists.{every_map, part_begins, part_trans, place-bounds, place_in}
 use Rattle.chain_model.proofs.Lists.{place_last, take_of_begins}
@@ -26,20 +27,20 @@ use Rattle.chain_model.proofs.Sends.{AnswerOk, Lands, ack_ok, acknowledge_ok, be
 use Rattle.chain_model.proofs.Sends.{before_known, different, forward_ok, refused_ok}
 
 -- `lists` are the lists of all nodes after the step.
-module _ {A : Type 0} (cs : List (List ℕ)) (lawful : IsChain cs) (events : List (Event A))
+module _ {A : Type 0} (cs : List (List ℕ)) (lawful : IsChain cs) (events : List (SystemEvent A))
     (h : List A) (lists : ℕ → List A) (x : ℕ) where
   -- a tail may commit its full list
-  pub tail_sound : (n : Node A) → Lands cs events lists x n → is_tail n.ids x ≡ true
+  pub tail_sound : (n : MachineState A) → Lands cs events lists x n → is_tail n.ids x ≡ true
       → SoundNode cs events h lists x n → Sound cs events h lists x n.list n.epoch n.ids
       (length n.list) n.floor n.kept
   tail_sound n here is s = record {
     in_range = s.in_range;
     knows = s.knows;
     behind = s.behind;
-    safe = λ y k. subst (λ m. Begins m (lists y))
+    safe = λ y k. subst (λ m. IsPrefix m (lists y))
         (sym (take_all (length n.list) n.list (omega arith)))
-        (⊎_elim (λ same. subst (λ z. Begins n.list (lists z)) (sym same)
-        (subst (λ m. Begins n.list m) (sym here.list) (begins_refl n.list)))
+        (⊎_elim (λ same. subst (λ z. IsPrefix n.list (lists z)) (sym same)
+        (subst (λ m. IsPrefix n.list m) (sym here.list) (begins_refl n.list)))
         (λ before. s.behind y (before_first cs lawful events h lists x n s y x before) k)
         (before_tail n.ids y x is k));
     known = (
@@ -60,14 +61,14 @@ module _ {A : Type 0} (cs : List (List ℕ)) (lawful : IsChain cs) (events : Lis
   }
 
   -- the new list of a tail that commits is its list before
-  pub lands_tail : (n : Node A) → Lands cs events lists x (tail_commits x n)
+  pub lands_tail : (n : MachineState A) → Lands cs events lists x (tail_commits x n)
       → Lands cs events lists x n
   lands_tail n at = cond_both (is_tail n.ids x) (record n { committed = length n.list }) n
       (λ m. Lands cs events lists x m → Lands cs events lists x n)
       (λ is at. record { list = at.list; tail = at.tail }) (λ not at. at) at
 
   -- a tail that commits its full list keeps the invariant
-  pub tail_ok : (n : Node A) → Lands cs events lists x n → SoundNode cs events h lists x n
+  pub tail_ok : (n : MachineState A) → Lands cs events lists x n → SoundNode cs events h lists x n
       → AllByRecursion (IsPending events n.list) n.pending
       → AllByRecursion (λ s. n.floor ≤ s) n.snapshots
       → RisesFrom 0 n.pending
@@ -94,8 +95,9 @@ module _ {A : Type 0} (cs : List (List ℕ)) (lawful : IsChain cs) (events : Lis
       })
 
   -- one more batch, which is next in the list of every node before
-  pub append_sound : (n : Node A) (b : A) → SoundNode cs events h lists x n → has n.ids x ≡ true
-      → ((z : ℕ) → Before n.ids z x → place (lists z) (suc (length n.list)) ≡ Some b)
+  pub append_sound : (n : MachineState A) (b : A) → SoundNode cs events h lists x n → has n.ids x ≡
+      true
+      → ((z : ℕ) → IsBeforeIn n.ids z x → place (lists z) (suc (length n.list)) ≡ Some b)
       → Part (n.list ++ b ∷ []) h → Sound cs events h lists x (n.list ++ b ∷ []) n.epoch n.ids
       n.committed n.floor n.kept
   append_sound n b s has_x next part = record {
@@ -103,7 +105,7 @@ module _ {A : Type 0} (cs : List (List ℕ)) (lawful : IsChain cs) (events : Lis
     knows = s.knows;
     behind = λ z before k. begins_next b (s.behind z before k)
         (next z (before_known cs lawful events h lists x n s z x k has_x before));
-    safe = λ y k. subst (λ m. Begins m (lists y))
+    safe = λ y k. subst (λ m. IsPrefix m (lists y))
         (sym (take_of_begins n.committed n.list (n.list ++ b ∷ []) (begins_more n.list (b ∷ []))
         s.committed_le)) (s.safe y k);
     known = (
@@ -136,7 +138,7 @@ module _ {A : Type 0} (cs : List (List ℕ)) (lawful : IsChain cs) (events : Lis
       (up.0, rises_append p.0 k i ps each.0 up.1 each.1)
 
   -- a request that waits for the next number waits last
-  rises_next : (n : Node A) (i : ℕ) → NodeOk cs events h lists x n
+  rises_next : (n : MachineState A) (i : ℕ) → NodeOk cs events h lists x n
       → RisesFrom 0 (n.pending ++ (suc (length n.list), i) ∷ [])
   rises_next n i ok =
       rises_append 0 (suc (length n.list)) i n.pending (omega arith) ok.rising
@@ -148,21 +150,21 @@ module _ {A : Type 0} (cs : List (List ℕ)) (lawful : IsChain cs) (events : Lis
   Keeps a = Lands cs events lists x a.node → AnswerOk cs events h lists x a
 
   -- frames of a batch that is passed on
-  passed_on : (m : Node A) → NodeOk cs events h lists x m → lists x ≡ m.list → (k : ℕ)
+  passed_on : (m : MachineState A) → NodeOk cs events h lists x m → lists x ≡ m.list → (k : ℕ)
       → AllByRecursion (FrameOk cs events lists) (forward x m k)
   passed_on m ok here k =
       forward_ok cs lawful events h lists x m ok.sound here k (successor m.ids x) (place m.list k)
       refl refl
 
   -- the head accepts a batch
-  accept_ok : (n : Node A) (i : ℕ) (b : A) → NodeOk cs events h lists x n
+  accept_ok : (n : MachineState A) (i : ℕ) (b : A) → NodeOk cs events h lists x n
       → WasHandedIn events i b → Part (n.list ++ b ∷ []) h → is_head n.ids x ≡ true
       → has n.ids x ≡ true → Keeps (accept x n i b)
   accept_ok n i b ok brought part head kept at =
       let more = longer_for n i b in
       let m = tail_commits x more in
       let size = suc (length n.list) in
-      let first : (z : ℕ) → Before n.ids z x → place (lists z) size ≡ Some b =
+      let first : (z : ℕ) → IsBeforeIn n.ids z x → place (lists z) size ≡ Some b =
       λ z before. absurd
       (none_before_head n.ids z x (different cs lawful events h lists x n ok.sound) head
       before) in
@@ -177,30 +179,30 @@ module _ {A : Type 0} (cs : List (List ℕ)) (lawful : IsChain cs) (events : Lis
       (passed_on m ok' at.list size)
 
   -- a batch that is submitted
-  pub submit_ok : (n : Node A) (i : ℕ) (b : A) → NodeOk cs events h lists x n
+  pub submit_ok : (n : MachineState A) (i : ℕ) (b : A) → NodeOk cs events h lists x n
       → WasHandedIn events i b → Part (n.list ++ b ∷ []) h → Keeps (submit x n i b)
   submit_ok n i b ok brought part =
       submit_cases Keeps x n i b (λ why at. refused_ok cs lawful events h lists x n i ok why)
       (λ kept head. accept_ok n i b ok brought part head kept)
 
   -- the next batch of p, and of all before p, is the next batch of all before this node
-  append_ok : (n : Node A) (k : ℕ) (b : A) (p : ℕ) → NodeOk cs events h lists x n
+  append_ok : (n : MachineState A) (k : ℕ) (b : A) (p : ℕ) → NodeOk cs events h lists x n
       → has n.ids x ≡ true → predecessor n.ids x ≡ Some p
-      → ((z : ℕ) → ((z ≡ p) ⊎ Before n.ids z p) → place (lists z) k ≡ Some b)
+      → ((z : ℕ) → ((z ≡ p) ⊎ IsBeforeIn n.ids z p) → place (lists z) k ≡ Some b)
       → ((p ≡ x → ⊥) → Part (lists p) h) → k ≡ suc (length n.list) → Keeps (append x n k b)
   append_ok n k b p ok has_x is_pred tells part number at =
-      let more : Node A = record n { list = n.list ++ b ∷ [] } in
+      let more : MachineState A = record n { list = n.list ++ b ∷ [] } in
       let m = tail_commits x more in
       let differ = different cs lawful events h lists x n ok.sound in
-      let before_p : Before n.ids p x = predecessor_before n.ids x p is_pred in
-      let before_0 : Before (at_epoch cs 0) p x =
+      let before_p : IsBeforeIn n.ids p x = predecessor_before n.ids x p is_pred in
+      let before_0 : IsBeforeIn (at_epoch cs 0) p x =
       before_first cs lawful events h lists x n ok.sound p x before_p in
       let other : p ≡ x → ⊥ =
-      λ is. none_before_itself n.ids x differ (subst (λ z. Before n.ids z x) is before_p) in
-      let next : (z : ℕ) → Before n.ids z x → place (lists z) (suc (length n.list)) ≡ Some b =
+      λ is. none_before_itself n.ids x differ (subst (λ z. IsBeforeIn n.ids z x) is before_p) in
+      let next : (z : ℕ) → IsBeforeIn n.ids z x → place (lists z) (suc (length n.list)) ≡ Some b =
       λ z before. subst (λ j. place (lists z) j ≡ Some b) number
       (tells z (before_predecessor n.ids z x p differ is_pred before)) in
-      let begins : Begins (n.list ++ b ∷ []) (lists p) =
+      let begins : IsPrefix (n.list ++ b ∷ []) (lists p) =
       begins_next b (ok.sound.behind p before_0 (before_left n.ids p x before_p))
       (next p before_p) in
       let handed : Part (n.list ++ b ∷ []) h =
@@ -220,10 +222,10 @@ module _ {A : Type 0} (cs : List (List ℕ)) (lawful : IsChain cs) (events : Lis
       }
 
   -- a batch that the predecessor forwards
-  pub take_forward_ok : (n : Node A) (k : ℕ) (b : A) (p : ℕ) → NodeOk cs events h lists x n
+  pub take_forward_ok : (n : MachineState A) (k : ℕ) (b : A) (p : ℕ) → NodeOk cs events h lists x n
       → has n.ids x ≡ true → predecessor n.ids x ≡ Some p
-      → ((z : ℕ) → ((z ≡ p) ⊎ Before n.ids z p) → place (lists z) k ≡ Some b)
-      → ((p ≡ x → ⊥) → Part (lists p) h) → Keeps (take_forward x n k b)
+      → ((z : ℕ) → ((z ≡ p) ⊎ IsBeforeIn n.ids z p) → place (lists z) k ≡ Some b)
+      → ((p ≡ x → ⊥) → Part (lists p) h) → Keeps (receive_forward x n k b)
   take_forward_ok n k b p ok has_x is_pred tells part =
       take_forward_cases Keeps x n k b (append_ok n k b p ok has_x is_pred tells part)
       (λ at. record {

@@ -8,12 +8,13 @@ use Rattle.chain_model.specs.declared.refusal.Refusal.TheVariants as refusal
 use Rattle.chain_model.specs.declared.refusal.Refusal.{Refusal}
 use Rattle.chain_model.specs.declared.drop_reason.DropReason.TheVariants as reason
 use Rattle.chain_model.specs.declared.drop_reason.DropReason.{DropReason}
-use Rattle.chain_model.specs.Frames.{Ack, Forward}
-use Rattle.chain_model.specs.Node.{Answer, Node, dropped_for, is_open, refused}
-use Rattle.chain_model.specs.Rules.{accept, adopt, append, close_at, close_snapshot, if_readable}
-use Rattle.chain_model.specs.Rules.{is_some_of, notice, number_read, open_at, open_snapshot}
-use Rattle.chain_model.specs.Rules.{pass_on, read, receive, resend, show, submit, take_ack}
-use Rattle.chain_model.specs.Rules.{take_forward, tell_again, tick}
+use Rattle.chain_model.specs.Messages.{Ack, Forward}
+use Rattle.chain_model.specs.Machine.{Answer, MachineState, dropped_for, is_open, refused}
+use Rattle.chain_model.specs.Rules.{accept, adopt, append, remove_snapshot, close_snapshot}
+use Rattle.chain_model.specs.Rules.{if_readable}
+use Rattle.chain_model.specs.Rules.{is_some_of, notice, number_read, add_snapshot, open_snapshot}
+use Rattle.chain_model.specs.Rules.{on_ack, read, receive, resend, reply_read, submit, receive_ack}
+use Rattle.chain_model.specs.Rules.{receive_forward, ack_duplicate, tick}
 
 -- the test finds the node that it is asked for
 is_some : (o : Option ℕ) (p : ℕ) → is_some_of o p ≡ true → o ≡ Some p
@@ -29,7 +30,8 @@ module _ {A : Type 0} (P : Answer A → Type 0) where
       (λ no. cond_both t b c P (λ yes. pb no yes) (λ _. pc))
 
   -- a submit is refused, or the head accepts the batch
-  pub submit_cases : (x : ℕ) (n : Node A) (i : ℕ) (b : A) → ((why : Refusal) → P (refused n i why))
+  pub submit_cases : (x : ℕ) (n : MachineState A) (i : ℕ) (b : A) →
+      ((why : Refusal) → P (refused n i why))
       → (has n.ids x ≡ true → is_head n.ids x ≡ true → P (accept x n i b)) → P (submit x n i b)
   submit_cases x n i b refuse take =
       let full = length n.list == 2 ^ 63 - 1 in
@@ -44,26 +46,26 @@ module _ {A : Type 0} (P : Answer A → Type 0) where
       (λ room. take (not-false (has n.ids x) kept) (not-false (is_head n.ids x) head))))
 
   -- the batch is the next one, or another
-  pub take_forward_cases : (x : ℕ) (n : Node A) (k : ℕ) (b : A)
-      → (k ≡ suc (length n.list) → P (append x n k b)) → P (tell_again x n)
-      → P (take_forward x n k b)
+  pub take_forward_cases : (x : ℕ) (n : MachineState A) (k : ℕ) (b : A)
+      → (k ≡ suc (length n.list) → P (append x n k b)) → P (ack_duplicate x n)
+      → P (receive_forward x n k b)
   take_forward_cases x n k b next other =
       let size = suc (length n.list) in
-      cond_both (k == size) (append x n k b) (tell_again x n) P (λ is. next (eqb-true k size is))
+      cond_both (k == size) (append x n k b) (ack_duplicate x n) P (λ is. next (eqb-true k size is))
       (λ not. other)
 
   -- an acknowledgement can be true, or it is dropped
-  pub take_ack_cases : (x : ℕ) (n : Node A) (committed have : ℕ)
-      → (committed ≤ have → P (pass_on x n committed have)) → P (dropped_for n reason.BadAck)
-      → P (take_ack x n committed have)
+  pub take_ack_cases : (x : ℕ) (n : MachineState A) (committed have : ℕ)
+      → (committed ≤ have → P (on_ack x n committed have)) → P (dropped_for n reason.BadAck)
+      → P (receive_ack x n committed have)
   take_ack_cases x n committed have good bad =
       let low = nat_le committed have in
       let high = nat_le have (length n.list) in
-      cond_both (low && high) (pass_on x n committed have) (dropped_for n reason.BadAck) P
+      cond_both (low && high) (on_ack x n committed have) (dropped_for n reason.BadAck) P
       (λ both. good (leb-true committed have (and_parts low high both).0)) (λ _. bad)
 
   -- a frame is dropped, or its sender is the expected neighbour
-  from_neighbour : (x : ℕ) (n : Node A) (e : ℕ) (o : Option ℕ) (p : ℕ) (a : Answer A)
+  from_neighbour : (x : ℕ) (n : MachineState A) (e : ℕ) (o : Option ℕ) (p : ℕ) (a : Answer A)
       (why : DropReason) → ((why : DropReason) → P (dropped_for n why))
       → (has n.ids x ≡ true → e ≡ n.epoch → o ≡ Some p → P a)
       → P (cond (not (has n.ids x)) (dropped_for n reason.Removed)
@@ -81,25 +83,25 @@ module _ {A : Type 0} (P : Answer A → Type 0) where
       (drops why))
 
   -- a Forward is dropped, or its sender is the predecessor
-  pub forward_cases : (x : ℕ) (n : Node A) (to e from k : ℕ) (b : A)
+  pub forward_cases : (x : ℕ) (n : MachineState A) (to e from k : ℕ) (b : A)
       → ((why : DropReason) → P (dropped_for n why))
       → (has n.ids x ≡ true → e ≡ n.epoch → predecessor n.ids x ≡ Some from
-      → P (take_forward x n k b)) → P (receive x n (Forward to e from k b))
+      → P (receive_forward x n k b)) → P (receive x n (Forward to e from k b))
   forward_cases x n to e from k b drops goes =
-      from_neighbour x n e (predecessor n.ids x) from (take_forward x n k b)
+      from_neighbour x n e (predecessor n.ids x) from (receive_forward x n k b)
       reason.NotPredecessor drops goes
 
   -- an Ack is dropped, or its sender is the successor
-  pub ack_cases : (x : ℕ) (n : Node A) (to e from committed have : ℕ)
+  pub ack_cases : (x : ℕ) (n : MachineState A) (to e from committed have : ℕ)
       → ((why : DropReason) → P (dropped_for n why))
       → (has n.ids x ≡ true → e ≡ n.epoch → successor n.ids x ≡ Some from
-      → P (take_ack x n committed have)) → P (receive x n (Ack to e from committed have))
+      → P (receive_ack x n committed have)) → P (receive x n (Ack to e from committed have))
   ack_cases x n to e from committed have drops goes =
-      from_neighbour x n e (successor n.ids x) from (take_ack x n committed have)
+      from_neighbour x n e (successor n.ids x) from (receive_ack x n committed have)
       reason.NotSuccessor drops goes
 
   -- a notice is dropped, or its configuration is adopted
-  pub notice_cases : (x : ℕ) (n : Node A) (e : ℕ) (ids : List ℕ)
+  pub notice_cases : (x : ℕ) (n : MachineState A) (e : ℕ) (ids : List ℕ)
       → ((why : DropReason) → P (dropped_for n why)) → (n.epoch < e → P (adopt x n e ids))
       → P (notice x n e ids)
   notice_cases x n e ids drops goes =
@@ -109,51 +111,51 @@ module _ {A : Type 0} (P : Answer A → Type 0) where
       (λ later good. goes (ltb-true n.epoch e (not-false new later))) (drops reason.BadNotice)
 
   -- a tick makes the node send again, or is dropped
-  pub tick_cases : (x : ℕ) (n : Node A) → P (resend x n) → P (dropped_for n reason.Removed)
+  pub tick_cases : (x : ℕ) (n : MachineState A) → P (resend x n) → P (dropped_for n reason.Removed)
       → P (tick x n)
   tick_cases x n sends drops =
       cond_both (has n.ids x) (resend x n) (dropped_for n reason.Removed) P (λ is. sends)
       (λ gone. drops)
 
   -- a number is refused, or it is from the floor to what is committed
-  pub readable_cases : (x : ℕ) (n : Node A) (i at : ℕ) (a : Answer A)
+  pub readable_cases : (x : ℕ) (n : MachineState A) (i at : ℕ) (a : Answer A)
       → ((why : Refusal) → P (refused n i why)) → (n.floor ≤ at → at ≤ n.committed → P a)
       → P (if_readable x n i at a)
-  readable_cases x n i at a refuse show =
+  readable_cases x n i at a refuse reply_read =
       let high = cond (nat_le at n.committed) a (refused n i refusal.NotCommitted) in
       let here = cond (nat_lt at n.floor) (refused n i refusal.TooOld) high in
       cond_both (not (has n.ids x)) (refused n i refusal.Removed) here P
       (λ gone. refuse refusal.Removed)
       (λ kept. guarded (nat_lt at n.floor) (nat_le at n.committed) (refused n i refusal.TooOld) a
       (refused n i refusal.NotCommitted) (refuse refusal.TooOld)
-      (λ low le. show (ltb-false at n.floor low) (leb-true at n.committed le))
+      (λ low le. reply_read (ltb-false at n.floor low) (leb-true at n.committed le))
       (refuse refusal.NotCommitted))
 
   -- a read is refused, or shows
-  pub read_cases : (x : ℕ) (n : Node A) (i : ℕ) (at : Option ℕ)
+  pub read_cases : (x : ℕ) (n : MachineState A) (i : ℕ) (at : Option ℕ)
       → ((why : Refusal) → P (refused n i why))
       → (n.floor ≤ number_read n at → number_read n at ≤ n.committed
-      → P (show n i (number_read n at))) → P (read x n i at)
+      → P (reply_read n i (number_read n at))) → P (read x n i at)
   read_cases x n i at refuse shows =
-      readable_cases x n i (number_read n at) (show n i (number_read n at)) refuse shows
+      readable_cases x n i (number_read n at) (reply_read n i (number_read n at)) refuse shows
 
   -- a snapshot is refused, or opened
-  pub open_cases : (x : ℕ) (n : Node A) (i : ℕ) (at : Option ℕ)
+  pub open_cases : (x : ℕ) (n : MachineState A) (i : ℕ) (at : Option ℕ)
       → ((why : Refusal) → P (refused n i why))
       → (n.floor ≤ number_read n at → number_read n at ≤ n.committed
-      → P (open_at n i (number_read n at))) → P (open_snapshot x n i at)
+      → P (add_snapshot n i (number_read n at))) → P (open_snapshot x n i at)
   open_cases x n i at refuse opens =
       let many = refused n i refusal.TooManySnapshots in
-      let opened = open_at n i (number_read n at) in
+      let opened = add_snapshot n i (number_read n at) in
       let full = length n.snapshots == 64 in
       readable_cases x n i (number_read n at) (cond full many opened) refuse
       (λ low le. cond_both full many opened P (λ full. refuse refusal.TooManySnapshots)
       (λ room. opens low le))
 
   -- a close is refused, or closes
-  pub close_cases : (x : ℕ) (n : Node A) (i s : ℕ) → ((why : Refusal) → P (refused n i why))
-      → P (close_at n i s) → P (close_snapshot x n i s)
+  pub close_cases : (x : ℕ) (n : MachineState A) (i s : ℕ) → ((why : Refusal) → P (refused n i why))
+      → P (remove_snapshot n i s) → P (close_snapshot x n i s)
   close_cases x n i s refuse closes =
       guarded (not (has n.ids x)) (is_open s n.snapshots) (refused n i refusal.Removed)
-      (close_at n i s) (refused n i refusal.NoSuchSnapshot) (refuse refusal.Removed)
+      (remove_snapshot n i s) (refused n i refusal.NoSuchSnapshot) (refuse refusal.Removed)
       (λ here there. closes) (refuse refusal.NoSuchSnapshot)

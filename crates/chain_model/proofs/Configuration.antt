@@ -6,7 +6,8 @@ use Rattle.std.specs.Cmp.Derive.{both_true}
 use Rattle.std.proofs.lemmas.Bool.{cond_both, cases_Bool, cases_lt, false≢true, cond-true}
 use Rattle.std.proofs.lemmas.Bool.{cond-false}
 use Rattle.chain_model.specs.Lists.{Part}
-use Rattle.chain_model.specs.Configuration.{AllDifferent, Before, Lawful, Shrinks, at_epoch, has}
+use Rattle.chain_model.specs.Configuration.{AllDifferent, IsBeforeIn, Lawful, Shrinks, at_epoch}
+use Rattle.chain_model.specs.Configuration.{has}
 use Rattle.chain_model.specs.Configuration.{is_head, is_part, is_tail, last_of, leaves_out}
 use Rattle.chain_model.specs.Configuration.{predecessor, successor}
 use Rattle.chain_model.proofs.Lists.{part_refl, part_trans}
@@ -65,7 +66,7 @@ has_part (y ∷ d) (z ∷ c) x (inl p) h = ⊎_elim (λ e. has_first z c x (sym 
 has_part (y ∷ d) (z ∷ c) x (inr p) h = has_later z c x (has_part (y ∷ d) c x p h)
 
 -- the order of two nodes in a sublist is their order in the list
-pub before_part : (d c : List ℕ) (x y : ℕ) → Part d c → Before d x y → Before c x y
+pub before_part : (d c : List ℕ) (x y : ℕ) → Part d c → IsBeforeIn d x y → IsBeforeIn c x y
 before_part [] c x y p h = absurd h
 before_part (a ∷ d) [] x y p h = absurd p
 before_part (a ∷ d) (z ∷ c) x y (inl p) (inl h) = inl (sym p.0 ∙ h.0, has_part d c y p.1 h.1)
@@ -86,32 +87,32 @@ different_part (y ∷ d) (z ∷ c) (inl p) a =
 different_part (y ∷ d) (z ∷ c) (inr p) a = different_part (y ∷ d) c p a.1
 
 -- a node that precedes another is in the list
-pub before_left : (c : List ℕ) (x y : ℕ) → Before c x y → has c x ≡ true
+pub before_left : (c : List ℕ) (x y : ℕ) → IsBeforeIn c x y → has c x ≡ true
 before_left [] x y h = absurd h
 before_left (z ∷ c) x y (inl h) = has_first z c x h.0
 before_left (z ∷ c) x y (inr h) = has_later z c x (before_left c x y h)
 
 -- a node that another precedes is in the list
-pub before_right : (c : List ℕ) (x y : ℕ) → Before c x y → has c y ≡ true
+pub before_right : (c : List ℕ) (x y : ℕ) → IsBeforeIn c x y → has c y ≡ true
 before_right [] x y h = absurd h
 before_right (z ∷ c) x y (inl h) = has_later z c y h.1
 before_right (z ∷ c) x y (inr h) = has_later z c y (before_right c x y h)
 
 -- no node precedes the first
-none_before_first : (y : ℕ) (c : List ℕ) (x : ℕ) → AllDifferent (y ∷ c) → Before (y ∷ c) x y → ⊥
+none_before_first : (y : ℕ) (c : List ℕ) (x : ℕ) → AllDifferent (y ∷ c) → IsBeforeIn (y ∷ c) x y → ⊥
 none_before_first y c x a (inl h) = false≢true (sym a.0 ∙ h.1)
 none_before_first y c x a (inr h) = false≢true (sym a.0 ∙ before_right c x y h)
 
 -- no node precedes the head
 pub none_before_head : (c : List ℕ) (x y : ℕ) → AllDifferent c → is_head c y ≡ true
-    → Before c x y → ⊥
+    → IsBeforeIn c x y → ⊥
 none_before_head [] x y a e h = h
 none_before_head (z ∷ c) x y a e h =
     let same : z ≡ y = eqb-true z y e in
-    none_before_first z c x a (subst (λ k. Before (z ∷ c) x k) (sym same) h)
+    none_before_first z c x a (subst (λ k. IsBeforeIn (z ∷ c) x k) (sym same) h)
 
 -- no node precedes itself
-pub none_before_itself : (c : List ℕ) (x : ℕ) → AllDifferent c → Before c x x → ⊥
+pub none_before_itself : (c : List ℕ) (x : ℕ) → AllDifferent c → IsBeforeIn c x x → ⊥
 none_before_itself [] x a h = h
 none_before_itself (z ∷ c) x a (inl h) =
     false≢true (sym a.0 ∙ subst (λ k. has c k ≡ true) (sym h.0) h.1)
@@ -125,7 +126,7 @@ tail_has (y ∷ z ∷ c) t e = has_later y (z ∷ c) t (tail_has (z ∷ c) t e)
 
 -- all nodes but the tail precede the tail
 pub before_tail : (c : List ℕ) (x t : ℕ) → is_tail c t ≡ true → has c x ≡ true
-    → (x ≡ t) ⊎ Before c x t
+    → (x ≡ t) ⊎ IsBeforeIn c x t
 before_tail [] x t e h = absurd (false≢true h)
 before_tail (y ∷ []) x t e h = ⊎_elim (λ k. inl (sym k ∙ eqb-true y t e))
     (λ k. absurd (false≢true k)) (has_cases y [] x h)
@@ -135,7 +136,7 @@ before_tail (y ∷ z ∷ c) x t e h =
     (has_cases y (z ∷ c) x h)
 
 -- a predecessor precedes its node
-pub predecessor_before : (c : List ℕ) (y p : ℕ) → predecessor c y ≡ Some p → Before c p y
+pub predecessor_before : (c : List ℕ) (y p : ℕ) → predecessor c y ≡ Some p → IsBeforeIn c p y
 predecessor_before [] y p e = absurd (cc)
 predecessor_before (a ∷ []) y p e = absurd (cc)
 predecessor_before (a ∷ z ∷ c) y p e =
@@ -150,7 +151,7 @@ predecessor_before (a ∷ z ∷ c) y p e =
 
 -- a node before y is its predecessor, or precedes that
 pub before_predecessor : (c : List ℕ) (x y p : ℕ) → AllDifferent c → predecessor c y ≡ Some p
-    → Before c x y → (x ≡ p) ⊎ Before c x p
+    → IsBeforeIn c x y → (x ≡ p) ⊎ IsBeforeIn c x p
 before_predecessor [] x y p a e h = absurd h
 before_predecessor (w ∷ []) x y p a e h = absurd (cc)
 before_predecessor (w ∷ z ∷ c) x y p a e (inl h) =
@@ -168,7 +169,7 @@ before_predecessor (w ∷ z ∷ c) x y p a e (inl h) =
 before_predecessor (w ∷ z ∷ c) x y p a e (inr h) =
     ⊎_elim
     (λ t. absurd
-    (none_before_first z c x a.1 (subst (λ k. Before (z ∷ c) x k) (sym (eqb-true z y t)) h)))
+    (none_before_first z c x a.1 (subst (λ k. IsBeforeIn (z ∷ c) x k) (sym (eqb-true z y t)) h)))
     (λ t. ⊎_elim (λ s. inl s) (λ b. inr (inr b)) (before_predecessor (z ∷ c) x y p a.1
     (sym (cond-false (z == y) (Some w) (predecessor (z ∷ c) y) t) ∙ e) h))
     (cases_Bool (z == y))
@@ -228,7 +229,7 @@ created_has cs e x w is = elim (cases_lt e (length cs)) [
 
 -- the order of two nodes that a smaller list keeps
 pub before_back : (d c : List ℕ) (x y : ℕ) → Part d c → AllDifferent c → has d x ≡ true
-    → has d y ≡ true → Before c x y → Before d x y
+    → has d y ≡ true → IsBeforeIn c x y → IsBeforeIn d x y
 before_back [] c x y p a hx hy b = absurd (false≢true hx)
 before_back (w ∷ d) [] x y p a hx hy b = absurd b
 before_back (w ∷ d) (z ∷ c) x y (inr p) a hx hy (inl b) =

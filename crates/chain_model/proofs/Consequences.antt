@@ -4,20 +4,22 @@ use Rattle.std.proofs.Common.{take, ap₂, refl, None, true, not, nat_le, nat_lt
 use Rattle.std.proofs.Common.{subst, arith, take_all, length-take-le, le-leb, le-ltb}
 use Rattle.std.proofs.lemmas.Bool.{cond-true, cond-false, not_from_true}
 use Rattle.std.proofs.lemmas.List.Elements.{All-from_recursion}
-use Rattle.chain_model.specs.Lists.{Begins, Part}
-use Rattle.chain_model.specs.Configuration.{Before, at_epoch, has, is_tail, last_of, leaves_out}
+use Rattle.chain_model.specs.Lists.{IsPrefix, Part}
+use Rattle.chain_model.specs.Configuration.{IsBeforeIn, at_epoch, has, is_tail, last_of, leaves_out}
 use Rattle.chain_model.specs.declared.refusal.Refusal.TheVariants as refusal
-use Rattle.chain_model.specs.Frames.{Ack, Forward, Frame, addressee, epoch_of}
+use Rattle.chain_model.specs.Messages.{Ack, Forward, Message, addressee, epoch_of}
 use Rattle.chain_model.specs.Requests.{Close, Closed, Committed, Open, Opened, Read, Refused}
-use Rattle.chain_model.specs.Requests.{Reply, Shows, Submit}
-use Rattle.chain_model.specs.Node.{Answer, Node, refused, replied}
+use Rattle.chain_model.specs.Requests.{Response, Shows, Submit}
+use Rattle.chain_model.specs.Machine.{Answer, MachineState, refused, replied}
 use Rattle.chain_model.specs.Rules.{if_readable, read}
-use Rattle.chain_model.specs.World.{Answered, Ask, Deliver, Event, Lost, Notice, Outcome, Start}
-use Rattle.chain_model.specs.World.{Stop, Tend, Tick, World, answers, node_of, outcome, reached}
-use Rattle.chain_model.specs.Headline.{batches, handed_in}
-use Rattle.chain_model.specs.InOrder.{InOrder, IsTaken, TellsCommitted, TellsTrue}
+use Rattle.chain_model.specs.System.{Answered, Ask, Deliver, SystemEvent, Lost, Notice, Outcome}
+use Rattle.chain_model.specs.System.{Start}
+use Rattle.chain_model.specs.System.{Stop, Tend, Tick, SystemState, answers, node_of, outcome}
+use Rattle.chain_model.specs.System.{reached}
+use Rattle.chain_model.specs.Headline.{batches, submitted}
+use Rattle.chain_model.specs.Order.{InOrder, IsInSubmittedOrder, AckIsTrue, ForwardIsTrue}
 use Rattle.chain_model.specs.Freshness.{IsAtMost, ReadsFresh}
-use Rattle.chain_model.specs.KeepsEnough.{KeepsEnough}
+use Rattle.chain_model.specs.Retention.{KeepsEnough}
 use Rattle.chain_model.proofs.Lists.{begins-length, begins_refl, begins_trans}
 use Rattle.chain_model.proofs.Lists.{every_map, part_more}
 use Rattle.chain_model.proofs.Configuration.{IsChain, before_part, before_tail, created_has}
@@ -42,7 +44,8 @@ part_of_map f (x ∷ l) (y ∷ m) (inr p) =
     (rest.0, (part_more rest.0 m y rest.1.0, rest.1.1))
 
 -- the submitted batches, without places
-handed_batches : {A : Type 0} (i : ℕ) (es : List (Event A)) → batches (handed_in i es) ≡ handed es
+handed_batches : {A : Type 0} (i : ℕ) (es : List (SystemEvent A)) → batches (submitted i es) ≡
+    handed es
 handed_batches i [] = refl
 handed_batches i (Ask x j (Submit b) went ∷ es) = ap (λ r. b ∷ r) (handed_batches (suc i) es)
 handed_batches i (Ask x j (Read at) went ∷ es) = handed_batches (suc i) es
@@ -57,74 +60,76 @@ handed_batches i (Stop x ∷ es) = handed_batches (suc i) es
 handed_batches i (Lost ∷ es) = handed_batches (suc i) es
 
 -- a sublist of the batches is the image of a sublist of the batches with places
-taken_of : {A : Type 0} (events : List (Event A)) (l : List A) → Part l (handed events)
-    → IsTaken events l
-taken_of events l part = part_of_map (λ (p : ℕ × _). p.1) l (handed_in 1 events)
+taken_of : {A : Type 0} (events : List (SystemEvent A)) (l : List A) → Part l (handed events)
+    → IsInSubmittedOrder events l
+taken_of events l part = part_of_map (λ (p : ℕ × _). p.1) l (submitted 1 events)
     (subst (λ m. Part l m) (sym (handed_batches 1 events)) part)
 
 -- a good frame is to a node of its epoch
-is_addressed : {A : Type 0} (cs : List (List ℕ)) (events : List (Event A)) (lists : ℕ → List A)
-    (f : Frame A) → FrameOk cs events lists f → has (at_epoch cs (epoch_of f)) (addressee f) ≡ true
+is_addressed : {A : Type 0} (cs : List (List ℕ)) (events : List (SystemEvent A))
+    (lists : ℕ → List A)
+    (f : Message A) → FrameOk cs events lists f → has (at_epoch cs (epoch_of f)) (addressee f) ≡
+        true
 is_addressed cs events lists (Forward to e from number batch) ok = ok.0
 is_addressed cs events lists (Ack to e from committed have) ok = ok.0
 
 -- a good Forward is true
-tells_true : {A : Type 0} (cs : List (List ℕ)) (events : List (Event A)) (lists : ℕ → List A)
-    (f : Frame A) → FrameOk cs events lists f → TellsTrue cs lists f
+tells_true : {A : Type 0} (cs : List (List ℕ)) (events : List (SystemEvent A)) (lists : ℕ → List A)
+    (f : Message A) → FrameOk cs events lists f → ForwardIsTrue cs lists f
 tells_true cs events lists (Forward to e from number batch) ok = ok.1
 tells_true cs events lists (Ack to e from committed have) ok = tt
 
 -- a good Ack reports a committed length
-tells_committed : {A : Type 0} (cs : List (List ℕ)) (events : List (Event A))
-    (lists : ℕ → List A) (f : Frame A) → FrameOk cs events lists f → TellsCommitted cs events f
+tells_committed : {A : Type 0} (cs : List (List ℕ)) (events : List (SystemEvent A))
+    (lists : ℕ → List A) (f : Message A) → FrameOk cs events lists f → AckIsTrue cs events f
 tells_committed cs events lists (Forward to e from number batch) ok = tt
 tells_committed cs events lists (Ack to e from committed have) ok = (ok.1.0, (ok.1.1.0, ok.1.1.2))
 
 module _ {A : Type 0} (cs : List (List ℕ)) (lawful : IsChain cs) where
   -- all that holds after every run
-  holds : (events : List (Event A)) → WorldOk cs events (handed events) (reached cs events)
+  holds : (events : List (SystemEvent A)) → WorldOk cs events (handed events) (reached cs events)
   holds events = reached_ok cs lawful events
 
   -- a node goes by the configuration of its epoch
-  known : (events : List (Event A)) (x : ℕ) → (node_of cs events x).ids ≡ at_epoch cs
+  known : (events : List (SystemEvent A)) (x : ℕ) → (node_of cs events x).ids ≡ at_epoch cs
       (node_of cs events x).epoch
   known events x = ((holds events).nodes x).sound.knows
 
   -- every node of the configuration has the batches that a node knows as committed
-  safe : (events : List (Event A)) (x y : ℕ) → has (at_epoch cs (node_of cs events x).epoch) y
-      ≡ true → Begins (take (node_of cs events x).committed (node_of cs events x).list)
+  safe : (events : List (SystemEvent A)) (x y : ℕ) → has (at_epoch cs (node_of cs events x).epoch) y
+      ≡ true → IsPrefix (take (node_of cs events x).committed (node_of cs events x).list)
       (node_of cs events y).list
   safe events x y k = ((holds events).nodes x).sound.safe y
       (subst (λ c. has c y ≡ true) (sym (known events x)) k)
 
   -- lists begin one another along the chain
-  order : (events : List (Event A)) (x y : ℕ) → Before (at_epoch cs 0) x y
+  order : (events : List (SystemEvent A)) (x y : ℕ) → IsBeforeIn (at_epoch cs 0) x y
       → has (at_epoch cs (node_of cs events y).epoch) x ≡ true
-      → Begins (node_of cs events y).list (node_of cs events x).list
+      → IsPrefix (node_of cs events y).list (node_of cs events x).list
   order events x y before k = ((holds events).nodes y).sound.behind x before
       (subst (λ c. has c x ≡ true) (sym (known events y)) k)
 
   -- at a tail
-  tail_safe : (events : List (Event A)) (t y : ℕ)
+  tail_safe : (events : List (SystemEvent A)) (t y : ℕ)
       → is_tail (at_epoch cs (node_of cs events t).epoch) t ≡ true
       → has (at_epoch cs (node_of cs events t).epoch) y ≡ true
-      → Begins (node_of cs events t).list (node_of cs events y).list
+      → IsPrefix (node_of cs events t).list (node_of cs events y).list
   tail_safe events t y is k =
       let s = ((holds events).nodes t).sound in
       let n = node_of cs events t in
       ⊎_elim
-      (λ same. subst (λ z. Begins n.list (node_of cs events z).list) (sym same)
+      (λ same. subst (λ z. IsPrefix n.list (node_of cs events z).list) (sym same)
       (begins_refl n.list))
       (λ before. order events y t (before_part (at_epoch cs n.epoch) (at_epoch cs 0) y t
       (later_part cs 0 n.epoch lawful (omega arith) s.in_range) before) k)
       (before_tail (at_epoch cs n.epoch) y t is k)
 
   -- the order of lists, and the truth of frames
-  pub in_order : (events : List (Event A)) → InOrder cs events
+  pub in_order : (events : List (SystemEvent A)) → InOrder cs events
   in_order events =
       let lists = lists_of (reached cs events) in
       let frames = (reached cs events).frames in
-      let each : (P : Frame A → Type 0) → ((f : Frame A) → FrameOk cs events lists f → P f)
+      let each : (P : Message A → Type 0) → ((f : Message A) → FrameOk cs events lists f → P f)
       → All P frames =
       λ P tells. All-from_recursion P frames
       (every_map (FrameOk cs events lists) P frames tells (holds events).frames) in
@@ -135,8 +140,8 @@ module _ {A : Type 0} (cs : List (List ℕ)) (lawful : IsChain cs) where
         created = each (λ f. has (at_epoch cs 0) (addressee f) ≡ true)
             (λ f ok. created_has cs (epoch_of f) (addressee f) lawful
             (is_addressed cs events lists f ok));
-        forwards = each (TellsTrue cs lists) (tells_true cs events lists);
-        acks = each (TellsCommitted cs events) (tells_committed cs events lists);
+        forwards = each (ForwardIsTrue cs lists) (tells_true cs events lists);
+        acks = each (AckIsTrue cs events) (tells_committed cs events lists);
         stays = λ e l c y k.
             let n = node_of cs c.before c.tail in
             let has_y : has (at_epoch cs n.epoch) y ≡ true =
@@ -144,7 +149,7 @@ module _ {A : Type 0} (cs : List (List ℕ)) (lawful : IsChain cs) where
             let is_tail_n : is_tail (at_epoch cs n.epoch) c.tail ≡ true =
             subst (λ i. is_tail (at_epoch cs i) c.tail ≡ true) (sym c.epoch) c.is in
             begins_trans c.begins (begins_trans (tail_safe c.before c.tail y is_tail_n has_y)
-            (subst (λ es. Begins (node_of cs c.before y).list (node_of cs es y).list) c.whole
+            (subst (λ es. IsPrefix (node_of cs c.before y).list (node_of cs es y).list) c.whole
             ((only_grows cs c.before c.later).nodes y).list));
         known = λ x. let k = ((holds events).nodes x).sound.known in (k.0, (k.1.0, k.1.1, k.1.2));
         committed = safe events;
@@ -158,7 +163,7 @@ module _ {A : Type 0} (cs : List (List ℕ)) (lawful : IsChain cs) where
       }
 
   -- no reply is of more than a last node has
-  up_to : (events : List (Event A)) (t : ℕ) → has (last_of cs) t ≡ true → (r : Reply A)
+  up_to : (events : List (SystemEvent A)) (t : ℕ) → has (last_of cs) t ≡ true → (r : Response A)
       → ReplyOk cs events (lists_of (reached cs events)) r
       → IsAtMost (length (node_of cs events t).list) r
   up_to events t k (Committed i n) ok = omega (arith, begins-length (ok.1.2 t k), ok.1.0)
@@ -168,7 +173,7 @@ module _ {A : Type 0} (cs : List (List ℕ)) (lawful : IsChain cs) where
   up_to events t k (Refused i why) ok = tt
 
   -- a number that can be read is read
-  shows : (n : Node A) (t i : ℕ) (s : ℕ) (a : Answer A) → has n.ids t ≡ true → n.floor ≤ s
+  shows : (n : MachineState A) (t i : ℕ) (s : ℕ) (a : Answer A) → has n.ids t ≡ true → n.floor ≤ s
       → s ≤ n.committed → if_readable t n i s a ≡ a
   shows n t i s a k low high =
       cond-false (not (has n.ids t)) (refused n i refusal.Removed) _ (not_from_true (has n.ids t) k)
@@ -177,7 +182,7 @@ module _ {A : Type 0} (cs : List (List ℕ)) (lawful : IsChain cs) where
       (le-leb s n.committed high)
 
   -- a running node whose full list is committed reads it all
-  shows_whole : (w : World A) (t i : ℕ) → (w.nodes t).running ≡ true
+  shows_whole : (w : SystemState A) (t i : ℕ) → (w.nodes t).running ≡ true
       → has (w.nodes t).ids t ≡ true → (w.nodes t).floor ≤ (w.nodes t).committed
       → (w.nodes t).committed ≡ length (w.nodes t).list
       → (outcome w cs (Ask t i (Read None) Answered)).replies ≡ Shows i (length (w.nodes t).list)
@@ -192,7 +197,7 @@ module _ {A : Type 0} (cs : List (List ℕ)) (lawful : IsChain cs) where
       ∙ ap (λ s. Shows i s n.list ∷ []) whole
 
   -- the reads at the last tail
-  pub reads_fresh : (events : List (Event A)) → ReadsFresh cs events
+  pub reads_fresh : (events : List (SystemEvent A)) → ReadsFresh cs events
   reads_fresh events t is at_last up =
       let w = reached cs events in
       let n = node_of cs events t in
@@ -212,7 +217,7 @@ module _ {A : Type 0} (cs : List (List ℕ)) (lawful : IsChain cs) where
       }
 
   -- the batches that a node keeps are enough
-  pub keeps_enough : (events : List (Event A)) → KeepsEnough cs events
+  pub keeps_enough : (events : List (SystemEvent A)) → KeepsEnough cs events
   keeps_enough events = record {
     others = λ x y k.
         let s = ((holds events).nodes x).sound in

@@ -2,18 +2,20 @@
 use Rattle.std.proofs.Common.{◌<◌, ◌≡◌, ℕ, suc, List, [], ◌∷◌, ◌++◌, length, Bool, true, false}
 use Rattle.std.proofs.Common.{cond, nat_lt, sym, refl, ◌∙◌, subst, arith}
 use Rattle.std.proofs.lemmas.Bool.{cond_both}
-use Rattle.chain_model.specs.Lists.{Begins}
+use Rattle.chain_model.specs.Lists.{IsPrefix}
 use Rattle.chain_model.specs.Configuration.{is_tail}
 use Rattle.chain_model.specs.declared.refusal.Refusal.{Refusal}
 use Rattle.chain_model.specs.declared.drop_reason.DropReason.TheVariants as reason
 use Rattle.chain_model.specs.declared.drop_reason.DropReason.{DropReason}
-use Rattle.chain_model.specs.Frames.{Ack, Forward, Frame}
-use Rattle.chain_model.specs.Requests.{Close, Closed, Open, Opened, Read, Reply, Request, Submit}
-use Rattle.chain_model.specs.Node.{Answer, Node, dropped_for, refused, replied, silent, without}
+use Rattle.chain_model.specs.Messages.{Ack, Forward, Message}
+use Rattle.chain_model.specs.Requests.{Close, Closed, Open, Opened, Read, Response, Request, Submit}
+use Rattle.chain_model.specs.Machine.{Answer, MachineState, dropped_for, refused, replied, silent}
+use Rattle.chain_model.specs.Machine.{without}
 use Rattle.chain_model.specs.Rules.{accept, ack, acknowledge, adopt, append, ask, forward}
-use Rattle.chain_model.specs.Rules.{longer_for, moved, notice, number_read, pass_on, receive}
-use Rattle.chain_model.specs.Rules.{resend, show, tail_commits, take_ack, tell_again, tend, tick}
-use Rattle.chain_model.specs.Rules.{told}
+use Rattle.chain_model.specs.Rules.{longer_for, moved, notice, number_read, on_ack, receive}
+use Rattle.chain_model.specs.Rules.{resend, reply_read, tail_commits, receive_ack, ack_duplicate}
+use Rattle.chain_model.specs.Rules.{tend, tick}
+use Rattle.chain_model.specs.Rules.{acked}
 use Rattle.chain_model.specs.Growth.{GoesOn, Grows, StepsGoOn}
 use Rattle.chain_model.proofs.Lists.{begins_more, begins_refl, begins_trans}
 use Rattle.chain_model.proofs.Cases.{ack_cases, close_cases, forward_cases, notice_cases}
@@ -21,7 +23,7 @@ use Rattle.chain_model.proofs.Cases.{open_cases, read_cases, submit_cases, take_
 use Rattle.chain_model.proofs.Cases.{take_forward_cases, tick_cases}
 
 -- a node is itself later
-pub grows_refl : {A : Type 0} (n : Node A) → Grows n n
+pub grows_refl : {A : Type 0} (n : MachineState A) → Grows n n
 grows_refl n = record {
   list = begins_refl n.list;
   epoch = omega arith;
@@ -30,7 +32,7 @@ grows_refl n = record {
 }
 
 -- later than later is later
-pub grows_trans : {A : Type 0} {n m o : Node A} → Grows n m → Grows m o → Grows n o
+pub grows_trans : {A : Type 0} {n m o : MachineState A} → Grows n m → Grows m o → Grows n o
 grows_trans a b = record {
   list = begins_trans a.list b.list;
   epoch = omega (arith, a.epoch, b.epoch);
@@ -39,7 +41,7 @@ grows_trans a b = record {
 }
 
 -- nothing changed but what a stop forgets
-pub record Same {A : Type 0} (n m : Node A) : Type 0 where
+pub record Same {A : Type 0} (n m : MachineState A) : Type 0 where
   pub list : m.list ≡ n.list
   pub epoch : m.epoch ≡ n.epoch
   pub floor : m.floor ≡ n.floor
@@ -47,14 +49,14 @@ pub record Same {A : Type 0} (n m : Node A) : Type 0 where
   pub running : m.running ≡ n.running
 
 -- nothing is changed by nothing
-same_refl : {A : Type 0} (n : Node A) → Same n n
+same_refl : {A : Type 0} (n : MachineState A) → Same n n
 same_refl n = record { list = refl; epoch = refl; floor = refl; kept = refl; running = refl }
 
 -- an answer that leaves the node as it was
-still : {A : Type 0} (n : Node A) (a : Answer A) → Same n a.node → GoesOn n a
+still : {A : Type 0} (n : MachineState A) (a : Answer A) → Same n a.node → GoesOn n a
 still n a s = record {
   grows = record {
-    list = subst (λ l. Begins n.list l) (sym s.list) (begins_refl n.list);
+    list = subst (λ l. IsPrefix n.list l) (sym s.list) (begins_refl n.list);
     epoch = omega (arith, s.epoch);
     floor = omega (arith, s.floor);
     kept = omega (arith, s.kept);
@@ -63,12 +65,12 @@ still n a s = record {
 }
 
 -- an answer that appends a batch
-longer : {A : Type 0} (n : Node A) (b : A) (m : Node A) (a : Answer A)
+longer : {A : Type 0} (n : MachineState A) (b : A) (m : MachineState A) (a : Answer A)
     → m.list ≡ n.list ++ b ∷ [] → Same m a.node → m.epoch ≡ n.epoch → m.floor ≡ n.floor
     → m.kept ≡ n.kept → m.running ≡ n.running → GoesOn n a
 longer n b m a list s epoch floor kept running = record {
   grows = record {
-    list = subst (λ l. Begins n.list l) (sym (s.list ∙ list)) (begins_more n.list (b ∷ []));
+    list = subst (λ l. IsPrefix n.list l) (sym (s.list ∙ list)) (begins_more n.list (b ∷ []));
     epoch = omega (arith, s.epoch, epoch);
     floor = omega (arith, s.floor, floor);
     kept = omega (arith, s.kept, kept);
@@ -77,7 +79,7 @@ longer n b m a list s epoch floor kept running = record {
 }
 
 -- a tend only raises floor and kept number
-pub tend_goes_on : {A : Type 0} (n : Node A) (rises : Bool) (gives_up : ℕ)
+pub tend_goes_on : {A : Type 0} (n : MachineState A) (rises : Bool) (gives_up : ℕ)
     → GoesOn n (tend n rises gives_up)
 tend_goes_on n false gives_up = still n (silent n) (same_refl n)
 tend_goes_on n true gives_up = record {
@@ -92,14 +94,15 @@ tend_goes_on n true gives_up = record {
 
 module _ {A : Type 0} (x : ℕ) where
   -- a tail that commits changes nothing else
-  tail_same : (n : Node A) → Same n (tail_commits x n)
+  tail_same : (n : MachineState A) → Same n (tail_commits x n)
   tail_same n =
       cond_both (is_tail n.ids x) (record n { committed = length n.list }) n (λ m. Same n m)
       (λ is. record { list = refl; epoch = refl; floor = refl; kept = refl; running = refl })
       (λ not. same_refl n)
 
   -- a stop forgets pending requests
-  acknowledged : (n m : Node A) (fs : List (Frame A)) → Same n m → Same n (acknowledge m fs).node
+  acknowledged : (n m : MachineState A) (fs : List (Message A)) → Same n m → Same n
+      (acknowledge m fs).node
   acknowledged n m fs s = record {
     list = s.list;
     epoch = s.epoch;
@@ -109,21 +112,21 @@ module _ {A : Type 0} (x : ℕ) where
   }
 
   -- an acknowledgement leaves the list
-  pub take_ack_list : (n : Node A) (committed have : ℕ)
-      → (take_ack x n committed have).node.list ≡ n.list
+  pub take_ack_list : (n : MachineState A) (committed have : ℕ)
+      → (receive_ack x n committed have).node.list ≡ n.list
   take_ack_list n committed have =
       take_ack_cases (λ a. a.node.list ≡ n.list) x n committed have (λ low. refl) refl
 
   -- a drop leaves the node
-  drops : (n : Node A) (why : DropReason) → GoesOn n (dropped_for n why)
+  drops : (n : MachineState A) (why : DropReason) → GoesOn n (dropped_for n why)
   drops n why = still n (dropped_for n why) (same_refl n)
 
   -- a refusal leaves the node
-  refuses : (n : Node A) (i : ℕ) (why : Refusal) → GoesOn n (refused n i why)
+  refuses : (n : MachineState A) (i : ℕ) (why : Refusal) → GoesOn n (refused n i why)
   refuses n i why = still n (refused n i why) (same_refl n)
 
   -- the head that accepts a batch stays running and grows
-  accept_goes_on : (n : Node A) (i : ℕ) (b : A) → GoesOn n (accept x n i b)
+  accept_goes_on : (n : MachineState A) (i : ℕ) (b : A) → GoesOn n (accept x n i b)
   accept_goes_on n i b =
       let more = longer_for n i b in
       let m = tail_commits x more in
@@ -132,28 +135,29 @@ module _ {A : Type 0} (x : ℕ) where
       refl refl
 
   -- a node that appends a batch stays running and grows
-  append_goes_on : (n : Node A) (k : ℕ) (b : A) → GoesOn n (append x n k b)
+  append_goes_on : (n : MachineState A) (k : ℕ) (b : A) → GoesOn n (append x n k b)
   append_goes_on n k b =
-      let more : Node A = record n { list = n.list ++ b ∷ [] } in
+      let more : MachineState A = record n { list = n.list ++ b ∷ [] } in
       longer n b more (append x n k b) refl (tail_same more) refl refl refl refl
 
   -- a node that learns a committed number stays running and grows
-  pass_on_goes_on : (n : Node A) (committed have : ℕ) → GoesOn n (pass_on x n committed have)
+  pass_on_goes_on : (n : MachineState A) (committed have : ℕ) → GoesOn n (on_ack x n committed have)
   pass_on_goes_on n committed have =
-      let m = told n committed have in
+      let m = acked n committed have in
       let fs = cond (nat_lt n.committed committed) (ack x m) [] in
       let same : Same n m =
       record { list = refl; epoch = refl; floor = refl; kept = refl; running = refl } in
-      still n (pass_on x n committed have) (acknowledged n m fs same)
+      still n (on_ack x n committed have) (acknowledged n m fs same)
 
   -- a node that adopts a later configuration stays running and grows
-  adopt_goes_on : (n : Node A) (e : ℕ) (ids : List ℕ) → n.epoch < e → GoesOn n (adopt x n e ids)
+  adopt_goes_on : (n : MachineState A) (e : ℕ) (ids : List ℕ) → n.epoch < e → GoesOn n
+      (adopt x n e ids)
   adopt_goes_on n e ids later =
       let s : Same (moved x n e ids) (tail_commits x (moved x n e ids)) =
       tail_same (moved x n e ids) in
       record {
         grows = record {
-          list = subst (λ l. Begins n.list l) (sym s.list) (begins_refl n.list);
+          list = subst (λ l. IsPrefix n.list l) (sym s.list) (begins_refl n.list);
           epoch = omega (arith, s.epoch, later);
           floor = omega (arith, s.floor);
           kept = omega (arith, s.kept);
@@ -162,19 +166,19 @@ module _ {A : Type 0} (x : ℕ) where
       }
 
   -- snapshots are forgotten by a stop
-  snapshots_go_on : (n : Node A) (ss : List ℕ) (r : Reply A)
+  snapshots_go_on : (n : MachineState A) (ss : List ℕ) (r : Response A)
       → GoesOn n (replied (record n { snapshots = ss }) r)
   snapshots_go_on n ss r =
       still n (replied (record n { snapshots = ss }) r)
       (record { list = refl; epoch = refl; floor = refl; kept = refl; running = refl })
 
   -- a node stays running and grows at a request
-  pub ask_goes_on : (n : Node A) (i : ℕ) (q : Request A) → GoesOn n (ask x n i q)
+  pub ask_goes_on : (n : MachineState A) (i : ℕ) (q : Request A) → GoesOn n (ask x n i q)
   ask_goes_on n i (Submit b) =
       submit_cases (GoesOn n) x n i b (refuses n i) (λ here head. accept_goes_on n i b)
   ask_goes_on n i (Read at) =
       read_cases (GoesOn n) x n i at (refuses n i)
-      (λ low le. still n (show n i (number_read n at)) (same_refl n))
+      (λ low le. still n (reply_read n i (number_read n at)) (same_refl n))
   ask_goes_on n i (Open at) =
       let s = number_read n at in
       open_cases (GoesOn n) x n i at (refuses n i)
@@ -184,20 +188,20 @@ module _ {A : Type 0} (x : ℕ) where
       (snapshots_go_on n (without s n.snapshots) (Closed i s))
 
   -- a node stays running and grows at a tick
-  pub tick_goes_on : (n : Node A) → GoesOn n (tick x n)
+  pub tick_goes_on : (n : MachineState A) → GoesOn n (tick x n)
   tick_goes_on n =
       tick_cases (GoesOn n) x n (still n (resend x n) (same_refl n)) (drops n reason.Removed)
 
   -- a node stays running and grows at a notice
-  pub notice_goes_on : (n : Node A) (e : ℕ) (ids : List ℕ) → GoesOn n (notice x n e ids)
+  pub notice_goes_on : (n : MachineState A) (e : ℕ) (ids : List ℕ) → GoesOn n (notice x n e ids)
   notice_goes_on n e ids = notice_cases (GoesOn n) x n e ids (drops n) (adopt_goes_on n e ids)
 
   -- a node stays running and grows at a frame
-  pub receive_goes_on : (n : Node A) (f : Frame A) → GoesOn n (receive x n f)
+  pub receive_goes_on : (n : MachineState A) (f : Message A) → GoesOn n (receive x n f)
   receive_goes_on n (Forward to e p k b) =
       forward_cases (GoesOn n) x n to e p k b (drops n)
       (λ here now is. take_forward_cases (GoesOn n) x n k b (λ next. append_goes_on n k b)
-      (still n (tell_again x n) (same_refl n)))
+      (still n (ack_duplicate x n) (same_refl n)))
   receive_goes_on n (Ack to e s committed have) =
       ack_cases (GoesOn n) x n to e s committed have (drops n)
       (λ here now is. take_ack_cases (GoesOn n) x n committed have

@@ -3,10 +3,10 @@ use Rattle.std.proofs.Common.{◌≡◌, ⊎_elim, ℕ, ◌<◌, ◌≤◌, max,
 use Rattle.std.proofs.Common.{true, sym, refl, subst, arith}
 use Rattle.std.specs.List.{AllByRecursion}
 use Rattle.std.proofs.lemmas.Bool.{cases_lt}
-use Rattle.chain_model.specs.Lists.{Begins, Part, place}
+use Rattle.chain_model.specs.Lists.{IsPrefix, Part, place}
 use Rattle.chain_model.specs.Configuration.{has, last_of}
-use Rattle.chain_model.specs.Requests.{Closed, Committed, Opened, Refused, Reply, Shows}
-use Rattle.chain_model.specs.World.{Event, node_of, reached}
+use Rattle.chain_model.specs.Requests.{Closed, Committed, Opened, Refused, Response, Shows}
+use Rattle.chain_model.specs.System.{SystemEvent, node_of, reached}
 use Rattle.chain_model.proofs.Lists.{begins-place, begins_nil, begins_shorter, part_begins}
 use Rattle.chain_model.proofs.Lists.{part_trans, take_begins}
 use Rattle.chain_model.proofs.Configuration.{IsChain, last_epoch, someone}
@@ -15,20 +15,21 @@ use Rattle.chain_model.proofs.Invariant.{ReplyOk, Safe, WorldOk, lists_of}
 use Rattle.chain_model.proofs.Reached.{reached_ok}
 
 -- a reply that agrees with the one list: the request submitted the acknowledged batch
-abbrev pub Speaks : {A : Type 0} → List (Event A) → List A → Reply A → Type 0
+abbrev pub Speaks : {A : Type 0} → List (SystemEvent A) → List A → Response A → Type 0
 Speaks events B (Committed i n) = (b : _) × (WasHandedIn events i b × (place B n ≡ Some b))
 Speaks events B (Shows i s l) = (s ≤ length B) × (l ≡ take s B)
 Speaks events B _ = Unit {0}
 
 -- there is one list, of batches of any kind
-pub record OneHistory {A : Type 0} (cs : List (List ℕ)) (events : List (Event A)) : Type 0 where
+pub record OneHistory {A : Type 0} (cs : List (List ℕ)) (events : List (SystemEvent A)) : Type 0
+    where
   pub B : List A
   pub taken : Part B (handed events)
   pub speaks : AllByRecursion (Speaks events B) (reached cs events).replies
-  pub stands : (x : ℕ) → has (last_of cs) x ≡ true → Begins B (node_of cs events x).list
+  pub stands : (x : ℕ) → has (last_of cs) x ≡ true → IsPrefix B (node_of cs events x).list
 
 -- the number that a reply speaks of
-abbrev number_of : {A : Type 0} → Reply A → ℕ
+abbrev number_of : {A : Type 0} → Response A → ℕ
 number_of (Committed i n) = n
 number_of (Shows i s l) = s
 number_of (Opened i s) = 0
@@ -36,17 +37,18 @@ number_of (Closed i s) = 0
 number_of (Refused i why) = 0
 
 -- the greatest number that a reply speaks of
-abbrev top : {A : Type 0} → List (Reply A) → ℕ
+abbrev top : {A : Type 0} → List (Response A) → ℕ
 top [] = 0
 top (r ∷ rs) = max (number_of r) (top rs)
 
-module _ {A : Type 0} (events : List (Event A)) (cs : List (List ℕ)) (lists : ℕ → List A) where
+module _ {A : Type 0} (events : List (SystemEvent A)) (cs : List (List ℕ)) (lists : ℕ → List A)
+    where
   -- a reply of which the invariant holds
-  abbrev GoodReply : Reply A → Type 0
+  abbrev GoodReply : Response A → Type 0
   GoodReply r = ReplyOk cs events lists r
 
   -- the list that a reply is about
-  list_of : (r : Reply A) → GoodReply r → (l : List A)
+  list_of : (r : Response A) → GoodReply r → (l : List A)
       × ((length l ≡ number_of r) × Safe lists (last_of cs) l)
   list_of (Committed i n) ok = (ok.0, (ok.1.0, ok.1.2))
   list_of (Shows i s l) ok = (l, (ok.0, ok.1))
@@ -55,7 +57,7 @@ module _ {A : Type 0} (events : List (Event A)) (cs : List (List ℕ)) (lists : 
   list_of (Refused i why) ok = ([], (refl, λ y k. begins_nil (lists y)))
 
   -- the longest list that a reply is about
-  longest : (rs : List (Reply A)) → AllByRecursion GoodReply rs → (l : List A)
+  longest : (rs : List (Response A)) → AllByRecursion GoodReply rs → (l : List A)
       × ((length l ≡ top rs) × Safe lists (last_of cs) l)
   longest [] ok = ([], (refl, λ y k. begins_nil (lists y)))
   longest (r ∷ rs) ok =
@@ -68,7 +70,7 @@ module _ {A : Type 0} (events : List (Event A)) (cs : List (List ℕ)) (lists : 
 
   module _ (z : ℕ) (last : has (last_of cs) z ≡ true) (B : List A)
       (safe : Safe lists (last_of cs) B) where
-    agree : (r : Reply A) → GoodReply r → number_of r ≤ length B → Speaks events B r
+    agree : (r : Response A) → GoodReply r → number_of r ≤ length B → Speaks events B r
     agree (Committed i n) ok le =
         let p = ok.1.1 in (
           p.0,
@@ -79,20 +81,20 @@ module _ {A : Type 0} (events : List (Event A)) (cs : List (List ℕ)) (lists : 
           ),
         )
     agree (Shows i s l) ok le =
-        let begins : Begins l B = begins_shorter l B (lists z) (ok.1 z last) (safe z last)
+        let begins : IsPrefix l B = begins_shorter l B (lists z) (ok.1 z last) (safe z last)
         (omega (arith, ok.0)) in
         (le, sym (subst (λ k. take k B ≡ l) ok.0 (take_begins l B begins)))
     agree (Opened i s) ok le = tt
     agree (Closed i s) ok le = tt
     agree (Refused i why) ok le = tt
 
-    agree_all : (rs : List (Reply A)) → AllByRecursion GoodReply rs → top rs ≤ length B
+    agree_all : (rs : List (Response A)) → AllByRecursion GoodReply rs → top rs ≤ length B
         → AllByRecursion (Speaks events B) rs
     agree_all [] ok le = tt
     agree_all (r ∷ rs) ok le = (agree r ok.0 (omega arith), agree_all rs ok.1 (omega arith))
 
 -- it is the one list
-pub one_history : {A : Type 0} (cs : List (List ℕ)) (events : List (Event A)) → IsChain cs
+pub one_history : {A : Type 0} (cs : List (List ℕ)) (events : List (SystemEvent A)) → IsChain cs
     → OneHistory cs events
 one_history cs events lawful =
     let w = reached cs events in

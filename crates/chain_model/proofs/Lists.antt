@@ -4,33 +4,33 @@ use Rattle.std.proofs.Common.{Some, None, sym, refl, ◌∙◌, ap, subst, arith
 use Rattle.std.proofs.Common.{take_at, append_assoc, append-nil, length-append}
 use Rattle.std.proofs.lemmas.List.{take-append-le}
 use Rattle.std.specs.List.{AllByRecursion}
-use Rattle.chain_model.specs.Lists.{Begins, Part, place}
+use Rattle.chain_model.specs.Lists.{IsPrefix, Part, place}
 
 -- a list begins itself
-pub begins_refl : {A : Type 0} (l : List A) → Begins l l
+pub begins_refl : {A : Type 0} (l : List A) → IsPrefix l l
 begins_refl l = record { rest = []; whole = append-nil l }
 
 -- the empty list begins each
-pub begins_nil : {A : Type 0} (l : List A) → Begins [] l
+pub begins_nil : {A : Type 0} (l : List A) → IsPrefix [] l
 begins_nil l = record { rest = l; whole = refl }
 
 -- a list begins what follows it
-pub begins_more : {A : Type 0} (l m : List A) → Begins l (l ++ m)
+pub begins_more : {A : Type 0} (l m : List A) → IsPrefix l (l ++ m)
 begins_more l m = record { rest = m; whole = refl }
 
 -- the same element in front
-pub begins_cons : {A : Type 0} {x : A} {l m : List A} → Begins l m → Begins (x ∷ l) (x ∷ m)
+pub begins_cons : {A : Type 0} {x : A} {l m : List A} → IsPrefix l m → IsPrefix (x ∷ l) (x ∷ m)
 begins_cons {x = x} b = record { rest = b.rest; whole = ap (λ r. x ∷ r) b.whole }
 
 -- a prefix of a prefix is a prefix of the list
-pub begins_trans : {A : Type 0} {l m n : List A} → Begins l m → Begins m n → Begins l n
+pub begins_trans : {A : Type 0} {l m n : List A} → IsPrefix l m → IsPrefix m n → IsPrefix l n
 begins_trans {l = l} a b = record {
   rest = a.rest ++ b.rest;
   whole = sym (append_assoc l a.rest b.rest) ∙ ap (λ r. r ++ b.rest) a.whole ∙ b.whole;
 }
 
 -- a prefix is no longer than the list
-pub begins-length : {A : Type 0} {l m : List A} → Begins l m → length l ≤ length m
+pub begins-length : {A : Type 0} {l m : List A} → IsPrefix l m → length l ≤ length m
 begins-length {l = l} {m = m} b = omega (arith, length-append l b.rest, ap length b.whole)
 
 -- the element behind a list is at the next place
@@ -44,11 +44,11 @@ place_end [] = refl
 place_end (y ∷ l) = place_end l
 
 -- the next batch
-pub begins_next : {A : Type 0} {l m : List A} (x : A) → Begins l m
-    → place m (suc (length l)) ≡ Some x → Begins (l ++ x ∷ []) m
+pub begins_next : {A : Type 0} {l m : List A} (x : A) → IsPrefix l m
+    → place m (suc (length l)) ≡ Some x → IsPrefix (l ++ x ∷ []) m
 begins_next {l = l} {m = m} x b at = go b.rest b.whole
   where
-    go : (rest : List _) → l ++ rest ≡ m → Begins (l ++ x ∷ []) m
+    go : (rest : List _) → l ++ rest ≡ m → IsPrefix (l ++ x ∷ []) m
     go [] e = absurd (cc (at, place_end l, append-nil l, e))
     go (y ∷ rest) e =
         let is : Some y ≡ Some x = sym (place_middle l rest y)
@@ -69,7 +69,7 @@ place_in (y ∷ l) r (suc zero) x e = e
 place_in (y ∷ l) r (suc (suc n)) x e = place_in l r (suc n) x e
 
 -- an element of a prefix is an element of the list
-pub begins-place : {A : Type 0} {l m : List A} (n : ℕ) (x : A) → Begins l m → place l n ≡ Some x
+pub begins-place : {A : Type 0} {l m : List A} (n : ℕ) (x : A) → IsPrefix l m → place l n ≡ Some x
     → place m n ≡ Some x
 begins-place {l = l} n x b e = subst (λ k. place k n ≡ Some x) b.whole (place_in l b.rest n x e)
 
@@ -78,32 +78,32 @@ pub place_last : {A : Type 0} (l : List A) (x : A) → place (l ++ x ∷ []) (su
 place_last l x = place_middle l [] x
 
 -- the first elements begin a list
-pub begins_take : {A : Type 0} (k : ℕ) (l : List A) → Begins (take k l) l
+pub begins_take : {A : Type 0} (k : ℕ) (l : List A) → IsPrefix (take k l) l
 begins_take zero l = begins_nil l
 begins_take (suc k) [] = begins_nil []
 begins_take (suc k) (x ∷ l) = begins_cons (begins_take k l)
 
 -- a prefix is the first elements of the list
-pub take_begins : {A : Type 0} (c l : List A) → Begins c l → take (length c) l ≡ c
+pub take_begins : {A : Type 0} (c l : List A) → IsPrefix c l → take (length c) l ≡ c
 take_begins c l b = subst (λ m. take (length c) m ≡ c) b.whole (take_at c b.rest (length c) refl)
 
 -- fewer of the first elements begin more of them
-pub take_less : {A : Type 0} (j k : ℕ) (l : List A) → j ≤ k → Begins (take j l) (take k l)
+pub take_less : {A : Type 0} (j k : ℕ) (l : List A) → j ≤ k → IsPrefix (take j l) (take k l)
 take_less zero k l h = begins_nil (take k l)
 take_less (suc j) zero l h = absurd (omega arith)
 take_less (suc j) (suc k) [] h = begins_nil []
 take_less (suc j) (suc k) (x ∷ l) h = begins_cons (take_less j k l (omega arith))
 
 -- the first elements of a prefix are those of the list
-pub take_of_begins : {A : Type 0} (k : ℕ) (l m : List A) → Begins l m → k ≤ length l
+pub take_of_begins : {A : Type 0} (k : ℕ) (l m : List A) → IsPrefix l m → k ≤ length l
     → take k m ≡ take k l
 take_of_begins k l m b h = subst (λ z. take k z ≡ take k l) b.whole (take-append-le k l b.rest h)
 
 -- of two that begin one list, the shorter begins the longer
-pub begins_shorter : {A : Type 0} (a b m : List A) → Begins a m → Begins b m
-    → length a ≤ length b → Begins a b
+pub begins_shorter : {A : Type 0} (a b m : List A) → IsPrefix a m → IsPrefix b m
+    → length a ≤ length b → IsPrefix a b
 begins_shorter a b m p q h =
-    subst (λ l. Begins a l) (take_begins b m q) (subst (λ l. Begins l (take (length b) m))
+    subst (λ l. IsPrefix a l) (take_begins b m q) (subst (λ l. IsPrefix l (take (length b) m))
     (take_begins a m p) (take_less (length a) (length b) m h))
 
 -- an element at an early place is among the first elements
@@ -148,7 +148,7 @@ part_append [] r = tt
 part_append (x ∷ l) r = inl (refl, part_append l r)
 
 -- a prefix is a sublist
-pub part_begins : {A : Type 0} {l m : List A} → Begins l m → Part l m
+pub part_begins : {A : Type 0} {l m : List A} → IsPrefix l m → Part l m
 part_begins {l = l} b = subst (λ z. Part l z) b.whole (part_append l b.rest)
 
 -- a sublist stays a sublist when one more batch is submitted

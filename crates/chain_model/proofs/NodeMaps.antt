@@ -9,16 +9,18 @@ use Rattle.chain_model.specs.Configuration.{successor}
 use Rattle.chain_model.specs.declared.refusal.Refusal.TheVariants as refusal
 use Rattle.chain_model.specs.declared.drop_reason.DropReason.TheVariants as reason
 use Rattle.chain_model.specs.declared.drop_reason.DropReason.{DropReason}
-use Rattle.chain_model.specs.Frames.{Ack, Forward, Frame}
-use Rattle.chain_model.specs.Requests.{Close, Committed, Open, Read, Reply, Request, Shows}
+use Rattle.chain_model.specs.Messages.{Ack, Forward, Message}
+use Rattle.chain_model.specs.Requests.{Close, Committed, Open, Read, Response, Request, Shows}
 use Rattle.chain_model.specs.Requests.{Submit}
-use Rattle.chain_model.specs.Node.{Answer, Node, dropped_for, due, is_open, not_due, refused}
-use Rattle.chain_model.specs.Node.{replied, started}
+use Rattle.chain_model.specs.Machine.{Answer, MachineState, dropped_for, due, is_open, not_due}
+use Rattle.chain_model.specs.Machine.{refused}
+use Rattle.chain_model.specs.Machine.{replied, started}
 use Rattle.chain_model.specs.Rules.{accept, ack, ack_to, acknowledge, adopt, adopted, append, ask}
-use Rattle.chain_model.specs.Rules.{close_at, close_snapshot, forward, forward_to, forwards}
-use Rattle.chain_model.specs.Rules.{if_readable, is_some_of, longer_for, moved, notice, open_at}
-use Rattle.chain_model.specs.Rules.{pass_on, receive, resend, show, submit, tail_commits}
-use Rattle.chain_model.specs.Rules.{take_ack, take_forward, tell_again, tend, tick, told}
+use Rattle.chain_model.specs.Rules.{remove_snapshot, close_snapshot, forward, forward_to, forwards}
+use Rattle.chain_model.specs.Rules.{if_readable, is_some_of, longer_for, moved, notice}
+use Rattle.chain_model.specs.Rules.{add_snapshot}
+use Rattle.chain_model.specs.Rules.{on_ack, receive, resend, reply_read, submit, tail_commits}
+use Rattle.chain_model.specs.Rules.{receive_ack, receive_forward, ack_duplicate, tend, tick, acked}
 use Rattle.chain_model.specs.Maps.{answer_map, frame_map, node_map, reply_map, request_map}
 
 -- a function of one of two values is one of two values
@@ -28,7 +30,7 @@ cond_of g true t' u v u' v' e p q = p ∙ ap (λ b. cond b u' v') e
 cond_of g false t' u v u' v' e p q = q ∙ ap (λ b. cond b u' v') e
 
 -- the answer of a node that has appended batch k
-abbrev sent : {A : Type 0} → ℕ → ℕ → Node A → Answer A
+abbrev sent : {A : Type 0} → ℕ → ℕ → MachineState A → Answer A
 sent x k m = record {
   node = m;
   frames = forward x m k ++ cond (is_tail m.ids x) (ack x m) [];
@@ -45,33 +47,35 @@ module _ {A B : Type 0} (f : A → B) where
   map-place (x ∷ l) (suc (suc n)) = map-place l (suc n)
 
   -- images are as many
-  size : (n : Node A) → length (map f n.list) ≡ length n.list
+  size : (n : MachineState A) → length (map f n.list) ≡ length n.list
   size n = length-map n.list f
 
   -- a Forward commutes with the map
-  forward_to_map : (o : Option ℕ) (x : ℕ) (n : Node A) (k : ℕ) (b : Option A)
+  forward_to_map : (o : Option ℕ) (x : ℕ) (n : MachineState A) (k : ℕ) (b : Option A)
       → map (frame_map f) (forward_to o x n k b) ≡ forward_to o x (node_map f n) k (option_map f b)
   forward_to_map None x n k b = refl
   forward_to_map (Some s) x n k None = refl
   forward_to_map (Some s) x n k (Some b) = refl
 
   -- the Forward of a batch of the list commutes with the map
-  forward_map : (x : ℕ) (n : Node A) (k : ℕ) → map (frame_map f) (forward x n k) ≡ forward x
+  forward_map : (x : ℕ) (n : MachineState A) (k : ℕ) → map (frame_map f) (forward x n k) ≡ forward x
       (node_map f n) k
   forward_map x n k = forward_to_map (successor n.ids x) x n k (place n.list k)
       ∙ ap (λ b. forward_to (successor n.ids x) x (node_map f n) k b) (sym (map-place n.list k))
 
   -- several Forwards in a row commute with the map
-  forwards_map : (x : ℕ) (n : Node A) (k count : ℕ) → map (frame_map f) (forwards x n k count)
+  forwards_map : (x : ℕ) (n : MachineState A) (k count : ℕ) → map (frame_map f)
+      (forwards x n k count)
       ≡ forwards x (node_map f n) k count
   forwards_map x n k zero = refl
   forwards_map x n k (suc count) =
       map-append (frame_map f) (forward x n (suc k)) (forwards x n (suc k) count)
-      ∙ ap₂ (λ (p q : List (Frame B)). p ++ q) (forward_map x n (suc k))
+      ∙ ap₂ (λ (p q : List (Message B)). p ++ q) (forward_map x n (suc k))
       (forwards_map x n (suc k) count)
 
   -- an Ack goes with it
-  ack_to_map : (o : Option ℕ) (x : ℕ) (n : Node A) → map (frame_map f) (ack_to o x n) ≡ ack_to o
+  ack_to_map : (o : Option ℕ) (x : ℕ) (n : MachineState A) → map (frame_map f) (ack_to o x n) ≡
+      ack_to o
       x (node_map f n)
   ack_to_map None x n = refl
   ack_to_map (Some p) x n = ap (λ k. Ack p n.epoch x n.committed k ∷ []) (sym (size n))
@@ -85,14 +89,15 @@ module _ {A B : Type 0} (f : A → B) where
       (ap (λ rs. Committed p.1 p.0 ∷ rs) (due_map k ps)) (due_map k ps)
 
   -- two answers of one node are one if frames and replies are
-  answer : {C : Type 0} (n : Node C) (fs fs' : List (Frame C)) (rs rs' : List (Reply C))
+  answer : {C : Type 0} (n : MachineState C) (fs fs' : List (Message C))
+      (rs rs' : List (Response C))
       (d : Option DropReason) → fs ≡ fs' → rs ≡ rs'
       → ◌≡◌ {A = Answer C} (record { node = n; frames = fs; replies = rs; dropped = d })
       (record { node = n; frames = fs'; replies = rs'; dropped = d })
   answer n fs fs' rs rs' d p q = λ j. record { node = n; frames = p j; replies = q j; dropped = d }
 
   -- replies to those who wait
-  acknowledge_map : (n : Node A) (fs : List (Frame A)) (fs' : List (Frame B))
+  acknowledge_map : (n : MachineState A) (fs : List (Message A)) (fs' : List (Message B))
       → map (frame_map f) fs ≡ fs' → answer_map f (acknowledge n fs) ≡ acknowledge
       (node_map f n) fs'
   acknowledge_map n fs fs' e =
@@ -101,7 +106,8 @@ module _ {A B : Type 0} (f : A → B) where
       (due n.committed n.pending) None e (due_map n.committed n.pending)
 
   -- a tail that commits
-  tail_map : (x : ℕ) (n : Node A) → node_map f (tail_commits x n) ≡ tail_commits x (node_map f n)
+  tail_map : (x : ℕ) (n : MachineState A) → node_map f (tail_commits x n) ≡ tail_commits x
+      (node_map f n)
   tail_map x n =
       cond_of (node_map f) (is_tail n.ids x) (is_tail n.ids x)
       (record n { committed = length n.list }) n
@@ -118,10 +124,10 @@ module _ {A B : Type 0} (f : A → B) where
       (cond_of g u u' c d c' d' same ec ed))
 
   -- the head accepts a batch
-  accept_map : (x : ℕ) (n : Node A) (i : ℕ) (b : A)
+  accept_map : (x : ℕ) (n : MachineState A) (i : ℕ) (b : A)
       → answer_map f (accept x n i b) ≡ accept x (node_map f n) i (f b)
   accept_map x n i b =
-      let n' : Node B = node_map f n in
+      let n' : MachineState B = node_map f n in
       let m = tail_commits x (longer_for n i b) in
       let k = suc (length n.list) in
       let appends : node_map f (longer_for n i b) ≡ longer_for n' i (f b) = λ j. record n' {
@@ -131,13 +137,14 @@ module _ {A B : Type 0} (f : A → B) where
       let same : node_map f m ≡ tail_commits x (longer_for n' i (f b)) =
       tail_map x (longer_for n i b) ∙ ap (tail_commits x) appends in
       acknowledge_map m (forward x m k) (forward x (node_map f m) k) (forward_map x m k)
-      ∙ ap₂ (λ (o : Node B) (s : ℕ). acknowledge o (forward x o (suc s))) same (sym (size n))
+      ∙ ap₂ (λ (o : MachineState B) (s : ℕ). acknowledge o (forward x o (suc s))) same
+          (sym (size n))
 
   -- a submit
-  submit_map : (x : ℕ) (n : Node A) (i : ℕ) (b : A)
+  submit_map : (x : ℕ) (n : MachineState A) (i : ℕ) (b : A)
       → answer_map f (submit x n i b) ≡ submit x (node_map f n) i (f b)
   submit_map x n i b =
-      let n' : Node B = node_map f n in
+      let n' : MachineState B = node_map f n in
       let most = 2 ^ 63 - 1 in
       three (answer_map f) (not (has n.ids x)) (not (is_head n.ids x)) (length n.list == most)
       (length n'.list == most) (refused n i refusal.Removed) (refused n i refusal.NotHead)
@@ -146,18 +153,19 @@ module _ {A B : Type 0} (f : A → B) where
       (ap (λ k. k == most) (sym (size n))) refl refl refl (accept_map x n i b)
 
   -- an answer of a node whose frames and replies go with the map
-  sends_map : (n : Node A) (fs : List (Frame A)) (fs' : List (Frame B)) (d : Option DropReason)
+  sends_map : (n : MachineState A) (fs : List (Message A)) (fs' : List (Message B))
+      (d : Option DropReason)
       → map (frame_map f) fs ≡ fs'
       → answer_map f (record { node = n; frames = fs; replies = []; dropped = d })
       ≡ record { node = node_map f n; frames = fs'; replies = []; dropped = d }
   sends_map n fs fs' d e = answer (node_map f n) (map (frame_map f) fs) fs' [] [] d e refl
 
   -- a batch that is appended
-  append_map : (x : ℕ) (n : Node A) (k : ℕ) (b : A)
+  append_map : (x : ℕ) (n : MachineState A) (k : ℕ) (b : A)
       → answer_map f (append x n k b) ≡ append x (node_map f n) k (f b)
   append_map x n k b =
-      let n' : Node B = node_map f n in
-      let more : Node A = record n { list = n.list ++ b ∷ [] } in
+      let n' : MachineState B = node_map f n in
+      let more : MachineState A = record n { list = n.list ++ b ∷ [] } in
       let m = tail_commits x more in
       let m' = node_map f m in
       let acks = cond (is_tail m.ids x) (ack x m) [] in
@@ -170,25 +178,25 @@ module _ {A B : Type 0} (f : A → B) where
       ∙ ap (tail_commits x) (λ j. record n' { list = map-append f n.list (b ∷ []) j }) in
       sends_map m (forward x m k ++ acks) (forward x m' k ++ acks') None
       (map-append (frame_map f) (forward x m k) acks
-      ∙ ap₂ (λ (p q : List (Frame B)). p ++ q) (forward_map x m k) acks_map)
+      ∙ ap₂ (λ (p q : List (Message B)). p ++ q) (forward_map x m k) acks_map)
       ∙ ap (sent x k) same
 
   -- a batch that is forwarded
-  take_forward_map : (x : ℕ) (n : Node A) (k : ℕ) (b : A)
-      → answer_map f (take_forward x n k b) ≡ take_forward x (node_map f n) k (f b)
+  take_forward_map : (x : ℕ) (n : MachineState A) (k : ℕ) (b : A)
+      → answer_map f (receive_forward x n k b) ≡ receive_forward x (node_map f n) k (f b)
   take_forward_map x n k b =
-      let n' : Node B = node_map f n in
+      let n' : MachineState B = node_map f n in
       cond_of (answer_map f) (k == suc (length n.list)) (k == suc (length n'.list))
-      (append x n k b) (tell_again x n) (append x n' k (f b)) (tell_again x n')
+      (append x n k b) (ack_duplicate x n) (append x n' k (f b)) (ack_duplicate x n')
       (ap (λ s. k == suc s) (sym (size n))) (append_map x n k b)
       (sends_map n (ack x n) (ack x n') (Some reason.OtherNumber)
       (ack_to_map (predecessor n.ids x) x n))
 
   -- the committed number is reported to the predecessor
-  pass_on_map : (x : ℕ) (n : Node A) (committed have : ℕ)
-      → answer_map f (pass_on x n committed have) ≡ pass_on x (node_map f n) committed have
+  pass_on_map : (x : ℕ) (n : MachineState A) (committed have : ℕ)
+      → answer_map f (on_ack x n committed have) ≡ on_ack x (node_map f n) committed have
   pass_on_map x n committed have =
-      let m = told n committed have in
+      let m = acked n committed have in
       let m' = node_map f m in
       let grew = nat_lt n.committed committed in
       acknowledge_map m (cond grew (ack x m) []) (cond grew (ack x m') [])
@@ -196,52 +204,53 @@ module _ {A B : Type 0} (f : A → B) where
       (ack_to_map (predecessor m.ids x) x m) refl)
 
   -- an acknowledgement
-  take_ack_map : (x : ℕ) (n : Node A) (committed have : ℕ)
-      → answer_map f (take_ack x n committed have) ≡ take_ack x (node_map f n) committed have
+  take_ack_map : (x : ℕ) (n : MachineState A) (committed have : ℕ)
+      → answer_map f (receive_ack x n committed have) ≡ receive_ack x (node_map f n) committed have
   take_ack_map x n committed have =
-      let n' : Node B = node_map f n in
+      let n' : MachineState B = node_map f n in
       let low = nat_le committed have in
       cond_of (answer_map f) (low && nat_le have (length n.list))
-      (low && nat_le have (length n'.list)) (pass_on x n committed have)
-      (dropped_for n reason.BadAck) (pass_on x n' committed have) (dropped_for n' reason.BadAck)
+      (low && nat_le have (length n'.list)) (on_ack x n committed have)
+      (dropped_for n reason.BadAck) (on_ack x n' committed have) (dropped_for n' reason.BadAck)
       (ap (λ s. low && nat_le have s) (sym (size n))) (pass_on_map x n committed have) refl
 
   -- a frame
-  pub receive_map : (x : ℕ) (n : Node A) (fr : Frame A)
+  pub receive_map : (x : ℕ) (n : MachineState A) (fr : Message A)
       → answer_map f (receive x n fr) ≡ receive x (node_map f n) (frame_map f fr)
   receive_map x n (Forward to e p k b) =
-      let n' : Node B = node_map f n in
+      let n' : MachineState B = node_map f n in
       let near = is_some_of (predecessor n.ids x) p in
       three (answer_map f) (not (has n.ids x)) (not (e == n.epoch)) near near
-      (dropped_for n reason.Removed) (dropped_for n reason.OtherEpoch) (take_forward x n k b)
+      (dropped_for n reason.Removed) (dropped_for n reason.OtherEpoch) (receive_forward x n k b)
       (dropped_for n reason.NotPredecessor) (dropped_for n' reason.Removed)
-      (dropped_for n' reason.OtherEpoch) (take_forward x n' k (f b))
+      (dropped_for n' reason.OtherEpoch) (receive_forward x n' k (f b))
       (dropped_for n' reason.NotPredecessor) refl refl refl (take_forward_map x n k b) refl
   receive_map x n (Ack to e s committed have) =
-      let n' : Node B = node_map f n in
+      let n' : MachineState B = node_map f n in
       let near = is_some_of (successor n.ids x) s in
       three (answer_map f) (not (has n.ids x)) (not (e == n.epoch)) near near
-      (dropped_for n reason.Removed) (dropped_for n reason.OtherEpoch) (take_ack x n committed have)
+      (dropped_for n reason.Removed) (dropped_for n reason.OtherEpoch)
+          (receive_ack x n committed have)
       (dropped_for n reason.NotSuccessor) (dropped_for n' reason.Removed)
-      (dropped_for n' reason.OtherEpoch) (take_ack x n' committed have)
+      (dropped_for n' reason.OtherEpoch) (receive_ack x n' committed have)
       (dropped_for n' reason.NotSuccessor) refl refl refl (take_ack_map x n committed have) refl
 
   -- a configuration is adopted
-  adopt_map : (x : ℕ) (n : Node A) (e : ℕ) (ids : List ℕ)
+  adopt_map : (x : ℕ) (n : MachineState A) (e : ℕ) (ids : List ℕ)
       → answer_map f (adopt x n e ids) ≡ adopt x (node_map f n) e ids
   adopt_map x n e ids =
       let m = adopted x n e ids in
       let same : node_map f m ≡ adopted x (node_map f n) e ids =
-      ap (λ (k : Node B). record k { successor_has = k.committed })
+      ap (λ (k : MachineState B). record k { successor_has = k.committed })
       (tail_map x (moved x n e ids)) in
       acknowledge_map m (ack x m) (ack x (node_map f m)) (ack_to_map (predecessor m.ids x) x m)
-      ∙ ap (λ (k : Node B). acknowledge k (ack x k)) same
+      ∙ ap (λ (k : MachineState B). acknowledge k (ack x k)) same
 
   -- a notice
-  pub notice_map : (x : ℕ) (n : Node A) (e : ℕ) (ids : List ℕ)
+  pub notice_map : (x : ℕ) (n : MachineState A) (e : ℕ) (ids : List ℕ)
       → answer_map f (notice x n e ids) ≡ notice x (node_map f n) e ids
   notice_map x n e ids =
-      let n' : Node B = node_map f n in
+      let n' : MachineState B = node_map f n in
       let old = not (nat_lt n.epoch e) in
       let good = leaves_out ids n.ids in
       cond_of (answer_map f) old old (dropped_for n reason.OldNotice)
@@ -252,29 +261,29 @@ module _ {A B : Type 0} (f : A → B) where
       (adopt x n' e ids) (dropped_for n' reason.BadNotice) refl (adopt_map x n e ids) refl)
 
   -- batches are sent again
-  resend_map : (x : ℕ) (n : Node A) → answer_map f (resend x n) ≡ resend x (node_map f n)
+  resend_map : (x : ℕ) (n : MachineState A) → answer_map f (resend x n) ≡ resend x (node_map f n)
   resend_map x n =
-      let n' : Node B = node_map f n in
+      let n' : MachineState B = node_map f n in
       let k = n.successor_has in
       sends_map n (forwards x n k 16 ++ ack x n) (forwards x n' k 16 ++ ack x n') None
       (map-append (frame_map f) (forwards x n k 16) (ack x n)
-      ∙ ap₂ (λ (p q : List (Frame B)). p ++ q) (forwards_map x n k 16)
+      ∙ ap₂ (λ (p q : List (Message B)). p ++ q) (forwards_map x n k 16)
       (ack_to_map (predecessor n.ids x) x n))
 
   -- a tick
-  pub tick_map : (x : ℕ) (n : Node A) → answer_map f (tick x n) ≡ tick x (node_map f n)
+  pub tick_map : (x : ℕ) (n : MachineState A) → answer_map f (tick x n) ≡ tick x (node_map f n)
   tick_map x n =
-      let n' : Node B = node_map f n in
+      let n' : MachineState B = node_map f n in
       cond_of (answer_map f) (has n.ids x) (has n.ids x) (resend x n)
       (dropped_for n reason.Removed) (resend x n') (dropped_for n' reason.Removed) refl
       (resend_map x n) refl
 
   -- a number that can be read, or not
-  readable_map : (x : ℕ) (n : Node A) (i s : ℕ) (a : Answer A) (a' : Answer B)
+  readable_map : (x : ℕ) (n : MachineState A) (i s : ℕ) (a : Answer A) (a' : Answer B)
       → answer_map f a ≡ a'
       → answer_map f (if_readable x n i s a) ≡ if_readable x (node_map f n) i s a'
   readable_map x n i s a a' e =
-      let n' : Node B = node_map f n in
+      let n' : MachineState B = node_map f n in
       let high = nat_le s n.committed in
       three (answer_map f) (not (has n.ids x)) (nat_lt s n.floor) high high
       (refused n i refusal.Removed) (refused n i refusal.TooOld) a
@@ -282,54 +291,59 @@ module _ {A B : Type 0} (f : A → B) where
       (refused n' i refusal.TooOld) a' (refused n' i refusal.NotCommitted) refl refl refl e refl
 
   -- the answer of a read
-  show_map : (n : Node A) (i s : ℕ) → answer_map f (show n i s) ≡ show (node_map f n) i s
+  show_map : (n : MachineState A) (i s : ℕ) → answer_map f (reply_read n i s) ≡ reply_read
+      (node_map f n) i s
   show_map n i s =
       ap (λ l. replied (node_map f n) (Shows i s l)) (sym (take-map f s n.list))
 
   -- a snapshot is opened
-  opens_map : (x : ℕ) (n : Node A) (i s : ℕ)
+  opens_map : (x : ℕ) (n : MachineState A) (i s : ℕ)
       → answer_map f (if_readable x n i s
-      (cond (length n.snapshots == 64) (refused n i refusal.TooManySnapshots) (open_at n i s)))
+      (cond (length n.snapshots == 64) (refused n i refusal.TooManySnapshots) (add_snapshot n i s)))
       ≡ if_readable x (node_map f n) i s (cond (length n.snapshots == 64)
-      (refused (node_map f n) i refusal.TooManySnapshots) (open_at (node_map f n) i s))
+      (refused (node_map f n) i refusal.TooManySnapshots) (add_snapshot (node_map f n) i s))
   opens_map x n i s =
-      let n' : Node B = node_map f n in
+      let n' : MachineState B = node_map f n in
       let full = length n.snapshots == 64 in
       let many = refused n i refusal.TooManySnapshots in
       let many' = refused n' i refusal.TooManySnapshots in
-      readable_map x n i s (cond full many (open_at n i s)) (cond full many' (open_at n' i s))
-      (cond_of (answer_map f) full full many (open_at n i s) many' (open_at n' i s) refl refl refl)
+      readable_map x n i s (cond full many (add_snapshot n i s))
+          (cond full many' (add_snapshot n' i s))
+      (cond_of (answer_map f) full full many (add_snapshot n i s) many' (add_snapshot n' i s) refl
+          refl refl)
 
   -- a snapshot is closed
-  close_map : (x : ℕ) (n : Node A) (i s : ℕ)
+  close_map : (x : ℕ) (n : MachineState A) (i s : ℕ)
       → answer_map f (close_snapshot x n i s) ≡ close_snapshot x (node_map f n) i s
   close_map x n i s =
-      let n' : Node B = node_map f n in
+      let n' : MachineState B = node_map f n in
       let gone = not (has n.ids x) in
       let there = is_open s n.snapshots in
       let none = refused n i refusal.NoSuchSnapshot in
       let none' = refused n' i refusal.NoSuchSnapshot in
       cond_of (answer_map f) gone gone (refused n i refusal.Removed)
-      (cond there (close_at n i s) none) (refused n' i refusal.Removed)
-      (cond there (close_at n' i s) none') refl refl
-      (cond_of (answer_map f) there there (close_at n i s) none (close_at n' i s) none' refl refl
+      (cond there (remove_snapshot n i s) none) (refused n' i refusal.Removed)
+      (cond there (remove_snapshot n' i s) none') refl refl
+      (cond_of (answer_map f) there there (remove_snapshot n i s) none (remove_snapshot n' i s)
+          none' refl refl
       refl)
 
   -- a tend
-  pub tend_map : (x : ℕ) (n : Node A) (rises : Bool) (gives_up : ℕ)
+  pub tend_map : (x : ℕ) (n : MachineState A) (rises : Bool) (gives_up : ℕ)
       → answer_map f (tend n rises gives_up) ≡ tend (node_map f n) rises gives_up
   tend_map x n false gives_up = refl
   tend_map x n true gives_up = refl
 
   -- a read
-  shows_map : (x : ℕ) (n : Node A) (i s : ℕ)
-      → answer_map f (if_readable x n i s (show n i s))
-      ≡ if_readable x (node_map f n) i s (show (node_map f n) i s)
+  shows_map : (x : ℕ) (n : MachineState A) (i s : ℕ)
+      → answer_map f (if_readable x n i s (reply_read n i s))
+      ≡ if_readable x (node_map f n) i s (reply_read (node_map f n) i s)
   shows_map x n i s =
-      readable_map x n i s (show n i s) (show (node_map f n) i s) (show_map n i s)
+      readable_map x n i s (reply_read n i s) (reply_read (node_map f n) i s) (show_map n i s)
 
   -- a request to a node goes with the map
-  pub ask_map : (x : ℕ) (n : Node A) (i : ℕ) (q : Request A) → answer_map f (ask x n i q) ≡ ask x
+  pub ask_map : (x : ℕ) (n : MachineState A) (i : ℕ) (q : Request A) → answer_map f (ask x n i q) ≡
+      ask x
       (node_map f n) i (request_map f q)
   ask_map x n i (Submit b) = submit_map x n i b
   ask_map x n i (Read None) = shows_map x n i n.committed
@@ -339,7 +353,8 @@ module _ {A B : Type 0} (f : A → B) where
   ask_map x n i (Close s) = close_map x n i s
 
   -- a start
-  pub started_map : (x : ℕ) (n : Node A) → node_map f (started x n) ≡ started x (node_map f n)
+  pub started_map : (x : ℕ) (n : MachineState A) → node_map f (started x n) ≡ started x
+      (node_map f n)
   started_map x n =
       let c : cond (is_tail n.ids x) (length n.list) n.floor ≡ cond (is_tail n.ids x)
       (length (map f n.list)) n.floor = ap (λ k. cond (is_tail n.ids x) k n.floor)

@@ -5,12 +5,13 @@ use Rattle.std.proofs.Common.{sym, refl, ◌∙◌, ap, ap₂, subst, arith}
 use Rattle.std.specs.List.{AllByRecursion}
 use Rattle.std.proofs.lemmas.List.Elements.{All-from_recursion}
 use Rattle.std.proofs.lemmas.List.{map-append, take-map}
-use Rattle.chain_model.specs.Lists.{Begins, Part}
+use Rattle.chain_model.specs.Lists.{IsPrefix, Part}
 use Rattle.chain_model.specs.Requests.{Close, Closed, Committed, Open, Opened, Read, Refused}
-use Rattle.chain_model.specs.Requests.{Reply, Request, Shows, Submit}
-use Rattle.chain_model.specs.World.{Ask, Deliver, Event, Lost, Notice, Start, Stop, Tend, Tick}
-use Rattle.chain_model.specs.World.{World, beginning, node_of, reached, run}
-use Rattle.chain_model.specs.Headline.{Agrees, OneList, batches, handed_in, numbered}
+use Rattle.chain_model.specs.Requests.{Response, Request, Shows, Submit}
+use Rattle.chain_model.specs.System.{Ask, Deliver, SystemEvent, Lost, Notice, Start, Stop, Tend}
+use Rattle.chain_model.specs.System.{Tick}
+use Rattle.chain_model.specs.System.{SystemState, first_state, node_of, reached, run}
+use Rattle.chain_model.specs.Headline.{ResponseAgrees, OneList, batches, submitted, numbered}
 use Rattle.chain_model.specs.Maps.{event_map, reply_map, request_map, world_map}
 use Rattle.chain_model.proofs.Configuration.{IsChain}
 use Rattle.chain_model.proofs.Handed.{WasHandedIn, handed}
@@ -30,7 +31,7 @@ module _ {A : Type 0} where
   tag i (Close s) = Close s
 
   -- events whose batches have their places
-  abbrev tagged : ℕ → List (Event A) → List (Event (ℕ × A))
+  abbrev tagged : ℕ → List (SystemEvent A) → List (SystemEvent (ℕ × A))
   tagged i [] = []
   tagged i (Ask x j q went ∷ es) = Ask x i (tag i q) went ∷ tagged (suc i) es
   tagged i (Tick x went ∷ es) = Tick x went ∷ tagged (suc i) es
@@ -49,10 +50,11 @@ module _ {A : Type 0} where
   untag i (Close s) = refl
 
   -- events without places are the numbered events
-  untagged : (i : ℕ) (es : List (Event A)) → map (event_map batch_of) (tagged i es) ≡ numbered i es
+  untagged : (i : ℕ) (es : List (SystemEvent A)) → map (event_map batch_of) (tagged i es) ≡ numbered
+      i es
   untagged i [] = refl
   untagged i (Ask x j q went ∷ es) =
-      ap₂ (λ (p : Request A) (r : List (Event A)). Ask x i p went ∷ r) (untag i q)
+      ap₂ (λ (p : Request A) (r : List (SystemEvent A)). Ask x i p went ∷ r) (untag i q)
       (untagged (suc i) es)
   untagged i (Tick x went ∷ es) = ap (λ r. Tick x went ∷ r) (untagged (suc i) es)
   untagged i (Tend x rises gives_up went ∷ es) = ap (λ r. Tend x rises gives_up went ∷ r)
@@ -64,7 +66,7 @@ module _ {A : Type 0} where
   untagged i (Lost ∷ es) = ap (λ r. Lost ∷ r) (untagged (suc i) es)
 
   -- these events submit batches with places
-  handed_tagged : (i : ℕ) (es : List (Event A)) → handed (tagged i es) ≡ handed_in i es
+  handed_tagged : (i : ℕ) (es : List (SystemEvent A)) → handed (tagged i es) ≡ submitted i es
   handed_tagged i [] = refl
   handed_tagged i (Ask x j (Submit b) went ∷ es) = ap (λ r. (i, b) ∷ r) (handed_tagged (suc i) es)
   handed_tagged i (Ask x j (Read at) went ∷ es) = handed_tagged (suc i) es
@@ -79,7 +81,7 @@ module _ {A : Type 0} where
   handed_tagged i (Lost ∷ es) = handed_tagged (suc i) es
 
   -- a request's batch bears the request's number
-  number_tagged : (k : ℕ) (es : List (Event A)) (i : ℕ) (p : ℕ × A)
+  number_tagged : (k : ℕ) (es : List (SystemEvent A)) (i : ℕ) (p : ℕ × A)
       → WasHandedIn (tagged k es) i p → p.0 ≡ i
   number_tagged k [] i p was = absurd was
   number_tagged k (Ask x j (Submit b) went ∷ es) i p (inl is) =
@@ -107,8 +109,8 @@ module _ {A : Type 0} where
   number_tagged k (Lost ∷ es) i q (inr was) = number_tagged (suc k) es i q was
 
   -- the submitted batches do not depend on the numbers of requests
-  pub handed_in_numbered : (i j : ℕ) (es : List (Event A))
-      → handed_in i (numbered j es) ≡ handed_in i es
+  pub handed_in_numbered : (i j : ℕ) (es : List (SystemEvent A))
+      → submitted i (numbered j es) ≡ submitted i es
   handed_in_numbered i j [] = refl
   handed_in_numbered i j (Ask x k (Submit b) went ∷ es) =
       ap (λ r. (i, b) ∷ r) (handed_in_numbered (suc i) (suc j) es)
@@ -124,7 +126,7 @@ module _ {A : Type 0} where
   handed_in_numbered i j (Lost ∷ es) = handed_in_numbered (suc i) (suc j) es
 
   -- one more event in front
-  one_more : (e : Event A) (i : ℕ) (es fs : List (Event A))
+  one_more : (e : SystemEvent A) (i : ℕ) (es fs : List (SystemEvent A))
       → numbered (suc i) (es ++ fs) ≡ numbered (suc i) es ++ numbered (suc i + length es) fs
       → e ∷ numbered (suc i) (es ++ fs)
       ≡ e ∷ (numbered (suc i) es ++ numbered (i + suc (length es)) fs)
@@ -133,7 +135,7 @@ module _ {A : Type 0} where
       ap (λ r. e ∷ r) (rest ∙ ap (λ k. numbered (suc i) es ++ numbered k fs) same)
 
   -- events behind others have the numbers behind theirs
-  pub numbered_append : (i : ℕ) (es fs : List (Event A))
+  pub numbered_append : (i : ℕ) (es fs : List (SystemEvent A))
       → numbered i (es ++ fs) ≡ numbered i es ++ numbered (i + length es) fs
   numbered_append i [] fs = ap (λ k. numbered k fs) (omega arith)
   numbered_append i (Ask x j q went ∷ es) fs =
@@ -152,8 +154,8 @@ module _ {A : Type 0} where
   numbered_append i (Lost ∷ es) fs = one_more Lost i es fs (numbered_append (suc i) es fs)
 
   -- a reply that speaks of batches with places agrees with the list
-  agrees_with : (es : List (Event A)) (B : List (ℕ × A)) (r : Reply (ℕ × A))
-      → Speaks (tagged 1 es) B r → Agrees B (reply_map batch_of r)
+  agrees_with : (es : List (SystemEvent A)) (B : List (ℕ × A)) (r : Response (ℕ × A))
+      → Speaks (tagged 1 es) B r → ResponseAgrees B (reply_map batch_of r)
   agrees_with es B (Committed i n) (p, (was, at)) =
       (p.1, at ∙ ap (λ k. Some (k, p.1)) (number_tagged 1 es i p was))
   agrees_with es B (Shows i s l) ok = (ok.0, ap (map batch_of) ok.1 ∙ sym (take-map batch_of s B))
@@ -162,33 +164,33 @@ module _ {A : Type 0} where
   agrees_with es B (Refused i why) ok = tt
 
   -- all replies that speak of batches with places agree with the list
-  agree_with : (es : List (Event A)) (B : List (ℕ × A)) (rs : List (Reply (ℕ × A)))
+  agree_with : (es : List (SystemEvent A)) (B : List (ℕ × A)) (rs : List (Response (ℕ × A)))
       → AllByRecursion (Speaks (tagged 1 es) B) rs
-      → AllByRecursion (Agrees B) (map (reply_map batch_of) rs)
+      → AllByRecursion (ResponseAgrees B) (map (reply_map batch_of) rs)
   agree_with es B [] ok = tt
   agree_with es B (r ∷ rs) ok = (agrees_with es B r ok.0, agree_with es B rs ok.1)
 
   -- the headline, of batches and places
-  pub one_list : (cs : List (List ℕ)) (es : List (Event A)) → IsChain cs → OneList cs es
+  pub one_list : (cs : List (List ℕ)) (es : List (SystemEvent A)) → IsChain cs → OneList cs es
   one_list cs es lawful =
       let h : OneHistory cs (tagged 1 es) = one_history cs (tagged 1 es) lawful in
-      let w : World A = reached cs (numbered 1 es) in
+      let w : SystemState A = reached cs (numbered 1 es) in
       let is : world_map batch_of (reached cs (tagged 1 es)) ≡ w =
-      run_map batch_of cs (tagged 1 es) (beginning cs) ∙ ap (λ k. run cs k (beginning cs))
+      run_map batch_of cs (tagged 1 es) (first_state cs) ∙ ap (λ k. run cs k (first_state cs))
       (untagged 1 es) in
       record {
         B = h.B;
         taken = subst (λ l. Part h.B l) (handed_tagged 1 es) h.taken;
-        agrees = All-from_recursion (Agrees h.B) w.replies
-            (subst (λ (v : World A). AllByRecursion (Agrees h.B) v.replies) is
+        agrees = All-from_recursion (ResponseAgrees h.B) w.replies
+            (subst (λ (v : SystemState A). AllByRecursion (ResponseAgrees h.B) v.replies) is
             (agree_with es h.B (reached cs (tagged 1 es)).replies h.speaks));
         stands = λ x last.
             let b = h.stands x last in
-            let mapped : Begins (batches h.B) (map batch_of (node_of cs (tagged 1 es) x).list) =
+            let mapped : IsPrefix (batches h.B) (map batch_of (node_of cs (tagged 1 es) x).list) =
             record {
               rest = map batch_of b.rest;
               whole = sym (map-append batch_of h.B b.rest)
                   ∙ ap (map batch_of) b.whole;
             } in
-            subst (λ (v : World A). Begins (batches h.B) (v.nodes x).list) is mapped;
+            subst (λ (v : SystemState A). IsPrefix (batches h.B) (v.nodes x).list) is mapped;
       }

@@ -6,10 +6,11 @@ use Rattle.std.proofs.lemmas.Bool.{cond_both, false≢true}
 use Rattle.chain_model.specs.Lists.{Part}
 use Rattle.chain_model.specs.Configuration.{is_tail, last_of}
 use Rattle.chain_model.specs.declared.refusal.Refusal.{Refusal}
-use Rattle.chain_model.specs.Requests.{Close, Closed, Open, Opened, Read, Reply, Request, Submit}
-use Rattle.chain_model.specs.Node.{Node, least, refused, replied, started, stopped, without}
+use Rattle.chain_model.specs.Requests.{Close, Closed, Open, Opened, Read, Response, Request, Submit}
+use Rattle.chain_model.specs.Machine.{MachineState, least, refused, replied, started, stopped}
+use Rattle.chain_model.specs.Machine.{without}
 use Rattle.chain_model.specs.Rules.{ask, close_snapshot, number_read, open_snapshot, read, tend}
-use Rattle.chain_model.specs.World.{Event}
+use Rattle.chain_model.specs.System.{SystemEvent}
 use Rattle.chain_model.proofs.Lists.{begins_trans, every_map, take_less}
 use Rattle.chain_model.proofs.Configuration.{IsChain}
 use Rattle.chain_model.proofs.Handed.{WasHandedIn}
@@ -38,10 +39,10 @@ every_without P s (t ∷ ts) each = cond_both (s == t) ts (t ∷ without s ts) (
     (λ is. each.1) (λ not. (each.0, every_without P s ts each.1))
 
 -- `lists` are the lists of all nodes after the step.
-module _ {A : Type 0} (cs : List (List ℕ)) (lawful : IsChain cs) (events : List (Event A))
+module _ {A : Type 0} (cs : List (List ℕ)) (lawful : IsChain cs) (events : List (SystemEvent A))
     (h : List A) (lists : ℕ → List A) (x : ℕ) where
   -- every node of the last configuration has the batches of a readable number
-  readable_last : (n : Node A) (s : ℕ) → NodeOk cs events h lists x n → s ≤ n.committed
+  readable_last : (n : MachineState A) (s : ℕ) → NodeOk cs events h lists x n → s ≤ n.committed
       → (length (take s n.list) ≡ s) × Safe lists (last_of cs) (take s n.list)
   readable_last n s ok le = (
     length-take-le s n.list (omega (arith, le, ok.sound.committed_le)),
@@ -50,12 +51,12 @@ module _ {A : Type 0} (cs : List (List ℕ)) (lawful : IsChain cs) (events : Lis
   )
 
   -- a refusal changes nothing
-  refuses : (n : Node A) (i : ℕ) → NodeOk cs events h lists x n → (why : Refusal)
+  refuses : (n : MachineState A) (i : ℕ) → NodeOk cs events h lists x n → (why : Refusal)
       → AnswerOk cs events h lists x (refused n i why)
   refuses n i ok why = refused_ok cs lawful events h lists x n i ok why
 
   -- a read
-  read_ok : (n : Node A) (i : ℕ) (at : Option ℕ) → NodeOk cs events h lists x n
+  read_ok : (n : MachineState A) (i : ℕ) (at : Option ℕ) → NodeOk cs events h lists x n
       → AnswerOk cs events h lists x (read x n i at)
   read_ok n i at ok =
       read_cases (AnswerOk cs events h lists x) x n i at (refuses n i ok)
@@ -66,7 +67,7 @@ module _ {A : Type 0} (cs : List (List ℕ)) (lawful : IsChain cs) (events : Lis
       })
 
   -- snapshots matter for the floor alone
-  snapshots_ok : (n : Node A) (ss : List ℕ) (r : Reply A) → NodeOk cs events h lists x n
+  snapshots_ok : (n : MachineState A) (ss : List ℕ) (r : Response A) → NodeOk cs events h lists x n
       → AllByRecursion (λ s. n.floor ≤ s) ss → ReplyOk cs events lists r
       → AnswerOk cs events h lists x (replied (record n { snapshots = ss }) r)
   snapshots_ok n ss r ok above good = record {
@@ -83,7 +84,7 @@ module _ {A : Type 0} (cs : List (List ℕ)) (lawful : IsChain cs) (events : Lis
   }
 
   -- a snapshot is opened
-  open_ok : (n : Node A) (i : ℕ) (at : Option ℕ) → NodeOk cs events h lists x n
+  open_ok : (n : MachineState A) (i : ℕ) (at : Option ℕ) → NodeOk cs events h lists x n
       → AnswerOk cs events h lists x (open_snapshot x n i at)
   open_ok n i at ok =
       let s = number_read n at in
@@ -92,7 +93,7 @@ module _ {A : Type 0} (cs : List (List ℕ)) (lawful : IsChain cs) (events : Lis
       (take s n.list, readable_last n s ok le))
 
   -- a snapshot is closed
-  close_ok : (n : Node A) (i s : ℕ) → NodeOk cs events h lists x n
+  close_ok : (n : MachineState A) (i s : ℕ) → NodeOk cs events h lists x n
       → AnswerOk cs events h lists x (close_snapshot x n i s)
   close_ok n i s ok =
       close_cases (AnswerOk cs events h lists x) x n i s (refuses n i ok)
@@ -100,7 +101,7 @@ module _ {A : Type 0} (cs : List (List ℕ)) (lawful : IsChain cs) (events : Lis
       (every_without (λ t. n.floor ≤ t) s n.snapshots ok.snapshots) tt)
 
   -- a tend raises the floor up to what is committed and open, and the kept number up to the floor
-  pub tend_ok : (n : Node A) (rises : Bool) (gives_up : ℕ) → NodeOk cs events h lists x n
+  pub tend_ok : (n : MachineState A) (rises : Bool) (gives_up : ℕ) → NodeOk cs events h lists x n
       → AnswerOk cs events h lists x (tend n rises gives_up)
   tend_ok n false gives_up ok = silent_ok cs lawful events h lists x n ok
   tend_ok n true gives_up ok =
@@ -134,7 +135,7 @@ module _ {A : Type 0} (cs : List (List ℕ)) (lawful : IsChain cs) (events : Lis
       })
 
   -- a stop
-  pub stopped_ok : (n : Node A) → NodeOk cs events h lists x n → NodeOk cs events h lists x
+  pub stopped_ok : (n : MachineState A) → NodeOk cs events h lists x n → NodeOk cs events h lists x
       (stopped n)
   stopped_ok n ok = record {
     sound = ok.sound;
@@ -146,7 +147,7 @@ module _ {A : Type 0} (cs : List (List ℕ)) (lawful : IsChain cs) (events : Lis
   }
 
   -- a start knows as committed what its disk shows to be
-  pub started_ok : (n : Node A) → NodeOk cs events h lists x n → Lands cs events lists x n
+  pub started_ok : (n : MachineState A) → NodeOk cs events h lists x n → Lands cs events lists x n
       → NodeOk cs events h lists x (started x n)
   started_ok n ok here =
       let s = ok.sound in
@@ -196,12 +197,12 @@ module _ {A : Type 0} (cs : List (List ℕ)) (lawful : IsChain cs) (events : Lis
       })
 
   -- the premises of a request
-  abbrev pub RequestOk : Node A → ℕ → Request A → Type 0
+  abbrev pub RequestOk : MachineState A → ℕ → Request A → Type 0
   RequestOk n i (Submit b) = WasHandedIn events i b × Part (n.list ++ b ∷ []) h
   RequestOk n i _ = Unit {0}
 
   -- a request
-  pub ask_ok : (n : Node A) (i : ℕ) (q : Request A) → NodeOk cs events h lists x n
+  pub ask_ok : (n : MachineState A) (i : ℕ) (q : Request A) → NodeOk cs events h lists x n
       → Lands cs events lists x (ask x n i q).node → RequestOk n i q
       → AnswerOk cs events h lists x (ask x n i q)
   ask_ok n i (Submit b) ok here given =

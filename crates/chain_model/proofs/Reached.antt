@@ -3,7 +3,8 @@
 use Rattle.std.proofs.Common.{◌≡◌, ℕ, ◌<◌, List, [], ◌∷◌, ◌++◌, length, true, refl, ◌∙◌, subst}
 use Rattle.std.proofs.Common.{arith, append_assoc, eq-eqb}
 use Rattle.chain_model.specs.Configuration.{at_epoch, is_tail}
-use Rattle.chain_model.specs.World.{Event, World, beginning, happens, reached, run}
+use Rattle.chain_model.specs.System.{SystemEvent, SystemState, first_state, state_after, reached}
+use Rattle.chain_model.specs.System.{run}
 use Rattle.chain_model.proofs.Lists.{begins_nil, begins_refl}
 use Rattle.chain_model.proofs.Configuration.{IsChain}
 use Rattle.chain_model.proofs.Handed.{WasHandedIn, all_told, handed}
@@ -28,8 +29,9 @@ first_tail [] w = absurd w
 first_tail (c ∷ cs) w = some_tail c w.1
 
 -- all holds at the beginning
-pub start_world_ok : {A : Type 0} (cs : List (List ℕ)) → IsChain cs → (events : List (Event A))
-    → TailsIn cs events (beginning cs) → WorldOk cs events [] (beginning cs)
+pub start_world_ok : {A : Type 0} (cs : List (List ℕ)) → IsChain cs →
+    (events : List (SystemEvent A))
+    → TailsIn cs events (first_state cs) → WorldOk cs events [] (first_state cs)
 start_world_ok cs lawful events tails = record {
   nodes = λ x. record {
     sound = record {
@@ -54,10 +56,11 @@ start_world_ok cs lawful events tails = record {
 }
 
 -- What is reached.
-module _ {A : Type 0} (cs : List (List ℕ)) (lawful : IsChain cs) (events : List (Event A)) where
+module _ {A : Type 0} (cs : List (List ℕ)) (lawful : IsChain cs) (events : List (SystemEvent A))
+    where
   -- the list of a tail, at any time of the run, is committed
-  tails_in : (before later : List (Event A)) → before ++ later ≡ events
-      → TailsIn cs events (run cs before (beginning cs))
+  tails_in : (before later : List (SystemEvent A)) → before ++ later ≡ events
+      → TailsIn cs events (run cs before (first_state cs))
   tails_in before later e t is = record {
     before = before;
     later = later;
@@ -69,20 +72,21 @@ module _ {A : Type 0} (cs : List (List ℕ)) (lawful : IsChain cs) (events : Lis
   }
 
   -- so all worlds on the way are as they should be
-  along : (before later : List (Event A)) → before ++ later ≡ events
-      → Along cs lawful events later (run cs before (beginning cs))
+  along : (before later : List (SystemEvent A)) → before ++ later ≡ events
+      → Along cs lawful events later (run cs before (first_state cs))
   along before [] e = tt
   along before (f ∷ later) e =
       let next : before ++ (f ∷ []) ++ later ≡ events = append_assoc before (f ∷ []) later ∙ e in
-      let is : run cs (before ++ f ∷ []) (beginning cs) ≡ happens cs
-      (run cs before (beginning cs)) f = run_append cs before (f ∷ []) (beginning cs) in (
-        subst (λ (v : World A). TailsIn cs events v) is (tails_in (before ++ f ∷ []) later next),
-        subst (λ (v : World A). Along cs lawful events later v) is
+      let is : run cs (before ++ f ∷ []) (first_state cs) ≡ state_after cs
+      (run cs before (first_state cs)) f = run_append cs before (f ∷ []) (first_state cs) in (
+        subst (λ (v : SystemState A). TailsIn cs events v) is
+            (tails_in (before ++ f ∷ []) later next),
+        subst (λ (v : SystemState A). Along cs lawful events later v) is
             (along (before ++ f ∷ []) later next),
       )
 
   pub reached_ok : WorldOk cs events (handed events) (reached cs events)
   reached_ok =
       run_ok cs lawful events events (all_told (WasHandedIn events) events (λ i b was. was)) []
-      (beginning cs) (along [] events refl)
+      (first_state cs) (along [] events refl)
       (start_world_ok cs lawful events (tails_in [] events refl))

@@ -5,16 +5,18 @@ use Rattle.std.proofs.Common.{leb-true}
 use Rattle.std.specs.List.{AllByRecursion}
 use Rattle.std.proofs.lemmas.Bool.{cond_both}
 use Rattle.chain_model.specs.Lists.{Part, place}
-use Rattle.chain_model.specs.Configuration.{AllDifferent, Before, at_epoch, has, is_tail, last_of}
+use Rattle.chain_model.specs.Configuration.{AllDifferent, IsBeforeIn, at_epoch, has, is_tail}
+use Rattle.chain_model.specs.Configuration.{last_of}
 use Rattle.chain_model.specs.Configuration.{predecessor, successor}
 use Rattle.chain_model.specs.declared.refusal.Refusal.{Refusal}
-use Rattle.chain_model.specs.Frames.{Frame}
+use Rattle.chain_model.specs.Messages.{Message}
 use Rattle.chain_model.specs.Requests.{Committed}
-use Rattle.chain_model.specs.Node.{Answer, Node, dropped_for, due, not_due, refused, silent}
+use Rattle.chain_model.specs.Machine.{Answer, MachineState, dropped_for, due, not_due, refused}
+use Rattle.chain_model.specs.Machine.{silent}
 use Rattle.chain_model.specs.Rules.{ack_to, acknowledge, forward, forward_to, forwards}
-use Rattle.chain_model.specs.World.{Event}
-use Rattle.chain_model.specs.InOrder.{WasCommitted}
-use Rattle.chain_model.specs.KeepsEnough.{RisesFrom}
+use Rattle.chain_model.specs.System.{SystemEvent}
+use Rattle.chain_model.specs.Order.{WasCommitted}
+use Rattle.chain_model.specs.Retention.{RisesFrom}
 use Rattle.chain_model.proofs.Lists.{begins-place, begins_trans, every_append, place_take}
 use Rattle.chain_model.proofs.Lists.{take_less}
 use Rattle.chain_model.proofs.Configuration.{IsChain, all_different, before_back, before_left}
@@ -23,43 +25,45 @@ use Rattle.chain_model.proofs.Configuration.{predecessor_before, successor_is_in
 use Rattle.chain_model.proofs.Invariant.{FrameOk, IsPending, NodeOk, ReplyOk, Safe, SoundNode}
 
 -- the requirement on an answer
-pub record AnswerOk {A : Type 0} (cs : List (List ℕ)) (events : List (Event A)) (h : List A)
+pub record AnswerOk {A : Type 0} (cs : List (List ℕ)) (events : List (SystemEvent A)) (h : List A)
     (lists : ℕ → List A) (x : ℕ) (a : Answer A) : Type 0 where
   pub node : NodeOk cs events h lists x a.node
   pub frames : AllByRecursion (FrameOk cs events lists) a.frames
   pub replies : AllByRecursion (ReplyOk cs events lists) a.replies
 
 -- the new list of a node in the world, and the batches that a tail commits by it
-pub record Lands {A : Type 0} (cs : List (List ℕ)) (events : List (Event A)) (lists : ℕ → List A)
-    (x : ℕ) (n : Node A) : Type 0 where
+pub record Lands {A : Type 0} (cs : List (List ℕ)) (events : List (SystemEvent A))
+    (lists : ℕ → List A)
+    (x : ℕ) (n : MachineState A) : Type 0 where
   pub list : lists x ≡ n.list
   pub tail : is_tail (at_epoch cs n.epoch) x ≡ true → WasCommitted cs events n.epoch n.list
 
 -- `lists` are the lists of all nodes after the step.
-module _ {A : Type 0} (cs : List (List ℕ)) (lawful : IsChain cs) (events : List (Event A))
+module _ {A : Type 0} (cs : List (List ℕ)) (lawful : IsChain cs) (events : List (SystemEvent A))
     (h : List A) (lists : ℕ → List A) (x : ℕ) where
   -- the order of a smaller configuration is that of the first
-  pub before_first : (n : Node A) → SoundNode cs events h lists x n → (y z : ℕ)
-      → Before n.ids y z → Before (at_epoch cs 0) y z
+  pub before_first : (n : MachineState A) → SoundNode cs events h lists x n → (y z : ℕ)
+      → IsBeforeIn n.ids y z → IsBeforeIn (at_epoch cs 0) y z
   before_first n s y z b = before_part (at_epoch cs n.epoch) (at_epoch cs 0) y z
       (later_part cs 0 n.epoch lawful (omega arith) s.in_range)
-      (subst (λ c. Before c y z) s.knows b)
+      (subst (λ c. IsBeforeIn c y z) s.knows b)
 
   -- the order of the first configuration is that of a smaller one
-  pub before_known : (n : Node A) → SoundNode cs events h lists x n → (y z : ℕ)
-      → has n.ids y ≡ true → has n.ids z ≡ true → Before (at_epoch cs 0) y z → Before n.ids y z
+  pub before_known : (n : MachineState A) → SoundNode cs events h lists x n → (y z : ℕ)
+      → has n.ids y ≡ true → has n.ids z ≡ true → IsBeforeIn (at_epoch cs 0) y z → IsBeforeIn n.ids
+          y z
   before_known n s y z ky kz b =
       before_back n.ids (at_epoch cs 0) y z (subst (λ c. Part c (at_epoch cs 0)) (sym s.knows)
       (later_part cs 0 n.epoch lawful (omega arith) s.in_range))
       (all_different cs 0 lawful (omega (arith, s.in_range))) ky kz b
 
   -- a node's configuration has different ids
-  pub different : (n : Node A) → SoundNode cs events h lists x n → AllDifferent n.ids
+  pub different : (n : MachineState A) → SoundNode cs events h lists x n → AllDifferent n.ids
   different n s = subst (λ c. AllDifferent c) (sym s.knows)
       (all_different cs n.epoch lawful s.in_range)
 
   -- every node of the last configuration has the batches that a node's configuration has
-  pub safe_last : (n : Node A) → SoundNode cs events h lists x n → (l : List A)
+  pub safe_last : (n : MachineState A) → SoundNode cs events h lists x n → (l : List A)
       → Safe lists n.ids l → Safe lists (last_of cs) l
   safe_last n s l safe y k =
       let last = last_epoch cs lawful in
@@ -70,13 +74,13 @@ module _ {A : Type 0} (cs : List (List ℕ)) (lawful : IsChain cs) (events : Lis
       safe y (subst (λ c. has c y ≡ true) (sym s.knows) its)
 
   -- a node in its own configuration is in every earlier one
-  pub kept_earlier : (n : Node A) → SoundNode cs events h lists x n → (e : ℕ) → e ≤ n.epoch
+  pub kept_earlier : (n : MachineState A) → SoundNode cs events h lists x n → (e : ℕ) → e ≤ n.epoch
       → has n.ids x ≡ true → has (at_epoch cs e) x ≡ true
   kept_earlier n s e le k = has_part (at_epoch cs n.epoch) (at_epoch cs e) x
       (later_part cs e n.epoch lawful le s.in_range) (subst (λ c. has c x ≡ true) s.knows k)
 
   -- an acknowledgement reports a committed length
-  pub ack_ok : (n : Node A) → SoundNode cs events h lists x n → (o : Option ℕ)
+  pub ack_ok : (n : MachineState A) → SoundNode cs events h lists x n → (o : Option ℕ)
       → predecessor n.ids x ≡ o → AllByRecursion (FrameOk cs events lists) (ack_to o x n)
   ack_ok n s None from = tt
   ack_ok n s (Some p) from = (
@@ -97,7 +101,7 @@ module _ {A : Type 0} (cs : List (List ℕ)) (lawful : IsChain cs) (events : Lis
   )
 
   -- a batch of the list is in all lists before
-  pub forward_ok : (n : Node A) → SoundNode cs events h lists x n → lists x ≡ n.list
+  pub forward_ok : (n : MachineState A) → SoundNode cs events h lists x n → lists x ≡ n.list
       → (k : ℕ) (o : Option ℕ) (b : Option A) → successor n.ids x ≡ o → place n.list k ≡ b
       → AllByRecursion (FrameOk cs events lists) (forward_to o x n k b)
   forward_ok n s here k None b next e = tt
@@ -115,7 +119,7 @@ module _ {A : Type 0} (cs : List (List ℕ)) (lawful : IsChain cs) (events : Lis
   )
 
   -- so are several in a row
-  pub forwards_ok : (n : Node A) → SoundNode cs events h lists x n → lists x ≡ n.list
+  pub forwards_ok : (n : MachineState A) → SoundNode cs events h lists x n → lists x ≡ n.list
       → (k count : ℕ) → AllByRecursion (FrameOk cs events lists) (forwards x n k count)
   forwards_ok n s here k zero = tt
   forwards_ok n s here k (suc count) =
@@ -124,7 +128,7 @@ module _ {A : Type 0} (cs : List (List ℕ)) (lawful : IsChain cs) (events : Lis
       (forwards_ok n s here (suc k) count)
 
   -- the replies to requests whose batches are committed are true
-  pub due_ok : (n : Node A) → SoundNode cs events h lists x n → (ps : List (ℕ × ℕ))
+  pub due_ok : (n : MachineState A) → SoundNode cs events h lists x n → (ps : List (ℕ × ℕ))
       → AllByRecursion (IsPending events n.list) ps
       → AllByRecursion (ReplyOk cs events lists) (due n.committed ps)
   due_ok n s [] pending = tt
@@ -177,7 +181,7 @@ module _ {A : Type 0} (cs : List (List ℕ)) (lawful : IsChain cs) (events : Lis
       (λ gt. (up.0, rises_not_due k p.0 ps up.1))
 
   -- replies to those who wait keep the invariant
-  pub acknowledge_ok : (n : Node A) (fs : List (Frame A)) → NodeOk cs events h lists x n
+  pub acknowledge_ok : (n : MachineState A) (fs : List (Message A)) → NodeOk cs events h lists x n
       → AllByRecursion (FrameOk cs events lists) fs
       → AnswerOk cs events h lists x (acknowledge n fs)
   acknowledge_ok n fs ok sent = record {
@@ -195,16 +199,16 @@ module _ {A : Type 0} (cs : List (List ℕ)) (lawful : IsChain cs) (events : Lis
   }
 
   -- a step without frames and replies keeps the invariant
-  pub silent_ok : (n : Node A) → NodeOk cs events h lists x n → AnswerOk cs events h lists x
+  pub silent_ok : (n : MachineState A) → NodeOk cs events h lists x n → AnswerOk cs events h lists x
       (silent n)
   silent_ok n ok = record { node = ok; frames = tt; replies = tt }
 
   -- a drop keeps the invariant
-  pub dropped_ok : (n : Node A) → NodeOk cs events h lists x n → (r : _)
+  pub dropped_ok : (n : MachineState A) → NodeOk cs events h lists x n → (r : _)
       → AnswerOk cs events h lists x (dropped_for n r)
   dropped_ok n ok r = record { node = ok; frames = tt; replies = tt }
 
   -- a refusal keeps the invariant
-  pub refused_ok : (n : Node A) (i : ℕ) → NodeOk cs events h lists x n → (code : Refusal)
+  pub refused_ok : (n : MachineState A) (i : ℕ) → NodeOk cs events h lists x n → (code : Refusal)
       → AnswerOk cs events h lists x (refused n i code)
   refused_ok n i ok code = record { node = ok; frames = tt; replies = (tt, tt) }

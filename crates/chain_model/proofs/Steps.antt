@@ -3,16 +3,16 @@ use Rattle.std.proofs.Common.{◌≡◌, inl, inr, ⊎_elim, ℕ, ◌<◌, ◌�
 use Rattle.std.proofs.Common.{true, cond, nat_lt, sym, refl, ◌∙◌, ap, subst, arith}
 use Rattle.std.specs.List.{AllByRecursion}
 use Rattle.std.proofs.lemmas.Bool.{cond_both, false≢true, cases_lt}
-use Rattle.chain_model.specs.Lists.{Begins, Part}
+use Rattle.chain_model.specs.Lists.{IsPrefix, Part}
 use Rattle.chain_model.specs.Configuration.{at_epoch, has, is_tail, predecessor}
 use Rattle.chain_model.specs.declared.drop_reason.DropReason.TheVariants as reason
-use Rattle.chain_model.specs.Frames.{Ack, Forward, Frame}
-use Rattle.chain_model.specs.Node.{Node}
-use Rattle.chain_model.specs.Rules.{ack, adopted, forwards, moved, notice, pass_on, receive, tick}
-use Rattle.chain_model.specs.Rules.{told}
-use Rattle.chain_model.specs.World.{Event}
-use Rattle.chain_model.specs.InOrder.{CommittedBy, WasCommitted}
-use Rattle.chain_model.specs.KeepsEnough.{RisesFrom}
+use Rattle.chain_model.specs.Messages.{Ack, Forward, Message}
+use Rattle.chain_model.specs.Machine.{MachineState}
+use Rattle.chain_model.specs.Rules.{ack, adopted, forwards, moved, notice, on_ack, receive, tick}
+use Rattle.chain_model.specs.Rules.{acked}
+use Rattle.chain_model.specs.System.{SystemEvent}
+use Rattle.chain_model.specs.Order.{CommittedBy, WasCommitted}
+use Rattle.chain_model.specs.Retention.{RisesFrom}
 use Rattle.chain_model.proofs.Lists.{begins-length, every_append, take_begins}
 use Rattle.chain_model.proofs.Configuration.{IsChain, before_left, has_part, later_part}
 use Rattle.chain_model.proofs.Invariant.{FrameOk, IsKnown, IsPending, NodeOk, Safe, SoundNode}
@@ -32,18 +32,18 @@ greater a b P pa pb =
     (cases_lt a b)
 
 -- `lists` are the lists of all nodes after the step.
-module _ {A : Type 0} (cs : List (List ℕ)) (lawful : IsChain cs) (events : List (Event A))
+module _ {A : Type 0} (cs : List (List ℕ)) (lawful : IsChain cs) (events : List (SystemEvent A))
     (h : List A) (lists : ℕ → List A) (x : ℕ) where
   -- the new committed number is the greater of the old one and the reported one
-  told_sound : (n : Node A) (committed have : ℕ) → NodeOk cs events h lists x n
+  told_sound : (n : MachineState A) (committed have : ℕ) → NodeOk cs events h lists x n
       → lists x ≡ n.list → has n.ids x ≡ true
       → ((l : List A) × ((length l ≡ committed) × Safe lists n.ids l
       × CommittedBy cs events n.epoch l))
-      → SoundNode cs events h lists x (told n committed have)
+      → SoundNode cs events h lists x (acked n committed have)
   told_sound n committed have ok here has_x tells =
       let l = tells.0 in
       let by = tells.1.2 in
-      let begins : Begins l n.list = subst (λ m. Begins l m) here (tells.1.1 x has_x) in
+      let begins : IsPrefix l n.list = subst (λ m. IsPrefix l m) here (tells.1.1 x has_x) in
       let is : take committed n.list ≡ l =
       subst (λ k. take k n.list ≡ l) tells.1.0 (take_begins l n.list begins) in
       let known : IsKnown cs events x n.epoch (take committed n.list) = (
@@ -71,11 +71,11 @@ module _ {A : Type 0} (cs : List (List ℕ)) (lawful : IsChain cs) (events : Lis
       }
 
   -- the committed number is reported to the predecessor
-  pass_on_ok : (n : Node A) (committed have : ℕ) → NodeOk cs events h lists x n
-      → SoundNode cs events h lists x (told n committed have) → committed ≤ have
-      → AnswerOk cs events h lists x (pass_on x n committed have)
+  pass_on_ok : (n : MachineState A) (committed have : ℕ) → NodeOk cs events h lists x n
+      → SoundNode cs events h lists x (acked n committed have) → committed ≤ have
+      → AnswerOk cs events h lists x (on_ack x n committed have)
   pass_on_ok n committed have ok sound low =
-      let m = told n committed have in
+      let m = acked n committed have in
       let grew = nat_lt n.committed committed in
       let ok' : NodeOk cs events h lists x m = record {
         sound = sound;
@@ -90,7 +90,7 @@ module _ {A : Type 0} (cs : List (List ℕ)) (lawful : IsChain cs) (events : Lis
       (λ t. ack_ok cs lawful events h lists x m sound (predecessor m.ids x) refl) (λ t. tt))
 
   -- a frame
-  pub receive_ok : (n : Node A) (f : Frame A) → NodeOk cs events h lists x n
+  pub receive_ok : (n : MachineState A) (f : Message A) → NodeOk cs events h lists x n
       → FrameOk cs events lists f → ((z : ℕ) → (z ≡ x → ⊥) → Part (lists z) h)
       → Keeps cs lawful events h lists x (receive x n f)
   receive_ok n (Forward to e p k b) ok sent parts =
@@ -120,7 +120,8 @@ module _ {A : Type 0} (cs : List (List ℕ)) (lawful : IsChain cs) (events : Lis
       (dropped_ok cs lawful events h lists x n ok reason.BadAck))
 
   -- at a later epoch fewer nodes are spoken of
-  moved_sound : (n : Node A) (e : ℕ) → e < length cs → NodeOk cs events h lists x n → n.epoch < e
+  moved_sound : (n : MachineState A) (e : ℕ) → e < length cs → NodeOk cs events h lists x n →
+      n.epoch < e
       → SoundNode cs events h lists x (moved x n e (at_epoch cs e))
   moved_sound n e in_range ok later =
       let ids = at_epoch cs e in
@@ -143,13 +144,13 @@ module _ {A : Type 0} (cs : List (List ℕ)) (lawful : IsChain cs) (events : Lis
       }
 
   -- a node that adopted a configuration
-  adopted_ok : (n : Node A) (e : ℕ) → NodeOk cs events h lists x n
+  adopted_ok : (n : MachineState A) (e : ℕ) → NodeOk cs events h lists x n
       → SoundNode cs events h lists x (moved x n e (at_epoch cs e))
       → Lands cs events lists x (moved x n e (at_epoch cs e))
       → NodeOk cs events h lists x (adopted x n e (at_epoch cs e))
   adopted_ok n e ok sound lands =
       let ids = at_epoch cs e in
-      let to : Node A = moved x n e ids in
+      let to : MachineState A = moved x n e ids in
       let pending : AllByRecursion (IsPending events n.list) to.pending =
       cond_both (has ids x) n.pending [] (AllByRecursion (IsPending events n.list))
       (λ stays. ok.pending) (λ gone. tt) in
@@ -175,7 +176,7 @@ module _ {A : Type 0} (cs : List (List ℕ)) (lawful : IsChain cs) (events : Lis
       })
 
   -- a notice
-  pub notice_ok : (n : Node A) (e : ℕ) → e < length cs → NodeOk cs events h lists x n
+  pub notice_ok : (n : MachineState A) (e : ℕ) → e < length cs → NodeOk cs events h lists x n
       → Keeps cs lawful events h lists x (notice x n e (at_epoch cs e))
   notice_ok n e in_range ok =
       let ids = at_epoch cs e in
@@ -192,7 +193,7 @@ module _ {A : Type 0} (cs : List (List ℕ)) (lawful : IsChain cs) (events : Lis
       (ack_ok cs lawful events h lists x m ok'.sound (predecessor m.ids x) refl))
 
   -- a tick
-  pub tick_ok : (n : Node A) → NodeOk cs events h lists x n
+  pub tick_ok : (n : MachineState A) → NodeOk cs events h lists x n
       → Keeps cs lawful events h lists x (tick x n)
   tick_ok n ok =
       tick_cases (Keeps cs lawful events h lists x) x n

@@ -4,21 +4,25 @@ use Rattle.std.proofs.Common.{◌==◌, nat_lt, sym, refl, ap, subst, append_ass
 use Rattle.std.proofs.Common.{eqb-true, eq-eqb, ltb-true}
 use Rattle.std.specs.List.{AllByRecursion}
 use Rattle.std.proofs.lemmas.Bool.{cond_both, cond-true}
-use Rattle.chain_model.specs.Lists.{Begins, Part, place}
+use Rattle.chain_model.specs.Lists.{IsPrefix, Part, place}
 use Rattle.chain_model.specs.Configuration.{at_epoch, is_tail}
 use Rattle.chain_model.specs.declared.refusal.Refusal.TheVariants as refusal
 use Rattle.chain_model.specs.declared.refusal.Refusal.{Refusal}
 use Rattle.chain_model.specs.declared.drop_reason.DropReason.TheVariants as reason
 use Rattle.chain_model.specs.declared.drop_reason.DropReason.{DropReason}
-use Rattle.chain_model.specs.Frames.{Frame, addressee}
+use Rattle.chain_model.specs.Messages.{Message, addressee}
 use Rattle.chain_model.specs.Requests.{Close, Open, Read, Request, Submit}
-use Rattle.chain_model.specs.Node.{Answer, Node, dropped_for, refused, silent, started, stopped}
+use Rattle.chain_model.specs.Machine.{Answer, MachineState, dropped_for, refused, silent, started}
+use Rattle.chain_model.specs.Machine.{stopped}
 use Rattle.chain_model.specs.Rules.{ask, notice, receive, tend, tick}
-use Rattle.chain_model.specs.World.{Answered, Ask, Deliver, Event, Lost, Notice, Outcome, Start}
-use Rattle.chain_model.specs.World.{Stop, StoppedAfter, StoppedBefore, Tend, Tick, Went, World}
-use Rattle.chain_model.specs.World.{after, answers, as_it_went, delivered, happens, if_running}
-use Rattle.chain_model.specs.World.{nothing, outcome, run, stops, takes}
-use Rattle.chain_model.specs.InOrder.{WasCommitted}
+use Rattle.chain_model.specs.System.{Answered, Ask, Deliver, SystemEvent, Lost, Notice, Outcome}
+use Rattle.chain_model.specs.System.{Start}
+use Rattle.chain_model.specs.System.{Stop, StoppedAfter, StoppedBefore, Tend, Tick, StepResult}
+use Rattle.chain_model.specs.System.{SystemState}
+use Rattle.chain_model.specs.System.{after, answers, as_completed, delivered, state_after}
+use Rattle.chain_model.specs.System.{if_running}
+use Rattle.chain_model.specs.System.{nothing, outcome, run, stops, dispatched}
+use Rattle.chain_model.specs.Order.{WasCommitted}
 use Rattle.chain_model.proofs.Lists.{begins_refl, every_append, every_map, every_place}
 use Rattle.chain_model.proofs.Lists.{part_both, part_wider}
 use Rattle.chain_model.proofs.Configuration.{IsChain}
@@ -32,35 +36,37 @@ use Rattle.chain_model.proofs.Steps.{notice_ok, receive_ok, tick_ok}
 use Rattle.chain_model.proofs.Queries.{RequestOk, ask_ok, started_ok, stopped_ok, tend_ok}
 
 -- the world after an answer of node x
-abbrev pub put : {A : Type 0} → World A → ℕ → Answer A → World A
+abbrev pub put : {A : Type 0} → SystemState A → ℕ → Answer A → SystemState A
 put w x a = after w (answers x a)
 
 -- the lists of a world's tails at their epochs are committed
-abbrev pub TailsIn : {A : Type 0} → List (List ℕ) → List (Event A) → World A → Type 0
+abbrev pub TailsIn : {A : Type 0} → List (List ℕ) → List (SystemEvent A) → SystemState A → Type 0
 TailsIn cs events w = (t : ℕ) → is_tail (at_epoch cs (w.nodes t).epoch) t ≡ true
     → WasCommitted cs events (w.nodes t).epoch (w.nodes t).list
 
-module _ {A : Type 0} (cs : List (List ℕ)) (lawful : IsChain cs) (events : List (Event A))
-    (h : List A) (w : World A) (ok : WorldOk cs events h w) (r : List A) where
+module _ {A : Type 0} (cs : List (List ℕ)) (lawful : IsChain cs) (events : List (SystemEvent A))
+    (h : List A) (w : SystemState A) (ok : WorldOk cs events h w) (r : List A) where
   -- the lists after one node's step
   abbrev new : ℕ → Answer A → ℕ → List A
   new x a y = lists_of (put w x a) y
 
   -- all lists begin those after an answer
-  grow : (x : ℕ) (a : Answer A) → Begins (w.nodes x).list a.node.list → (y : ℕ)
-      → Begins (lists_of w y) (new x a y)
+  grow : (x : ℕ) (a : Answer A) → IsPrefix (w.nodes x).list a.node.list → (y : ℕ)
+      → IsPrefix (lists_of w y) (new x a y)
   grow x a g y =
-      cond_both {A = Node A} (x == y) a.node (w.nodes y) (λ n. Begins (w.nodes y).list n.list)
-      (λ is. subst (λ z. Begins (w.nodes z).list a.node.list) (eqb-true x y is) g)
+      cond_both {A = MachineState A} (x == y) a.node (w.nodes y)
+          (λ n. IsPrefix (w.nodes y).list n.list)
+      (λ is. subst (λ z. IsPrefix (w.nodes z).list a.node.list) (eqb-true x y is) g)
       (λ not. begins_refl (w.nodes y).list)
 
   -- the list of the node is the answer's
   here : (x : ℕ) (a : Answer A) → new x a x ≡ a.node.list
-  here x a = ap (λ (n : Node A). n.list) (cond-true (x == x) a.node (w.nodes x) (eq-eqb x x refl))
+  here x a = ap (λ (n : MachineState A). n.list)
+      (cond-true (x == x) a.node (w.nodes x) (eq-eqb x x refl))
 
   -- other lists are as before
   apart : (x : ℕ) (a : Answer A) (z : ℕ) → (z ≡ x → ⊥) → new x a z ≡ lists_of w z
-  apart x a z other = cond_both {A = Node A} (x == z) a.node (w.nodes z)
+  apart x a z other = cond_both {A = MachineState A} (x == z) a.node (w.nodes z)
       (λ n. n.list ≡ (w.nodes z).list) (λ is. absurd (other (sym (eqb-true x z is)))) (λ not. refl)
 
   -- a node's new list is the answer's
@@ -68,13 +74,13 @@ module _ {A : Type 0} (cs : List (List ℕ)) (lawful : IsChain cs) (events : Lis
       → Lands cs events (new x a) x a.node
   lands x a tails = record {
     list = here x a;
-    tail = subst (λ (n : Node A). is_tail (at_epoch cs n.epoch) x ≡ true
+    tail = subst (λ (n : MachineState A). is_tail (at_epoch cs n.epoch) x ≡ true
         → WasCommitted cs events n.epoch n.list) (cond-true (x == x) a.node (w.nodes x)
         (eq-eqb x x refl)) (tails x);
   }
 
   -- an answer that keeps the invariant of its node keeps that of the world
-  put_ok : (x : ℕ) (a : Answer A) → Begins (w.nodes x).list a.node.list
+  put_ok : (x : ℕ) (a : Answer A) → IsPrefix (w.nodes x).list a.node.list
       → AnswerOk cs events (h ++ r) (new x a) x a → WorldOk cs events (h ++ r) (put w x a)
   put_ok x a g good = record {
     nodes = λ y. cond_both (x == y) a.node (w.nodes y)
@@ -102,12 +108,12 @@ module _ {A : Type 0} (cs : List (List ℕ)) (lawful : IsChain cs) (events : Lis
 
   -- what answer a of node x keeps the invariant of it
   abbrev Keeps : ℕ → Answer A → Type 0
-  Keeps x a = (lists : ℕ → List A) → ((y : ℕ) → Begins (lists_of w y) (lists y))
+  Keeps x a = (lists : ℕ → List A) → ((y : ℕ) → IsPrefix (lists_of w y) (lists y))
       → ((z : ℕ) → (z ≡ x → ⊥) → lists z ≡ lists_of w z) → NodeOk cs events (h ++ r) lists x
       (w.nodes x) → Lands cs events lists x a.node → AnswerOk cs events (h ++ r) lists x a
 
   -- the same of an answer that is made from what holds before
-  answer_ok : (x : ℕ) (a : Answer A) → Begins (w.nodes x).list a.node.list → Keeps x a
+  answer_ok : (x : ℕ) (a : Answer A) → IsPrefix (w.nodes x).list a.node.list → Keeps x a
       → TailsIn cs events (put w x a) → WorldOk cs events (h ++ r) (put w x a)
   answer_ok x a g keeps tails =
       put_ok x a g (keeps (new x a) (grow x a g) (apart x a)
@@ -115,9 +121,9 @@ module _ {A : Type 0} (cs : List (List ℕ)) (lawful : IsChain cs) (events : Lis
       (ok.nodes x)) (lands x a tails))
 
   -- a step, however it ended
-  went_ok : (x : ℕ) (a : Answer A) (went : Went) → Begins (w.nodes x).list a.node.list
-      → Keeps x a → TailsIn cs events (after w (as_it_went x (w.nodes x) a went))
-      → WorldOk cs events (h ++ r) (after w (as_it_went x (w.nodes x) a went))
+  went_ok : (x : ℕ) (a : Answer A) (went : StepResult) → IsPrefix (w.nodes x).list a.node.list
+      → Keeps x a → TailsIn cs events (after w (as_completed x (w.nodes x) a went))
+      → WorldOk cs events (h ++ r) (after w (as_completed x (w.nodes x) a went))
   went_ok x a Answered g keeps tails = answer_ok x a g keeps tails
   went_ok x a StoppedBefore g keeps tails =
       let n = w.nodes x in
@@ -151,22 +157,23 @@ module _ {A : Type 0} (cs : List (List ℕ)) (lawful : IsChain cs) (events : Lis
   Holds o = TailsIn cs events (after w o) → WorldOk cs events (h ++ r) (after w o)
 
   -- a step of a node that runs, or not
-  running_ok : (x : ℕ) (f g : Node A → Answer A) (went : Went) → Begins (w.nodes x).list
+  running_ok : (x : ℕ) (f g : MachineState A → Answer A) (went : StepResult) → IsPrefix
+      (w.nodes x).list
       (f (w.nodes x)).node.list → Keeps x (f (w.nodes x)) → Holds (answers x (g (w.nodes x)))
       → Holds (if_running w x f g went)
   running_ok x f g went grows keeps otherwise =
       let n = w.nodes x in
-      cond_both n.running (as_it_went x n (f n) went) (answers x (g n)) Holds
+      cond_both n.running (as_completed x n (f n) went) (answers x (g n)) Holds
       (λ up tails. went_ok x (f n) went grows keeps tails) (λ down tails. otherwise tails)
 
   -- a step that is dropped by a node that does not run
-  takes_ok : (x : ℕ) (f : Node A → Answer A) (went : Went) → Begins (w.nodes x).list
-      (f (w.nodes x)).node.list → Keeps x (f (w.nodes x)) → Holds (takes w x f went)
+  takes_ok : (x : ℕ) (f : MachineState A → Answer A) (went : StepResult) → IsPrefix (w.nodes x).list
+      (f (w.nodes x)).node.list → Keeps x (f (w.nodes x)) → Holds (dispatched w x f went)
   takes_ok x f went grows keeps = running_ok x f (λ n. dropped_for n reason.NotRunning) went
       grows keeps (drops_ok x reason.NotRunning)
 
   -- a request
-  pub asked_ok : (x i : ℕ) (q : Request A) (went : Went)
+  pub asked_ok : (x i : ℕ) (q : Request A) (went : StepResult)
       → ((lists : ℕ → List A) → RequestOk cs lawful events (h ++ r) lists x (w.nodes x) i q)
       → Holds (outcome w cs (Ask x i q went))
   asked_ok x i q went given =
@@ -177,12 +184,12 @@ module _ {A : Type 0} (cs : List (List ℕ)) (lawful : IsChain cs) (events : Lis
       (refuses_ok x i refusal.NotRunning)
 
   -- a tick
-  pub ticked_ok : (x : ℕ) (went : Went) → Holds (outcome w cs (Tick x went))
+  pub ticked_ok : (x : ℕ) (went : StepResult) → Holds (outcome w cs (Tick x went))
   ticked_ok x went = takes_ok x (λ n. tick x n) went (tick_goes_on x (w.nodes x)).grows.list
       (λ lists up other lifted at. tick_ok cs lawful events (h ++ r) lists x (w.nodes x) lifted at)
 
   -- a tend
-  pub tended_ok : (x : ℕ) (rises : Bool) (gives_up : ℕ) (went : Went)
+  pub tended_ok : (x : ℕ) (rises : Bool) (gives_up : ℕ) (went : StepResult)
       → Holds (outcome w cs (Tend x rises gives_up went))
   tended_ok x rises gives_up went = takes_ok x (λ n. tend n rises gives_up) went
       (tend_goes_on (w.nodes x) rises gives_up).grows.list
@@ -190,9 +197,9 @@ module _ {A : Type 0} (cs : List (List ℕ)) (lawful : IsChain cs) (events : Lis
       gives_up lifted)
 
   -- a notice
-  pub noticed_ok : (x e : ℕ) (went : Went) → Holds (outcome w cs (Notice x e went))
+  pub noticed_ok : (x e : ℕ) (went : StepResult) → Holds (outcome w cs (Notice x e went))
   noticed_ok x e went =
-      cond_both (nat_lt e (length cs)) (takes w x (λ n. notice x n e (at_epoch cs e)) went)
+      cond_both (nat_lt e (length cs)) (dispatched w x (λ n. notice x n e (at_epoch cs e)) went)
       nothing Holds
       (λ in_range. takes_ok x (λ n. notice x n e (at_epoch cs e)) went
       (notice_goes_on x (w.nodes x) e (at_epoch cs e)).grows.list
@@ -201,7 +208,7 @@ module _ {A : Type 0} (cs : List (List ℕ)) (lawful : IsChain cs) (events : Lis
       (λ beyond tails. nothing_ok)
 
   -- a frame that was sent
-  sent_ok : (f : Frame A) (went : Went) → FrameOk cs events (lists_of w) f
+  sent_ok : (f : Message A) (went : StepResult) → FrameOk cs events (lists_of w) f
       → Holds (delivered w (Some f) went)
   sent_ok f went sent =
       let x = addressee f in
@@ -212,18 +219,18 @@ module _ {A : Type 0} (cs : List (List ℕ)) (lawful : IsChain cs) (events : Lis
       (part_wider (lists_of w z) h r (ok.nodes z).sound.handed)) at)
 
   -- a frame that is delivered
-  pub delivered_ok : (p : ℕ) (went : Went) (o : Option (Frame A)) → place w.frames p ≡ o
+  pub delivered_ok : (p : ℕ) (went : StepResult) (o : Option (Message A)) → place w.frames p ≡ o
       → Holds (delivered w o went)
   delivered_ok p went None e tails = nothing_ok
   delivered_ok p went (Some f) e tails =
       sent_ok f went (every_place (FrameOk cs events (lists_of w)) w.frames p f e ok.frames) tails
 
   -- a start
-  pub start_ok : (x : ℕ) (went : Went) → Holds (outcome w cs (Start x went))
+  pub start_ok : (x : ℕ) (went : StepResult) → Holds (outcome w cs (Start x went))
   start_ok x went =
       let n = w.nodes x in
       let a = silent (started x n) in
-      cond_both n.running (answers x (dropped_for n reason.Running)) (as_it_went x n a went) Holds
+      cond_both n.running (answers x (dropped_for n reason.Running)) (as_completed x n a went) Holds
       (λ up. drops_ok x reason.Running)
       (λ down. went_ok x a went (begins_refl n.list)
       (λ lists up other lifted at. silent_ok cs lawful events (h ++ r) lists x (started x n)
@@ -239,14 +246,17 @@ module _ {A : Type 0} (cs : List (List ℕ)) (lawful : IsChain cs) (events : Lis
       (λ lists up other lifted at. silent_ok cs lawful events (h ++ r) lists x n lifted) tails)
       (λ down. drops_ok x reason.NotRunning)
 
-module _ {A : Type 0} (cs : List (List ℕ)) (lawful : IsChain cs) (events : List (Event A)) where
+module _ {A : Type 0} (cs : List (List ℕ)) (lawful : IsChain cs) (events : List (SystemEvent A))
+    where
   -- the batches that an event submits are submitted in the run
-  abbrev EventOk : Event A → Type 0
+  abbrev EventOk : SystemEvent A → Type 0
   EventOk e = (i : ℕ) (b : A) → IsHandIn i b e → WasHandedIn events i b
 
   -- every event keeps the invariant
-  pub happens_ok : (h : List A) (w : World A) → WorldOk cs events h w → (e : Event A) → EventOk e
-      → TailsIn cs events (happens cs w e) → WorldOk cs events (h ++ handed_by e) (happens cs w e)
+  pub happens_ok : (h : List A) (w : SystemState A) → WorldOk cs events h w → (e : SystemEvent A) →
+      EventOk e
+      → TailsIn cs events (state_after cs w e) → WorldOk cs events (h ++ handed_by e)
+          (state_after cs w e)
   happens_ok h w ok (Ask x i (Submit b) went) told tails = asked_ok cs lawful events h w ok
       (b ∷ []) x i (Submit b) went
       (λ lists. (
@@ -272,16 +282,17 @@ module _ {A : Type 0} (cs : List (List ℕ)) (lawful : IsChain cs) (events : Lis
   happens_ok h w ok Lost told tails = nothing_ok cs lawful events h w ok []
 
   -- of every world on the way
-  abbrev pub Along : List (Event A) → World A → Type 0
+  abbrev pub Along : List (SystemEvent A) → SystemState A → Type 0
   Along [] w = Unit {0}
-  Along (e ∷ es) w = TailsIn cs events (happens cs w e) × Along es (happens cs w e)
+  Along (e ∷ es) w = TailsIn cs events (state_after cs w e) × Along es (state_after cs w e)
 
   -- every run keeps the invariant
-  pub run_ok : (es : List (Event A)) → AllByRecursion EventOk es → (h : List A) (w : World A)
+  pub run_ok : (es : List (SystemEvent A)) → AllByRecursion EventOk es → (h : List A)
+      (w : SystemState A)
       → Along es w → WorldOk cs events h w → WorldOk cs events (h ++ handed es) (run cs es w)
   run_ok [] told h w along ok = subst (λ l. WorldOk cs events l w) (sym (append-nil h)) ok
   run_ok (e ∷ es) told h w along ok =
-      subst (λ l. WorldOk cs events l (run cs es (happens cs w e)))
+      subst (λ l. WorldOk cs events l (run cs es (state_after cs w e)))
       (append_assoc h (handed_by e) (handed es))
-      (run_ok es told.1 (h ++ handed_by e) (happens cs w e) along.1
+      (run_ok es told.1 (h ++ handed_by e) (state_after cs w e) along.1
       (happens_ok h w ok e told.0 along.0))

@@ -39,9 +39,9 @@ successor (y ∷ []) x = None
 successor (y ∷ z ∷ c) x = if y == x then Some z else successor (z ∷ c) x
 
 -- x precedes y in the configuration (van Renesse and Schneider 2004, section 3)
-abbrev pub Before : List ℕ → ℕ → ℕ → Type 0
-Before [] x y = ⊥
-Before (z ∷ c) x y = ((z ≡ x) × (has c y ≡ true)) ⊎ Before c x y
+abbrev pub IsBeforeIn : List ℕ → ℕ → ℕ → Type 0
+IsBeforeIn [] x y = ⊥
+IsBeforeIn (z ∷ c) x y = ((z ≡ x) × (has c y ≡ true)) ⊎ IsBeforeIn c x y
 
 -- no id occurs twice in the list
 abbrev pub AllDifferent : List ℕ → Type 0

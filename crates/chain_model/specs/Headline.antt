@@ -1,22 +1,22 @@
 -- The headline: one list of batches with which every read and every acknowledgement agrees.
 -- Definitions without a source are this store's profile.
 use Rattle.std.specs.Prelude.{◌≡◌, ℕ, suc, ◌≤◌, List, [], ◌∷◌, length, map, take, Some, All, true}
-use Rattle.chain_model.specs.Lists.{Begins, Part, place}
+use Rattle.chain_model.specs.Lists.{IsPrefix, Part, place}
 use Rattle.chain_model.specs.Configuration.{Configurations, has, last_of}
-use Rattle.chain_model.specs.Requests.{Submit, Reply, Committed, Shows}
-use Rattle.chain_model.specs.World.{Event, Ask, reached, node_of}
+use Rattle.chain_model.specs.Requests.{Submit, Response, Committed, Shows}
+use Rattle.chain_model.specs.System.{SystemEvent, Ask, reached, node_of}
 
 -- events whose requests are numbered by their event's place, the first being i
-abbrev pub numbered : {A : Type 0} → ℕ → List (Event A) → List (Event A)
+abbrev pub numbered : {A : Type 0} → ℕ → List (SystemEvent A) → List (SystemEvent A)
 numbered i [] = []
 numbered i (Ask x number request went ∷ es) = Ask x i request went ∷ numbered (suc i) es
 numbered i (e ∷ es) = e ∷ numbered (suc i) es
 
 -- the submitted batches, each with its event's place, in order
-abbrev pub handed_in : {A : Type 0} → ℕ → List (Event A) → List (ℕ × A)
-handed_in i [] = []
-handed_in i (Ask x number (Submit batch) went ∷ es) = (i, batch) ∷ handed_in (suc i) es
-handed_in i (e ∷ es) = handed_in (suc i) es
+abbrev pub submitted : {A : Type 0} → ℕ → List (SystemEvent A) → List (ℕ × A)
+submitted i [] = []
+submitted i (Ask x number (Submit batch) went ∷ es) = (i, batch) ∷ submitted (suc i) es
+submitted i (e ∷ es) = submitted (suc i) es
 
 -- batches without the places of their events
 abbrev pub batches : {A : Type 0} → List (ℕ × A) → List A
@@ -24,19 +24,19 @@ batches placed = map (λ (p : ℕ × _). p.1) placed
 
 -- An acknowledgement of n to request i says that place n of B is the batch of event i. A read at s
 -- is of B's first s batches.
-abbrev pub Agrees : {A : Type 0} → List (ℕ × A) → Reply A → Type 0
-Agrees B (Committed i n) = (batch : _) × (place B n ≡ Some (i, batch))
-Agrees B (Shows i s l) = (s ≤ length B) × (l ≡ take s (batches B))
-Agrees B _ = Unit {0}
+abbrev pub ResponseAgrees : {A : Type 0} → List (ℕ × A) → Response A → Type 0
+ResponseAgrees B (Committed i n) = (batch : _) × (place B n ≡ Some (i, batch))
+ResponseAgrees B (Shows i s l) = (s ≤ length B) × (l ≡ take s (batches B))
+ResponseAgrees B _ = Unit {0}
 
 -- There is one list of batches (this store's profile; of the history that nodes share: van Renesse
 -- and Schneider 2004, section 3).
-pub record OneList {A : Type 0} (cs : Configurations) (events : List (Event A)) : Type 0 where
+pub record OneList {A : Type 0} (cs : Configurations) (events : List (SystemEvent A)) : Type 0 where
   pub B : List (ℕ × A)
   -- it is a sublist of the submitted batches, in order and each at most once
-  pub taken : Part B (handed_in 1 events)
+  pub taken : Part B (submitted 1 events)
   -- every read and every acknowledgement agrees with it
-  pub agrees : All (Agrees B) (reached cs (numbered 1 events)).replies
+  pub agrees : All (ResponseAgrees B) (reached cs (numbered 1 events)).replies
   -- the list of every node of the last configuration begins with it
   pub stands : (x : ℕ) → has (last_of cs) x ≡ true
-      → Begins (batches B) (node_of cs (numbered 1 events) x).list
+      → IsPrefix (batches B) (node_of cs (numbered 1 events) x).list

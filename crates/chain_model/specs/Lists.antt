@@ -2,7 +2,7 @@
 use Rattle.std.specs.Prelude.{◌≡◌, ◌⊎◌, ℕ, zero, suc, List, [], ◌∷◌, ◌++◌, Option, Some, None}
 
 -- l is a prefix of m (van Renesse and Schneider 2004, section 3)
-pub record Begins {A : Type 0} (l m : List A) : Type 0 where
+pub record IsPrefix {A : Type 0} (l m : List A) : Type 0 where
   pub rest : List A
   pub whole : l ++ rest ≡ m
 

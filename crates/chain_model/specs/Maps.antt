@@ -3,15 +3,16 @@
 -- runs over plain batches. Definitions without a source are this store's profile.
 use Rattle.std.specs.Prelude.{◌≡◌, ℕ, List, map, Option, Some, None}
 use Rattle.chain_model.specs.Configuration.{Configurations}
-use Rattle.chain_model.specs.Frames.{Frame, Forward, Ack}
-use Rattle.chain_model.specs.Requests.{Request, Submit, Read, Open, Close, Reply, Committed}
+use Rattle.chain_model.specs.Messages.{Message, Forward, Ack}
+use Rattle.chain_model.specs.Requests.{Request, Submit, Read, Open, Close, Response, Committed}
 use Rattle.chain_model.specs.Requests.{Shows, Opened, Closed, Refused}
-use Rattle.chain_model.specs.Node.{Node, Answer}
-use Rattle.chain_model.specs.World.{Event, Ask, Tick, Tend, Notice, Deliver, Start, Stop, Lost}
-use Rattle.chain_model.specs.World.{Outcome, World, reached, outcomes, beginning}
+use Rattle.chain_model.specs.Machine.{MachineState, Answer}
+use Rattle.chain_model.specs.System.{SystemEvent, Ask, Tick, Tend, Notice, Deliver, Start, Stop}
+use Rattle.chain_model.specs.System.{Lost}
+use Rattle.chain_model.specs.System.{Outcome, SystemState, reached, outcomes, first_state}
 
 -- the image of a node
-abbrev pub node_map : {A B : Type 0} → (A → B) → Node A → Node B
+abbrev pub node_map : {A B : Type 0} → (A → B) → MachineState A → MachineState B
 node_map f n = record {
   list = map f n.list;
   epoch = n.epoch;
@@ -26,12 +27,12 @@ node_map f n = record {
 }
 
 -- the image of a frame
-abbrev pub frame_map : {A B : Type 0} → (A → B) → Frame A → Frame B
+abbrev pub frame_map : {A B : Type 0} → (A → B) → Message A → Message B
 frame_map f (Forward to e from k b) = Forward to e from k (f b)
 frame_map f (Ack to e from c have) = Ack to e from c have
 
 -- the image of a reply
-abbrev pub reply_map : {A B : Type 0} → (A → B) → Reply A → Reply B
+abbrev pub reply_map : {A B : Type 0} → (A → B) → Response A → Response B
 reply_map f (Committed i n) = Committed i n
 reply_map f (Shows i s l) = Shows i s (map f l)
 reply_map f (Opened i s) = Opened i s
@@ -55,7 +56,7 @@ answer_map f a = record {
 }
 
 -- the image of an event
-abbrev pub event_map : {A B : Type 0} → (A → B) → Event A → Event B
+abbrev pub event_map : {A B : Type 0} → (A → B) → SystemEvent A → SystemEvent B
 event_map f (Ask x i q went) = Ask x i (request_map f q) went
 event_map f (Tick x went) = Tick x went
 event_map f (Tend x rises gives_up went) = Tend x rises gives_up went
@@ -66,14 +67,15 @@ event_map f (Stop x) = Stop x
 event_map f Lost = Lost
 
 -- the image of the node that handled an event
-abbrev pub place_map : {A B : Type 0} → (A → B) → Option (ℕ × Node A) → Option (ℕ × Node B)
+abbrev pub place_map : {A B : Type 0} → (A → B) → Option (ℕ × MachineState A) → Option
+    (ℕ × MachineState B)
 place_map f None = None
 place_map f (Some at) = Some (at.0, node_map f at.1)
 
 -- the image of an outcome
 abbrev pub outcome_map : {A B : Type 0} → (A → B) → Outcome A → Outcome B
 outcome_map f o = record {
-  came_to = place_map f o.came_to;
+  acted_on = place_map f o.acted_on;
   frames = map (frame_map f) o.frames;
   replies = map (reply_map f) o.replies;
   dropped = o.dropped;
@@ -81,7 +83,7 @@ outcome_map f o = record {
 }
 
 -- the image of a world
-abbrev pub world_map : {A B : Type 0} → (A → B) → World A → World B
+abbrev pub world_map : {A B : Type 0} → (A → B) → SystemState A → SystemState B
 world_map f w = record {
   nodes = λ x. node_map f (w.nodes x);
   frames = map (frame_map f) w.frames;
@@ -89,8 +91,9 @@ world_map f w = record {
 }
 
 -- a run of images is the image of the run
-pub record GoesWithMap {A B : Type 0} (f : A → B) (cs : Configurations) (events : List (Event A))
+pub record CommutesWithMap {A B : Type 0} (f : A → B) (cs : Configurations)
+    (events : List (SystemEvent A))
     : Type 0 where
   pub world : world_map f (reached cs events) ≡ reached cs (map (event_map f) events)
-  pub each : map (outcome_map f) (outcomes cs events (beginning cs))
-      ≡ outcomes cs (map (event_map f) events) (beginning cs)
+  pub each : map (outcome_map f) (outcomes cs events (first_state cs))
+      ≡ outcomes cs (map (event_map f) events) (first_state cs)

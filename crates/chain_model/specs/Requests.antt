@@ -14,9 +14,9 @@ pub data Request (A : Type 0) : Type 0 where
 -- Replies, each to the request of a number (van Renesse and Schneider 2004, section 2; Opened,
 -- Closed and Refused are this store's profile). A read returns a function of the batches up to its
 -- number.
-pub data Reply (A : Type 0) : Type 0 where
-  Committed : (request number : ℕ) → Reply A
-  Shows : (request number : ℕ) → (batches : List A) → Reply A
-  Opened : (request number : ℕ) → Reply A
-  Closed : (request number : ℕ) → Reply A
-  Refused : (request : ℕ) → (why : Refusal) → Reply A
+pub data Response (A : Type 0) : Type 0 where
+  Committed : (request number : ℕ) → Response A
+  Shows : (request number : ℕ) → (batches : List A) → Response A
+  Opened : (request number : ℕ) → Response A
+  Closed : (request number : ℕ) → Response A
+  Refused : (request : ℕ) → (why : Refusal) → Response A

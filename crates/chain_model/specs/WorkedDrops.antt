@@ -4,16 +4,16 @@
 use Rattle.std.specs.Prelude.{◌≡◌, ℕ, [], ◌∷◌, Some}
 use Rattle.chain_model.specs.declared.drop_reason.DropReason.TheVariants as reason
 use Rattle.chain_model.specs.declared.refusal.Refusal.TheVariants as refusal
-use Rattle.chain_model.specs.Frames.{Forward, Ack}
-use Rattle.chain_model.specs.Node.{Node, created, dropped_for, refused}
+use Rattle.chain_model.specs.Messages.{Forward, Ack}
+use Rattle.chain_model.specs.Machine.{MachineState, created, dropped_for, refused}
 use Rattle.chain_model.specs.Rules.{receive, submit, read, notice, not_for_nodes, unreadable}
 
 -- node 1 of the chain of nodes 1 and 2 at its creation
-abbrev pub first : Node ℕ
+abbrev pub first : MachineState ℕ
 first = created (1 ∷ 2 ∷ [])
 
 -- a node whose floor is above its committed number, which no run reaches
-abbrev pub floor_above : Node ℕ
+abbrev pub floor_above : MachineState ℕ
 floor_above = record first { floor = 2 }
 
 -- The node's drops and refusals, with their reasons. Its configuration lacks node 9.

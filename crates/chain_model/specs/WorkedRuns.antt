@@ -5,28 +5,29 @@ use Rattle.chain_model.specs.Configuration.{Configurations}
 use Rattle.chain_model.specs.declared.refusal.Refusal.TheVariants as refusal
 use Rattle.chain_model.specs.declared.drop_reason.DropReason.TheVariants as reason
 use Rattle.chain_model.specs.Requests.{Submit, Read, Open, Close}
-use Rattle.chain_model.specs.World.{Event, Ask, Tick, Tend, Notice, Deliver, Start, Stop}
-use Rattle.chain_model.specs.World.{Answered, StoppedBefore, StoppedAfter, node_of}
-use Rattle.chain_model.specs.Trace.{Line, Forwards, Acks, Commits, Reads, Refuses, Drops, Adopts}
+use Rattle.chain_model.specs.System.{SystemEvent, Ask, Tick, Tend, Notice, Deliver, Start, Stop}
+use Rattle.chain_model.specs.System.{Answered, StoppedBefore, StoppedAfter, node_of}
+use Rattle.chain_model.specs.Trace.{TraceLine, Forwards, Acks, Commits, Reads, Refuses, Drops}
+use Rattle.chain_model.specs.Trace.{Adopts}
 use Rattle.chain_model.specs.Trace.{Opens, Starts, Stops, trace}
 
 -- the events of a run, each with its expected lines
 abbrev pub Run : Type 0
-Run = List (Event ℕ × List (Line ℕ))
+Run = List (SystemEvent ℕ × List (TraceLine ℕ))
 
 -- the events of a run
-abbrev pub events_of : Run → List (Event ℕ)
+abbrev pub events_of : Run → List (SystemEvent ℕ)
 events_of [] = []
 events_of (step ∷ run) = step.0 ∷ events_of run
 
 -- the expected lines of a run
-abbrev pub lines_of : Run → List (List (Line ℕ))
-lines_of [] = []
-lines_of (step ∷ run) = step.1 ∷ lines_of run
+abbrev pub lines_expected : Run → List (List (TraceLine ℕ))
+lines_expected [] = []
+lines_expected (step ∷ run) = step.1 ∷ lines_expected run
 
 -- the run of these configurations and events has these lines
 abbrev pub ShowsThat : Configurations → Run → Type 0
-ShowsThat cs run = trace cs (events_of run) ≡ lines_of run
+ShowsThat cs run = trace cs (events_of run) ≡ lines_expected run
 
 -- the pending requests of node x after these events, with their numbers
 abbrev pub pending_after : Configurations → Run → ℕ → List (ℕ × ℕ)

@@ -5,14 +5,14 @@
 ghost use Rattle.std.specs.Prelude.{◌≡◌, ◌↔◌, ℕ, List, true};
 ghost use Rattle.chain_model.specs.Lists.{Part};
 ghost use Rattle.chain_model.specs.Configuration.{Configurations, Lawful, is_part};
-ghost use Rattle.chain_model.specs.World.{Event};
+ghost use Rattle.chain_model.specs.System.{SystemEvent};
 ghost use Rattle.chain_model.specs.Headline.{OneList};
-ghost use Rattle.chain_model.specs.Outcomes.{MadeOfOutcomes};
-ghost use Rattle.chain_model.specs.InOrder.{InOrder};
+ghost use Rattle.chain_model.specs.Outcomes.{RunIsOutcomes};
+ghost use Rattle.chain_model.specs.Order.{InOrder};
 ghost use Rattle.chain_model.specs.Freshness.{ReadsFresh};
-ghost use Rattle.chain_model.specs.KeepsEnough.{KeepsEnough};
+ghost use Rattle.chain_model.specs.Retention.{KeepsEnough};
 ghost use Rattle.chain_model.specs.Growth.{StepsGoOn, OnlyGrows};
-ghost use Rattle.chain_model.specs.Maps.{GoesWithMap};
+ghost use Rattle.chain_model.specs.Maps.{CommutesWithMap};
 ghost use Rattle.chain_model.specs.WorkedRuns.{WorkedRuns};
 ghost use Rattle.chain_model.specs.WorkedDrops.{WorkedDrops};
 
@@ -25,29 +25,33 @@ pub use refusal::Refusal;
 /// For every lawful list of configurations and every list of events there is one list of batches.
 /// Every read and acknowledgement agrees with it, and it is a prefix of each last node's list.
 pub fn one_history<B>()
-    ensures { (cs : Configurations) (events : List (Event B)) → Lawful cs → OneList cs events }
+    ensures { (cs : Configurations) (events : List (SystemEvent B)) → Lawful cs → OneList cs events
+        }
 {}
 
 /// Along the chain each later list is a prefix of the earlier ones, and frames are true. The list
 /// of an epoch's tail at that epoch is never lost.
 pub fn in_order<B>()
-    ensures { (cs : Configurations) (events : List (Event B)) → Lawful cs → InOrder cs events }
+    ensures { (cs : Configurations) (events : List (SystemEvent B)) → Lawful cs → InOrder cs events
+        }
 {}
 
 /// A read at the last configuration's tail, once it is at that epoch, sees every batch that was
 /// ever acknowledged or read.
 pub fn reads_fresh<B>()
-    ensures { (cs : Configurations) (events : List (Event B)) → Lawful cs → ReadsFresh cs events }
+    ensures { (cs : Configurations) (events : List (SystemEvent B)) → Lawful cs → ReadsFresh cs
+        events }
 {}
 
 /// No node trims a batch from its logs that another one may still need from it.
 pub fn keeps_enough<B>()
-    ensures { (cs : Configurations) (events : List (Event B)) → Lawful cs → KeepsEnough cs events }
+    ensures { (cs : Configurations) (events : List (SystemEvent B)) → Lawful cs → KeepsEnough cs
+        events }
 {}
 
 /// Each event has one outcome, and the run sends and replies what these outcomes do.
-pub fn made_of_outcomes<B>()
-    ensures { (cs : Configurations) (events : List (Event B)) → MadeOfOutcomes cs events }
+pub fn run_is_outcomes<B>()
+    ensures { (cs : Configurations) (events : List (SystemEvent B)) → RunIsOutcomes cs events }
 {}
 
 /// A step that answers leaves its node running. The node's list, epoch, floor and kept number stay
@@ -58,12 +62,14 @@ pub fn steps_go_on<B>()
 
 /// A longer run extends a shorter one: it keeps every batch, epoch, frame and reply.
 pub fn only_grows<B>()
-    ensures { (cs : Configurations) (events later : List (Event B)) → OnlyGrows cs events later }
+    ensures { (cs : Configurations) (events later : List (SystemEvent B)) → OnlyGrows cs events
+        later }
 {}
 
 /// A run does not inspect batches: it commutes with every map of them, event by event.
-pub fn goes_with_maps<A, B>()
-    ensures { (f : A → B) (cs : Configurations) (es : List (Event A)) → GoesWithMap f cs es }
+pub fn commutes_with_maps<A, B>()
+    ensures { (f : A → B) (cs : Configurations) (es : List (SystemEvent A)) → CommutesWithMap f cs
+        es }
 {}
 
 /// Eleven small runs show the expected frames, replies and drops, event by event.

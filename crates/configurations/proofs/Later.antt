@@ -10,7 +10,7 @@ use Rattle.configurations.specs.Configs.{IsConfig}
 use Rattle.configurations.specs.Checks.{each_later, is_smaller, is_in_order}
 use Rattle.configurations.specs.declared.error.ConfigError.{ConfigError}
 use Rattle.configurations.specs.declared.error.ConfigError.TheVariants as fault
-use Rattle.configurations.specs.Refusals.{HasPair, IsLeast, ListHas, code}
+use Rattle.configurations.specs.Refusals.{HasPair, IsLeast, ListHas, fault_number}
 
 -- a test that is not passed fails at some place
 pub fails_at : (test : List ℕ → List ℕ → Bool) (cs : List (List ℕ)) → each_later test cs ≡ false
@@ -76,7 +76,7 @@ least_smaller cs h = record { has = not_smaller cs h; least = least }
     at : ListHas fault.NotSmaller cs
     at = not_smaller cs h
 
-    least : (other : ConfigError) → code other < 3 → ListHas other cs → ⊥
+    least : (other : ConfigError) → fault_number other < 3 → ListHas other cs → ⊥
     least fault.Empty l has = some_of cs at.0 at.1 has
     least fault.Repeated l has = has
     least fault.NotSmaller l has = absurd (omega (arith, l))
@@ -93,7 +93,7 @@ least_in_order decides cs smaller h = record { has = not_in_order decides cs h; 
     at : ListHas fault.NotInOrder cs
     at = not_in_order decides cs h
 
-    least : (other : ConfigError) → code other < 4 → ListHas other cs → ⊥
+    least : (other : ConfigError) → fault_number other < 4 → ListHas other cs → ⊥
     least fault.Empty l has = some_of cs at.0 at.1 has
     least fault.Repeated l has = has
     least fault.NotSmaller l has = absurd (omega (arith, all_smaller cs smaller has.0 has.1, has.2))
@@ -108,7 +108,7 @@ pub least_many : Decides → (cs : List (List ℕ)) → each_later is_smaller cs
     → IsLeast (λ e. ListHas e cs) fault.TooMany
 least_many decides cs smaller ordered many = record { has = many; least = least }
   where
-    least : (other : ConfigError) → code other < 5 → ListHas other cs → ⊥
+    least : (other : ConfigError) → fault_number other < 5 → ListHas other cs → ⊥
     least fault.Empty l has =
         let no_length : length cs ≡ 0 = ap length has in absurd (omega (arith, many, no_length))
     least fault.Repeated l has = has

@@ -30,16 +30,16 @@ ListHas fault.BadId cs = ⊥
 ListHas fault.Memory cs = ⊥
 
 -- the place of a refusal in the order of tests
-abbrev pub code : ConfigError → ℕ
-code fault.Empty = 1
-code fault.Repeated = 2
-code fault.NotSmaller = 3
-code fault.NotInOrder = 4
-code fault.TooMany = 5
-code fault.BadId = 6
-code fault.Memory = 7
+abbrev pub fault_number : ConfigError → ℕ
+fault_number fault.Empty = 1
+fault_number fault.Repeated = 2
+fault_number fault.NotSmaller = 3
+fault_number fault.NotInOrder = 4
+fault_number fault.TooMany = 5
+fault_number fault.BadId = 6
+fault_number fault.Memory = 7
 
 -- the refusal applies, and none of a lesser place does
 pub record IsLeast (Has : ConfigError → Type 0) (e : ConfigError) : Type 0 where
   pub has : Has e
-  pub least : (other : ConfigError) → code other < code e → Has other → ⊥
+  pub least : (other : ConfigError) → fault_number other < fault_number e → Has other → ⊥

@@ -5,33 +5,33 @@ use Rattle.std.proofs.Common.{Result, Ok, Err}
 use Rattle.std.proofs.Common.{refl, sym, ap, subst, ◌∙◌, inl, inr}
 use Rattle.std.specs.Prelude.{slice_get}
 use Rattle.std.proofs.lemmas.Bool.{cases_lt, cases_eq}
-use Rattle.disk.specs.declared.touch.Touch.{Touch}
-use Rattle.disk.specs.declared.touch.Touch.TheVariants.{Wrote, Cut}
+use Rattle.disk.specs.declared.pending_write.PendingWrite.{PendingWrite}
+use Rattle.disk.specs.declared.pending_write.PendingWrite.TheVariants.{Wrote, Cut}
 use Rattle.disk.specs.declared.error.DiskError.{DiskError}
 use Rattle.disk.specs.declared.error.DiskError.TheVariants.{Failed, NoFile, Short, Memory}
-use Rattle.disk.specs.State.{Slot, Absent, Fresh, Kept, State, seen, Loosens, IsLoose}
-use Rattle.disk.specs.State.{IsSame, Changes, written, cut_to}
-use Rattle.disk.specs.Calls.{CanBegin, Writes, Cuts}
-use Rattle.disk.specs.Memory.{Agrees, AllAgree}
+use Rattle.disk.specs.States.{Slot, Absent, Fresh, Kept, State, seen, MakesUnsynced, IsUnsynced}
+use Rattle.disk.specs.States.{IsSame, ChangesSlot, written, cut_to}
+use Rattle.disk.specs.Calls.{CanBegin, WriteOutcome, CutOutcome}
+use Rattle.disk.specs.Memory.{KeptAgrees, AllKeptAgree}
 use Rattle.disk.proofs.Places.{get-take, overwritten_before, overwritten_after}
 
 -- an unsynced place stays unsynced under one more pending write
-pub loose_still : (end : ℕ) (touches : List Touch) (one : Touch) (place : ℕ)
-    → IsLoose end touches place → IsLoose end (touches ++ one ∷ []) place
+pub loose_still : (end : ℕ) (touches : List PendingWrite) (one : PendingWrite) (place : ℕ)
+    → IsUnsynced end touches place → IsUnsynced end (touches ++ one ∷ []) place
 loose_still end [] one place loose = absurd loose
 loose_still end (first ∷ touches) one place (inl here) = inl here
 loose_still end (first ∷ touches) one place (inr later) =
     inr (loose_still end touches one place later)
 
 -- a pending write makes its own places unsynced
-pub loose_now : (end : ℕ) (touches : List Touch) (one : Touch) (place : ℕ)
-    → Loosens one end place → IsLoose end (touches ++ one ∷ []) place
+pub loose_now : (end : ℕ) (touches : List PendingWrite) (one : PendingWrite) (place : ℕ)
+    → MakesUnsynced one end place → IsUnsynced end (touches ++ one ∷ []) place
 loose_now end [] one place here = inl here
 loose_now end (first ∷ touches) one place here = inr (loose_now end touches one place here)
 
 -- it agrees after a write
-agrees_written : (at : ℕ) (bytes : List ℕ) (slot : Slot) → CanBegin (seen slot) at → Agrees slot
-    → Agrees (written at bytes slot)
+agrees_written : (at : ℕ) (bytes : List ℕ) (slot : Slot) → CanBegin (seen slot) at → KeptAgrees slot
+    → KeptAgrees (written at bytes slot)
 agrees_written at bytes (Absent back) begins agrees = tt
 agrees_written at bytes (Fresh old back) begins agrees = tt
 agrees_written at bytes (Kept old kept touches) begins agrees = λ place tight.
@@ -48,7 +48,7 @@ agrees_written at bytes (Kept old kept touches) begins agrees = λ place tight.
     ]
 
 -- they agree after a cut
-agrees_cut : (len : ℕ) (slot : Slot) → Agrees slot → Agrees (cut_to len slot)
+agrees_cut : (len : ℕ) (slot : Slot) → KeptAgrees slot → KeptAgrees (cut_to len slot)
 agrees_cut len (Absent back) agrees = tt
 agrees_cut len (Fresh old back) agrees = tt
 agrees_cut len (Kept old kept touches) agrees = λ place tight.
@@ -60,21 +60,21 @@ agrees_cut len (Kept old kept touches) agrees = λ place tight.
     ]
 
 -- an unchanged slot agrees
-same_agree : (old new : State) → IsSame old new → AllAgree old → AllAgree new
-same_agree old new same all = λ file. subst Agrees (sym (same file)) (all file)
+same_agree : (old new : State) → IsSame old new → AllKeptAgree old → AllKeptAgree new
+same_agree old new same all = λ file. subst KeptAgrees (sym (same file)) (all file)
 
 -- where one slot changes, that one decides
-changed_agree : (old new : State) (file : ℕ) (slot : Slot) → Changes old new file slot
-    → Agrees slot → AllAgree old → AllAgree new
+changed_agree : (old new : State) (file : ℕ) (slot : Slot) → ChangesSlot old new file slot
+    → KeptAgrees slot → AllKeptAgree old → AllKeptAgree new
 changed_agree old new file slot changes here all = λ other. elim (cases_eq other file) [
-  | inl is ↦ subst Agrees (sym (ap new is ∙ changes.here)) here
-  | inr apart ↦ subst Agrees (sym (changes.others other apart)) (all other)
+  | inl is ↦ subst KeptAgrees (sym (ap new is ∙ changes.here)) here
+  | inr apart ↦ subst KeptAgrees (sym (changes.others other apart)) (all other)
 ]
 
 -- a write that didn't fail
 pub writes_agree : {T : Type 0} (result : Result T DiskError) (old new : State) (file at : ℕ)
-    (bytes : List ℕ) → Writes old file at bytes result new → result ≢ Err Failed
-    → AllAgree old → AllAgree new
+    (bytes : List ℕ) → WriteOutcome old file at bytes result new → result ≢ Err Failed
+    → AllKeptAgree old → AllKeptAgree new
 writes_agree (Ok x) old new file at bytes w apart all =
     changed_agree old new file (written at bytes (old file)) w.2
     (agrees_written at bytes (old file) w.0 (all file)) all
@@ -85,7 +85,7 @@ writes_agree (Err Memory) old new file at bytes w apart all = same_agree old new
 
 -- a cut that didn't fail
 pub cuts_agree : {T : Type 0} (result : Result T DiskError) (old new : State) (file len : ℕ)
-    → Cuts old file len result new → result ≢ Err Failed → AllAgree old → AllAgree new
+    → CutOutcome old file len result new → result ≢ Err Failed → AllKeptAgree old → AllKeptAgree new
 cuts_agree (Ok x) old new file len c apart all =
     changed_agree old new file (cut_to len (old file)) c.1
     (agrees_cut len (old file) (all file)) all

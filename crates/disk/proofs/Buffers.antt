@@ -9,7 +9,7 @@ use Rattle.std.proofs.lemmas.Bool.{cases_lt}
 use Rattle.std.proofs.lemmas.Grind.{common_steps}
 use Rattle.std.proofs.lemmas.List.{length-take, length-drop, take-append-le, drop-append-le}
 use Rattle.disk.specs.Piece.{Piece}
-use Rattle.disk.specs.State.{overwritten}
+use Rattle.disk.specs.States.{overwritten}
 use Rattle.disk.specs.Buffer.{uncovered, AllWithin}
 use Rattle.disk.proofs.Places.{same_bytes, get-take, get-take_past, get-drop}
 use Rattle.disk.proofs.Places.{get-append_left, get-append_right}

@@ -5,10 +5,10 @@ use Rattle.std.proofs.lemmas.Bool.{cases_lt}
 use Rattle.std.proofs.Common.{⊎_elim}
 use Rattle.disk.specs.declared.error.DiskError.{DiskError}
 use Rattle.disk.specs.declared.error.DiskError.TheVariants.{Failed, NoFile, Short, Memory}
-use Rattle.disk.specs.State.{State}
-use Rattle.disk.specs.Calls.{HasRisen, Rises, CallKeeps}
+use Rattle.disk.specs.States.{State}
+use Rattle.disk.specs.Calls.{HasRisen, RisesByOne, CallKeeps}
 
-rises_later : (before now : ℕ) → Rises before now → before ≤ now
+rises_later : (before now : ℕ) → RisesByOne before now → before ≤ now
 rises_later before now rises =
     ⊎_elim (λ lt. omega (arith, rises.below lt)) (λ ge. omega (arith, rises.last ge))
     (cases_lt before (2 ^ 64 - 1))

@@ -18,8 +18,8 @@ use Rattle.std.proofs.lemmas.Map.Keys.{IsStrictlyIncreasing-from_sorted}
 use Rattle.std.proofs.Common.{map}
 use Rattle.std.specs.Option.{option_map}
 use Rattle.std.proofs.lemmas.Map.Made.{lookup-map_values}
-use Rattle.disk.specs.State.{Slot, Absent, seen}
-use Rattle.disk.specs.Calls.{Lists}
+use Rattle.disk.specs.States.{Slot, Absent, seen}
+use Rattle.disk.specs.Calls.{ListsFiles}
 use Rattle.disk.specs.Memory.{state_of, slot_found}
 
 -- the numbers of the files that are there
@@ -148,7 +148,7 @@ is_listed file (one ∷ others) there =
 
 -- the numbers are those of the files that are there, rising
 pub lists_numbers : (slots : List (ℕ × Slot)) → IsStrictlySortedBy nat_cmp (keys_of slots)
-    → Lists (state_of slots) (numbers_of slots)
+    → ListsFiles (state_of slots) (numbers_of slots)
 lists_numbers slots sorted = record {
   rising = IsStrictlyIncreasing-from_sorted (numbers_of slots) (sorted_numbers slots sorted);
   exact = λ file. (is_there file slots sorted, is_listed file slots);

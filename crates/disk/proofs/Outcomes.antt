@@ -6,14 +6,16 @@ use Rattle.std.specs.Option.{option_map}
 use Rattle.std.proofs.Math.Bool.{or-true}
 use Rattle.std.proofs.lemmas.Bool.{or_cases}
 use Rattle.std.proofs.lemmas.Bool.Decides.{nat_tests}
-use Rattle.disk.specs.declared.touch.Touch.{Touch}
-use Rattle.disk.specs.declared.touch.Touch.TheVariants.{Wrote, Cut}
+use Rattle.disk.specs.declared.pending_write.PendingWrite.{PendingWrite}
+use Rattle.disk.specs.declared.pending_write.PendingWrite.TheVariants.{Wrote, Cut}
 use Rattle.disk.specs.declared.junk.Junk.{Junk}
 use Rattle.disk.specs.declared.junk.Junk.TheVariants.{Old, New, Bytes}
-use Rattle.disk.specs.State.{Slot, Absent, Fresh, Kept, State, seen, contents}
-use Rattle.disk.specs.State.{Loosens, IsLoose, AgreesOff, Leaves, MayLeave, IsSure}
-use Rattle.disk.specs.Memory.{Agrees, AllAgree}
-use Rattle.disk.specs.Crashes.{loosens, is_loose, torn, torn_byte, left_by, sure, crashed, Crashes}
+use Rattle.disk.specs.States.{Slot, Absent, Fresh, Kept, State, seen, contents}
+use Rattle.disk.specs.States.{MakesUnsynced, IsUnsynced, AgreesOutside, IsFileOutcome}
+use Rattle.disk.specs.States.{IsCrashOutcome, IsDurable}
+use Rattle.disk.specs.Memory.{KeptAgrees, AllKeptAgree}
+use Rattle.disk.specs.Crashes.{makes_unsynced, is_unsynced, torn, torn_byte, crash_outcome, durable}
+use Rattle.disk.specs.Crashes.{crashed, CrashOutcome}
 use Rattle.std.proofs.Common.{map}
 use Rattle.std.specs.Prelude.{is_some}
 use Rattle.std.specs.List.{AllByRecursion}
@@ -36,8 +38,8 @@ both_are true y is = (refl, is)
 both_are false y is = absurd cc
 
 -- a write or cut that passes the test makes the place unsynced
-loosens_is : (touch : Touch) (end place : ℕ) → loosens touch end place ≡ true
-    → Loosens touch end place
+loosens_is : (touch : PendingWrite) (end place : ℕ) → makes_unsynced touch end place ≡ true
+    → MakesUnsynced touch end place
 loosens_is (Wrote at len) end place is =
     elim (or_cases (nat_le at place && nat_lt place (at + len)) (nat_le end place) is) [
       | inl both ↦ let parts = both_are (nat_le at place) (nat_lt place (at + len)) both in
@@ -47,11 +49,12 @@ loosens_is (Wrote at len) end place is =
 loosens_is (Cut len) end place is = le_is len place is
 
 -- a place that passes the test is unsynced
-pub is_loose_is : (end : ℕ) (touches : List Touch) (place : ℕ) → is_loose end touches place ≡ true
-    → IsLoose end touches place
+pub is_loose_is : (end : ℕ) (touches : List PendingWrite) (place : ℕ) → is_unsynced end touches
+    place ≡ true
+    → IsUnsynced end touches place
 is_loose_is end [] place is = absurd cc
 is_loose_is end (touch ∷ touches) place is =
-    elim (or_cases (loosens touch end place) (is_loose end touches place) is) [
+    elim (or_cases (makes_unsynced touch end place) (is_unsynced end touches place) is) [
       | inl here ↦ inl (loosens_is touch end place here)
       | inr later ↦ inr (is_loose_is end touches place later)
     ]
@@ -65,8 +68,8 @@ is_lt : (a b : ℕ) → a < b → nat_lt a b ≡ true
 is_lt a b lt = grind (arith, nat_tests)
 
 -- a write or cut that makes the place unsynced passes the test
-is_loosens : (touch : Touch) (end place : ℕ) → Loosens touch end place
-    → loosens touch end place ≡ true
+is_loosens : (touch : PendingWrite) (end place : ℕ) → MakesUnsynced touch end place
+    → makes_unsynced touch end place ≡ true
 is_loosens (Wrote at len) end place (inl inside) =
     rw (is_le at place inside.0, is_lt place (at + len) inside.1) refl
 is_loosens (Wrote at len) end place (inr past) =
@@ -74,33 +77,35 @@ is_loosens (Wrote at len) end place (inr past) =
 is_loosens (Cut len) end place past = is_le len place past
 
 -- an unsynced place passes the test
-pub is_is_loose : (end : ℕ) (touches : List Touch) (place : ℕ) → IsLoose end touches place
-    → is_loose end touches place ≡ true
+pub is_is_loose : (end : ℕ) (touches : List PendingWrite) (place : ℕ) → IsUnsynced end touches place
+    → is_unsynced end touches place ≡ true
 is_is_loose end [] place loose = absurd loose
 is_is_loose end (touch ∷ touches) place (inl here) = rw (is_loosens touch end place here) refl
 is_is_loose end (touch ∷ touches) place (inr later) =
-    rw (is_is_loose end touches place later) (or-true (loosens touch end place))
+    rw (is_is_loose end touches place later) (or-true (makes_unsynced touch end place))
 
 -- a synced place does not pass the test
-tight_is : (b : Bool) (end : ℕ) (touches : List Touch) (place : ℕ) → is_loose end touches place ≡ b
-    → (IsLoose end touches place → ⊥) → b ≡ false
+tight_is : (b : Bool) (end : ℕ) (touches : List PendingWrite) (place : ℕ) → is_unsynced end touches
+    place ≡ b
+    → (IsUnsynced end touches place → ⊥) → b ≡ false
 tight_is true end touches place is tight = absurd (tight (is_loose_is end touches place is))
 tight_is false end touches place is tight = refl
 
 -- ---- a torn file keeps its synced places
 
 -- junk changes no synced place
-torn_agrees : (end : ℕ) (touches : List Touch) (junk bytes : List ℕ)
-    → AgreesOff end touches (torn end touches junk bytes) bytes
+torn_agrees : (end : ℕ) (touches : List PendingWrite) (junk bytes : List ℕ)
+    → AgreesOutside end touches (torn end touches junk bytes) bytes
 torn_agrees end touches [] bytes = λ place tight. refl
 torn_agrees end touches (first ∷ junk) bytes = λ place tight.
-    let is : is_loose end touches place ≡ false =
-    tight_is (is_loose end touches place) end touches place refl tight in
+    let is : is_unsynced end touches place ≡ false =
+    tight_is (is_unsynced end touches place) end touches place refl tight in
     get-torn end touches (first ∷ junk) bytes place (omega arith)
     ∙ kept_byte end touches (first ∷ junk) place (slice_get bytes place) is
   where
-    kept_byte : (end : ℕ) (touches : List Touch) (junk : List ℕ) (place : ℕ) (found : Option ℕ)
-        → is_loose end touches place ≡ false
+    kept_byte : (end : ℕ) (touches : List PendingWrite) (junk : List ℕ) (place : ℕ)
+        (found : Option ℕ)
+        → is_unsynced end touches place ≡ false
         → option_map (λ byte. torn_byte end touches junk (place, byte)) found ≡ found
     kept_byte end touches junk place None is = refl
     kept_byte end touches junk place (Some byte) is = rw is refl
@@ -108,7 +113,8 @@ torn_agrees end touches (first ∷ junk) bytes = λ place tight.
 -- ---- each outcome is allowed
 
 -- each junk leaves an outcome of the slot
-left_allowed : (junk : Junk) (slot : Slot) → Agrees slot → Leaves slot (left_by junk slot)
+left_allowed : (junk : Junk) (slot : Slot) → KeptAgrees slot → IsFileOutcome slot
+    (crash_outcome junk slot)
 left_allowed Old (Absent back) agrees = inr refl
 left_allowed Old (Fresh bytes back) agrees = tt
 left_allowed Old (Kept bytes kept touches) agrees = agrees
@@ -121,22 +127,23 @@ left_allowed (Bytes junk) (Kept bytes kept touches) agrees =
     torn_agrees (length kept) touches junk bytes
 
 -- a durable slot reads as the crash left it
-seen-sure : (left : Option (List ℕ)) → seen (sure left) ≡ left
+seen-sure : (left : Option (List ℕ)) → seen (durable left) ≡ left
 seen-sure None = refl
 seen-sure (Some bytes) = refl
 
 -- each crash outcome is allowed
-pub crashes_allowed : (junk : Junk) (old new : State) → AllAgree old → Crashes junk old new
-    → MayLeave old (contents new)
+pub crashes_allowed : (junk : Junk) (old new : State) → AllKeptAgree old → CrashOutcome junk old new
+    → IsCrashOutcome old (contents new)
 crashes_allowed junk old new all crashes = λ file.
-    subst (Leaves (old file)) (sym (ap seen (crashes file) ∙ seen-sure (left_by junk (old file))))
+    subst (IsFileOutcome (old file))
+        (sym (ap seen (crashes file) ∙ seen-sure (crash_outcome junk (old file))))
     (left_allowed junk (old file) (all file))
 
 -- every crash outcome is durable
-pub crashed_is_sure : (junk : Junk) (slot : Slot) → IsSure (crashed junk slot)
-crashed_is_sure junk slot = is_sure (left_by junk slot)
+pub crashed_is_durable : (junk : Junk) (slot : Slot) → IsDurable (crashed junk slot)
+crashed_is_durable junk slot = is_sure (crash_outcome junk slot)
   where
-    is_sure : (left : Option (List ℕ)) → IsSure (sure left)
+    is_sure : (left : Option (List ℕ)) → IsDurable (durable left)
     is_sure None = refl
     is_sure (Some bytes) = (refl, refl)
 
@@ -150,8 +157,9 @@ crashed_none (Bytes junk) = refl
 pub crashed_says : (junk : Junk) (slots : List (ℕ × Slot))
     → AllByRecursion SaysNothing (map (λ e. (e.0, crashed junk e.1)) slots)
 crashed_says junk [] = tt
-crashed_says junk (one ∷ others) = (says (left_by junk one.1), crashed_says junk others)
+crashed_says junk (one ∷ others) = (says (crash_outcome junk one.1), crashed_says junk others)
   where
-    says : (left : Option (List ℕ)) → is_some (seen (sure left)) ≡ false → sure left ≡ Absent None
+    says : (left : Option (List ℕ)) → is_some (seen (durable left)) ≡ false → durable left ≡ Absent
+        None
     says None is = refl
     says (Some bytes) is = absurd cc

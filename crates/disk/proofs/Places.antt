@@ -5,7 +5,7 @@ use Rattle.std.proofs.Common.{refl, sym, ap, ◌∙◌, arith}
 use Rattle.std.specs.Prelude.{slice_get}
 use Rattle.std.proofs.lemmas.Grind.{common_steps}
 use Rattle.std.proofs.lemmas.Option.{gets}
-use Rattle.disk.specs.State.{overwritten}
+use Rattle.disk.specs.States.{overwritten}
 
 -- contents with the same bytes in all places are the same
 pub same_bytes : (a b : List ℕ) → ((place : ℕ) → slice_get a place ≡ slice_get b place) → a ≡ b

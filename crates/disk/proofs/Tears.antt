@@ -12,8 +12,8 @@ use Rattle.std.proofs.Common.{add-one, get_or}
 use Rattle.std.proofs.Math.ListN.{length-set}
 use Rattle.std.proofs.lemmas.Option.{gets, slice_get-get_or}
 use Rattle.std.proofs.lemmas.Nat.{mod_below}
-use Rattle.disk.specs.declared.touch.Touch.{Touch}
-use Rattle.disk.specs.Crashes.{is_loose, loose_before, torn, torn_byte}
+use Rattle.disk.specs.declared.pending_write.PendingWrite.{PendingWrite}
+use Rattle.disk.specs.Crashes.{is_unsynced, unsynced_before, torn, torn_byte}
 use Rattle.disk.proofs.Places.{same_bytes, get-past}
 
 -- a byte that was put is there
@@ -37,7 +37,8 @@ get-enumerated f from (x ∷ bytes) (suc place) =
     ∙ ap (λ (n : ℕ). option_map (λ byte. f (n, byte)) (slice_get bytes place)) (omega arith)
 
 -- the byte of a torn file at a place
-pub get-torn : (end : ℕ) (touches : List Touch) (junk bytes : List ℕ) (place : ℕ) → 0 < length junk
+pub get-torn : (end : ℕ) (touches : List PendingWrite) (junk bytes : List ℕ) (place : ℕ) → 0 <
+    length junk
     → slice_get (torn end touches junk bytes) place
     ≡ option_map (λ byte. torn_byte end touches junk (place, byte)) (slice_get bytes place)
 get-torn end touches [] bytes place some = absurd (omega (arith, some))
@@ -54,53 +55,54 @@ mod_more n m =
     ∙ add-mul-mod_self_left (n % m + 1) m (n / m))
 
 -- the next place has one more unsynced place before it, or as many
-loose_before_loose : (end : ℕ) (touches : List Touch) (place : ℕ)
-    → is_loose end touches place ≡ true
-    → loose_before end touches (place + 1) ≡ loose_before end touches place + 1
+loose_before_loose : (end : ℕ) (touches : List PendingWrite) (place : ℕ)
+    → is_unsynced end touches place ≡ true
+    → unsynced_before end touches (place + 1) ≡ unsynced_before end touches place + 1
 loose_before_loose end touches place loose =
-    ap (loose_before end touches) (add-one place)
-    ∙ ap (λ (b : Bool). loose_before end touches place + (if b then 1 else 0)) loose
+    ap (unsynced_before end touches) (add-one place)
+    ∙ ap (λ (b : Bool). unsynced_before end touches place + (if b then 1 else 0)) loose
 
 -- a synced place adds none
-loose_before_tight : (end : ℕ) (touches : List Touch) (place : ℕ)
-    → is_loose end touches place ≡ false
-    → loose_before end touches (place + 1) ≡ loose_before end touches place
+loose_before_tight : (end : ℕ) (touches : List PendingWrite) (place : ℕ)
+    → is_unsynced end touches place ≡ false
+    → unsynced_before end touches (place + 1) ≡ unsynced_before end touches place
 loose_before_tight end touches place tight =
-    ap (loose_before end touches) (add-one place)
-    ∙ ap (λ (b : Bool). loose_before end touches place + (if b then 1 else 0)) tight
+    ap (unsynced_before end touches) (add-one place)
+    ∙ ap (λ (b : Bool). unsynced_before end touches place + (if b then 1 else 0)) tight
     ∙ omega arith
 
 -- the file is torn up to this place, and is as it was behind it
-pub record IsTornTo (end : ℕ) (touches : List Touch) (junk old bytes : List ℕ)
+pub record IsTornTo (end : ℕ) (touches : List PendingWrite) (junk old bytes : List ℕ)
     (place next : ℕ) : Type 0 where
-  pub junk_part : next ≡ loose_before end touches place % length junk
+  pub junk_part : next ≡ unsynced_before end touches place % length junk
   pub size : length bytes ≡ length old
   pub torn_part : (k : ℕ) → k < place → slice_get bytes k ≡ slice_get (torn end touches junk old) k
   pub old_part : (k : ℕ) → place ≤ k → slice_get bytes k ≡ slice_get old k
 
 -- the next junk byte is one of the junk
-pub junk_within : (end : ℕ) (touches : List Touch) (junk old bytes : List ℕ) (place next : ℕ)
+pub junk_within : (end : ℕ) (touches : List PendingWrite) (junk old bytes : List ℕ) (place next : ℕ)
     → 0 < length junk
     → IsTornTo end touches junk old bytes place next → next < length junk
 junk_within end touches junk old bytes place next some so_far =
-    omega (arith, so_far.junk_part, mod_below (loose_before end touches place) (length junk) some)
+    omega (arith, so_far.junk_part, mod_below (unsynced_before end touches place) (length junk)
+        some)
 
 -- the torn byte at a place of the old bytes
-torn_at : (b : Bool) (end : ℕ) (touches : List Touch) (junk old : List ℕ) (place : ℕ)
+torn_at : (b : Bool) (end : ℕ) (touches : List PendingWrite) (junk old : List ℕ) (place : ℕ)
     → 0 < length junk
-    → place < length old → is_loose end touches place ≡ b
+    → place < length old → is_unsynced end touches place ≡ b
     → slice_get (torn end touches junk old) place
-    ≡ Some (if b then slice_index junk (loose_before end touches place % length junk)
+    ≡ Some (if b then slice_index junk (unsynced_before end touches place % length junk)
     else get_or old place 0)
 torn_at b end touches junk old place some within is =
     get-torn end touches junk old place some
     ∙ ap (option_map (λ byte. torn_byte end touches junk (place, byte)))
     (slice_get-get_or old place 0 within)
     ∙ ap (λ (t : Bool). Some
-    (if t then slice_index junk (loose_before end touches place % length junk)
+    (if t then slice_index junk (unsynced_before end touches place % length junk)
     else get_or old place 0)) is
 
-module _ (end : ℕ) (touches : List Touch) (junk old : List ℕ) (some : 0 < length junk) where
+module _ (end : ℕ) (touches : List PendingWrite) (junk old : List ℕ) (some : 0 < length junk) where
   pub torn_start : IsTornTo end touches junk old old 0 0
   torn_start = record {
     junk_part = omega (arith, mod_below 0 (length junk) some);
@@ -110,12 +112,12 @@ module _ (end : ℕ) (touches : List Touch) (junk old : List ℕ) (some : 0 < le
   }
 
   pub torn_loose : (bytes : List ℕ) (place next : ℕ) → place < length old
-      → is_loose end touches place ≡ true → IsTornTo end touches junk old bytes place next
+      → is_unsynced end touches place ≡ true → IsTornTo end touches junk old bytes place next
       → IsTornTo end touches junk old (slice_set bytes place (slice_index junk next)) (place + 1)
       ((next + 1) % length junk)
   torn_loose bytes place next within loose so_far = record {
     junk_part = ap (λ (n : ℕ). (n + 1) % length junk) so_far.junk_part
-        ∙ mod_more (loose_before end touches place) (length junk)
+        ∙ mod_more (unsynced_before end touches place) (length junk)
         ∙ ap (λ (n : ℕ). n % length junk) (sym (loose_before_loose end touches place loose));
     size = length-set bytes place (slice_index junk next) ∙ so_far.size;
     torn_part = λ k lt. elim (cases_lt k place) [
@@ -136,7 +138,7 @@ module _ (end : ℕ) (touches : List Touch) (junk old : List ℕ) (some : 0 < le
   }
 
   pub torn_tight : (bytes : List ℕ) (place next : ℕ) → place < length old
-      → is_loose end touches place ≡ false → IsTornTo end touches junk old bytes place next
+      → is_unsynced end touches place ≡ false → IsTornTo end touches junk old bytes place next
       → IsTornTo end touches junk old bytes (place + 1) next
   torn_tight bytes place next within tight so_far = record {
     junk_part = so_far.junk_part

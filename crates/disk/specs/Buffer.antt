@@ -1,7 +1,7 @@
 -- A buffer, and the bytes of it that writes have overwritten.
 use Rattle.std.specs.Prelude.{ℕ, ◌+◌, ◌≤◌, List, [], ◌∷◌, length, All}
 use Rattle.disk.specs.Piece.{Piece}
-use Rattle.disk.specs.State.{overwritten}
+use Rattle.disk.specs.States.{overwritten}
 
 -- the buffer with the overwritten bytes restored, the latest first
 abbrev pub uncovered : List ℕ → List Piece → List ℕ

@@ -7,8 +7,8 @@ use Rattle.std.specs.List.Sorted.{IsStrictlyIncreasing}
 use Rattle.std.specs.Global.{Vec}
 use Rattle.disk.specs.declared.error.DiskError.{DiskError}
 use Rattle.disk.specs.declared.error.DiskError.TheVariants.{Failed, NoFile, Short, Memory}
-use Rattle.disk.specs.State.{State, Slot, seen, IsSame, Changes, MayHave}
-use Rattle.disk.specs.State.{written, cut_to, synced, removed}
+use Rattle.disk.specs.States.{State, Slot, seen, IsSame, ChangesSlot, MayHaveChanged}
+use Rattle.disk.specs.States.{written, cut_to, synced, removed}
 
 -- a write of this length from this place on would end past the greatest place of a file
 abbrev pub EndsOutOfRange : ℕ → ℕ → Type 0
@@ -21,7 +21,7 @@ abbrev pub HasRisen : ℕ → ℕ → Type 0
 HasRisen before now = before < 2 ^ 64 - 1 → before < now
 
 -- the count is one more, or stays at its last value
-pub record Rises (before now : ℕ) : Type 0 where
+pub record RisesByOne (before now : ℕ) : Type 0 where
   pub below : before < 2 ^ 64 - 1 → now ≡ before + 1
   pub last : 2 ^ 64 - 1 ≤ before → now ≡ before
 
@@ -33,7 +33,7 @@ pub record KeepsBy {D : Type 0} (is_honest : D → Type 0) (state : D → State)
   -- the disk is honest after the call exactly if it was before
   pub honest : is_honest new ↔ is_honest old
   -- a failure is reported only where the count rises
-  pub failed : has_failed → Rises (failures old) (failures new)
+  pub failed : has_failed → RisesByOne (failures old) (failures new)
   -- otherwise the count stays the same
   pub count : (has_failed → ⊥) → failures new ≡ failures old
   -- a reliable disk fails only for this cause
@@ -54,43 +54,43 @@ pub record CallKeeps {D T : Type 0} (is_honest : D → Type 0) (state : D → St
 -- ---- the calls that read
 
 -- the refusals of a call that needs a file of at least this length
-abbrev pub Refuses : DiskError → State → ℕ → ℕ → Type 0
-Refuses Failed disk file len = Unit {0}
-Refuses NoFile disk file len = IsNone (seen (disk file))
-Refuses Short disk file len = IsSomeAnd (seen (disk file)) (λ bytes. length bytes < len)
-Refuses Memory disk file len = Unit {0}
+abbrev pub IsRefusalOf : DiskError → State → ℕ → ℕ → Type 0
+IsRefusalOf Failed disk file len = Unit {0}
+IsRefusalOf NoFile disk file len = IsNone (seen (disk file))
+IsRefusalOf Short disk file len = IsSomeAnd (seen (disk file)) (λ bytes. length bytes < len)
+IsRefusalOf Memory disk file len = Unit {0}
 
 -- the list has the numbers of the existing files, in ascending order
-pub record Lists (disk : State) (files : List ℕ) : Type 0 where
+pub record ListsFiles (disk : State) (files : List ℕ) : Type 0 where
   pub rising : IsStrictlyIncreasing files
   pub exact : (file : ℕ) → Contains files file ↔ IsSome (seen (disk file))
 
 -- the answers of `files`
-abbrev pub Files : State → Result (Vec ℕ) DiskError → Type 0
-Files disk (Ok files) = Lists disk files.items
-Files disk (Err e) = (e ≡ Failed) ⊎ (e ≡ Memory)
+abbrev pub FilesAnswer : State → Result (Vec ℕ) DiskError → Type 0
+FilesAnswer disk (Ok files) = ListsFiles disk files.items
+FilesAnswer disk (Err e) = (e ≡ Failed) ⊎ (e ≡ Memory)
 
 -- the answers of `length`; lengths are at least 0
-abbrev pub Lengths : State → ℕ → Result ℕ DiskError → Type 0
-Lengths disk file (Ok len) =
+abbrev pub LengthAnswer : State → ℕ → Result ℕ DiskError → Type 0
+LengthAnswer disk file (Ok len) =
     IsSomeAnd (seen (disk file)) (λ bytes. (len ≡ length bytes) × (len < 2 ^ 63))
-Lengths disk file (Err e) = Refuses e disk file 0
+LengthAnswer disk file (Err e) = IsRefusalOf e disk file 0
 
 -- the answers of `read`, and the content of its buffer of this length
-abbrev pub Reads : {T : Type 0} → State → ℕ → ℕ → ℕ → Result T DiskError → List ℕ → Type 0
-Reads disk file at len (Ok _) into =
+abbrev pub ReadAnswer : {T : Type 0} → State → ℕ → ℕ → ℕ → Result T DiskError → List ℕ → Type 0
+ReadAnswer disk file at len (Ok _) into =
     IsSomeAnd (seen (disk file))
     (λ bytes. (at + len ≤ length bytes) × (into ≡ take len (drop at bytes)))
-Reads disk file at len (Err e) into = Refuses e disk file (at + len)
+ReadAnswer disk file at len (Err e) into = IsRefusalOf e disk file (at + len)
 
 -- ---- the calls that change
 
 -- the state after a call for this slot that failed or was refused
-abbrev pub Fails : DiskError → State → ℕ → Slot → State → Type 0
-Fails Failed old file slot new = MayHave old new file slot
-Fails NoFile old file slot new = IsSame old new
-Fails Short old file slot new = IsSame old new
-Fails Memory old file slot new = IsSame old new
+abbrev pub FailureLeaves : DiskError → State → ℕ → Slot → State → Type 0
+FailureLeaves Failed old file slot new = MayHaveChanged old new file slot
+FailureLeaves NoFile old file slot new = IsSame old new
+FailureLeaves Short old file slot new = IsSame old new
+FailureLeaves Memory old file slot new = IsSame old new
 
 -- a place where a write of the file may begin: place 0 creates the file
 abbrev pub CanBegin : Option (List ℕ) → ℕ → Type 0
@@ -106,30 +106,35 @@ CanRefuse Short at len = at + len < 2 ^ 63
 CanRefuse Memory at len = at + len < 2 ^ 63
 
 -- the answers of `write_at`, and the state after it
-abbrev pub Writes : {T : Type 0} → State → ℕ → ℕ → List ℕ → Result T DiskError → State → Type 0
-Writes old file at bytes (Ok _) new =
+abbrev pub WriteOutcome : {T : Type 0} → State → ℕ → ℕ → List ℕ → Result T DiskError → State → Type
+    0
+WriteOutcome old file at bytes (Ok _) new =
     CanBegin (seen (old file)) at
     × (at + length bytes < 2 ^ 63)
-    × Changes old new file (written at bytes (old file))
-Writes old file at bytes (Err e) new =
-    Fails e old file (written at bytes (old file)) new
-    × Refuses e old file at
+    × ChangesSlot old new file (written at bytes (old file))
+WriteOutcome old file at bytes (Err e) new =
+    FailureLeaves e old file (written at bytes (old file)) new
+    × IsRefusalOf e old file at
     × CanRefuse e at (length bytes)
 
 -- the answers of `cut`, and the state after it
-abbrev pub Cuts : {T : Type 0} → State → ℕ → ℕ → Result T DiskError → State → Type 0
-Cuts old file len (Ok _) new =
+abbrev pub CutOutcome : {T : Type 0} → State → ℕ → ℕ → Result T DiskError → State → Type 0
+CutOutcome old file len (Ok _) new =
     IsSomeAnd (seen (old file)) (λ bytes. len ≤ length bytes)
-    × Changes old new file (cut_to len (old file))
-Cuts old file len (Err e) new =
-    Fails e old file (cut_to len (old file)) new × Refuses e old file len
+    × ChangesSlot old new file (cut_to len (old file))
+CutOutcome old file len (Err e) new =
+    FailureLeaves e old file (cut_to len (old file)) new × IsRefusalOf e old file len
 
 -- the answers of `sync`, and the state after it; a failed sync adds no crash outcome
-abbrev pub Syncs : {T : Type 0} → State → ℕ → Result T DiskError → State → Type 0
-Syncs old file (Ok _) new = IsSome (seen (old file)) × Changes old new file (synced (old file))
-Syncs old file (Err e) new = Fails e old file (old file) new × Refuses e old file 0
+abbrev pub SyncOutcome : {T : Type 0} → State → ℕ → Result T DiskError → State → Type 0
+SyncOutcome old file (Ok _) new = IsSome (seen (old file)) × ChangesSlot old new file
+    (synced (old file))
+SyncOutcome old file (Err e) new = FailureLeaves e old file (old file) new × IsRefusalOf e old file
+    0
 
 -- the answers of `remove`, and the state after it
-abbrev pub Removes : {T : Type 0} → State → ℕ → Result T DiskError → State → Type 0
-Removes old file (Ok _) new = IsSome (seen (old file)) × Changes old new file (removed (old file))
-Removes old file (Err e) new = Fails e old file (removed (old file)) new × Refuses e old file 0
+abbrev pub RemoveOutcome : {T : Type 0} → State → ℕ → Result T DiskError → State → Type 0
+RemoveOutcome old file (Ok _) new = IsSome (seen (old file)) × ChangesSlot old new file
+    (removed (old file))
+RemoveOutcome old file (Err e) new = FailureLeaves e old file (removed (old file)) new × IsRefusalOf
+    e old file 0

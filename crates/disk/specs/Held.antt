@@ -2,7 +2,7 @@
 use Rattle.std.specs.Option.{option_map}
 use Rattle.disk.specs.declared.slot.Held.{Held}
 use Rattle.disk.specs.declared.slot.Held.TheVariants as held
-use Rattle.disk.specs.State.{Slot, Absent, Fresh, Kept}
+use Rattle.disk.specs.States.{Slot, Absent, Fresh, Kept}
 
 -- the slot that a value in memory represents
 abbrev pub slot_of : Held → Slot

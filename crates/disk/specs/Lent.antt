@@ -1,6 +1,6 @@
 -- The effect of a call on a disk that is passed to it.
 use Rattle.disk.specs.declared.disk.Disk.{Ghosts}
-use Rattle.disk.specs.State.{State}
+use Rattle.disk.specs.States.{State}
 use Rattle.disk.specs.Calls.{KeepsBy}
 
 -- The disk is honest exactly if it was, and its count of failures rises exactly where `has_failed`.

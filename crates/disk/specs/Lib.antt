@@ -1,4 +1,4 @@
-pub mod State
+pub mod States
 pub mod Calls
 pub mod Lent
 pub mod Piece

@@ -3,7 +3,7 @@ use Rattle.std.specs.Prelude.{ℕ, ◌-◌, ◌^◌, ◌<◌, List, length, Opti
 use Rattle.std.specs.Map.{lookup}
 use Rattle.std.specs.BTreeMap.{is_at}
 use Rattle.std.specs.Ordering.{nat_cmp}
-use Rattle.disk.specs.State.{Slot, Absent, Fresh, Kept, State, AgreesOff}
+use Rattle.disk.specs.States.{Slot, Absent, Fresh, Kept, State, AgreesOutside}
 
 -- the slots by number, and the count of failed calls
 pub record Slots : Type 0 where
@@ -25,11 +25,11 @@ state_of slots file = slot_found (lookup (is_at (nat_cmp file)) slots)
 
 -- The synced bytes agree with the bytes that a read returns, in all synced places. Every reachable
 -- state has this property.
-abbrev pub Agrees : Slot → Type 0
-Agrees (Absent back) = Unit {0}
-Agrees (Fresh bytes back) = Unit {0}
-Agrees (Kept bytes kept touches) = AgreesOff (length kept) touches kept bytes
+abbrev pub KeptAgrees : Slot → Type 0
+KeptAgrees (Absent back) = Unit {0}
+KeptAgrees (Fresh bytes back) = Unit {0}
+KeptAgrees (Kept bytes kept touches) = AgreesOutside (length kept) touches kept bytes
 
 -- this holds under every number
-abbrev pub AllAgree : State → Type 0
-AllAgree disk = (file : ℕ) → Agrees (disk file)
+abbrev pub AllKeptAgree : State → Type 0
+AllKeptAgree disk = (file : ℕ) → KeptAgrees (disk file)

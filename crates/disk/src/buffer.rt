@@ -1,6 +1,6 @@
 // The buffer of a file, and the bytes in it that writes have overwritten.
 ghost use Rattle.std.specs.Prelude.{◌≡◌, ◌≤◌, ◌+◌, [], length, take, drop, OnOk, OnErr, IfOk};
-ghost use Rattle.disk.specs.State.{overwritten};
+ghost use Rattle.disk.specs.States.{overwritten};
 ghost use Rattle.disk.specs.Buffer.{uncovered, AllWithin};
 
 use std::alloc::{AllocError, Global};

@@ -1,7 +1,7 @@
 // Disks that can be made to fail and to crash.
 ghost use Rattle.std.specs.Prelude.{◌≡◌, ◌↔◌};
-ghost use Rattle.disk.specs.State.{IsSame, MayLeave, contents};
-ghost use Rattle.disk.specs.Crashes.{Crashes};
+ghost use Rattle.disk.specs.States.{IsSame, IsCrashOutcome, contents};
+ghost use Rattle.disk.specs.Crashes.{CrashOutcome};
 
 use crate::{Disk, Fault, Junk};
 
@@ -22,7 +22,7 @@ pub trait Crash: Disk {
         ensures count { Self.failures self.new ≡ Self.failures self.old }
         ensures reliable { Self.is_reliable self.old → Self.is_reliable self.new }
         ensures crashes { Self.is_honest self.old →
-            Crashes junk (Self.state self.old) (Self.state self.new) }
+            CrashOutcome junk (Self.state self.old) (Self.state self.new) }
         ensures allowed { Self.is_honest self.old →
-            MayLeave (Self.state self.old) (contents (Self.state self.new)) };
+            IsCrashOutcome (Self.state self.old) (contents (Self.state self.new)) };
 }

@@ -1,9 +1,10 @@
 // The interface of a disk, by the behaviour of an honest one. Whether a given disk is honest is an
 // assumption of its user.
 ghost use Rattle.std.specs.Prelude.{ℕ, length, IsErrOf};
-ghost use Rattle.disk.specs.State.{State, IsSame, IsSameBut};
-ghost use Rattle.disk.specs.Calls.{CallKeeps, EndsOutOfRange, Files, Lengths, Reads};
-ghost use Rattle.disk.specs.Calls.{Writes, Cuts, Syncs, Removes};
+ghost use Rattle.disk.specs.States.{State, IsSame, IsSameBut};
+ghost use Rattle.disk.specs.Calls.{CallKeeps, EndsOutOfRange, FilesAnswer, LengthAnswer};
+ghost use Rattle.disk.specs.Calls.{ReadAnswer};
+ghost use Rattle.disk.specs.Calls.{WriteOutcome, CutOutcome, SyncOutcome, RemoveOutcome};
 
 use crate::DiskError;
 
@@ -31,14 +32,14 @@ pub trait Disk {
     fn files(&mut self) -> Result<Vec<u64>, DiskError>
         ensures kept { CallKeeps is_honest state failures is_reliable self.old self.new
             result ⊥ IsSame }
-        ensures files { is_honest self.old → Files (state self.old) result };
+        ensures files { is_honest self.old → FilesAnswer (state self.old) result };
 
     /// The length of the file in bytes.
     fn length(&mut self, file: u64) -> Result<u64, DiskError>
         ensures kept { CallKeeps is_honest state failures is_reliable self.old self.new
             result ⊥ IsSame }
         ensures memory { IsErrOf result DiskError.Memory → allocates }
-        ensures length { is_honest self.old → Lengths (state self.old) file result };
+        ensures length { is_honest self.old → LengthAnswer (state self.old) file result };
 
     /// Fills the buffer with the bytes from a place on. After a refusal its content is unspecified.
     fn read(&mut self, file: u64, at: u64, into: &mut [u8]) -> Result<(), DiskError>
@@ -46,7 +47,7 @@ pub trait Disk {
             result ⊥ IsSame }
         ensures memory { IsErrOf result DiskError.Memory → allocates }
         ensures reads { is_honest self.old →
-            Reads (state self.old) file at (length into.old) result into.new };
+            ReadAnswer (state self.old) file at (length into.old) result into.new };
 
     /// Overwrites bytes from a place on, and extends the file. At place 0 it creates an absent
     /// file. A write that would end past place 2^63 - 1 fails, and leaves a reliable disk as it
@@ -57,14 +58,14 @@ pub trait Disk {
         ensures untouched { is_honest self.old → is_reliable self.old →
             EndsOutOfRange at (length bytes.now) → IsSame (state self.old) (state self.new) }
         ensures writes { is_honest self.old →
-            Writes (state self.old) file at bytes.now result (state self.new) };
+            WriteOutcome (state self.old) file at bytes.now result (state self.new) };
 
     /// Truncates the file to a length.
     fn cut(&mut self, file: u64, length: u64) -> Result<(), DiskError>
         ensures kept { CallKeeps is_honest state failures is_reliable self.old self.new
             result ⊥ (IsSameBut file) }
         ensures cuts { is_honest self.old →
-            Cuts (state self.old) file length result (state self.new) };
+            CutOutcome (state self.old) file length result (state self.new) };
 
     /// Makes the file durable: a crash leaves exactly the bytes that a read returns.
     fn sync(&mut self, file: u64) -> Result<(), DiskError>
@@ -72,7 +73,7 @@ pub trait Disk {
             result ⊥ (IsSameBut file) }
         ensures memory { IsErrOf result DiskError.Memory → allocates }
         ensures syncs { is_honest self.old →
-            Syncs (state self.old) file result (state self.new) };
+            SyncOutcome (state self.old) file result (state self.new) };
 
     /// Removes the file. Until the next crash, a file that was synced may reappear after a crash.
     fn remove(&mut self, file: u64) -> Result<(), DiskError>
@@ -80,5 +81,5 @@ pub trait Disk {
             result ⊥ (IsSameBut file) }
         ensures memory { IsErrOf result DiskError.Memory → allocates }
         ensures removes { is_honest self.old →
-            Removes (state self.old) file result (state self.new) };
+            RemoveOutcome (state self.old) file result (state self.new) };
 }

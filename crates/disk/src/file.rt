@@ -1,9 +1,9 @@
 // A file of a disk in memory that has been synced at least once.
 ghost use Rattle.std.specs.Prelude.{◌≡◌, ◌≤◌, ◌+◌, [], ◌∷◌, ◌++◌, length, take, OnOk, OnErr, IfOk};
-ghost use Rattle.disk.specs.State.{overwritten};
+ghost use Rattle.disk.specs.States.{overwritten};
 ghost use Rattle.disk.specs.Crashes.{torn};
 
-use crate::Touch;
+use crate::PendingWrite;
 use crate::buffer::{Covered, clone_all, covered_by, overwrite, uncover};
 use crate::tear::tear;
 use std::alloc::{AllocError, Global};
@@ -17,7 +17,7 @@ pub struct MemFile {
     len: usize,
     synced_len: usize,
     covered: Vec<Covered>,
-    touches: Vec<Touch>,
+    touches: Vec<PendingWrite>,
 }
 
 impl Model for MemFile {
@@ -71,7 +71,7 @@ impl MemFile {
         ensures ok { OnOk result (self.new ≡ record {
           bytes = overwritten self.old.bytes at bytes.now;
           kept = self.old.kept;
-          touches = self.old.touches ++ Touch.Wrote at (length bytes.now) ∷ [];
+          touches = self.old.touches ++ PendingWrite.Wrote at (length bytes.now) ∷ [];
         }) }
         ensures err { OnErr result (self.new ≡ self.old) }
     {
@@ -81,7 +81,7 @@ impl MemFile {
         overwrite(&mut self.buffer, at, bytes)?;
         self.covered.push(covered).unwrap();
         self.touches
-            .push(Touch::Wrote {
+            .push(PendingWrite::Wrote {
                 at: at as u64,
                 len: bytes.len() as u64,
             })
@@ -96,11 +96,11 @@ impl MemFile {
         ensures ok { OnOk result (self.new ≡ record {
           bytes = take len self.old.bytes;
           kept = self.old.kept;
-          touches = self.old.touches ++ Touch.Cut len ∷ [];
+          touches = self.old.touches ++ PendingWrite.Cut len ∷ [];
         }) }
         ensures err { OnErr result (self.new ≡ self.old) }
     {
-        self.touches.push(Touch::Cut { len: len as u64 })?;
+        self.touches.push(PendingWrite::Cut { len: len as u64 })?;
         self.len = len;
         Ok(())
     }

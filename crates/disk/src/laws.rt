@@ -1,27 +1,27 @@
 //! Laws of the disk model, for every disk. Each function does nothing: its contract is the law.
 ghost use Rattle.std.specs.Prelude.{◌↔◌, ℕ, List, IsTrue};
-ghost use Rattle.disk.specs.declared.touch.Touch.{Touch};
-ghost use Rattle.disk.specs.State.{State, contents};
-ghost use Rattle.disk.specs.State.{IsLoose, MayLeave, SureIsLeft};
-ghost use Rattle.disk.specs.Crashes.{CrashedIsSure, is_loose};
+ghost use Rattle.disk.specs.declared.pending_write.PendingWrite.{PendingWrite};
+ghost use Rattle.disk.specs.States.{State, contents};
+ghost use Rattle.disk.specs.States.{IsUnsynced, IsCrashOutcome, DurableIsLeft};
+ghost use Rattle.disk.specs.Crashes.{CrashedIsDurable, is_unsynced};
 
 /// The content that a disk reads is a possible outcome of a crash now.
-pub fn reads_may_be_left()
-    ensures { (disk : State) → MayLeave disk (contents disk) }
+pub fn reads_are_outcomes()
+    ensures { (disk : State) → IsCrashOutcome disk (contents disk) }
 {}
 
 /// A crash leaves durable content exactly.
-pub fn sure_is_left()
-    ensures { SureIsLeft }
+pub fn durable_is_left()
+    ensures { DurableIsLeft }
 {}
 
 /// Every outcome of a crash is durable.
-pub fn crashed_is_sure()
-    ensures { CrashedIsSure }
+pub fn crashed_is_durable()
+    ensures { CrashedIsDurable }
 {}
 
 /// The test of a place succeeds exactly if the place is unsynced.
-pub fn loose_by_test()
-    ensures { (end : ℕ) (touches : List Touch) (place : ℕ)
-        → IsTrue (is_loose end touches place) ↔ IsLoose end touches place }
+pub fn unsynced_by_test()
+    ensures { (end : ℕ) (touches : List PendingWrite) (place : ℕ)
+        → IsTrue (is_unsynced end touches place) ↔ IsUnsynced end touches place }
 {}

@@ -12,7 +12,7 @@ pub mod laws;
 mod memory;
 mod slot;
 mod tear;
-mod touch;
+mod pending_write;
 
 pub use crash::Crash;
 pub use disk::Disk;
@@ -20,4 +20,4 @@ pub use error::DiskError;
 pub use fault::Fault;
 pub use junk::{Junk, JunkBytes};
 pub use memory::MemDisk;
-pub use touch::Touch;
+pub use pending_write::PendingWrite;

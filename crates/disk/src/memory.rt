@@ -3,9 +3,10 @@ ghost use Rattle.std.specs.Prelude.{◌≡◌, ◌≢◌, ℕ, ◌+◌, ◌-◌,
 ghost use Rattle.std.specs.Prelude.{IfOk, OnOk, OnErr, Err, Some, None};
 ghost use Rattle.std.specs.BTreeMap.{insert_entry};
 ghost use Rattle.std.specs.Ordering.{nat_cmp};
-ghost use Rattle.disk.specs.State.{IsSame, Absent, seen};
-ghost use Rattle.disk.specs.Calls.{Lists, Writes, Cuts, Syncs, Removes};
-ghost use Rattle.disk.specs.Crashes.{Crashes};
+ghost use Rattle.disk.specs.States.{IsSame, Absent, seen};
+ghost use Rattle.disk.specs.Calls.{ListsFiles, WriteOutcome, CutOutcome, SyncOutcome};
+ghost use Rattle.disk.specs.Calls.{RemoveOutcome};
+ghost use Rattle.disk.specs.Crashes.{CrashOutcome};
 ghost use Rattle.disk.specs.Memory.{state_of, IsReliable};
 
 use crate::slot::MemSlot;
@@ -23,13 +24,13 @@ pub struct MemDisk {
 }
 
 impl Model for MemDisk {
-    ghost use Rattle.disk.specs.Memory.{Slots, state_of, AllAgree};
+    ghost use Rattle.disk.specs.Memory.{Slots, state_of, AllKeptAgree};
 
     ghost Value = { Slots };
 
     ghost view = { λ disk. record { slots = disk.slots.entries; failures = disk.failures } };
 
-    ghost invariant = { λ disk. AllAgree (state_of disk.slots.entries) };
+    ghost invariant = { λ disk. AllKeptAgree (state_of disk.slots.entries) };
 }
 
 // The greatest place where a file may end.
@@ -107,7 +108,7 @@ fn bytes_of(slots: &BTreeMap<u64, MemSlot>, file: u64) -> Result<&[u8], DiskErro
 }
 
 fn numbers(alloc: Global, slots: &BTreeMap<u64, MemSlot>) -> Result<Vec<u64>, AllocError>
-    ensures { IfOk result (λ numbers. Lists (state_of slots.now.entries) numbers.items) }
+    ensures { IfOk result (λ numbers. ListsFiles (state_of slots.now.entries) numbers.items) }
 {
     let mut numbers = Vec::new(alloc);
     for (number, slot) in slots {
@@ -126,7 +127,7 @@ fn write_in(
     bytes: &[u8],
 ) -> Result<(), DiskError>
     requires { at + length bytes.now < 2 ^ 63 }
-    ensures writes { Writes (state_of slots.old.entries) file at bytes.now result
+    ensures writes { WriteOutcome (state_of slots.old.entries) file at bytes.now result
         (state_of slots.new.entries) }
     ensures other { result ≢ Err DiskError.Failed }
 {
@@ -150,7 +151,8 @@ fn write_in(
 }
 
 fn cut_in(slots: &mut BTreeMap<u64, MemSlot>, file: u64, len: u64) -> Result<(), DiskError>
-    ensures cuts { Cuts (state_of slots.old.entries) file len result (state_of slots.new.entries) }
+    ensures cuts { CutOutcome (state_of slots.old.entries) file len result
+        (state_of slots.new.entries) }
     ensures other { result ≢ Err DiskError.Failed }
 {
     let slot = slots.get_mut(&file).ok_or(DiskError::NoFile)?;
@@ -163,7 +165,8 @@ fn cut_in(slots: &mut BTreeMap<u64, MemSlot>, file: u64, len: u64) -> Result<(),
 }
 
 fn sync_in(alloc: Global, slots: &mut BTreeMap<u64, MemSlot>, file: u64) -> Result<(), DiskError>
-    ensures syncs { Syncs (state_of slots.old.entries) file result (state_of slots.new.entries) }
+    ensures syncs { SyncOutcome (state_of slots.old.entries) file result
+        (state_of slots.new.entries) }
     ensures err { OnErr result (result ≡ Err DiskError.NoFile) }
 {
     let slot = slots.get_mut(&file).ok_or(DiskError::NoFile)?;
@@ -175,7 +178,7 @@ fn sync_in(alloc: Global, slots: &mut BTreeMap<u64, MemSlot>, file: u64) -> Resu
 }
 
 fn remove_in(slots: &mut BTreeMap<u64, MemSlot>, file: u64) -> Result<(), DiskError>
-    ensures removes { Removes (state_of slots.old.entries) file result
+    ensures removes { RemoveOutcome (state_of slots.old.entries) file result
         (state_of slots.new.entries) }
     ensures err { OnErr result (result ≡ Err DiskError.NoFile) }
 {
@@ -248,7 +251,7 @@ impl Disk for MemDisk {
 }
 
 fn crash_in(alloc: Global, slots: &mut BTreeMap<u64, MemSlot>, junk: &Junk)
-    ensures { Crashes junk.now (state_of slots.old.entries) (state_of slots.new.entries) }
+    ensures { CrashOutcome junk.now (state_of slots.old.entries) (state_of slots.new.entries) }
 {
     slots.retain(|_file, slot| {
         slot.crash(alloc, junk);

@@ -1,15 +1,15 @@
 // The slot of a disk in memory under one file number.
 ghost use Rattle.std.specs.Prelude.{◌≡◌, ◌≤◌, length, None, option_map};
 ghost use Rattle.std.specs.Prelude.{OnOk, OnErr, IfOk, IsSomeAnd};
-ghost use Rattle.disk.specs.State.{Fresh, seen, written, cut_to, synced, removed};
+ghost use Rattle.disk.specs.States.{Fresh, seen, written, cut_to, synced, removed};
 ghost use Rattle.disk.specs.Calls.{CanBegin};
-ghost use Rattle.disk.specs.Crashes.{left_by, crashed};
+ghost use Rattle.disk.specs.Crashes.{crash_outcome, crashed};
 ghost use Rattle.disk.specs.Held.{slot_of};
 
 use crate::buffer::overwrite;
 use crate::file::MemFile;
 use crate::tear::tear;
-use crate::{Junk, Touch};
+use crate::{Junk, PendingWrite};
 use std::alloc::{AllocError, Global};
 use std::marker::Model;
 use std::mem;
@@ -27,7 +27,7 @@ pub enum Held {
 }
 
 impl Model for MemSlot {
-    ghost use Rattle.disk.specs.State.{Slot};
+    ghost use Rattle.disk.specs.States.{Slot};
 
     ghost Value = { Slot };
 
@@ -153,7 +153,7 @@ fn clone_back(back: &Option<Vec<u8>>) -> Result<Option<Vec<u8>>, AllocError>
 
 // The content of the last sync.
 fn left_old(held: Held) -> Option<Vec<u8>>
-    ensures { option_map (λ bytes. bytes.items) result ≡ left_by Junk.Old (slot_of held) }
+    ensures { option_map (λ bytes. bytes.items) result ≡ crash_outcome Junk.Old (slot_of held) }
 {
     match held {
         Held::Absent(back) => back,
@@ -164,7 +164,7 @@ fn left_old(held: Held) -> Option<Vec<u8>>
 
 // The written content.
 fn left_new(held: Held) -> Option<Vec<u8>>
-    ensures { option_map (λ bytes. bytes.items) result ≡ left_by Junk.New (slot_of held) }
+    ensures { option_map (λ bytes. bytes.items) result ≡ crash_outcome Junk.New (slot_of held) }
 {
     match held {
         Held::Absent(_back) => None,
@@ -176,12 +176,12 @@ fn left_new(held: Held) -> Option<Vec<u8>>
 // The written content, with junk in the unsynced places.
 fn left_torn(held: Held, junk: &[u8]) -> Option<Vec<u8>>
     ensures { option_map (λ bytes. bytes.items) result ≡
-        left_by (Junk.Bytes junk.now) (slot_of held) }
+        crash_outcome (Junk.Bytes junk.now) (slot_of held) }
 {
     match held {
         Held::Absent(_back) => None,
         Held::Fresh(mut bytes, _back) => {
-            tear(bytes.as_mut_slice(), 0, &[Touch::Cut { len: 0 }], junk);
+            tear(bytes.as_mut_slice(), 0, &[PendingWrite::Cut { len: 0 }], junk);
             Some(bytes)
         }
         Held::Kept(file) => Some(file.into_torn(junk)),

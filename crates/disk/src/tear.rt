@@ -1,28 +1,28 @@
 // Junk in the unsynced places of a file.
 ghost use Rattle.std.specs.Prelude.{◌≡◌};
-ghost use Rattle.disk.specs.Crashes.{loosens, is_loose, torn};
+ghost use Rattle.disk.specs.Crashes.{makes_unsynced, is_unsynced, torn};
 
-use crate::Touch;
+use crate::PendingWrite;
 
-fn loosens(touch: Touch, end: u64, place: u64) -> bool
-    ensures { result ≡ loosens touch end place }
+fn makes_unsynced(touch: PendingWrite, end: u64, place: u64) -> bool
+    ensures { result ≡ makes_unsynced touch end place }
 {
     match touch {
-        Touch::Wrote { at, len } => (at <= place && place - at < len) || end <= place,
-        Touch::Cut { len } => len <= place,
+        PendingWrite::Wrote { at, len } => (at <= place && place - at < len) || end <= place,
+        PendingWrite::Cut { len } => len <= place,
     }
 }
 
-fn is_loose(end: usize, touches: &[Touch], place: usize) -> bool
-    ensures { result ≡ is_loose end touches.now place }
+fn is_unsynced(end: usize, touches: &[PendingWrite], place: usize) -> bool
+    ensures { result ≡ is_unsynced end touches.now place }
 {
     touches
         .iter()
-        .any(|touch| loosens(*touch, end as u64, place as u64))
+        .any(|touch| makes_unsynced(*touch, end as u64, place as u64))
 }
 
 // Writes the repeated junk to the unsynced places.
-pub fn tear(bytes: &mut [u8], end: usize, touches: &[Touch], junk: &[u8])
+pub fn tear(bytes: &mut [u8], end: usize, touches: &[PendingWrite], junk: &[u8])
     ensures { bytes.new ≡ torn end touches.now junk.now bytes.old }
 {
     if junk.is_empty() {
@@ -30,7 +30,7 @@ pub fn tear(bytes: &mut [u8], end: usize, touches: &[Touch], junk: &[u8])
     }
     let mut next = 0;
     for place in 0..bytes.len() {
-        if is_loose(end, touches, place) {
+        if is_unsynced(end, touches, place) {
             bytes[place] = junk[next];
             next = (next + 1) % junk.len();
         }

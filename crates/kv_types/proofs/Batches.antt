@@ -11,8 +11,9 @@ use Rattle.std.proofs.lemmas.List.Concat.{flat_map-cons}
 use Rattle.kv_types.specs.declared.bounds.TheConstants.{MAX_KEY, MAX_VALUE, MAX_EDITS, MAX_BATCH}
 use Rattle.kv_types.specs.declared.edit.Edit.{Edit}
 use Rattle.kv_types.specs.declared.edit.Edit.TheVariants.{Put, Delete}
-use Rattle.kv_types.specs.Spelling.{text, edit_text, spelling, IsEdit, IsBatch, SpellingsDiffer}
-use Rattle.kv_types.specs.Reading.{◌>>=◌, number_at, text_at, edit_at, edits_at, batch_at}
+use Rattle.kv_types.specs.Spelling.{text_bytes, edit_bytes, batch_bytes, IsEdit, IsBatch}
+use Rattle.kv_types.specs.Spelling.{SpellingsDiffer}
+use Rattle.kv_types.specs.Reading.{◌>>=◌, length_at, text_at, edit_at, edits_at, batch_at}
 use Rattle.kv_types.specs.Reading.{batch_of}
 use Rattle.kv_types.proofs.Fields.{IsBytes, IsBytes-rest, bind_some, guard_some, some_is, Takes}
 use Rattle.kv_types.proofs.Fields.{Takes-then, number_takes, number_again, text_takes, text_again}
@@ -24,7 +25,7 @@ guard_ended false x y e = absurd cc
 
 put_takes : (bytes : List ℕ) (x : Edit × List ℕ) → IsBytes bytes
     → (text_at MAX_KEY bytes >>= λ key. text_at MAX_VALUE key.1 >>= λ value. Some
-    (Put key.0 value.0, value.1)) ≡ Some x → Takes (1 ∷ bytes) (edit_text x.0) x.1 × IsEdit x.0
+    (Put key.0 value.0, value.1)) ≡ Some x → Takes (1 ∷ bytes) (edit_bytes x.0) x.1 × IsEdit x.0
 put_takes bytes x fits e =
     let a = bind_some (text_at MAX_KEY bytes)
     (λ key. text_at MAX_VALUE key.1 >>= λ value. Some (Put key.0 value.0, value.1)) x e in
@@ -32,9 +33,9 @@ put_takes bytes x fits e =
     (λ value. Some (Put a.0.0 value.0, value.1)) x a.2 in
     let t = text_takes MAX_KEY bytes a.0 fits a.1 in
     let u = text_takes MAX_VALUE a.0.1 b.0 t.0.rest_fits b.1 in
-    let both = Takes-then bytes (text a.0.0) a.0.1 (text b.0.0) b.0.1 t.0 u.0 in
+    let both = Takes-then bytes (text_bytes a.0.0) a.0.1 (text_bytes b.0.0) b.0.1 t.0 u.0 in
     let made : Edit × List ℕ = (Put a.0.0 b.0.0, b.0.1) in
-    subst (λ (y : Edit × List ℕ). Takes (1 ∷ bytes) (edit_text y.0) y.1 × IsEdit y.0)
+    subst (λ (y : Edit × List ℕ). Takes (1 ∷ bytes) (edit_bytes y.0) y.1 × IsEdit y.0)
     (some_is made x b.2) (
       record { parts = ap (λ (w : List ℕ). 1 ∷ w) both.parts; rest_fits = both.rest_fits },
       (t.1, u.1),
@@ -42,17 +43,17 @@ put_takes bytes x fits e =
 
 delete_takes : (bytes : List ℕ) (x : Edit × List ℕ) → IsBytes bytes
     → (text_at MAX_KEY bytes >>= λ key. Some (Delete key.0, key.1)) ≡ Some x
-    → Takes (2 ∷ bytes) (edit_text x.0) x.1 × IsEdit x.0
+    → Takes (2 ∷ bytes) (edit_bytes x.0) x.1 × IsEdit x.0
 delete_takes bytes x fits e =
     let a = bind_some (text_at MAX_KEY bytes) (λ key. Some (Delete key.0, key.1)) x e in
     let t = text_takes MAX_KEY bytes a.0 fits a.1 in
     let made : Edit × List ℕ = (Delete a.0.0, a.0.1) in
-    subst (λ (y : Edit × List ℕ). Takes (2 ∷ bytes) (edit_text y.0) y.1 × IsEdit y.0)
+    subst (λ (y : Edit × List ℕ). Takes (2 ∷ bytes) (edit_bytes y.0) y.1 × IsEdit y.0)
     (some_is made x a.2)
     (record { parts = ap (λ (w : List ℕ). 2 ∷ w) t.0.parts; rest_fits = t.0.rest_fits }, t.1)
 
 edit_takes : (bytes : List ℕ) (x : Edit × List ℕ) → IsBytes bytes → edit_at bytes ≡ Some x
-    → Takes bytes (edit_text x.0) x.1 × IsEdit x.0
+    → Takes bytes (edit_bytes x.0) x.1 × IsEdit x.0
 unfolding edit_at
 edit_takes [] x fits e = absurd cc
 edit_takes (zero ∷ bytes) x fits e = absurd cc
@@ -61,25 +62,26 @@ edit_takes (suc (suc zero) ∷ bytes) x fits e = delete_takes bytes x (IsBytes-r
 edit_takes (suc (suc (suc b)) ∷ bytes) x fits e = absurd cc
 
 edit_again : (edit : Edit) (rest : List ℕ) → IsEdit edit
-    → edit_at (edit_text edit ++ rest) ≡ Some (edit, rest)
+    → edit_at (edit_bytes edit ++ rest) ≡ Some (edit, rest)
 unfolding edit_at
 edit_again (Put key value) rest fits =
-    let regrouped : (text key ++ text value) ++ rest ≡ text key ++ (text value ++ rest) =
-    append_assoc (text key) (text value) rest in
+    let regrouped : (text_bytes key ++ text_bytes value) ++ rest ≡ text_bytes key ++
+        (text_bytes value ++ rest) =
+    append_assoc (text_bytes key) (text_bytes value) rest in
     ap (λ (b : List ℕ). edit_at (1 ∷ b)) regrouped
     ∙ rw (
-      text_again MAX_KEY key (text value ++ rest) fits.0 (omega arith),
+      text_again MAX_KEY key (text_bytes value ++ rest) fits.0 (omega arith),
       text_again MAX_VALUE value rest fits.1 (omega arith),
     ) refl
 edit_again (Delete key) rest fits = rw (text_again MAX_KEY key rest fits (omega arith)) refl
 
 edits_take : (n : ℕ) (bytes : List ℕ) (x : List Edit × List ℕ) → IsBytes bytes
     → edits_at n bytes ≡ Some x
-    → Takes bytes (flat_map edit_text x.0) x.1 × (length x.0 ≡ n) × AllByRecursion IsEdit x.0
+    → Takes bytes (flat_map edit_bytes x.0) x.1 × (length x.0 ≡ n) × AllByRecursion IsEdit x.0
 unfolding edits_at
 edits_take zero bytes x fits e =
     let made : List Edit × List ℕ = ([], bytes) in
-    subst (λ (y : List Edit × List ℕ). Takes bytes (flat_map edit_text y.0) y.1 × (length y.0 ≡ 0)
+    subst (λ (y : List Edit × List ℕ). Takes bytes (flat_map edit_bytes y.0) y.1 × (length y.0 ≡ 0)
     × AllByRecursion IsEdit y.0) (some_is made x e)
     (record { parts = refl; rest_fits = fits }, refl, tt)
 edits_take (suc n) bytes x fits e =
@@ -88,25 +90,25 @@ edits_take (suc n) bytes x fits e =
     let b = bind_some (edits_at n a.0.1) (λ others. Some (a.0.0 ∷ others.0, others.1)) x a.2 in
     let first = edit_takes bytes a.0 fits a.1 in
     let second = edits_take n a.0.1 b.0 first.0.rest_fits b.1 in
-    let both = Takes-then bytes (edit_text a.0.0) a.0.1
-    (flat_map edit_text b.0.0) b.0.1 first.0 second.0 in
+    let both = Takes-then bytes (edit_bytes a.0.0) a.0.1
+    (flat_map edit_bytes b.0.0) b.0.1 first.0 second.0 in
     let made : List Edit × List ℕ = (a.0.0 ∷ b.0.0, b.0.1) in
-    subst (λ (y : List Edit × List ℕ). Takes bytes (flat_map edit_text y.0) y.1
+    subst (λ (y : List Edit × List ℕ). Takes bytes (flat_map edit_bytes y.0) y.1
     × (length y.0 ≡ suc n) × AllByRecursion IsEdit y.0) (some_is made x b.2)
     (rw flat_map-cons both, ap suc second.1, (first.1, second.2))
 
 edits_again : (edits : List Edit) (rest : List ℕ) → AllByRecursion IsEdit edits
-    → edits_at (length edits) (flat_map edit_text edits ++ rest) ≡ Some (edits, rest)
+    → edits_at (length edits) (flat_map edit_bytes edits ++ rest) ≡ Some (edits, rest)
 unfolding edits_at
 edits_again [] rest fits = refl
 edits_again (edit ∷ edits) rest fits =
-    let regrouped : flat_map edit_text (edit ∷ edits) ++ rest
-    ≡ edit_text edit ++ (flat_map edit_text edits ++ rest) = ap (λ (x : List ℕ). x ++ rest)
-    (flat_map-cons edit_text edit edits)
-    ∙ append_assoc (edit_text edit) (flat_map edit_text edits) rest in
+    let regrouped : flat_map edit_bytes (edit ∷ edits) ++ rest
+    ≡ edit_bytes edit ++ (flat_map edit_bytes edits ++ rest) = ap (λ (x : List ℕ). x ++ rest)
+    (flat_map-cons edit_bytes edit edits)
+    ∙ append_assoc (edit_bytes edit) (flat_map edit_bytes edits) rest in
     ap (edits_at (suc (length edits))) regrouped
     ∙ rw (
-      edit_again edit (flat_map edit_text edits ++ rest) fits.0,
+      edit_again edit (flat_map edit_bytes edits ++ rest) fits.0,
       edits_again edits rest fits.1,
     ) refl
 
@@ -124,10 +126,10 @@ counted bytes n = cond (ltb MAX_EDITS n.0) None (not_none bytes n)
 
 spells_batch : (bytes rest : List ℕ) (count : ℕ) (edits : List Edit) → length edits ≡ count
     → AllByRecursion IsEdit edits → 1 ≤ count → count ≤ MAX_EDITS
-    → length bytes - length rest ≤ MAX_BATCH → Takes bytes (spelling edits) rest → IsBatch edits
+    → length bytes - length rest ≤ MAX_BATCH → Takes bytes (batch_bytes edits) rest → IsBatch edits
 spells_batch bytes rest count edits same each some few short taken =
-    let whole : length bytes ≡ length (spelling edits) + length rest =
-    ap length taken.parts ∙ length-append (spelling edits) rest in
+    let whole : length bytes ≡ length (batch_bytes edits) + length rest =
+    ap length taken.parts ∙ length-append (batch_bytes edits) rest in
     record {
       some = omega (arith, some, same);
       few = omega (arith, few, same);
@@ -136,10 +138,10 @@ spells_batch bytes rest count edits same each some few short taken =
     }
 
 pub front_takes : (bytes : List ℕ) (x : List Edit × List ℕ) → IsBytes bytes
-    → batch_at bytes ≡ Some x → Takes bytes (spelling x.0) x.1 × IsBatch x.0
+    → batch_at bytes ≡ Some x → Takes bytes (batch_bytes x.0) x.1 × IsBatch x.0
 unfolding batch_at
 front_takes bytes x fits e =
-    let a = bind_some (number_at bytes) (counted bytes) x e in
+    let a = bind_some (length_at bytes) (counted bytes) x e in
     let n = a.0 in
     let g = guard_some (ltb MAX_EDITS n.0) (not_none bytes n) x a.2 in
     let h = guard_some (ltb n.0 1) (edits_at n.0 n.1 >>= limited bytes) x g.1 in
@@ -148,30 +150,30 @@ front_takes bytes x fits e =
     let i = guard_some (ltb MAX_BATCH (length bytes - length read.1)) (Some read) x b.2 in
     let first = number_takes bytes n fits a.1 in
     let second = edits_take n.0 n.1 read first.rest_fits b.1 in
-    let texts = flat_map edit_text read.0 in
+    let texts = flat_map edit_bytes read.0 in
     let both = Takes-then bytes (to_be_bytes w16 n.0) n.1 texts read.1 first second.0 in
-    let whole : Takes bytes (spelling read.0) read.1 =
+    let whole : Takes bytes (batch_bytes read.0) read.1 =
     subst (λ (k : ℕ). Takes bytes (to_be_bytes w16 k ++ texts) read.1) (sym second.1) both in
     let batch = spells_batch bytes read.1 n.0 read.0 second.1 second.2 (ltb-false n.0 1 h.0)
     (ltb-false MAX_EDITS n.0 g.0)
     (ltb-false MAX_BATCH (length bytes - length read.1) i.0) whole in
-    subst (λ (y : List Edit × List ℕ). Takes bytes (spelling y.0) y.1 × IsBatch y.0)
+    subst (λ (y : List Edit × List ℕ). Takes bytes (batch_bytes y.0) y.1 × IsBatch y.0)
     (some_is read x i.1) (whole, batch)
 
 pub front_again : (edits : List Edit) (rest : List ℕ) → IsBatch edits
-    → batch_at (spelling edits ++ rest) ≡ Some (edits, rest)
+    → batch_at (batch_bytes edits ++ rest) ≡ Some (edits, rest)
 unfolding batch_at
 front_again edits rest is =
-    let texts = flat_map edit_text edits in
-    let whole = spelling edits ++ rest in
+    let texts = flat_map edit_bytes edits in
+    let whole = batch_bytes edits ++ rest in
     let regrouped = append_assoc (to_be_bytes w16 (length edits)) texts rest in
-    let count : number_at whole ≡ Some (length edits, texts ++ rest) = ap number_at regrouped
+    let count : length_at whole ≡ Some (length edits, texts ++ rest) = ap length_at regrouped
     ∙ number_again (length edits) (texts ++ rest) (omega (arith, is.few)) in
     let few : ltb MAX_EDITS (length edits) ≡ false = le-ltb _ _ is.few in
     let some : ltb (length edits) 1 ≡ false = le-ltb _ _ is.some in
     let each = edits_again edits rest (recursion_from_All IsEdit edits is.each) in
     let short : ltb MAX_BATCH (length whole - length rest) ≡ false =
-    le-ltb _ _ (omega (arith, is.short, length-append (spelling edits) rest)) in
+    le-ltb _ _ (omega (arith, is.short, length-append (batch_bytes edits) rest)) in
     ap (λ (r : Option (ℕ × List ℕ)). r >>= counted whole) count
     ∙ ap (λ (t : Bool). cond t None (not_none whole (length edits, texts ++ rest))) few
     ∙ ap (λ (t : Bool). cond t None
@@ -185,7 +187,7 @@ abbrev ended : List Edit × List ℕ → Option (List Edit)
 ended read = cond (eqb (length read.1) 0) (Some read.0) None
 
 pub batch_takes : (bytes : List ℕ) (edits : List Edit) → IsBytes bytes → batch_of bytes ≡ Some edits
-    → IsBatch edits × (bytes ≡ spelling edits)
+    → IsBatch edits × (bytes ≡ batch_bytes edits)
 unfolding batch_of
 batch_takes bytes edits fits e =
     let z = guard_some (ltb MAX_BATCH (length bytes)) (batch_at bytes >>= ended) edits e in
@@ -193,22 +195,23 @@ batch_takes bytes edits fits e =
     let i = guard_ended (eqb (length a.0.1) 0) a.0.0 edits a.2 in
     let front = front_takes bytes a.0 fits a.1 in
     let nothing = nil_from_length a.0.1 (eqb-true (length a.0.1) 0 i.0) in
-    let whole : bytes ≡ spelling a.0.0 = front.0.parts
-    ∙ ap (λ (r : List ℕ). spelling a.0.0 ++ r) nothing
-    ∙ append-nil (spelling a.0.0) in
-    subst (λ (v : List Edit). IsBatch v × (bytes ≡ spelling v)) i.1 (front.1, whole)
+    let whole : bytes ≡ batch_bytes a.0.0 = front.0.parts
+    ∙ ap (λ (r : List ℕ). batch_bytes a.0.0 ++ r) nothing
+    ∙ append-nil (batch_bytes a.0.0) in
+    subst (λ (v : List Edit). IsBatch v × (bytes ≡ batch_bytes v)) i.1 (front.1, whole)
 
-pub batch_again : (edits : List Edit) → IsBatch edits → batch_of (spelling edits) ≡ Some edits
+pub batch_again : (edits : List Edit) → IsBatch edits → batch_of (batch_bytes edits) ≡ Some edits
 unfolding batch_of
 batch_again edits is =
-    let front : batch_at (spelling edits) ≡ Some (edits, []) =
-    ap batch_at (sym (append-nil (spelling edits))) ∙ front_again edits [] is in
-    let short : ltb MAX_BATCH (length (spelling edits)) ≡ false = le-ltb _ _ is.short in
+    let front : batch_at (batch_bytes edits) ≡ Some (edits, []) =
+    ap batch_at (sym (append-nil (batch_bytes edits))) ∙ front_again edits [] is in
+    let short : ltb MAX_BATCH (length (batch_bytes edits)) ≡ false = le-ltb _ _ is.short in
     rw (short, front) refl
 
 pub spellings_differ : SpellingsDiffer
 spellings_differ a b rest is_a is_b same =
-    let bytes : spelling a ++ rest ≡ spelling b ++ [] = same ∙ sym (append-nil (spelling b)) in
+    let bytes : batch_bytes a ++ rest ≡ batch_bytes b ++ [] = same ∙ sym
+        (append-nil (batch_bytes b)) in
     let first : List Edit × List ℕ = (a, rest) in
     let second : List Edit × List ℕ = (b, []) in
     let one : first ≡ second =

@@ -7,8 +7,8 @@ use Rattle.std.proofs.lemmas.Bool.{cases_lt, ltb-false, le-ltb}
 use Rattle.std.proofs.lemmas.List.{take_at, drop_at, take-append-drop, length-append, length-take}
 use Rattle.std.proofs.lemmas.List.{get_or-drop, get_or-take, get_or_past}
 use Rattle.std.proofs.lemmas.Nat.{be_bytes_2, from_be_bytes-to_be_bytes_2}
-use Rattle.kv_types.specs.Spelling.{text}
-use Rattle.kv_types.specs.Reading.{◌>>=◌, number_at, text_at}
+use Rattle.kv_types.specs.Spelling.{text_bytes}
+use Rattle.kv_types.specs.Reading.{◌>>=◌, length_at, text_at}
 
 abbrev pub IsBytes : List ℕ → Type 0
 IsBytes bytes = (i : ℕ) → get_or bytes i 0 < 256
@@ -46,8 +46,8 @@ pub some_is : {A : Type 0} (x y : A) → done x ≡ done y → x ≡ y
 some_is x y e = cc
 
 -- the bytes that a reader removed from the front
-pub record Takes (bytes text rest : List ℕ) : Type 0 where
-  pub parts : bytes ≡ text ++ rest
+pub record Takes (bytes text_bytes rest : List ℕ) : Type 0 where
+  pub parts : bytes ≡ text_bytes ++ rest
   pub rest_fits : IsBytes rest
 
 pub Takes-then : (a x b y c : List ℕ) → Takes a x b → Takes b y c → Takes a (x ++ y) c
@@ -59,7 +59,7 @@ Takes-then a x b y c p q =
 
 -- ---- numbers
 
-pub number_takes : (bytes : List ℕ) (x : ℕ × List ℕ) → IsBytes bytes → number_at bytes ≡ Some x
+pub number_takes : (bytes : List ℕ) (x : ℕ × List ℕ) → IsBytes bytes → length_at bytes ≡ Some x
     → Takes bytes (to_be_bytes w16 x.0) x.1
 number_takes bytes x fits e =
     let made : ℕ × List ℕ = (from_be_bytes w16 (take 2 bytes), drop 2 bytes) in
@@ -76,7 +76,7 @@ number_takes bytes x fits e =
     })
 
 pub number_again : (n : ℕ) (rest : List ℕ) → n < 2 ^ 16
-    → number_at (to_be_bytes w16 n ++ rest) ≡ Some (n, rest)
+    → length_at (to_be_bytes w16 n ++ rest) ≡ Some (n, rest)
 number_again n rest lt =
     let long : ltb (length (to_be_bytes w16 n ++ rest)) 2 ≡ false =
     le-ltb _ _ (omega (arith, length-append (to_be_bytes w16 n) rest)) in
@@ -85,10 +85,10 @@ number_again n rest lt =
 -- ---- texts
 
 pub text_takes : (limit : ℕ) (bytes : List ℕ) (x : List ℕ × List ℕ) → IsBytes bytes
-    → text_at limit bytes ≡ Some x → Takes bytes (text x.0) x.1 × (length x.0 ≤ limit)
+    → text_at limit bytes ≡ Some x → Takes bytes (text_bytes x.0) x.1 × (length x.0 ≤ limit)
 unfolding text_at
 text_takes limit bytes x fits e =
-    let b = bind_some (number_at bytes)
+    let b = bind_some (length_at bytes)
     (λ n. cond (ltb limit n.0) None
     (cond (ltb (length n.1) n.0) None (Some (take n.0 n.1, drop n.0 n.1)))) x e in
     let n = b.0 in
@@ -105,14 +105,14 @@ text_takes limit bytes x fits e =
       rest_fits = IsBytes-drop n.0 n.1 t.rest_fits;
     } in
     let both = Takes-then bytes (to_be_bytes w16 n.0) n.1 (take n.0 n.1) (drop n.0 n.1) t second in
-    let whole : Takes bytes (text (take n.0 n.1)) (drop n.0 n.1) =
+    let whole : Takes bytes (text_bytes (take n.0 n.1)) (drop n.0 n.1) =
     subst (λ (k : ℕ). Takes bytes (to_be_bytes w16 k ++ take n.0 n.1) (drop n.0 n.1))
     (sym len) both in
-    subst (λ (p : List ℕ × List ℕ). Takes bytes (text p.0) p.1 × (length p.0 ≤ limit))
+    subst (λ (p : List ℕ × List ℕ). Takes bytes (text_bytes p.0) p.1 × (length p.0 ≤ limit))
     (some_is made x h.1) (whole, omega arith)
 
 pub text_again : (limit : ℕ) (bytes rest : List ℕ) → length bytes ≤ limit → limit < 2 ^ 16
-    → text_at limit (text bytes ++ rest) ≡ Some (bytes, rest)
+    → text_at limit (text_bytes bytes ++ rest) ≡ Some (bytes, rest)
 unfolding text_at
 text_again limit bytes rest short lt =
     let fits : ltb limit (length bytes) ≡ false = le-ltb _ _ short in

@@ -7,7 +7,7 @@ use Rattle.kv_types.specs.declared.error.KvError.{KvError}
 use Rattle.kv_types.specs.declared.error.KvError.TheVariants.{KeyTooLong, ValueTooLong, NoEdits}
 use Rattle.kv_types.specs.declared.error.KvError.TheVariants.{TooManyEdits, BatchTooLong, BadBytes}
 use Rattle.kv_types.specs.declared.error.KvError.TheVariants.{Memory, BadLimit}
-use Rattle.kv_types.specs.Reading.{◌>>=◌, Fails, edit_at, edits_at}
+use Rattle.kv_types.specs.Reading.{◌>>=◌, RefusesBytes, edit_at, edits_at}
 
 -- the edits or values read before, and those still to read
 abbrev pub with_front : List Edit → Option (List Edit × List ℕ) → Option (List Edit × List ℕ)
@@ -31,8 +31,8 @@ goes_on front count i bytes e after total lt h so_far =
     sym one ∙ so_far
 
 pub ends : (e : KvError) (front : List Edit) (count i : ℕ) (bytes : List ℕ)
-    (total : Option (List Edit × List ℕ)) → i < count → Fails e (edit_at bytes)
-    → with_front front (edits_at (count - i) bytes) ≡ total → Fails e total
+    (total : Option (List Edit × List ℕ)) → i < count → RefusesBytes e (edit_at bytes)
+    → with_front front (edits_at (count - i) bytes) ≡ total → RefusesBytes e total
 unfolding edits_at
 ends BadBytes front count i bytes total lt h so_far =
     let k : count - i ≡ suc (count - (i + 1)) = omega arith in

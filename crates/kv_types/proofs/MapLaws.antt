@@ -7,7 +7,7 @@ use Rattle.std.proofs.lemmas.List.Elements.{All-nil, All-cons, All-head, All-tai
 use Rattle.std.proofs.lemmas.Slice.Eq.{bytes_eq-Decides}
 use Rattle.kv_types.specs.declared.edit.Edit.{Edit}
 use Rattle.kv_types.specs.declared.edit.Edit.TheVariants.{Put, Delete}
-use Rattle.kv_types.specs.Maps.{key_of, left_by, joined, IsLastEdit, last_edit, MapsAgree}
+use Rattle.kv_types.specs.Maps.{key_of, value_put, joined, IsLastEdit, last_edit, MapsAgree}
 
 -- ---- one more edit
 
@@ -24,7 +24,7 @@ pub last_edit-append : (a b : List Edit) (key : List ℕ)
     → last_edit (a ++ b) key ≡ option_or (last_edit b key) (last_edit a key)
 last_edit-append [] b key = sym (option_or_none (last_edit b key))
 last_edit-append (edit ∷ a) b key =
-    let one = cond (bytes_eq (key_of edit) key) (Some (left_by edit)) None in
+    let one = cond (bytes_eq (key_of edit) key) (Some (value_put edit)) None in
     ap (λ found. option_or found one) (last_edit-append a b key)
     ∙ option_or_nested (last_edit b key) (last_edit a key) one
 
@@ -37,11 +37,11 @@ flatten_one false left before = refl
 -- the value of a key after one more edit
 pub one_more : (edits : List Edit) (edit : Edit) (key : List ℕ) (had : Option (List ℕ))
     → had ≡ option_flatten (last_edit edits key)
-    → cond (bytes_eq (key_of edit) key) (left_by edit) had
+    → cond (bytes_eq (key_of edit) key) (value_put edit) had
     ≡ option_flatten (last_edit (edits ++ edit ∷ []) key)
 one_more edits edit key had is =
     let same = bytes_eq (key_of edit) key in
-    ap (cond same (left_by edit)) is ∙ flatten_one same (left_by edit) (last_edit edits key)
+    ap (cond same (value_put edit)) is ∙ flatten_one same (value_put edit) (last_edit edits key)
     ∙ ap option_flatten (sym (last_edit-append edits (edit ∷ []) key))
 
 -- ---- the last edit of a key
@@ -53,12 +53,12 @@ Others key edits = All (λ later. key_of later ≢ key) edits
 abbrev Says : List Edit → List ℕ → Option (Option (List ℕ)) → Type 0
 Says edits key found =
     MatchOption found (Others key edits)
-    (λ left. (edit : Edit) × IsLastEdit edits key edit × (left_by edit ≡ left))
+    (λ left. (edit : Edit) × IsLastEdit edits key edit × (value_put edit ≡ left))
 
 says_more : (edit : Edit) (edits : List Edit) (key : List ℕ) (same : Bool)
     (found : Option (Option (List ℕ)))
     → (same ≡ true → key_of edit ≡ key) × (key_of edit ≡ key → same ≡ true) → Says edits key found
-    → Says (edit ∷ edits) key (option_or found (cond same (Some (left_by edit)) None))
+    → Says (edit ∷ edits) key (option_or found (cond same (Some (value_put edit)) None))
 says_more edit edits key same (Some left) decides found =
     let last = found.1 in (
       found.0,
@@ -92,7 +92,7 @@ says (edit ∷ edits) key =
     says_more edit edits key (bytes_eq (key_of edit) key) (last_edit edits key)
     (bytes_eq-Decides (key_of edit) key) (says edits key)
 
-put_of : (edit : Edit) (key value : List ℕ) → left_by edit ≡ Some value → key_of edit ≡ key
+put_of : (edit : Edit) (key value : List ℕ) → value_put edit ≡ Some value → key_of edit ≡ key
     → edit ≡ Put key value
 put_of (Put k v) key value left of_key = cc
 put_of (Delete k) key value left of_key = absurd cc
@@ -113,17 +113,17 @@ none_of (edit ∷ edits) key others =
     (λ e. differs ((bytes_eq-Decides (key_of edit) key).0 e)) rest
   where
     by_test : (same : Bool) → (same ≡ true → ⊥) → last_edit edits key ≡ None
-        → option_or (last_edit edits key) (cond same (Some (left_by edit)) None) ≡ None
+        → option_or (last_edit edits key) (cond same (Some (value_put edit)) None) ≡ None
     by_test true never rest = absurd (never refl)
     by_test false never rest = ap (λ found. option_or found None) rest
 
 last_at : (before : List Edit) (edit : Edit) (after : List Edit) (key : List ℕ) → key_of edit ≡ key
-    → Others key after → last_edit (before ++ edit ∷ after) key ≡ Some (left_by edit)
+    → Others key after → last_edit (before ++ edit ∷ after) key ≡ Some (value_put edit)
 last_at [] edit after key of_key others =
     let same = (bytes_eq-Decides (key_of edit) key).1 of_key in
     rw (none_of after key others, same) refl
 last_at (first ∷ before) edit after key of_key others =
-    ap (λ found. option_or found (cond (bytes_eq (key_of first) key) (Some (left_by first)) None))
+    ap (λ found. option_or found (cond (bytes_eq (key_of first) key) (Some (value_put first)) None))
     (last_at before edit after key of_key others)
 
 pub maps_agree : MapsAgree

@@ -9,8 +9,8 @@ use Rattle.kv_types.specs.declared.bounds.TheConstants.{MAX_PAGE}
 use Rattle.kv_types.specs.declared.row.Row.{Row}
 use Rattle.kv_types.specs.Maps.{map_of}
 use Rattle.kv_types.specs.Spans.{Span}
-use Rattle.kv_types.specs.Pages.{Map, IsRowOf, ComesBefore, IsWalk, row_size, KeepsLimits, IsFull}
-use Rattle.kv_types.specs.Pages.{walk_of, beginning, PagesAgree, OnePage}
+use Rattle.kv_types.specs.Pages.{Map, IsRowOf, PrecedesRow, IsWalk, row_size, KeepsLimits, IsFull}
+use Rattle.kv_types.specs.Pages.{walk_of, fitting_rows, PagesAgree, OnePage}
 use Rattle.kv_types.proofs.ByteOrder.{below_is_strict}
 use Rattle.kv_types.proofs.Ordered.{among_from_Contains, among_of_All, rises_from_AllPairs}
 use Rattle.kv_types.proofs.Ordered.{same_list}
@@ -56,7 +56,7 @@ none_fits size [] = tt
 none_fits size (row ∷ rows) = λ keeps. let few = keeps.0 in omega (arith, few)
 
 cut : (limit size : ℕ) (rows : List Row)
-    → (left : List Row) × IsCut limit size rows (beginning limit size rows) left
+    → (left : List Row) × IsCut limit size rows (fitting_rows limit size rows) left
 cut zero size rows =
     (rows, record { parts = refl; fits = (omega arith, omega arith); full = none_fits size rows })
 cut (suc limit) size [] =
@@ -66,14 +66,15 @@ cut (suc limit) size (row ∷ rows) =
   where
     by_test : (b : Bool) → nat_le (row_size row) size ≡ b
         → (left : List Row)
-        × IsCut limit (size - row_size row) rows (beginning limit (size - row_size row) rows) left
+        × IsCut limit (size - row_size row) rows (fitting_rows limit (size - row_size row) rows)
+            left
         → (left : List Row)
         × IsCut (suc limit) size (row ∷ rows)
-        (cond b (row ∷ beginning limit (size - row_size row) rows) []) left
+        (cond b (row ∷ fitting_rows limit (size - row_size row) rows) []) left
     by_test true e rest =
         let le : row_size row ≤ size = leb-true (row_size row) size e in
         let whole : row_size row + (size - row_size row) ≡ size = omega (arith, le) in
-        let page = beginning limit (size - row_size row) rows in
+        let page = fitting_rows limit (size - row_size row) rows in
         let c = rest.1 in (
           rest.0,
           record {
@@ -143,14 +144,14 @@ one_cut (suc limit) size (x ∷ p) l (y ∷ q) k is fits full fits' full' =
 
 -- ---- a map has one walk in a range
 
-one_way : (backward : Bool) (x y : Row) → ComesBefore backward x y → ComesBefore backward y x → ⊥
+one_way : (backward : Bool) (x y : Row) → PrecedesRow backward x y → PrecedesRow backward y x → ⊥
 one_way false x y h g = below_is_strict.never x.key (below_is_strict.through x.key y.key x.key h g)
 one_way true x y h g = below_is_strict.never x.key (below_is_strict.through x.key y.key x.key g h)
 
 one_walk : (map : Map) (range : Span) (xs ys : List Row) → IsWalk map range xs → IsWalk map range ys
     → xs ≡ ys
 one_walk map range xs ys v w =
-    let Before = ComesBefore range.backward in
+    let Before = PrecedesRow range.backward in
     let IsRow = IsRowOf map range in
     same_list Before (one_way range.backward) xs ys (rises_from_AllPairs Before xs v.ordered)
     (rises_from_AllPairs Before ys w.ordered)
@@ -201,5 +202,5 @@ pages_agree batches range =
       walk = subst (IsWalk (map_of batches) range) parts (walks batches range);
       fits = c.1.fits;
       full = c.1.full;
-      more = left_over walk (beginning range.limit MAX_PAGE walk) c.0 parts;
+      more = left_over walk (fitting_rows range.limit MAX_PAGE walk) c.0 parts;
     }

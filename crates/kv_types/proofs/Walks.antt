@@ -16,10 +16,10 @@ use Rattle.kv_types.specs.declared.edit.Edit.{Edit}
 use Rattle.kv_types.specs.declared.row.Row.{Row}
 use Rattle.kv_types.specs.Content.{BatchContent}
 use Rattle.kv_types.specs.Order.{IsBelow}
-use Rattle.kv_types.specs.Maps.{key_of, left_by, joined, last_edit, map_of}
+use Rattle.kv_types.specs.Maps.{key_of, value_put, joined, last_edit, map_of}
 use Rattle.kv_types.specs.Spans.{Span}
-use Rattle.kv_types.specs.Pages.{IsWithin, IsRowOf, ComesBefore, IsWalk, with_key, keys_of}
-use Rattle.kv_types.specs.Pages.{is_within, row_at, walk_of}
+use Rattle.kv_types.specs.Pages.{IsWithin, IsRowOf, PrecedesRow, IsWalk, with_key, keys_of}
+use Rattle.kv_types.specs.Pages.{is_within, row_of_key, walk_of}
 use Rattle.kv_types.proofs.ByteOrder.{below-Less, lt_below, below_is_strict}
 use Rattle.kv_types.proofs.Ordered.{Among, Contains-among, All-among, Rises, AllPairs-rises}
 use Rattle.kv_types.proofs.Ordered.{Contains-reverse, All-reverse, AllPairs-reverse}
@@ -106,7 +106,7 @@ IsKept key keys found = IfSome found (λ _. Among key keys)
 kept_step : (edit : Edit) (key : List ℕ) (keys : List (List ℕ)) (found : Option (Option (List ℕ)))
     (same : Bool) → (same ≡ true → key_of edit ≡ key) → IsKept key keys found
     → IsKept key (with_key (key_of edit) keys)
-    (option_or found (cond same (Some (left_by edit)) None))
+    (option_or found (cond same (Some (value_put edit)) None))
 kept_step edit key keys (Some left) same is a = with_key-among (key_of edit) keys key (inr a)
 kept_step edit key keys None true is a = with_key-among (key_of edit) keys key (inl (is refl))
 kept_step edit key keys None false is a = tt
@@ -223,53 +223,53 @@ parts true (Some value) key row is = let same : made key value ≡ row = cc in
     (refl, sym (ap (λ r. r.key) same), ap (λ r. Some r.value) same)
 
 module _ (batches : List BatchContent) (range : Span) where
-  own_key : (key : List ℕ) (row : Row) → row_at batches range key ≡ Some row → row.key ≡ key
+  own_key : (key : List ℕ) (row : Row) → row_of_key batches range key ≡ Some row → row.key ≡ key
   own_key key row is = (parts (is_within range key) (map_of batches key) key row is).1
 
-  row_at-is : (key : List ℕ) (row : Row) → row_at batches range key ≡ Some row
+  row_at-is : (key : List ℕ) (row : Row) → row_of_key batches range key ≡ Some row
       → IsRowOf (map_of batches) range row
   row_at-is key row is =
       let p = parts (is_within range key) (map_of batches key) key row is in
       (ap (map_of batches) p.1 ∙ p.2, subst (IsWithin range) (sym p.1) ((within range key).0 p.0))
 
   is-row_at : (row : Row) → IsRowOf (map_of batches) range row
-      → row_at batches range row.key ≡ Some row
+      → row_of_key batches range row.key ≡ Some row
   is-row_at row is =
       let inside = (within range row.key).1 is.1 in
       ap (λ b. cond b (option_map (made row.key) (map_of batches row.key)) None) inside
       ∙ ap (option_map (made row.key)) is.0
 
   abbrev forward : List Row
-  forward = filter_map (row_at batches range) (keys_of (joined batches))
+  forward = filter_map (row_of_key batches range) (keys_of (joined batches))
 
   each : All (IsRowOf (map_of batches) range) forward
   each = All-among (IsRowOf (map_of batches) range) forward
-      (λ row a. let r = among_rows (row_at batches range) (keys_of (joined batches)) row a in
+      (λ row a. let r = among_rows (row_of_key batches range) (keys_of (joined batches)) row a in
       row_at-is r.0 row r.2)
 
   all : (row : Row) → IsRowOf (map_of batches) range row → Contains forward row
   all row is =
       Contains-among forward row
-      (rows_among (row_at batches range) (keys_of (joined batches)) row.key row
+      (rows_among (row_of_key batches range) (keys_of (joined batches)) row.key row
       (has_key batches row.key row.value is.0) (is-row_at row is))
 
-  ordered : AllPairs (ComesBefore false) forward
-  ordered = AllPairs-rises (ComesBefore false) forward
-      (rises_rows (row_at batches range) own_key (keys_of (joined batches))
+  ordered : AllPairs (PrecedesRow false) forward
+  ordered = AllPairs-rises (PrecedesRow false) forward
+      (rises_rows (row_of_key batches range) own_key (keys_of (joined batches))
       (rises-keys_of (joined batches)))
 
   -- walked from either end
   pub record IsTurned (backward : Bool) (rows : List Row) : Type 0 where
     pub each : All (IsRowOf (map_of batches) range) rows
     pub all : (row : Row) → IsRowOf (map_of batches) range row → Contains rows row
-    pub ordered : AllPairs (ComesBefore backward) rows
+    pub ordered : AllPairs (PrecedesRow backward) rows
 
   turned : (backward : Bool) → IsTurned backward (cond backward (reverse forward) forward)
   turned false = record { each = each; all = all; ordered = ordered }
   turned true = record {
     each = All-reverse (IsRowOf (map_of batches) range) forward each;
     all = λ row is. Contains-reverse forward row (all row is);
-    ordered = AllPairs-reverse (ComesBefore false) (ComesBefore true) forward (λ x y h. h) ordered;
+    ordered = AllPairs-reverse (PrecedesRow false) (PrecedesRow true) forward (λ x y h. h) ordered;
   }
 
   pub walks : IsWalk (map_of batches) range (walk_of batches range)

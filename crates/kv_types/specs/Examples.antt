@@ -4,7 +4,7 @@ use Rattle.kv_types.specs.declared.edit.Edit.TheVariants.{Put, Delete}
 use Rattle.kv_types.specs.declared.row.Row.{Row}
 use Rattle.kv_types.specs.Content.{BatchContent}
 use Rattle.kv_types.specs.Order.{IsBelow}
-use Rattle.kv_types.specs.Spelling.{spelling}
+use Rattle.kv_types.specs.Spelling.{batch_bytes}
 use Rattle.kv_types.specs.Maps.{map_of}
 use Rattle.kv_types.specs.Spans.{Span}
 use Rattle.kv_types.specs.Pages.{page_of}
@@ -32,10 +32,10 @@ ten = record { from = []; to = None; backward = false; limit = 10 }
 abbrev pub row : List ℕ → List ℕ → Row
 row key value = record { key = key; value = value }
 
-pub record Examples : Type 0 where
-  pub spelled : spelling (Put (codes "a") (codes "1") ∷ [])
+pub record BatchExamples : Type 0 where
+  pub spelled : batch_bytes (Put (codes "a") (codes "1") ∷ [])
       ≡ 0 ∷ 1 ∷ 1 ∷ 0 ∷ 1 ∷ 97 ∷ 0 ∷ 1 ∷ 49 ∷ []
-  pub deletion : spelling (Delete (codes "a") ∷ []) ≡ 0 ∷ 1 ∷ 2 ∷ 0 ∷ 1 ∷ 97 ∷ []
+  pub deletion : batch_bytes (Delete (codes "a") ∷ []) ≡ 0 ∷ 1 ∷ 2 ∷ 0 ∷ 1 ∷ 97 ∷ []
   pub beginning : IsBelow (codes "a") (codes "ab")
   pub difference : IsBelow (codes "ab") (codes "b")
   pub last : map_of thrice (codes "a") ≡ Some (codes "2")

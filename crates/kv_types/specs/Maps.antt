@@ -14,9 +14,9 @@ key_of (Put key value) = key
 key_of (Delete key) = key
 
 -- the value of the key after an edit: a put leaves its value, a deletion none
-abbrev pub left_by : Edit → Option (List ℕ)
-left_by (Put key value) = Some value
-left_by (Delete key) = None
+abbrev pub value_put : Edit → Option (List ℕ)
+value_put (Put key value) = Some value
+value_put (Delete key) = None
 
 -- the edits of all batches in order
 abbrev pub joined : List BatchContent → List Edit
@@ -39,7 +39,7 @@ abbrev pub last_edit : List Edit → List ℕ → Option (Option (List ℕ))
 last_edit [] key = None
 last_edit (edit ∷ edits) key =
     option_or (last_edit edits key)
-    (if bytes_eq (key_of edit) key then Some (left_by edit) else None)
+    (if bytes_eq (key_of edit) key then Some (value_put edit) else None)
 
 -- the map of the batches, as a function
 abbrev pub map_of : List BatchContent → List ℕ → Option (List ℕ)

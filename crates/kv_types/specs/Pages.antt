@@ -28,15 +28,15 @@ abbrev pub IsRowOf : Map → Span → Row → Type 0
 IsRowOf map range row = (map row.key ≡ Some row.value) × IsWithin range row.key
 
 -- a forward walk visits lesser keys first, a backward walk greater keys
-abbrev pub ComesBefore : Bool → Row → Row → Type 0
-ComesBefore false a b = IsBelow a.key b.key
-ComesBefore true a b = IsBelow b.key a.key
+abbrev pub PrecedesRow : Bool → Row → Row → Type 0
+PrecedesRow false a b = IsBelow a.key b.key
+PrecedesRow true a b = IsBelow b.key a.key
 
 -- the rows are all rows of the map in the range, in the order of the walk
 pub record IsWalk (map : Map) (range : Span) (rows : List Row) : Type 0 where
   pub each : All (IsRowOf map range) rows
   pub all : (row : Row) → IsRowOf map range row → Contains rows row
-  pub ordered : AllPairs (ComesBefore range.backward) rows
+  pub ordered : AllPairs (PrecedesRow range.backward) rows
 
 -- the size of a row: the bytes of its key and its value, and a fixed overhead
 abbrev pub row_size : Row → ℕ
@@ -80,29 +80,29 @@ is_within range key =
     (λ to. is_lt (slice_cmp nat_cmp key to)) range.to true
 
 -- the row of a key that lies in the range and has a value
-abbrev pub row_at : List BatchContent → Span → List ℕ → Option Row
-row_at batches range key =
+abbrev pub row_of_key : List BatchContent → Span → List ℕ → Option Row
+row_of_key batches range key =
     if is_within range key then option_map (λ value. record { key = key; value = value })
     (map_of batches key) else None
 
 -- all rows in the range, in the order of the walk
 abbrev pub walk_of : List BatchContent → Span → List Row
 walk_of batches range =
-    let rows = filter_map (row_at batches range) (keys_of (joined batches)) in
+    let rows = filter_map (row_of_key batches range) (keys_of (joined batches)) in
     if range.backward then reverse rows else rows
 
 -- the longest prefix of the rows within the limits
-abbrev pub beginning : ℕ → ℕ → List Row → List Row
-beginning zero size rows = []
-beginning (suc limit) size [] = []
-beginning (suc limit) size (row ∷ rows) =
-    if nat_le (row_size row) size then row ∷ beginning limit (size - row_size row) rows else []
+abbrev pub fitting_rows : ℕ → ℕ → List Row → List Row
+fitting_rows zero size rows = []
+fitting_rows (suc limit) size [] = []
+fitting_rows (suc limit) size (row ∷ rows) =
+    if nat_le (row_size row) size then row ∷ fitting_rows limit (size - row_size row) rows else []
 
 -- the page of a range in the map of the batches
 abbrev pub page_of : List BatchContent → Span → Rows
 page_of batches range =
     let walk = walk_of batches range in
-    let rows = beginning range.limit MAX_PAGE walk in
+    let rows = fitting_rows range.limit MAX_PAGE walk in
     record { rows = rows; more = nat_lt (length rows) (length walk) }
 
 -- the function returns a page of the map of the batches

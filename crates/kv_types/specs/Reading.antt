@@ -16,25 +16,25 @@ abbrev pub ◌>>=◌ : {A B : Type 0} → Option A → (A → Option B) → Opti
 None >>= f = None
 
 -- the cause of a refusal: `BadBytes` only where nothing can be read
-abbrev pub Fails : {Y : Type 0} → KvError → Option Y → Type 0
-Fails BadBytes read = read ≡ None
-Fails Memory read = Unit {0}
-Fails _ read = ⊥
+abbrev pub RefusesBytes : {Y : Type 0} → KvError → Option Y → Type 0
+RefusesBytes BadBytes read = read ≡ None
+RefusesBytes Memory read = Unit {0}
+RefusesBytes _ read = ⊥
 
 -- a function's result, seen by `view`, is what was read, unless memory ran out
-abbrev pub Gives : {X Y : Type 0} → (X → Y) → Result X KvError → Option Y → Type 0
-Gives view (Ok x) read = read ≡ Some (view x)
-Gives view (Err e) read = Fails e read
+abbrev pub ReadsBytes : {X Y : Type 0} → (X → Y) → Result X KvError → Option Y → Type 0
+ReadsBytes view (Ok x) read = read ≡ Some (view x)
+ReadsBytes view (Err e) read = RefusesBytes e read
 
 -- a number of two bytes, and the bytes behind it
-abbrev pub number_at : List ℕ → Option (ℕ × List ℕ)
-number_at bytes =
+abbrev pub length_at : List ℕ → Option (ℕ × List ℕ)
+length_at bytes =
     if nat_lt (length bytes) 2 then None else Some (from_be_bytes w16 (take 2 bytes), drop 2 bytes)
 
 -- the bytes behind their length, if it is at most the limit, and the bytes behind them
 unfoldable pub text_at : ℕ → List ℕ → Option (List ℕ × List ℕ)
 text_at limit bytes = do
-  n ← number_at bytes
+  n ← length_at bytes
   if nat_lt limit n.0 then None else
       (if nat_lt (length n.1) n.0 then None else Some (take n.0 n.1, drop n.0 n.1))
 
@@ -62,7 +62,7 @@ edits_at (suc n) bytes = do
 -- the edits of a batch, spelled within the limit, and the bytes behind them
 unfoldable pub batch_at : List ℕ → Option (BatchContent × List ℕ)
 batch_at bytes = do
-  n ← number_at bytes
+  n ← length_at bytes
   if nat_lt MAX_EDITS n.0 then None else (if nat_lt n.0 1 then None else do
     edits ← edits_at n.0 n.1
     if nat_lt MAX_BATCH (length bytes - length edits.1) then None else Some edits)

@@ -8,17 +8,17 @@ use Rattle.kv_types.specs.declared.edit.Edit.TheVariants.{Put, Delete}
 use Rattle.kv_types.specs.Content.{BatchContent, edits_of}
 
 -- a length in two bytes, and that many bytes
-abbrev pub text : List ℕ → List ℕ
-text bytes = to_be_bytes w16 (length bytes) ++ bytes
+abbrev pub text_bytes : List ℕ → List ℕ
+text_bytes bytes = to_be_bytes w16 (length bytes) ++ bytes
 
-abbrev pub edit_text : Edit → List ℕ
-edit_text (Put key value) = 1 ∷ text key ++ text value
-edit_text (Delete key) = 2 ∷ text key
+abbrev pub edit_bytes : Edit → List ℕ
+edit_bytes (Put key value) = 1 ∷ text_bytes key ++ text_bytes value
+edit_bytes (Delete key) = 2 ∷ text_bytes key
 
 -- the number of edits in two bytes, and the edits in order
-abbrev pub spelling : BatchContent → List ℕ
-spelling batch =
-    to_be_bytes w16 (length (edits_of batch)) ++ flat_map edit_text (edits_of batch)
+abbrev pub batch_bytes : BatchContent → List ℕ
+batch_bytes batch =
+    to_be_bytes w16 (length (edits_of batch)) ++ flat_map edit_bytes (edits_of batch)
 
 -- a key has at most 1,024 bytes, and a value at most 16,384
 abbrev pub IsEdit : Edit → Type 0
@@ -29,10 +29,10 @@ IsEdit (Delete key) = length key ≤ MAX_KEY
 pub record IsBatch (batch : BatchContent) : Type 0 where
   pub some : 1 ≤ length (edits_of batch)
   pub few : length (edits_of batch) ≤ MAX_EDITS
-  pub short : length (spelling batch) ≤ MAX_BATCH
+  pub short : length (batch_bytes batch) ≤ MAX_BATCH
   pub each : All IsEdit (edits_of batch)
 
 -- no spelling is a prefix of another, and no two batches have the same spelling
 abbrev pub SpellingsDiffer : Type 0
 SpellingsDiffer = (a b : BatchContent) (rest : List ℕ) → IsBatch a → IsBatch b →
-    spelling a ++ rest ≡ spelling b → (a ≡ b) × (rest ≡ [])
+    batch_bytes a ++ rest ≡ batch_bytes b → (a ≡ b) × (rest ≡ [])

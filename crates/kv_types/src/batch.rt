@@ -31,8 +31,8 @@ impl Model for Batch {
 
 impl Batch {
     ghost use Rattle.kv_types.specs.Content.{BatchContent, edits_of};
-    ghost use Rattle.kv_types.specs.Spelling.{IsBatch, spelling};
-    ghost use Rattle.kv_types.specs.Reading.{Gives, batch_at};
+    ghost use Rattle.kv_types.specs.Spelling.{IsBatch, batch_bytes};
+    ghost use Rattle.kv_types.specs.Reading.{ReadsBytes, batch_at};
 
     pub fn new(edits: Vec<Edit>) -> Result<Batch, KvError>
         ensures made { IfOk result (λ batch. edits_of batch ≡ edits.items) }
@@ -40,7 +40,7 @@ impl Batch {
         ensures many { (result ≡ Err KvError.TooManyEdits) ↔ (MAX_EDITS < length edits.items) }
         ensures long { (result ≡ Err KvError.BatchTooLong) ↔
             ((1 ≤ length edits.items) × (length edits.items ≤ MAX_EDITS)
-            × (MAX_BATCH < length (spelling edits.items))) }
+            × (MAX_BATCH < length (batch_bytes edits.items))) }
         ensures only { IfErr result (λ e. (e ≡ KvError.NoEdits)
             ⊎ (e ≡ KvError.TooManyEdits) ⊎ (e ≡ KvError.BatchTooLong)) }
     {
@@ -66,7 +66,7 @@ impl Batch {
 
     /// How many bytes the batch is spelled in.
     pub fn spelled_len(&self) -> usize
-        ensures len { result ≡ length (spelling self.now) }
+        ensures len { result ≡ length (batch_bytes self.now) }
         ensures limit { result ≤ MAX_BATCH }
     {
         spelled_len(self.edits.as_slice())
@@ -74,7 +74,7 @@ impl Batch {
 
     /// Appends the spelling of the batch to `out`.
     pub fn spell_into(&self, out: &mut Vec<u8>) -> Result<(), AllocError>
-        ensures spelled { OnOk result (out.new.items ≡ out.old.items ++ spelling self.now) }
+        ensures spelled { OnOk result (out.new.items ≡ out.old.items ++ batch_bytes self.now) }
         ensures batch { IsBatch self.now }
     {
         put_edits(out, self.edits.as_slice())
@@ -82,11 +82,11 @@ impl Batch {
 
     /// Reads the batch at the front of the bytes, and returns it with the bytes behind it.
     pub fn read_from(alloc: Global, bytes: &[u8]) -> Result<(Batch, &[u8]), KvError>
-        ensures found { IfOk result (λ x. (bytes.now ≡ spelling x.0 ++ x.1.now) × IsBatch x.0) }
+        ensures found { IfOk result (λ x. (bytes.now ≡ batch_bytes x.0 ++ x.1.now) × IsBatch x.0) }
         ensures bad { IsErrOf result KvError.BadBytes → (batch : BatchContent) (rest : List ℕ)
-            → IsBatch batch → bytes.now ≡ spelling batch ++ rest → ⊥ }
+            → IsBatch batch → bytes.now ≡ batch_bytes batch ++ rest → ⊥ }
         ensures only { IfErr result (λ e. (e ≡ KvError.BadBytes) ⊎ (e ≡ KvError.Memory)) }
-        ensures exact { Gives (λ x. (x.0, x.1.now)) result (batch_at bytes.now) }
+        ensures exact { ReadsBytes (λ x. (x.0, x.1.now)) result (batch_at bytes.now) }
     {
         let (edits, rest) = front_edits_of(alloc, bytes)?;
         let edits = SharedEdits::new(edits);
@@ -95,7 +95,7 @@ impl Batch {
 
     /// The one spelling of the batch in bytes.
     pub fn to_bytes(&self, alloc: Global) -> Result<Vec<u8>, AllocError>
-        ensures { IfOk result (λ bytes. bytes.items ≡ spelling self.now) }
+        ensures { IfOk result (λ bytes. bytes.items ≡ batch_bytes self.now) }
     {
         let mut out = Vec::with_capacity(alloc, self.spelled_len())?;
         self.spell_into(&mut out)?;
@@ -104,9 +104,9 @@ impl Batch {
 
     /// Reads the batch that exactly these bytes spell.
     pub fn from_bytes(alloc: Global, bytes: &[u8]) -> Result<Batch, KvError>
-        ensures spelled { IfOk result (λ batch. bytes.now ≡ spelling batch) }
+        ensures spelled { IfOk result (λ batch. bytes.now ≡ batch_bytes batch) }
         ensures bad { IsErrOf result KvError.BadBytes →
-            (batch : BatchContent) → IsBatch batch → bytes.now ≡ spelling batch → ⊥ }
+            (batch : BatchContent) → IsBatch batch → bytes.now ≡ batch_bytes batch → ⊥ }
         ensures only { IfErr result (λ e. (e ≡ KvError.BadBytes) ⊎ (e ≡ KvError.Memory)) }
     {
         let edits = SharedEdits::new(all_edits_of(alloc, bytes)?);

@@ -12,7 +12,7 @@ pub enum Edit {
 }
 
 impl Edit {
-    ghost use Rattle.kv_types.specs.Maps.{key_of, left_by};
+    ghost use Rattle.kv_types.specs.Maps.{key_of, value_put};
 
     pub fn key(&self) -> &Key
         ensures { result.now ≡ key_of self.now }
@@ -25,7 +25,7 @@ impl Edit {
 
     /// The value that a put writes, or `None` for a deletion.
     pub fn value(&self) -> Option<&Value>
-        ensures { option_copied result ≡ left_by self.now }
+        ensures { option_copied result ≡ value_put self.now }
     {
         match self {
             Edit::Put(_, value) => Some(value),

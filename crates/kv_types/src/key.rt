@@ -7,8 +7,8 @@ ghost use Rattle.std.specs.Cmp.Lexicographic.{nat_list_cmp_total, texts_po, text
 ghost use Rattle.std.specs.Ordering.{nat_cmp};
 ghost use Rattle.std.proofs.Common.{refl};
 ghost use Rattle.kv_types.specs.Order.{IsBelow};
-ghost use Rattle.kv_types.specs.Spelling.{text};
-ghost use Rattle.kv_types.specs.Reading.{Gives, text_at};
+ghost use Rattle.kv_types.specs.Spelling.{text_bytes};
+ghost use Rattle.kv_types.specs.Reading.{ReadsBytes, text_at};
 
 use crate::KvError;
 use crate::bounds::MAX_KEY;
@@ -56,7 +56,7 @@ impl Key {
 
     /// Appends the spelling of the key to `out`.
     pub fn spell_into(&self, out: &mut Vec<u8>) -> Result<(), AllocError>
-        ensures spelled { OnOk result (out.new.items ≡ out.old.items ++ text self.now) }
+        ensures spelled { OnOk result (out.new.items ≡ out.old.items ++ text_bytes self.now) }
         ensures limit { length self.now ≤ MAX_KEY }
     {
         put_text(out, &self.bytes)
@@ -64,12 +64,12 @@ impl Key {
 
     /// Reads the key at the front of the bytes, and returns it with the bytes behind it.
     pub fn read_from(alloc: Global, bytes: &[u8]) -> Result<(Key, &[u8]), KvError>
-        ensures found { IfOk result (λ x. (bytes.now ≡ text x.0 ++ x.1.now)
+        ensures found { IfOk result (λ x. (bytes.now ≡ text_bytes x.0 ++ x.1.now)
             × (length x.0 ≤ MAX_KEY)) }
         ensures bad { IsErrOf result KvError.BadBytes → (key rest : List ℕ)
-            → length key ≤ MAX_KEY → bytes.now ≡ text key ++ rest → ⊥ }
+            → length key ≤ MAX_KEY → bytes.now ≡ text_bytes key ++ rest → ⊥ }
         ensures only { IfErr result (λ e. (e ≡ KvError.BadBytes) ⊎ (e ≡ KvError.Memory)) }
-        ensures exact { Gives (λ x. (x.0, x.1.now)) result (text_at MAX_KEY bytes.now) }
+        ensures exact { ReadsBytes (λ x. (x.0, x.1.now)) result (text_at MAX_KEY bytes.now) }
     {
         key_of(alloc, bytes)
     }

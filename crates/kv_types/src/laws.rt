@@ -6,7 +6,7 @@ ghost use Rattle.kv_types.specs.Spelling.{SpellingsDiffer};
 ghost use Rattle.kv_types.specs.Maps.{MapsAgree};
 ghost use Rattle.kv_types.specs.Pages.{OnePage, PagesAgree};
 ghost use Rattle.kv_types.specs.Bounds.{BoundsAre};
-ghost use Rattle.kv_types.specs.Examples.{Examples};
+ghost use Rattle.kv_types.specs.Examples.{BatchExamples};
 
 use crate::Number;
 
@@ -48,5 +48,5 @@ pub fn least_number() -> Number
 
 /// Small batches, maps and pages, worked out.
 pub fn examples()
-    ensures { Examples }
+    ensures { BatchExamples }
 {}

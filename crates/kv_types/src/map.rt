@@ -1,14 +1,14 @@
 // Reads of the map that a list of batches builds.
 ghost use Rattle.std.specs.Prelude.{◌≡◌, option_copied, if◌then◌else◌};
 ghost use Rattle.std.specs.Str.{bytes_eq};
-ghost use Rattle.kv_types.specs.Maps.{key_of, left_by, map_of};
+ghost use Rattle.kv_types.specs.Maps.{key_of, value_put, map_of};
 
 use crate::{Batch, Edit, Key, Value};
 
 /// The value of the key after one edit, from its value before the edit.
 fn after_edit<'a>(had: Option<&'a Value>, edit: &'a Edit, key: &Key) -> Option<&'a Value>
     ensures { option_copied result ≡ (if bytes_eq (key_of edit.now) key.now
-        then left_by edit.now else option_copied had.entry) }
+        then value_put edit.now else option_copied had.entry) }
 {
     if edit.key() == key { edit.value() } else { had }
 }

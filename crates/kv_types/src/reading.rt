@@ -1,6 +1,7 @@
 // Keys, values, edits and batches, read from their bytes.
 ghost use Rattle.std.specs.Prelude.{◌≡◌, ◌≤◌, length, IfOk};
-ghost use Rattle.kv_types.specs.Reading.{Gives, number_at, text_at, edit_at, edits_at, batch_at};
+ghost use Rattle.kv_types.specs.Reading.{ReadsBytes, length_at, text_at, edit_at, edits_at};
+ghost use Rattle.kv_types.specs.Reading.{batch_at};
 ghost use Rattle.kv_types.specs.Reading.{batch_of};
 
 use crate::bounds::{MAX_BATCH, MAX_EDITS, MAX_KEY, MAX_VALUE};
@@ -8,7 +9,7 @@ use crate::{Edit, Key, KvError, Value};
 use std::alloc::Global;
 
 fn u16_at(bytes: &[u8]) -> Result<(usize, &[u8]), KvError>
-    ensures { Gives (λ x. (x.0, x.1.now)) result (number_at bytes.now) }
+    ensures { ReadsBytes (λ x. (x.0, x.1.now)) result (length_at bytes.now) }
 {
     if bytes.len() < 2 {
         return Err(KvError::BadBytes);
@@ -20,7 +21,7 @@ fn u16_at(bytes: &[u8]) -> Result<(usize, &[u8]), KvError>
 
 #[tactic(auto, unfolding(crate::specs::Reading::text_at))]
 fn text_of(limit: usize, bytes: &[u8]) -> Result<(&[u8], &[u8]), KvError>
-    ensures text { Gives (λ x. (x.0.now, x.1.now)) result (text_at limit bytes.now) }
+    ensures text { ReadsBytes (λ x. (x.0.now, x.1.now)) result (text_at limit bytes.now) }
     ensures limit { IfOk result (λ x. length x.0.now ≤ limit) }
 {
     let (len, rest) = u16_at(bytes)?;
@@ -34,14 +35,14 @@ fn text_of(limit: usize, bytes: &[u8]) -> Result<(&[u8], &[u8]), KvError>
 }
 
 pub fn key_of(alloc: Global, bytes: &[u8]) -> Result<(Key, &[u8]), KvError>
-    ensures { Gives (λ x. (x.0, x.1.now)) result (text_at MAX_KEY bytes.now) }
+    ensures { ReadsBytes (λ x. (x.0, x.1.now)) result (text_at MAX_KEY bytes.now) }
 {
     let (text, rest) = text_of(MAX_KEY, bytes)?;
     Ok((Key::new(text.to_vec(alloc)?)?, rest))
 }
 
 pub fn value_of(alloc: Global, bytes: &[u8]) -> Result<(Value, &[u8]), KvError>
-    ensures { Gives (λ x. (x.0, x.1.now)) result (text_at MAX_VALUE bytes.now) }
+    ensures { ReadsBytes (λ x. (x.0, x.1.now)) result (text_at MAX_VALUE bytes.now) }
 {
     let (text, rest) = text_of(MAX_VALUE, bytes)?;
     Ok((Value::new(text.to_vec(alloc)?)?, rest))
@@ -49,7 +50,7 @@ pub fn value_of(alloc: Global, bytes: &[u8]) -> Result<(Value, &[u8]), KvError>
 
 #[tactic(auto, unfolding(crate::specs::Reading::edit_at))]
 fn edit_of(alloc: Global, bytes: &[u8]) -> Result<(Edit, &[u8]), KvError>
-    ensures { Gives (λ x. (x.0, x.1.now)) result (edit_at bytes.now) }
+    ensures { ReadsBytes (λ x. (x.0, x.1.now)) result (edit_at bytes.now) }
 {
     match bytes {
         [1, rest @ ..] => {
@@ -66,7 +67,7 @@ fn edit_of(alloc: Global, bytes: &[u8]) -> Result<(Edit, &[u8]), KvError>
 }
 
 fn edits_in(alloc: Global, count: usize, bytes: &[u8]) -> Result<(Vec<Edit>, &[u8]), KvError>
-    ensures { Gives (λ x. (x.0.items, x.1.now)) result (edits_at count bytes.now) }
+    ensures { ReadsBytes (λ x. (x.0.items, x.1.now)) result (edits_at count bytes.now) }
 {
     let mut edits = Vec::with_capacity(alloc, count)?;
     let mut rest = bytes;
@@ -80,7 +81,7 @@ fn edits_in(alloc: Global, count: usize, bytes: &[u8]) -> Result<(Vec<Edit>, &[u
 
 #[tactic(auto, unfolding(crate::specs::Reading::batch_at))]
 pub fn front_edits_of(alloc: Global, bytes: &[u8]) -> Result<(Vec<Edit>, &[u8]), KvError>
-    ensures { Gives (λ x. (x.0.items, x.1.now)) result (batch_at bytes.now) }
+    ensures { ReadsBytes (λ x. (x.0.items, x.1.now)) result (batch_at bytes.now) }
 {
     let (count, rest) = u16_at(bytes)?;
     if count > MAX_EDITS {
@@ -98,7 +99,7 @@ pub fn front_edits_of(alloc: Global, bytes: &[u8]) -> Result<(Vec<Edit>, &[u8]),
 
 #[tactic(auto, unfolding(crate::specs::Reading::batch_of))]
 pub fn all_edits_of(alloc: Global, bytes: &[u8]) -> Result<Vec<Edit>, KvError>
-    ensures { Gives (λ v. v.items) result (batch_of bytes.now) }
+    ensures { ReadsBytes (λ v. v.items) result (batch_of bytes.now) }
 {
     if bytes.len() > MAX_BATCH {
         return Err(KvError::BadBytes);

@@ -1,8 +1,8 @@
 // Values: byte strings of at most 16,384 bytes.
 ghost use Rattle.std.specs.Prelude.{◌≡◌, ◌<◌, ◌≤◌, ◌↔◌, length, IfOk, IsOkUnless, Err};
 ghost use Rattle.std.specs.Prelude.{List, ℕ, ◌++◌, ◌⊎◌, OnOk, IfErr, IsErrOf};
-ghost use Rattle.kv_types.specs.Spelling.{text};
-ghost use Rattle.kv_types.specs.Reading.{Gives, text_at};
+ghost use Rattle.kv_types.specs.Spelling.{text_bytes};
+ghost use Rattle.kv_types.specs.Reading.{ReadsBytes, text_at};
 
 use crate::KvError;
 use crate::bounds::MAX_VALUE;
@@ -49,7 +49,7 @@ impl Value {
 
     /// Appends the spelling of the value to `out`.
     pub fn spell_into(&self, out: &mut Vec<u8>) -> Result<(), AllocError>
-        ensures spelled { OnOk result (out.new.items ≡ out.old.items ++ text self.now) }
+        ensures spelled { OnOk result (out.new.items ≡ out.old.items ++ text_bytes self.now) }
         ensures limit { length self.now ≤ MAX_VALUE }
     {
         put_text(out, &self.bytes)
@@ -57,12 +57,12 @@ impl Value {
 
     /// Reads the value at the front of the bytes, and returns it with the bytes behind it.
     pub fn read_from(alloc: Global, bytes: &[u8]) -> Result<(Value, &[u8]), KvError>
-        ensures found { IfOk result (λ x. (bytes.now ≡ text x.0 ++ x.1.now)
+        ensures found { IfOk result (λ x. (bytes.now ≡ text_bytes x.0 ++ x.1.now)
             × (length x.0 ≤ MAX_VALUE)) }
         ensures bad { IsErrOf result KvError.BadBytes → (value rest : List ℕ)
-            → length value ≤ MAX_VALUE → bytes.now ≡ text value ++ rest → ⊥ }
+            → length value ≤ MAX_VALUE → bytes.now ≡ text_bytes value ++ rest → ⊥ }
         ensures only { IfErr result (λ e. (e ≡ KvError.BadBytes) ⊎ (e ≡ KvError.Memory)) }
-        ensures exact { Gives (λ x. (x.0, x.1.now)) result (text_at MAX_VALUE bytes.now) }
+        ensures exact { ReadsBytes (λ x. (x.0, x.1.now)) result (text_at MAX_VALUE bytes.now) }
     {
         value_of(alloc, bytes)
     }

@@ -1,6 +1,6 @@
 // Keys, values, edits and batches, written as bytes.
 ghost use Rattle.std.specs.Prelude.{◌≡◌, ◌≤◌, ◌<◌, ◌^◌, ◌++◌, ◌+◌, length, OnOk, All};
-ghost use Rattle.kv_types.specs.Spelling.{text, edit_text, spelling, IsEdit};
+ghost use Rattle.kv_types.specs.Spelling.{text_bytes, edit_bytes, batch_bytes, IsEdit};
 
 use crate::Edit;
 use crate::bounds::{MAX_EDITS, MAX_KEY, MAX_VALUE};
@@ -8,14 +8,14 @@ use std::alloc::AllocError;
 
 pub fn put_text(out: &mut Vec<u8>, bytes: &[u8]) -> Result<(), AllocError>
     requires { length bytes.now < 2 ^ 16 }
-    ensures { OnOk result (out.new.items ≡ out.old.items ++ text bytes.now) }
+    ensures { OnOk result (out.new.items ≡ out.old.items ++ text_bytes bytes.now) }
 {
     out.extend_from_slice(&(bytes.len() as u16).to_be_bytes())?;
     out.extend_from_slice(bytes)
 }
 
 fn put_edit(out: &mut Vec<u8>, edit: &Edit) -> Result<(), AllocError>
-    ensures { OnOk result (out.new.items ≡ out.old.items ++ edit_text edit.now) }
+    ensures { OnOk result (out.new.items ≡ out.old.items ++ edit_bytes edit.now) }
 {
     match edit {
         Edit::Put(key, value) => {
@@ -32,7 +32,7 @@ fn put_edit(out: &mut Vec<u8>, edit: &Edit) -> Result<(), AllocError>
 
 pub fn put_edits(out: &mut Vec<u8>, edits: &[Edit]) -> Result<(), AllocError>
     requires { length edits.now < 2 ^ 16 }
-    ensures { OnOk result (out.new.items ≡ out.old.items ++ spelling edits.now) }
+    ensures { OnOk result (out.new.items ≡ out.old.items ++ batch_bytes edits.now) }
 {
     out.extend_from_slice(&(edits.len() as u16).to_be_bytes())?;
     for edit in edits {
@@ -42,7 +42,7 @@ pub fn put_edits(out: &mut Vec<u8>, edits: &[Edit]) -> Result<(), AllocError>
 }
 
 fn edit_len(edit: &Edit) -> usize
-    ensures len { result ≡ length (edit_text edit.now) }
+    ensures len { result ≡ length (edit_bytes edit.now) }
     ensures limit { result ≤ 5 + MAX_KEY + MAX_VALUE }
     ensures edit { IsEdit edit.now }
 {
@@ -54,7 +54,7 @@ fn edit_len(edit: &Edit) -> usize
 
 pub fn spelled_len(edits: &[Edit]) -> usize
     requires { length edits.now ≤ MAX_EDITS }
-    ensures len { result ≡ length (spelling edits.now) }
+    ensures len { result ≡ length (batch_bytes edits.now) }
     ensures each { All IsEdit edits.now }
 {
     let mut len = 2;

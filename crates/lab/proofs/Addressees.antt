@@ -6,11 +6,11 @@ use Rattle.std.specs.List.{AllZip, AllByRecursion}
 use Rattle.std.proofs.lemmas.List.Elements.{All-weaker, recursion_from_All}
 use Rattle.kv_types.specs.Content.{BatchContent}
 use Rattle.chain_model.specs.Configuration.{Configurations, has, at_epoch}
-use Rattle.chain_model.specs.Frames as model_frame
-use Rattle.chain_model.specs.Frames.{Frame as ModelFrame, addressee}
-use Rattle.chain_model.specs.InOrder.{InOrder, TellsTrue}
+use Rattle.chain_model.specs.Messages as model_frame
+use Rattle.chain_model.specs.Messages.{Message as ModelFrame, addressee}
+use Rattle.chain_model.specs.Order.{InOrder, ForwardIsTrue}
 use Rattle.chain_model.specs.Lists.{place}
-use Rattle.chain_model.specs.World.{Event as ModelEvent, reached, node_of}
+use Rattle.chain_model.specs.System.{SystemEvent as ModelEvent, reached, node_of}
 use Rattle.link_messages.specs.declared.frame.Frame.{Frame}
 use Rattle.link_messages.specs.declared.frame.Frame.TheVariants as frame
 use Rattle.link_messages.specs.Spelling.{HasBounds}
@@ -70,7 +70,7 @@ IsNumbered (model_frame.Ack to epoch from committed have) = Unit {0}
 
 -- .. since it is the place of one
 numbered : (cs : Configurations) (lists : ℕ → List BatchContent) (f : ModelFrame BatchContent) →
-    TellsTrue cs lists f → IsNumbered f
+    ForwardIsTrue cs lists f → IsNumbered f
 numbered cs lists (model_frame.Forward to epoch from zero batch) tells =
     absurd (no_batch (sym (place_zero (lists from)) ∙ tells from (inl refl)))
   where
@@ -83,7 +83,7 @@ pub all_numbered : (cs : Configurations) (es : List (ModelEvent BatchContent)) �
     AllByRecursion IsNumbered (reached cs es).frames
 all_numbered cs es order =
     recursion_from_All IsNumbered (reached cs es).frames
-    (All-weaker (TellsTrue cs (λ z. (node_of cs es z).list)) IsNumbered
+    (All-weaker (ForwardIsTrue cs (λ z. (node_of cs es z).list)) IsNumbered
     (numbered cs (λ z. (node_of cs es z).list)) (reached cs es).frames order.forwards)
 
 -- of a joined list, each of the second

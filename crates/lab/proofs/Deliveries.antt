@@ -8,18 +8,18 @@ use Rattle.disk.specs.Memory.{Slots}
 use Rattle.chain_model.specs.Configuration.{Configurations}
 use Rattle.chain_model.specs.Lists.{place}
 use Rattle.chain_model.specs.declared.drop_reason.DropReason.TheVariants as reason
-use Rattle.chain_model.specs.Frames.{Frame as ModelFrame}
+use Rattle.chain_model.specs.Messages.{Message as ModelFrame}
 use Rattle.chain_model.specs.Requests as request
-use Rattle.chain_model.specs.Node.{dropped_for, silent, started, stopped}
-use Rattle.chain_model.specs.World.{World, Answered, StoppedBefore, outcome, answers}
-use Rattle.chain_model.specs.World.{stops, delivered, nothing}
+use Rattle.chain_model.specs.Machine.{dropped_for, silent, started, stopped}
+use Rattle.chain_model.specs.System.{SystemState, Answered, StoppedBefore, outcome, answers}
+use Rattle.chain_model.specs.System.{stops, delivered, nothing}
 use Rattle.link_messages.specs.declared.frame.Frame.{Frame}
 use Rattle.link_messages.specs.declared.frame.Frame.TheVariants as frame
 use Rattle.chain_core.specs.declared.input.Input.{Input}
 use Rattle.chain_core.specs.declared.input.Input.TheVariants as input
 use Rattle.chain_core.specs.Decisions.{frame_as}
 use Rattle.node.specs.declared.stop.Stop.TheVariants.{Disk}
-use Rattle.node.specs.Steps.{told_as}
+use Rattle.node.specs.Steps.{replies_to_response}
 use Rattle.lab.specs.declared.input.NodeInput.{NodeInput}
 use Rattle.lab.specs.declared.input.StepOutcome.{StepOutcome}
 use Rattle.lab.specs.declared.event.EventKind.{EventKind}
@@ -37,8 +37,8 @@ use Rattle.lab.proofs.Outcomes.{drop_traced}
 
 -- each kind has the lines of replies that the node has
 abbrev RepliesSo : EventKind → Input → Type 0
-RepliesSo kind inp = (r : request.Reply BatchContent) → reply_line kind r
-    ≡ map (λ reply. line.Replied reply) (told_as inp r)
+RepliesSo kind inp = (r : request.Response BatchContent) → reply_line kind r
+    ≡ map (λ reply. line.Replied reply) (replies_to_response inp r)
 
 submit_replies : (x i : ℕ) (batch : BatchContent) →
     RepliesSo (Submit x batch) (input.Submit i batch)
@@ -79,7 +79,7 @@ tick_replies x (request.Opened j s) = refl
 tick_replies x (request.Closed j s) = refl
 tick_replies x (request.Refused j why) = refl
 
-module _ (cs : Configurations) (w : World BatchContent) (i x : ℕ) (new : NodeState Slots)
+module _ (cs : Configurations) (w : SystemState BatchContent) (i x : ℕ) (new : NodeState Slots)
     (did : StepOutcome)
   where
     -- a frame in a place is delivered to its addressee
@@ -198,7 +198,7 @@ module _ (cs : Configurations) (w : World BatchContent) (i x : ℕ) (new : NodeS
         brings.1 was))
 
 -- an event without a frame does nothing
-pub nothing_done : (cs : Configurations) (w : World BatchContent) (i : ℕ) (kind : EventKind)
+pub nothing_done : (cs : Configurations) (w : SystemState BatchContent) (i : ℕ) (kind : EventKind)
     (choice : Choice) → HasNoDelivery w.frames kind →
     outcome w cs (modelled i kind choice) ≡ nothing
 nothing_done cs w i kind choice brings =

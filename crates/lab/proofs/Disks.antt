@@ -3,12 +3,12 @@ use Rattle.std.proofs.Common.{◌≡◌, ℕ, ◌+◌, ◌^◌, ◌-◌, ◌<◌
 use Rattle.std.proofs.Common.{cond, ◌==◌, refl, sym, subst, ◌∙◌, eq-eqb, eqb-true, arith}
 use Rattle.std.proofs.lemmas.Bool.{cond_both, cond-true, cond-false, false≢true}
 use Rattle.kv_types.specs.Content.{BatchContent}
-use Rattle.disk.specs.Calls.{Rises}
+use Rattle.disk.specs.Calls.{RisesByOne}
 use Rattle.disk.specs.declared.junk.Junk.{Junk}
 use Rattle.disk.specs.declared.junk.Junk.TheVariants.{Old}
 use Rattle.disk.specs.Memory.{Slots}
-use Rattle.disk.specs.State.{State}
-use Rattle.chain_model.specs.World.{Outcome}
+use Rattle.disk.specs.States.{State}
+use Rattle.chain_model.specs.System.{Outcome}
 use Rattle.chain_core.specs.States.{Machine}
 use Rattle.node.specs.declared.stop.Stop.{Stop as Cause}
 use Rattle.node.specs.declared.stop.Stop.TheVariants.{Disk, Damaged, Memory, NotCreated}
@@ -28,12 +28,12 @@ use Rattle.lab.proofs.Outcomes.{StopsSo}
 -- a node stopped by itself and left this disk, which then crashed
 pub ends_by : {D : Type 0} (state : D → State) (failures : D → ℕ) (cause : Cause) (old left : D)
     (new : NodeState D) → HasCrashed state failures Old left new →
-    (cause ≡ Disk → Rises (failures old) (failures left)) →
+    (cause ≡ Disk → RisesByOne (failures old) (failures left)) →
     ((cause ≡ Disk → ⊥) → failures left ≡ failures old) →
     DiskEnds state failures cause old (disk_in new)
 ends_by state failures cause old left (Up node) crashed failed others = absurd crashed
 ends_by state failures cause old left (Down disk) crashed failed others = record {
-  failed = λ is. subst (λ (n : ℕ). Rises (failures old) n) (sym crashed.count) (failed is);
+  failed = λ is. subst (λ (n : ℕ). RisesByOne (failures old) n) (sym crashed.count) (failed is);
   others = λ other. crashed.count ∙ others other;
   left = state left;
   crashes = crashed.crashes;
@@ -153,7 +153,7 @@ disk_elsewhere disks x own y other = cond-false (y == x) own (disks y) other
 
 -- what the node that an event was for left is what the event leaves of all disks
 pub all_follow : (event : Event) (choice : Choice) (o : Outcome BatchContent) (x : ℕ) (n : Machine)
-    (disks : ℕ → Slots) (own : Slots) → o.came_to ≡ Some (x, n) →
+    (disks : ℕ → Slots) (own : Slots) → o.acted_on ≡ Some (x, n) →
     DiskFollows state failures event choice o n (disks x) own →
     DisksFollow state failures event choice o disks (with_disk disks x own)
 all_follow event choice o x n disks own came follow = record {
@@ -165,13 +165,13 @@ all_follow event choice o x n disks own came follow = record {
       (subst (λ (d : Slots). DiskFollows state failures event choice o n (disks x) d)
       (sym (disk_here disks x own)) follow);
   others = λ y none. cond_both (y == x) own (disks y) (λ (d : Slots). d ≡ disks y)
-      (λ same. absurd (none n (subst (λ (z : ℕ). o.came_to ≡ Some (z, n))
+      (λ same. absurd (none n (subst (λ (z : ℕ). o.acted_on ≡ Some (z, n))
       (sym (eqb-true y x same)) came))) (λ other. refl);
 }
 
 -- an event that was for none leaves them
 pub none_follow : (event : Event) (choice : Choice) (o : Outcome BatchContent) (disks : ℕ → Slots) →
-    o.came_to ≡ None → DisksFollow state failures event choice o disks disks
+    o.acted_on ≡ None → DisksFollow state failures event choice o disks disks
 none_follow event choice o disks none = record {
   at = λ x n is.
       let both : None ≡ Some (x, n) = sym none ∙ is in

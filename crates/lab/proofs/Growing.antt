@@ -7,7 +7,7 @@ use Rattle.std.specs.List.{AllZip}
 use Rattle.std.proofs.lemmas.Slice.Zip.{AllZip-long}
 use Rattle.kv_types.specs.Content.{BatchContent}
 use Rattle.chain_model.specs.Configuration.{Configurations, at_epoch}
-use Rattle.chain_model.specs.World.{World, run, reached, beginning, happens, outcome}
+use Rattle.chain_model.specs.System.{SystemState, run, reached, first_state, state_after, outcome}
 use Rattle.disk.specs.Memory.{Slots}
 use Rattle.lab.specs.declared.event.Event.{Event}
 use Rattle.lab.specs.declared.delivery.Posted.{Posted}
@@ -21,18 +21,19 @@ use Rattle.lab.specs.Worlds.{PostedRefines, SimNodeRefines, RunRefines, frames_t
 
 -- one event more at the end
 module _ (cs : Configurations) (e : Event) (ch : Choice) where
-  pub run-push : (i k : ℕ) (es : List Event) (chs : List Choice) (w : World BatchContent) →
+  pub run-push : (i k : ℕ) (es : List Event) (chs : List Choice) (w : SystemState BatchContent) →
       length chs ≡ length es → k ≡ i + length es →
-      run cs (modelled_from i (es ++ e ∷ []) (chs ++ ch ∷ [])) w ≡ happens cs
+      run cs (modelled_from i (es ++ e ∷ []) (chs ++ ch ∷ [])) w ≡ state_after cs
       (run cs (modelled_from i es chs) w) (modelled k e.kind ch)
-  run-push i k [] [] w same at = ap (λ (j : ℕ). happens cs w (modelled j e.kind ch))
+  run-push i k [] [] w same at = ap (λ (j : ℕ). state_after cs w (modelled j e.kind ch))
       (omega arith)
   run-push i k [] (c ∷ chs) w same at = absurd (omega arith)
   run-push i k (f ∷ es) [] w same at = absurd (omega arith)
   run-push i k (f ∷ es) (c ∷ chs) w same at = run-push (suc i) k es chs
-      (happens cs w (modelled i f.kind c)) (omega arith) (omega arith)
+      (state_after cs w (modelled i f.kind c)) (omega arith) (omega arith)
 
-  pub lines_from-push : (i k : ℕ) (es : List Event) (chs : List Choice) (w : World BatchContent) →
+  pub lines_from-push : (i k : ℕ) (es : List Event) (chs : List Choice)
+      (w : SystemState BatchContent) →
       length chs ≡ length es → k ≡ i + length es →
       let u = run cs (modelled_from i es chs) w in
       lines_from cs i (es ++ e ∷ []) (chs ++ ch ∷ []) w ≡ lines_from cs i es chs w ++ lines_of_event
@@ -45,10 +46,10 @@ module _ (cs : Configurations) (e : Event) (ch : Choice) where
   lines_from-push i k (f ∷ es) (c ∷ chs) w same at =
       ap (λ (l : List (List Line)). lines_of_event (length w.frames) f.kind c
       (outcome w cs (modelled i f.kind c)) ∷ l)
-      (lines_from-push (suc i) k es chs (happens cs w (modelled i f.kind c)) (omega arith)
+      (lines_from-push (suc i) k es chs (state_after cs w (modelled i f.kind c)) (omega arith)
       (omega arith))
 
-  pub fit-push : (i k : ℕ) (es : List Event) (chs : List Choice) (w : World BatchContent) →
+  pub fit-push : (i k : ℕ) (es : List Event) (chs : List Choice) (w : SystemState BatchContent) →
       length chs ≡ length es → k ≡ i + length es → AllFit cs i es chs w →
       let u = run cs (modelled_from i es chs) w in
       ChoiceFits e ch (outcome u cs (modelled k e.kind ch)) →
@@ -61,11 +62,11 @@ module _ (cs : Configurations) (e : Event) (ch : Choice) where
   fit-push i k (f ∷ es) [] w same at all one = absurd all
   fit-push i k (f ∷ es) (c ∷ chs) w same at all one = (
     all.0,
-    fit-push (suc i) k es chs (happens cs w (modelled i f.kind c)) (omega arith) (omega arith)
+    fit-push (suc i) k es chs (state_after cs w (modelled i f.kind c)) (omega arith) (omega arith)
         all.1 one,
   )
 
-  pub follow-push : (i k : ℕ) (es : List Event) (chs : List Choice) (w : World BatchContent)
+  pub follow-push : (i k : ℕ) (es : List Event) (chs : List Choice) (w : SystemState BatchContent)
       (old disks new : ℕ → Slots) → length chs ≡ length es → k ≡ i + length es →
       AllFollow state failures cs i es chs w old disks →
       let u = run cs (modelled_from i es chs) w in
@@ -84,18 +85,18 @@ module _ (cs : Configurations) (e : Event) (ch : Choice) where
   follow-push i k (f ∷ es) (c ∷ chs) w old disks new same at all one = (
     all.0,
     all.1,
-    follow-push (suc i) k es chs (happens cs w (modelled i f.kind c)) all.0 disks new
+    follow-push (suc i) k es chs (state_after cs w (modelled i f.kind c)) all.0 disks new
         (omega arith) (omega arith) all.2 one,
   )
 
 -- each event has its lines
 pub length-lines_from : (cs : Configurations) (i : ℕ) (es : List Event) (chs : List Choice)
-    (w : World BatchContent) → length chs ≡ length es →
+    (w : SystemState BatchContent) → length chs ≡ length es →
     length (lines_from cs i es chs w) ≡ length es
 length-lines_from cs i [] chs w same = refl
 length-lines_from cs i (e ∷ es) [] w same = absurd (omega arith)
 length-lines_from cs i (e ∷ es) (ch ∷ chs) w same =
-    ap suc (length-lines_from cs (suc i) es chs (happens cs w (modelled i e.kind ch))
+    ap suc (length-lines_from cs (suc i) es chs (state_after cs w (modelled i e.kind ch))
     (omega arith))
 
 -- so many frames more have lines
@@ -105,7 +106,7 @@ frames_told-push [] lines = omega arith
 frames_told-push (step ∷ steps) lines = omega (arith, frames_told-push steps lines)
 
 -- what the event in place i makes of a world, and its lines
-pub record Next (cs : Configurations) (w : World BatchContent) (old : ℕ → Slots) (i : ℕ)
+pub record Next (cs : Configurations) (w : SystemState BatchContent) (old : ℕ → Slots) (i : ℕ)
     (event : Event) (choice : Choice) (sims : List SimNode) (posted : List Posted)
     (lines : List Line)
     : Type 0 where
@@ -113,25 +114,25 @@ pub record Next (cs : Configurations) (w : World BatchContent) (old : ℕ → Sl
       (outcome w cs (modelled i event.kind choice))
   pub fits : ChoiceFits event choice (outcome w cs (modelled i event.kind choice))
   pub counted : frames_of_step lines ≡ length (outcome w cs (modelled i event.kind choice)).frames
-  pub frames : AllZip PostedRefines posted (happens cs w (modelled i event.kind choice)).frames
+  pub frames : AllZip PostedRefines posted (state_after cs w (modelled i event.kind choice)).frames
   pub nodes : map (λ sim. sim.id) sims ≡ at_epoch cs 0
   pub disks : ℕ → Slots
   pub follow : DisksFollow state failures event choice
       (outcome w cs (modelled i event.kind choice)) old disks
   pub few : (x : ℕ) → failures (disks x) ≤ i
-  pub each : All (SimNodeRefines (happens cs w (modelled i event.kind choice)).nodes disks) sims
+  pub each : All (SimNodeRefines (state_after cs w (modelled i event.kind choice)).nodes disks) sims
 
 module _ (cs : Configurations) (events : List Event) (steps : List (List Line))
     (sims : List SimNode) (posted : List Posted) (made : RunRefines sims posted cs events steps)
   where
     -- the world of the model so far
-    abbrev pub so_far : World BatchContent
+    abbrev pub so_far : SystemState BatchContent
     so_far = reached cs (modelled_from 1 events made.choices)
 
     -- there are as many steps as events
     pub length-steps : length steps ≡ length events
     length-steps = ap length made.trace.traced
-        ∙ length-lines_from cs 1 events made.choices (beginning cs) made.trace.one_each
+        ∙ length-lines_from cs 1 events made.choices (first_state cs) made.trace.one_each
 
     -- the next step is one event more
     pub grown : (i : ℕ) (event : Event) (choice : Choice) (now : List SimNode) (more : List Posted)
@@ -140,7 +141,7 @@ module _ (cs : Configurations) (events : List Event) (steps : List (List Line))
         RunRefines now more cs (events ++ event ∷ []) (steps ++ lines ∷ [])
     grown i event choice now more lines at next =
         let place : i ≡ 1 + length events = omega (arith, at) in
-        let here = run-push cs event choice 1 i events made.choices (beginning cs)
+        let here = run-push cs event choice 1 i events made.choices (first_state cs)
         made.trace.one_each place in
         record {
           lawful = made.lawful;
@@ -152,14 +153,15 @@ module _ (cs : Configurations) (events : List Event) (steps : List (List Line))
               length-append events (event ∷ []),
               made.trace.one_each,
             );
-            fits = fit-push cs event choice 1 i events made.choices (beginning cs)
+            fits = fit-push cs event choice 1 i events made.choices (first_state cs)
                 made.trace.one_each place made.trace.fits next.fits;
             traced = ap₂ (λ (a : List (List Line)) (b : List Line). a ++ b ∷ []) made.trace.traced
                 next.traced
-                ∙ sym (lines_from-push cs event choice 1 i events made.choices (beginning cs)
+                ∙ sym (lines_from-push cs event choice 1 i events made.choices (first_state cs)
                 made.trace.one_each place);
           };
-          frames = subst (λ (v : World BatchContent). AllZip PostedRefines more v.frames) (sym here)
+          frames = subst (λ (v : SystemState BatchContent). AllZip PostedRefines more v.frames)
+              (sym here)
               next.frames;
           sent = omega (
             arith,
@@ -168,7 +170,7 @@ module _ (cs : Configurations) (events : List Event) (steps : List (List Line))
             next.counted,
             AllZip-long PostedRefines posted so_far.frames made.frames,
             AllZip-long PostedRefines more
-                (happens cs so_far (modelled i event.kind choice)).frames next.frames,
+                (state_after cs so_far (modelled i event.kind choice)).frames next.frames,
             length-append so_far.frames
                 (outcome so_far cs (modelled i event.kind choice)).frames,
           );
@@ -177,12 +179,13 @@ module _ (cs : Configurations) (events : List Event) (steps : List (List Line))
           after = record {
             first = made.after.first;
             begun = made.after.begun;
-            follow = follow-push cs event choice 1 i events made.choices (beginning cs)
+            follow = follow-push cs event choice 1 i events made.choices (first_state cs)
                 made.after.first made.disks next.disks made.trace.one_each place made.after.follow
                 next.follow;
           };
           few = λ x. omega (arith, next.few x, at, length-append events (event ∷ []));
-          each = subst (λ (v : World BatchContent). All (SimNodeRefines v.nodes next.disks) now)
+          each = subst (λ (v : SystemState BatchContent). All (SimNodeRefines v.nodes next.disks)
+              now)
               (sym here)
               next.each;
         }

@@ -8,17 +8,19 @@ use Rattle.kv_types.specs.Content.{BatchContent}
 use Rattle.kv_types.specs.Maps.{map_of}
 use Rattle.chain_model.specs.Configuration.{Configurations}
 use Rattle.chain_model.specs.declared.drop_DropReason.{DropReason}
-use Rattle.chain_model.specs.Frames.{Frame, Forward, Ack}
-use Rattle.chain_model.specs.Headline.{Agrees, numbered, handed_in}
-use Rattle.chain_model.specs.Requests.{Reply, Committed, Shows, Opened, Closed, Refused}
-use Rattle.chain_model.specs.World.{Event as ModelEvent, World, Outcome, outcome, outcomes, happens}
+use Rattle.chain_model.specs.Messages.{Message, Forward, Ack}
+use Rattle.chain_model.specs.Headline.{ResponseAgrees, numbered, submitted}
+use Rattle.chain_model.specs.Requests.{Response, Committed, Shows, Opened, Closed, Refused}
+use Rattle.chain_model.specs.System.{SystemEvent as ModelEvent, SystemState, Outcome, outcome}
+use Rattle.chain_model.specs.System.{outcomes, state_after}
 use Rattle.chain_core.specs.States.{Machine}
 use Rattle.lab.specs.declared.event.Event.{Event}
 use Rattle.lab.specs.declared.event.EventKind.{EventKind}
 use Rattle.lab.specs.declared.event.EventKind.TheVariants.{Submit, Get, Deliver, Tick, Start, Stop}
 use Rattle.lab.specs.declared.report.Line.{Line}
 use Rattle.lab.specs.declared.report.Line.TheVariants.{Stopped}
-use Rattle.lab.specs.Events.{modelled, lines_of_event, lines_at, lines_if, dropped_lines, if_started}
+use Rattle.lab.specs.Events.{modelled, lines_of_event, lines_at, lines_if, dropped_lines}
+use Rattle.lab.specs.Events.{if_started}
 use Rattle.lab.specs.Events.{start_trace, frame_lines, reply_line, reply_lines, reported_cause}
 use Rattle.lab.specs.SimNodes.{Choice}
 use Rattle.lab.specs.Traces.{modelled_from, lines_from}
@@ -53,15 +55,15 @@ numbered_same i (event ∷ events) (ch ∷ chs) = one event.kind (numbered_same 
 -- the model's events submit what the events submit
 pub submitted_same : (i : ℕ) (events : List Event) (chs : List Choice) →
     length chs ≡ length events →
-    handed_in i (modelled_from i events chs) ≡ submitted_from i events
+    submitted i (modelled_from i events chs) ≡ submitted_from i events
 submitted_same i [] chs same = refl
 submitted_same i (event ∷ events) [] same = absurd (omega arith)
 submitted_same i (event ∷ events) (ch ∷ chs) same = one event.kind
     (submitted_same (suc i) events chs (omega arith))
   where
     one : (kind : EventKind) →
-        handed_in (suc i) (modelled_from (suc i) events chs) ≡ submitted_from (suc i) events
-        → handed_in i (modelled i kind ch ∷ modelled_from (suc i) events chs) ≡ submitted_from i
+        submitted (suc i) (modelled_from (suc i) events chs) ≡ submitted_from (suc i) events
+        → submitted i (modelled i kind ch ∷ modelled_from (suc i) events chs) ≡ submitted_from i
         (record { kind = kind; fault = event.fault } ∷ events)
     one (Submit x batch) later = ap (λ (l : List Placed). (i, batch) ∷ l) later
     one (Get x key at) later = later
@@ -102,7 +104,7 @@ module _ (B : List Placed) (kind : EventKind) where
   if_start None (Some at) = (tt, tt)
   if_start (Some why) at = tt
 
-  sent : (n : ℕ) (frames : List (Frame BatchContent)) → Each (frame_lines n frames)
+  sent : (n : ℕ) (frames : List (Message BatchContent)) → Each (frame_lines n frames)
   sent n [] = tt
   sent n (Forward to epoch from number batch ∷ frames) = (tt, sent (suc n) frames)
   sent n (Ack to epoch from committed have ∷ frames) = (tt, sent (suc n) frames)
@@ -113,12 +115,12 @@ starts B (Submit x batch) o = tt
 starts B (Get x key at) o = tt
 starts B (Deliver p) o = tt
 starts B (Tick x) o = tt
-starts B (Start x) o = if_start B (Start x) o.dropped o.came_to
+starts B (Start x) o = if_start B (Start x) o.dropped o.acted_on
 starts B (Stop x junk) o = tt
 
 -- a read's reply speaks of B where the model's does
 shown : (B : List Placed) (kind : EventKind) (i s : ℕ) (l : List BatchContent) →
-    Agrees B (Shows i s l) → Each B kind (reply_line kind (Shows i s l))
+    ResponseAgrees B (Shows i s l) → Each B kind (reply_line kind (Shows i s l))
 shown B (Submit x batch) i s l agrees = tt
 shown B (Get x key at) i s l agrees =
     ((agrees.0, ap (λ (m : List BatchContent). map_of m key) agrees.1), tt)
@@ -128,7 +130,7 @@ shown B (Start x) i s l agrees = tt
 shown B (Stop x junk) i s l agrees = tt
 
 -- a reply speaks of B where the model's does
-speaks : (B : List Placed) (kind : EventKind) (r : Reply BatchContent) → Agrees B r →
+speaks : (B : List Placed) (kind : EventKind) (r : Response BatchContent) → ResponseAgrees B r →
     Each B kind (reply_line kind r)
 speaks B kind (Committed i n) agrees = (agrees, tt)
 speaks B kind (Shows i s l) agrees = shown B kind i s l agrees
@@ -136,8 +138,8 @@ speaks B kind (Opened i s) agrees = tt
 speaks B kind (Closed i s) agrees = tt
 speaks B kind (Refused i why) agrees = (tt, tt)
 
-replied : (B : List Placed) (kind : EventKind) (replies : List (Reply BatchContent)) →
-    AllByRecursion (Agrees B) replies → Each B kind (reply_lines kind replies)
+replied : (B : List Placed) (kind : EventKind) (replies : List (Response BatchContent)) →
+    AllByRecursion (ResponseAgrees B) replies → Each B kind (reply_lines kind replies)
 replied B kind [] agree = tt
 replied B kind (r ∷ replies) agree =
     both (LineSpeaksOf B kind) (reply_line kind r) (reply_lines kind replies)
@@ -145,7 +147,7 @@ replied B kind (r ∷ replies) agree =
 
 -- the lines of an event at a node speak of B where the replies of its outcome do
 lines_speak_at : (B : List Placed) (x n : ℕ) (kind : EventKind) (choice : Choice)
-    (o : Outcome BatchContent) → AllByRecursion (Agrees B) o.replies →
+    (o : Outcome BatchContent) → AllByRecursion (ResponseAgrees B) o.replies →
     Each B kind (lines_at x n kind choice o)
 lines_speak_at B x n kind choice o agree =
     let Of = LineSpeaksOf B kind in
@@ -162,15 +164,15 @@ lines_speak_at B x n kind choice o agree =
 -- so do the lines of an event that was for none
 lines_speak : (B : List Placed) (at : Option (ℕ × Machine)) (n : ℕ) (kind : EventKind)
     (choice : Choice)
-    (o : Outcome BatchContent) → AllByRecursion (Agrees B) o.replies →
+    (o : Outcome BatchContent) → AllByRecursion (ResponseAgrees B) o.replies →
     Each B kind (lines_if at n kind choice o)
 lines_speak B None n kind choice o agree = (tt, tt)
 lines_speak B (Some at) n kind choice o agree = lines_speak_at B at.0 n kind choice o agree
 
 -- .. and so do those of all events
 pub all_speak : (B : List Placed) (cs : Configurations) (i : ℕ) (events : List Event)
-    (chs : List Choice) (w : World BatchContent) → length chs ≡ length events
-    → AllByRecursion (Agrees B) (flat_map (λ (o : Outcome BatchContent). o.replies)
+    (chs : List Choice) (w : SystemState BatchContent) → length chs ≡ length events
+    → AllByRecursion (ResponseAgrees B) (flat_map (λ (o : Outcome BatchContent). o.replies)
     (outcomes cs (modelled_from i events chs) w))
     → AllZip (StepSpeaksOf B) events (lines_from cs i events chs w)
 all_speak B cs i [] chs w same agree = tt
@@ -180,10 +182,10 @@ all_speak B cs i (event ∷ events) (ch ∷ chs) w same agree =
     let o = outcome w cs e in
     let n = length w.frames in
     let later = flat_map (λ (p : Outcome BatchContent). p.replies)
-    (outcomes cs (modelled_from (suc i) events chs) (happens cs w e)) in (
+    (outcomes cs (modelled_from (suc i) events chs) (state_after cs w e)) in (
       All-from_recursion (LineSpeaksOf B event.kind) (lines_of_event n event.kind ch o)
-          (lines_speak B o.came_to n event.kind ch o
-          (front (Agrees B) o.replies later agree)),
-      all_speak B cs (suc i) events chs (happens cs w e) (omega arith)
-          (back (Agrees B) o.replies later agree),
+          (lines_speak B o.acted_on n event.kind ch o
+          (front (ResponseAgrees B) o.replies later agree)),
+      all_speak B cs (suc i) events chs (state_after cs w e) (omega arith)
+          (back (ResponseAgrees B) o.replies later agree),
     )

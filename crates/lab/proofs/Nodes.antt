@@ -8,7 +8,7 @@ use Rattle.std.proofs.lemmas.List.{map-append, take_more}
 use Rattle.std.proofs.lemmas.List.Elements.{All-push, recursion_from_All, All-from_recursion}
 use Rattle.disk.specs.Memory.{Slots}
 use Rattle.chain_model.specs.Configuration.{Configurations, Lawful, AllDifferent, has, at_epoch}
-use Rattle.chain_model.specs.Node.{created}
+use Rattle.chain_model.specs.Machine.{created}
 use Rattle.chain_core.specs.States.{Machine}
 use Rattle.lab.specs.declared.report.NodeReport.{NodeReport}
 use Rattle.lab.specs.declared.sim_node.SimNode.{SimNode}

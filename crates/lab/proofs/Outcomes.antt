@@ -9,12 +9,13 @@ use Rattle.kv_types.specs.Content.{BatchContent}
 use Rattle.disk.specs.Memory.{Slots}
 use Rattle.chain_model.specs.Configuration.{Configurations}
 use Rattle.chain_model.specs.declared.drop_reason.DropReason.{DropReason}
-use Rattle.chain_model.specs.Frames as model_frame
-use Rattle.chain_model.specs.Frames.{Frame as ModelFrame, addressee}
+use Rattle.chain_model.specs.Messages as model_frame
+use Rattle.chain_model.specs.Messages.{Message as ModelFrame, addressee}
 use Rattle.chain_model.specs.Requests as request
-use Rattle.chain_model.specs.Node.{Answer, dropped_for, stopped}
-use Rattle.chain_model.specs.World.{World, Outcome, Went, Answered, StoppedBefore, StoppedAfter}
-use Rattle.chain_model.specs.World.{outcome, answers, stops, as_it_went}
+use Rattle.chain_model.specs.Machine.{Answer, dropped_for, stopped}
+use Rattle.chain_model.specs.System.{SystemState, Outcome, StepResult, Answered, StoppedBefore}
+use Rattle.chain_model.specs.System.{StoppedAfter}
+use Rattle.chain_model.specs.System.{outcome, answers, stops, as_completed}
 use Rattle.link_messages.specs.declared.frame.Frame.{Frame}
 use Rattle.link_messages.specs.declared.frame.Frame.TheVariants as frame
 use Rattle.chain_core.specs.declared.input.Input.{Input}
@@ -26,8 +27,8 @@ use Rattle.node.specs.declared.output.Output.{Output}
 use Rattle.node.specs.declared.output.Reply.{Reply}
 use Rattle.node.specs.declared.stop.Stop.{Stop as Cause}
 use Rattle.node.specs.declared.stop.Stop.TheVariants.{Disk}
-use Rattle.node.specs.Steps.{replies_of, told_as}
-use Rattle.node.specs.Stops.{IsOfMachine}
+use Rattle.node.specs.Steps.{replies_of, replies_to_response}
+use Rattle.node.specs.Stops.{IsEnvironmental}
 use Rattle.lab.specs.declared.input.StepOutcome.{StepOutcome}
 use Rattle.lab.specs.declared.input.StepOutcome.TheVariants as done
 use Rattle.lab.specs.declared.event.EventKind.{EventKind}
@@ -112,7 +113,8 @@ counts_replies (reply ∷ replies) = omega (arith, counts_replies replies)
 
 -- a node that stops by itself stops for its device or for memory
 abbrev pub CauseFits : EventKind → Choice → Outcome BatchContent → Type 0
-CauseFits kind choice o = o.stopped ≡ true → IfSome (reported_cause kind choice.cause) IsOfMachine
+CauseFits kind choice o = o.stopped ≡ true → IfSome (reported_cause kind choice.cause)
+    IsEnvironmental
 
 -- the node stopped where its doing says so, with the cause that was chosen
 abbrev pub StopsSo : EventKind → Choice → StepOutcome → Bool → Type 0
@@ -122,11 +124,12 @@ StopsSo kind choice (done.Stopped traced) stopped =
     (stopped ≡ true) × (reported_cause kind choice.cause ≡ traced)
 
 -- an event's outcome with its lines: the node that it was for, and the state of that node now
-pub record IsOutcome (cs : Configurations) (w : World BatchContent) (i x : ℕ) (kind : EventKind)
+pub record IsOutcome (cs : Configurations) (w : SystemState BatchContent) (i x : ℕ)
+    (kind : EventKind)
     (new : NodeState Slots) (did : StepOutcome) : Type 0 where
   pub choice : Choice
   pub node : Machine
-  pub came : (outcome w cs (modelled i kind choice)).came_to ≡ Some (x, node)
+  pub came : (outcome w cs (modelled i kind choice)).acted_on ≡ Some (x, node)
   pub is : StateRefines is_honest state new x node
   pub frames : AreFrames (sent_by did) (outcome w cs (modelled i kind choice)).frames
   pub traced : (n : ℕ) → outcome_lines x n did
@@ -146,15 +149,15 @@ pub record IsTraced (x : ℕ) (kind : EventKind) (choice : Choice) (did : StepOu
   pub fits : CauseFits kind choice o
   pub ends : StopsSo kind choice did o.stopped
 
-abbrev pub chosen : Went → Cause → Choice
+abbrev pub chosen : StepResult → Cause → Choice
 chosen went cause = record { went = went; cause = cause }
 
-module _ (cs : Configurations) (w : World BatchContent) (i x : ℕ) (kind : EventKind)
+module _ (cs : Configurations) (w : SystemState BatchContent) (i x : ℕ) (kind : EventKind)
     (new : NodeState Slots)
     (did : StepOutcome) where
   -- with this choice the outcome is this one
   pub as_chosen : (choice : Choice) (o : Outcome BatchContent) (n : Machine) →
-      outcome w cs (modelled i kind choice) ≡ o → o.came_to ≡ Some (x, n) →
+      outcome w cs (modelled i kind choice) ≡ o → o.acted_on ≡ Some (x, n) →
       StateRefines is_honest state new x n →
       IsTraced x kind choice did o → IsOutcome cs w i x kind new did
   as_chosen choice o n is_o came is tells =
@@ -163,7 +166,7 @@ module _ (cs : Configurations) (w : World BatchContent) (i x : ℕ) (kind : Even
       record {
         choice = choice;
         node = n;
-        came = ap (λ (p : Outcome BatchContent). p.came_to) is_o ∙ came;
+        came = ap (λ (p : Outcome BatchContent). p.acted_on) is_o ∙ came;
         is = is;
         frames = all.frames;
         traced = all.traced;
@@ -221,13 +224,13 @@ module _ (x : ℕ) (kind : EventKind) (inp : Input) (choice : Choice) (a : Answe
 -- a stop has a line with its cause
 pub stop_traced : (x : ℕ) (kind : EventKind) (choice : Choice) (traced : Option Cause)
     (n : Machine) →
-    reported_cause kind choice.cause ≡ traced → IfSome traced IsOfMachine →
+    reported_cause kind choice.cause ≡ traced → IfSome traced IsEnvironmental →
     IsTraced x kind choice (done.Stopped traced) (stops x n)
 stop_traced x kind choice traced n is of_machine = record {
   frames = refl;
   traced = λ m. ap (λ (c : Option Cause). line.Stopped x c ∷ []) (sym is);
   counted = λ m. refl;
-  fits = λ stops. subst (λ (c : Option Cause). IfSome c IsOfMachine) (sym is) of_machine;
+  fits = λ stops. subst (λ (c : Option Cause). IfSome c IsEnvironmental) (sym is) of_machine;
   ends = (refl, is);
 }
 
@@ -246,27 +249,30 @@ dropped_linesd x kind choice n why output is starts =
 -- ---- inputs
 
 -- replies have the same lines in the model and at the node
-shows_so : (inp : Input) (kind : EventKind) (replies : List (request.Reply BatchContent)) →
-    ((r : request.Reply BatchContent) → reply_line kind r
-    ≡ map (λ reply. line.Replied reply) (told_as inp r)) →
+shows_so : (inp : Input) (kind : EventKind) (replies : List (request.Response BatchContent)) →
+    ((r : request.Response BatchContent) → reply_line kind r
+    ≡ map (λ reply. line.Replied reply) (replies_to_response inp r)) →
     reply_lines kind replies ≡ map (λ reply. line.Replied reply) (replies_of inp replies)
 shows_so inp kind [] each = refl
 shows_so inp kind (r ∷ replies) each =
     ap₂ (λ (a b : List Line). a ++ b) (each r) (shows_so inp kind replies each)
-    ∙ sym (map-append (λ reply. line.Replied reply) (told_as inp r) (replies_of inp replies))
+    ∙ sym (map-append (λ reply. line.Replied reply) (replies_to_response inp r)
+        (replies_of inp replies))
 
 -- an input, as the model has it
-module _ (cs : Configurations) (w : World BatchContent) (i x : ℕ) (kind : EventKind) (inp : Input)
+module _ (cs : Configurations) (w : SystemState BatchContent) (i x : ℕ) (kind : EventKind)
+    (inp : Input)
     (new : NodeState Slots) (did : StepOutcome)
     (at : (choice : Choice) → outcome w cs (modelled i kind choice)
-    ≡ cond (w.nodes x).running (as_it_went x (w.nodes x) (answer_to x (w.nodes x) inp) choice.went)
+    ≡ cond (w.nodes x).running
+        (as_completed x (w.nodes x) (answer_to x (w.nodes x) inp) choice.went)
     (answers x (down_answer (w.nodes x) inp)))
     (causes : (cause : Cause) → reported_cause kind cause ≡ Some cause)
     (starts : (o : Outcome BatchContent) → start_trace kind o ≡ [])
-    (replies : (r : request.Reply BatchContent) → reply_line kind r
-    ≡ map (λ reply. line.Replied reply) (told_as inp r)) where
+    (replies : (r : request.Response BatchContent) → reply_line kind r
+    ≡ map (λ reply. line.Replied reply) (replies_to_response inp r)) where
   runs : (choice : Choice) → (w.nodes x).running ≡ true → outcome w cs (modelled i kind choice)
-      ≡ as_it_went x (w.nodes x) (answer_to x (w.nodes x) inp) choice.went
+      ≡ as_completed x (w.nodes x) (answer_to x (w.nodes x) inp) choice.went
   runs choice up = at choice ∙ cond-true _ _ _ up
 
   rests : (choice : Choice) → (w.nodes x).running ≡ false → outcome w cs (modelled i kind choice)
@@ -282,7 +288,7 @@ module _ (cs : Configurations) (w : World BatchContent) (i x : ℕ) (kind : Even
       (answer_traced x kind inp (chosen Answered Disk) a traced.0 traced.2 (starts (answers x a))
       (shows_so inp kind a.replies replies))
 
-  ends : (went : Went) (cause : Cause) (n : Machine) → IsOfMachine cause →
+  ends : (went : StepResult) (cause : Cause) (n : Machine) → IsEnvironmental cause →
       did ≡ done.Stopped (Some cause) → IsTraced x kind (chosen went cause) did (stops x n)
   ends went cause n of_machine is =
       subst (λ (d : StepOutcome). IsTraced x kind (chosen went cause) d (stops x n)) (sym is)

@@ -8,7 +8,7 @@ use Rattle.std.proofs.lemmas.Option.{get_or_from_slice_get}
 use Rattle.std.proofs.lemmas.List.Elements.{All-get_or}
 use Rattle.kv_types.specs.Content.{BatchContent}
 use Rattle.chain_model.specs.Lists.{place}
-use Rattle.chain_model.specs.Frames.{Frame as ModelFrame}
+use Rattle.chain_model.specs.Messages.{Message as ModelFrame}
 use Rattle.lab.specs.declared.delivery.Posted.{Posted}
 use Rattle.lab.specs.Worlds.{PostedRefines}
 

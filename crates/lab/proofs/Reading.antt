@@ -4,29 +4,29 @@ use Rattle.std.proofs.Common.{refl, sym, append-nil}
 use Rattle.link_messages.specs.declared.error.FrameError.{FrameError}
 use Rattle.link_messages.specs.declared.error.FrameError.TheVariants as fault
 use Rattle.link_messages.specs.declared.frame.Frame.{Frame}
-use Rattle.link_messages.specs.Spelling.{IsFrame, spelling}
-use Rattle.link_messages.specs.Stream.{Answers, OneAnswer}
+use Rattle.link_messages.specs.Spelling.{IsFrame, frame_bytes}
+use Rattle.link_messages.specs.Stream.{NextOutcome, OneAnswer}
 
 -- of a frame's spelling the answer is that frame, or there was no memory
 pub read_again : OneAnswer → (answer : Result (Option Frame) FrameError) (it : Frame)
-    (left : List ℕ) → IsFrame it → Answers answer (spelling it) left →
+    (left : List ℕ) → IsFrame it → NextOutcome answer (frame_bytes it) left →
     (answer ≡ Ok (Some it)) ⊎ (answer ≡ Err fault.Memory)
 read_again one (Ok (Some f)) it left is says =
-    inl (one (Ok (Some f)) (Ok (Some it)) (spelling it) left [] says
-    (is, sym (append-nil (spelling it)))).0
+    inl (one (Ok (Some f)) (Ok (Some it)) (frame_bytes it) left [] says
+    (is, sym (append-nil (frame_bytes it)))).0
 read_again one (Ok None) it left is says =
-    inl (one (Ok None) (Ok (Some it)) (spelling it) left [] says
-    (is, sym (append-nil (spelling it)))).0
+    inl (one (Ok None) (Ok (Some it)) (frame_bytes it) left [] says
+    (is, sym (append-nil (frame_bytes it)))).0
 read_again one (Err fault.Memory) it left is says = inr refl
 read_again one (Err fault.TooLong) it left is says =
-    inl (one (Err fault.TooLong) (Ok (Some it)) (spelling it) left [] says
-    (is, sym (append-nil (spelling it)))).0
+    inl (one (Err fault.TooLong) (Ok (Some it)) (frame_bytes it) left [] says
+    (is, sym (append-nil (frame_bytes it)))).0
 read_again one (Err fault.BadKind) it left is says =
-    inl (one (Err fault.BadKind) (Ok (Some it)) (spelling it) left [] says
-    (is, sym (append-nil (spelling it)))).0
+    inl (one (Err fault.BadKind) (Ok (Some it)) (frame_bytes it) left [] says
+    (is, sym (append-nil (frame_bytes it)))).0
 read_again one (Err fault.BadField) it left is says =
-    inl (one (Err fault.BadField) (Ok (Some it)) (spelling it) left [] says
-    (is, sym (append-nil (spelling it)))).0
+    inl (one (Err fault.BadField) (Ok (Some it)) (frame_bytes it) left [] says
+    (is, sym (append-nil (frame_bytes it)))).0
 read_again one (Err fault.Trailing) it left is says =
-    inl (one (Err fault.Trailing) (Ok (Some it)) (spelling it) left [] says
-    (is, sym (append-nil (spelling it)))).0
+    inl (one (Err fault.Trailing) (Ok (Some it)) (frame_bytes it) left [] says
+    (is, sym (append-nil (frame_bytes it)))).0

@@ -5,17 +5,18 @@ use Rattle.std.specs.List.{AllZip, flat_map}
 use Rattle.std.proofs.lemmas.List.Elements.{All-weaker, recursion_from_All}
 use Rattle.kv_types.specs.Content.{BatchContent}
 use Rattle.disk.specs.Memory.{Slots}
-use Rattle.disk.specs.State.{State}
+use Rattle.disk.specs.States.{State}
 use Rattle.chain_model.specs.Configuration.{Configurations, has, last_of}
-use Rattle.chain_model.specs.Headline.{Agrees, OneList, batches}
-use Rattle.chain_model.specs.Lists.{Part, Begins}
-use Rattle.chain_model.specs.Outcomes.{MadeOfOutcomes}
-use Rattle.chain_model.specs.Requests.{Reply}
-use Rattle.chain_model.specs.World.{Outcome, Event as ModelEvent, outcomes, beginning, reached}
-use Rattle.chain_model.specs.World.{node_of}
+use Rattle.chain_model.specs.Headline.{ResponseAgrees, OneList, batches}
+use Rattle.chain_model.specs.Lists.{Part, IsPrefix}
+use Rattle.chain_model.specs.Outcomes.{RunIsOutcomes}
+use Rattle.chain_model.specs.Requests.{Response}
+use Rattle.chain_model.specs.System.{Outcome, SystemEvent as ModelEvent, outcomes, first_state}
+use Rattle.chain_model.specs.System.{reached}
+use Rattle.chain_model.specs.System.{node_of}
 use Rattle.chain_core.specs.States.{Machine}
 use Rattle.node.specs.declared.node.Node.{Node}
-use Rattle.node.specs.Steps.{Runs, AlwaysRests, disk_of}
+use Rattle.node.specs.Steps.{NodeRefines, DiskAlwaysRefines, disk_of}
 use Rattle.lab.specs.declared.event.Event.{Event}
 use Rattle.lab.specs.declared.node_state.NodeState.{NodeState}
 use Rattle.lab.specs.declared.node_state.NodeState.TheVariants.{Up, Down}
@@ -38,26 +39,28 @@ pub one_of : {D N : Type 0} (state : D → State) (failures : D → ℕ) (id : N
     (nodes : List N) → IsTrace cs events choices steps →
     HaveDisks state failures id disk cs events choices nodes →
     OneList cs (modelled_from 1 events choices) →
-    MadeOfOutcomes cs (modelled_from 1 events choices) →
+    RunIsOutcomes cs (modelled_from 1 events choices) →
     IsHistory state id disk cs events steps nodes
 one_of state failures id disk cs events choices steps nodes trace disks one made =
     let es = modelled_from 1 events choices in
     let same = numbered_same 1 events choices in
-    let agrees = subst (λ (l : List (ModelEvent BatchContent)). All (Agrees one.B)
+    let agrees = subst (λ (l : List (ModelEvent BatchContent)). All (ResponseAgrees one.B)
     (reached cs l).replies) same one.agrees in
-    let joined = flat_map (λ (o : Outcome BatchContent). o.replies) (outcomes cs es (beginning cs))
+    let joined = flat_map (λ (o : Outcome BatchContent). o.replies)
+        (outcomes cs es (first_state cs))
     in
-    let replies = recursion_from_All (Agrees one.B) joined
-    (subst (λ (l : List (Reply BatchContent)). All (Agrees one.B) l) made.replies agrees) in
+    let replies = recursion_from_All (ResponseAgrees one.B) joined
+    (subst (λ (l : List (Response BatchContent)). All (ResponseAgrees one.B) l) made.replies agrees)
+        in
     let begins = subst (λ (l : List (ModelEvent BatchContent)). (x : ℕ) → has (last_of cs) x ≡ true
-    → Begins (batches one.B) (node_of cs l x).list) same one.stands in
+    → IsPrefix (batches one.B) (node_of cs l x).list) same one.stands in
     record {
       B = one.B;
       taken = subst (λ (l : List Placed). Part one.B l)
           (submitted_same 1 events choices trace.one_each) one.taken;
       speaks = subst (λ (l : List (List Line)). AllZip (StepSpeaksOf one.B) events l)
           (sym trace.traced)
-          (all_speak one.B cs 1 events choices (beginning cs) trace.one_each replies);
+          (all_speak one.B cs 1 events choices (first_state cs) trace.one_each replies);
       stands = All-weaker
           (λ node. IsDiskOf state (id node) (node_of cs es (id node)) (disk node)
           (disks.disks (id node)))
@@ -101,8 +104,9 @@ module _ (sims : List SimNode) (posted : List Posted) (cs : Configurations) (eve
       }
 
   -- and the disks of its nodes are those that its run left so far
-  pub disks_so_far : ((node : Node Slots) (x : ℕ) (n : Machine) → Runs is_honest state node x n →
-      AlwaysRests (state (disk_of node)) x n) →
+  pub disks_so_far : ((node : Node Slots) (x : ℕ) (n : Machine) → NodeRefines is_honest state node x
+      n →
+      DiskAlwaysRefines (state (disk_of node)) x n) →
       HaveDisks state failures (λ (sim : SimNode). sim.id) (λ (sim : SimNode). disk_in sim.state) cs
       events made.choices sims
   disks_so_far law =
@@ -122,6 +126,6 @@ module _ (sims : List SimNode) (posted : List Posted) (cs : Configurations) (eve
     where
       stands : (new : NodeState Slots) (x : ℕ) (n : Machine) →
           StateRefines is_honest state new x n →
-          AlwaysRests (state (disk_in new)) x n
+          DiskAlwaysRefines (state (disk_in new)) x n
       stands (Up node) x n is = law node x n is
       stands (Down disk) x n is = is.1

@@ -7,7 +7,7 @@ use Rattle.std.proofs.lemmas.Bool.{cond_both, cond-true, cond-false, false≢tru
 use Rattle.std.proofs.lemmas.List.Elements.{recursion_from_All}
 use Rattle.kv_types.specs.Content.{BatchContent}
 use Rattle.chain_model.specs.Configuration.{has, AllDifferent}
-use Rattle.chain_model.specs.World.{World, Outcome, after}
+use Rattle.chain_model.specs.System.{SystemState, Outcome, after}
 use Rattle.chain_core.specs.States.{Machine}
 use Rattle.lab.specs.declared.sim_node.SimNode.{SimNode}
 use Rattle.disk.specs.Memory.{Slots}
@@ -42,9 +42,9 @@ has_at (s ∷ sims) (suc k) d within =
     (λ b. b ≡ true) (λ same. refl) (λ other. has_at sims k d (omega arith))
 
 -- an event was for node x, which is n after it and has this disk
-module _ (w : World BatchContent) (disks : ℕ → Slots) (o : Outcome BatchContent) (x : ℕ)
+module _ (w : SystemState BatchContent) (disks : ℕ → Slots) (o : Outcome BatchContent) (x : ℕ)
     (n : Machine)
-    (own : Slots) (came : o.came_to ≡ Some (x, n)) where
+    (own : Slots) (came : o.acted_on ≡ Some (x, n)) where
   -- the disks then
   abbrev now_disks : ℕ → Slots
   now_disks = with_disk disks x own

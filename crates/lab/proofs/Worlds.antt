@@ -16,11 +16,12 @@ use Rattle.disk.specs.declared.junk.Junk.{Junk}
 use Rattle.disk.specs.Memory.{Slots}
 use Rattle.chain_model.specs.Configuration.{Configurations, Lawful, AllDifferent, has}
 use Rattle.chain_model.specs.Configuration.{at_epoch}
-use Rattle.chain_model.specs.Frames.{Frame as ModelFrame}
-use Rattle.chain_model.specs.InOrder.{InOrder}
-use Rattle.chain_model.specs.World.{Event as ModelEvent, World, Outcome, Answered, reached}
-use Rattle.chain_model.specs.World.{beginning}
-use Rattle.chain_model.specs.World.{outcome, happens, after, nothing}
+use Rattle.chain_model.specs.Messages.{Message as ModelFrame}
+use Rattle.chain_model.specs.Order.{InOrder}
+use Rattle.chain_model.specs.System.{SystemEvent as ModelEvent, SystemState, Outcome, Answered}
+use Rattle.chain_model.specs.System.{reached}
+use Rattle.chain_model.specs.System.{first_state}
+use Rattle.chain_model.specs.System.{outcome, state_after, after, nothing}
 use Rattle.node.specs.declared.node.Node.{Node}
 use Rattle.node.specs.declared.stop.Stop.TheVariants.{Disk}
 use Rattle.node.specs.Steps.{disk_of}
@@ -137,7 +138,7 @@ module _ (in_order : AlwaysInOrder) (cs : Configurations) (events : List Event)
     (made : RunRefines sims posted cs events steps) (i : ℕ) (next : IsNext events i)
     (event : Event) where
   -- the world of the model so far
-  abbrev pub w : World BatchContent
+  abbrev pub w : SystemState BatchContent
   w = reached cs (modelled_from 1 events made.choices)
 
   -- what the event sends is numbered
@@ -145,10 +146,10 @@ module _ (in_order : AlwaysInOrder) (cs : Configurations) (events : List Event)
       AllByRecursion IsNumbered (outcome w cs (modelled i event.kind choice)).frames
   sent_numbered choice =
       let more = modelled_from 1 (events ++ event ∷ []) (made.choices ++ choice ∷ []) in
-      let here = run-push cs event choice 1 i events made.choices (beginning cs)
+      let here = run-push cs event choice 1 i events made.choices (first_state cs)
       made.trace.one_each (omega (arith, next.at)) in
       back IsNumbered w.frames (outcome w cs (modelled i event.kind choice)).frames
-      (subst (λ (v : World BatchContent). AllByRecursion IsNumbered v.frames) here
+      (subst (λ (v : SystemState BatchContent). AllByRecursion IsNumbered v.frames) here
       (all_numbered cs more (in_order cs more made.lawful)))
 
   -- the world has the node that an event is for
@@ -222,7 +223,7 @@ module _ (in_order : AlwaysInOrder) (cs : Configurations) (events : List Event)
             out.ends left);
         few = few_more made.disks x own (length events) i next.at made.few
             (at_most_one (junk_of event.kind) t.did (made.disks x) sim.state left may);
-        each = subst (λ (l : List SimNode). All (SimNodeRefines (happens cs w
+        each = subst (λ (l : List SimNode). All (SimNodeRefines (state_after cs w
             (modelled i event.kind out.choice)).nodes (with_disk made.disks x own)) l)
             (sym t.others)
             (All-from_recursion (SimNodeRefines (after w o).nodes (with_disk made.disks x own))
@@ -283,7 +284,7 @@ module _ (in_order : AlwaysInOrder) (cs : Configurations) (events : List Event)
   nothing_next brings =
       let choice : Choice = record { went = Answered; cause = Disk } in
       let none = nothing_done cs w i event.kind choice brings in
-      let same : after w nothing ≡ happens cs w (modelled i event.kind choice) =
+      let same : after w nothing ≡ state_after cs w (modelled i event.kind choice) =
       ap (after w) (sym none) in
       grown cs events steps sims posted made i event choice sims posted (Nothing ∷ []) next.at
       (record {
@@ -293,15 +294,16 @@ module _ (in_order : AlwaysInOrder) (cs : Configurations) (events : List Event)
               (ap (λ (o : Outcome BatchContent). o.stopped) (sym none) ∙ stops));
         };
         counted = ap (λ (o : Outcome BatchContent). length o.frames) (sym none);
-        frames = subst (λ (v : World BatchContent). AllZip PostedRefines posted v.frames) same
+        frames = subst (λ (v : SystemState BatchContent). AllZip PostedRefines posted v.frames) same
             (subst (λ (l : List (ModelFrame BatchContent)). AllZip PostedRefines posted l)
             (sym (append-nil w.frames)) made.frames);
         nodes = made.nodes;
         disks = made.disks;
         follow = none_follow event choice (outcome w cs (modelled i event.kind choice)) made.disks
-            (ap (λ (o : Outcome BatchContent). o.came_to) none);
+            (ap (λ (o : Outcome BatchContent). o.acted_on) none);
         few = λ x. omega (arith, made.few x, next.at);
-        each = subst (λ (v : World BatchContent). All (SimNodeRefines v.nodes made.disks) sims) same
+        each = subst (λ (v : SystemState BatchContent). All (SimNodeRefines v.nodes made.disks)
+            sims) same
             made.each;
       })
 

@@ -2,7 +2,7 @@
 use Rattle.std.specs.Prelude.{◌≡◌, ℕ, List, Some, None}
 use Rattle.kv_types.specs.Content.{BatchContent}
 use Rattle.chain_model.specs.Lists.{place}
-use Rattle.chain_model.specs.Frames as model_frame
+use Rattle.chain_model.specs.Messages as model_frame
 use Rattle.link_messages.specs.declared.frame.Frame.{Frame}
 use Rattle.link_messages.specs.declared.frame.Frame.TheVariants as frame
 use Rattle.chain_model.specs.declared.drop_reason.DropReason.TheVariants as reason
@@ -31,16 +31,16 @@ abbrev pub IsPostedAt : List Posted → ℕ → Posted → Type 0
 IsPostedAt frames p posted = place frames p ≡ Some posted
 
 -- the frame in place p is for node x, and is this input to it
-pub record IsDelivered (frames : List (model_frame.Frame BatchContent)) (p x : ℕ)
+pub record IsDelivered (frames : List (model_frame.Message BatchContent)) (p x : ℕ)
     (node_input : NodeInput) : Type 0 where
-  pub frame : model_frame.Frame BatchContent
+  pub frame : model_frame.Message BatchContent
   pub there : place frames p ≡ Some frame
   pub it : Frame
   pub same : frame_as x it ≡ Some frame
   pub is : node_input ≡ input_of it
 
 -- the event in place i delivers this input to node x, after these frames
-abbrev pub IsDeliveryOf : List (model_frame.Frame BatchContent) → ℕ → EventKind → ℕ → NodeInput
+abbrev pub IsDeliveryOf : List (model_frame.Message BatchContent) → ℕ → EventKind → ℕ → NodeInput
     → Type 0
 IsDeliveryOf frames i (Submit node batch) x node_input =
     (x ≡ node) × (node_input ≡ to_node.Step (input.Submit i batch))
@@ -52,5 +52,5 @@ IsDeliveryOf frames i (Start node) x node_input = (x ≡ node) × (node_input �
 IsDeliveryOf frames i (Stop node junk) x node_input = (x ≡ node) × (node_input ≡ to_node.Stop junk)
 
 -- the event delivers a frame, and no frame has its place
-abbrev pub HasNoDelivery : List (model_frame.Frame BatchContent) → EventKind → Type 0
+abbrev pub HasNoDelivery : List (model_frame.Message BatchContent) → EventKind → Type 0
 HasNoDelivery frames kind = (p : ℕ) × (kind ≡ Deliver p) × HasNoFrame frames p

@@ -4,14 +4,14 @@ use Rattle.std.specs.Prelude.{All}
 use Rattle.kv_types.specs.Content.{BatchContent}
 use Rattle.disk.specs.declared.junk.Junk.{Junk}
 use Rattle.disk.specs.declared.junk.Junk.TheVariants.{Old}
-use Rattle.disk.specs.Crashes.{Crashes}
-use Rattle.disk.specs.State.{State}
+use Rattle.disk.specs.Crashes.{CrashOutcome}
+use Rattle.disk.specs.States.{State}
 use Rattle.chain_model.specs.Configuration.{Configurations, at_epoch}
-use Rattle.chain_model.specs.World as model
+use Rattle.chain_model.specs.System as model
 use Rattle.chain_core.specs.States.{Machine}
 use Rattle.node.specs.declared.stop.Stop.{Stop as Cause}
 use Rattle.node.specs.declared.stop.Stop.TheVariants.{Disk}
-use Rattle.node.specs.Steps.{AlwaysRests}
+use Rattle.node.specs.Steps.{DiskAlwaysRefines}
 use Rattle.lab.specs.declared.event.Event.{Event}
 use Rattle.lab.specs.declared.event.EventKind.{EventKind}
 use Rattle.lab.specs.declared.event.EventKind.TheVariants.{Submit, Get, Deliver, Tick, Start, Stop}
@@ -31,7 +31,7 @@ junk_of (Start node) = None
 -- a disk crashed with this junk, and none of its calls failed
 pub record IsCrashOf {D : Type 0} (state : D → State) (failures : D → ℕ) (junk : Junk) (old new : D)
     : Type 0 where
-  pub crashes : Crashes junk (state old) (state new)
+  pub crashes : CrashOutcome junk (state old) (state new)
   pub count : failures new ≡ failures old
 
 -- A node stopped by itself. If it stopped for the disk, one call of that failed, else none; and
@@ -41,7 +41,7 @@ pub record IsEndOf {D : Type 0} (state : D → State) (failures : D → ℕ) (ca
   pub failed : cause ≡ Disk → failures new ≡ failures old + 1
   pub others : (cause ≡ Disk → ⊥) → failures new ≡ failures old
   pub left : State
-  pub crashes : Crashes Old left (state new)
+  pub crashes : CrashOutcome Old left (state new)
 
 -- a node stopped: its disk crashed with the junk of the event, or else it stopped by itself
 abbrev pub IsStopOf : {D : Type 0} → (D → State) → (D → ℕ) → Option Junk → Cause → D → D → Type 0
@@ -61,13 +61,13 @@ pub record DiskFollows {D : Type 0} (state : D → State) (failures : D → ℕ)
 -- what an event leaves of all disks, by the ids of their nodes
 pub record DisksFollow {D : Type 0} (state : D → State) (failures : D → ℕ) (event : Event)
     (choice : Choice) (o : model.Outcome BatchContent) (old new : ℕ → D) : Type 0 where
-  pub at : (x : ℕ) (n : Machine) → o.came_to ≡ Some (x, n) →
+  pub at : (x : ℕ) (n : Machine) → o.acted_on ≡ Some (x, n) →
       DiskFollows state failures event choice o n (old x) (new x)
-  pub others : (x : ℕ) → ((n : Machine) → o.came_to ≡ Some (x, n) → ⊥) → new x ≡ old x
+  pub others : (x : ℕ) → ((n : Machine) → o.acted_on ≡ Some (x, n) → ⊥) → new x ≡ old x
 
 -- what the events from place i on leave of all disks, one event after another, from a world on
 abbrev pub AllFollow : {D : Type 0} → (D → State) → (D → ℕ) → Configurations → ℕ → List Event
-    → List Choice → model.World BatchContent → (ℕ → D) → (ℕ → D) → Type 0
+    → List Choice → model.SystemState BatchContent → (ℕ → D) → (ℕ → D) → Type 0
 AllFollow state failures cs i [] choices w old new = new ≡ old
 AllFollow state failures cs i (event ∷ events) [] w old new = ⊥
 AllFollow {D} state failures cs i (event ∷ events) (choice ∷ choices) w old new =
@@ -80,14 +80,14 @@ pub record AreDisksAfter {D : Type 0} (state : D → State) (failures : D → �
     (events : List Event) (choices : List Choice) (disks : ℕ → D) : Type 0 where
   pub first : ℕ → D
   pub begun : (x : ℕ) → failures (first x) ≡ 0
-  pub follow : AllFollow state failures cs 1 events choices (model.beginning cs) first disks
+  pub follow : AllFollow state failures cs 1 events choices (model.first_state cs) first disks
 
 -- the node's disk is this one, and represents its machine's whole list, as it reads and whatever a
 -- crash leaves
 pub record IsDiskOf {D : Type 0} (state : D → State) (x : ℕ) (n : Machine) (disk own : D) : Type 0
   where
     pub same : disk ≡ own
-    pub stands : AlwaysRests (state disk) x n
+    pub stands : DiskAlwaysRefines (state disk) x n
 
 -- each node of configuration 0 has the disk that the run leaves
 pub record HaveDisks {D N : Type 0} (state : D → State) (failures : D → ℕ) (id : N → ℕ)

@@ -6,13 +6,13 @@ use Rattle.kv_types.specs.Content.{BatchContent}
 use Rattle.kv_types.specs.Maps.{map_of}
 use Rattle.chain_model.specs.Configuration.{Configurations, has, at_epoch}
 use Rattle.chain_model.specs.declared.drop_reason.DropReason.{DropReason}
-use Rattle.chain_model.specs.Frames as model_frame
+use Rattle.chain_model.specs.Messages as model_frame
 use Rattle.chain_model.specs.Requests as model_request
-use Rattle.chain_model.specs.World as model
+use Rattle.chain_model.specs.System as model
 use Rattle.chain_core.specs.States.{Machine}
 use Rattle.node.specs.declared.stop.Stop.{Stop as Cause}
 use Rattle.node.specs.declared.output.Reply.TheVariants as reply
-use Rattle.node.specs.Stops.{IsOfMachine}
+use Rattle.node.specs.Stops.{IsEnvironmental}
 use Rattle.lab.specs.declared.event.Event.{Event}
 use Rattle.lab.specs.declared.event.EventKind.{EventKind}
 use Rattle.lab.specs.declared.event.EventKind.TheVariants.{Submit, Get, Deliver, Tick, Start, Stop}
@@ -38,7 +38,7 @@ abbrev pub NamesNodes : Configurations → List Event → Type 0
 NamesNodes cs events = All (λ event. NamesNode cs event.kind) events
 
 -- the event in place i, as the model has it, by what was chosen in it
-abbrev pub modelled : ℕ → EventKind → Choice → model.Event BatchContent
+abbrev pub modelled : ℕ → EventKind → Choice → model.SystemEvent BatchContent
 modelled i (Submit node batch) choice =
     model.Ask node i (model_request.Submit batch) choice.went
 modelled i (Get node key at) choice = model.Ask node i (model_request.Read at) choice.went
@@ -62,7 +62,7 @@ if_started None (Some at) = start_line at.0 at.1 ∷ []
 if_started (Some why) at = []
 
 abbrev pub start_trace : EventKind → model.Outcome BatchContent → List Line
-start_trace (Start node) o = if_started o.dropped o.came_to
+start_trace (Start node) o = if_started o.dropped o.acted_on
 start_trace (Submit node batch) o = []
 start_trace (Get node key at) o = []
 start_trace (Deliver place) o = []
@@ -70,14 +70,14 @@ start_trace (Tick node) o = []
 start_trace (Stop node junk) o = []
 
 -- a frame that is sent has a line with its place among all, from 1
-abbrev pub frame_line : ℕ → model_frame.Frame BatchContent → Line
+abbrev pub frame_line : ℕ → model_frame.Message BatchContent → Line
 frame_line place (model_frame.Forward to epoch from number batch) =
     line.Forwarded place from to epoch number
 frame_line place (model_frame.Ack to epoch from committed have) =
     line.Acknowledged place from to epoch committed have
 
 -- the frames that are sent after so many others
-abbrev pub frame_lines : ℕ → List (model_frame.Frame BatchContent) → List Line
+abbrev pub frame_lines : ℕ → List (model_frame.Message BatchContent) → List Line
 frame_lines sent [] = []
 frame_lines sent (frame ∷ frames) = frame_line (suc sent) frame ∷ frame_lines (suc sent) frames
 
@@ -91,7 +91,7 @@ value_lines (Tick node) i s batches = []
 value_lines (Start node) i s batches = []
 value_lines (Stop node junk) i s batches = []
 
-abbrev pub reply_line : EventKind → model_request.Reply BatchContent → List Line
+abbrev pub reply_line : EventKind → model_request.Response BatchContent → List Line
 reply_line kind (model_request.Committed i k) = line.Replied (reply.Committed i k) ∷ []
 reply_line kind (model_request.Shows i s batches) = value_lines kind i s batches
 reply_line kind (model_request.Opened i s) = []
@@ -99,7 +99,7 @@ reply_line kind (model_request.Closed i s) = []
 reply_line kind (model_request.Refused i why) =
     line.Replied (reply.Refused i why) ∷ []
 
-abbrev pub reply_lines : EventKind → List (model_request.Reply BatchContent) → List Line
+abbrev pub reply_lines : EventKind → List (model_request.Response BatchContent) → List Line
 reply_lines kind replies = flat_map (reply_line kind) replies
 
 -- a node that stops by itself reports the cause
@@ -127,10 +127,10 @@ lines_if (Some at) sent kind choice o = lines_at at.0 sent kind choice o
 
 -- the lines of an event after so many frames, and of a node that stopped by itself the cause
 abbrev pub lines_of_event : ℕ → EventKind → Choice → model.Outcome BatchContent → List Line
-lines_of_event sent kind choice o = lines_if o.came_to sent kind choice o
+lines_of_event sent kind choice o = lines_if o.acted_on sent kind choice o
 
 -- What was chosen fits the event and its outcome. An event that bears a fault is as one without.
 pub record ChoiceFits (event : Event) (choice : Choice) (o : model.Outcome BatchContent) : Type 0
   where
     -- a node stops by itself for its device or for memory alone
-    pub cause : o.stopped ≡ true → IfSome (reported_cause event.kind choice.cause) IsOfMachine
+    pub cause : o.stopped ≡ true → IfSome (reported_cause event.kind choice.cause) IsEnvironmental

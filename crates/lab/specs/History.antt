@@ -4,8 +4,8 @@ use Rattle.std.specs.Prelude.{All}
 use Rattle.std.specs.List.{AllZip}
 use Rattle.kv_types.specs.Content.{BatchContent}
 use Rattle.kv_types.specs.Maps.{map_of}
-use Rattle.disk.specs.State.{State, Contents, MayLeave}
-use Rattle.chain_model.specs.Lists.{Begins, Part, place}
+use Rattle.disk.specs.States.{State, Contents, IsCrashOutcome}
+use Rattle.chain_model.specs.Lists.{IsPrefix, Part, place}
 use Rattle.chain_model.specs.Configuration.{Configurations, has, last_of}
 use Rattle.chain_model.specs.Headline.{batches}
 use Rattle.node.specs.Files.{DiskRepresents}
@@ -68,9 +68,9 @@ StepSpeaksOf B event lines = All (LineSpeaksOf B event.kind) lines
 
 -- whatever a crash leaves of node x's disk represents the node with a list that begins with B
 abbrev pub HasAll : List Placed → ℕ → State → Type 0
-HasAll B x disk = (left : Contents) → MayLeave disk left →
+HasAll B x disk = (left : Contents) → IsCrashOutcome disk left →
     (epoch : ℕ) × (ids : List ℕ) × (list : List BatchContent) × (floor : ℕ) × (kept : ℕ)
-    × DiskRepresents left x epoch ids list floor kept × Begins (batches B) list
+    × DiskRepresents left x epoch ids list floor kept × IsPrefix (batches B) list
 
 -- There is one list B ..
 pub record IsHistory {D N : Type 0} (state : D → State) (id : N → ℕ) (disk : N → D)

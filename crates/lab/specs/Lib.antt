@@ -8,7 +8,7 @@ pub mod Runs
 pub mod History
 pub mod Worlds
 pub use Rattle.chain_model.specs.Configuration
-pub use Rattle.chain_model.specs.Node
+pub use Rattle.chain_model.specs.Machine
 pub use Rattle.configurations.specs.Configs
 pub use Rattle.configurations.specs.Refusals
 pub use Rattle.configurations.specs.declared.error.ConfigError

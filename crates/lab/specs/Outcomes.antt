@@ -4,10 +4,10 @@ use Rattle.std.specs.Prelude.{Some, None, suc, true, false}
 use Rattle.kv_types.specs.Content.{BatchContent}
 use Rattle.disk.specs.declared.junk.Junk.{Junk}
 use Rattle.disk.specs.declared.junk.Junk.TheVariants.{Old}
-use Rattle.disk.specs.Calls.{Rises}
-use Rattle.disk.specs.Crashes.{Crashes}
-use Rattle.disk.specs.State.{State}
-use Rattle.chain_model.specs.Node.{Answer, dropped_for, refused, started, stopped}
+use Rattle.disk.specs.Calls.{RisesByOne}
+use Rattle.disk.specs.Crashes.{CrashOutcome}
+use Rattle.disk.specs.States.{State}
+use Rattle.chain_model.specs.Machine.{Answer, dropped_for, refused, started, stopped}
 use Rattle.link_messages.specs.declared.frame.Frame.{Frame}
 use Rattle.link_messages.specs.declared.frame.Frame.TheVariants as frame
 use Rattle.chain_model.specs.declared.refusal.Refusal.TheVariants as refusal
@@ -23,7 +23,7 @@ use Rattle.node.specs.declared.output.Reply.TheVariants as reply
 use Rattle.node.specs.declared.stop.Stop.{Stop as Cause}
 use Rattle.node.specs.declared.stop.Stop.TheVariants.{Disk}
 use Rattle.node.specs.Steps.{replies_of, disk_of}
-use Rattle.node.specs.Stops.{IsOfMachine}
+use Rattle.node.specs.Stops.{IsEnvironmental}
 use Rattle.lab.specs.declared.input.NodeInput.{NodeInput}
 use Rattle.lab.specs.declared.input.NodeInput.TheVariants as to_node
 use Rattle.lab.specs.declared.input.StepOutcome.{StepOutcome}
@@ -77,7 +77,7 @@ pub data HasHandled {D : Type 0} (is_honest : D → Type 0) (state : D → State
   Answers : n.running ≡ true → StateRefines is_honest state new x (answer_to x n inp).node
       → HasAnswered did (IsAnswer inp (answer_to x n inp))
       → HasHandled is_honest state x n inp new did
-  Ends : n.running ≡ true → (cause : Cause) → IsOfMachine cause
+  Ends : n.running ≡ true → (cause : Cause) → IsEnvironmental cause
       → StateRefines is_honest state new x (stopped n)
       ⊎ StateRefines is_honest state new x (stopped (answer_to x n inp).node)
       → did ≡ done.Stopped (Some cause) → HasHandled is_honest state x n inp new did
@@ -92,7 +92,7 @@ pub data HasStarted {D : Type 0} (is_honest : D → Type 0) (state : D → State
   Starts : n.running ≡ false → StateRefines is_honest state new x (started x n)
       → did ≡ done.Started n.epoch (length n.list) (started x n).committed
       → HasStarted is_honest state x n new did
-  Fails : n.running ≡ false → (cause : Cause) → IsOfMachine cause
+  Fails : n.running ≡ false → (cause : Cause) → IsEnvironmental cause
       → StateRefines is_honest state new x (stopped n)
       → did ≡ done.Stopped (Some cause) → HasStarted is_honest state x n new did
   RunsOn : n.running ≡ true → StateRefines is_honest state new x n →
@@ -158,10 +158,10 @@ HasCrashedWith state failures None old new = ⊥
 -- left of the disk crashed so that each file is as it was synced
 pub record DiskEnds {D : Type 0} (state : D → State) (failures : D → ℕ) (cause : Cause)
     (old new : D) : Type 0 where
-  pub failed : cause ≡ Disk → Rises (failures old) (failures new)
+  pub failed : cause ≡ Disk → RisesByOne (failures old) (failures new)
   pub others : (cause ≡ Disk → ⊥) → failures new ≡ failures old
   pub left : State
-  pub crashes : Crashes Old left (state new)
+  pub crashes : CrashOutcome Old left (state new)
 
 -- the disk that a node had and the one behind its outcome
 abbrev pub DiskFits : {D : Type 0} → (D → State) → (D → ℕ) → Option Junk → StepOutcome → D

@@ -2,7 +2,7 @@
 use Rattle.std.specs.Prelude.{◌≡◌, List, length, Option, Some, None, true, false, All}
 use Rattle.std.specs.Prelude.{replicate}
 use Rattle.chain_model.specs.Configuration.{Configurations}
-use Rattle.chain_model.specs.World as model
+use Rattle.chain_model.specs.System as model
 use Rattle.chain_core.specs.States.{Machine}
 use Rattle.lab.specs.declared.event.Event.{Event}
 use Rattle.lab.specs.declared.report.Numbers.{Numbers}

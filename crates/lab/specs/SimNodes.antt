@@ -1,12 +1,12 @@
 -- Simulated nodes: what a running or stopped one refines, and what the code may choose in a step.
 use Rattle.std.specs.Prelude.{◌≡◌, ℕ, false}
-use Rattle.disk.specs.State.{State}
+use Rattle.disk.specs.States.{State}
 use Rattle.disk.specs.Memory.{Slots, state_of}
-use Rattle.chain_model.specs.World as model
+use Rattle.chain_model.specs.System as model
 use Rattle.chain_core.specs.States.{Machine}
 use Rattle.node.specs.declared.node.Node.{Node}
 use Rattle.node.specs.declared.stop.Stop.{Stop as Cause}
-use Rattle.node.specs.Steps.{Runs, AlwaysRests, MayStep, disk_of}
+use Rattle.node.specs.Steps.{NodeRefines, DiskAlwaysRefines, IsReady, disk_of}
 use Rattle.lab.specs.declared.node_state.NodeState.{NodeState}
 use Rattle.lab.specs.declared.node_state.NodeState.TheVariants.{Up, Down}
 
@@ -21,20 +21,20 @@ IsDown (Up node) = ⊥
 IsDown (Down disk) = Unit {0}
 
 -- a step of it may follow, if it is up
-abbrev pub IsReady : {D : Type 0} → NodeState D → Type 0
-IsReady {D} new = (node : Node D) → new ≡ Up node → MayStep node
+abbrev pub StateIsReady : {D : Type 0} → NodeState D → Type 0
+StateIsReady {D} new = (node : Node D) → new ≡ Up node → IsReady node
 
 -- a running node refines machine n as node x; the disk of one that is down is honest and
 -- represents it
 abbrev pub StateRefines : {D : Type 0} → (D → Type 0) → (D → State) → NodeState D → ℕ → Machine
     → Type 0
-StateRefines is_honest state (Up node) x n = Runs is_honest state node x n
+StateRefines is_honest state (Up node) x n = NodeRefines is_honest state node x n
 StateRefines is_honest state (Down disk) x n =
-    is_honest disk × AlwaysRests (state disk) x n × (n.running ≡ false)
+    is_honest disk × DiskAlwaysRefines (state disk) x n × (n.running ≡ false)
 
 -- what the code may choose in a step: how it went, and why the node stopped if it did
 pub record Choice : Type 0 where
-  pub went : model.Went
+  pub went : model.StepResult
   pub cause : Cause
 
 -- ---- a disk in memory

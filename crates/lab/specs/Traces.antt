@@ -2,43 +2,44 @@
 use Rattle.std.specs.Prelude.{◌≡◌, ℕ, suc, List, [], ◌∷◌, length}
 use Rattle.kv_types.specs.Content.{BatchContent}
 use Rattle.chain_model.specs.Configuration.{Configurations}
-use Rattle.chain_model.specs.World as model
+use Rattle.chain_model.specs.System as model
 use Rattle.lab.specs.declared.event.Event.{Event}
 use Rattle.lab.specs.declared.report.Line.{Line}
 use Rattle.lab.specs.Events.{modelled, lines_of_event, ChoiceFits}
 use Rattle.lab.specs.SimNodes.{Choice}
 
 -- the events from place i on, as the model has them, by what was chosen in each
-abbrev pub modelled_from : ℕ → List Event → List Choice → List (model.Event BatchContent)
+abbrev pub modelled_from : ℕ → List Event → List Choice → List (model.SystemEvent BatchContent)
 modelled_from i [] choices = []
 modelled_from i (event ∷ events) [] = []
 modelled_from i (event ∷ events) (choice ∷ choices) =
     modelled i event.kind choice ∷ modelled_from (suc i) events choices
 
 -- the lines of each of them, from a world on
-abbrev pub lines_from : Configurations → ℕ → List Event → List Choice → model.World BatchContent
+abbrev pub lines_from : Configurations → ℕ → List Event → List Choice → model.SystemState
+    BatchContent
     → List (List Line)
 lines_from cs i [] choices w = []
 lines_from cs i (event ∷ events) [] w = []
 lines_from cs i (event ∷ events) (choice ∷ choices) w =
     let e = modelled i event.kind choice in
     lines_of_event (length w.frames) event.kind choice (model.outcome w cs e)
-    ∷ lines_from cs (suc i) events choices (model.happens cs w e)
+    ∷ lines_from cs (suc i) events choices (model.state_after cs w e)
 
 -- what was chosen fits each of them, from a world on
-abbrev pub AllFit : Configurations → ℕ → List Event → List Choice → model.World BatchContent
+abbrev pub AllFit : Configurations → ℕ → List Event → List Choice → model.SystemState BatchContent
     → Type 0
 AllFit cs i [] choices w = Unit {0}
 AllFit cs i (event ∷ events) [] w = ⊥
 AllFit cs i (event ∷ events) (choice ∷ choices) w =
     let e = modelled i event.kind choice in
     ChoiceFits event choice (model.outcome w cs e)
-    × AllFit cs (suc i) events choices (model.happens cs w e)
+    × AllFit cs (suc i) events choices (model.state_after cs w e)
 
 -- By these choices, one for each event, the events are a run of the model, and each has the lines
 -- of its outcome.
 pub record IsTrace (cs : Configurations) (events : List Event) (choices : List Choice)
     (steps : List (List Line)) : Type 0 where
   pub one_each : length choices ≡ length events
-  pub fits : AllFit cs 1 events choices (model.beginning cs)
-  pub traced : steps ≡ lines_from cs 1 events choices (model.beginning cs)
+  pub fits : AllFit cs 1 events choices (model.first_state cs)
+  pub traced : steps ≡ lines_from cs 1 events choices (model.first_state cs)

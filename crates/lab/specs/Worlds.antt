@@ -4,15 +4,15 @@ use Rattle.std.specs.Prelude.{All, true, ◌≢◌, ◌<◌, get_or, slice_set}
 use Rattle.std.specs.List.{AllZip, HoldsAt}
 use Rattle.kv_types.specs.Content.{BatchContent}
 use Rattle.chain_model.specs.Configuration.{Configurations, Lawful, at_epoch}
-use Rattle.chain_model.specs.Frames as model_frame
-use Rattle.chain_model.specs.Node.{created}
-use Rattle.chain_model.specs.World as model
+use Rattle.chain_model.specs.Messages as model_frame
+use Rattle.chain_model.specs.Machine.{created}
+use Rattle.chain_model.specs.System as model
 use Rattle.disk.specs.declared.junk.Junk.{Junk}
 use Rattle.disk.specs.Memory.{Slots}
 use Rattle.node.specs.declared.node.Node.{Node}
 use Rattle.node.specs.Steps.{disk_of}
 use Rattle.link_messages.specs.declared.frame.Frame.{Frame}
-use Rattle.link_messages.specs.Spelling.{IsFrame, HasBounds, spelling}
+use Rattle.link_messages.specs.Spelling.{IsFrame, HasBounds, frame_bytes}
 use Rattle.chain_core.specs.Decisions.{frame_as}
 use Rattle.chain_core.specs.States.{Machine}
 use Rattle.chain_core.specs.declared.sending.Sent.{Sent}
@@ -58,16 +58,16 @@ frames_told [] = 0
 frames_told (step ∷ steps) = frames_of_step step + frames_told steps
 
 -- a posted frame refines one of the model: it has its addressee and its bytes
-pub record PostedRefines (posted : Posted) (frame : model_frame.Frame BatchContent) : Type 0 where
+pub record PostedRefines (posted : Posted) (frame : model_frame.Message BatchContent) : Type 0 where
   pub it : Frame
   pub same : frame_as posted.to it ≡ Some frame
   pub lawful : IsFrame it
-  pub bytes : posted.bytes.items ≡ spelling it
+  pub bytes : posted.bytes.items ≡ frame_bytes it
 
 -- a frame that was sent is posted: it is in range where its fields have their bounds
 pub record IsPosted (posted : Posted) (sent : Sent) : Type 0 where
   pub to : posted.to ≡ sent.to
-  pub bytes : posted.bytes.items ≡ spelling sent.frame
+  pub bytes : posted.bytes.items ≡ frame_bytes sent.frame
   pub lawful : HasBounds sent.frame → IsFrame sent.frame
 
 -- these frames are posted behind those that were

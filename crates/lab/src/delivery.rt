@@ -2,8 +2,8 @@
 ghost use Rattle.std.specs.Prelude.{◌≡◌, List, Some, IfOk, IsErr, MatchOption};
 ghost use Rattle.std.specs.List.{AllZip};
 ghost use Rattle.kv_types.specs.Content.{BatchContent};
-ghost use Rattle.chain_model.specs.Frames.{Frame as ModelFrame};
-ghost use Rattle.link_messages.specs.Spelling.{IsFrame, spelling};
+ghost use Rattle.chain_model.specs.Messages.{Message as ModelFrame};
+ghost use Rattle.link_messages.specs.Spelling.{IsFrame, frame_bytes};
 ghost use Rattle.lab.specs.Deliveries.{IsDelivered, IsPostedAt, HasNoFrame, input_of};
 ghost use Rattle.lab.specs.Deliveries.{IsDeliveryOf, HasNoDelivery};
 ghost use Rattle.lab.specs.Worlds.{PostedRefines};
@@ -37,7 +37,7 @@ fn unread(e: FrameError) -> Result<Option<Frame>, LabError>
 
 // The frame that the bytes spell. None where they spell no frame.
 fn read(alloc: Global, bytes: &[u8]) -> Result<Option<Frame>, LabError>
-    ensures { (it : _) → IsFrame it → bytes.now ≡ spelling it →
+    ensures { (it : _) → IsFrame it → bytes.now ≡ frame_bytes it →
         IfOk result (λ found. found ≡ Some it) }
 {
     one_answer(); // law: the same bytes have one answer

@@ -1,15 +1,15 @@
 // The state of a simulated node, up or down, and how it takes an input.
 ghost use Rattle.std.specs.Prelude.{◌⊎◌, ℕ, IfOk};
 ghost use Rattle.kv_types.specs.Content.{BatchContent};
-ghost use Rattle.chain_model.specs.Node.{Answer, stopped};
+ghost use Rattle.chain_model.specs.Machine.{Answer, stopped};
 ghost use Rattle.chain_core.specs.States.{Machine};
-ghost use Rattle.node.specs.Steps.{AlwaysRests, StopsAs};
-ghost use Rattle.lab.specs.SimNodes.{StateRefines, IsReady, disk_in};
+ghost use Rattle.node.specs.Steps.{DiskAlwaysRefines, StopRefines};
+ghost use Rattle.lab.specs.SimNodes.{StateRefines, StateIsReady, disk_in};
 ghost use Rattle.lab.specs.Outcomes.{DiskFits, HasCrashed, HasStarted, OutcomeRefines};
 ghost use Rattle.lab.specs.Outcomes.{StateFollows, input_junk};
 
 use crate::input::{NodeInput, StepOutcome, dropped, output_down};
-use disk::laws::{crashed_is_sure, sure_is_left};
+use disk::laws::{crashed_is_durable, durable_is_left};
 use disk::{Crash, Disk, Junk};
 use kv_types::Limits;
 use node::{DropReason, Node};
@@ -24,23 +24,23 @@ pub enum NodeState<D: Disk + Drop> {
 
 // The state of a node that stopped: its disk crashed with this junk.
 fn crash<D: Crash + Drop>(mut disk: D, junk: Junk) -> NodeState<D>
-    ensures ready { IsReady result }
+    ensures ready { StateIsReady result }
     ensures crashes { D.is_honest disk → HasCrashed D.state D.failures junk disk result }
     ensures refines { (x : ℕ) (n : Machine) (a : Answer BatchContent) →
-        D.is_honest disk → StopsAs (D.state disk) x n a →
+        D.is_honest disk → StopRefines (D.state disk) x n a →
         StateRefines D.is_honest D.state result x (stopped n)
         ⊎ StateRefines D.is_honest D.state result x (stopped a.node) }
 {
     // laws: what a crash leaves is sure, and a crash leaves it again
-    sure_is_left();
-    crashed_is_sure();
+    durable_is_left();
+    crashed_is_durable();
     disk.crash(junk);
     NodeState::Down(disk)
 }
 
 // A node that was down starts.
 fn start<D: Crash + Drop>(alloc: Global, disk: D, limits: &Limits) -> (NodeState<D>, StepOutcome)
-    ensures ready { IsReady result.0 }
+    ensures ready { StateIsReady result.0 }
     ensures refines { (x : ℕ) (n : Machine) →
         StateRefines D.is_honest D.state (NodeState.Down disk) x n →
         HasStarted D.is_honest D.state x n result.0 result.1 }
@@ -68,8 +68,8 @@ impl<D: Crash + Drop> NodeState<D> {
         input: NodeInput,
         limits: &Limits,
     ) -> Result<(NodeState<D>, StepOutcome), AllocError>
-        requires { IsReady self }
-        ensures ready { IfOk result (λ it. IsReady it.0) }
+        requires { StateIsReady self }
+        ensures ready { IfOk result (λ it. StateIsReady it.0) }
         ensures refines { (x : ℕ) (n : Machine) → StateRefines D.is_honest D.state self x n →
             IfOk result (λ it. OutcomeRefines D.is_honest D.state x n input it.0 it.1) }
         ensures disk { D.is_honest (disk_in self) → IfOk result (λ it.

@@ -1,5 +1,5 @@
 // A simulated node: its id, and its state.
-ghost use Rattle.lab.specs.SimNodes.{IsReady};
+ghost use Rattle.lab.specs.SimNodes.{StateIsReady};
 
 use crate::node_state::NodeState;
 use configurations::NodeId;
@@ -10,5 +10,5 @@ use disk::MemDisk;
 pub struct SimNode {
     pub id: NodeId,
     pub state: NodeState<MemDisk>,
-    ghost ready: { IsReady state },
+    ghost ready: { StateIsReady state },
 }

@@ -22,7 +22,7 @@ use crate::report::{Line, Lines, NodeReport, Numbers, Report};
 use crate::sim_node::SimNode;
 use crate::trace::{one_line, trace_of};
 use crate::{Event, EventRecord, LabError};
-use chain_model::{in_order, made_of_outcomes, one_history};
+use chain_model::{in_order, run_is_outcomes, one_history};
 use configurations::{Config, Configs, NodeId};
 use disk::MemDisk;
 use kv_types::{Batch, Limits, Number};
@@ -230,7 +230,7 @@ impl World {
     {
         // laws: a run of the model has one history, and is made of its outcomes
         one_history::<Batch>();
-        made_of_outcomes::<Batch>();
+        run_is_outcomes::<Batch>();
         // law: the disk of a running node represents it
         disks_represent::<MemDisk>();
         &self.steps
@@ -268,7 +268,7 @@ impl World {
         let nodes = left_of_all(alloc, nodes)?;
         // laws: a run of the model has one history, and is made of its outcomes
         one_history::<Batch>();
-        made_of_outcomes::<Batch>();
+        run_is_outcomes::<Batch>();
         Ok(Report { steps, nodes })
     }
 }

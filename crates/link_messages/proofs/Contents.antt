@@ -7,13 +7,13 @@ use Rattle.link_messages.specs.declared.error.FrameError.{FrameError}
 use Rattle.link_messages.specs.declared.error.FrameError.TheVariants as fault
 use Rattle.link_messages.specs.declared.frame.Frame.{Frame}
 use Rattle.link_messages.specs.Spelling.{kind, fields}
-use Rattle.link_messages.specs.Stream.{HasKind, Begins, IsMalformed, IsTooMuch}
+use Rattle.link_messages.specs.Stream.{HasKind, BeginsWithFrame, IsMalformed, IsTooMuch}
 use Rattle.link_messages.specs.Reading.{Reader, reader_of, ended, read_by, content_at}
 use Rattle.link_messages.proofs.FrameLaws.{reader_is, known, unknown, frame_again}
 
 -- the verdict on content
 abbrev pub Verdict : Result Frame FrameError → List ℕ → Type 0
-Verdict (Ok f) content = Begins content f []
+Verdict (Ok f) content = BeginsWithFrame content f []
 Verdict (Err fault.BadKind) content = HasKind content → ⊥
 Verdict (Err fault.BadField) content = IsMalformed content
 Verdict (Err fault.Trailing) content = IsTooMuch content
@@ -22,7 +22,7 @@ Verdict (Err fault.Memory) content = ⊥
 
 -- a frame in range at the front is read
 pub begun : TestDecidesConfig →
-    (content : List ℕ) (f : Frame) (behind : List ℕ) → Begins content f behind
+    (content : List ℕ) (f : Frame) (behind : List ℕ) → BeginsWithFrame content f behind
     → content_at content ≡ ended (Some (f, behind))
 unfolding content_at
 begun decides content f behind b =
@@ -85,7 +85,7 @@ verdict decides (k ∷ bytes) some fits =
 -- ---- content has one verdict
 
 kind_of_begun : TestDecidesConfig →
-    (content : List ℕ) (f : Frame) (behind : List ℕ) → Begins content f behind
+    (content : List ℕ) (f : Frame) (behind : List ℕ) → BeginsWithFrame content f behind
     → HasKind content
 kind_of_begun decides content f behind b =
     let r = frame_again decides f behind b.frame in

@@ -12,8 +12,8 @@ use Rattle.configurations.specs.Configs.{IsConfig, TestDecidesConfig, is_config}
 use Rattle.configurations.specs.Spelling.{config_text}
 use Rattle.kv_types.specs.declared.bounds.TheConstants.{MAX_KEY, MAX_VALUE, MAX_ROWS, MAX_PAGE}
 use Rattle.kv_types.specs.declared.bounds.TheConstants.{MAX_NUMBER}
-use Rattle.kv_types.specs.Spelling.{text, IsBatch}
-use Rattle.kv_types.specs.Spelling.{spelling as batch_text}
+use Rattle.kv_types.specs.Spelling.{text_bytes, IsBatch}
+use Rattle.kv_types.specs.Spelling.{batch_bytes as batch_text}
 use Rattle.kv_types.specs.Pages.{row_size}
 use Rattle.kv_types.specs.Reading.{◌>>=◌, text_at, batch_at}
 use Rattle.kv_types.proofs.Fields.{IsBytes, bind_some, some_is, Takes, text_takes, text_again}
@@ -21,7 +21,8 @@ use Rattle.kv_types.proofs.Batches.{front_takes, front_again}
 use Rattle.chain_model.specs.declared.refusal.Refusal.{Refusal}
 use Rattle.chain_model.specs.declared.refusal.Refusal.TheVariants as refused
 use Rattle.link_messages.specs.Spelling.{u8, u16, u32, u64, optional, at_text}
-use Rattle.link_messages.specs.Spelling.{range_text, row_text, page_text, code, IsEpoch, IsNumber}
+use Rattle.link_messages.specs.Spelling.{range_text, row_text, page_text, refusal_number, IsEpoch}
+use Rattle.link_messages.specs.Spelling.{IsNumber}
 use Rattle.link_messages.specs.Spelling.{IsPlace, IsKey, IsValue, IsRange, IsRow, IsSmall}
 use Rattle.link_messages.specs.Reading.{only, number_at, epoch_at, id_at}
 use Rattle.link_messages.specs.Reading.{count_at, place_at, at_at, found_at, bound_at, limit_at}
@@ -86,23 +87,23 @@ at_reads = optional_reads count_reads
 
 -- ---- texts and batches
 
-pub key_reads : Reads IsKey text (text_at MAX_KEY)
+pub key_reads : Reads IsKey text_bytes (text_at MAX_KEY)
 key_reads = record {
   takes = λ bytes x fits e. text_takes MAX_KEY bytes x fits e;
   again = λ key rest is. text_again MAX_KEY key rest is (omega arith);
 }
 
-pub value_reads : Reads IsValue text (text_at MAX_VALUE)
+pub value_reads : Reads IsValue text_bytes (text_at MAX_VALUE)
 value_reads = record {
   takes = λ bytes x fits e. text_takes MAX_VALUE bytes x fits e;
   again = λ value rest is. text_again MAX_VALUE value rest is (omega arith);
 }
 
-pub found_reads : Reads (λ value. IfSome value IsValue) (optional text) found_at
+pub found_reads : Reads (λ value. IfSome value IsValue) (optional text_bytes) found_at
 unfolding found_at
 found_reads = optional_reads value_reads
 
-bound_reads : Reads (λ to. IfSome to IsKey) (optional text) bound_at
+bound_reads : Reads (λ to. IfSome to IsKey) (optional text_bytes) bound_at
 unfolding bound_at
 bound_reads = optional_reads key_reads
 
@@ -178,20 +179,21 @@ page_reads =
 
 -- ---- refusals
 
-code_of : (n : ℕ) (refusal : Refusal) → refusal_of n ≡ Some refusal → code refusal ≡ n
+code_of : (n : ℕ) (refusal : Refusal) → refusal_of n ≡ Some refusal → refusal_number refusal ≡ n
 code_of zero r e = absurd cc
-code_of (suc zero) r e = ap code (is_refusal _ _ (sym e))
-code_of (suc (suc zero)) r e = ap code (is_refusal _ _ (sym e))
-code_of (suc (suc (suc zero))) r e = ap code (is_refusal _ _ (sym e))
-code_of (suc (suc (suc (suc zero)))) r e = ap code (is_refusal _ _ (sym e))
-code_of (suc (suc (suc (suc (suc zero))))) r e = ap code (is_refusal _ _ (sym e))
-code_of (suc (suc (suc (suc (suc (suc zero)))))) r e = ap code (is_refusal _ _ (sym e))
-code_of (suc (suc (suc (suc (suc (suc (suc zero))))))) r e = ap code (is_refusal _ _ (sym e))
+code_of (suc zero) r e = ap refusal_number (is_refusal _ _ (sym e))
+code_of (suc (suc zero)) r e = ap refusal_number (is_refusal _ _ (sym e))
+code_of (suc (suc (suc zero))) r e = ap refusal_number (is_refusal _ _ (sym e))
+code_of (suc (suc (suc (suc zero)))) r e = ap refusal_number (is_refusal _ _ (sym e))
+code_of (suc (suc (suc (suc (suc zero))))) r e = ap refusal_number (is_refusal _ _ (sym e))
+code_of (suc (suc (suc (suc (suc (suc zero)))))) r e = ap refusal_number (is_refusal _ _ (sym e))
+code_of (suc (suc (suc (suc (suc (suc (suc zero))))))) r e = ap refusal_number
+    (is_refusal _ _ (sym e))
 code_of (suc (suc (suc (suc (suc (suc (suc (suc zero)))))))) r e =
-    ap code (is_refusal _ _ (sym e))
+    ap refusal_number (is_refusal _ _ (sym e))
 code_of (suc (suc (suc (suc (suc (suc (suc (suc (suc n))))))))) r e = absurd cc
 
-refusal_of_code : (refusal : Refusal) → refusal_of (code refusal) ≡ Some refusal
+refusal_of_code : (refusal : Refusal) → refusal_of (refusal_number refusal) ≡ Some refusal
 refusal_of_code refused.NotRunning = refl
 refusal_of_code refused.NotHead = refl
 refusal_of_code refused.TooOld = refl
@@ -201,7 +203,7 @@ refusal_of_code refused.TooManySnapshots = refl
 refusal_of_code refused.Removed = refl
 refusal_of_code refused.Exhausted = refl
 
-small_code : (refusal : Refusal) → code refusal < 256
+small_code : (refusal : Refusal) → refusal_number refusal < 256
 small_code refused.NotRunning = omega arith
 small_code refused.NotHead = omega arith
 small_code refused.TooOld = omega arith
@@ -211,22 +213,25 @@ small_code refused.TooManySnapshots = omega arith
 small_code refused.Removed = omega arith
 small_code refused.Exhausted = omega arith
 
-pub refusal_reads : Reads (λ refusal. Unit {0}) (λ refusal. u8 (code refusal)) refusal_at
+pub refusal_reads : Reads (λ refusal. Unit {0}) (λ refusal. u8 (refusal_number refusal)) refusal_at
 unfolding refusal_at
 refusal_reads = record {
   takes = λ bytes x fits e.
       let n = bind_some (number_at w8 bytes)
-      (λ code. refusal_of code.0 >>= λ refusal. Some (refusal, code.1)) x e in
+      (λ refusal_number. refusal_of refusal_number.0 >>= λ refusal. Some
+          (refusal, refusal_number.1)) x e in
       let r = bind_some (refusal_of n.0.0) (λ refusal. Some (refusal, n.0.1)) x n.2 in
       let t = u8_reads.takes bytes n.0 fits n.1 in
-      let whole : Takes bytes (u8 (code r.0)) n.0.1 =
+      let whole : Takes bytes (u8 (refusal_number r.0)) n.0.1 =
       subst (λ (k : ℕ). Takes bytes (u8 k) n.0.1) (sym (code_of n.0.0 r.0 r.1)) t.0 in
       let found : Refusal × List ℕ = (r.0, n.0.1) in
-      subst (λ (y : Refusal × List ℕ). Takes bytes (u8 (code y.0)) y.1 × Unit {0})
+      subst (λ (y : Refusal × List ℕ). Takes bytes (u8 (refusal_number y.0)) y.1 × Unit {0})
       (some_is found x r.2) (whole, tt);
   again = λ refusal rest is.
-      ap (λ (o : Option (ℕ × List ℕ)). o >>= λ code. refusal_of code.0 >>= λ refusal. Some
-      (refusal, code.1)) (u8_reads.again (code refusal) rest (small_code refusal))
+      ap (λ (o : Option (ℕ × List ℕ)). o >>= λ refusal_number. refusal_of refusal_number.0 >>=
+          λ refusal. Some
+      (refusal, refusal_number.1))
+          (u8_reads.again (refusal_number refusal) rest (small_code refusal))
       ∙ ap (λ (o : Option Refusal). o >>= λ refusal. Some (refusal, rest))
       (refusal_of_code refusal);
 }

@@ -12,7 +12,7 @@ use Rattle.kv_types.specs.Pages.{row_size}
 use Rattle.kv_types.specs.Reading.{◌>>=◌}
 use Rattle.kv_types.specs.declared.bounds.TheConstants.{MAX_KEY, MAX_VALUE, MAX_PAGE}
 use Rattle.kv_types.specs.Spans.{Span, Rows}
-use Rattle.kv_types.specs.Spelling.{text}
+use Rattle.kv_types.specs.Spelling.{text_bytes}
 use Rattle.kv_types.proofs.Fields.{IsBytes, bind_some, some_is, Takes}
 use Rattle.link_messages.specs.declared.frame.Frame.{Frame}
 use Rattle.link_messages.specs.declared.frame.Frame.TheVariants as frame
@@ -20,7 +20,7 @@ use Rattle.link_messages.specs.Spelling.{kind, fields, IsFrame, u16, u32, row_te
 use Rattle.link_messages.specs.Spelling.{truth, optional, at_text, range_text, page_text, IsRange}
 use Rattle.link_messages.specs.Spelling.{IsSmall}
 use Rattle.link_messages.specs.Stream.{FramesFit}
-use Rattle.link_messages.specs.Reading.{Reader, made, forward_at, ack_at, notice_at}
+use Rattle.link_messages.specs.Reading.{Reader, mapped, forward_at, ack_at, notice_at}
 use Rattle.link_messages.specs.Reading.{submit_at, get_at, rows_frame_at, open_at, close_at}
 use Rattle.link_messages.specs.Reading.{committed_at, value_at, rows_are_at, opened_at, refused_at}
 use Rattle.link_messages.specs.Reading.{closed_at, readers, nth, reader_of}
@@ -37,7 +37,7 @@ pub record IsReaderOf (k : ℕ) (read : Reader Frame) : Type 0 where
 
 of_kind : {A : Type 0} {Is : A → Type 0} {spell : A → List ℕ} {read : Reader A} (k : ℕ)
     (make : A → Frame) → ((a : A) → kind (make a) ≡ k) → ((a : A) → spell a ≡ fields (make a))
-    → ((a : A) → Is a → IsFrame (make a)) → Reads Is spell read → IsReaderOf k (made make read)
+    → ((a : A) → Is a → IsFrame (make a)) → Reads Is spell read → IsReaderOf k (mapped make read)
 of_kind {A} {Is} {spell} {read} k make kinds spelled right r =
     record {
       takes = λ bytes x fits e.
@@ -53,7 +53,7 @@ of_kind {A} {Is} {spell} {read} k make kinds spelled right r =
 
 again : {A : Type 0} {Is : A → Type 0} {spell : A → List ℕ} {read : Reader A} (make : A → Frame)
     (a : A) (rest : List ℕ) → Is a → Reads Is spell read
-    → made make read (spell a ++ rest) ≡ Some (make a, rest)
+    → mapped make read (spell a ++ rest) ≡ Some (make a, rest)
 again {A} {Is} {spell} {read} make a rest is r =
     ap (λ (o : Option (A × List ℕ)). o >>= λ a. Some (make a.0, a.1)) (r.again a rest is)
 
@@ -357,7 +357,7 @@ rows_length (row ∷ rows) =
     ap length (flat_map-cons row_text row rows)
     ∙ length-append (row_text row) (flat_map row_text rows)
     ∙ rw (rows_length rows, sum_by-cons row_size row rows)
-    (omega (arith, length-append row.key (text row.value)))
+    (omega (arith, length-append row.key (text_bytes row.value)))
 
 ids_length : (ids : List ℕ) → length (flat_map u16 ids) ≡ 2 * length ids
 ids_length [] = refl
@@ -368,7 +368,7 @@ at_length None = omega arith
 at_length (Some n) = omega arith
 
 optional_length : (limit : ℕ) (o : Option (List ℕ)) → IfSome o (λ t. length t ≤ limit)
-    → length (optional text o) ≤ 3 + limit
+    → length (optional text_bytes o) ≤ 3 + limit
 optional_length limit None is = omega arith
 optional_length limit (Some t) is = omega (arith, is)
 
@@ -384,8 +384,8 @@ range_length range is =
       is.from,
       optional_length MAX_KEY range.to is.to,
       truth_length range.backward,
-      length-append range.from (optional text range.to ++ way),
-      length-append (optional text range.to) way,
+      length-append range.from (optional text_bytes range.to ++ way),
+      length-append (optional text_bytes range.to) way,
       length-append (truth range.backward) (u32 range.limit),
     )
 
@@ -405,7 +405,7 @@ frames_fit (frame.Ack epoch from committed have) is = omega arith
 frames_fit (frame.Notice epoch config) is = omega (arith, is.1.few, ids_length config)
 frames_fit (frame.Submit request batch) is = omega (arith, is.1.short)
 frames_fit (frame.Get request at key) is =
-    omega (arith, is.2, at_length at, length-append (at_text at) (text key))
+    omega (arith, is.2, at_length at, length-append (at_text at) (text_bytes key))
 frames_fit (frame.Rows request at range) is =
     omega (
       arith,

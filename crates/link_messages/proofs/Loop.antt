@@ -5,7 +5,7 @@ use Rattle.std.proofs.lemmas.List.{append-nil}
 use Rattle.kv_types.specs.Reading.{◌>>=◌}
 use Rattle.link_messages.specs.declared.error.FrameError.{FrameError}
 use Rattle.link_messages.specs.declared.error.FrameError.TheVariants as fault
-use Rattle.link_messages.specs.Reading.{Reader, Fails, many}
+use Rattle.link_messages.specs.Reading.{Reader, RefusesField, many}
 
 -- the edits or values read before, and those still to read
 abbrev pub with_front : {A : Type 0} → List A → Option (List A × List ℕ)
@@ -30,8 +30,8 @@ goes_on read front count i bytes a after total lt h so_far =
     sym one ∙ so_far
 
 pub ends : {A : Type 0} (read : Reader A) (e : FrameError) (front : List A) (count i : ℕ)
-    (bytes : List ℕ) (total : Option (List A × List ℕ)) → i < count → Fails e (read bytes)
-    → with_front front (many read (count - i) bytes) ≡ total → Fails e total
+    (bytes : List ℕ) (total : Option (List A × List ℕ)) → i < count → RefusesField e (read bytes)
+    → with_front front (many read (count - i) bytes) ≡ total → RefusesField e total
 unfolding many
 ends read fault.BadField front count i bytes total lt h so_far =
     let k : count - i ≡ suc (count - (i + 1)) = omega arith in

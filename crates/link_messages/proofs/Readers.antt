@@ -16,7 +16,7 @@ use Rattle.kv_types.specs.Reading.{◌>>=◌}
 use Rattle.kv_types.proofs.Fields.{IsBytes, IsBytes-rest, bind_some, guard_some, some_is, Takes}
 use Rattle.kv_types.proofs.Fields.{Takes-then}
 use Rattle.link_messages.specs.Spelling.{truth, optional}
-use Rattle.link_messages.specs.Reading.{Reader, both, made, only, many, counted, number_at}
+use Rattle.link_messages.specs.Reading.{Reader, both, mapped, only, many, counted, number_at}
 use Rattle.link_messages.specs.Reading.{truth_at}
 use Rattle.link_messages.specs.Reading.{optional_at}
 
@@ -68,7 +68,7 @@ both_reads {A} {B} {IsA} {IsB} {spell_a} {spell_b} {first} {second} f s =
 pub made_reads : {A B : Type 0} {Is : A → Type 0} {spell : A → List ℕ} {read : Reader A}
     (make : A → B) (of : B → A) → ((b : B) → make (of b) ≡ b) → ((a : A) → of (make a) ≡ a)
     → Reads Is spell read
-    → Reads (λ (b : B). Is (of b)) (λ (b : B). spell (of b)) (made make read)
+    → Reads (λ (b : B). Is (of b)) (λ (b : B). spell (of b)) (mapped make read)
 made_reads {A} {B} {Is} {spell} {read} make of there back r =
     record {
       takes = λ bytes x fits e.
@@ -80,7 +80,7 @@ made_reads {A} {B} {Is} {spell} {read} make of there back r =
           subst (λ (y : B × List ℕ). Takes bytes (spell (of y.0)) y.1 × Is (of y.0))
           (some_is found x a.2) right;
       again = λ b rest is.
-          let e : made make read (spell (of b) ++ rest) ≡ Some (make (of b), rest) =
+          let e : mapped make read (spell (of b) ++ rest) ≡ Some (make (of b), rest) =
           ap (λ (o : Option (A × List ℕ)). o >>= λ a. Some (make a.0, a.1))
           (r.again (of b) rest is) in
           e ∙ ap (λ (y : B). Some (y, rest)) (there b);
@@ -250,7 +250,7 @@ truth_reads = record { takes = truth_takes; again = λ b rest is. truth_again b 
 optional_takes : {A : Type 0} {Is : A → Type 0} {spell : A → List ℕ} {read : Reader A}
     → Reads Is spell read → (bytes : List ℕ) (there : Bool × List ℕ) (x : Option A × List ℕ)
     → Takes bytes (truth there.0) there.1
-    → cond there.0 (made Some read there.1) (Some (None, there.1)) ≡ Some x
+    → cond there.0 (mapped Some read there.1) (Some (None, there.1)) ≡ Some x
     → Takes bytes (optional spell x.0) x.1 × IfSome x.0 Is
 optional_takes {A} {Is} {spell} {read} r bytes (true, after) x t e =
     let a = bind_some (read after) (λ a. Some (Some a.0, a.1)) x e in
@@ -279,7 +279,7 @@ optional_reads {A} {Is} {spell} {read} r =
     record {
       takes = λ bytes x fits e.
           let there = bind_some (truth_at bytes)
-          (λ there. cond there.0 (made Some read there.1) (Some (None, there.1))) x e in
+          (λ there. cond there.0 (mapped Some read there.1) (Some (None, there.1))) x e in
           let t = truth_takes bytes there.0 fits there.1 in
           optional_takes r bytes there.0 x t.0 there.2;
       again = optional_again r;

@@ -18,9 +18,10 @@ use Rattle.link_messages.specs.declared.error.FrameError.{FrameError}
 use Rattle.link_messages.specs.declared.error.FrameError.TheVariants as fault
 use Rattle.link_messages.specs.declared.frame.Frame.{Frame}
 use Rattle.link_messages.specs.declared.frame.TheConstants.{MAX_FRAME}
-use Rattle.link_messages.specs.Spelling.{u32, body, spelling, IsFrame}
-use Rattle.link_messages.specs.Stream.{length_field, IsPartial, IsWhole, Begins}
-use Rattle.link_messages.specs.Stream.{Answers, Tells, Splits, OneSpelling, OneAnswer, FaultsStay}
+use Rattle.link_messages.specs.Spelling.{u32, body, frame_bytes, IsFrame}
+use Rattle.link_messages.specs.Stream.{length_field, IsPartial, IsWhole, BeginsWithFrame}
+use Rattle.link_messages.specs.Stream.{NextOutcome, IsByteOutcome, Splits, OneSpelling, OneAnswer}
+use Rattle.link_messages.specs.Stream.{FaultsStay}
 use Rattle.link_messages.specs.Stream.{OneSplit}
 use Rattle.link_messages.specs.Reading.{IsOr, content_at}
 use Rattle.link_messages.proofs.Readers.{IsBytes-take, IsBytes-drop}
@@ -60,12 +61,12 @@ pub front_frame : TestDecidesConfig →
     (bytes : List ℕ) (n : ℕ) (f : Frame) → IsBytes bytes → 4 ≤ length bytes
     → n ≡ length_field bytes → 1 ≤ n → n ≤ MAX_FRAME → n ≤ length (drop 4 bytes)
     → content_at (take n (drop 4 bytes)) ≡ Ok f
-    → IsFrame f × (bytes ≡ spelling f ++ drop (4 + n) bytes)
+    → IsFrame f × (bytes ≡ frame_bytes f ++ drop (4 + n) bytes)
 unfolding whole
 front_frame decides bytes n f fits long told some few there read =
     let w = whole bytes n fits long told some few there in
     let content = take n (drop 4 bytes) in
-    let v : Begins content f [] =
+    let v : BeginsWithFrame content f [] =
     subst (λ (r : Result Frame FrameError). Verdict r content) read
     (verdict decides content w.some (small bytes n fits)) in
     let is_body : content ≡ body f = v.parts ∙ append-nil (body f) in
@@ -74,11 +75,11 @@ front_frame decides bytes n f fits long told some few there read =
       w.parts
           ∙ ap (λ (c : List ℕ). u32 (length c) ++ (c ++ w.rest)) is_body
           ∙ sym (append_assoc (u32 (length (body f))) (body f) w.rest)
-          ∙ ap (λ (r : List ℕ). spelling f ++ r) rest,
+          ∙ ap (λ (r : List ℕ). frame_bytes f ++ r) rest,
     )
 
 fault_of : (e : FrameError) (bytes content : List ℕ) → IsWhole bytes content
-    → Verdict (Err e) content → Answers (Err e) bytes bytes
+    → Verdict (Err e) content → NextOutcome (Err e) bytes bytes
 fault_of fault.TooLong bytes content w v = absurd v
 fault_of fault.BadKind bytes content w v = ((content, w, v), refl)
 fault_of fault.BadField bytes content w v = (inr (content, w, v), refl)
@@ -87,7 +88,7 @@ fault_of fault.Memory bytes content w v = absurd v
 
 told_fault : TestDecidesConfig →
     (e : FrameError) (bytes content : List ℕ) → IsWhole bytes content → IsBytes content
-    → content_at content ≡ Err e → Answers (Err e) bytes bytes
+    → content_at content ≡ Err e → NextOutcome (Err e) bytes bytes
 told_fault decides e bytes content w fits read =
     fault_of e bytes content w
     (subst (λ (r : Result Frame FrameError). Verdict r content) read
@@ -95,7 +96,7 @@ told_fault decides e bytes content w fits read =
 
 fault_or : TestDecidesConfig →
     (e : FrameError) (bytes content : List ℕ) → IsWhole bytes content → IsBytes content
-    → IsOr (Err e) (content_at content) → Answers (Err e) bytes bytes
+    → IsOr (Err e) (content_at content) → NextOutcome (Err e) bytes bytes
 fault_or decides fault.Memory bytes content w fits read = ((content, w), refl)
 fault_or decides fault.TooLong bytes content w fits read =
     told_fault decides fault.TooLong bytes content w fits read
@@ -109,7 +110,7 @@ fault_or decides fault.Trailing bytes content w fits read =
 pub front_fault : TestDecidesConfig →
     (bytes : List ℕ) (n : ℕ) (e : FrameError) → IsBytes bytes → 4 ≤ length bytes
     → n ≡ length_field bytes → 1 ≤ n → n ≤ MAX_FRAME → n ≤ length (drop 4 bytes)
-    → IsOr (Err e) (content_at (take n (drop 4 bytes))) → Answers (Err e) bytes bytes
+    → IsOr (Err e) (content_at (take n (drop 4 bytes))) → NextOutcome (Err e) bytes bytes
 front_fault decides bytes n e fits long told some few there read =
     fault_or decides e bytes (take n (drop 4 bytes)) (whole bytes n fits long told some few there)
     (small bytes n fits) read
@@ -184,7 +185,7 @@ whole_shape bytes content w =
     le-ltb _ _ (omega (arith, length-append content w.rest)) in
     rw (told, field, few, some, after, there, take_at content w.rest n refl) refl
 
-whole_frame : (bytes rest : List ℕ) (f : Frame) → IsFrame f → bytes ≡ spelling f ++ rest
+whole_frame : (bytes rest : List ℕ) (f : Frame) → IsFrame f → bytes ≡ frame_bytes f ++ rest
     → IsWhole bytes (body f)
 whole_frame bytes rest f is parts =
     record {
@@ -203,7 +204,7 @@ goes_whole : (bytes content : List ℕ) (v : Result Frame FrameError)
 goes_whole bytes content v a w is same =
     subst (λ (s : Shape). Goes s a) (sym (whole_shape bytes content w)) (w.some, v, is, same)
 
-goes : (a : Result (Option Frame) FrameError) (old new : List ℕ) → Tells a old new
+goes : (a : Result (Option Frame) FrameError) (old new : List ℕ) → IsByteOutcome a old new
     → Goes (shape_of old) a
 goes (Ok (Some f)) old new t =
     goes_whole old (body f) (Ok f) (Ok (Some f)) (whole_frame old new f t.0 t.1)
@@ -224,9 +225,10 @@ goes (Err fault.Trailing) old new t =
     goes_whole old t.0.0 (Err fault.Trailing) (Err fault.Trailing) t.0.1 t.0.2 refl
 goes (Err fault.Memory) old new t = absurd t
 
-one_rest : (a : Result (Option Frame) FrameError) (old new other : List ℕ) → Tells a old new
-    → Tells a old other → new ≡ other
-one_rest (Ok (Some f)) old new other t u = append_cancel_left (spelling f) new other (sym t.1 ∙ u.1)
+one_rest : (a : Result (Option Frame) FrameError) (old new other : List ℕ) → IsByteOutcome a old new
+    → IsByteOutcome a old other → new ≡ other
+one_rest (Ok (Some f)) old new other t u = append_cancel_left (frame_bytes f) new other
+    (sym t.1 ∙ u.1)
 one_rest (Ok None) old new other t u = t.1 ∙ sym u.1
 one_rest (Err fault.TooLong) old new other t u = t.1 ∙ sym u.1
 one_rest (Err fault.BadKind) old new other t u = t.1 ∙ sym u.1
@@ -241,7 +243,7 @@ one_answer decides a b old new other t u =
     let same = one_goes decides (shape_of old) a b (goes a old new t) (goes b old other u) in (
       same,
       one_rest b old new other
-          (subst (λ (x : Result (Option Frame) FrameError). Tells x old new) same t) u,
+          (subst (λ (x : Result (Option Frame) FrameError). IsByteOutcome x old new) same t) u,
     )
 
 some_is : (f g : Frame) → as_answer (Ok f) ≡ as_answer (Ok g) → f ≡ g
@@ -255,7 +257,7 @@ cons_same f g fs gs a b = cc
 
 pub one_spelling : TestDecidesConfig → OneSpelling
 one_spelling decides f g x y is_f is_g same =
-    let both = one_answer decides (Ok (Some f)) (Ok (Some g)) (spelling f ++ x) x y (is_f, refl)
+    let both = one_answer decides (Ok (Some f)) (Ok (Some g)) (frame_bytes f ++ x) x y (is_f, refl)
     (is_g, same) in
     (some_is f g both.0, both.1)
 
@@ -292,16 +294,16 @@ faults_stay fault.Memory bytes more h = absurd h
 -- a first frame, and the stream behind it
 first_told : (stream rest : List ℕ) (f : Frame) (frames : List Frame) → Splits stream (f
     ∷ frames) rest
-    → Tells (Ok (Some f)) stream (flat_map spelling frames ++ rest)
+    → IsByteOutcome (Ok (Some f)) stream (flat_map frame_bytes frames ++ rest)
 first_told stream rest f frames s = (
   (recursion_from_All IsFrame (f ∷ frames) s.each).0,
   s.whole
-      ∙ ap (λ (t : List ℕ). t ++ rest) (flat_map-cons spelling f frames)
-      ∙ append_assoc (spelling f) (flat_map spelling frames) rest,
+      ∙ ap (λ (t : List ℕ). t ++ rest) (flat_map-cons frame_bytes f frames)
+      ∙ append_assoc (frame_bytes f) (flat_map frame_bytes frames) rest,
 )
 
 later : (stream rest : List ℕ) (f : Frame) (frames : List Frame) → Splits stream (f ∷ frames) rest
-    → Splits (flat_map spelling frames ++ rest) frames rest
+    → Splits (flat_map frame_bytes frames ++ rest) frames rest
 later stream rest f frames s =
     record {
       whole = refl;
@@ -309,7 +311,7 @@ later stream rest f frames s =
       partial = s.partial;
     }
 
-none_told : (stream rest : List ℕ) → Splits stream [] rest → Tells (Ok None) stream stream
+none_told : (stream rest : List ℕ) → Splits stream [] rest → IsByteOutcome (Ok None) stream stream
 none_told stream rest s = (subst IsPartial (sym s.whole) s.partial, refl)
 
 no_frame : TestDecidesConfig →
@@ -317,7 +319,7 @@ no_frame : TestDecidesConfig →
     → Splits stream (f ∷ frames) other → ⊥
 no_frame decides stream rest other f frames s t =
     let both = one_answer decides (Ok None) (Ok (Some f)) stream stream
-    (flat_map spelling frames ++ other) (none_told stream rest s)
+    (flat_map frame_bytes frames ++ other) (none_told stream rest s)
     (first_told stream other f frames t) in
     none_some f both.0
 
@@ -328,12 +330,13 @@ one_split decides stream rest other [] (g ∷ gs) s t =
 one_split decides stream rest other (f ∷ fs) [] s t =
     absurd (no_frame decides stream other rest f fs t s)
 one_split decides stream rest other (f ∷ fs) (g ∷ gs) s t =
-    let both = one_answer decides (Ok (Some f)) (Ok (Some g)) stream (flat_map spelling fs ++ rest)
-    (flat_map spelling gs ++ other) (first_told stream rest f fs s)
+    let both = one_answer decides (Ok (Some f)) (Ok (Some g)) stream
+        (flat_map frame_bytes fs ++ rest)
+    (flat_map frame_bytes gs ++ other) (first_told stream rest f fs s)
     (first_told stream other g gs t) in
     let same = some_is f g both.0 in
-    let behind : Splits (flat_map spelling fs ++ rest) gs other =
+    let behind : Splits (flat_map frame_bytes fs ++ rest) gs other =
     subst (λ (x : List ℕ). Splits x gs other) (sym both.1) (later stream other g gs t) in
-    let more = one_split decides (flat_map spelling fs ++ rest) rest other fs gs
+    let more = one_split decides (flat_map frame_bytes fs ++ rest) rest other fs gs
     (later stream rest f fs s) behind in
     (cons_same f g fs gs same more.0, more.1)

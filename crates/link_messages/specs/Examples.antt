@@ -5,7 +5,7 @@ use Rattle.kv_types.specs.Content.{BatchContent}
 use Rattle.kv_types.specs.Spelling as batch
 use Rattle.link_messages.specs.declared.frame.Frame.{Frame}
 use Rattle.link_messages.specs.declared.frame.Frame.TheVariants as frame
-use Rattle.link_messages.specs.Spelling.{spelling}
+use Rattle.link_messages.specs.Spelling.{frame_bytes}
 
 -- a=1
 abbrev pub one_put : BatchContent
@@ -19,13 +19,13 @@ first_forward = frame.Forward 0 1 1 one_put
 abbrev pub first_ack : Frame
 first_ack = frame.Ack 0 3 1 1
 
-pub record Examples : Type 0 where
-  pub put : batch.spelling one_put ≡ 0 ∷ 1 ∷ 1 ∷ 0 ∷ 1 ∷ 97 ∷ 0 ∷ 1 ∷ 49 ∷ []
-  pub forward : spelling first_forward
+pub record FrameExamples : Type 0 where
+  pub put : batch.batch_bytes one_put ≡ 0 ∷ 1 ∷ 1 ∷ 0 ∷ 1 ∷ 97 ∷ 0 ∷ 1 ∷ 49 ∷ []
+  pub forward : frame_bytes first_forward
       ≡ 0 ∷ 0 ∷ 0 ∷ 24 ∷ 1 ∷ 0 ∷ 0 ∷ 0 ∷ 0 ∷ 0 ∷ 1 ∷ 0 ∷ 0 ∷ 0 ∷ 0 ∷ 0 ∷ 0 ∷ 0 ∷ 1 ∷ 0 ∷ 1 ∷ 1
       ∷ 0 ∷ 1
       ∷ 97 ∷ 0 ∷ 1 ∷ 49 ∷ []
-  pub ack : spelling first_ack
+  pub ack : frame_bytes first_ack
       ≡ 0 ∷ 0 ∷ 0 ∷ 23 ∷ 2 ∷ 0 ∷ 0 ∷ 0 ∷ 0 ∷ 0 ∷ 3 ∷ 0 ∷ 0 ∷ 0 ∷ 0 ∷ 0 ∷ 0 ∷ 0 ∷ 1 ∷ 0 ∷ 0 ∷ 0
       ∷ 0 ∷ 0
       ∷ 0 ∷ 0 ∷ 1 ∷ []

@@ -32,8 +32,8 @@ abbrev pub both : {A B : Type 0} → Reader A → Reader B → Reader (A × B)
 both first second bytes = first bytes >>= λ a. second a.1 >>= λ b. Some ((a.0, b.0), b.1)
 
 -- a reading with a function applied to its value
-abbrev pub made : {A B : Type 0} → (A → B) → Reader A → Reader B
-made make read bytes = read bytes >>= λ a. Some (make a.0, a.1)
+abbrev pub mapped : {A B : Type 0} → (A → B) → Reader A → Reader B
+mapped make read bytes = read bytes >>= λ a. Some (make a.0, a.1)
 
 -- a reading whose value passes a test
 abbrev pub only : {A : Type 0} → (A → Bool) → Reader A → Reader A
@@ -63,7 +63,7 @@ truth_at (suc zero ∷ rest) = Some (true, rest)
 truth_at (suc (suc b) ∷ rest) = None
 
 abbrev pub optional_at : {A : Type 0} → Reader A → Reader (Option A)
-optional_at read bytes = truth_at bytes >>= λ there. if there.0 then made Some read there.1 else
+optional_at read bytes = truth_at bytes >>= λ there. if there.0 then mapped Some read there.1 else
     Some (None, there.1)
 
 unfoldable pub epoch_at : Reader ℕ
@@ -100,13 +100,13 @@ bound_at bytes = optional_at (text_at MAX_KEY) bytes
 
 unfoldable pub range_at : Reader Span
 range_at bytes =
-    made as_range (both (text_at MAX_KEY) (both bound_at (both truth_at limit_at))) bytes
+    mapped as_range (both (text_at MAX_KEY) (both bound_at (both truth_at limit_at))) bytes
 
 abbrev pub as_row : List ℕ × List ℕ → Row
 as_row x = record { key = x.0; value = x.1 }
 
 unfoldable pub row_at : Reader Row
-row_at bytes = made as_row (both (text_at MAX_KEY) (text_at MAX_VALUE)) bytes
+row_at bytes = mapped as_row (both (text_at MAX_KEY) (text_at MAX_VALUE)) bytes
 
 abbrev pub as_page : Bool × List Row → Rows
 as_page x = record { rows = x.1; more = x.0 }
@@ -118,7 +118,7 @@ rows_at bytes = counted (only (λ n. nat_le n MAX_ROWS) (number_at w16)) row_at 
 unfoldable pub page_at : Reader Rows
 page_at bytes =
     only (λ page. nat_le (sum_by row_size page.rows) MAX_PAGE)
-    (made as_page (both truth_at rows_at)) bytes
+    (mapped as_page (both truth_at rows_at)) bytes
 
 -- the refusal of a code
 abbrev pub refusal_of : ℕ → Option Refusal
@@ -141,53 +141,53 @@ refusal_at bytes = number_at w8 bytes >>= λ code. refusal_of code.0 >>= λ refu
 
 unfoldable pub forward_at : Reader Frame
 forward_at bytes =
-    made (λ x. frame.Forward x.0 x.1.0 x.1.1.0 x.1.1.1)
+    mapped (λ x. frame.Forward x.0 x.1.0 x.1.1.0 x.1.1.1)
     (both epoch_at (both id_at (both place_at batch_at))) bytes
 
 unfoldable pub ack_at : Reader Frame
 ack_at bytes =
-    made (λ x. frame.Ack x.0 x.1.0 x.1.1.0 x.1.1.1)
+    mapped (λ x. frame.Ack x.0 x.1.0 x.1.1.0 x.1.1.1)
     (both epoch_at (both id_at (both count_at count_at))) bytes
 
 unfoldable pub notice_at : Reader Frame
-notice_at bytes = made (λ x. frame.Notice x.0 x.1) (both epoch_at config_at) bytes
+notice_at bytes = mapped (λ x. frame.Notice x.0 x.1) (both epoch_at config_at) bytes
 
 unfoldable pub submit_at : Reader Frame
-submit_at bytes = made (λ x. frame.Submit x.0 x.1) (both count_at batch_at) bytes
+submit_at bytes = mapped (λ x. frame.Submit x.0 x.1) (both count_at batch_at) bytes
 
 unfoldable pub get_at : Reader Frame
 get_at bytes =
-    made (λ x. frame.Get x.0 x.1.0 x.1.1) (both count_at (both at_at (text_at MAX_KEY))) bytes
+    mapped (λ x. frame.Get x.0 x.1.0 x.1.1) (both count_at (both at_at (text_at MAX_KEY))) bytes
 
 unfoldable pub rows_frame_at : Reader Frame
 rows_frame_at bytes =
-    made (λ x. frame.Rows x.0 x.1.0 x.1.1) (both count_at (both at_at range_at)) bytes
+    mapped (λ x. frame.Rows x.0 x.1.0 x.1.1) (both count_at (both at_at range_at)) bytes
 
 unfoldable pub open_at : Reader Frame
-open_at bytes = made (λ x. frame.Open x.0 x.1) (both count_at at_at) bytes
+open_at bytes = mapped (λ x. frame.Open x.0 x.1) (both count_at at_at) bytes
 
 unfoldable pub close_at : Reader Frame
-close_at bytes = made (λ x. frame.Close x.0 x.1) (both count_at count_at) bytes
+close_at bytes = mapped (λ x. frame.Close x.0 x.1) (both count_at count_at) bytes
 
 unfoldable pub committed_at : Reader Frame
-committed_at bytes = made (λ x. frame.Committed x.0 x.1) (both count_at count_at) bytes
+committed_at bytes = mapped (λ x. frame.Committed x.0 x.1) (both count_at count_at) bytes
 
 unfoldable pub value_at : Reader Frame
 value_at bytes =
-    made (λ x. frame.Value x.0 x.1.0 x.1.1) (both count_at (both count_at found_at)) bytes
+    mapped (λ x. frame.Value x.0 x.1.0 x.1.1) (both count_at (both count_at found_at)) bytes
 
 unfoldable pub rows_are_at : Reader Frame
 rows_are_at bytes =
-    made (λ x. frame.RowsAre x.0 x.1.0 x.1.1) (both count_at (both count_at page_at)) bytes
+    mapped (λ x. frame.RowsAre x.0 x.1.0 x.1.1) (both count_at (both count_at page_at)) bytes
 
 unfoldable pub opened_at : Reader Frame
-opened_at bytes = made (λ x. frame.Opened x.0 x.1) (both count_at count_at) bytes
+opened_at bytes = mapped (λ x. frame.Opened x.0 x.1) (both count_at count_at) bytes
 
 unfoldable pub refused_at : Reader Frame
-refused_at bytes = made (λ x. frame.Refused x.0 x.1) (both count_at refusal_at) bytes
+refused_at bytes = mapped (λ x. frame.Refused x.0 x.1) (both count_at refusal_at) bytes
 
 unfoldable pub closed_at : Reader Frame
-closed_at bytes = made (λ x. frame.Closed x.0 x.1) (both count_at count_at) bytes
+closed_at bytes = mapped (λ x. frame.Closed x.0 x.1) (both count_at count_at) bytes
 
 -- the readers in the order of their kinds, from 1
 abbrev pub readers : List (Reader Frame)
@@ -235,20 +235,20 @@ answer_at bytes =
 -- ---- results of functions
 
 -- the cause of a field's refusal: `BadField` only where nothing can be read
-abbrev pub Fails : {Y : Type 0} → FrameError → Option Y → Type 0
-Fails fault.BadField read = read ≡ None
-Fails fault.Memory read = Unit {0}
-Fails _ read = ⊥
+abbrev pub RefusesField : {Y : Type 0} → FrameError → Option Y → Type 0
+RefusesField fault.BadField read = read ≡ None
+RefusesField fault.Memory read = Unit {0}
+RefusesField _ read = ⊥
 
 -- a function's result is what was read, with the bytes behind it, unless memory ran out
-abbrev pub GivesAt : {X : Type 0} → Result X FrameError → List ℕ → Option (X × List ℕ) → Type 0
-GivesAt (Ok x) rest read = read ≡ Some (x, rest)
-GivesAt (Err e) rest read = Fails e read
+abbrev pub ReadsField : {X : Type 0} → Result X FrameError → List ℕ → Option (X × List ℕ) → Type 0
+ReadsField (Ok x) rest read = read ≡ Some (x, rest)
+ReadsField (Err e) rest read = RefusesField e read
 
 -- the same for a frame of a kind that may be unknown
-abbrev pub GivesKind : Result Frame FrameError → List ℕ → Option (Reader Frame) → List ℕ → Type 0
-GivesKind result rest (Some read) bytes = GivesAt result rest (read bytes)
-GivesKind result rest None bytes = result ≡ Err fault.BadKind
+abbrev pub ReadsKind : Result Frame FrameError → List ℕ → Option (Reader Frame) → List ℕ → Type 0
+ReadsKind result rest (Some read) bytes = ReadsField result rest (read bytes)
+ReadsKind result rest None bytes = result ≡ Err fault.BadKind
 
 -- the function returned this result, unless memory ran out
 abbrev pub IsOr : Result Frame FrameError → Result Frame FrameError → Type 0
@@ -262,11 +262,11 @@ items_of (Ok v) = Ok v.items
 items_of (Err e) = Err e
 
 -- the answer with the length of the frame, as an answer with the bytes behind the frame
-abbrev pub told_by : Result (Option (Frame × ℕ)) FrameError → Result (Option Frame) FrameError
-told_by (Ok None) = Ok None
-told_by (Ok (Some x)) = Ok (Some x.0)
-told_by (Err e) = Err e
+abbrev pub frame_found : Result (Option (Frame × ℕ)) FrameError → Result (Option Frame) FrameError
+frame_found (Ok None) = Ok None
+frame_found (Ok (Some x)) = Ok (Some x.0)
+frame_found (Err e) = Err e
 
-abbrev pub left_by : Result (Option (Frame × ℕ)) FrameError → List ℕ → List ℕ
-left_by (Ok (Some x)) bytes = drop x.1 bytes
-left_by _ bytes = bytes
+abbrev pub bytes_left : Result (Option (Frame × ℕ)) FrameError → List ℕ → List ℕ
+bytes_left (Ok (Some x)) bytes = drop x.1 bytes
+bytes_left _ bytes = bytes

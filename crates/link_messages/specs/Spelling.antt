@@ -10,8 +10,8 @@ use Rattle.kv_types.specs.declared.bounds.TheConstants.{MAX_KEY, MAX_VALUE, MAX_
 use Rattle.kv_types.specs.declared.bounds.TheConstants.{MAX_NUMBER}
 use Rattle.kv_types.specs.declared.row.Row.{Row}
 use Rattle.kv_types.specs.Spans.{Span, Rows}
-use Rattle.kv_types.specs.Spelling.{text, IsBatch}
-use Rattle.kv_types.specs.Spelling.{spelling as batch_text}
+use Rattle.kv_types.specs.Spelling.{text_bytes, IsBatch}
+use Rattle.kv_types.specs.Spelling.{batch_bytes as batch_text}
 use Rattle.kv_types.specs.Pages.{KeepsLimits}
 use Rattle.chain_model.specs.declared.refusal.Refusal.{Refusal}
 use Rattle.chain_model.specs.declared.refusal.Refusal.TheVariants as refused
@@ -50,25 +50,26 @@ at_text at = optional u64 at
 -- the first key, the bound, the direction and the limit
 abbrev pub range_text : Span → List ℕ
 range_text range =
-    text range.from ++ (optional text range.to ++ (truth range.backward ++ u32 range.limit))
+    text_bytes range.from ++
+        (optional text_bytes range.to ++ (truth range.backward ++ u32 range.limit))
 
 abbrev pub row_text : Row → List ℕ
-row_text row = text row.key ++ text row.value
+row_text row = text_bytes row.key ++ text_bytes row.value
 
 -- whether the range has more rows, the number of rows in two bytes, and the rows
 abbrev pub page_text : Rows → List ℕ
 page_text page = truth page.more ++ (u16 (length page.rows) ++ flat_map row_text page.rows)
 
 -- the refusals, numbered from 1
-abbrev pub code : Refusal → ℕ
-code refused.NotRunning = 1
-code refused.NotHead = 2
-code refused.TooOld = 3
-code refused.NotCommitted = 4
-code refused.NoSuchSnapshot = 5
-code refused.TooManySnapshots = 6
-code refused.Removed = 7
-code refused.Exhausted = 8
+abbrev pub refusal_number : Refusal → ℕ
+refusal_number refused.NotRunning = 1
+refusal_number refused.NotHead = 2
+refusal_number refused.TooOld = 3
+refusal_number refused.NotCommitted = 4
+refusal_number refused.NoSuchSnapshot = 5
+refusal_number refused.TooManySnapshots = 6
+refusal_number refused.Removed = 7
+refusal_number refused.Exhausted = 8
 
 -- ---- frames
 
@@ -97,15 +98,15 @@ fields (frame.Ack epoch from committed have) =
     u32 epoch ++ (u16 from ++ (u64 committed ++ u64 have))
 fields (frame.Notice epoch config) = u32 epoch ++ config_text config
 fields (frame.Submit request batch) = u64 request ++ batch_text batch
-fields (frame.Get request at key) = u64 request ++ (at_text at ++ text key)
+fields (frame.Get request at key) = u64 request ++ (at_text at ++ text_bytes key)
 fields (frame.Rows request at range) = u64 request ++ (at_text at ++ range_text range)
 fields (frame.Open request at) = u64 request ++ at_text at
 fields (frame.Close request number) = u64 request ++ u64 number
 fields (frame.Committed request number) = u64 request ++ u64 number
-fields (frame.Value request number value) = u64 request ++ (u64 number ++ optional text value)
+fields (frame.Value request number value) = u64 request ++ (u64 number ++ optional text_bytes value)
 fields (frame.RowsAre request number page) = u64 request ++ (u64 number ++ page_text page)
 fields (frame.Opened request number) = u64 request ++ u64 number
-fields (frame.Refused request refusal) = u64 request ++ u8 (code refusal)
+fields (frame.Refused request refusal) = u64 request ++ u8 (refusal_number refusal)
 fields (frame.Closed request number) = u64 request ++ u64 number
 
 -- the kind in one byte, and the fields
@@ -113,8 +114,8 @@ abbrev pub body : Frame → List ℕ
 body f = kind f ∷ fields f
 
 -- the length in four bytes, and that many bytes
-abbrev pub spelling : Frame → List ℕ
-spelling f = u32 (length (body f)) ++ body f
+abbrev pub frame_bytes : Frame → List ℕ
+frame_bytes f = u32 (length (body f)) ++ body f
 
 -- ---- ranges of the fields
 

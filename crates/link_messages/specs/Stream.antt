@@ -7,7 +7,7 @@ use Rattle.link_messages.specs.declared.error.FrameError.{FrameError}
 use Rattle.link_messages.specs.declared.error.FrameError.TheVariants as fault
 use Rattle.link_messages.specs.declared.frame.Frame.{Frame}
 use Rattle.link_messages.specs.declared.frame.TheConstants.{MAX_FRAME}
-use Rattle.link_messages.specs.Spelling.{u32, body, spelling, IsFrame}
+use Rattle.link_messages.specs.Spelling.{u32, body, frame_bytes, IsFrame}
 
 -- the length in the first four bytes
 abbrev pub length_field : List ℕ → ℕ
@@ -37,21 +37,21 @@ HasKind [] = ⊥
 HasKind (k ∷ rest) = (1 ≤ k) × (k ≤ 14)
 
 -- a frame in range, and the bytes behind it
-pub record Begins (content : List ℕ) (f : Frame) (behind : List ℕ) : Type 0 where
+pub record BeginsWithFrame (content : List ℕ) (f : Frame) (behind : List ℕ) : Type 0 where
   pub frame : IsFrame f
   pub parts : content ≡ body f ++ behind
 
 -- content of a known kind that begins with no frame in range
 pub record IsMalformed (content : List ℕ) : Type 0 where
   pub known : HasKind content
-  pub none : (f : Frame) (behind : List ℕ) → Begins content f behind → ⊥
+  pub none : (f : Frame) (behind : List ℕ) → BeginsWithFrame content f behind → ⊥
 
 -- content with one or more bytes behind a frame in range
 pub record IsTooMuch (content : List ℕ) : Type 0 where
   pub frame : Frame
   pub byte : ℕ
   pub more : List ℕ
-  pub begins : Begins content frame (byte ∷ more)
+  pub begins : BeginsWithFrame content frame (byte ∷ more)
 
 -- the error at the front of the bytes
 abbrev pub HasFault : FrameError → List ℕ → Type 0
@@ -66,16 +66,16 @@ HasFault fault.Memory bytes = ⊥
 -- The answers of a read. There is a frame at the front, and the bytes behind it remain. Or the
 -- frame is incomplete, or it is complete and memory ran out, or there is an error. Without a frame
 -- all bytes remain.
-abbrev pub Answers : Result (Option Frame) FrameError → List ℕ → List ℕ → Type 0
-Answers (Ok (Some f)) old new = IsFrame f × (old ≡ spelling f ++ new)
-Answers (Ok None) old new = IsPartial old × (new ≡ old)
-Answers (Err fault.Memory) old new =
+abbrev pub NextOutcome : Result (Option Frame) FrameError → List ℕ → List ℕ → Type 0
+NextOutcome (Ok (Some f)) old new = IsFrame f × (old ≡ frame_bytes f ++ new)
+NextOutcome (Ok None) old new = IsPartial old × (new ≡ old)
+NextOutcome (Err fault.Memory) old new =
     ((content : List ℕ) × IsWhole old content) × (new ≡ old)
-Answers (Err e) old new = HasFault e old × (new ≡ old)
+NextOutcome (Err e) old new = HasFault e old × (new ≡ old)
 
 -- the stream is these frames, and then an incomplete one
 pub record Splits (stream : List ℕ) (frames : List Frame) (rest : List ℕ) : Type 0 where
-  pub whole : stream ≡ flat_map spelling frames ++ rest
+  pub whole : stream ≡ flat_map frame_bytes frames ++ rest
   pub each : All IsFrame frames
   pub partial : IsPartial rest
 
@@ -84,17 +84,17 @@ pub record Splits (stream : List ℕ) (frames : List Frame) (rest : List ℕ) : 
 -- no spelling is a prefix of another, and no two frames have the same spelling
 abbrev pub OneSpelling : Type 0
 OneSpelling = (f g : Frame) (x y : List ℕ) → IsFrame f → IsFrame g
-    → spelling f ++ x ≡ spelling g ++ y → (f ≡ g) × (x ≡ y)
+    → frame_bytes f ++ x ≡ frame_bytes g ++ y → (f ≡ g) × (x ≡ y)
 
 -- the answer is about the bytes, and memory did not run out
-abbrev pub Tells : Result (Option Frame) FrameError → List ℕ → List ℕ → Type 0
-Tells (Err fault.Memory) old new = ⊥
-Tells answer old new = Answers answer old new
+abbrev pub IsByteOutcome : Result (Option Frame) FrameError → List ℕ → List ℕ → Type 0
+IsByteOutcome (Err fault.Memory) old new = ⊥
+IsByteOutcome answer old new = NextOutcome answer old new
 
 -- the same bytes have one answer, and leave one rest
 abbrev pub OneAnswer : Type 0
 OneAnswer = (a b : Result (Option Frame) FrameError) (old new other : List ℕ)
-    → Tells a old new → Tells b old other → (a ≡ b) × (new ≡ other)
+    → IsByteOutcome a old new → IsByteOutcome b old other → (a ≡ b) × (new ≡ other)
 
 -- an error stays, whatever bytes follow
 abbrev pub FaultsStay : Type 0

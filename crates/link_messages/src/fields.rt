@@ -2,12 +2,12 @@
 ghost use Rattle.std.specs.Prelude.{◌≡◌, ◌++◌, OnOk, IfOk, IfSome, option_copied, option_map};
 ghost use Rattle.chain_model.specs.Configuration.{IsId};
 ghost use Rattle.kv_types.specs.declared.bounds.TheConstants.{MAX_KEY, MAX_VALUE};
-ghost use Rattle.kv_types.specs.Spelling.{text};
+ghost use Rattle.kv_types.specs.Spelling.{text_bytes};
 ghost use Rattle.kv_types.specs.Reading.{text_at, batch_at};
 ghost use Rattle.link_messages.specs.Spelling.{u16, u32, u64, optional, at_text};
 ghost use Rattle.link_messages.specs.Spelling.{range_text, IsEpoch, IsNumber, IsKey, IsValue};
 ghost use Rattle.link_messages.specs.Spelling.{IsRange};
-ghost use Rattle.link_messages.specs.Reading.{GivesAt};
+ghost use Rattle.link_messages.specs.Reading.{ReadsField};
 ghost use Rattle.link_messages.specs.Reading.{epoch_at, id_at, count_at, place_at};
 ghost use Rattle.link_messages.specs.Reading.{at_at, found_at, config_at, bound_at, range_at};
 
@@ -56,7 +56,7 @@ pub fn put_at(out: &mut Vec<u8>, at: Option<Number>) -> Result<(), AllocError>
 
 pub fn put_found(out: &mut Vec<u8>, value: Option<&Value>) -> Result<(), AllocError>
     ensures spelled { OnOk result (out.new.items
-        ≡ out.old.items ++ optional text (option_copied value.entry)) }
+        ≡ out.old.items ++ optional text_bytes (option_copied value.entry)) }
     ensures is { OnOk result (IfSome (option_copied value.entry) IsValue) }
 {
     match value {
@@ -70,7 +70,7 @@ pub fn put_found(out: &mut Vec<u8>, value: Option<&Value>) -> Result<(), AllocEr
 
 fn put_bound(out: &mut Vec<u8>, to: Option<&Key>) -> Result<(), AllocError>
     ensures spelled { OnOk result (out.new.items
-        ≡ out.old.items ++ optional text (option_copied to.entry)) }
+        ≡ out.old.items ++ optional text_bytes (option_copied to.entry)) }
     ensures is { OnOk result (IfSome (option_copied to.entry) IsKey) }
 {
     match to {
@@ -96,7 +96,7 @@ pub fn put_range(out: &mut Vec<u8>, range: &Range) -> Result<(), AllocError>
 
 #[tactic(auto, unfolding(crate::specs::Reading::epoch_at))]
 pub fn epoch_of(bytes: &mut &[u8]) -> Result<Epoch, FrameError>
-    ensures { GivesAt result bytes.new.now (epoch_at bytes.old.now) }
+    ensures { ReadsField result bytes.new.now (epoch_at bytes.old.now) }
 {
     match Epoch::new(u32_of(bytes)?) {
         Some(epoch) => Ok(epoch),
@@ -106,7 +106,7 @@ pub fn epoch_of(bytes: &mut &[u8]) -> Result<Epoch, FrameError>
 
 #[tactic(auto, unfolding(crate::specs::Reading::id_at))]
 pub fn id_of(bytes: &mut &[u8]) -> Result<NodeId, FrameError>
-    ensures { GivesAt result bytes.new.now (id_at bytes.old.now) }
+    ensures { ReadsField result bytes.new.now (id_at bytes.old.now) }
 {
     match NodeId::new(u16_of(bytes)?) {
         Some(id) => Ok(id),
@@ -116,7 +116,7 @@ pub fn id_of(bytes: &mut &[u8]) -> Result<NodeId, FrameError>
 
 #[tactic(auto, unfolding(crate::specs::Reading::count_at))]
 pub fn number_of(bytes: &mut &[u8]) -> Result<Number, FrameError>
-    ensures { GivesAt result bytes.new.now (count_at bytes.old.now) }
+    ensures { ReadsField result bytes.new.now (count_at bytes.old.now) }
 {
     match Number::new(u64_of(bytes)?) {
         Some(number) => Ok(number),
@@ -126,7 +126,7 @@ pub fn number_of(bytes: &mut &[u8]) -> Result<Number, FrameError>
 
 #[tactic(auto, unfolding(crate::specs::Reading::place_at))]
 pub fn place_of(bytes: &mut &[u8]) -> Result<Number, FrameError>
-    ensures { GivesAt result bytes.new.now (place_at bytes.old.now) }
+    ensures { ReadsField result bytes.new.now (place_at bytes.old.now) }
 {
     let number = number_of(bytes)?;
     if number.get() < 1 {
@@ -137,7 +137,7 @@ pub fn place_of(bytes: &mut &[u8]) -> Result<Number, FrameError>
 
 #[tactic(auto, unfolding(crate::specs::Reading::at_at))]
 pub fn at_of(bytes: &mut &[u8]) -> Result<Option<Number>, FrameError>
-    ensures { GivesAt result bytes.new.now (at_at bytes.old.now) }
+    ensures { ReadsField result bytes.new.now (at_at bytes.old.now) }
 {
     if !truth_of(bytes)? {
         return Ok(None);
@@ -146,7 +146,7 @@ pub fn at_of(bytes: &mut &[u8]) -> Result<Option<Number>, FrameError>
 }
 
 pub fn key_of(alloc: Global, bytes: &mut &[u8]) -> Result<Key, FrameError>
-    ensures { GivesAt result bytes.new.now (text_at MAX_KEY bytes.old.now) }
+    ensures { ReadsField result bytes.new.now (text_at MAX_KEY bytes.old.now) }
 {
     match Key::read_from(alloc, bytes) {
         Ok((read, rest)) => {
@@ -159,7 +159,7 @@ pub fn key_of(alloc: Global, bytes: &mut &[u8]) -> Result<Key, FrameError>
 }
 
 pub fn value_of(alloc: Global, bytes: &mut &[u8]) -> Result<Value, FrameError>
-    ensures { GivesAt result bytes.new.now (text_at MAX_VALUE bytes.old.now) }
+    ensures { ReadsField result bytes.new.now (text_at MAX_VALUE bytes.old.now) }
 {
     match Value::read_from(alloc, bytes) {
         Ok((read, rest)) => {
@@ -172,7 +172,7 @@ pub fn value_of(alloc: Global, bytes: &mut &[u8]) -> Result<Value, FrameError>
 }
 
 pub fn batch_of(alloc: Global, bytes: &mut &[u8]) -> Result<Batch, FrameError>
-    ensures { GivesAt result bytes.new.now (batch_at bytes.old.now) }
+    ensures { ReadsField result bytes.new.now (batch_at bytes.old.now) }
 {
     match Batch::read_from(alloc, bytes) {
         Ok((read, rest)) => {
@@ -186,7 +186,7 @@ pub fn batch_of(alloc: Global, bytes: &mut &[u8]) -> Result<Batch, FrameError>
 
 #[tactic(auto, unfolding(crate::specs::Reading::found_at))]
 pub fn found_of(alloc: Global, bytes: &mut &[u8]) -> Result<Option<Value>, FrameError>
-    ensures { GivesAt result bytes.new.now (found_at bytes.old.now) }
+    ensures { ReadsField result bytes.new.now (found_at bytes.old.now) }
 {
     if !truth_of(bytes)? {
         return Ok(None);
@@ -196,7 +196,7 @@ pub fn found_of(alloc: Global, bytes: &mut &[u8]) -> Result<Option<Value>, Frame
 
 #[tactic(auto, unfolding(crate::specs::Reading::bound_at))]
 fn bound_of(alloc: Global, bytes: &mut &[u8]) -> Result<Option<Key>, FrameError>
-    ensures { GivesAt result bytes.new.now (bound_at bytes.old.now) }
+    ensures { ReadsField result bytes.new.now (bound_at bytes.old.now) }
 {
     if !truth_of(bytes)? {
         return Ok(None);
@@ -206,7 +206,7 @@ fn bound_of(alloc: Global, bytes: &mut &[u8]) -> Result<Option<Key>, FrameError>
 
 #[tactic(auto, unfolding(crate::specs::Reading::range_at, crate::specs::Reading::limit_at))]
 pub fn range_of(alloc: Global, bytes: &mut &[u8]) -> Result<Range, FrameError>
-    ensures { GivesAt result bytes.new.now (range_at bytes.old.now) }
+    ensures { ReadsField result bytes.new.now (range_at bytes.old.now) }
 {
     let from = key_of(alloc, bytes)?;
     let to = bound_of(alloc, bytes)?;
@@ -228,7 +228,7 @@ fn front_config_of(alloc: Global, bytes: &[u8]) -> Result<Option<(Config, &[u8])
 }
 
 pub fn config_of(alloc: Global, bytes: &mut &[u8]) -> Result<Config, FrameError>
-    ensures { GivesAt result bytes.new.now (config_at bytes.old.now) }
+    ensures { ReadsField result bytes.new.now (config_at bytes.old.now) }
 {
     match front_config_of(alloc, bytes)? {
         Some((config, rest)) => {

@@ -2,7 +2,7 @@
 //! laws.
 ghost use Rattle.link_messages.specs.Stream.{OneSpelling, OneAnswer, FaultsStay, OneSplit};
 ghost use Rattle.link_messages.specs.Stream.{FramesFit, FrameBoundIs};
-ghost use Rattle.link_messages.specs.Examples.{Examples};
+ghost use Rattle.link_messages.specs.Examples.{FrameExamples};
 
 use configurations::laws::test_decides_config;
 
@@ -39,5 +39,5 @@ pub fn frame_bound_is()
 
 /// Small frames, spelled out.
 pub fn examples()
-    ensures { Examples }
+    ensures { FrameExamples }
 {}

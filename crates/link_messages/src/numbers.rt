@@ -2,7 +2,7 @@
 ghost use Rattle.std.specs.Prelude.{◌≡◌, ◌++◌, OnOk};
 ghost use Rattle.std.specs.Int.{w8, w16, w32, w64};
 ghost use Rattle.link_messages.specs.Spelling.{truth, u16, u32, u64};
-ghost use Rattle.link_messages.specs.Reading.{GivesAt, number_at, truth_at};
+ghost use Rattle.link_messages.specs.Reading.{ReadsField, number_at, truth_at};
 
 use crate::FrameError;
 use byteorder::{BigEndian, ByteOrder};
@@ -41,7 +41,7 @@ pub fn put_u64(out: &mut Vec<u8>, number: u64) -> Result<(), AllocError>
 
 #[tactic(auto, unfolding(crate::specs::Reading::truth_at))]
 pub fn truth_of(bytes: &mut &[u8]) -> Result<bool, FrameError>
-    ensures { GivesAt result bytes.new.now (truth_at bytes.old.now) }
+    ensures { ReadsField result bytes.new.now (truth_at bytes.old.now) }
 {
     match *bytes {
         [0, rest @ ..] => {
@@ -57,7 +57,7 @@ pub fn truth_of(bytes: &mut &[u8]) -> Result<bool, FrameError>
 }
 
 pub fn u8_of(bytes: &mut &[u8]) -> Result<u8, FrameError>
-    ensures { GivesAt result bytes.new.now (number_at w8 bytes.old.now) }
+    ensures { ReadsField result bytes.new.now (number_at w8 bytes.old.now) }
 {
     let [number, rest @ ..] = *bytes else {
         return Err(FrameError::BadField);
@@ -67,7 +67,7 @@ pub fn u8_of(bytes: &mut &[u8]) -> Result<u8, FrameError>
 }
 
 pub fn u16_of(bytes: &mut &[u8]) -> Result<u16, FrameError>
-    ensures { GivesAt result bytes.new.now (number_at w16 bytes.old.now) }
+    ensures { ReadsField result bytes.new.now (number_at w16 bytes.old.now) }
 {
     if bytes.len() < 2 {
         return Err(FrameError::BadField);
@@ -78,7 +78,7 @@ pub fn u16_of(bytes: &mut &[u8]) -> Result<u16, FrameError>
 }
 
 pub fn u32_of(bytes: &mut &[u8]) -> Result<u32, FrameError>
-    ensures { GivesAt result bytes.new.now (number_at w32 bytes.old.now) }
+    ensures { ReadsField result bytes.new.now (number_at w32 bytes.old.now) }
 {
     if bytes.len() < 4 {
         return Err(FrameError::BadField);
@@ -89,7 +89,7 @@ pub fn u32_of(bytes: &mut &[u8]) -> Result<u32, FrameError>
 }
 
 pub fn u64_of(bytes: &mut &[u8]) -> Result<u64, FrameError>
-    ensures { GivesAt result bytes.new.now (number_at w64 bytes.old.now) }
+    ensures { ReadsField result bytes.new.now (number_at w64 bytes.old.now) }
 {
     if bytes.len() < 8 {
         return Err(FrameError::BadField);

@@ -1,7 +1,7 @@
 // The reader of a stream of frames, fed in pieces of any length.
 ghost use Rattle.std.specs.Prelude.{◌≡◌, ◌≤◌, ◌++◌, [], length, OnOk, OnErr, IfOk, IfSome};
-ghost use Rattle.link_messages.specs.Reading.{told_by, left_by};
-ghost use Rattle.link_messages.specs.Stream.{Answers};
+ghost use Rattle.link_messages.specs.Reading.{frame_found, bytes_left};
+ghost use Rattle.link_messages.specs.Stream.{NextOutcome};
 
 use crate::reading::content_of;
 use crate::{Frame, FrameError, MAX_FRAME};
@@ -28,7 +28,7 @@ impl Model for FrameReader {
 /// The frame at the front of the bytes, and how many bytes spell it. `None` while it is incomplete
 /// and has no fault yet.
 pub fn read(alloc: Global, bytes: &[u8]) -> Result<Option<(Frame, usize)>, FrameError>
-    ensures answer { Answers (told_by result) bytes.now (left_by result bytes.now) }
+    ensures answer { NextOutcome (frame_found result) bytes.now (bytes_left result bytes.now) }
     ensures len { IfOk result (λ front. IfSome front (λ x. x.1 ≤ length bytes.now)) }
 {
     test_decides_config(); // law: the test succeeds exactly for the configurations
@@ -69,7 +69,7 @@ impl FrameReader {
 
     /// The next frame, or `None` if its bytes are incomplete and have no error so far.
     pub fn next(&mut self) -> Result<Option<Frame>, FrameError>
-        ensures { Answers result self.old self.new }
+        ensures { NextOutcome result self.old self.new }
     {
         let alloc = *self.buffer.allocator();
         match read(alloc, self.buffer.as_slice())? {

@@ -1,6 +1,6 @@
 // Each kind of frame, read from its bytes.
 ghost use Rattle.std.specs.Prelude.{◌≡◌};
-ghost use Rattle.link_messages.specs.Reading.{GivesAt, GivesKind, IsOr, refusal_at};
+ghost use Rattle.link_messages.specs.Reading.{ReadsField, ReadsKind, IsOr, refusal_at};
 ghost use Rattle.link_messages.specs.Reading.{forward_at, ack_at, notice_at, submit_at, get_at};
 ghost use Rattle.link_messages.specs.Reading.{rows_frame_at, open_at, close_at, committed_at};
 ghost use Rattle.link_messages.specs.Reading.{value_at, rows_are_at, opened_at, refused_at};
@@ -16,7 +16,7 @@ use std::alloc::Global;
 
 #[tactic(auto, unfolding(crate::specs::Reading::refusal_at))]
 fn refusal_of(bytes: &mut &[u8]) -> Result<Refusal, FrameError>
-    ensures { GivesAt result bytes.new.now (refusal_at bytes.old.now) }
+    ensures { ReadsField result bytes.new.now (refusal_at bytes.old.now) }
 {
     match u8_of(bytes)? {
         1 => Ok(Refusal::NotRunning),
@@ -33,7 +33,7 @@ fn refusal_of(bytes: &mut &[u8]) -> Result<Refusal, FrameError>
 
 #[tactic(auto, unfolding(crate::specs::Reading::forward_at))]
 fn forward_of(alloc: Global, bytes: &mut &[u8]) -> Result<Frame, FrameError>
-    ensures { GivesAt result bytes.new.now (forward_at bytes.old.now) }
+    ensures { ReadsField result bytes.new.now (forward_at bytes.old.now) }
 {
     Ok(Frame::Forward {
         epoch: epoch_of(bytes)?,
@@ -45,7 +45,7 @@ fn forward_of(alloc: Global, bytes: &mut &[u8]) -> Result<Frame, FrameError>
 
 #[tactic(auto, unfolding(crate::specs::Reading::ack_at))]
 fn ack_of(bytes: &mut &[u8]) -> Result<Frame, FrameError>
-    ensures { GivesAt result bytes.new.now (ack_at bytes.old.now) }
+    ensures { ReadsField result bytes.new.now (ack_at bytes.old.now) }
 {
     Ok(Frame::Ack {
         epoch: epoch_of(bytes)?,
@@ -57,7 +57,7 @@ fn ack_of(bytes: &mut &[u8]) -> Result<Frame, FrameError>
 
 #[tactic(auto, unfolding(crate::specs::Reading::notice_at))]
 fn notice_of(alloc: Global, bytes: &mut &[u8]) -> Result<Frame, FrameError>
-    ensures { GivesAt result bytes.new.now (notice_at bytes.old.now) }
+    ensures { ReadsField result bytes.new.now (notice_at bytes.old.now) }
 {
     Ok(Frame::Notice {
         epoch: epoch_of(bytes)?,
@@ -67,7 +67,7 @@ fn notice_of(alloc: Global, bytes: &mut &[u8]) -> Result<Frame, FrameError>
 
 #[tactic(auto, unfolding(crate::specs::Reading::submit_at))]
 fn submit_of(alloc: Global, bytes: &mut &[u8]) -> Result<Frame, FrameError>
-    ensures { GivesAt result bytes.new.now (submit_at bytes.old.now) }
+    ensures { ReadsField result bytes.new.now (submit_at bytes.old.now) }
 {
     Ok(Frame::Submit {
         request: number_of(bytes)?,
@@ -77,7 +77,7 @@ fn submit_of(alloc: Global, bytes: &mut &[u8]) -> Result<Frame, FrameError>
 
 #[tactic(auto, unfolding(crate::specs::Reading::get_at))]
 fn get_of(alloc: Global, bytes: &mut &[u8]) -> Result<Frame, FrameError>
-    ensures { GivesAt result bytes.new.now (get_at bytes.old.now) }
+    ensures { ReadsField result bytes.new.now (get_at bytes.old.now) }
 {
     Ok(Frame::Get {
         request: number_of(bytes)?,
@@ -88,7 +88,7 @@ fn get_of(alloc: Global, bytes: &mut &[u8]) -> Result<Frame, FrameError>
 
 #[tactic(auto, unfolding(crate::specs::Reading::rows_frame_at))]
 fn rows_of(alloc: Global, bytes: &mut &[u8]) -> Result<Frame, FrameError>
-    ensures { GivesAt result bytes.new.now (rows_frame_at bytes.old.now) }
+    ensures { ReadsField result bytes.new.now (rows_frame_at bytes.old.now) }
 {
     Ok(Frame::Rows {
         request: number_of(bytes)?,
@@ -99,7 +99,7 @@ fn rows_of(alloc: Global, bytes: &mut &[u8]) -> Result<Frame, FrameError>
 
 #[tactic(auto, unfolding(crate::specs::Reading::open_at))]
 fn open_of(bytes: &mut &[u8]) -> Result<Frame, FrameError>
-    ensures { GivesAt result bytes.new.now (open_at bytes.old.now) }
+    ensures { ReadsField result bytes.new.now (open_at bytes.old.now) }
 {
     Ok(Frame::Open {
         request: number_of(bytes)?,
@@ -109,7 +109,7 @@ fn open_of(bytes: &mut &[u8]) -> Result<Frame, FrameError>
 
 #[tactic(auto, unfolding(crate::specs::Reading::close_at))]
 fn close_of(bytes: &mut &[u8]) -> Result<Frame, FrameError>
-    ensures { GivesAt result bytes.new.now (close_at bytes.old.now) }
+    ensures { ReadsField result bytes.new.now (close_at bytes.old.now) }
 {
     Ok(Frame::Close {
         request: number_of(bytes)?,
@@ -119,7 +119,7 @@ fn close_of(bytes: &mut &[u8]) -> Result<Frame, FrameError>
 
 #[tactic(auto, unfolding(crate::specs::Reading::committed_at))]
 fn committed_of(bytes: &mut &[u8]) -> Result<Frame, FrameError>
-    ensures { GivesAt result bytes.new.now (committed_at bytes.old.now) }
+    ensures { ReadsField result bytes.new.now (committed_at bytes.old.now) }
 {
     Ok(Frame::Committed {
         request: number_of(bytes)?,
@@ -129,7 +129,7 @@ fn committed_of(bytes: &mut &[u8]) -> Result<Frame, FrameError>
 
 #[tactic(auto, unfolding(crate::specs::Reading::value_at))]
 fn value_of(alloc: Global, bytes: &mut &[u8]) -> Result<Frame, FrameError>
-    ensures { GivesAt result bytes.new.now (value_at bytes.old.now) }
+    ensures { ReadsField result bytes.new.now (value_at bytes.old.now) }
 {
     Ok(Frame::Value {
         request: number_of(bytes)?,
@@ -140,7 +140,7 @@ fn value_of(alloc: Global, bytes: &mut &[u8]) -> Result<Frame, FrameError>
 
 #[tactic(auto, unfolding(crate::specs::Reading::rows_are_at))]
 fn rows_are_of(alloc: Global, bytes: &mut &[u8]) -> Result<Frame, FrameError>
-    ensures { GivesAt result bytes.new.now (rows_are_at bytes.old.now) }
+    ensures { ReadsField result bytes.new.now (rows_are_at bytes.old.now) }
 {
     Ok(Frame::RowsAre {
         request: number_of(bytes)?,
@@ -151,7 +151,7 @@ fn rows_are_of(alloc: Global, bytes: &mut &[u8]) -> Result<Frame, FrameError>
 
 #[tactic(auto, unfolding(crate::specs::Reading::opened_at))]
 fn opened_of(bytes: &mut &[u8]) -> Result<Frame, FrameError>
-    ensures { GivesAt result bytes.new.now (opened_at bytes.old.now) }
+    ensures { ReadsField result bytes.new.now (opened_at bytes.old.now) }
 {
     Ok(Frame::Opened {
         request: number_of(bytes)?,
@@ -161,7 +161,7 @@ fn opened_of(bytes: &mut &[u8]) -> Result<Frame, FrameError>
 
 #[tactic(auto, unfolding(crate::specs::Reading::refused_at))]
 fn refused_of(bytes: &mut &[u8]) -> Result<Frame, FrameError>
-    ensures { GivesAt result bytes.new.now (refused_at bytes.old.now) }
+    ensures { ReadsField result bytes.new.now (refused_at bytes.old.now) }
 {
     Ok(Frame::Refused {
         request: number_of(bytes)?,
@@ -171,7 +171,7 @@ fn refused_of(bytes: &mut &[u8]) -> Result<Frame, FrameError>
 
 #[tactic(auto, unfolding(crate::specs::Reading::closed_at))]
 fn closed_of(bytes: &mut &[u8]) -> Result<Frame, FrameError>
-    ensures { GivesAt result bytes.new.now (closed_at bytes.old.now) }
+    ensures { ReadsField result bytes.new.now (closed_at bytes.old.now) }
 {
     Ok(Frame::Closed {
         request: number_of(bytes)?,
@@ -181,7 +181,7 @@ fn closed_of(bytes: &mut &[u8]) -> Result<Frame, FrameError>
 
 // Reads the fields of a frame of this kind.
 fn frame_of(alloc: Global, kind: u8, bytes: &mut &[u8]) -> Result<Frame, FrameError>
-    ensures { GivesKind result bytes.new.now (reader_of kind) bytes.old.now }
+    ensures { ReadsKind result bytes.new.now (reader_of kind) bytes.old.now }
 {
     match kind {
         1 => forward_of(alloc, bytes),

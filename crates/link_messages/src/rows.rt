@@ -3,7 +3,7 @@ ghost use Rattle.std.specs.Prelude.{◌≡◌, ◌++◌, OnOk, All, nat_le};
 ghost use Rattle.std.specs.List.{flat_map, sum_by};
 ghost use Rattle.kv_types.specs.Pages.{row_size};
 ghost use Rattle.link_messages.specs.Spelling.{row_text, page_text, IsRow};
-ghost use Rattle.link_messages.specs.Reading.{GivesAt, items_of, many, row_at, rows_at, page_at};
+ghost use Rattle.link_messages.specs.Reading.{ReadsField, items_of, many, row_at, rows_at, page_at};
 
 use crate::FrameError;
 use crate::fields::{key_of, value_of};
@@ -45,7 +45,7 @@ pub fn put_page(out: &mut Vec<u8>, page: &Page) -> Result<(), AllocError>
 
 #[tactic(auto, unfolding(crate::specs::Reading::row_at))]
 fn row_of(alloc: Global, bytes: &mut &[u8]) -> Result<Row, FrameError>
-    ensures { GivesAt result bytes.new.now (row_at bytes.old.now) }
+    ensures { ReadsField result bytes.new.now (row_at bytes.old.now) }
 {
     let key = key_of(alloc, bytes)?;
     let value = value_of(alloc, bytes)?;
@@ -53,7 +53,7 @@ fn row_of(alloc: Global, bytes: &mut &[u8]) -> Result<Row, FrameError>
 }
 
 fn rows_in(alloc: Global, count: u16, bytes: &mut &[u8]) -> Result<Vec<Row>, FrameError>
-    ensures { GivesAt (items_of result) bytes.new.now (many row_at count bytes.old.now) }
+    ensures { ReadsField (items_of result) bytes.new.now (many row_at count bytes.old.now) }
 {
     let mut rows = Vec::new(alloc);
     for _ in 0..count {
@@ -64,7 +64,7 @@ fn rows_in(alloc: Global, count: u16, bytes: &mut &[u8]) -> Result<Vec<Row>, Fra
 
 #[tactic(auto, unfolding(crate::specs::Reading::rows_at))]
 fn rows_of(alloc: Global, bytes: &mut &[u8]) -> Result<Vec<Row>, FrameError>
-    ensures { GivesAt (items_of result) bytes.new.now (rows_at bytes.old.now) }
+    ensures { ReadsField (items_of result) bytes.new.now (rows_at bytes.old.now) }
 {
     let count = u16_of(bytes)?;
     if count as u32 > MAX_ROWS {
@@ -90,7 +90,7 @@ fn are_small(rows: &[Row]) -> bool
 
 #[tactic(auto, unfolding(crate::specs::Reading::page_at))]
 pub fn page_of(alloc: Global, bytes: &mut &[u8]) -> Result<Page, FrameError>
-    ensures { GivesAt result bytes.new.now (page_at bytes.old.now) }
+    ensures { ReadsField result bytes.new.now (page_at bytes.old.now) }
 {
     let more = truth_of(bytes)?;
     let rows = rows_of(alloc, bytes)?;

@@ -2,9 +2,11 @@
 ghost use Rattle.std.specs.Prelude.{◌≡◌, ◌≤◌, ◌++◌, OnOk, IfOk, IfSome};
 ghost use Rattle.chain_model.specs.Configuration.{IsId};
 ghost use Rattle.kv_types.specs.Spelling.{IsBatch};
-ghost use Rattle.kv_types.specs.Spelling.{spelling as batch_text};
-ghost use Rattle.link_messages.specs.Spelling.{u8, u16, u32, u64, at_text, kind, fields, spelling};
-ghost use Rattle.link_messages.specs.Spelling.{code, IsEpoch, IsNumber, HasBounds, IsFrame};
+ghost use Rattle.kv_types.specs.Spelling.{batch_bytes as batch_text};
+ghost use Rattle.link_messages.specs.Spelling.{u8, u16, u32, u64, at_text, kind, fields};
+ghost use Rattle.link_messages.specs.Spelling.{frame_bytes};
+ghost use Rattle.link_messages.specs.Spelling.{refusal_number, IsEpoch, IsNumber, HasBounds};
+ghost use Rattle.link_messages.specs.Spelling.{IsFrame};
 
 use crate::fields::{put_at, put_epoch, put_found, put_id, put_number, put_range};
 use crate::rows::put_page;
@@ -71,7 +73,7 @@ fn put_batch(out: &mut Vec<u8>, number: Number, batch: &Batch) -> Result<(), All
 }
 
 fn put_refusal(out: &mut Vec<u8>, refusal: Refusal) -> Result<(), AllocError>
-    ensures { OnOk result (out.new.items ≡ out.old.items ++ u8 (code refusal)) }
+    ensures { OnOk result (out.new.items ≡ out.old.items ++ u8 (refusal_number refusal)) }
 {
     Ok(out.push(refusal as u8)?)
 }
@@ -186,7 +188,7 @@ fn room_for(frame: &Frame) -> usize {
 
 /// The one spelling of the frame in bytes.
 pub fn write(alloc: Global, frame: &Frame) -> Result<Vec<u8>, AllocError>
-    ensures spelled { IfOk result (λ bytes. bytes.items ≡ spelling frame.now) }
+    ensures spelled { IfOk result (λ bytes. bytes.items ≡ frame_bytes frame.now) }
     ensures lawful { IfOk result (λ _. HasBounds frame.now → IsFrame frame.now) }
 {
     let mut out = Vec::with_capacity(alloc, room_for(frame))?;

@@ -93,9 +93,9 @@ fn step(alloc: Global, state: &mut CoreState, comes: Comes) -> Result<(Gives, us
     let (gives, done) = match decide(state, input(alloc, comes)?) {
         Decision::Accept { request, .. } => (Gives::Accept, Done::Accepted { request }),
         Decision::Append { .. } => (Gives::Append, Done::Appended),
-        Decision::PassOn { committed, have } => (Gives::PassOn, Done::Told { committed, have }),
-        Decision::TellAgain => return Ok((Gives::TellAgain, 0)),
-        Decision::Show { at, .. } => return Ok((Gives::Show(at.get()), 0)),
+        Decision::OnAck { committed, have } => (Gives::PassOn, Done::Acked { committed, have }),
+        Decision::AckDuplicate => return Ok((Gives::TellAgain, 0)),
+        Decision::Read { at, .. } => return Ok((Gives::Show(at.get()), 0)),
         Decision::Resend => return Ok((Gives::Resend, 0)),
         Decision::Refuse { refusal, .. } => return Ok((Gives::Refuse(refusal), 0)),
         Decision::Drop(reason) => return Ok((Gives::Drop(reason), 0)),

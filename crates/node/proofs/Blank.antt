@@ -2,22 +2,22 @@
 use Rattle.std.proofs.Common.{◌≡◌, ℕ, ◌<◌, List, [], ◌∷◌, length, Option, Some, None}
 use Rattle.std.proofs.Common.{Result, Ok, Err, inl, inr, refl, ap, subst, arith}
 use Rattle.std.specs.Prelude.{IfErr, IsSomeAnd, MatchOption}
-use Rattle.disk.specs.State.{State}
+use Rattle.disk.specs.States.{State}
 use Rattle.disk.specs.declared.error.DiskError.TheVariants as disk
 use Rattle.record_log.specs.declared.error.LogError.{LogError}
 use Rattle.record_log.specs.declared.error.LogError.TheVariants as log
 use Rattle.record_log.specs.declared.log.Log.{Log}
-use Rattle.record_log.specs.Grammar.{StandsFor, OneList}
-use Rattle.record_log.specs.Stands as log_stands
-use Rattle.record_log.specs.Stands.{Holds, count_of}
+use Rattle.record_log.specs.Grammar.{RepresentsRecords, RecordsAreUnique}
+use Rattle.record_log.specs.Logs as log_stands
+use Rattle.record_log.specs.Logs.{LogHolds, count_of}
 use Rattle.node.specs.declared.stop.Stop.{Stop}
 use Rattle.node.specs.declared.stop.Stop.TheVariants as stop
 use Rattle.node.specs.Files.{IsLog, IsBlankFile}
-use Rattle.node.specs.Stops.{TellsBlank, log_stop}
+use Rattle.node.specs.Stops.{MatchesBlank, log_stop}
 use Rattle.node.proofs.Records.{length-ends}
 
 -- a log that counts no record holds none
-pub none_held : (s : State) (log : Log) (records : List (List ℕ)) → Holds s log records →
+pub none_held : (s : State) (log : Log) (records : List (List ℕ)) → LogHolds s log records →
     count_of log ≡ 0 → records ≡ []
 none_held s log [] h none = refl
 none_held s log (first ∷ others) h none =
@@ -33,7 +33,8 @@ has_bytes None len some is = some is
 has_bytes (Some it) len some is = omega (arith, some, is)
 
 -- bytes that represent records are blank exactly where there are none
-blank_none : OneList → (bytes : Option (List ℕ)) (records : List (List ℕ)) → HasBytes bytes →
+blank_none : RecordsAreUnique → (bytes : Option (List ℕ)) (records : List (List ℕ)) → HasBytes bytes
+    →
     IsLog bytes records → IsBlankFile bytes → records ≡ []
 blank_none law None records has stands blank = absurd has
 blank_none law (Some it) records has stands (inl empty) =
@@ -41,28 +42,28 @@ blank_none law (Some it) records has stands (inl empty) =
 blank_none law (Some it) records has stands (inr none) = law it records [] stands none
 
 -- an opened log has no record exactly where its file is blank
-blank_holds : OneList → (bytes : Option (List ℕ)) (records : List (List ℕ)) (e : Stop) →
-    HasBytes bytes → IsLog bytes records → TellsBlank e (records ≡ []) →
-    TellsBlank e (IsBlankFile bytes)
+blank_holds : RecordsAreUnique → (bytes : Option (List ℕ)) (records : List (List ℕ)) (e : Stop) →
+    HasBytes bytes → IsLog bytes records → MatchesBlank e (records ≡ []) →
+    MatchesBlank e (IsBlankFile bytes)
 blank_holds law bytes records stop.Disk has stands told = tt
 blank_holds law bytes records stop.Damaged has stands told =
     λ blank. told (blank_none law bytes records has stands blank)
 blank_holds law bytes records stop.Memory has stands told = tt
 blank_holds law None records stop.NotCreated has stands told = absurd has
 blank_holds law (Some it) records stop.NotCreated has stands told =
-    inr (subst (λ (r : List (List ℕ)). StandsFor it r) told stands)
+    inr (subst (λ (r : List (List ℕ)). RepresentsRecords it r) told stands)
 
-pub blank_read : OneList → {T : Type 0} (result : Result T Stop) (bytes : Option (List ℕ))
+pub blank_read : RecordsAreUnique → {T : Type 0} (result : Result T Stop) (bytes : Option (List ℕ))
     (records : List (List ℕ)) → HasBytes bytes → IsLog bytes records →
-    IfErr result (λ e. TellsBlank e (records ≡ [])) →
-    IfErr result (λ e. TellsBlank e (IsBlankFile bytes))
+    IfErr result (λ e. MatchesBlank e (records ≡ [])) →
+    IfErr result (λ e. MatchesBlank e (IsBlankFile bytes))
 blank_read law (Ok x) bytes records has stands told = tt
 blank_read law (Err e) bytes records has stands told =
     blank_holds law bytes records e has stands told
 
 -- a file that is not opened as a log is not blank
 pub blank_declined : (bytes : Option (List ℕ)) (e : LogError) → HasBytes bytes →
-    log_stands.Declines e bytes 0 → TellsBlank (log_stop e) (IsBlankFile bytes)
+    log_stands.OpenRefusal e bytes 0 → MatchesBlank (log_stop e) (IsBlankFile bytes)
 blank_declined None e has declined = absurd has
 blank_declined (Some it) (log.Disk disk.Failed) has declined = tt
 blank_declined (Some it) (log.Disk disk.NoFile) has declined = absurd cc

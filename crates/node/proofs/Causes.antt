@@ -4,33 +4,33 @@ use Rattle.std.specs.Prelude.{IfErr, OnErr, OnOk, IsErrOf}
 use Rattle.record_log.specs.declared.error.LogError.{LogError}
 use Rattle.record_log.specs.declared.error.LogError.TheVariants as log
 use Rattle.record_log.specs.declared.log.Log.{Log}
-use Rattle.record_log.specs.Stands as log_stands
+use Rattle.record_log.specs.Logs as log_stands
 use Rattle.node.specs.declared.stop.Stop.{Stop}
 use Rattle.node.specs.declared.stop.Stop.TheVariants as stop
-use Rattle.node.specs.Stops.{log_stop, IsOfMachine}
+use Rattle.node.specs.Stops.{log_stop, IsEnvironmental}
 
 -- a log that works on its own file reports environment errors alone
-pub of_machine : (e : LogError) → log_stands.IsOfMachine e → IsOfMachine (log_stop e)
+pub of_machine : (e : LogError) → log_stands.IsEnvironmentalError e → IsEnvironmental (log_stop e)
 of_machine e (inl failed) = inl (ap log_stop failed)
 of_machine e (inr memory) = inr (ap log_stop memory)
 
-pub working_log : (e : LogError) → log_stands.IsOfMachine e ⊎ (e ≡ log.Failed) →
-    (e ≡ log.Failed → ⊥) → IsOfMachine (log_stop e)
+pub working_log : (e : LogError) → log_stands.IsEnvironmentalError e ⊎ (e ≡ log.Failed) →
+    (e ≡ log.Failed → ⊥) → IsEnvironmental (log_stop e)
 working_log e (inl machine) works = of_machine e machine
 working_log e (inr failed) works = absurd (works failed)
 
 -- a stop that is no damage is an environment error
 pub undamaged : {T : Type 0} (result : Result T Stop) →
     IfErr result (λ e. (e ≡ stop.Damaged) ⊎ (e ≡ stop.Memory)) →
-    (IsErrOf result stop.Damaged → ⊥) → IfErr result IsOfMachine
+    (IsErrOf result stop.Damaged → ⊥) → IfErr result IsEnvironmental
 undamaged (Ok x) only whole = tt
 undamaged (Err e) (inl damaged) whole = absurd (whole (ap (λ d. Err d) damaged))
 undamaged (Err e) (inr memory) whole = inr memory
 
 -- a log that works, with a record that fits, reports environment errors alone
 pub met : (limit : ℕ) (e : LogError) (old new : Log) (one : List ℕ) →
-    log_stands.Tells {T = Unit {0}} limit (Err e) old new one → length one ≤ limit →
-    (log_stands.HasFailed old → ⊥) → log_stands.IsMet e → IsOfMachine (log_stop e)
+    log_stands.AppendOutcome {T = Unit {0}} limit (Err e) old new one → length one ≤ limit →
+    (log_stands.HasFailed old → ⊥) → log_stands.IsExpected e → IsEnvironmental (log_stop e)
 met limit e old new one tells fits works (inl machine) = of_machine e machine
 met limit (log.Disk e) old new one tells fits works (inr own) =
     elim own [ inl long ↦ absurd cc | inr failed ↦ absurd cc ]

@@ -6,12 +6,13 @@ use Rattle.std.proofs.Common.{zero, suc, ◌-◌, get_or, length-append}
 use Rattle.std.specs.Prelude.{IsSomeAnd, slice_get, ◌⊎◌, ◌≢◌}
 use Rattle.std.proofs.lemmas.List.Elements.{All-push}
 use Rattle.kv_types.specs.Spelling.{IsBatch}
-use Rattle.disk.specs.State.{State, Slot, Absent, Fresh, Kept, Contents, Leaves, MayLeave}
-use Rattle.disk.specs.State.{contents, seen, IsSure, SureIsLeft}
+use Rattle.disk.specs.States.{State, Slot, Absent, Fresh, Kept, Contents, IsFileOutcome}
+use Rattle.disk.specs.States.{IsCrashOutcome}
+use Rattle.disk.specs.States.{contents, seen, IsDurable, DurableIsLeft}
 use Rattle.record_log.specs.declared.log.Log.{Log}
-use Rattle.record_log.specs.Grammar.{StandsFor}
+use Rattle.record_log.specs.Grammar.{RepresentsRecords}
 use Rattle.record_log.specs.Push.{LeavesAt}
-use Rattle.record_log.specs.Stands.{Holds, IsAt, IsOldOrNew, count_of}
+use Rattle.record_log.specs.Logs.{LogHolds, IsAt, IsOldOrNew, count_of}
 use Rattle.node.specs.declared.engine.Engine.{Engine}
 use Rattle.chain_model.specs.Configuration.{IsId}
 use Rattle.configurations.specs.Configs.{IsConfig}
@@ -19,7 +20,7 @@ use Rattle.kv_types.specs.declared.bounds.TheConstants.{MAX_NUMBER}
 use Rattle.kv_types.specs.Content.{BatchContent}
 use Rattle.node.specs.Layout.{identity_file, identity_records, batches_file}
 use Rattle.node.specs.Layout.{batch_record, records_from}
-use Rattle.node.specs.Files.{IsLog, HasId, DiskRepresents, IsSureOfId, KeepsOneOf}
+use Rattle.node.specs.Files.{IsLog, HasId, DiskRepresents, IsDurableIdOf, KeepsOneOf}
 use Rattle.node.specs.Engines.{EngineHolds, HasNumbersOf, KeepsStore, engine_count}
 use Rattle.chain_core.specs.States.{Machine}
 use Rattle.chain_model.specs.Lists.{place}
@@ -36,7 +37,7 @@ kept_on first second = record {
 
 -- a log holds what it held where its file is the same
 pub holds_in : (old new : State) (log : Log) (records : List (List ℕ)) →
-    new log.file ≡ old log.file → Holds old log records → Holds new log records
+    new log.file ≡ old log.file → LogHolds old log records → LogHolds new log records
 holds_in old new log records same h = record {
   bytes = h.bytes;
   sure = same ∙ h.sure;
@@ -48,16 +49,16 @@ holds_in old new log records same h = record {
 }
 
 -- a durable file represents what it represented
-stands_left : SureIsLeft → (disk : State) (file : ℕ) (bytes : List ℕ)
-    (records : List (List ℕ)) → disk file ≡ Kept bytes bytes [] → StandsFor bytes records →
-    (left : Contents) → MayLeave disk left → IsLog (left file) records
+stands_left : DurableIsLeft → (disk : State) (file : ℕ) (bytes : List ℕ)
+    (records : List (List ℕ)) → disk file ≡ Kept bytes bytes [] → RepresentsRecords bytes records →
+    (left : Contents) → IsCrashOutcome disk left → IsLog (left file) records
 stands_left law disk file bytes records sure stands left leaves =
-    let is_sure = subst (λ (slot : Slot). IsSure slot) (sym sure) (refl, refl) in
+    let is_sure = subst (λ (slot : Slot). IsDurable slot) (sym sure) (refl, refl) in
     let same : left file ≡ Some bytes = law disk left file is_sure leaves ∙ ap seen sure in
     subst (λ (it : Option (List ℕ)). IsLog it records) (sym same) stands
 
-pub id_left : SureIsLeft → (disk : State) (x : ℕ) (ids : List ℕ) → IsSureOfId disk x ids →
-    (left : Contents) → MayLeave disk left → HasId left x ids
+pub id_left : DurableIsLeft → (disk : State) (x : ℕ) (ids : List ℕ) → IsDurableIdOf disk x ids →
+    (left : Contents) → IsCrashOutcome disk left → HasId left x ids
 id_left law disk x ids s left leaves = record {
   id = s.id;
   config = s.config;
@@ -67,19 +68,20 @@ id_left law disk x ids s left leaves = record {
 
 -- the identity file is that of the node where a log of it holds its record
 pub sure_of_id : (disk : State) (log : Log) (x : ℕ) (ids : List ℕ) → IsId x → IsConfig ids →
-    log.file ≡ identity_file → log.start ≡ 0 → Holds disk log (identity_records x ids) →
-    IsSureOfId disk x ids
+    log.file ≡ identity_file → log.start ≡ 0 → LogHolds disk log (identity_records x ids) →
+    IsDurableIdOf disk x ids
 sure_of_id disk log x ids id config file start h = record {
   id = id;
   config = config;
   bytes = h.bytes;
   sure = sym (ap disk file) ∙ h.sure;
-  identity = subst (λ (s : ℕ). StandsFor (drop s h.bytes) (identity_records x ids)) start h.stands;
+  identity = subst (λ (s : ℕ). RepresentsRecords (drop s h.bytes) (identity_records x ids)) start
+      h.stands;
 }
 
 -- the identity file is that of the node where it is the same file
 pub id_in : (old new : State) (x : ℕ) (ids : List ℕ) → new identity_file ≡ old identity_file →
-    IsSureOfId old x ids → IsSureOfId new x ids
+    IsDurableIdOf old x ids → IsDurableIdOf new x ids
 id_in old new x ids same s = record {
   id = s.id;
   config = s.config;
@@ -90,7 +92,7 @@ id_in old new x ids same s = record {
 
 -- the only record of a log
 pub only_one : (disk : State) (log : Log) (records : List (List ℕ)) (one : List ℕ) →
-    Holds disk log records → count_of log ≡ 1 → slice_get records 0 ≡ Some one →
+    LogHolds disk log records → count_of log ≡ 1 → slice_get records 0 ≡ Some one →
     records ≡ one ∷ []
 only_one disk log [] one h size got = absurd cc
 only_one disk log (first ∷ []) one h size got =
@@ -133,21 +135,21 @@ stands_at list batches k batch found some within same got copy =
     ∙ ap (λ b. Some b) (sym got ∙ sym copy)
 
 -- An open engine, and one batch more.
-module _ (law : SureIsLeft) (old : State) (engine : Engine) (x epoch : ℕ) (ids : List ℕ)
+module _ (law : DurableIsLeft) (old : State) (engine : Engine) (x epoch : ℕ) (ids : List ℕ)
     (list : List BatchContent) (floor kept : ℕ)
     (s : EngineHolds old engine x epoch ids list floor kept) where
-  log_left : (left : Contents) → MayLeave old left →
+  log_left : (left : Contents) → IsCrashOutcome old left →
       IsLog (left batches_file) (records_from 1 list)
   log_left left leaves =
       let records : List (List ℕ) = records_from 1 list in
-      let stands : StandsFor s.log.bytes records =
-      subst (λ (k : ℕ). StandsFor (drop k s.log.bytes) records) s.at.from s.log.stands in
+      let stands : RepresentsRecords s.log.bytes records =
+      subst (λ (k : ℕ). RepresentsRecords (drop k s.log.bytes) records) s.at.from s.log.stands in
       let sure : old batches_file ≡ Kept s.log.bytes s.log.bytes [] =
       sym (ap old s.at.in_file) ∙ s.log.sure in
       stands_left law old batches_file s.log.bytes records sure stands left leaves
 
   -- a crash leaves what it holds
-  pub represented : (left : Contents) → MayLeave old left →
+  pub represented : (left : Contents) → IsCrashOutcome old left →
       DiskRepresents left x epoch ids list floor kept
   represented left leaves = record {
     batches = record {
@@ -207,8 +209,8 @@ module _ (law : SureIsLeft) (old : State) (engine : Engine) (x epoch : ℕ) (ids
               })
           split (Some it) same (inr stands) =
               let more : List (List ℕ) = records_from 1 (list ++ batch ∷ []) in
-              let whole : StandsFor it more =
-              subst (λ (r : List (List ℕ)). StandsFor it r) one_more stands in
+              let whole : RepresentsRecords it more =
+              subst (λ (r : List (List ℕ)). RepresentsRecords it r) one_more stands in
               let P : Option (List ℕ) → Type 0 = λ o. IsLog o more in
               inr (record {
                 batches = record {
@@ -226,7 +228,8 @@ module _ (law : SureIsLeft) (old : State) (engine : Engine) (x epoch : ℕ) (ids
           LeavesAt new engine.log.file (IsOldOrNew engine.log.start (records_from 1 list) one) →
           KeepsOneOf new x epoch ids list (list ++ batch ∷ []) floor kept
       crashed new others leaves left now =
-          let id : IsSureOfId new x ids = id_in old new x ids (others identity_file apart) s.id in
+          let id : IsDurableIdOf new x ids = id_in old new x ids (others identity_file apart) s.id
+              in
           let P : ℕ → List ℕ → Type 0 = λ start. IsOldOrNew start (records_from 1 list) one in
           let at_log : IsSomeAnd (left engine.log.file) (P engine.log.start) =
           leaves (left engine.log.file) (now engine.log.file) in
@@ -240,12 +243,12 @@ module _ (law : SureIsLeft) (old : State) (engine : Engine) (x epoch : ℕ) (ids
           ((other : ℕ) → other ≢ engine.log.file → new other ≡ old other) →
           IsAt batches_file 0 after.log →
           after.batches.items ≡ engine.batches.items ++ batch ∷ [] →
-          Holds new after.log (records_from 1 list ++ one ∷ []) →
+          LogHolds new after.log (records_from 1 list ++ one ∷ []) →
           EngineHolds new after x epoch ids (list ++ batch ∷ []) floor kept
       appended new after others at batches_are holds = record {
         id = id_in old new x ids (others identity_file apart) s.id;
         at = at;
-        log = subst (λ (r : List (List ℕ)). Holds new after.log r) one_more holds;
+        log = subst (λ (r : List (List ℕ)). LogHolds new after.log r) one_more holds;
         batches = batches_are ∙ ap (λ (l : List BatchContent). l ++ batch ∷ []) s.batches;
         each = All-push IsBatch list batch s.each is_batch;
         few = few_more;
@@ -253,10 +256,10 @@ module _ (law : SureIsLeft) (old : State) (engine : Engine) (x epoch : ℕ) (ids
       }
 
 -- the content that a read returns is a crash outcome
-reads_left : (slot : Slot) → Leaves slot (seen slot)
+reads_left : (slot : Slot) → IsFileOutcome slot (seen slot)
 reads_left (Absent back) = inl refl
 reads_left (Fresh bytes back) = tt
 reads_left (Kept bytes synced touches) = λ place tight. refl
 
-pub as_read : (disk : State) → MayLeave disk (contents disk)
+pub as_read : (disk : State) → IsCrashOutcome disk (contents disk)
 as_read disk file = reads_left (disk file)

@@ -7,11 +7,11 @@ use Rattle.std.proofs.lemmas.Nat.{from_be_bytes-to_be_bytes_2}
 use Rattle.std.proofs.lemmas.List.{append-nil}
 use Rattle.std.proofs.lemmas.List.Elements.{All-head, All-tail}
 use Rattle.kv_types.specs.Content.{BatchContent}
-use Rattle.kv_types.specs.Spelling.{IsBatch, SpellingsDiffer, spelling}
-use Rattle.disk.specs.State.{State, Slot, Contents, seen, IsSame}
+use Rattle.kv_types.specs.Spelling.{IsBatch, SpellingsDiffer, batch_bytes}
+use Rattle.disk.specs.States.{State, Slot, Contents, seen, IsSame}
 use Rattle.record_log.specs.declared.log.Log.{Log}
-use Rattle.record_log.specs.Stands.{Holds, HasRecords, IsAt, Opens, count_of}
-use Rattle.record_log.specs.Grammar.{OneList}
+use Rattle.record_log.specs.Logs.{LogHolds, HasRecords, IsAt, IsOpenedLog, count_of}
+use Rattle.record_log.specs.Grammar.{RecordsAreUnique}
 use Rattle.node.specs.declared.stop.Stop.{Stop}
 use Rattle.chain_model.specs.Configuration.{IsId}
 use Rattle.configurations.specs.Configs.{IsConfig}
@@ -19,7 +19,7 @@ use Rattle.configurations.specs.Spelling.{config_text, ConfigTextIsUnique}
 use Rattle.node.specs.declared.layout.Identity.{Identity}
 use Rattle.node.specs.Layout.{identity_file, identity_record, identity_records}
 use Rattle.node.specs.Layout.{batch_record, records_from}
-use Rattle.node.specs.Files.{IsLog, HasId, IsSureId}
+use Rattle.node.specs.Files.{IsLog, HasId, HasDurableId}
 use Rattle.node.proofs.Engines.{holds_in, sure_of_id, only_one}
 
 -- an unchanged file has the same records
@@ -28,7 +28,7 @@ pub has_in : (old new : State) (file : ℕ) (records : List (List ℕ)) → new 
 has_in old new file records same had =
     subst (λ (slot : Slot). IsLog (seen slot) records) (sym same) had
 
-stands_once : OneList → (bytes : Option (List ℕ)) (a b : List (List ℕ)) → IsLog bytes a →
+stands_once : RecordsAreUnique → (bytes : Option (List ℕ)) (a b : List (List ℕ)) → IsLog bytes a →
     IsLog bytes b → a ≡ b
 stands_once law None a b s t = absurd s
 stands_once law (Some it) a b s t = law it a b s t
@@ -45,7 +45,7 @@ one_identity unique x y xs ys is_x is_y of_x of_y same =
     (id, (unique xs ys [] [] of_x of_y texts).0)
 
 -- a disk represents at most one node and configuration
-pub same_identity : OneList → ConfigTextIsUnique → (left : Contents) (x y : ℕ)
+pub same_identity : RecordsAreUnique → ConfigTextIsUnique → (left : Contents) (x y : ℕ)
     (xs ys : List ℕ) → HasId left x xs → HasId left y ys → (x ≡ y) × (xs ≡ ys)
 same_identity law unique left x y xs ys s t =
     let records : identity_records x xs ≡ identity_records y ys =
@@ -62,10 +62,10 @@ same_batches law number (x ∷ a) [] each_a each_b same = absurd cc
 same_batches law number (x ∷ a) (y ∷ b) each_a each_b same =
     let first : batch_record number x ≡ batch_record number y = cc in
     let others : records_from (suc number) a ≡ records_from (suc number) b = cc in
-    let texts : spelling x ≡ spelling y = ap (drop 8) first in
+    let texts : batch_bytes x ≡ batch_bytes y = ap (drop 8) first in
     let is_x = All-head IsBatch x a each_a in
     let is_y = All-head IsBatch y b each_b in
-    let head = (law x y [] is_x is_y (append-nil (spelling x) ∙ texts)).0 in
+    let head = (law x y [] is_x is_y (append-nil (batch_bytes x) ∙ texts)).0 in
     let rest_x = All-tail IsBatch x a each_a in
     let rest_y = All-tail IsBatch y b each_b in
     let tails = same_batches law (suc number) a b rest_x rest_y others in
@@ -74,17 +74,18 @@ same_batches law number (x ∷ a) (y ∷ b) each_a each_b same =
 -- the node that the only record of an opened log names
 pub found_id : (result : Result Identity Stop) (s0 s1 s2 s3 : State) (log : Log) →
     IsSame s0 s1 → IsSame s2 s3 → IsAt identity_file 0 log →
-    (o : Opens s1 identity_file 0 s2 log) → IfOk result (λ it. IsId it.id × IsConfig it.config) →
+    (o : IsOpenedLog s1 identity_file 0 s2 log) → IfOk result
+        (λ it. IsId it.id × IsConfig it.config) →
     IfOk result (λ it. o.records ≡ identity_records it.id it.config) →
-    IfOk result (λ it. IsSureId s0 s3 it.id it.config)
+    IfOk result (λ it. HasDurableId s0 s3 it.id it.config)
 found_id (Ok it) s0 s1 s2 s3 log same_before same_after at o is records =
     let stood : IsLog (seen (s0 identity_file)) o.records =
     subst (λ (slot : Slot). IsLog (seen slot) o.records) (same_before identity_file)
     o.stood in
-    let holds : Holds s3 log o.records =
+    let holds : LogHolds s3 log o.records =
     holds_in s2 s3 log o.records (same_after log.file) o.holds in
-    let named : Holds s3 log (identity_records it.id it.config) =
-    subst (λ (r : List (List ℕ)). Holds s3 log r) records holds in
+    let named : LogHolds s3 log (identity_records it.id it.config) =
+    subst (λ (r : List (List ℕ)). LogHolds s3 log r) records holds in
     record {
       had = record {
         id = is.0;
@@ -97,7 +98,7 @@ found_id (Err e) s0 s1 s2 s3 log same_before same_after at o is records = tt
 
 -- the identity that the only record of a log names
 pub named_by : (disk : State) (log : Log) (records : List (List ℕ)) (one : List ℕ)
-    (result : Result Identity Stop) → Holds disk log records → count_of log ≡ 1 →
+    (result : Result Identity Stop) → LogHolds disk log records → count_of log ≡ 1 →
     slice_get records 0 ≡ Some one →
     IfOk result (λ it. one ≡ identity_record it.id it.config) →
     IfOk result (λ it. records ≡ identity_records it.id it.config)

@@ -7,30 +7,30 @@ use Rattle.std.specs.Ordering.{is_gt, nat_cmp}
 use Rattle.std.proofs.lemmas.Bool.Decides.{nat_tests}
 use Rattle.std.proofs.lemmas.List.{map-append}
 use Rattle.kv_types.specs.Content.{BatchContent}
-use Rattle.chain_model.specs.Frames.{Frame}
-use Rattle.chain_model.specs.Node.{Answer}
-use Rattle.chain_model.specs.Rules.{show}
+use Rattle.chain_model.specs.Messages.{Message}
+use Rattle.chain_model.specs.Machine.{Answer}
+use Rattle.chain_model.specs.Rules.{reply_read}
 use Rattle.chain_core.specs.declared.done.Done.{Done}
 use Rattle.chain_core.specs.declared.input.Input.{Input}
 use Rattle.chain_core.specs.declared.input.Input.TheVariants as asked
 use Rattle.chain_core.specs.declared.decision.Decision.TheVariants as decision
 use Rattle.chain_core.specs.declared.sending.Sent.{Sent}
-use Rattle.chain_core.specs.declared.waiting.Waiting.{Waiting}
+use Rattle.chain_core.specs.declared.pending_submit.PendingSubmit.{PendingSubmit}
 use Rattle.chain_core.specs.States.{Machine}
 use Rattle.chain_core.specs.States as core
 use Rattle.chain_core.specs.Decisions.{AreFrames, IsReadOf, frame_as}
-use Rattle.chain_core.specs.Steps.{Leaves, frames_after}
+use Rattle.chain_core.specs.Steps.{StepLeaves, frames_after}
 use Rattle.node.specs.declared.output.Output.{Output}
 use Rattle.node.specs.declared.stop.Stop.{Stop}
-use Rattle.node.specs.Outputs.{Says, Tells, told_to}
+use Rattle.node.specs.Outputs.{OutputHas, OutputRefines, committed_reply}
 use Rattle.node.specs.Steps.{replies_of}
 
 -- frames one behind another
-pub both_sent : (a b : List Sent) (f g : List (Frame BatchContent)) → AreFrames a f →
+pub both_sent : (a b : List Sent) (f g : List (Message BatchContent)) → AreFrames a f →
     AreFrames b g → AreFrames (a ++ b) (f ++ g)
 both_sent a b f g of_a of_b =
-    let as_model : Sent → Option (Frame BatchContent) = λ it. frame_as it.to it.frame in
-    let some : Frame BatchContent → Option (Frame BatchContent) = λ it. Some it in
+    let as_model : Sent → Option (Message BatchContent) = λ it. frame_as it.to it.frame in
+    let some : Message BatchContent → Option (Message BatchContent) = λ it. Some it in
     map-append as_model a b ∙ ap (λ l. l ++ map as_model b) of_a
     ∙ ap (λ l. map some f ++ l) of_b ∙ sym (map-append some f g)
 
@@ -43,20 +43,21 @@ made_of (Some it) P value number made some =
     sym same ∙ made.1
 
 -- the replies to due requests are the replies of the machine
-pub replies_due : (input : Input) (due : List Waiting) →
-    map told_to due ≡ replies_of input (core.replies_of due)
+pub replies_due : (input : Input) (due : List PendingSubmit) →
+    map committed_reply due ≡ replies_of input (core.committed_responses due)
 replies_due input [] = refl
-replies_due input (it ∷ due) = ap (λ l. told_to it ∷ l) (replies_due input due)
+replies_due input (it ∷ due) = ap (λ l. committed_reply it ∷ l) (replies_due input due)
 
 -- the output after the store's part is the answer of the rule
 pub tells_rule : (x : ℕ) (n : Machine) (input : Input) (batch : BatchContent) (d : Done)
-    (a : Answer BatchContent) (due : List Waiting) (sent : List (Frame BatchContent))
-    (result : Result Output Stop) → Leaves x n batch d a → a.replies ≡ core.replies_of due →
-    sent ≡ frames_after x n d a.node → IfOk result (Says None sent (map told_to due)) →
-    IfOk result (Tells input a)
+    (a : Answer BatchContent) (due : List PendingSubmit) (sent : List (Message BatchContent))
+    (result : Result Output Stop) → StepLeaves x n batch d a → a.replies ≡ core.committed_responses
+        due →
+    sent ≡ frames_after x n d a.node → IfOk result (OutputHas None sent (map committed_reply due)) →
+    IfOk result (OutputRefines input a)
 tells_rule x n input batch d a due sent (Ok output) leaves replied frames says = record {
   dropped = says.dropped ∙ sym leaves.dropped;
-  frames = subst (λ (f : List (Frame BatchContent)). AreFrames output.frames.items f)
+  frames = subst (λ (f : List (Message BatchContent)). AreFrames output.frames.items f)
       (frames ∙ sym leaves.frames) says.frames;
   replied = says.replied ∙ replies_due input due ∙ ap (replies_of input) (sym replied);
 }
@@ -68,12 +69,13 @@ greater a b = grind (arith, nat_tests)
 
 -- the output of a read is the output for the input that requested it
 pub tells_read : (n : Machine) (input : Input) (request at : ℕ) (key : List ℕ)
-    (result : Result Output Stop) → IsReadOf n input (decision.Show request key at) →
+    (result : Result Output Stop) → IsReadOf n input (decision.Read request key at) →
     ((number : Option ℕ) →
-    IfOk result (Tells (asked.Get request key number) (show n request at))) →
-    IfOk result (Tells input (show n request at))
+    IfOk result (OutputRefines (asked.Get request key number) (reply_read n request at))) →
+    IfOk result (OutputRefines input (reply_read n request at))
 tells_read n (asked.Get other asked_key number) request at key result read tells =
-    subst (λ (k : List ℕ). IfOk result (Tells (asked.Get request k number) (show n request at)))
+    subst (λ (k : List ℕ). IfOk result
+        (OutputRefines (asked.Get request k number) (reply_read n request at)))
     read.0 (tells number)
 tells_read n (asked.Submit other batch) request at key result read tells = absurd read
 tells_read n (asked.Forward epoch from number batch) request at key result read tells = absurd read
@@ -82,7 +84,7 @@ tells_read n asked.Tick request at key result read tells = absurd read
 
 -- a read is at the floor or above
 pub readable : (n : Machine) (input : Input) (request at : ℕ) (key : List ℕ) →
-    IsReadOf n input (decision.Show request key at) → n.floor ≤ at
+    IsReadOf n input (decision.Read request key at) → n.floor ≤ at
 readable n (asked.Get other asked_key number) request at key read = read.1
 readable n (asked.Submit other batch) request at key read = absurd read
 readable n (asked.Forward epoch from number batch) request at key read = absurd read

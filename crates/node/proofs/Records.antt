@@ -6,10 +6,10 @@ use Rattle.std.proofs.lemmas.List.{take_all}
 use Rattle.std.proofs.lemmas.List.Elements.{All-head, All-tail}
 use Rattle.std.specs.Int.{w64, to_be_bytes}
 use Rattle.kv_types.specs.Content.{BatchContent}
-use Rattle.kv_types.specs.Spelling.{IsBatch, spelling}
-use Rattle.disk.specs.State.{State}
+use Rattle.kv_types.specs.Spelling.{IsBatch, batch_bytes}
+use Rattle.disk.specs.States.{State}
 use Rattle.record_log.specs.declared.log.Log.{Log}
-use Rattle.record_log.specs.Stands.{Holds, count_of}
+use Rattle.record_log.specs.Logs.{LogHolds, count_of}
 use Rattle.record_log.specs.Grammar.{ends_from}
 use Rattle.node.specs.Layout.{batch_record, records_from}
 
@@ -83,7 +83,7 @@ length-ends at (first ∷ others) = ap suc (length-ends (at + 5 + length first) 
 
 -- all of a log's records were read
 pub all_read : (disk : State) (log : Log) (records : List (List ℕ)) (i : ℕ)
-    (list : List BatchContent) → Holds disk log records → count_of log ≤ i →
+    (list : List BatchContent) → LogHolds disk log records → count_of log ≤ i →
     take i records ≡ records_from 1 list → records ≡ records_from 1 list
 all_read disk log records i list h all before =
     let size : length records ≤ i =
@@ -95,4 +95,4 @@ pub record_fits : (number : ℕ) (batch : BatchContent) → IsBatch batch →
     length (batch_record number batch) ≤ 16777216
 record_fits number batch is =
     let short = is.short in
-    omega (arith, length-append (to_be_bytes w64 number) (spelling batch), short)
+    omega (arith, length-append (to_be_bytes w64 number) (batch_bytes batch), short)

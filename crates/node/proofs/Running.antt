@@ -5,21 +5,21 @@ use Rattle.std.proofs.Common.{replicate, length-append}
 use Rattle.std.specs.Prelude.{Result, Ok, Err, IfOk, IfErr}
 use Rattle.std.proofs.lemmas.List.{length-replicate}
 use Rattle.kv_types.specs.Content.{BatchContent}
-use Rattle.disk.specs.State.{State, Contents, SureIsLeft, contents}
+use Rattle.disk.specs.States.{State, Contents, DurableIsLeft, contents}
 use Rattle.chain_model.specs.Configuration.{successor}
 use Rattle.chain_model.specs.Lists.{place}
-use Rattle.chain_model.specs.Node.{Answer, started}
+use Rattle.chain_model.specs.Machine.{Answer, started}
 use Rattle.chain_core.specs.declared.done.Done.{Done}
 use Rattle.chain_core.specs.declared.done.Done.TheVariants as done
 use Rattle.chain_core.specs.declared.input.Input.{Input}
-use Rattle.chain_core.specs.declared.waiting.Waiting.{Waiting}
-use Rattle.chain_core.specs.States.{Machine, Core, Is, waiting}
+use Rattle.chain_core.specs.declared.pending_submit.PendingSubmit.{PendingSubmit}
+use Rattle.chain_core.specs.States.{Machine, Core, CoreRefines, waiting}
 use Rattle.chain_core.specs.Decisions as core
 use Rattle.chain_core.specs.declared.decision.Decision.{Decision}
 use Rattle.chain_core.specs.Decisions.{done_of, rule_of}
-use Rattle.chain_core.specs.Steps.{Leaves, StepsLeave, StandsLast, list_after, epoch_after}
+use Rattle.chain_core.specs.Steps.{StepLeaves, StepsLeave, StandsLast, list_after, epoch_after}
 use Rattle.chain_core.specs.Steps.{ids_after, floor_after, kept_after, frames_after}
-use Rattle.chain_model.specs.Frames.{Frame}
+use Rattle.chain_model.specs.Messages.{Message}
 use Rattle.node.specs.declared.engine.Engine.{Engine}
 use Rattle.node.specs.declared.node.Node.{Node}
 use Rattle.node.specs.declared.output.Output.{Output}
@@ -29,10 +29,11 @@ use Rattle.node.specs.declared.layout.Identity.{Identity}
 use Rattle.node.specs.Engines.{EngineHolds, HasNumbersOf, IsOpened}
 use Rattle.node.specs.Files.{DiskRepresents, KeepsOneOf}
 use Rattle.node.specs.Starts.{IsStarted}
-use Rattle.node.specs.Steps.{Rests, Runs, AlwaysRests, StopsAs, Answers}
-use Rattle.node.specs.Stops.{IsOfMachine}
+use Rattle.node.specs.Steps.{DiskRefines, NodeRefines, DiskAlwaysRefines, StopRefines, StepRefines}
+use Rattle.node.specs.Stops.{IsEnvironmental}
 use Rattle.node.proofs.Outputs.{tells_rule}
-use Rattle.node.specs.Outputs.{Says, Tells, told_to, Follows, Ends, HasAppended, IsCopyFor}
+use Rattle.node.specs.Outputs.{OutputHas, OutputRefines, committed_reply, NodeFollows, CallRefines}
+use Rattle.node.specs.Outputs.{HasAppended, IsCopyFor}
 use Rattle.node.proofs.Engines.{has_numbers_of, holds_as, represented}
 
 -- a node after a call of its engine, and one that knows other numbers
@@ -57,7 +58,7 @@ machine_with core = record {
   running = true;
 }
 
-has_numbers : (core : Core) → Is core (machine_with core)
+has_numbers : (core : Core) → CoreRefines core (machine_with core)
 has_numbers core = record {
   epoch = refl;
   ids = refl;
@@ -75,44 +76,45 @@ pub appended_list : (n : Machine) (batch : BatchContent) (d : Done) → HasAppen
     list_after n batch d ≡ n.list ++ batch ∷ []
 appended_list n batch (done.Accepted request) has = refl
 appended_list n batch done.Appended has = refl
-appended_list n batch (done.Told committed have) has = absurd has
+appended_list n batch (done.Acked committed have) has = absurd has
 
 -- the count after the store's part
-counted : StepsLeave → (old new : Core) (batch : BatchContent) (d : Done) (due : List Waiting) →
-    ((n : Machine) (batch : BatchContent) → Is old n →
-    core.Follows new (done_of old.id n batch d) due) →
+counted : StepsLeave → (old new : Core) (batch : BatchContent) (d : Done) (due : List PendingSubmit)
+    →
+    ((n : Machine) (batch : BatchContent) → CoreRefines old n →
+    core.CoreFollows new (done_of old.id n batch d) due) →
     new.count ≡ length (list_after (machine_with old) batch d)
 counted law old new batch d due after =
     let n = machine_with old in
     sym (after n batch (has_numbers old)).is.count ∙ ap length (law old.id n batch d).list
 
 -- one batch more is counted where one was appended
-pub counts_appended : StepsLeave → (old new : Core) (d : Done) (due : List Waiting) →
+pub counts_appended : StepsLeave → (old new : Core) (d : Done) (due : List PendingSubmit) →
     HasAppended d →
-    ((n : Machine) (batch : BatchContent) → Is old n →
-    core.Follows new (done_of old.id n batch d) due) → new.count ≡ old.count + 1
+    ((n : Machine) (batch : BatchContent) → CoreRefines old n →
+    core.CoreFollows new (done_of old.id n batch d) due) → new.count ≡ old.count + 1
 counts_appended law old new d due has after =
     let n = machine_with old in
     counted law old new [] d due after ∙ ap length (appended_list n [] d has)
     ∙ length-append n.list ([] ∷ []) ∙ ap (λ k. k + 1) (length-replicate old.count [])
 
 -- as many batches as before are counted after a report of the successor
-pub counts_told : StepsLeave → (old new : Core) (committed have : ℕ) (due : List Waiting) →
-    ((n : Machine) (batch : BatchContent) → Is old n →
-    core.Follows new (done_of old.id n batch (done.Told committed have)) due) →
+pub counts_told : StepsLeave → (old new : Core) (committed have : ℕ) (due : List PendingSubmit) →
+    ((n : Machine) (batch : BatchContent) → CoreRefines old n →
+    core.CoreFollows new (done_of old.id n batch (done.Acked committed have)) due) →
     new.count ≡ old.count
 counts_told law old new committed have due after =
-    counted law old new [] (done.Told committed have) due after ∙ length-replicate old.count []
+    counted law old new [] (done.Acked committed have) due after ∙ length-replicate old.count []
 
 same_kept : (n : Machine) (d : Done) → kept_after n d ≡ n.kept
 same_kept n (done.Accepted request) = refl
 same_kept n done.Appended = refl
-same_kept n (done.Told committed have) = refl
+same_kept n (done.Acked committed have) = refl
 
 -- no batch was given up
-pub keeps_kept : StepsLeave → (old new : Core) (d : Done) (due : List Waiting) →
-    ((n : Machine) (batch : BatchContent) → Is old n →
-    core.Follows new (done_of old.id n batch d) due) → new.kept ≡ old.kept
+pub keeps_kept : StepsLeave → (old new : Core) (d : Done) (due : List PendingSubmit) →
+    ((n : Machine) (batch : BatchContent) → CoreRefines old n →
+    core.CoreFollows new (done_of old.id n batch d) due) → new.kept ≡ old.kept
 keeps_kept law old new d due after =
     let n = machine_with old in
     sym (after n [] (has_numbers old)).is.kept ∙ (law old.id n [] d).kept ∙ same_kept n d
@@ -125,7 +127,7 @@ pub holds_appended : (disk : State) (engine : Engine) (x : ℕ) (n : Machine) (b
     (floor_after n d) (kept_after n d)
 holds_appended disk engine x n batch (done.Accepted request) has holds = holds
 holds_appended disk engine x n batch done.Appended has holds = holds
-holds_appended disk engine x n batch (done.Told committed have) has holds = absurd has
+holds_appended disk engine x n batch (done.Acked committed have) has holds = absurd has
 
 -- a disk with one batch more represents what the step leaves
 represents_appended : (left : Contents) (x : ℕ) (n : Machine) (batch : BatchContent) (d : Done) →
@@ -135,7 +137,7 @@ represents_appended : (left : Contents) (x : ℕ) (n : Machine) (batch : BatchCo
     (floor_after n d) (kept_after n d)
 represents_appended left x n batch (done.Accepted request) has it = it
 represents_appended left x n batch done.Appended has it = it
-represents_appended left x n batch (done.Told committed have) has it = absurd has
+represents_appended left x n batch (done.Acked committed have) has it = absurd has
 
 -- the state that a disk represents, for equal numbers
 represents_as : (left : Contents) (x e d : ℕ) (ids js : List ℕ) (list more : List BatchContent)
@@ -146,9 +148,9 @@ represents_as left x e d ids js list more f g k h of_epoch of_ids of_list of_flo
 
 -- during an append the disk represents the machine before or after
 pub stops_between : (disk : State) (x : ℕ) (n : Machine) (batch : BatchContent) (d : Done)
-    (a : Answer BatchContent) → Leaves x n batch d a → HasAppended d →
+    (a : Answer BatchContent) → StepLeaves x n batch d a → HasAppended d →
     KeepsOneOf disk x n.epoch n.ids n.list (n.list ++ batch ∷ []) n.floor n.kept →
-    StopsAs disk x n a
+    StopRefines disk x n a
 stops_between disk x n batch d a leaves has one_of left now =
     let m = a.node in
     elim (one_of left now) [
@@ -161,7 +163,7 @@ stops_between disk x n batch d a leaves has one_of left now =
 
 -- a copy for the successor is one after a step, which leaves id and configuration
 pub copy_after : (old new : Core) (n m : Machine) (x : ℕ) (batch : BatchContent)
-    (copy : Option BatchContent) → Is old n → m.ids ≡ n.ids → old.id ≡ x → new.id ≡ x →
+    (copy : Option BatchContent) → CoreRefines old n → m.ids ≡ n.ids → old.id ≡ x → new.id ≡ x →
     IsCopyFor (successor old.ids old.id) batch copy → IsCopyFor (successor m.ids new.id) batch copy
 copy_after old new n m x batch copy is ids old_id new_id copied =
     let same_ids : m.ids ≡ old.ids = ids ∙ is.ids in
@@ -171,7 +173,7 @@ copy_after old new n m x batch copy is ids old_id new_id copied =
 -- the number of an appended batch
 pub number_taken : (x : ℕ) (n : Machine) (batch : BatchContent) (d : Done)
     (a : Answer BatchContent) →
-    Leaves x n batch d a → HasAppended d → length a.node.list ≡ suc (length n.list)
+    StepLeaves x n batch d a → HasAppended d → length a.node.list ≡ suc (length n.list)
 number_taken x n batch d a leaves has =
     omega (
       arith,
@@ -182,7 +184,7 @@ number_taken x n batch d a leaves has =
 
 -- the appended batch is at its number
 pub taken_stands : StandsLast → (x : ℕ) (n : Machine) (batch : BatchContent) (d : Done)
-    (a : Answer BatchContent) (count : ℕ) → Leaves x n batch d a → HasAppended d →
+    (a : Answer BatchContent) (count : ℕ) → StepLeaves x n batch d a → HasAppended d →
     count ≡ suc (length n.list) → place a.node.list count ≡ Some batch
 taken_stands law x n batch d a count leaves has number =
     ap (λ l. place l count) (leaves.list ∙ appended_list n batch d has)
@@ -190,35 +192,36 @@ taken_stands law x n batch d a count leaves has number =
 
 module _ {D : Type 0} (is_honest : D → Type 0) (state : D → State) where
   -- every crash outcome of its disk represents the node
-  pub rests : SureIsLeft → (node : Node D) (x : ℕ) (n : Machine) →
-      Runs is_honest state node x n → AlwaysRests (state node.disk) x n
+  pub rests : DurableIsLeft → (node : Node D) (x : ℕ) (n : Machine) →
+      NodeRefines is_honest state node x n → DiskAlwaysRefines (state node.disk) x n
   rests law node x n r left leaves =
       represented law (state node.disk) node.engine x n.epoch n.ids n.list n.floor n.kept r.store
       left leaves
 
-  pub stops_before : SureIsLeft → (node : Node D) (x : ℕ) (n : Machine)
-      (a : Answer BatchContent) → Runs is_honest state node x n → StopsAs (state node.disk) x n a
+  pub stops_before : DurableIsLeft → (node : Node D) (x : ℕ) (n : Machine)
+      (a : Answer BatchContent) → NodeRefines is_honest state node x n → StopRefines
+          (state node.disk) x n a
   stops_before law node x n a r left leaves = inl (rests law node x n r left leaves)
 
-  pub stops_after : SureIsLeft → (node : Node D) (x : ℕ) (n : Machine)
-      (a : Answer BatchContent) → Runs is_honest state node x a.node →
-      StopsAs (state node.disk) x n a
+  pub stops_after : DurableIsLeft → (node : Node D) (x : ℕ) (n : Machine)
+      (a : Answer BatchContent) → NodeRefines is_honest state node x a.node →
+      StopRefines (state node.disk) x n a
   stops_after law node x n a r left leaves = inr (rests law node x a.node r left leaves)
 
   -- a node whose engine holds what it held runs on
   pub still_runs : (node : Node D) (disk : D) (engine : Engine) (x : ℕ) (n : Machine) →
-      Runs is_honest state node x n → is_honest disk →
+      NodeRefines is_honest state node x n → is_honest disk →
       EngineHolds (state disk) engine x n.epoch n.ids n.list n.floor n.kept →
-      Runs is_honest state (with_engine node disk engine) x n
+      NodeRefines is_honest state (with_engine node disk engine) x n
   still_runs node disk engine x n r honest holds =
       record { honest = honest; store = holds; core = r.core; id = r.id }
 
   -- a node that did its store's part runs as the machine after the rule
   pub goes_on : (node : Node D) (x : ℕ) (n : Machine) (batch : BatchContent) (d : Done)
-      (a : Answer BatchContent) → Leaves x n batch d a → is_honest node.disk →
+      (a : Answer BatchContent) → StepLeaves x n batch d a → is_honest node.disk →
       EngineHolds (state node.disk) node.engine x (epoch_after n d) (ids_after n d)
-      (list_after n batch d) (floor_after n d) (kept_after n d) → Is node.core a.node →
-      node.core.id ≡ x → Runs is_honest state node x a.node
+      (list_after n batch d) (floor_after n d) (kept_after n d) → CoreRefines node.core a.node →
+      node.core.id ≡ x → NodeRefines is_honest state node x a.node
   goes_on node x n batch d a leaves honest holds is id =
       let m = a.node in
       record {
@@ -231,10 +234,11 @@ module _ {D : Type 0} (is_honest : D → Type 0) (state : D → State) where
       }
 
   -- the output is the machine's answer, and for want of memory the node stops
-  pub ends : SureIsLeft → (node : Node D) (x : ℕ) (n : Machine) (input : Input)
-      (a : Answer BatchContent) (result : Result Output Stop) → Runs is_honest state node x a.node →
-      IfOk result (Tells input a) → IfErr result (λ e. e ≡ stop.Memory) →
-      Ends is_honest state node x n a (Answers is_honest state node x input a) result
+  pub ends : DurableIsLeft → (node : Node D) (x : ℕ) (n : Machine) (input : Input)
+      (a : Answer BatchContent) (result : Result Output Stop) → NodeRefines is_honest state node x
+          a.node →
+      IfOk result (OutputRefines input a) → IfErr result (λ e. e ≡ stop.Memory) →
+      CallRefines is_honest state node x n a (StepRefines is_honest state node x input a) result
   ends law node x n input a (Ok output) r tells memory = record {
     done = record {
       runs = r;
@@ -252,28 +256,29 @@ module _ {D : Type 0} (is_honest : D → Type 0) (state : D → State) where
   -- the rule is that of the decision
   pub ends_as : (node : Node D) (x : ℕ) (n : Machine) (input : Input) (decision known : Decision)
       (result : Result Output Stop) → decision ≡ known →
-      Ends is_honest state node x n (rule_of x n known)
-      (Answers is_honest state node x input (rule_of x n known)) result →
-      Ends is_honest state node x n (rule_of x n decision)
-      (Answers is_honest state node x input (rule_of x n decision)) result
+      CallRefines is_honest state node x n (rule_of x n known)
+      (StepRefines is_honest state node x input (rule_of x n known)) result →
+      CallRefines is_honest state node x n (rule_of x n decision)
+      (StepRefines is_honest state node x input (rule_of x n decision)) result
   ends_as node x n input decision known result is done =
-      subst (λ (d : Decision). Ends is_honest state node x n (rule_of x n d)
-      (Answers is_honest state node x input (rule_of x n d)) result) (sym is) done
+      subst (λ (d : Decision). CallRefines is_honest state node x n (rule_of x n d)
+      (StepRefines is_honest state node x input (rule_of x n d)) result) (sym is) done
 
   -- the rule is that of the decision, also after the store's part
-  pub ends_rule : SureIsLeft → (node : Node D) (x : ℕ) (n : Machine) (input : Input)
-      (batch : BatchContent) (d : Done) (a : Answer BatchContent) (due told : List Waiting)
-      (sent : ℕ → List (Frame BatchContent)) (result : Result Output Stop) →
-      Leaves x n batch d a → Follows is_honest state node x a due → told ≡ due →
+  pub ends_rule : DurableIsLeft → (node : Node D) (x : ℕ) (n : Machine) (input : Input)
+      (batch : BatchContent) (d : Done) (a : Answer BatchContent) (due told : List PendingSubmit)
+      (sent : ℕ → List (Message BatchContent)) (result : Result Output Stop) →
+      StepLeaves x n batch d a → NodeFollows is_honest state node x a due → told ≡ due →
       sent x ≡ frames_after x n d a.node →
-      IfOk result (Says None (sent node.core.id) (map told_to told)) →
+      IfOk result (OutputHas None (sent node.core.id) (map committed_reply told)) →
       IfErr result (λ e. e ≡ stop.Memory) →
-      Ends is_honest state node x n a (Answers is_honest state node x input a) result
+      CallRefines is_honest state node x n a (StepRefines is_honest state node x input a) result
   ends_rule law node x n input batch d a due told sent result leaves follows same frames says
       memory =
-      let by_x = subst (λ (y : ℕ). IfOk result (Says None (sent y) (map told_to told)))
+      let by_x = subst (λ (y : ℕ). IfOk result (OutputHas None (sent y) (map committed_reply told)))
       follows.runs.id says in
-      let of_due = subst (λ (l : List Waiting). IfOk result (Says None (sent x) (map told_to l)))
+      let of_due = subst (λ (l : List PendingSubmit). IfOk result
+          (OutputHas None (sent x) (map committed_reply l)))
       same by_x in
       ends law node x n input a result follows.runs
       (tells_rule x n input batch d a due (sent x) result leaves follows.replied frames of_due)
@@ -282,31 +287,31 @@ module _ {D : Type 0} (is_honest : D → Type 0) (state : D → State) where
   -- a call that stops
   pub ends_stopped : {T : Type 0} (node : Node D) (x : ℕ) (n : Machine) (a : Answer BatchContent)
       (IsDone : T → Type 0) (result : Result T Stop) (e : Stop) → result ≡ Err e →
-      IsOfMachine e → is_honest node.disk → StopsAs (state node.disk) x n a →
-      Ends is_honest state node x n a IsDone result
+      IsEnvironmental e → is_honest node.disk → StopRefines (state node.disk) x n a →
+      CallRefines is_honest state node x n a IsDone result
   ends_stopped node x n a IsDone result e is machine honest stops =
       rw is (record { done = machine; stopped = (honest, stops) })
 
   -- the node of an opened engine refines the machine that was started
   module _ (node : Node D) (identity : Identity)
       (is : (n : Machine) → HasNumbersOf node.engine n → n.ids ≡ identity.config →
-      Is node.core (started identity.id n)) where
+      CoreRefines node.core (started identity.id n)) where
     pub runs_opened : (x : ℕ) (n : Machine) → is_honest node.disk →
         IsOpened (state node.disk) identity node.engine x n.epoch n.ids n.list n.floor n.kept →
-        node.core.id ≡ identity.id → Runs is_honest state node x (started x n)
+        node.core.id ≡ identity.id → NodeRefines is_honest state node x (started x n)
     runs_opened x n honest opened id =
         let numbers = has_numbers_of (state node.disk) node.engine x n opened.holds in
         record {
           honest = honest;
           store = opened.holds;
-          core = subst (λ (y : ℕ). Is node.core (started y n)) opened.id
+          core = subst (λ (y : ℕ). CoreRefines node.core (started y n)) opened.id
               (is n numbers (sym opened.config));
           id = id ∙ opened.id;
         }
 
     -- the started node is one that its disk represented
     pub starts : (old : D) (n : Machine) → n.ids ≡ identity.config →
-        Rests (contents (state old)) identity.id n → is_honest node.disk →
+        DiskRefines (contents (state old)) identity.id n → is_honest node.disk →
         IsOpened (state node.disk) identity node.engine identity.id n.epoch n.ids n.list n.floor
         n.kept → node.core.id ≡ identity.id → IsStarted is_honest state old node
     starts old n ids had honest opened id = record {

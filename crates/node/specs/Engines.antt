@@ -3,15 +3,15 @@ use Rattle.std.specs.Prelude.{◌≡◌, ℕ, ◌+◌, ◌≤◌, List, length, 
 use Rattle.kv_types.specs.declared.bounds.TheConstants.{MAX_NUMBER}
 use Rattle.kv_types.specs.Content.{BatchContent}
 use Rattle.kv_types.specs.Spelling.{IsBatch}
-use Rattle.disk.specs.State.{State}
+use Rattle.disk.specs.States.{State}
 use Rattle.disk.specs.Calls.{EndsOutOfRange}
 use Rattle.record_log.specs.declared.log.TheConstants.{MAX_RECORD}
-use Rattle.record_log.specs.Stands.{HasFailed, Holds, IsAt, file_of, gate_of}
+use Rattle.record_log.specs.Logs.{HasFailed, LogHolds, IsAt, file_of, gate_of}
 use Rattle.chain_core.specs.States.{Machine}
 use Rattle.node.specs.declared.engine.Engine.{Engine}
 use Rattle.node.specs.declared.layout.Identity.{Identity}
 use Rattle.node.specs.Layout.{batches_file, records_from}
-use Rattle.node.specs.Files.{HasPlainNumbers, IsSureOfId, KeepsOthers}
+use Rattle.node.specs.Files.{HasPlainNumbers, IsDurableIdOf, KeepsOthers}
 
 -- the number of its batches
 abbrev pub engine_count : Engine → ℕ
@@ -43,9 +43,9 @@ IsNearlyFull engine = EndsOutOfRange (gate_of engine.log) (MAX_RECORD + 6)
 -- an open engine holds the state that the disk durably represents
 pub record EngineHolds (disk : State) (engine : Engine) (x epoch : ℕ) (ids : List ℕ)
     (list : List BatchContent) (floor kept : ℕ) : Type 0 where
-  pub id : IsSureOfId disk x ids
+  pub id : IsDurableIdOf disk x ids
   pub at : IsAt batches_file 0 engine.log
-  pub log : Holds disk engine.log (records_from 1 list)
+  pub log : LogHolds disk engine.log (records_from 1 list)
   pub batches : engine.batches.items ≡ list
   pub each : All IsBatch list
   pub few : length list ≤ MAX_NUMBER

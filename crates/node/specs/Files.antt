@@ -4,9 +4,9 @@ use Rattle.std.specs.Prelude.{IsSomeAnd, MatchOption}
 use Rattle.kv_types.specs.declared.bounds.TheConstants.{MAX_NUMBER}
 use Rattle.kv_types.specs.Content.{BatchContent}
 use Rattle.kv_types.specs.Spelling.{IsBatch}
-use Rattle.disk.specs.State.{State, Contents, MayLeave, contents}
-use Rattle.record_log.specs.Grammar.{StandsFor}
-use Rattle.record_log.specs.Push.{IsSureOf}
+use Rattle.disk.specs.States.{State, Contents, IsCrashOutcome, contents}
+use Rattle.record_log.specs.Grammar.{RepresentsRecords}
+use Rattle.record_log.specs.Push.{IsDurableAs}
 use Rattle.chain_model.specs.Configuration.{IsId}
 use Rattle.configurations.specs.Configs.{IsConfig}
 use Rattle.node.specs.Layout.{identity_file, batches_file, identity_records, records_from}
@@ -14,11 +14,11 @@ use Rattle.node.specs.Layout.{IsOwnFile}
 
 -- the file exists, and is a log of these records
 abbrev pub IsLog : Option (List ℕ) → List (List ℕ) → Type 0
-IsLog file records = IsSomeAnd file (λ bytes. StandsFor bytes records)
+IsLog file records = IsSomeAnd file (λ bytes. RepresentsRecords bytes records)
 
 -- an identity file of no node: it is absent, empty, or a log of no record
 abbrev pub IsBlankFile : Option (List ℕ) → Type 0
-IsBlankFile file = MatchOption file (Unit {0}) (λ bytes. (bytes ≡ []) ⊎ StandsFor bytes [])
+IsBlankFile file = MatchOption file (Unit {0}) (λ bytes. (bytes ≡ []) ⊎ RepresentsRecords bytes [])
 
 -- no node was created on a disk
 abbrev pub IsBlank : Contents → Type 0
@@ -59,17 +59,17 @@ pub record IsDamaged (left : Contents) : Type 0 where
       DiskRepresents left x epoch ids list floor kept → ⊥
 
 -- the identity file represents node x with this configuration, and is durable
-pub record IsSureOfId (disk : State) (x : ℕ) (ids : List ℕ) : Type 0 where
+pub record IsDurableIdOf (disk : State) (x : ℕ) (ids : List ℕ) : Type 0 where
   pub id : IsId x
   pub config : IsConfig ids
   pub bytes : List ℕ
-  pub sure : IsSureOf disk identity_file bytes
-  pub identity : StandsFor bytes (identity_records x ids)
+  pub sure : IsDurableAs disk identity_file bytes
+  pub identity : RepresentsRecords bytes (identity_records x ids)
 
 -- the identity file represented node x with this configuration, and is now durable
-pub record IsSureId (old new : State) (x : ℕ) (ids : List ℕ) : Type 0 where
+pub record HasDurableId (old new : State) (x : ℕ) (ids : List ℕ) : Type 0 where
   pub had : HasId (contents old) x ids
-  pub sure : IsSureOfId new x ids
+  pub sure : IsDurableIdOf new x ids
 
 -- the files outside the node's layout are unchanged
 abbrev pub KeepsOthers : State → State → Type 0
@@ -77,7 +77,7 @@ KeepsOthers old new = (other : ℕ) → (IsOwnFile other → ⊥) → new other 
 
 -- every crash outcome was possible before
 abbrev pub LeavesNoMore : State → State → Type 0
-LeavesNoMore old new = (left : Contents) → MayLeave new left → MayLeave old left
+LeavesNoMore old new = (left : Contents) → IsCrashOutcome new left → IsCrashOutcome old left
 
 -- The state after recovery: every crash outcome was possible before, and the files outside the
 -- node's layout are unchanged.
@@ -88,6 +88,6 @@ pub record IsRecovered (old new : State) : Type 0 where
 -- every crash outcome of the disk represents node x with one of two lists of batches
 abbrev pub KeepsOneOf : State → (x epoch : ℕ) → List ℕ → (list more : List BatchContent) →
     (floor kept : ℕ) → Type 0
-KeepsOneOf disk x epoch ids list more floor kept = (left : Contents) → MayLeave disk left →
+KeepsOneOf disk x epoch ids list more floor kept = (left : Contents) → IsCrashOutcome disk left →
     DiskRepresents left x epoch ids list floor kept
     ⊎ DiskRepresents left x epoch ids more floor kept

@@ -2,7 +2,7 @@
 use Rattle.std.specs.Prelude.{◌≡◌, ◌⊎◌, ℕ, suc, List, [], ◌∷◌, ◌++◌}
 use Rattle.std.specs.Int.{w16, w64, to_be_bytes}
 use Rattle.kv_types.specs.Content.{BatchContent}
-use Rattle.kv_types.specs.Spelling.{spelling}
+use Rattle.kv_types.specs.Spelling.{batch_bytes}
 use Rattle.configurations.specs.Spelling.{config_text}
 
 -- the file with the node's id and configuration, and the file of its batches
@@ -27,7 +27,7 @@ identity_records id ids = identity_record id ids ∷ []
 
 -- the record of a batch: its number and its spelling
 abbrev pub batch_record : ℕ → BatchContent → List ℕ
-batch_record number batch = to_be_bytes w64 number ++ spelling batch
+batch_record number batch = to_be_bytes w64 number ++ batch_bytes batch
 
 -- the records of batches that are numbered from this one on, without a gap
 abbrev pub records_from : ℕ → List BatchContent → List (List ℕ)

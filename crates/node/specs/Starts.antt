@@ -1,28 +1,28 @@
 -- The answers of the calls that receive a disk: a node, or a refusal.
 use Rattle.std.specs.Prelude.{ℕ, Result, Ok, Err}
-use Rattle.disk.specs.State.{State, Contents, contents}
-use Rattle.chain_model.specs.Node.{started}
+use Rattle.disk.specs.States.{State, Contents, contents}
+use Rattle.chain_model.specs.Machine.{started}
 use Rattle.node.specs.declared.node.Node.{Node}
 use Rattle.node.specs.declared.stop.Stop.{Stop}
 use Rattle.node.specs.declared.stop.Stop.TheVariants as stop
 use Rattle.node.specs.Files.{IsBlank, IsDamaged}
 use Rattle.chain_core.specs.States.{Machine}
-use Rattle.node.specs.Steps.{Rests, Runs}
+use Rattle.node.specs.Steps.{DiskRefines, NodeRefines}
 
 -- the started node refines a machine that its disk represented
 pub record IsStarted {D : Type 0} (is_honest : D → Type 0) (state : D → State) (disk : D)
     (node : Node D) : Type 0 where
   pub x : ℕ
   pub n : Machine
-  pub stood : Rests (contents (state disk)) x n
-  pub runs : Runs is_honest state node x (started x n)
+  pub stood : DiskRefines (contents (state disk)) x n
+  pub runs : NodeRefines is_honest state node x (started x n)
 
 -- why no node was started from a disk, by its content
-abbrev pub Declines : Stop → Contents → Type 0
-Declines stop.Disk left = Unit {0}
-Declines stop.Damaged left = IsDamaged left
-Declines stop.Memory left = Unit {0}
-Declines stop.NotCreated left = IsBlank left
+abbrev pub StartRefusal : Stop → Contents → Type 0
+StartRefusal stop.Disk left = Unit {0}
+StartRefusal stop.Damaged left = IsDamaged left
+StartRefusal stop.Memory left = Unit {0}
+StartRefusal stop.NotCreated left = IsBlank left
 
 -- the disk that a call received: the node has it, or the refusal returns it
 abbrev pub disk_behind : {D : Type 0} → Result (Node D) (Stop × D) → D

@@ -4,12 +4,12 @@ use Rattle.std.specs.Prelude.{◌≡◌, ◌⊎◌, ℕ, List, [], ◌∷◌}
 use Rattle.std.specs.List.{flat_map}
 use Rattle.kv_types.specs.Content.{BatchContent}
 use Rattle.kv_types.specs.Maps.{map_of}
-use Rattle.disk.specs.State.{State, Contents, MayLeave}
-use Rattle.chain_model.specs.Node as model
+use Rattle.disk.specs.States.{State, Contents, IsCrashOutcome}
+use Rattle.chain_model.specs.Machine as model
 use Rattle.chain_model.specs.Requests as model_request
 use Rattle.chain_core.specs.declared.input.Input.{Input}
 use Rattle.chain_core.specs.declared.input.Input.TheVariants as input
-use Rattle.chain_core.specs.States.{Machine, Is}
+use Rattle.chain_core.specs.States.{Machine, CoreRefines}
 use Rattle.chain_core.specs.Decisions.{AreFrames}
 use Rattle.node.specs.declared.engine.Engine.{Engine}
 use Rattle.node.specs.declared.node.Node.{Node}
@@ -20,12 +20,12 @@ use Rattle.node.specs.Files.{DiskRepresents}
 use Rattle.node.specs.Engines.{EngineHolds, IsUsable, engine_count, engine_kept}
 
 -- the disk's content represents node x with this machine's configuration, batches and numbers
-abbrev pub Rests : Contents → ℕ → Machine → Type 0
-Rests left x n = DiskRepresents left x n.epoch n.ids n.list n.floor n.kept
+abbrev pub DiskRefines : Contents → ℕ → Machine → Type 0
+DiskRefines left x n = DiskRepresents left x n.epoch n.ids n.list n.floor n.kept
 
 -- the disk represents node x with this machine, as it reads and in every crash outcome
-abbrev pub AlwaysRests : State → ℕ → Machine → Type 0
-AlwaysRests disk x n = (left : Contents) → MayLeave disk left → Rests left x n
+abbrev pub DiskAlwaysRefines : State → ℕ → Machine → Type 0
+DiskAlwaysRefines disk x n = (left : Contents) → IsCrashOutcome disk left → DiskRefines left x n
 
 -- the disk that a node owns
 abbrev pub disk_of : {D : Type 0} → Node D → D
@@ -37,15 +37,16 @@ engine_of node = node.engine
 
 -- The running node is node x and refines this machine: it has its numbers, and its batches are on
 -- its disk.
-pub record Runs {D : Type 0} (is_honest : D → Type 0) (state : D → State) (node : Node D) (x : ℕ)
+pub record NodeRefines {D : Type 0} (is_honest : D → Type 0) (state : D → State) (node : Node D)
+    (x : ℕ)
     (n : Machine) : Type 0 where
   pub honest : is_honest node.disk
   pub store : EngineHolds (state node.disk) node.engine x n.epoch n.ids n.list n.floor n.kept
-  pub core : Is node.core n
+  pub core : CoreRefines node.core n
   pub id : node.core.id ≡ x
 
 -- its engine is usable and has the numbers of the node's state, so another step can follow
-pub record MayStep {D : Type 0} (node : Node D) : Type 0 where
+pub record IsReady {D : Type 0} (node : Node D) : Type 0 where
   pub usable : IsUsable node.engine
   pub count : node.core.count ≡ engine_count node.engine
   pub kept : node.core.kept ≡ engine_kept node.engine
@@ -60,29 +61,31 @@ value_for (input.Ack epoch from committed have) i s batches = []
 value_for input.Tick i s batches = []
 
 -- the reply to a client for a reply of the machine (no input requests the other replies yet)
-abbrev pub told_as : Input → model_request.Reply BatchContent → List Reply
-told_as input (model_request.Committed i k) = reply.Committed i k ∷ []
-told_as input (model_request.Shows i s batches) = value_for input i s batches
-told_as input (model_request.Opened i s) = []
-told_as input (model_request.Closed i s) = []
-told_as input (model_request.Refused i why) = reply.Refused i why ∷ []
+abbrev pub replies_to_response : Input → model_request.Response BatchContent → List Reply
+replies_to_response input (model_request.Committed i k) = reply.Committed i k ∷ []
+replies_to_response input (model_request.Shows i s batches) = value_for input i s batches
+replies_to_response input (model_request.Opened i s) = []
+replies_to_response input (model_request.Closed i s) = []
+replies_to_response input (model_request.Refused i why) = reply.Refused i why ∷ []
 
-abbrev pub replies_of : Input → List (model_request.Reply BatchContent) → List Reply
-replies_of input replies = flat_map (told_as input) replies
+abbrev pub replies_of : Input → List (model_request.Response BatchContent) → List Reply
+replies_of input replies = flat_map (replies_to_response input) replies
 
 -- these replies are those of the machine to an input
-abbrev pub AreReplies : Input → List (model_request.Reply BatchContent) → List Reply → Type 0
+abbrev pub AreReplies : Input → List (model_request.Response BatchContent) → List Reply → Type 0
 AreReplies input of_machine replies = replies ≡ replies_of input of_machine
 
 -- A node that answered refines the machine after the step. Its drop, frames and replies are those
 -- of the machine.
-pub record Answers {D : Type 0} (is_honest : D → Type 0) (state : D → State) (new : Node D) (x : ℕ)
+pub record StepRefines {D : Type 0} (is_honest : D → Type 0) (state : D → State) (new : Node D)
+    (x : ℕ)
     (input : Input) (a : model.Answer BatchContent) (output : Output) : Type 0 where
-  pub runs : Runs is_honest state new x a.node
+  pub runs : NodeRefines is_honest state new x a.node
   pub dropped : output.dropped ≡ a.dropped
   pub frames : AreFrames output.frames.items a.frames
   pub replied : AreReplies input a.replies output.replies.items
 
 -- The disk of a node that stopped in a step represents the machine before the step or after it.
-abbrev pub StopsAs : State → ℕ → Machine → model.Answer BatchContent → Type 0
-StopsAs disk x n a = (left : Contents) → MayLeave disk left → Rests left x n ⊎ Rests left x a.node
+abbrev pub StopRefines : State → ℕ → Machine → model.Answer BatchContent → Type 0
+StopRefines disk x n a = (left : Contents) → IsCrashOutcome disk left → DiskRefines left x n ⊎
+    DiskRefines left x a.node

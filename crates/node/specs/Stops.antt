@@ -21,16 +21,16 @@ log_stop log.TooLong = stop.Damaged
 log_stop log.Failed = stop.Damaged
 
 -- the call stops the node because of the disk
-abbrev pub TellsDisk : {T : Type 0} → Result T Stop → Type 0
-TellsDisk result = result ≡ Err stop.Disk
+abbrev pub IsDeviceStop : {T : Type 0} → Result T Stop → Type 0
+IsDeviceStop result = result ≡ Err stop.Disk
 
 -- the causes that say nothing of the disk's content
-abbrev pub IsOfMachine : Stop → Type 0
-IsOfMachine e = (e ≡ stop.Disk) ⊎ (e ≡ stop.Memory)
+abbrev pub IsEnvironmental : Stop → Type 0
+IsEnvironmental e = (e ≡ stop.Disk) ⊎ (e ≡ stop.Memory)
 
 -- what a stop says about whether a node was ever created on the disk
-abbrev pub TellsBlank : Stop → Type 0 → Type 0
-TellsBlank stop.Disk is_blank = Unit {0}
-TellsBlank stop.Damaged is_blank = is_blank → ⊥
-TellsBlank stop.Memory is_blank = Unit {0}
-TellsBlank stop.NotCreated is_blank = is_blank
+abbrev pub MatchesBlank : Stop → Type 0 → Type 0
+MatchesBlank stop.Disk is_blank = Unit {0}
+MatchesBlank stop.Damaged is_blank = is_blank → ⊥
+MatchesBlank stop.Memory is_blank = Unit {0}
+MatchesBlank stop.NotCreated is_blank = is_blank

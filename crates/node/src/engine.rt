@@ -6,20 +6,20 @@ ghost use Rattle.kv_types.specs.declared.bounds.TheConstants.{MAX_NUMBER};
 ghost use Rattle.kv_types.specs.Content.{BatchContent};
 ghost use Rattle.kv_types.specs.Spelling.{IsBatch};
 ghost use Rattle.kv_types.specs.Maps.{map_of};
-ghost use Rattle.disk.specs.State.{AddsNoOutcome, contents, IsSame};
+ghost use Rattle.disk.specs.States.{AddsNoOutcome, contents, IsSame};
 ghost use Rattle.disk.specs.Lent.{KeepsDisk};
-ghost use Rattle.record_log.specs.Stands.{EndsInRange, Holds, HasFailed, count_of};
+ghost use Rattle.record_log.specs.Logs.{EndsInRange, LogHolds, HasFailed, count_of};
 ghost use Rattle.chain_model.specs.Configuration.{IsId};
 ghost use Rattle.chain_model.specs.Lists.{place};
 ghost use Rattle.configurations.specs.Configs.{IsConfig};
-ghost use Rattle.node.specs.Files.{DiskRepresents, HasId, IsBlank, IsSureId};
+ghost use Rattle.node.specs.Files.{DiskRepresents, HasId, IsBlank, HasDurableId};
 ghost use Rattle.node.specs.Files.{IsRecovered, KeepsOneOf, KeepsOthers};
 ghost use Rattle.node.specs.Layout.{identity_file, identity_records};
 ghost use Rattle.node.specs.Layout.{batch_record, records_from};
 ghost use Rattle.node.specs.Engines.{EngineHolds, IsOpened, IsUsable};
 ghost use Rattle.node.specs.Engines.{IsNearlyFull, KeepsOthersOf, KeepsStore};
 ghost use Rattle.node.specs.Engines.{engine_count, engine_epoch, engine_floor, engine_kept};
-ghost use Rattle.node.specs.Stops.{TellsDisk, IsOfMachine, TellsBlank};
+ghost use Rattle.node.specs.Stops.{IsDeviceStop, IsEnvironmental, MatchesBlank};
 
 use crate::Stop;
 use crate::layout::{
@@ -27,11 +27,11 @@ use crate::layout::{
 };
 use configurations::laws::config_text_is_unique;
 use configurations::{Config, Epoch, NodeId};
-use disk::laws::sure_is_left;
+use disk::laws::durable_is_left;
 use disk::{Disk, DiskError};
 use kv_types::laws::spellings_differ;
 use kv_types::{Batch, Key, Number, Value, value_at};
-use record_log::{Log, one_list};
+use record_log::{Log, records_are_unique};
 use std::alloc::Global;
 
 /// The store of a node: its batches in a log, and in memory. Each call borrows the disk.
@@ -45,14 +45,14 @@ pub struct Engine {
 fn batch_at<D: Disk>(alloc: Global, disk: &mut D, log: &Log, index: usize) -> Result<Batch, Stop>
     requires works { HasFailed log.now → ⊥ }
     requires within { index < count_of log.now }
-    ensures kept { KeepsDisk D.Disk disk.old disk.new (TellsDisk result) ⊥ IsSame }
+    ensures kept { KeepsDisk D.Disk disk.old disk.new (IsDeviceStop result) ⊥ IsSame }
     ensures each { IfOk result IsBatch }
     ensures found { (records : List (List ℕ)) → D.is_honest disk.old →
-        Holds (D.state disk.old) log.now records →
+        LogHolds (D.state disk.old) log.now records →
         IfOk result (λ batch. slice_get records index ≡ Some (batch_record (index + 1) batch)) }
     ensures damaged { (list : List BatchContent) → D.is_honest disk.old →
-        Holds (D.state disk.old) log.now (records_from 1 list) → All IsBatch list →
-        IfErr result IsOfMachine }
+        LogHolds (D.state disk.old) log.now (records_from 1 list) → All IsBatch list →
+        IfErr result IsEnvironmental }
     ensures created { IfErr result (λ e. e ≢ Stop.NotCreated) }
 {
     let record = log.record(alloc, disk, index)?;
@@ -62,15 +62,15 @@ fn batch_at<D: Disk>(alloc: Global, disk: &mut D, log: &Log, index: usize) -> Re
 /// The batches of a log, in order of number.
 fn batches_in<D: Disk>(alloc: Global, disk: &mut D, log: &Log) -> Result<Vec<Batch>, Stop>
     requires { HasFailed log.now → ⊥ }
-    ensures kept { KeepsDisk D.Disk disk.old disk.new (TellsDisk result) ⊥ IsSame }
+    ensures kept { KeepsDisk D.Disk disk.old disk.new (IsDeviceStop result) ⊥ IsSame }
     ensures found { (records : List (List ℕ)) → D.is_honest disk.old →
-        Holds (D.state disk.old) log.now records →
+        LogHolds (D.state disk.old) log.now records →
         IfOk result (λ batches.
         (records ≡ records_from 1 batches.items) × All IsBatch batches.items) }
     ensures few { IfOk result (λ batches. length batches.items ≤ MAX_NUMBER) }
     ensures damaged { (list : List BatchContent) → D.is_honest disk.old →
-        Holds (D.state disk.old) log.now (records_from 1 list) → All IsBatch list →
-        length list ≤ MAX_NUMBER → IfErr result IsOfMachine }
+        LogHolds (D.state disk.old) log.now (records_from 1 list) → All IsBatch list →
+        length list ≤ MAX_NUMBER → IfErr result IsEnvironmental }
     ensures created { IfErr result (λ e. e ≢ Stop.NotCreated) }
 {
     if Number::new(log.len() as u64).is_none() {
@@ -86,17 +86,17 @@ fn batches_in<D: Disk>(alloc: Global, disk: &mut D, log: &Log) -> Result<Vec<Bat
 /// The identity in a log's only record.
 fn identity_in<D: Disk>(alloc: Global, disk: &mut D, log: &Log) -> Result<Identity, Stop>
     requires { HasFailed log.now → ⊥ }
-    ensures kept { KeepsDisk D.Disk disk.old disk.new (TellsDisk result) ⊥ IsSame }
+    ensures kept { KeepsDisk D.Disk disk.old disk.new (IsDeviceStop result) ⊥ IsSame }
     ensures found { (records : List (List ℕ)) → D.is_honest disk.old →
-        Holds (D.state disk.old) log.now records →
+        LogHolds (D.state disk.old) log.now records →
         IfOk result (λ it. records ≡ identity_records it.id it.config) }
     ensures is { IfOk result (λ it. IsId it.id × IsConfig it.config) }
     ensures named { (x : ℕ) (ids : List ℕ) → D.is_honest disk.old → IsId x → IsConfig ids →
-        Holds (D.state disk.old) log.now (identity_records x ids) →
-        IfErr result IsOfMachine }
+        LogHolds (D.state disk.old) log.now (identity_records x ids) →
+        IfErr result IsEnvironmental }
     ensures blank { (records : List (List ℕ)) → D.is_honest disk.old →
-        Holds (D.state disk.old) log.now records →
-        IfErr result (λ e. TellsBlank e (records ≡ [])) }
+        LogHolds (D.state disk.old) log.now records →
+        IfErr result (λ e. MatchesBlank e (records ≡ [])) }
 {
     if log.len() == 0 {
         return Err(Stop::NotCreated);
@@ -110,10 +110,10 @@ fn identity_in<D: Disk>(alloc: Global, disk: &mut D, log: &Log) -> Result<Identi
 
 /// The length of a file in bytes, or 0 if it is absent.
 fn length_of<D: Disk>(disk: &mut D, file: u64) -> Result<u64, Stop>
-    ensures kept { KeepsDisk D.Disk disk.old disk.new (TellsDisk result) ⊥ IsSame }
+    ensures kept { KeepsDisk D.Disk disk.old disk.new (IsDeviceStop result) ⊥ IsSame }
     ensures length { D.is_honest disk.old → MatchResult result
         (λ len. MatchOption (contents (D.state disk.old) file) (len ≡ 0)
-        (λ bytes. len ≡ length bytes)) IsOfMachine }
+        (λ bytes. len ≡ length bytes)) IsEnvironmental }
     ensures range { D.is_honest disk.old →
         OnOk result (EndsInRange (contents (D.state disk.old) file)) }
 {
@@ -125,16 +125,16 @@ fn length_of<D: Disk>(disk: &mut D, file: u64) -> Result<u64, Stop>
 
 /// The identity of the node on the disk.
 fn identity_on<D: Disk>(alloc: Global, disk: &mut D) -> Result<Identity, Stop>
-    ensures kept { KeepsDisk D.Disk disk.old disk.new (TellsDisk result) ⊥
+    ensures kept { KeepsDisk D.Disk disk.old disk.new (IsDeviceStop result) ⊥
         (AddsNoOutcome identity_file) }
     ensures found { D.is_honest disk.old →
-        IfOk result (λ it. IsSureId (D.state disk.old) (D.state disk.new) it.id it.config) }
+        IfOk result (λ it. HasDurableId (D.state disk.old) (D.state disk.new) it.id it.config) }
     ensures opened { (x : ℕ) (ids : List ℕ) → D.is_honest disk.old →
-        HasId (contents (D.state disk.old)) x ids → IfErr result IsOfMachine }
+        HasId (contents (D.state disk.old)) x ids → IfErr result IsEnvironmental }
     ensures blank { D.is_honest disk.old →
-        IfErr result (λ e. TellsBlank e (IsBlank (contents (D.state disk.old)))) }
+        IfErr result (λ e. MatchesBlank e (IsBlank (contents (D.state disk.old)))) }
 {
-    one_list();
+    records_are_unique();
     if length_of(disk, IDENTITY_FILE)? == 0 {
         return Err(Stop::NotCreated);
     }
@@ -150,10 +150,11 @@ impl Engine {
         id: NodeId,
         config: &Config,
     ) -> Result<Engine, Stop>
-        ensures kept { KeepsDisk D.Disk disk.old disk.new (TellsDisk result) ⊥ KeepsOthers }
+        ensures kept { KeepsDisk D.Disk disk.old disk.new (IsDeviceStop result) ⊥ KeepsOthers }
         ensures created { D.is_honest disk.old →
             MatchResult result
-            (λ engine. EngineHolds (D.state disk.new) engine id 0 config.now [] 0 0) IsOfMachine }
+            (λ engine. EngineHolds (D.state disk.new) engine id 0 config.now [] 0 0) IsEnvironmental
+            }
         ensures usable { IfOk result IsUsable }
         ensures none { IfOk result
             (λ engine. (engine_count engine ≡ 0) × (engine_kept engine ≡ 0)) }
@@ -171,20 +172,21 @@ impl Engine {
 
     /// Opens the node and the store of the disk.
     pub fn open<D: Disk>(alloc: Global, disk: &mut D) -> Result<(Identity, Engine), Stop>
-        ensures kept { KeepsDisk D.Disk disk.old disk.new (TellsDisk result) ⊥ IsRecovered }
+        ensures kept { KeepsDisk D.Disk disk.old disk.new (IsDeviceStop result) ⊥ IsRecovered }
         ensures opened { (x epoch : ℕ) (ids : List ℕ) (list : List BatchContent) (floor kept : ℕ) →
             D.is_honest disk.old →
             DiskRepresents (contents (D.state disk.old)) x epoch ids list floor kept →
             MatchResult result
-            (λ it. IsOpened (D.state disk.new) it.0 it.1 x epoch ids list floor kept) IsOfMachine }
+            (λ it. IsOpened (D.state disk.new) it.0 it.1 x epoch ids list floor kept)
+            IsEnvironmental }
         ensures found { D.is_honest disk.old → IfOk result (λ it. (list : List BatchContent) ×
             DiskRepresents (contents (D.state disk.old)) it.0.id (engine_epoch it.1) it.0.config
             list (engine_floor it.1) (engine_kept it.1)) }
         ensures blank { D.is_honest disk.old →
-            IfErr result (λ e. TellsBlank e (IsBlank (contents (D.state disk.old)))) }
+            IfErr result (λ e. MatchesBlank e (IsBlank (contents (D.state disk.old)))) }
         ensures usable { IfOk result (λ it. IsUsable it.1) }
     {
-        one_list();
+        records_are_unique();
         spellings_differ();
         config_text_is_unique(); // law: no two configurations have one spelling
         let identity = identity_on(alloc, disk)?;
@@ -226,13 +228,14 @@ impl Engine {
     pub fn append<D: Disk>(&mut self, alloc: Global, disk: &mut D, batch: Batch) -> Result<(), Stop>
         requires usable { IsUsable self.old }
         requires room { engine_count self.old < MAX_NUMBER }
-        ensures kept { KeepsDisk D.Disk disk.old disk.new (TellsDisk result) (IsNearlyFull self.old)
+        ensures kept { KeepsDisk D.Disk disk.old disk.new (IsDeviceStop result)
+            (IsNearlyFull self.old)
             (KeepsOthersOf self.old) }
         ensures appended { (x epoch : ℕ) (ids : List ℕ) (list : List BatchContent)
             (floor kept : ℕ) → D.is_honest disk.old →
             EngineHolds (D.state disk.old) self.old x epoch ids list floor kept →
             MatchResult result (λ _. EngineHolds (D.state disk.new) self.new x epoch ids
-            (list ++ batch ∷ []) floor kept) IsOfMachine }
+            (list ++ batch ∷ []) floor kept) IsEnvironmental }
 
         // A crash now, whatever the answer, leaves the old batches, with or without the new one.
         ensures crash { (x epoch : ℕ) (ids : List ℕ) (list : List BatchContent)
@@ -243,7 +246,7 @@ impl Engine {
             × (engine_count self.new ≡ engine_count self.old + 1)
             × (engine_kept self.new ≡ engine_kept self.old)) }
     {
-        sure_is_left();
+        durable_is_left();
         let number = self.batches.len() as u64 + 1;
         let record = batch_record(alloc, number, &batch)?;
         self.batches.reserve(1)?;
@@ -256,24 +259,24 @@ impl Engine {
     pub fn batch<D: Disk>(&self, disk: &mut D, number: Number) -> Result<Batch, Stop>
         requires usable { IsUsable self.now }
         requires there { (engine_kept self.now < number) × (number ≤ engine_count self.now) }
-        ensures kept { KeepsDisk D.Disk disk.old disk.new (TellsDisk result) ⊥
+        ensures kept { KeepsDisk D.Disk disk.old disk.new (IsDeviceStop result) ⊥
             (KeepsStore self.now) }
         ensures found { (x epoch : ℕ) (ids : List ℕ) (list : List BatchContent) (floor kept : ℕ) →
             D.is_honest disk.old →
             EngineHolds (D.state disk.old) self.now x epoch ids list floor kept →
-            MatchResult result (λ batch. place list number ≡ Some batch) IsOfMachine }
+            MatchResult result (λ batch. place list number ≡ Some batch) IsEnvironmental }
     {
         Ok(self.batches[number.get() as usize - 1].clone()?)
     }
 
     /// The value of the key in the map of the first `at` batches.
     pub fn get<D: Disk>(&self, disk: &mut D, at: Number, key: &Key) -> Result<Option<Value>, Stop>
-        ensures kept { KeepsDisk D.Disk disk.old disk.new (TellsDisk result) ⊥
+        ensures kept { KeepsDisk D.Disk disk.old disk.new (IsDeviceStop result) ⊥
             (KeepsStore self.now) }
         ensures found { (x epoch : ℕ) (ids : List ℕ) (list : List BatchContent) (floor kept : ℕ) →
             D.is_honest disk.old →
             EngineHolds (D.state disk.old) self.now x epoch ids list floor kept → floor ≤ at →
-            MatchResult result (λ value. value ≡ map_of (take at list) key.now) IsOfMachine }
+            MatchResult result (λ value. value ≡ map_of (take at list) key.now) IsEnvironmental }
     {
         let first = self.batches.len().min(at.get() as usize);
         match value_at(&self.batches[..first], key) {

@@ -3,15 +3,15 @@
 ghost use Rattle.std.specs.Prelude.{ℕ};
 ghost use Rattle.chain_core.specs.States.{Machine};
 ghost use Rattle.node.specs.declared.node.Node.{Node};
-ghost use Rattle.node.specs.Steps.{Runs, AlwaysRests, disk_of};
+ghost use Rattle.node.specs.Steps.{NodeRefines, DiskAlwaysRefines, disk_of};
 
 use disk::Disk;
-use disk::laws::sure_is_left;
+use disk::laws::durable_is_left;
 
 /// The disk of a running node represents it, as it reads and in every crash outcome.
 pub fn disks_represent<D: Disk + Drop>()
-    ensures { (node : Node D) (x : ℕ) (n : Machine) → Runs D.is_honest D.state node x n →
-        AlwaysRests (D.state (disk_of node)) x n }
+    ensures { (node : Node D) (x : ℕ) (n : Machine) → NodeRefines D.is_honest D.state node x n →
+        DiskAlwaysRefines (D.state (disk_of node)) x n }
 {
-    sure_is_left();
+    durable_is_left();
 }

@@ -7,7 +7,7 @@ mod layout;
 mod node;
 mod output;
 mod stop;
-mod telling;
+mod replying;
 
 pub use chain_core::{DropReason, Input, Sent};
 pub use node::Node;

@@ -2,33 +2,34 @@
 ghost use Rattle.std.specs.Prelude.{◌≡◌, ℕ, ◌+◌, ◌-◌, length, replicate};
 ghost use Rattle.std.specs.Prelude.{◌<◌, ◌≤◌, suc, OnOk, IfOk, IfErr, MatchResult, IsErrAnd};
 ghost use Rattle.kv_types.specs.declared.bounds.TheConstants.{MAX_NUMBER};
-ghost use Rattle.disk.specs.State.{contents};
+ghost use Rattle.disk.specs.States.{contents};
 ghost use Rattle.disk.specs.Lent.{KeepsDisk};
-ghost use Rattle.chain_model.specs.Node.{created, started};
-ghost use Rattle.chain_model.specs.Rules.{accept, append, forwards, pass_on, resend, show};
+ghost use Rattle.chain_model.specs.Machine.{created, started};
+ghost use Rattle.chain_model.specs.Rules.{accept, append, forwards, on_ack, resend, reply_read};
 ghost use Rattle.node.specs.Engines.{EngineHolds, HasNumbersOf, IsUsable};
 ghost use Rattle.node.specs.Engines.{KeepsStore, engine_count, engine_kept};
 ghost use Rattle.node.specs.Files.{IsRecovered, KeepsOthers};
-ghost use Rattle.node.specs.Starts.{IsStarted, Declines, disk_behind};
-ghost use Rattle.chain_core.specs.States.{Machine, Is};
+ghost use Rattle.node.specs.Starts.{IsStarted, StartRefusal, disk_behind};
+ghost use Rattle.chain_core.specs.States.{Machine, CoreRefines};
 ghost use Rattle.chain_core.specs.Decisions.{answer_to, done_of, rule_of};
-ghost use Rattle.chain_core.specs.Decisions.{AreFrames, HasRoomFor, IsReadOf};
+ghost use Rattle.chain_core.specs.Decisions.{AreFrames, DecisionFitsCount, IsReadOf};
 ghost use Rattle.chain_core.specs.declared.decision.Decision.{Decision};
-ghost use Rattle.node.specs.Steps.{Runs, AlwaysRests, MayStep, disk_of};
-ghost use Rattle.node.specs.Outputs.{Ends, StepEnds, Follows, HasAppended, KeepsNode};
-ghost use Rattle.node.specs.Stops.{TellsDisk, IsOfMachine};
+ghost use Rattle.node.specs.Steps.{NodeRefines, DiskAlwaysRefines, IsReady, disk_of};
+ghost use Rattle.node.specs.Outputs.{CallRefines, StepEnds, NodeFollows, HasAppended, KeepsNode};
+ghost use Rattle.node.specs.Stops.{IsDeviceStop, IsEnvironmental};
 
 use crate::engine::Engine;
 use crate::layout::Identity;
-use crate::telling::{
-    copy_for_successor, drop_for, output_of, output_taken, push_some, refuse, show, tell_again,
+use crate::replying::{
+    copy_for_successor, output_of_drop, output_of, output_of_append, push_some, refuse, show,
+    ack_duplicate,
 };
 use crate::{Output, Stop};
 use chain_core::laws::{one_by_one, stands_last, steps_leave};
-use chain_core::{AtRest, CoreState, Decision, Done, Input, Sent, Waiting, decide};
+use chain_core::{PersistentState, CoreState, Decision, Done, Input, Sent, PendingSubmit, decide};
 use configurations::{Config, Epoch, NodeId};
 use disk::Disk;
-use disk::laws::sure_is_left;
+use disk::laws::durable_is_left;
 use kv_types::{Batch, Key, Limits, Number};
 use std::alloc::Global;
 
@@ -48,11 +49,11 @@ fn core_of(alloc: Global, identity: Identity, engine: &Engine) -> CoreState
     ensures count { result.count ≡ engine_count engine.now }
     ensures kept { result.kept ≡ engine_kept engine.now }
     ensures is { (n : Machine) → HasNumbersOf engine.now n → n.ids ≡ identity.config →
-        Is result (started identity.id n) }
+        CoreRefines result (started identity.id n) }
 {
     CoreState::started(
         alloc,
-        AtRest {
+        PersistentState {
             id: identity.id,
             epoch: engine.epoch(),
             config: identity.config,
@@ -73,12 +74,12 @@ fn resent<D: Disk>(
     requires usable { IsUsable engine.now }
     requires count { core.now.count ≡ engine_count engine.now }
     requires kept { core.now.kept ≡ engine_kept engine.now }
-    ensures kept { KeepsDisk D.Disk disk.old disk.new (TellsDisk result) ⊥
+    ensures kept { KeepsDisk D.Disk disk.old disk.new (IsDeviceStop result) ⊥
         (KeepsStore engine.now) }
-    ensures sent { (x : ℕ) (n : Machine) → Is core.now n → D.is_honest disk.old →
+    ensures sent { (x : ℕ) (n : Machine) → CoreRefines core.now n → D.is_honest disk.old →
         EngineHolds (D.state disk.old) engine.now x n.epoch n.ids n.list n.floor n.kept →
         MatchResult result (λ sent. AreFrames sent.items
-        (forwards core.now.id n n.successor_has 16)) IsOfMachine }
+        (forwards core.now.id n n.successor_has 16)) IsEnvironmental }
 {
     one_by_one();
     let numbers = core.resends();
@@ -104,9 +105,10 @@ impl<D: Disk + Drop> Node<D> {
         ensures kept { KeepsDisk D.Disk disk (disk_behind result)
             (IsErrAnd result (λ refused. refused.0 ≡ Stop.Disk)) ⊥ KeepsOthers }
         ensures created { D.is_honest disk →
-            MatchResult result (λ node. Runs D.is_honest D.state node id (created config.now))
-            (λ refused. IsOfMachine refused.0) }
-        ensures works { IfOk result MayStep }
+            MatchResult result (λ node. NodeRefines D.is_honest D.state node id
+            (created config.now))
+            (λ refused. IsEnvironmental refused.0) }
+        ensures works { IfOk result IsReady }
     {
         let Ok(known) = config.clone() else {
             return Err((Stop::Memory, disk));
@@ -127,13 +129,13 @@ impl<D: Disk + Drop> Node<D> {
         ensures kept { KeepsDisk D.Disk disk (disk_behind result)
             (IsErrAnd result (λ refused. refused.0 ≡ Stop.Disk)) ⊥ IsRecovered }
         ensures started { (x : ℕ) (n : Machine) → D.is_honest disk →
-            AlwaysRests (D.state disk) x n →
-            MatchResult result (λ node. Runs D.is_honest D.state node x (started x n))
-            (λ refused. IsOfMachine refused.0 × AlwaysRests (D.state refused.1) x n) }
+            DiskAlwaysRefines (D.state disk) x n →
+            MatchResult result (λ node. NodeRefines D.is_honest D.state node x (started x n))
+            (λ refused. IsEnvironmental refused.0 × DiskAlwaysRefines (D.state refused.1) x n) }
         ensures told { D.is_honest disk →
             MatchResult result (IsStarted D.is_honest D.state disk)
-            (λ refused. Declines refused.0 (contents (D.state disk))) }
-        ensures works { IfOk result MayStep }
+            (λ refused. StartRefusal refused.0 (contents (D.state disk))) }
+        ensures works { IfOk result IsReady }
     {
         match Engine::open(alloc, &mut disk) {
             Ok((identity, engine)) => Ok(Node {
@@ -147,14 +149,14 @@ impl<D: Disk + Drop> Node<D> {
     }
 
     // Appends a batch to the store, and then to the node's state.
-    fn take(&mut self, alloc: Global, batch: Batch, done: Done) -> Result<Vec<Waiting>, Stop>
-        requires may { MayStep self.old }
+    fn take(&mut self, alloc: Global, batch: Batch, done: Done) -> Result<Vec<PendingSubmit>, Stop>
+        requires may { IsReady self.old }
         requires room { self.old.core.count < MAX_NUMBER }
         requires done { HasAppended done }
         ensures kept { KeepsNode D.Disk self.old self.new result }
-        ensures ends { (x : ℕ) (n : Machine) → Runs D.is_honest D.state self.old x n →
-            let a = done_of x n batch done in Ends D.is_honest D.state self.new x n a
-            (λ due. Follows D.is_honest D.state self.new x a due.items) result }
+        ensures ends { (x : ℕ) (n : Machine) → NodeRefines D.is_honest D.state self.old x n →
+            let a = done_of x n batch done in CallRefines D.is_honest D.state self.new x n a
+            (λ due. NodeFollows D.is_honest D.state self.new x a due.items) result }
     {
         steps_leave();
         self.engine.append(alloc, &mut self.disk, batch)?;
@@ -163,7 +165,7 @@ impl<D: Disk + Drop> Node<D> {
 
     // Accepts a client's batch at the head: it is durable before it is forwarded or acknowledged.
     fn accept(&mut self, alloc: Global, request: Number, batch: Batch) -> Result<Output, Stop>
-        requires may { MayStep self.old }
+        requires may { IsReady self.old }
         requires room { self.old.core.count < MAX_NUMBER }
         ensures kept { KeepsNode D.Disk self.old self.new result }
         ensures ends { (x : ℕ) (n : Machine) (input : Input) →
@@ -171,15 +173,15 @@ impl<D: Disk + Drop> Node<D> {
     {
         steps_leave();
         stands_last();
-        sure_is_left();
+        durable_is_left();
         let copy = copy_for_successor(&self.core, &batch)?;
         let due = self.take(alloc, batch, Done::Accepted { request })?;
-        output_taken(alloc, &self.core, copy, false, &due)
+        output_of_append(alloc, &self.core, copy, false, &due)
     }
 
     // Appends the next batch of the predecessor. A tail commits it, and acknowledges it.
     fn append(&mut self, alloc: Global, batch: Batch) -> Result<Output, Stop>
-        requires may { MayStep self.old }
+        requires may { IsReady self.old }
         requires room { self.old.core.count < MAX_NUMBER }
         ensures kept { KeepsNode D.Disk self.old self.new result }
         ensures ends { (x : ℕ) (n : Machine) (input : Input) →
@@ -188,79 +190,79 @@ impl<D: Disk + Drop> Node<D> {
     {
         steps_leave();
         stands_last();
-        sure_is_left();
+        durable_is_left();
         let copy = copy_for_successor(&self.core, &batch)?;
         let due = self.take(alloc, batch, Done::Appended)?;
-        output_taken(alloc, &self.core, copy, self.core.is_tail(), &due)
+        output_of_append(alloc, &self.core, copy, self.core.is_tail(), &due)
     }
 
     // Applies the successor's report, and reports to the predecessor if more is committed.
     fn pass_on(&mut self, alloc: Global, committed: Number, have: Number) -> Result<Output, Stop>
-        requires may { MayStep self.old }
+        requires may { IsReady self.old }
         requires there { (committed ≤ have) × (have ≤ self.old.core.count) }
         ensures disk { disk_of self.new ≡ disk_of self.old }
         ensures ends { (x : ℕ) (n : Machine) (input : Input) →
-            StepEnds D.Disk self.old self.new result x n input (pass_on x n committed have) }
+            StepEnds D.Disk self.old self.new result x n input (on_ack x n committed have) }
         ensures memory { IfErr result (λ e. e ≡ Stop.Memory) }
-        ensures works { OnOk result (MayStep self.new) }
+        ensures works { OnOk result (IsReady self.new) }
     {
         steps_leave();
-        sure_is_left();
+        durable_is_left();
         let grows = committed > self.core.committed();
-        let due = self.core.after(alloc, Done::Told { committed, have })?;
+        let due = self.core.after(alloc, Done::Acked { committed, have })?;
         output_of(alloc, &self.core, Vec::new(alloc), grows, &due)
     }
 
     // Sends again the batches that the successor may lack, and acknowledges again.
     fn resend(&mut self, alloc: Global) -> Result<Output, Stop>
-        requires { MayStep self.old }
+        requires { IsReady self.old }
         ensures kept { KeepsNode D.Disk self.old self.new result }
         ensures ends { (x : ℕ) (n : Machine) (input : Input) →
             StepEnds D.Disk self.old self.new result x n input (resend x n) }
     {
-        sure_is_left();
+        durable_is_left();
         let sent = resent(alloc, &self.core, &self.engine, &mut self.disk)?;
         output_of(alloc, &self.core, sent, true, &[])
     }
 
     // Answers the client with the value of the key at a number.
     fn read(&mut self, alloc: Global, request: Number, key: Key, at: Number) -> Result<Output, Stop>
-        requires { MayStep self.old }
+        requires { IsReady self.old }
         ensures kept { KeepsNode D.Disk self.old self.new result }
         ensures ends { (x : ℕ) (n : Machine) (input : Input) →
-            IsReadOf n input (Decision.Show request key at) →
-            StepEnds D.Disk self.old self.new result x n input (show n request at) }
+            IsReadOf n input (Decision.Read request key at) →
+            StepEnds D.Disk self.old self.new result x n input (reply_read n request at) }
     {
-        sure_is_left();
+        durable_is_left();
         let value = self.engine.get(&mut self.disk, at, &key)?;
         show(alloc, request, at, value)
     }
 
     // Executes a decision.
     fn perform(&mut self, alloc: Global, decision: Decision) -> Result<Output, Stop>
-        requires may { MayStep self.old }
-        requires room { HasRoomFor self.old.core.count decision }
+        requires may { IsReady self.old }
+        requires room { DecisionFitsCount self.old.core.count decision }
         ensures kept { KeepsNode D.Disk self.old self.new result }
         ensures ends { (x : ℕ) (n : Machine) (input : Input) → IsReadOf n input decision →
             StepEnds D.Disk self.old self.new result x n input (rule_of x n decision) }
     {
-        sure_is_left();
+        durable_is_left();
         match decision {
             Decision::Accept { request, batch } => self.accept(alloc, request, batch),
             Decision::Append { batch } => self.append(alloc, batch),
-            Decision::TellAgain => tell_again(alloc, &self.core),
-            Decision::PassOn { committed, have } => self.pass_on(alloc, committed, have),
-            Decision::Show { request, key, at } => self.read(alloc, request, key, at),
+            Decision::AckDuplicate => ack_duplicate(alloc, &self.core),
+            Decision::OnAck { committed, have } => self.pass_on(alloc, committed, have),
+            Decision::Read { request, key, at } => self.read(alloc, request, key, at),
             Decision::Resend => self.resend(alloc),
             Decision::Refuse { request, refusal } => refuse(alloc, request, refusal),
-            Decision::Drop(reason) => Ok(drop_for(alloc, reason)),
+            Decision::Drop(reason) => Ok(output_of_drop(alloc, reason)),
         }
     }
 
     /// Handles an input completely. A batch is durable before it is forwarded or acknowledged.
     /// After a `Stop` the node has ended, and only its disk remains of use.
     pub fn step(&mut self, alloc: Global, input: Input) -> Result<Output, Stop>
-        requires { MayStep self.old }
+        requires { IsReady self.old }
         ensures kept { KeepsNode D.Disk self.old self.new result }
         ensures ends { (x : ℕ) (n : Machine) →
             StepEnds D.Disk self.old self.new result x n input (answer_to x n input) }
@@ -270,7 +272,7 @@ impl<D: Disk + Drop> Node<D> {
     }
 
     pub fn id(&self) -> NodeId
-        ensures { (x : ℕ) (n : Machine) → Runs D.is_honest D.state self.now x n →
+        ensures { (x : ℕ) (n : Machine) → NodeRefines D.is_honest D.state self.now x n →
             result ≡ x }
     {
         self.core.id()
@@ -278,7 +280,7 @@ impl<D: Disk + Drop> Node<D> {
 
     /// The place of its configuration in the configuration service's list.
     pub fn epoch(&self) -> Epoch
-        ensures { (x : ℕ) (n : Machine) → Runs D.is_honest D.state self.now x n →
+        ensures { (x : ℕ) (n : Machine) → NodeRefines D.is_honest D.state self.now x n →
             result ≡ n.epoch }
     {
         self.core.epoch()
@@ -286,7 +288,7 @@ impl<D: Disk + Drop> Node<D> {
 
     /// Its configuration.
     pub fn config(&self) -> &Config
-        ensures { (x : ℕ) (n : Machine) → Runs D.is_honest D.state self.now x n →
+        ensures { (x : ℕ) (n : Machine) → NodeRefines D.is_honest D.state self.now x n →
             result.now ≡ n.ids }
     {
         self.core.config()
@@ -294,7 +296,7 @@ impl<D: Disk + Drop> Node<D> {
 
     /// The number of batches of the node.
     pub fn count(&self) -> Number
-        ensures { (x : ℕ) (n : Machine) → Runs D.is_honest D.state self.now x n →
+        ensures { (x : ℕ) (n : Machine) → NodeRefines D.is_honest D.state self.now x n →
             result ≡ length n.list }
     {
         self.core.count()
@@ -302,7 +304,7 @@ impl<D: Disk + Drop> Node<D> {
 
     /// The number of batches that it knows to be committed.
     pub fn committed(&self) -> Number
-        ensures { (x : ℕ) (n : Machine) → Runs D.is_honest D.state self.now x n →
+        ensures { (x : ℕ) (n : Machine) → NodeRefines D.is_honest D.state self.now x n →
             result ≡ n.committed }
     {
         self.core.committed()
@@ -310,7 +312,7 @@ impl<D: Disk + Drop> Node<D> {
 
     /// The least number at which it can be read.
     pub fn floor(&self) -> Number
-        ensures { (x : ℕ) (n : Machine) → Runs D.is_honest D.state self.now x n →
+        ensures { (x : ℕ) (n : Machine) → NodeRefines D.is_honest D.state self.now x n →
             result ≡ n.floor }
     {
         self.core.floor()
@@ -319,7 +321,7 @@ impl<D: Disk + Drop> Node<D> {
     /// The number of batches trimmed from the front of its logs: those from `kept + 1` on can still
     /// be sent again.
     pub fn kept(&self) -> Number
-        ensures { (x : ℕ) (n : Machine) → Runs D.is_honest D.state self.now x n →
+        ensures { (x : ℕ) (n : Machine) → NodeRefines D.is_honest D.state self.now x n →
             result ≡ n.kept }
     {
         self.core.kept()
@@ -335,10 +337,10 @@ impl<D: Disk + Drop> Node<D> {
     /// Returns the disk of a node that has ended.
     pub fn into_disk(self) -> D
         ensures disk { result ≡ disk_of self }
-        ensures rests { (x : ℕ) (n : Machine) → Runs D.is_honest D.state self x n →
-            AlwaysRests (D.state result) x n }
+        ensures rests { (x : ℕ) (n : Machine) → NodeRefines D.is_honest D.state self x n →
+            DiskAlwaysRefines (D.state result) x n }
     {
-        sure_is_left();
+        durable_is_left();
         let Node {
             disk,
             engine: _engine,

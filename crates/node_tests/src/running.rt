@@ -13,13 +13,13 @@ pub struct Running {
 }
 
 impl Model for Running {
-    ghost use Rattle.node.specs.Steps.{MayStep};
+    ghost use Rattle.node.specs.Steps.{IsReady};
 
     ghost Value = { Unit {0} };
 
     ghost view = { λ running. tt };
 
-    ghost invariant = { λ running. MayStep running.node };
+    ghost invariant = { λ running. IsReady running.node };
 }
 
 /// A put of one key, or its deletion where there is no value.

@@ -2,7 +2,7 @@
 use Rattle.std.proofs.Common.{◌≡◌, ◌≤◌, ◌<◌, ◌+◌, ◌-◌, ℕ, zero, suc, List, [], ◌∷◌, ◌++◌}
 use Rattle.std.proofs.Common.{length, map, take, drop, refl, sym, ap, ap₂, subst, ◌∙◌, arith}
 use Rattle.std.proofs.Common.{append_assoc, append-nil, length-append, Option, Some, None, get_or}
-use Rattle.lab.specs.Node.{without}
+use Rattle.lab.specs.Machine.{without}
 use Rattle.lab.specs.Configuration.{Configurations}
 use Rattle.lab.specs.declared.event.Event as lab
 use Rattle.kv_types.specs.declared.error.KvError.{KvError}

@@ -6,7 +6,7 @@ use Rattle.std.specs.List.{remove}
 use Rattle.std.proofs.lemmas.Bool.{cases_Bool}
 use Rattle.std.proofs.lemmas.Bool.Decides.{nat_tests}
 use Rattle.lab.specs.Configuration.{has}
-use Rattle.lab.specs.Node.{without}
+use Rattle.lab.specs.Machine.{without}
 
 apart : (x place : ℕ) → (x ≡ place → ⊥) → (x == place) ≡ false
 apart x place differ = grind (arith, nat_tests)

@@ -163,15 +163,15 @@ one_edit (Delete k) (Delete l) la lb e = rw (one_text k l la lb (ap rest e)) ref
 
 -- ---- whole statements
 
-one_list : (a b : List Edit) → All AreBytesIn a → All AreBytesIn b
+records_are_unique : (a b : List Edit) → All AreBytesIn a → All AreBytesIn b
     → map edit_word a ≡ map edit_word b → a ≡ b
-one_list [] [] la lb e = refl
-one_list [] (d ∷ b) la lb e = absurd (grind (arith, common_steps))
-one_list (c ∷ a) [] la lb e = absurd (grind (arith, common_steps))
-one_list (c ∷ a) (d ∷ b) la lb e =
+records_are_unique [] [] la lb e = refl
+records_are_unique [] (d ∷ b) la lb e = absurd (grind (arith, common_steps))
+records_are_unique (c ∷ a) [] la lb e = absurd (grind (arith, common_steps))
+records_are_unique (c ∷ a) (d ∷ b) la lb e =
     rw (
       one_edit c d (All-head AreBytesIn c a la) (All-head AreBytesIn d b lb) (ap first_word e),
-      one_list a b (All-tail AreBytesIn c a la) (All-tail AreBytesIn d b lb)
+      records_are_unique a b (All-tail AreBytesIn c a la) (All-tail AreBytesIn d b lb)
           (ap words_behind e),
     ) refl
 
@@ -304,7 +304,7 @@ one_event (Submit m es) (Submit n fs) words la lb e f =
     let both = sym e ∙ f in
     rw (
       one_number m n la.0 lb.0 (ap (λ w. first_word (words_behind w)) both),
-      one_list es fs la.1 lb.1 (ap (λ w. words_behind (words_behind w)) both),
+      records_are_unique es fs la.1 lb.1 (ap (λ w. words_behind (words_behind w)) both),
     ) refl
 one_event (Submit m es) (Get n l p) words la lb e f =
     clash 98 116 (apart (Submit m es) (Get n l p) words e f) refl

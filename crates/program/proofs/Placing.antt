@@ -40,7 +40,8 @@ names (Stop n junk) words said (inl e) = rw (e.1, number_back n said.0) refl
 names (Stop n junk) words said (inr e) = rw (e.2, number_back n said.0) refl
 
 -- the fault of a statement that is spelled and bears no fault is that of its place
-pub is_of_place : (before : ParserState) (name : List ℕ) (args cut : List (List ℕ)) (what : EventKind)
+pub is_of_place : (before : ParserState) (name : List ℕ) (args cut : List (List ℕ))
+    (what : EventKind)
     → cut ≡ args → cut ≡ before_fault args → false ≡ has_fault args → CanBeSaid what
     → fault_of_words (name ∷ cut) ≡ None → IsSpelled what (name ∷ cut)
     → statement_fault before name args ≡ node_fault before.configs (node_in what)
@@ -71,7 +72,8 @@ is_placed before name args cut what action node whole before_it none good said s
       (found.0, found.1, inr (what, said, rw whole at spelled, named, is)),
     )
 
-pub is_misplaced : (before : ParserState) (name : List ℕ) (args cut : List (List ℕ)) (what : EventKind)
+pub is_misplaced : (before : ParserState) (name : List ℕ) (args cut : List (List ℕ))
+    (what : EventKind)
     (node : ℕ) (e : ScriptError) → cut ≡ args → cut ≡ before_fault args
     → false ≡ has_fault args → CanBeSaid what → fault_of_words (name ∷ cut) ≡ None
     → IsSpelled what (name ∷ cut) → node_in what ≡ Some node

@@ -144,7 +144,8 @@ good_statement cs begun what name args said spelled named =
     said (event_read what (name ∷ args) said spelled) spelled
     ∙ free cs (node_in what) named
 
-passes : (cs : Configurations) (begun : Bool) (what : EventKind) (words : List (List ℕ)) (name : List ℕ)
+passes : (cs : Configurations) (begun : Bool) (what : EventKind) (words : List (List ℕ))
+    (name : List ℕ)
     (args : List (List ℕ)) → words ≡ name ∷ args → bytes_eq name (codes "config") ≡ false →
     97 ≤ first_byte (name ∷ args) → CanBeSaid what → IsSpelled what words →
     NamesNode cs what → IsPassed cs begun words

@@ -8,7 +8,7 @@ use Rattle.kv_types.specs.declared.edit.Edit.TheVariants.{Put, Delete}
 use Rattle.kv_types.specs.declared.error.KvError.{KvError}
 use Rattle.kv_types.specs.declared.error.KvError.TheVariants.{KeyTooLong, ValueTooLong, NoEdits}
 use Rattle.kv_types.specs.declared.error.KvError.TheVariants.{TooManyEdits, BatchTooLong}
-use Rattle.kv_types.specs.Spelling.{spelling}
+use Rattle.kv_types.specs.Spelling.{batch_bytes}
 use Rattle.lab.specs.declared.event.EventKind.{EventKind}
 use Rattle.lab.specs.declared.event.EventKind.TheVariants.{Submit, Get, Deliver, Tick, Start, Stop}
 use Rattle.program.specs.declared.script.statement.Action.{Action}
@@ -35,7 +35,7 @@ abbrev pub size_error : List Edit → Option KvError
 size_error edits =
     if length edits == 0 then Some NoEdits else
     if nat_lt MAX_EDITS (length edits) then Some TooManyEdits else
-    if nat_lt MAX_BATCH (length (spelling edits)) then Some BatchTooLong else None
+    if nat_lt MAX_BATCH (length (batch_bytes edits)) then Some BatchTooLong else None
 
 -- the first error of a statement, that of the batch last
 abbrev pub error_of : EventKind → Option KvError

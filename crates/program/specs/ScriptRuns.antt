@@ -1,7 +1,7 @@
 -- The course of a run: the events of each statement, and the frames that none has delivered yet.
 use Rattle.std.specs.Prelude.{◌≡◌, ℕ, zero, suc, ◌+◌, List, [], ◌∷◌, ◌++◌, length, map, take, drop}
 use Rattle.std.specs.Prelude.{Option, Some, None}
-use Rattle.lab.specs.Node.{without}
+use Rattle.lab.specs.Machine.{without}
 use Rattle.lab.specs.Fault.TheVariants as fault
 use Rattle.lab.specs.declared.event.Event as lab
 use Rattle.lab.specs.declared.event.EventKind.{EventKind}

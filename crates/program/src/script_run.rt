@@ -2,7 +2,7 @@
 ghost use Rattle.std.specs.Prelude.{◌≡◌, ℕ, List, [], ◌∷◌, ◌++◌, length, map, take, drop};
 ghost use Rattle.std.specs.Prelude.{OnOk, IfOk, ◌+◌, ◌-◌};
 ghost use Rattle.lab.specs.Configuration.{Configurations};
-ghost use Rattle.lab.specs.Node.{without};
+ghost use Rattle.lab.specs.Machine.{without};
 ghost use Rattle.lab.specs.declared.event.Event.{Event as LabEvent};
 ghost use Rattle.lab.specs.declared.report.Line.{Line};
 ghost use Rattle.lab.specs.Events.{NamesNode};

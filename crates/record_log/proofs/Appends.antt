@@ -6,32 +6,32 @@ use Rattle.std.specs.Prelude.{IsSomeAnd, ◌⊎◌}
 use Rattle.std.proofs.lemmas.List.{length-take, length-drop}
 use Rattle.disk.specs.declared.error.DiskError.{DiskError}
 use Rattle.disk.specs.declared.error.DiskError.TheVariants as disk
-use Rattle.disk.specs.State.{Slot, Kept, State}
+use Rattle.disk.specs.States.{Slot, Kept, State}
 use Rattle.disk.proofs.Steps.{Only, sure_only}
 use Rattle.record_log.specs.declared.log.Log.{Log}
 use Rattle.record_log.specs.Error.{log_error}
-use Rattle.record_log.specs.Grammar.{StandsFor, ends_from}
-use Rattle.record_log.specs.Push.{pushed, IsOnTheWay, IsSureOf, LeavesAt, behind_of}
-use Rattle.record_log.specs.Stands.{Holds, IsMet, IsOldOrNew}
+use Rattle.record_log.specs.Grammar.{RepresentsRecords, ends_from}
+use Rattle.record_log.specs.Push.{pushed, IsPartlyPushed, IsDurableAs, LeavesAt, behind_of}
+use Rattle.record_log.specs.Logs.{LogHolds, IsExpected, IsOldOrNew}
 use Rattle.record_log.proofs.Fronts.{ends_push, end_push}
 use Rattle.record_log.proofs.Pushes.{pushed_is}
 use Rattle.record_log.proofs.Ways.{Gate, gate_at, way_stands, pushed_stands}
 
 -- an unchanged file has the old records
 pub unchanged : (disk : State) (log : Log) (records : List (List ℕ)) (one : List ℕ) →
-    Holds disk log records → LeavesAt disk log.file (IsOldOrNew log.start records one)
+    LogHolds disk log records → LeavesAt disk log.file (IsOldOrNew log.start records one)
 unchanged disk log records one h =
     let P : Option (List ℕ) → Type 0 = λ left. IsSomeAnd left (IsOldOrNew log.start records one) in
     subst (λ (slot : Slot). Only P slot) (sym h.sure) (sure_only P h.bytes (inl h.stands))
 
 -- the log reports the device's failure and want of memory as expected refusals
-pub is_met : (e : DiskError) → (e ≡ disk.Failed) ⊎ (e ≡ disk.Memory) → IsMet (log_error e)
+pub is_met : (e : DiskError) → (e ≡ disk.Failed) ⊎ (e ≡ disk.Memory) → IsExpected (log_error e)
 is_met e (inl failed) = rw failed (inl (inl refl))
 is_met e (inr memory) = rw memory (inl (inr refl))
 
 -- A log that holds records, one more record, and the place of its gate as the code computes it.
 module _ (old : State) (log : Log) (records : List (List ℕ)) (one : List ℕ) (gate : ℕ)
-    (h : Holds old log records) (short : length one < 2 ^ 32)
+    (h : LogHolds old log records) (short : length one < 2 ^ 32)
     (counts : log.start + log.end + 1 < 2 ^ 64 → gate ≡ log.start + log.end) where
   the_gate : Gate h.bytes log.start (log.start + log.end) records
   the_gate =
@@ -48,7 +48,7 @@ module _ (old : State) (log : Log) (records : List (List ℕ)) (one : List ℕ) 
 
   -- a crash outcome on the way represents the records, with or without the new one
   on_the_way : (left : Option (List ℕ)) →
-      IsSomeAnd left (IsOnTheWay h.bytes (log.start + log.end) (behind_of one)) →
+      IsSomeAnd left (IsPartlyPushed h.bytes (log.start + log.end) (behind_of one)) →
       IsSomeAnd left (IsOldOrNew log.start records one)
   on_the_way None way = way
   on_the_way (Some c) way =
@@ -56,20 +56,20 @@ module _ (old : State) (log : Log) (records : List (List ℕ)) (one : List ℕ) 
 
   -- the crash outcomes while the record is written behind the gate
   pub crashed : (new : State) (behind : List ℕ) → behind ≡ behind_of one →
-      ((bytes : List ℕ) → IsSureOf old log.file bytes → gate < length bytes →
-      LeavesAt new log.file (IsOnTheWay bytes gate behind)) →
+      ((bytes : List ℕ) → IsDurableAs old log.file bytes → gate < length bytes →
+      LeavesAt new log.file (IsPartlyPushed bytes gate behind)) →
       LeavesAt new log.file (IsOldOrNew log.start records one)
   crashed new behind is leaves = λ left now.
-      let P : ℕ → List ℕ → Type 0 = λ g b. IsSomeAnd left (IsOnTheWay h.bytes g b) in
+      let P : ℕ → List ℕ → Type 0 = λ g b. IsSomeAnd left (IsPartlyPushed h.bytes g b) in
       let way : P gate behind = leaves h.bytes h.sure gate_within left now in
       on_the_way left
       (subst (P (log.start + log.end)) is (subst (λ (g : ℕ). P g behind) gate_is way))
 
   -- the file's bytes with the record behind an open gate
   pub spelled : (new : State) (behind : List ℕ) → behind ≡ behind_of one →
-      ((bytes : List ℕ) → IsSureOf old log.file bytes → gate < length bytes →
-      IsSureOf new log.file (pushed bytes gate behind)) →
-      IsSureOf new log.file (pushed h.bytes (log.start + log.end) (behind_of one))
+      ((bytes : List ℕ) → IsDurableAs old log.file bytes → gate < length bytes →
+      IsDurableAs new log.file (pushed bytes gate behind)) →
+      IsDurableAs new log.file (pushed h.bytes (log.start + log.end) (behind_of one))
   spelled new behind is done =
       let place = log.start + log.end in
       done h.bytes h.sure gate_within
@@ -78,10 +78,11 @@ module _ (old : State) (log : Log) (records : List (List ℕ)) (one : List ℕ) 
 
   -- the records of the log with the new one behind an open gate
   pub appended : (new : State) (after : Log) (behind : List ℕ) (header : ℕ) → behind ≡ behind_of one
-      → IsSureOf new log.file (pushed h.bytes gate behind) × (gate + 1 + length behind < 2 ^ 63)
+      → IsDurableAs new log.file (pushed h.bytes gate behind) × (gate + 1 + length behind < 2 ^ 63)
       → after.file ≡ log.file → after.start ≡ log.start → header ≡ min (log.end + 5) (2 ^ 64 - 1)
       → after.end ≡ min (header + length one) (2 ^ 64 - 1)
-      → after.ends.items ≡ log.ends.items ++ after.end ∷ [] → Holds new after (records ++ one ∷ [])
+      → after.ends.items ≡ log.ends.items ++ after.end ∷ [] → LogHolds new after
+          (records ++ one ∷ [])
   appended new after behind header behind_is done file_is start_is header_is end_is ends_is =
       let g = the_gate in
       let place = log.start + log.end in
@@ -100,14 +101,14 @@ module _ (old : State) (log : Log) (records : List (List ℕ)) (one : List ℕ) 
       let tail_len = length-drop (place + 1 + length text) h.bytes in
       let end : after.end ≡ log.end + 5 + length one =
       omega (arith, header_is, end_is, done.1, gate_is, text_len) in
-      let stands : StandsFor (drop log.start all) (records ++ one ∷ []) =
+      let stands : RepresentsRecords (drop log.start all) (records ++ one ∷ []) =
       pushed_stands h.bytes log.start place records one short g in
       record {
         bytes = all;
         sure = ap new file_is ∙ done.0 ∙ ap (λ (b : List ℕ). Kept b b []) same;
         start = omega (arith, start_is, size, front_len);
         fits = omega (arith, size, front_len, tail_len, h.fits, done.1, gate_is, text_len);
-        stands = subst (λ (s : ℕ). StandsFor (drop s all) (records ++ one ∷ []))
+        stands = subst (λ (s : ℕ). RepresentsRecords (drop s all) (records ++ one ∷ []))
             (sym start_is) stands;
         ends = ends_is ∙ ap (λ (e : ℕ). log.ends.items ++ e ∷ []) end
             ∙ ap (λ (l : List ℕ). l ++ (log.end + 5 + length one) ∷ []) h.ends

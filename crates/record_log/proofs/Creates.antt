@@ -1,7 +1,7 @@
 -- Where a log is created.
 use Rattle.std.proofs.Common.{ℕ, List, Option, Some, None}
 use Rattle.std.specs.Prelude.{IsNone}
-use Rattle.record_log.specs.Stands.{EndsInRange}
+use Rattle.record_log.specs.Logs.{EndsInRange}
 
 -- a file that is absent ends in range
 pub absent_ends : (bytes : Option (List ℕ)) → IsNone bytes → EndsInRange bytes

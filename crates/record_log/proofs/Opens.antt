@@ -2,19 +2,20 @@
 use Rattle.std.proofs.Common.{◌≡◌, ℕ, List, Option, Some, None, drop, inl, inr, refl, sym, ap}
 use Rattle.std.proofs.Common.{subst, ◌∙◌, arith}
 use Rattle.std.specs.Prelude.{IsSomeAnd}
-use Rattle.disk.specs.State.{State}
+use Rattle.disk.specs.States.{State}
 use Rattle.disk.specs.declared.error.DiskError.TheVariants as disk
 use Rattle.record_log.specs.declared.error.LogError.{LogError}
 use Rattle.record_log.specs.declared.error.LogError.TheVariants as log
 use Rattle.record_log.specs.declared.log.Log.{Log}
-use Rattle.record_log.specs.Grammar.{StandsFor, ends_from, end_of}
-use Rattle.record_log.specs.Stands.{Declines, DeclinesBytes, HasRecords, Holds, IsOfMachine, IsRest}
+use Rattle.record_log.specs.Grammar.{RepresentsRecords, ends_from, end_of}
+use Rattle.record_log.specs.Logs.{OpenRefusal, ReadRefusal, HasRecords, LogHolds}
+use Rattle.record_log.specs.Logs.{IsEnvironmentalError, IsRest}
 use Rattle.record_log.proofs.Fronts.{one_reading}
 use Rattle.record_log.proofs.First.{nothing_past}
 
 -- a file that ends before the log begins represents no records
 pub declines_bytes : (e : LogError) (bytes : Option (List ℕ)) (start : ℕ) →
-    DeclinesBytes e bytes start → Declines e bytes start
+    ReadRefusal e bytes start → OpenRefusal e bytes start
 declines_bytes (log.Disk disk.Failed) bytes start why = tt
 declines_bytes (log.Disk disk.NoFile) bytes start why = why
 declines_bytes (log.Disk disk.Short) None start why = absurd why
@@ -27,8 +28,8 @@ declines_bytes log.Failed bytes start why = absurd why
 
 -- opening a file that represents records is refused for environment errors alone
 pub declined : (e : LogError) (bytes : Option (List ℕ)) (start : ℕ) (records : List (List ℕ))
-    → Declines e bytes start →
-    IsSomeAnd bytes (λ it. StandsFor (drop start it) records) → IsOfMachine e
+    → OpenRefusal e bytes start →
+    IsSomeAnd bytes (λ it. RepresentsRecords (drop start it) records) → IsEnvironmentalError e
 declined (log.Disk disk.Failed) bytes start records why stood = inl refl
 declined (log.Disk disk.NoFile) None start records why stood = absurd stood
 declined (log.Disk disk.NoFile) (Some it) start records why stood = absurd cc
@@ -42,23 +43,25 @@ declined log.Failed bytes start records why stood = absurd why
 -- a log that knows where the file's records end holds them
 pub holds_them : (old new : State) (file start : ℕ) (rest : List ℕ) (log : Log)
     (found records : List (List ℕ)) →
-    IsRest old file start new rest → StandsFor rest found → log.file ≡ file → log.start ≡ start →
+    IsRest old file start new rest → RepresentsRecords rest found → log.file ≡ file → log.start ≡
+        start →
     log.ends.items ≡ ends_from 0 found → log.end ≡ end_of 0 found →
-    HasRecords old file start records → Holds new log records
+    HasRecords old file start records → LogHolds new log records
 holds_them old new file start rest log found records r stands file_is start_is ends_are end_is stood
     =
-    let whole : StandsFor (drop start r.whole) records =
-    subst (λ (o : Option (List ℕ)). IsSomeAnd o (λ it. StandsFor (drop start it) records)) r.was
+    let whole : RepresentsRecords (drop start r.whole) records =
+    subst (λ (o : Option (List ℕ)). IsSomeAnd o (λ it. RepresentsRecords (drop start it) records))
+        r.was
     stood in
-    let again : StandsFor (drop start r.whole) found =
-    subst (λ (b : List ℕ). StandsFor b found) r.is stands in
+    let again : RepresentsRecords (drop start r.whole) found =
+    subst (λ (b : List ℕ). RepresentsRecords b found) r.is stands in
     let same : found ≡ records = one_reading (drop start r.whole) found records again whole in
     record {
       bytes = r.whole;
       sure = ap new file_is ∙ r.sure;
       start = omega (arith, start_is, r.within);
       fits = r.fits;
-      stands = subst (λ (s : ℕ). StandsFor (drop s r.whole) records) (sym start_is) whole;
+      stands = subst (λ (s : ℕ). RepresentsRecords (drop s r.whole) records) (sym start_is) whole;
       ends = ends_are ∙ ap (ends_from 0) same;
       end = end_is ∙ ap (end_of 0) same;
     }

@@ -5,21 +5,21 @@ use Rattle.std.proofs.Common.{append_assoc, length-append, arith}
 use Rattle.std.specs.Prelude.{IsSomeAnd}
 use Rattle.std.proofs.lemmas.List.{take_at, drop_at, take-append-drop, length-take, length-drop}
 use Rattle.std.proofs.lemmas.List.{drop_more}
-use Rattle.disk.specs.declared.touch.Touch.TheVariants.{Wrote}
-use Rattle.disk.specs.State.{Slot, Kept, IsLoose, State, overwritten, written, synced}
+use Rattle.disk.specs.declared.pending_write.PendingWrite.TheVariants.{Wrote}
+use Rattle.disk.specs.States.{Slot, Kept, IsUnsynced, State, overwritten, written, synced}
 use Rattle.disk.specs.declared.error.DiskError.{DiskError}
-use Rattle.disk.specs.Calls.{Writes}
+use Rattle.disk.specs.Calls.{WriteOutcome}
 use Rattle.disk.proofs.Places.{take_same, window_same, overwritten_before}
 use Rattle.disk.proofs.Steps.{Only, sure_only, writes_only}
-use Rattle.record_log.specs.Push.{pushed, IsOnTheWay, IsSureOf}
+use Rattle.record_log.specs.Push.{pushed, IsPartlyPushed, IsDurableAs}
 
 -- a content on the way
 abbrev pub OnTheWay : List ℕ → ℕ → List ℕ → Option (List ℕ) → Type 0
-OnTheWay bytes gate behind left = IsSomeAnd left (IsOnTheWay bytes gate behind)
+OnTheWay bytes gate behind left = IsSomeAnd left (IsPartlyPushed bytes gate behind)
 
 -- one write makes its places unsynced, and those past the synced end
 tight : (end at len place : ℕ) → place < end → (at ≤ place → place < at + len → ⊥)
-    → IsLoose end (Wrote at len ∷ []) place → ⊥
+    → IsUnsynced end (Wrote at len ∷ []) place → ⊥
 tight end at len place inside apart loose = elim loose [
   | inl wrote ↦ elim wrote [
     | inl range ↦ apart range.0 range.1
@@ -65,7 +65,7 @@ module _ (bytes : List ℕ) (gate : ℕ) (behind : List ℕ) (within : gate < le
 
   -- a content that has all but the gate
   whole : (c : List ℕ) → gate < length c → take gate c ≡ take gate bytes
-      → take (length behind) (drop (gate + 1) c) ≡ behind → IsOnTheWay bytes gate behind c
+      → take (length behind) (drop (gate + 1) c) ≡ behind → IsPartlyPushed bytes gate behind c
   whole c long before middle =
       let value = get_or c gate 0 in
       let rest = drop (length behind) (drop (gate + 1) c) in
@@ -112,7 +112,7 @@ module _ (bytes : List ℕ) (gate : ℕ) (behind : List ℕ) (within : gate < le
         length-take (gate + 1) bytes,
       ) in
       let apart : (place : ℕ) → place < gate + 1 + n → (place ≡ gate → ⊥)
-      → IsLoose (length first) (Wrote gate 1 ∷ []) place → ⊥ =
+      → IsUnsynced (length first) (Wrote gate 1 ∷ []) place → ⊥ =
       λ place lt other. tight (length first) gate 1 place (omega (arith, lt, size))
       (λ from to. other (omega (arith, from, to))) in
       let before : take gate c ≡ take gate bytes =
@@ -142,7 +142,7 @@ module _ (bytes : List ℕ) (gate : ℕ) (behind : List ℕ) (within : gate < le
 
   -- the first write, whatever it answers
   pub first_write : {T : Type 0} (file : ℕ) (result : Result T DiskError) (old new : State)
-      → IsSureOf old file bytes → Writes old file (gate + 1) behind result new
+      → IsDurableAs old file bytes → WriteOutcome old file (gate + 1) behind result new
       → Only (OnTheWay bytes gate behind) (new file)
   first_write file result old new sure w =
       let P = OnTheWay bytes gate behind in
@@ -152,8 +152,9 @@ module _ (bytes : List ℕ) (gate : ℕ) (behind : List ℕ) (within : gate < le
 
   -- when the first write is synced
   pub second_write : {T : Type 0} (file : ℕ) (result : Result T DiskError) (s0 s1 s2 s3 : State)
-      → 0 < length behind → IsSureOf s0 file bytes → s1 file ≡ written (gate + 1) behind (s0 file)
-      → s2 file ≡ synced (s1 file) → Writes s2 file gate (1 ∷ []) result s3
+      → 0 < length behind → IsDurableAs s0 file bytes → s1 file ≡ written (gate + 1) behind
+          (s0 file)
+      → s2 file ≡ synced (s1 file) → WriteOutcome s2 file gate (1 ∷ []) result s3
       → Only (OnTheWay bytes gate behind) (s3 file)
   second_write file result s0 s1 s2 s3 some was wrote kept w =
       let P = OnTheWay bytes gate behind in

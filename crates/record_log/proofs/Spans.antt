@@ -8,12 +8,13 @@ use Rattle.std.specs.Prelude.{slice_index_or, ◌⊎◌}
 use Rattle.std.specs.Int.{w32, to_be_bytes}
 use Rattle.std.proofs.lemmas.List.{take_at, drop_at, drop-drop, length-drop}
 use Rattle.disk.specs.declared.error.DiskError.TheVariants as disk'
-use Rattle.disk.specs.State.{State, Slot, seen}
+use Rattle.disk.specs.States.{State, Slot, seen}
 use Rattle.record_log.specs.declared.log.Log.{Log}
 use Rattle.record_log.specs.declared.error.LogError.{LogError}
 use Rattle.record_log.specs.declared.error.LogError.TheVariants as log'
-use Rattle.record_log.specs.Grammar.{StandsFor, entry, ends_from}
-use Rattle.record_log.specs.Stands.{Holds, IsOfMachine, IsOwn, IsPart, DeclinesBytes}
+use Rattle.record_log.specs.Grammar.{RepresentsRecords, entry, ends_from}
+use Rattle.record_log.specs.Logs.{LogHolds, IsEnvironmentalError, IsArgumentError, IsPart}
+use Rattle.record_log.specs.Logs.{ReadRefusal}
 
 -- record number i of those that begin at a place: its bytes, and what stands around them
 pub record Span (bytes : List ℕ) (at : ℕ) (records : List (List ℕ)) (i : ℕ) : Type 0 where
@@ -27,7 +28,7 @@ pub record Span (bytes : List ℕ) (at : ℕ) (records : List (List ℕ)) (i : �
 
 -- each record has its bytes in their place
 pub span_of : (bytes : List ℕ) (at : ℕ) (records : List (List ℕ)) (i : ℕ) →
-    StandsFor bytes records → i < length records → Span bytes at records i
+    RepresentsRecords bytes records → i < length records → Span bytes at records i
 span_of bytes at [] i s within = absurd (omega (arith, within))
 span_of bytes at (first ∷ others) zero s within =
     let head = 1 ∷ to_be_bytes w32 (length first) in
@@ -62,7 +63,7 @@ length-ends at (first ∷ others) = ap suc (length-ends (at + 5 + length first) 
 
 -- The place and the length of a record's bytes as the code computes them are those of the record.
 module _ (disk : State) (log : Log) (records : List (List ℕ)) (i begin len at : ℕ)
-    (h : Holds disk log records) (within : i < length log.ends.items)
+    (h : LogHolds disk log records) (within : i < length log.ends.items)
     (begin_is : begin ≡ min (slice_index_or (0 ∷ log.ends.items) i 0 + 5) (2 ^ 64 - 1))
     (len_is : len ≡ slice_index_or log.ends.items i 0 - begin)
     (at_is : at ≡ min (log.start + begin) (2 ^ 64 - 1)) where
@@ -115,8 +116,9 @@ module _ (disk : State) (log : Log) (records : List (List ℕ)) (i begin len at 
       s.is ∙ ap Some (sym (parts.1 ∙ ap (take len) moved ∙ take_at s.one s.rest len p.size))
 
   -- a record that a log has is there to be read
-  pub there : (e : LogError) → DeclinesBytes e (seen (disk log.file)) (at + len) → (IsOwn e → ⊥) →
-      IsOfMachine e ⊎ (e ≡ log'.Failed)
+  pub there : (e : LogError) → ReadRefusal e (seen (disk log.file)) (at + len) →
+      (IsArgumentError e → ⊥) →
+      IsEnvironmentalError e ⊎ (e ≡ log'.Failed)
   there (log'.Disk disk'.Failed) why own = inl (inl refl)
   there (log'.Disk disk'.NoFile) why own =
       let gone : IsNone (Some h.bytes) = subst (λ (slot : Slot). IsNone (seen slot)) h.sure why in
@@ -134,9 +136,9 @@ module _ (disk : State) (log : Log) (records : List (List ℕ)) (i begin len at 
   -- so what the read answers is what is promised of the record
   pub answers : (result : Result (Vec ℕ Global) LogError)
       → MatchResult result (λ v. IsPart disk log.file at len v.items)
-      (λ e. DeclinesBytes e (seen (disk log.file)) (at + len))
-      → IfErr result (λ e. IsOwn e → ⊥)
+      (λ e. ReadRefusal e (seen (disk log.file)) (at + len))
+      → IfErr result (λ e. IsArgumentError e → ⊥)
       → MatchResult result (λ v. slice_get records i ≡ Some v.items)
-      (λ e. IsOfMachine e ⊎ (e ≡ log'.Failed))
+      (λ e. IsEnvironmentalError e ⊎ (e ≡ log'.Failed))
   answers (Ok v) read own = given v.items read
   answers (Err e) why own = there e why own

@@ -12,11 +12,11 @@ IsClosed bytes = (gate : ℕ) × (rest : List ℕ) × (gate ≢ 1) × (bytes ≡
 
 -- The bytes represent these records. A closed gate ends the list, whatever follows it. Behind an
 -- open gate follow a record and the bytes of the others.
-abbrev pub StandsFor : List ℕ → List (List ℕ) → Type 0
-StandsFor bytes [] = IsClosed bytes
-StandsFor bytes (first ∷ others) =
+abbrev pub RepresentsRecords : List ℕ → List (List ℕ) → Type 0
+RepresentsRecords bytes [] = IsClosed bytes
+RepresentsRecords bytes (first ∷ others) =
     (rest : List ℕ) × (length first < 2 ^ 32) × (bytes ≡ entry first ++ rest)
-    × StandsFor rest others
+    × RepresentsRecords rest others
 
 -- the places where the records end, if the first begins at this place
 abbrev pub ends_from : ℕ → List (List ℕ) → List ℕ
@@ -30,6 +30,6 @@ end_of at [] = at
 end_of at (first ∷ others) = end_of (at + 5 + length first) others
 
 -- bytes represent at most one list of records
-abbrev pub OneList : Type 0
-OneList = (bytes : List ℕ) (records others : List (List ℕ)) →
-    StandsFor bytes records → StandsFor bytes others → records ≡ others
+abbrev pub RecordsAreUnique : Type 0
+RecordsAreUnique = (bytes : List ℕ) (records others : List (List ℕ)) →
+    RepresentsRecords bytes records → RepresentsRecords bytes others → records ≡ others

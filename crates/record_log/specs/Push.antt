@@ -2,7 +2,7 @@
 use Rattle.std.specs.Prelude.{◌≡◌, ◌⊎◌, ℕ, ◌+◌, List, [], ◌∷◌, ◌++◌, length, take, Option}
 use Rattle.std.specs.Prelude.{IsSomeAnd}
 use Rattle.std.specs.Int.{w32, to_be_bytes}
-use Rattle.disk.specs.State.{Kept, State, Leaves, overwritten}
+use Rattle.disk.specs.States.{Kept, State, IsFileOutcome, overwritten}
 
 -- the file's bytes after all four calls
 abbrev pub pushed : List ℕ → ℕ → List ℕ → List ℕ
@@ -10,17 +10,17 @@ pushed bytes gate behind = overwritten (overwritten bytes (gate + 1) behind) gat
 
 -- A crash outcome during the calls. The bytes up to the gate are unchanged, or those before the
 -- gate are unchanged and all the new bytes follow it.
-abbrev pub IsOnTheWay : List ℕ → ℕ → List ℕ → List ℕ → Type 0
-IsOnTheWay bytes gate behind left = (take (gate + 1) left ≡ take (gate + 1) bytes)
+abbrev pub IsPartlyPushed : List ℕ → ℕ → List ℕ → List ℕ → Type 0
+IsPartlyPushed bytes gate behind left = (take (gate + 1) left ≡ take (gate + 1) bytes)
     ⊎ ((g : ℕ) × (rest : List ℕ) × (left ≡ take gate bytes ++ (g ∷ (behind ++ rest))))
 
 -- the file has these bytes, and they are durable
-abbrev pub IsSureOf : State → ℕ → List ℕ → Type 0
-IsSureOf disk file bytes = disk file ≡ Kept bytes bytes []
+abbrev pub IsDurableAs : State → ℕ → List ℕ → Type 0
+IsDurableAs disk file bytes = disk file ≡ Kept bytes bytes []
 
 -- a crash outcome of the file has the property P
 abbrev pub LeavesAt : State → ℕ → (List ℕ → Type 0) → Type 0
-LeavesAt disk file P = (left : Option (List ℕ)) → Leaves (disk file) left → IsSomeAnd left P
+LeavesAt disk file P = (left : Option (List ℕ)) → IsFileOutcome (disk file) left → IsSomeAnd left P
 
 -- the bytes behind the gate of a record: the length, the record, and a closed gate
 abbrev pub behind_of : List ℕ → List ℕ

@@ -1,11 +1,11 @@
 //! Laws of the definitions that contracts use. The functions do nothing: their clauses are the
 //! laws.
-ghost use Rattle.record_log.specs.Grammar.{OneList};
-ghost use Rattle.record_log.specs.Stands.{RecordBoundIs};
+ghost use Rattle.record_log.specs.Grammar.{RecordsAreUnique};
+ghost use Rattle.record_log.specs.Logs.{RecordBoundIs};
 
 /// Bytes represent at most one list of records.
-pub fn one_list()
-    ensures { OneList }
+pub fn records_are_unique()
+    ensures { RecordsAreUnique }
 {}
 
 /// The limit of a record as a number.

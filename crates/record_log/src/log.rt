@@ -2,14 +2,15 @@
 ghost use Rattle.std.specs.Prelude.{◌≡◌, ◌↔◌, ◌⊎◌, ℕ, ◌+◌, ◌<◌, ◌^◌, ◌-◌, min, List, []};
 ghost use Rattle.std.specs.Prelude.{◌∷◌, ◌++◌, length, slice_get, slice_index_or, Some, IfOk};
 ghost use Rattle.std.specs.Prelude.{IfErr, IsErrOf, OnOk, MatchResult};
-ghost use Rattle.disk.specs.State.{seen, AddsNoOutcome, IsSame, IsSameBut};
+ghost use Rattle.disk.specs.States.{seen, AddsNoOutcome, IsSame, IsSameBut};
 ghost use Rattle.disk.specs.Lent.{KeepsDisk};
-ghost use Rattle.record_log.specs.Error.{TellsFailure};
-ghost use Rattle.record_log.specs.Push.{IsSureOf, LeavesAt, behind_of, pushed};
-ghost use Rattle.record_log.specs.Stands.{Holds, HasRecords, IsAt, IsPart, IsRest, DeclinesBytes};
-ghost use Rattle.record_log.specs.Stands.{OpensOrDeclines, Answers, IsMet, IsOfMachine, IsOwn};
-ghost use Rattle.record_log.specs.Stands.{IsOldOrNew, EndsInRange, begun, file_of, start_of};
-ghost use Rattle.record_log.specs.Stands.{gate_of, count_of, HasFailed, HasNoRoom};
+ghost use Rattle.record_log.specs.Error.{IsDeviceFailure};
+ghost use Rattle.record_log.specs.Push.{IsDurableAs, LeavesAt, behind_of, pushed};
+ghost use Rattle.record_log.specs.Logs.{LogHolds, HasRecords, IsAt, IsPart, IsRest, ReadRefusal};
+ghost use Rattle.record_log.specs.Logs.{OpenOutcome, AppendAnswer, IsExpected};
+ghost use Rattle.record_log.specs.Logs.{IsEnvironmentalError, IsArgumentError};
+ghost use Rattle.record_log.specs.Logs.{IsOldOrNew, EndsInRange, begun, file_of, start_of};
+ghost use Rattle.record_log.specs.Logs.{gate_of, count_of, HasFailed, HasNoRoom};
 
 use crate::LogError;
 use crate::push::push;
@@ -53,11 +54,11 @@ fn bytes_at<D: Disk>(
     at: u64,
     len: usize,
 ) -> Result<Vec<u8>, LogError>
-    ensures kept { KeepsDisk D.Disk disk.old disk.new (TellsFailure result) ⊥ IsSame }
+    ensures kept { KeepsDisk D.Disk disk.old disk.new (IsDeviceFailure result) ⊥ IsSame }
     ensures read { D.is_honest disk.old →
         MatchResult result (λ bytes. IsPart (D.state disk.old) file at len bytes.items)
-        (λ e. DeclinesBytes e (seen (D.state disk.old file)) (at + len)) }
-    ensures not_own { IfErr result (λ e. IsOwn e → ⊥) }
+        (λ e. ReadRefusal e (seen (D.state disk.old file)) (at + len)) }
+    ensures not_own { IfErr result (λ e. IsArgumentError e → ⊥) }
 {
     let mut bytes = vec![in alloc; 0u8; len]?;
     disk.read(file, at, &mut bytes)?;
@@ -71,10 +72,11 @@ fn synced_from<D: Disk>(
     file: u64,
     start: u64,
 ) -> Result<Vec<u8>, LogError>
-    ensures kept { KeepsDisk D.Disk disk.old disk.new (TellsFailure result) ⊥ (AddsNoOutcome file) }
+    ensures kept { KeepsDisk D.Disk disk.old disk.new (IsDeviceFailure result) ⊥
+        (AddsNoOutcome file) }
     ensures read { D.is_honest disk.old → MatchResult result
         (λ bytes. IsRest (D.state disk.old) file start (D.state disk.new) bytes.items)
-        (λ e. DeclinesBytes e (seen (D.state disk.old file)) start) }
+        (λ e. ReadRefusal e (seen (D.state disk.old file)) start) }
 {
     disk.sync(file)?;
     let length = disk.length(file)?;
@@ -89,11 +91,13 @@ impl Log {
     /// device calls: write and sync. An existing file loses its first byte, and with it the records
     /// from there on. A refusal may leave the file changed.
     pub fn create<D: Disk>(alloc: Global, disk: &mut D, file: u64) -> Result<Log, LogError>
-        ensures kept { KeepsDisk D.Disk disk.old disk.new (TellsFailure result) ⊥ (IsSameBut file) }
+        ensures kept { KeepsDisk D.Disk disk.old disk.new (IsDeviceFailure result) ⊥
+            (IsSameBut file) }
         ensures created { D.is_honest disk.old → EndsInRange (seen (D.state disk.old file)) →
-            MatchResult result (λ log. Holds (D.state disk.new) log []) IsOfMachine }
+            MatchResult result (λ log. LogHolds (D.state disk.new) log []) IsEnvironmentalError }
         ensures spelled { D.is_honest disk.old →
-            OnOk result (IsSureOf (D.state disk.new) file (begun (seen (D.state disk.old file)))) }
+            OnOk result (IsDurableAs (D.state disk.new) file (begun (seen (D.state disk.old file))))
+            }
         ensures at { IfOk result (IsAt file 0) }
         ensures empty { IfOk result (λ log. (gate_of log ≡ 0) × (count_of log ≡ 0)) }
     {
@@ -115,14 +119,15 @@ impl Log {
         file: u64,
         start: u64,
     ) -> Result<Log, LogError>
-        ensures kept { KeepsDisk D.Disk disk.old disk.new (TellsFailure result) ⊥
+        ensures kept { KeepsDisk D.Disk disk.old disk.new (IsDeviceFailure result) ⊥
             (AddsNoOutcome file) }
         ensures at { IfOk result (IsAt file start) }
         ensures told { D.is_honest disk.old →
-            OpensOrDeclines (D.state disk.old) file start result (D.state disk.new) }
+            OpenOutcome (D.state disk.old) file start result (D.state disk.new) }
         ensures opened { (records : List (List ℕ)) → D.is_honest disk.old →
             HasRecords (D.state disk.old) file start records →
-            MatchResult result (λ log. Holds (D.state disk.new) log records) IsOfMachine }
+            MatchResult result (λ log. LogHolds (D.state disk.new) log records) IsEnvironmentalError
+            }
     {
         let bytes = synced_from(alloc, disk, file, start)?;
         let (ends, end) = scan(alloc, &bytes)?;
@@ -171,21 +176,22 @@ impl Log {
         disk: &mut D,
         bytes: &[u8],
     ) -> Result<(), LogError>
-        ensures kept { KeepsDisk D.Disk disk.old disk.new (TellsFailure result)
+        ensures kept { KeepsDisk D.Disk disk.old disk.new (IsDeviceFailure result)
             (HasNoRoom self.old bytes.now) (IsSameBut (file_of self.old)) }
-        ensures told { Answers MAX_RECORD result self.old self.new bytes.now (disk.new ≡ disk.old) }
+        ensures told { AppendAnswer MAX_RECORD result self.old self.new bytes.now
+            (disk.new ≡ disk.old) }
         ensures appended { (records : List (List ℕ)) → D.is_honest disk.old →
-            Holds (D.state disk.old) self.old records →
+            LogHolds (D.state disk.old) self.old records →
             MatchResult result
-            (λ _. Holds (D.state disk.new) self.new (records ++ bytes.now ∷ [])) IsMet }
+            (λ _. LogHolds (D.state disk.new) self.new (records ++ bytes.now ∷ [])) IsExpected }
         ensures spelled { (records : List (List ℕ)) → D.is_honest disk.old →
-            (held : Holds (D.state disk.old) self.old records) →
-            OnOk result (IsSureOf (D.state disk.new) (file_of self.old)
+            (held : LogHolds (D.state disk.old) self.old records) →
+            OnOk result (IsDurableAs (D.state disk.new) (file_of self.old)
             (pushed held.bytes (gate_of self.old) (behind_of bytes.now))) }
 
         // A crash now, whatever the answer, leaves the old records, with or without the new one.
         ensures crash { (records : List (List ℕ)) → D.is_honest disk.old →
-            Holds (D.state disk.old) self.old records →
+            LogHolds (D.state disk.old) self.old records →
             LeavesAt (D.state disk.new) (file_of self.old)
             (IsOldOrNew (start_of self.old) records bytes.now) }
     {
@@ -213,12 +219,12 @@ impl Log {
         index: usize,
     ) -> Result<Vec<u8>, LogError>
         requires { index < count_of self.now }
-        ensures kept { KeepsDisk D.Disk disk.old disk.new (TellsFailure result) ⊥ IsSame }
+        ensures kept { KeepsDisk D.Disk disk.old disk.new (IsDeviceFailure result) ⊥ IsSame }
         ensures failed { IsErrOf result LogError.Failed ↔ HasFailed self.now }
         ensures given { (records : List (List ℕ)) → D.is_honest disk.old →
-            Holds (D.state disk.old) self.now records →
+            LogHolds (D.state disk.old) self.now records →
             MatchResult result (λ bytes. slice_get records index ≡ Some bytes.items)
-            (λ e. IsOfMachine e ⊎ (e ≡ LogError.Failed)) }
+            (λ e. IsEnvironmentalError e ⊎ (e ≡ LogError.Failed)) }
     {
         if self.has_failed {
             return Err(LogError::Failed);

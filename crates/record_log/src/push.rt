@@ -1,9 +1,9 @@
 // The four device calls of an append.
 ghost use Rattle.std.specs.Prelude.{◌≡◌, ◌⊎◌, ℕ, ◌+◌, ◌<◌, ◌^◌, List, length, IsErrOf, MatchResult};
-ghost use Rattle.disk.specs.State.{IsSameBut};
+ghost use Rattle.disk.specs.States.{IsSameBut};
 ghost use Rattle.disk.specs.Calls.{EndsOutOfRange};
 ghost use Rattle.disk.specs.Lent.{KeepsDisk};
-ghost use Rattle.record_log.specs.Push.{pushed, IsOnTheWay, IsSureOf, LeavesAt};
+ghost use Rattle.record_log.specs.Push.{pushed, IsPartlyPushed, IsDurableAs, LeavesAt};
 
 use disk::{Disk, DiskError};
 
@@ -14,15 +14,15 @@ pub fn push<D: Disk>(disk: &mut D, file: u64, gate: u64, behind: &[u8]) -> Resul
     ensures kept { KeepsDisk D.Disk disk.old disk.new (IsErrOf result DiskError.Failed)
         (EndsOutOfRange gate (1 + length behind.now)) (IsSameBut file) }
     ensures done { (bytes : List ℕ) → D.is_honest disk.old →
-        IsSureOf (D.state disk.old) file bytes → gate < length bytes →
-        MatchResult result (λ _. IsSureOf (D.state disk.new) file (pushed bytes gate behind.now)
+        IsDurableAs (D.state disk.old) file bytes → gate < length bytes →
+        MatchResult result (λ _. IsDurableAs (D.state disk.new) file (pushed bytes gate behind.now)
         × (gate + 1 + length behind.now < 2 ^ 63))
         (λ e. (e ≡ DiskError.Failed) ⊎ (e ≡ DiskError.Memory)) }
 
     // The outcomes of a crash now, whatever the answer.
     ensures crash { (bytes : List ℕ) → D.is_honest disk.old →
-        IsSureOf (D.state disk.old) file bytes → gate < length bytes →
-        LeavesAt (D.state disk.new) file (IsOnTheWay bytes gate behind.now) }
+        IsDurableAs (D.state disk.old) file bytes → gate < length bytes →
+        LeavesAt (D.state disk.new) file (IsPartlyPushed bytes gate behind.now) }
 {
     disk.write_at(file, gate + 1, behind)?;
     disk.sync(file)?;

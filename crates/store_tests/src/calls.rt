@@ -1,6 +1,6 @@
 // The device calls of a log, in their order.
 ghost use Rattle.std.specs.Prelude.{None};
-ghost use Rattle.disk.specs.State.{Absent};
+ghost use Rattle.disk.specs.States.{Absent};
 ghost use Rattle.disk.specs.Memory.{IsReliable};
 
 use disk::{Disk, DiskError, MemDisk};

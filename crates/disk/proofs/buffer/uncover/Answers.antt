@@ -1,6 +1,6 @@
 use Rattle.std.proofs.Common.{◌≡◌, ◌+◌, ◌≤◌, ◌∷◌, ◌++◌, [], ℕ, length, arith, ap, ◌∙◌}
 use Rattle.std.proofs.lemmas.Grind.{common_steps}
-use Rattle.disk.specs.State.{overwritten}
+use Rattle.disk.specs.States.{overwritten}
 use Rattle.disk.proofs.Buffers.{uncovered-pop, AllWithin-pop, AllWithin-last, length-overwritten}
 use Rattle.disk.proofs.buffer.uncover.Goals as goal
 

@@ -4,7 +4,7 @@ use Rattle.std.specs.Ordering.{nat_cmp}
 use Rattle.std.specs.Map.{keys_of}
 use Rattle.std.specs.BTreeMap.{insert_entry}
 use Rattle.std.proofs.lemmas.Grind.{common_steps}
-use Rattle.disk.specs.State.{Slot}
+use Rattle.disk.specs.States.{Slot}
 use Rattle.disk.proofs.Numbers.{insert_entry-last}
 use Rattle.disk.proofs.memory.clone_slots.Goals as goal
 

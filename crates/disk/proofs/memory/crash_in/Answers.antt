@@ -2,7 +2,7 @@ use Rattle.std.proofs.Common.{◌≡◌, ℕ, List, map, rules, sym, ap, subst, 
 use Rattle.std.specs.Prelude.{is_some, filter}
 use Rattle.std.proofs.lemmas.Map.Made.{map_same_pairs, filter_same_pairs}
 use Rattle.std.specs.List.{AllByRecursion}
-use Rattle.disk.specs.State.{Slot, seen}
+use Rattle.disk.specs.States.{Slot, seen}
 use Rattle.disk.specs.Crashes.{crashed}
 use Rattle.disk.specs.Memory.{state_of}
 use Rattle.disk.proofs.Outcomes.{crashed_none, crashed_says}

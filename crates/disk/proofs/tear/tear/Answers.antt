@@ -1,6 +1,6 @@
 use Rattle.std.proofs.Common.{◌≡◌, ◌<◌, ℕ, length, sym, subst, ◌∙◌, arith, rules}
 use Rattle.disk.proofs.Tears.{IsTornTo, torn_loose, torn_tight, torn_all}
-use Rattle.disk.proofs.tear.tear.Goals.{then-is_loose, else-is_loose}
+use Rattle.disk.proofs.tear.tear.Goals.{then-is_unsynced, else-is_unsynced}
 use Rattle.disk.proofs.tear.tear.Goals as goal
 
 -- an unsynced place gets the next junk byte, and a synced place stays
@@ -12,14 +12,14 @@ loop-place-preserved c =
     let old = c.args.bytes.now in
     let at = c.loop-place in
     let within : at.place < length old = omega arith in
-    let test = sym c.is_loose.ensures in
-    elim c.if-is_loose.branch [
-      | then-is_loose w ↦ rw (w.bytes-is, w.next-is)
+    let test = sym c.is_unsynced.ensures in
+    elim c.if-is_unsynced.branch [
+      | then-is_unsynced w ↦ rw (w.bytes-is, w.next-is)
           (torn_loose c.args.end touches junk old some at.bytes at.place at.next within
-          (test ∙ w.if-is_loose.true) at.invariant)
-      | else-is_loose w ↦ rw (w.bytes-is, w.next-is)
+          (test ∙ w.if-is_unsynced.true) at.invariant)
+      | else-is_unsynced w ↦ rw (w.bytes-is, w.next-is)
           (torn_tight c.args.end touches junk old some at.bytes at.place at.next within
-          (test ∙ w.if-is_loose.false) at.invariant)
+          (test ∙ w.if-is_unsynced.false) at.invariant)
     ]
 
 -- no place is left

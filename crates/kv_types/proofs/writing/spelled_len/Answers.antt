@@ -4,7 +4,7 @@ use Rattle.kv_types.specs.declared.edit.Edit.{Edit}
 use Rattle.std.specs.List.{flat_map}
 use Rattle.std.proofs.lemmas.List.{flat_map_more, take_more}
 use Rattle.std.proofs.lemmas.List.Elements.{All-push}
-use Rattle.kv_types.specs.Spelling.{edit_text, IsEdit}
+use Rattle.kv_types.specs.Spelling.{edit_bytes, IsEdit}
 use Rattle.kv_types.proofs.writing.spelled_len.Goals as goal
 
 pub loop-edit-preserved : goal.loop-edit-preserved
@@ -15,12 +15,12 @@ loop-edit-preserved c =
     let more : take (i + 1) edits ≡ take i edits ++ edit ∷ [] =
     take_more edits i edit c.loop-edit-test.true
     ∙ ap (λ (e : Edit). take i edits ++ e ∷ []) (sym c.edit-item.is) in
-    let grown : flat_map edit_text (take (i + 1) edits)
-    ≡ flat_map edit_text (take i edits) ++ edit_text edit = ap (flat_map edit_text) more
-    ∙ sym (flat_map_more edit_text [] (take i edits) edit) in
-    let len : length (flat_map edit_text (take (i + 1) edits))
-    ≡ length (flat_map edit_text (take i edits)) + length (edit_text edit) = ap length grown
-    ∙ length-append (flat_map edit_text (take i edits)) (edit_text edit) in
+    let grown : flat_map edit_bytes (take (i + 1) edits)
+    ≡ flat_map edit_bytes (take i edits) ++ edit_bytes edit = ap (flat_map edit_bytes) more
+    ∙ sym (flat_map_more edit_bytes [] (take i edits) edit) in
+    let len : length (flat_map edit_bytes (take (i + 1) edits))
+    ≡ length (flat_map edit_bytes (take i edits)) + length (edit_bytes edit) = ap length grown
+    ∙ length-append (flat_map edit_bytes (take i edits)) (edit_bytes edit) in
     record {
       is = omega (arith, len, c.loop-edit.invariant.is, c.edit_len-len.ensures.len);
       limit = omega (arith, c.loop-edit.invariant.limit, c.edit_len-len.ensures.limit);

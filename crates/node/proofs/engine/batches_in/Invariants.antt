@@ -1,8 +1,8 @@
 use Rattle.std.proofs.Common.{◌≡◌, ◌↔◌, ℕ, List, length, take}
 use Rattle.std.specs.Prelude.{All}
 use Rattle.kv_types.specs.Spelling.{IsBatch}
-use Rattle.disk.specs.State.{IsSame}
-use Rattle.record_log.specs.Stands.{Holds}
+use Rattle.disk.specs.States.{IsSame}
+use Rattle.record_log.specs.Logs.{LogHolds}
 use Rattle.node.specs.Layout.{records_from}
 use Rattle.node.proofs.engine.batches_in.Given as goal
 
@@ -16,6 +16,6 @@ invariant-loop-index g l = record {
   size : length l.batches.items ≡ l.index;
   each : All IsBatch l.batches.items;
   found : (records : List (List ℕ)) → g.D.Disk.is_honest l.fn.disk →
-      Holds (g.D.Disk.state l.fn.disk) l.log records →
+      LogHolds (g.D.Disk.state l.fn.disk) l.log records →
       take l.index records ≡ records_from 1 l.batches.items;
 }

@@ -1,8 +1,8 @@
 use Rattle.std.proofs.Common.{subst}
 use Rattle.std.proofs.lemmas.Result.{err_from_is_err_and}
-use Rattle.disk.specs.State.{Slot, seen}
-use Rattle.record_log.specs.Stands as log_stands
-use Rattle.record_log.specs.Grammar.{StandsFor}
+use Rattle.disk.specs.States.{Slot, seen}
+use Rattle.record_log.specs.Logs as log_stands
+use Rattle.record_log.specs.Grammar.{RepresentsRecords}
 use Rattle.std.specs.Prelude.{IsSomeAnd}
 use Rattle.node.specs.Layout.{identity_file, identity_records}
 use Rattle.node.proofs.Blank.{has_bytes, blank_read, blank_declined}
@@ -31,7 +31,7 @@ returns-in_err-identity-clause-blank g c = λ honest.
     let e = c.in_err-identity.field-0.0 in
     let has = has_bytes bytes c.in_ok-length_of.field-0 c.if-branch-eq0.false
     (c.in_ok-length_of.ensures.length honest) in
-    let told = subst (λ (slot : Slot). log_stands.Declines e (seen slot) 0)
+    let told = subst (λ (slot : Slot). log_stands.OpenRefusal e (seen slot) 0)
     (c.length_of.ensures.kept.files honest identity_file)
     (c.in_err-identity.ensures.told (c.length_of.ensures.kept.honest.1 honest)) in
     rw (p.1, p.2) (blank_declined bytes e has told)
@@ -56,10 +56,11 @@ returns-clause-blank g c = λ honest.
     let bytes = seen (g.D.Disk.state c.args.disk.now identity_file) in
     let has = has_bytes bytes c.in_ok-length_of.field-0 c.if-branch-eq0.false
     (c.in_ok-length_of.ensures.length honest) in
-    let stood = subst (λ (slot : Slot). IsSomeAnd (seen slot) (λ it. StandsFor it o.records))
+    let stood = subst (λ (slot : Slot). IsSomeAnd (seen slot)
+        (λ it. RepresentsRecords it o.records))
     (c.length_of.ensures.kept.files honest identity_file) o.stood in
     let told = c.identity_in.ensures.blank o.records honest2 o.holds in
-    blank_read c.one_list.ensures c.identity_in.result bytes o.records has stood told
+    blank_read c.records_are_unique.ensures c.identity_in.result bytes o.records has stood told
 
 -- the log that was opened holds the node's record
 pub returns-clause-opened : goal.returns-clause-opened

@@ -1,6 +1,6 @@
 use Rattle.std.proofs.Common.{ℕ, List, [], replicate, refl, sym, ◌∙◌}
 use Rattle.std.proofs.lemmas.List.{length-replicate}
-use Rattle.chain_model.specs.Node.{created}
+use Rattle.chain_model.specs.Machine.{created}
 use Rattle.chain_core.specs.States.{Machine}
 use Rattle.node.proofs.node.core_of.Goals as goal
 

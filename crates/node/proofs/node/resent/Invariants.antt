@@ -1,6 +1,6 @@
 use Rattle.std.proofs.Common.{◌≡◌, ◌↔◌, ℕ, ◌-◌, ◌≤◌, max}
 use Rattle.chain_model.specs.Rules.{forwards}
-use Rattle.chain_core.specs.States.{Machine, Is}
+use Rattle.chain_core.specs.States.{Machine, CoreRefines}
 use Rattle.chain_core.specs.Decisions.{AreFrames}
 use Rattle.node.specs.Engines.{EngineHolds, KeepsStore}
 use Rattle.node.proofs.node.resent.Given as goal
@@ -14,7 +14,7 @@ invariant-loop-number g l = record {
   count : g.D.Disk.failures l.disk ≡ g.D.Disk.failures l.fn.disk;
   kept : g.D.Disk.is_honest l.fn.disk →
       KeepsStore l.engine (g.D.Disk.state l.fn.disk) (g.D.Disk.state l.disk);
-  sent : (x : ℕ) (n : Machine) → Is l.core n → g.D.Disk.is_honest l.fn.disk →
+  sent : (x : ℕ) (n : Machine) → CoreRefines l.core n → g.D.Disk.is_honest l.fn.disk →
       EngineHolds (g.D.Disk.state l.fn.disk) l.engine x n.epoch n.ids n.list n.floor n.kept →
       AreFrames l.sent.items
       (forwards l.core.id n l.core.successor_has (l.number - l.initial.number));

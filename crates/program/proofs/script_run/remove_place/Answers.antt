@@ -1,6 +1,6 @@
 use Rattle.std.proofs.Common.{◌<◌, ◌≤◌, length, ◌∙◌, sym, ap, arith, add-one}
 use Rattle.std.specs.VecDeque.{deque_len}
-use Rattle.lab.specs.Node.{without}
+use Rattle.lab.specs.Machine.{without}
 use Rattle.program.proofs.Leaving.{not_yet, left_out, not_there, whole}
 use Rattle.program.proofs.script_run.remove_place.Goals as goal
 

@@ -3,10 +3,10 @@ use Rattle.std.proofs.Common.{arith}
 use Rattle.std.specs.Prelude.{if◌then◌else◌}
 use Rattle.chain_model.specs.Configuration.{is_tail}
 use Rattle.chain_model.specs.Rules.{accept}
-use Rattle.chain_core.specs.declared.waiting.Waiting.{Waiting}
+use Rattle.chain_core.specs.declared.pending_submit.PendingSubmit.{PendingSubmit}
 use Rattle.chain_core.specs.States.{Core, IsInOrder}
 use Rattle.chain_core.specs.Queues.{front, behind}
-use Rattle.chain_core.specs.Decisions.{Follows}
+use Rattle.chain_core.specs.Decisions.{CoreFollows}
 use Rattle.chain_core.proofs.Queues.{behind_in_order, push_in_order, front_few, front_push}
 use Rattle.chain_core.specs.CoreState.{core_value}
 use Rattle.chain_core.proofs.Orders.{ordered_longer}
@@ -24,7 +24,8 @@ overflow_add-count_due c =
 -- there is room for those that were due and for the new one
 pub move_due-requires : goal.move_due-requires
 move_due-requires c =
-    let asked : Waiting = record { number = c.unwrap-number.result; request = c.args.request } in
+    let asked : PendingSubmit = record { number = c.unwrap-number.result; request = c.args.request }
+        in
     let committed = c.committed_with-committed.result in
     let due = front_push committed c.self.inside.pending.items asked in
     rw c.in_ok-push_back.ensures.items
@@ -34,7 +35,7 @@ pub invariant_of-self-2 : goal.invariant_of-self-2
 invariant_of-self-2 c =
     let old = c.self.inside.count in
     let number = c.unwrap-number.result in
-    let asked : Waiting = record { number = number; request = c.args.request } in
+    let asked : PendingSubmit = record { number = number; request = c.args.request } in
     let pending = c.self.inside.pending.items in
     let next : number ≡ suc old =
     next_of c.next.result _ old old number c.next.ensures c.unwrap-number.ensures refl in
@@ -55,7 +56,7 @@ returns-clause-after c = λ n batch is.
     let now = c.args.self.now in
     let i = c.args.request in
     let number = c.unwrap-number.result in
-    let asked : Waiting = record { number = number; request = i } in
+    let asked : PendingSubmit = record { number = number; request = i } in
     let committed = c.committed_with-committed.result in
     let pending = c.move_due.new.pending.items in
     let due = c.move_due.new.due.items in
@@ -67,11 +68,11 @@ returns-clause-after c = λ n batch is.
     next_of c.next.result _ c.self.inside.count now.count number c.next.ensures
     c.unwrap-number.ensures (ap (λ (v : Core). v.count) same) in
     let all : c.push_back.new.self.items ≡ now.pending ++ asked ∷ [] =
-    ◌∙◌ {A = List Waiting} c.in_ok-push_back.ensures.items
+    ◌∙◌ {A = List PendingSubmit} c.in_ok-push_back.ensures.items
     (ap (λ (v : Core). v.pending ++ asked ∷ []) same) in
     let out : due ≡ front committed (now.pending ++ asked ∷ []) =
     c.move_due.ensures.due
-    ∙ (ap (λ (l : List Waiting). l ++ front committed c.push_back.new.self.items) empty
+    ∙ (ap (λ (l : List PendingSubmit). l ++ front committed c.push_back.new.self.items) empty
     ∙ ap (front committed) all) in
     let left : pending ≡ behind committed (now.pending ++ asked ∷ []) =
     c.move_due.ensures.pending ∙ ap (behind committed) all in
@@ -80,6 +81,6 @@ returns-clause-after c = λ n batch is.
       committed = committed;
       pending = pending;
     } in
-    subst (λ (v : Core). Follows v (accept now.id n i batch) due) (sym (ap new same))
+    subst (λ (v : Core). CoreFollows v (accept now.id n i batch) due) (sym (ap new same))
     (follows_accept now n is i batch number committed next ordered
     c.committed_with-committed.ensures pending due left out)

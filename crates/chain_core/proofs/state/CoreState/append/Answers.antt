@@ -2,7 +2,7 @@ use Rattle.std.proofs.Common.{◌≡◌, suc, length, refl, sym, ap, subst, ◌�
 use Rattle.std.specs.Prelude.{if◌then◌else◌}
 use Rattle.chain_model.specs.Configuration.{is_tail}
 use Rattle.chain_model.specs.Rules.{append}
-use Rattle.chain_core.specs.States.{Core, Is}
+use Rattle.chain_core.specs.States.{Core, CoreRefines}
 use Rattle.chain_core.proofs.Queues.{raise}
 use Rattle.chain_core.specs.CoreState.{core_value}
 use Rattle.chain_core.proofs.Orders.{ordered_longer}
@@ -31,6 +31,6 @@ returns-clause-after c = λ n batch is.
     next_of c.next.result _ c.self.inside.count now.count number c.next.ensures
     c.unwrap-number.ensures (ap (λ (v : Core). v.count) c.self.view_is) in
     let new : Core → Core = λ v. record v { count = number; committed = committed } in
-    subst (λ (v : Core). Is v (append now.id n (suc (length n.list)) batch).node)
+    subst (λ (v : Core). CoreRefines v (append now.id n (suc (length n.list)) batch).node)
     (sym (ap new c.self.view_is))
     (follows_append now n is batch number committed next c.committed_with-self-inside.ensures)

@@ -1,9 +1,9 @@
 use Rattle.std.proofs.Common.{◌≡◌, ◌≤◌, ◌++◌, List, sym, ap, subst, ◌∙◌, max, arith}
-use Rattle.chain_model.specs.Rules.{pass_on}
-use Rattle.chain_core.specs.declared.waiting.Waiting.{Waiting}
+use Rattle.chain_model.specs.Rules.{on_ack}
+use Rattle.chain_core.specs.declared.pending_submit.PendingSubmit.{PendingSubmit}
 use Rattle.chain_core.specs.States.{Core, IsInOrder}
 use Rattle.chain_core.specs.Queues.{front, behind}
-use Rattle.chain_core.specs.Decisions.{Follows}
+use Rattle.chain_core.specs.Decisions.{CoreFollows}
 use Rattle.chain_core.proofs.Queues.{behind_in_order}
 use Rattle.chain_core.specs.CoreState.{core_value}
 use Rattle.chain_core.proofs.Orders.{ordered_told}
@@ -38,7 +38,7 @@ returns-clause-after c = λ n is.
     c.self.invariant.pending in
     let out : due ≡ front more now.pending =
     c.move_due.ensures.due
-    ∙ (ap (λ (l : List Waiting). l ++ front more c.self.inside.pending.items) empty
+    ∙ (ap (λ (l : List PendingSubmit). l ++ front more c.self.inside.pending.items) empty
     ∙ ap (λ (v : Core). front more v.pending) same) in
     let left : pending ≡ behind more now.pending =
     c.move_due.ensures.pending ∙ ap (λ (v : Core). behind more v.pending) same in
@@ -47,7 +47,7 @@ returns-clause-after c = λ n is.
       successor_has = has;
       pending = pending;
     } in
-    subst (λ (v : Core). Follows v (pass_on now.id n told have) due) (sym (ap new same))
+    subst (λ (v : Core). CoreFollows v (on_ack now.id n told have) due) (sym (ap new same))
     (follows_told now n is told have more has pending due
     (c.greater-committed.ensures ∙ ap (λ (v : Core). max v.committed told) same)
     (c.greater-self-inside.ensures ∙ ap (λ (v : Core). max v.successor_has have) same)

@@ -3,7 +3,7 @@ use Rattle.std.proofs.Common.{length, take, drop, arith, sym, ap, subst, ◌∙�
 use Rattle.std.specs.Prelude.{max}
 use Rattle.std.proofs.lemmas.List.{length-take}
 use Rattle.std.proofs.lemmas.Grind.{common_steps}
-use Rattle.disk.specs.State.{overwritten}
+use Rattle.disk.specs.States.{overwritten}
 use Rattle.disk.specs.Content.{Content}
 use Rattle.disk.specs.Buffer.{uncovered}
 use Rattle.disk.proofs.Buffers.{kept_stays, take-overwritten}

@@ -2,7 +2,7 @@ use Rattle.std.proofs.Common.{◌≡◌, Some, None, ap, subst, ◌∙◌, arith
 use Rattle.kv_types.specs.declared.error.KvError.{KvError}
 use Rattle.kv_types.specs.declared.error.KvError.TheVariants.{BadBytes}
 use Rattle.std.proofs.lemmas.Result.{err_from_is_err_and}
-use Rattle.kv_types.specs.Reading.{batch_of, Fails}
+use Rattle.kv_types.specs.Reading.{batch_of, RefusesBytes}
 use Rattle.kv_types.proofs.Batches.{batch_takes, batch_again}
 use Rattle.kv_types.proofs.batch.Batch.from_bytes.Goals as goal
 
@@ -12,7 +12,7 @@ returns-in_err-all_edits_of-clause-bad c =
     λ is batch fits spelled.
     let same : c.in_err-all_edits_of.field-0.0 ≡ BadBytes = cc (p.1, p.2, is) in
     let none : batch_of c.args.bytes.now ≡ None =
-    subst (λ (e : KvError). Fails e
+    subst (λ (e : KvError). RefusesBytes e
     (batch_of c.args.bytes.now)) same c.in_err-all_edits_of.ensures in
     let some : batch_of c.args.bytes.now ≡ Some batch =
     ap batch_of spelled ∙ batch_again batch fits in

@@ -2,7 +2,7 @@ use Rattle.std.proofs.Common.{◌≡◌, subst, arith}
 use Rattle.std.proofs.lemmas.Result.{err_from_is_err_and}
 use Rattle.kv_types.specs.declared.error.KvError.{KvError}
 use Rattle.kv_types.specs.declared.error.KvError.TheVariants.{BadBytes}
-use Rattle.kv_types.specs.Reading.{batch_at, Fails}
+use Rattle.kv_types.specs.Reading.{batch_at, RefusesBytes}
 use Rattle.kv_types.proofs.Batches.{front_takes}
 use Rattle.kv_types.proofs.Fronts.{no_batch}
 use Rattle.kv_types.proofs.batch.Batch.read_from.Goals as goal
@@ -13,7 +13,8 @@ returns-in_err-edits-clause-bad c =
     λ is.
     let same : c.in_err-edits.field-0.0 ≡ BadBytes = cc (p.1, p.2, is) in
     no_batch c.args.bytes.now
-    (subst (λ (e : KvError). Fails e (batch_at c.args.bytes.now)) same c.in_err-edits.ensures)
+    (subst (λ (e : KvError). RefusesBytes e (batch_at c.args.bytes.now)) same
+        c.in_err-edits.ensures)
 
 pub invariant_of-result : goal.invariant_of-result
 invariant_of-result c =

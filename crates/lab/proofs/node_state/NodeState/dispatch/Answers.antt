@@ -1,12 +1,12 @@
 use Rattle.std.proofs.Common.{Err, Result, None, Some, refl, sym, ap, subst, inl, inr}
-use Rattle.chain_model.specs.Node.{stopped, silent}
+use Rattle.chain_model.specs.Machine.{stopped, silent}
 use Rattle.chain_core.specs.Decisions.{answer_to}
 use Rattle.node.specs.declared.output.Output.{Output}
 use Rattle.node.specs.declared.stop.Stop.{Stop as Cause}
 use Rattle.disk.specs.Lent.{KeepsDisk}
 use Rattle.node.specs.Engines.{IsNearlyFull, KeepsOthersOf}
-use Rattle.node.specs.Steps.{StopsAs, disk_of, engine_of}
-use Rattle.node.specs.Stops.{TellsDisk}
+use Rattle.node.specs.Steps.{StopRefines, disk_of, engine_of}
+use Rattle.node.specs.Stops.{IsDeviceStop}
 use Rattle.lab.specs.declared.input.NodeInput.{NodeInput}
 use Rattle.lab.specs.declared.input.StepOutcome.TheVariants as done
 use Rattle.lab.specs.declared.node_state.NodeState.TheVariants.{Up, Down}
@@ -40,7 +40,7 @@ returns-in-Step-clause-refines g c = λ x n is.
     let was = ended.stopped in
     let same = sym c.into_disk.ensures.disk in
     let honest = subst g.D.Disk.is_honest same was.0 in
-    let stops = subst (λ d. StopsAs (g.D.Disk.state d) x n a) same was.1 in
+    let stops = subst (λ d. StopRefines (g.D.Disk.state d) x n a) same was.1 in
     subst (λ (k : NodeInput). OutcomeRefines g.D.Disk.is_honest g.D.Disk.state x n k
     c.crash-state.result (done.Stopped (Some c.in-Err.stop))) (sym c.in-Step.is)
     (Ends r.core.running c.in-Err.stop ended.done
@@ -54,7 +54,8 @@ returns-in-Step-clause-disk g c = λ was.
     let ended : Result Output Cause = Err stop in
     let engine = engine_of c.in-Up.node in
     let kept = subst
-    (λ d. KeepsDisk g.D.Disk old d (TellsDisk ended) (IsNearlyFull engine) (KeepsOthersOf engine))
+    (λ d. KeepsDisk g.D.Disk old d (IsDeviceStop ended) (IsNearlyFull engine)
+        (KeepsOthersOf engine))
     (sym c.into_disk.ensures.disk) c.in-Err.ensures.kept.disk in
     subst (λ m. DiskEnds g.D.Disk.state g.D.Disk.failures stop (disk_in m)
     (disk_in c.crash-state.result)) (sym c.in-Up.is)

@@ -30,4 +30,4 @@ returns-clause-history c = λ cs events steps run.
     events made.choices steps self.nodes.items made.trace
     (disks_so_far self.nodes.items self.frames.items cs events steps made
     c.disks_represent.ensures) (c.one_history.ensures cs es made.lawful)
-    (c.made_of_outcomes.ensures cs es))
+    (c.run_is_outcomes.ensures cs es))

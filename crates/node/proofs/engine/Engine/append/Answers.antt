@@ -1,7 +1,7 @@
 use Rattle.std.proofs.Common.{◌≡◌, ◌+◌, ◌≤◌, [], ◌∷◌, ◌++◌, length, refl, ◌∙◌, ap, subst, arith}
 use Rattle.std.proofs.lemmas.Result.{err_from_is_err_and}
 use Rattle.kv_types.specs.Spelling.{IsBatch}
-use Rattle.record_log.specs.Stands.{IsAt}
+use Rattle.record_log.specs.Logs.{IsAt}
 use Rattle.node.specs.declared.engine.Engine.{Engine}
 use Rattle.node.specs.Layout.{batches_file, records_from}
 use Rattle.node.proofs.Causes.{met}
@@ -13,13 +13,13 @@ use Rattle.node.proofs.engine.Engine.append.Goals as goal
 pub returns-in_err-record-clause-crash : goal.returns-in_err-record-clause-crash
 returns-in_err-record-clause-crash g c = λ x epoch ids list floor kept honest s.
     let is_batch = subst IsBatch c.batch.view_is c.batch.invariant in
-    unchanged c.sure_is_left.ensures (g.D.Disk.state c.args.disk.now) c.args.self.now x epoch ids
+    unchanged c.durable_is_left.ensures (g.D.Disk.state c.args.disk.now) c.args.self.now x epoch ids
     list floor kept s c.args.batch is_batch
 
 pub returns-in_err-reserve-clause-crash : goal.returns-in_err-reserve-clause-crash
 returns-in_err-reserve-clause-crash g c = λ x epoch ids list floor kept honest s.
     let is_batch = subst IsBatch c.batch.view_is c.batch.invariant in
-    unchanged c.sure_is_left.ensures (g.D.Disk.state c.args.disk.now) c.args.self.now x epoch ids
+    unchanged c.durable_is_left.ensures (g.D.Disk.state c.args.disk.now) c.args.self.now x epoch ids
     list floor kept s c.args.batch is_batch
 
 -- the log works and the record fits, so it reports environment errors alone
@@ -42,9 +42,9 @@ returns-in_err-append-clause-crash g c = λ x epoch ids list floor kept honest s
     let old = g.D.Disk.state c.args.disk.now in
     let is_batch = subst IsBatch c.batch.view_is c.batch.invariant in
     let self = c.args.self.now in
-    let number = next_record c.sure_is_left.ensures old self x epoch ids list floor kept s
+    let number = next_record c.durable_is_left.ensures old self x epoch ids list floor kept s
     c.args.batch is_batch (c.len.result + 1) (omega (arith, c.len.ensures)) in
-    crashed c.sure_is_left.ensures old self x epoch ids list floor kept s c.args.batch is_batch
+    crashed c.durable_is_left.ensures old self x epoch ids list floor kept s c.args.batch is_batch
     c.deref.result.now (c.deref.ensures.value ∙ c.in_ok-record.ensures ∙ number) c.requires.room
     (g.D.Disk.state c.append.new.disk) (c.append.ensures.kept.files honest)
     (c.append.ensures.crash (records_from 1 list) honest s.log)
@@ -54,9 +54,9 @@ returns-clause-crash g c = λ x epoch ids list floor kept honest s.
     let old = g.D.Disk.state c.args.disk.now in
     let is_batch = subst IsBatch c.batch.view_is c.batch.invariant in
     let self = c.args.self.now in
-    let number = next_record c.sure_is_left.ensures old self x epoch ids list floor kept s
+    let number = next_record c.durable_is_left.ensures old self x epoch ids list floor kept s
     c.args.batch is_batch (c.len.result + 1) (omega (arith, c.len.ensures)) in
-    crashed c.sure_is_left.ensures old self x epoch ids list floor kept s c.args.batch is_batch
+    crashed c.durable_is_left.ensures old self x epoch ids list floor kept s c.args.batch is_batch
     c.deref.result.now (c.deref.ensures.value ∙ c.in_ok-record.ensures ∙ number) c.requires.room
     (g.D.Disk.state c.append.new.disk) (c.append.ensures.kept.files honest)
     (c.append.ensures.crash (records_from 1 list) honest s.log)
@@ -69,7 +69,7 @@ returns-clause-appended g c = λ x epoch ids list floor kept honest s.
     let batch = c.args.batch in
     let log = c.append.new.self in
     let is_batch = subst IsBatch c.batch.view_is c.batch.invariant in
-    let number = next_record c.sure_is_left.ensures old self x epoch ids list floor kept s batch
+    let number = next_record c.durable_is_left.ensures old self x epoch ids list floor kept s batch
     is_batch (c.len.result + 1) (omega (arith, c.len.ensures)) in
     let told = c.in_ok-append.ensures.told in
     let after : Engine = record { log = log; batches = c.push_reserved.new.self } in
@@ -80,7 +80,7 @@ returns-clause-appended g c = λ x epoch ids list floor kept honest s.
     } in
     let batches : c.push_reserved.new.self.items ≡ self.batches.items ++ batch ∷ [] =
     rw (c.push_reserved.ensures.items, c.reserve.ensures.items) refl in
-    appended c.sure_is_left.ensures old self x epoch ids list floor kept s batch is_batch
+    appended c.durable_is_left.ensures old self x epoch ids list floor kept s batch is_batch
     c.deref.result.now (c.deref.ensures.value ∙ c.in_ok-record.ensures ∙ number) c.requires.room
     (g.D.Disk.state c.append.new.disk) after (c.append.ensures.kept.files honest)
     at batches (c.in_ok-append.ensures.appended (records_from 1 list) honest s.log)

@@ -2,8 +2,8 @@ use Rattle.std.proofs.Common.{refl, ◌≡◌, ◌≤◌, [], ◌∷◌, ap, len
 use Rattle.std.proofs.lemmas.Result.{err_from_is_err_and}
 use Rattle.std.proofs.lemmas.List.Elements.{All-nil}
 use Rattle.kv_types.specs.Spelling.{IsBatch}
-use Rattle.disk.specs.State.{Slot, seen}
-use Rattle.record_log.specs.Stands.{EndsInRange, Holds}
+use Rattle.disk.specs.States.{Slot, seen}
+use Rattle.record_log.specs.Logs.{EndsInRange, LogHolds}
 use Rattle.node.specs.Layout.{identity_file, identity_record, identity_records, batches_file}
 use Rattle.node.proofs.Causes.{met}
 use Rattle.node.proofs.Identities.{identity_fits}
@@ -36,8 +36,8 @@ returns-clause-created g c = λ honest.
     let told = c.in_ok-append.ensures.told.0 in
     let one : c.deref.result.now ≡ identity_record c.args.id c.args.config.now =
     c.deref.ensures.value ∙ c.in_ok-record.ensures.spelled in
-    let named : Holds s3 c.append.new.self (identity_records c.args.id c.args.config.now) =
-    subst (λ r. Holds s3 c.append.new.self (r ∷ [])) one held in
+    let named : LogHolds s3 c.append.new.self (identity_records c.args.id c.args.config.now) =
+    subst (λ r. LogHolds s3 c.append.new.self (r ∷ [])) one held in
     let identity = c.in_ok-identity.identity in
     let other : log.file ≡ identity.file → ⊥ = λ e. omega (arith, e, in_log, is.in_file) in
     let back : log.file ≡ identity_file → ⊥ = λ e. omega (arith, e, in_log) in

@@ -1,6 +1,6 @@
 use Rattle.std.proofs.Common.{rules, ◌≡◌, ℕ, List, sym, subst, ◌∙◌, arith}
 use Rattle.node.specs.Layout.{identity_file, batches_file, records_from}
-use Rattle.node.specs.Files.{IsSureOfId}
+use Rattle.node.specs.Files.{IsDurableIdOf}
 use Rattle.node.proofs.Opens.{has_in, same_identity, same_batches}
 use Rattle.node.proofs.Engines.{holds_in, id_in}
 use Rattle.node.proofs.engine.Engine.open.Goals as goal
@@ -30,7 +30,8 @@ returns-clause-opened g c = λ x epoch ids list floor kept honest represents.
     let found = c.in_ok-identity.ensures.found honest in
     let it = c.in_ok-identity.identity in
     let unique = c.config_text_is_unique.ensures.unique in
-    let same = same_identity c.one_list.ensures unique _ it.id x it.config ids found.had had.id in
+    let same = same_identity c.records_are_unique.ensures unique _ it.id x it.config ids found.had
+        had.id in
     let apart : identity_file ≡ batches_file → ⊥ = λ e. omega (arith, e) in
     let back : batches_file ≡ identity_file → ⊥ = λ e. omega (arith, e) in
     let there = (c.identity_on.ensures.kept.files honest).others batches_file back in
@@ -46,8 +47,8 @@ returns-clause-opened g c = λ x epoch ids list floor kept honest represents.
       id = same.0;
       config = same.1;
       holds = record {
-        id = subst (λ (y : ℕ). IsSureOfId s3 y ids) same.0
-            (subst (λ (ys : List ℕ). IsSureOfId s3 it.id ys) same.1 sure);
+        id = subst (λ (y : ℕ). IsDurableIdOf s3 y ids) same.0
+            (subst (λ (ys : List ℕ). IsDurableIdOf s3 it.id ys) same.1 sure);
         at = c.in_ok-log.ensures.at;
         log = holds_in s2 s3 c.in_ok-log.log records (after c.in_ok-log.log.file) holds;
         batches = sym (same_batches c.spellings_differ.ensures 1 list list' had.each read.1 read.0);

@@ -3,10 +3,10 @@ use Rattle.std.proofs.Common.{ap, subst, sym, ◌∙◌, inr}
 use Rattle.std.proofs.lemmas.Result.{err_from_is_err_and}
 use Rattle.std.proofs.lemmas.List.{append-nil}
 use Rattle.kv_types.specs.Content.{BatchContent}
-use Rattle.chain_model.specs.Frames.{Frame}
+use Rattle.chain_model.specs.Messages.{Message}
 use Rattle.chain_model.specs.Rules.{accept, forward}
 use Rattle.chain_core.specs.declared.done.Done.TheVariants as done
-use Rattle.node.specs.Stops.{IsOfMachine}
+use Rattle.node.specs.Stops.{IsEnvironmental}
 use Rattle.node.proofs.Running.{ends_rule, ends_stopped, stops_before}
 use Rattle.node.proofs.Running.{copy_after, number_taken, taken_stands}
 use Rattle.node.proofs.node.Node.accept.Goals as goal
@@ -19,7 +19,7 @@ returns-in_err-copy-clause-ends g c = λ x n input r.
     let old = c.args.self.now in
     ends_stopped g.D.Disk.is_honest g.D.Disk.state old x n a _ c.from_residual.result p.0 p.1
     (inr p.2) r.honest
-    (stops_before g.D.Disk.is_honest g.D.Disk.state c.sure_is_left.ensures old x n a r)
+    (stops_before g.D.Disk.is_honest g.D.Disk.state c.durable_is_left.ensures old x n a r)
 
 -- it stops as the store's part does
 pub returns-in_err-due-clause-ends : goal.returns-in_err-due-clause-ends
@@ -29,7 +29,7 @@ returns-in_err-due-clause-ends g c = λ x n input r.
     let p = err_from_is_err_and result c.from_residual-in_err-due.ensures.1 in
     let e = c.in_err-due.ensures.ends x n r in
     ends_stopped g.D.Disk.is_honest g.D.Disk.state c.take.new.self x n a _ result p.0 p.1
-    (subst IsOfMachine (sym p.2) e.done) e.stopped.0 e.stopped.1
+    (subst IsEnvironmental (sym p.2) e.done) e.stopped.0 e.stopped.1
 
 -- the appended batch is sent
 pub returns-clause-ends : goal.returns-clause-ends
@@ -46,9 +46,9 @@ returns-clause-ends g c = λ x n input r.
     let there = taken_stands c.stands_last.ensures x n batch d a new.count leaves tt number in
     let copied = copy_after old new n a.node x batch c.in_ok-copy.copy r.core leaves.ids r.id
     follows.runs.id c.in_ok-copy.ensures in
-    let says = c.output_taken.ensures.says a.node batch follows.runs.core there copied in
-    let sent : ℕ → List (Frame BatchContent) = λ y. forward y a.node new.count ++ [] in
+    let says = c.output_of_append.ensures.says a.node batch follows.runs.core there copied in
+    let sent : ℕ → List (Message BatchContent) = λ y. forward y a.node new.count ++ [] in
     let one = append-nil (forward x a.node new.count) ∙ ap (forward x a.node) number in
-    ends_rule g.D.Disk.is_honest g.D.Disk.state c.sure_is_left.ensures c.take.new.self x n input
-    batch d a c.in_ok-due.due.items c.deref.result.now sent c.output_taken.result leaves follows
-    c.deref.ensures.value one says c.output_taken.ensures.memory
+    ends_rule g.D.Disk.is_honest g.D.Disk.state c.durable_is_left.ensures c.take.new.self x n input
+    batch d a c.in_ok-due.due.items c.deref.result.now sent c.output_of_append.result leaves follows
+    c.deref.ensures.value one says c.output_of_append.ensures.memory

@@ -3,10 +3,10 @@ use Rattle.std.proofs.Common.{Bool, if◌then◌else◌, ap, subst, sym, ◌∙�
 use Rattle.std.proofs.lemmas.Result.{err_from_is_err_and}
 use Rattle.kv_types.specs.Content.{BatchContent}
 use Rattle.chain_model.specs.Configuration.{is_tail}
-use Rattle.chain_model.specs.Frames.{Frame}
+use Rattle.chain_model.specs.Messages.{Message}
 use Rattle.chain_model.specs.Rules.{ack, append, forward}
 use Rattle.chain_core.specs.declared.done.Done.TheVariants as done
-use Rattle.node.specs.Stops.{IsOfMachine}
+use Rattle.node.specs.Stops.{IsEnvironmental}
 use Rattle.node.proofs.Running.{ends_rule, ends_stopped, stops_before}
 use Rattle.node.proofs.Running.{copy_after, number_taken, taken_stands}
 use Rattle.node.proofs.node.Node.append.Goals as goal
@@ -19,7 +19,7 @@ returns-in_err-copy-clause-ends g c = λ x n input r.
     let old = c.args.self.now in
     ends_stopped g.D.Disk.is_honest g.D.Disk.state old x n a _ c.from_residual.result p.0 p.1
     (inr p.2) r.honest
-    (stops_before g.D.Disk.is_honest g.D.Disk.state c.sure_is_left.ensures old x n a r)
+    (stops_before g.D.Disk.is_honest g.D.Disk.state c.durable_is_left.ensures old x n a r)
 
 -- it stops as the store's part does
 pub returns-in_err-due-clause-ends : goal.returns-in_err-due-clause-ends
@@ -29,7 +29,7 @@ returns-in_err-due-clause-ends g c = λ x n input r.
     let p = err_from_is_err_and result c.from_residual-in_err-due.ensures.1 in
     let e = c.in_err-due.ensures.ends x n r in
     ends_stopped g.D.Disk.is_honest g.D.Disk.state c.take.new.self x n a _ result p.0 p.1
-    (subst IsOfMachine (sym p.2) e.done) e.stopped.0 e.stopped.1
+    (subst IsEnvironmental (sym p.2) e.done) e.stopped.0 e.stopped.1
 
 -- the appended batch is sent, and a tail acknowledges it
 pub returns-clause-ends : goal.returns-clause-ends
@@ -46,16 +46,16 @@ returns-clause-ends g c = λ x n input r.
     let there = taken_stands c.stands_last.ensures x n batch d a new.count leaves tt number in
     let copied = copy_after old new n a.node x batch c.in_ok-copy.copy r.core leaves.ids r.id
     follows.runs.id c.in_ok-copy.ensures in
-    let says = c.output_taken.ensures.says a.node batch follows.runs.core there copied in
-    let told : Bool → List (Frame BatchContent) = λ acks. if acks then ack x a.node else [] in
+    let says = c.output_of_append.ensures.says a.node batch follows.runs.core there copied in
+    let told : Bool → List (Message BatchContent) = λ acks. if acks then ack x a.node else [] in
     let acks = c.is_tail.result in
-    let sent : ℕ → List (Frame BatchContent) = λ y.
+    let sent : ℕ → List (Message BatchContent) = λ y.
     forward y a.node new.count ++ (if acks then ack y a.node else []) in
     let tail : acks ≡ is_tail a.node.ids x = c.is_tail.ensures
     ∙ ap (λ ids. is_tail ids new.id) (sym follows.runs.core.ids)
     ∙ ap (is_tail a.node.ids) follows.runs.id in
     let both = ap (λ k. forward x a.node k ++ told acks) number
     ∙ ap (λ b. forward x a.node (suc (length n.list)) ++ told b) tail in
-    ends_rule g.D.Disk.is_honest g.D.Disk.state c.sure_is_left.ensures c.take.new.self x n input
-    batch d a c.in_ok-due.due.items c.deref.result.now sent c.output_taken.result leaves follows
-    c.deref.ensures.value both says c.output_taken.ensures.memory
+    ends_rule g.D.Disk.is_honest g.D.Disk.state c.durable_is_left.ensures c.take.new.self x n input
+    batch d a c.in_ok-due.due.items c.deref.result.now sent c.output_of_append.result leaves follows
+    c.deref.ensures.value both says c.output_of_append.ensures.memory

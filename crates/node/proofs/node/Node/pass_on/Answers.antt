@@ -2,8 +2,8 @@ use Rattle.std.proofs.Common.{◌≡◌, ℕ, List, [], refl}
 use Rattle.std.proofs.Common.{Bool, nat_lt, if◌then◌else◌, ap, subst, sym, ◌∙◌, inr}
 use Rattle.std.proofs.lemmas.Result.{err_from_is_err_and}
 use Rattle.kv_types.specs.Content.{BatchContent}
-use Rattle.chain_model.specs.Frames.{Frame}
-use Rattle.chain_model.specs.Rules.{ack, pass_on}
+use Rattle.chain_model.specs.Messages.{Message}
+use Rattle.chain_model.specs.Rules.{ack, on_ack}
 use Rattle.chain_core.specs.declared.done.Done.TheVariants as done
 use Rattle.chain_core.specs.Decisions as core
 use Rattle.chain_core.specs.Decisions.{AreFrames, done_of}
@@ -16,13 +16,13 @@ use Rattle.node.proofs.node.Node.pass_on.Goals as goal
 -- nothing has changed
 pub returns-in_err-due-clause-ends : goal.returns-in_err-due-clause-ends
 returns-in_err-due-clause-ends g c = λ x n input r.
-    let a = pass_on x n c.args.committed c.args.have in
+    let a = on_ack x n c.args.committed c.args.have in
     let p = err_from_is_err_and c.from_residual.result c.from_residual.ensures.1 in
     let old = c.args.self.now in
     let node = with_core old c.after.new.self in
     ends_stopped g.D.Disk.is_honest g.D.Disk.state node x n a _ c.from_residual.result
     p.0 p.1 (inr p.2) r.honest (stops_before g.D.Disk.is_honest g.D.Disk.state
-    c.sure_is_left.ensures old x n a r)
+    c.durable_is_left.ensures old x n a r)
 
 -- as many batches are counted as before, and none was given up
 pub returns-clause-works : goal.returns-clause-works
@@ -33,7 +33,7 @@ returns-clause-works g c =
     let count = counts_told c.steps_leave.ensures old c.after.new.self c.args.committed c.args.have
     due c.in_ok-due.ensures.after in
     let kept = keeps_kept c.steps_leave.ensures old c.after.new.self
-    (done.Told c.args.committed c.args.have) due c.in_ok-due.ensures.after in
+    (done.Acked c.args.committed c.args.have) due c.in_ok-due.ensures.after in
     on_ok c.output_of.result
     (record { usable = may.usable; count = count ∙ may.count; kept = kept ∙ may.kept })
 
@@ -41,23 +41,23 @@ returns-clause-works g c =
 pub returns-clause-ends : goal.returns-clause-ends
 returns-clause-ends g c = λ x n input r.
     let old = c.args.self.now in
-    let d = done.Told c.args.committed c.args.have in
-    let a = pass_on x n c.args.committed c.args.have in
+    let d = done.Acked c.args.committed c.args.have in
+    let a = on_ack x n c.args.committed c.args.have in
     let leaves = c.steps_leave.ensures x n [] d in
     let due = c.in_ok-due.due.items in
     let node = with_core old c.after.new.self in
-    let follows = subst (λ (y : ℕ). core.Follows node.core (done_of y n [] d) due) r.id
+    let follows = subst (λ (y : ℕ). core.CoreFollows node.core (done_of y n [] d) due) r.id
     (c.in_ok-due.ensures.after n [] r.core) in
     let runs = goes_on g.D.Disk.is_honest g.D.Disk.state node x n [] d a leaves r.honest
     r.store follows.is (c.in_ok-due.ensures.same ∙ r.id) in
-    let told : Bool → List (Frame BatchContent) = λ acks. if acks then ack x a.node else [] in
-    let sent : ℕ → List (Frame BatchContent) =
+    let told : Bool → List (Message BatchContent) = λ acks. if acks then ack x a.node else [] in
+    let sent : ℕ → List (Message BatchContent) =
     λ y. if c.gt-grows.result then ack y a.node else [] in
     let none : AreFrames c.new.result.items [] = rw c.new.ensures.items refl in
     let grows : c.gt-grows.result ≡ nat_lt n.committed c.args.committed =
     c.gt-grows.ensures ∙ greater c.args.committed c.committed.result
     ∙ ap (λ k. nat_lt k c.args.committed) (c.committed.ensures.same ∙ sym r.core.committed) in
-    ends_rule g.D.Disk.is_honest g.D.Disk.state c.sure_is_left.ensures node x n input [] d a due
+    ends_rule g.D.Disk.is_honest g.D.Disk.state c.durable_is_left.ensures node x n input [] d a due
     c.deref.result.now sent
     c.output_of.result leaves (record { runs = runs; replied = follows.replied })
     c.deref.ensures.value (ap told grows)

@@ -1,9 +1,9 @@
 use Rattle.std.proofs.Common.{Ok, ℕ, subst}
 use Rattle.std.specs.Prelude.{IfOk}
-use Rattle.chain_model.specs.Rules.{tell_again}
+use Rattle.chain_model.specs.Rules.{ack_duplicate}
 use Rattle.chain_core.specs.Decisions.{IsReadOf, rule_of}
 use Rattle.chain_core.specs.declared.decision.Decision.TheVariants as decision
-use Rattle.node.specs.Outputs.{Tells}
+use Rattle.node.specs.Outputs.{OutputRefines}
 use Rattle.node.proofs.Running.{ends, ends_as}
 use Rattle.node.proofs.node.Node.perform.Goals as goal
 
@@ -19,28 +19,29 @@ returns-in-Append-clause-ends g c = λ x n input read r.
     (decision.Append c.in-Append.batch) c.append.result c.in-Append.is
     (c.append.ensures.ends x n input r)
 
-pub returns-in-PassOn-clause-ends : goal.returns-in-PassOn-clause-ends
-returns-in-PassOn-clause-ends g c = λ x n input read r.
+pub returns-in-OnAck-clause-ends : goal.returns-in-OnAck-clause-ends
+returns-in-OnAck-clause-ends g c = λ x n input read r.
     ends_as g.D.Disk.is_honest g.D.Disk.state c.pass_on.new.self x n input c.args.decision
-    (decision.PassOn c.in-PassOn.committed c.in-PassOn.have) c.pass_on.result c.in-PassOn.is
+    (decision.OnAck c.in-OnAck.committed c.in-OnAck.have) c.pass_on.result c.in-OnAck.is
     (c.pass_on.ensures.ends x n input r)
 
 -- the output of a rule that changes nothing follows from the node's numbers and batches
-pub returns-in-TellAgain-clause-ends : goal.returns-in-TellAgain-clause-ends
-returns-in-TellAgain-clause-ends g c = λ x n input read r.
-    let tells = subst (λ (y : ℕ). IfOk c.tell_again.result (Tells input (tell_again y n))) r.id
-    (c.tell_again.ensures.tells n input r.core) in
+pub returns-in-AckDuplicate-clause-ends : goal.returns-in-AckDuplicate-clause-ends
+returns-in-AckDuplicate-clause-ends g c = λ x n input read r.
+    let tells = subst (λ (y : ℕ). IfOk c.ack_duplicate.result
+        (OutputRefines input (ack_duplicate y n))) r.id
+    (c.ack_duplicate.ensures.tells n input r.core) in
     ends_as g.D.Disk.is_honest g.D.Disk.state c.args.self.now x n input c.args.decision
-    decision.TellAgain c.tell_again.result c.in-TellAgain.is
-    (ends g.D.Disk.is_honest g.D.Disk.state c.sure_is_left.ensures c.args.self.now x n input
-    (tell_again x n) c.tell_again.result r tells c.tell_again.ensures.memory)
+    decision.AckDuplicate c.ack_duplicate.result c.in-AckDuplicate.is
+    (ends g.D.Disk.is_honest g.D.Disk.state c.durable_is_left.ensures c.args.self.now x n input
+    (ack_duplicate x n) c.ack_duplicate.result r tells c.ack_duplicate.ensures.memory)
 
-pub returns-in-Show-clause-ends : goal.returns-in-Show-clause-ends
-returns-in-Show-clause-ends g c = λ x n input read r.
-    let it = c.in-Show in
+pub returns-in-Read-clause-ends : goal.returns-in-Read-clause-ends
+returns-in-Read-clause-ends g c = λ x n input read r.
+    let it = c.in-Read in
     let of_read = subst (λ d. IsReadOf n input d) it.is read in
     ends_as g.D.Disk.is_honest g.D.Disk.state c.read.new.self x n input c.args.decision
-    (decision.Show it.request it.key it.at) c.read.result it.is
+    (decision.Read it.request it.key it.at) c.read.result it.is
     (c.read.ensures.ends x n input of_read r)
 
 pub returns-in-Resend-clause-ends : goal.returns-in-Resend-clause-ends
@@ -53,13 +54,14 @@ returns-in-Refuse-clause-ends g c = λ x n input read r.
     let known = decision.Refuse c.in-Refuse.request c.in-Refuse.refusal in
     ends_as g.D.Disk.is_honest g.D.Disk.state c.args.self.now x n input c.args.decision known
     c.refuse.result c.in-Refuse.is (ends g.D.Disk.is_honest g.D.Disk.state
-    c.sure_is_left.ensures c.args.self.now x n input (rule_of x n known) c.refuse.result r
+    c.durable_is_left.ensures c.args.self.now x n input (rule_of x n known) c.refuse.result r
     (c.refuse.ensures.tells n input) c.refuse.ensures.memory)
 
 pub returns-in-Drop-clause-ends : goal.returns-in-Drop-clause-ends
 returns-in-Drop-clause-ends g c = λ x n input read r.
     let known = decision.Drop c.in-Drop.reason in
     ends_as g.D.Disk.is_honest g.D.Disk.state c.args.self.now x n input c.args.decision known
-    (Ok c.drop_for.result) c.in-Drop.is (ends g.D.Disk.is_honest g.D.Disk.state
-    c.sure_is_left.ensures c.args.self.now x n input (rule_of x n known) (Ok c.drop_for.result) r
-    (c.drop_for.ensures n input) tt)
+    (Ok c.output_of_drop.result) c.in-Drop.is (ends g.D.Disk.is_honest g.D.Disk.state
+    c.durable_is_left.ensures c.args.self.now x n input (rule_of x n known)
+        (Ok c.output_of_drop.result) r
+    (c.output_of_drop.ensures n input) tt)

@@ -1,7 +1,7 @@
 use Rattle.std.proofs.Common.{sym, subst}
 use Rattle.std.proofs.lemmas.Result.{err_from_is_err_and}
-use Rattle.chain_model.specs.Rules.{show}
-use Rattle.node.specs.Stops.{IsOfMachine}
+use Rattle.chain_model.specs.Rules.{reply_read}
+use Rattle.node.specs.Stops.{IsEnvironmental}
 use Rattle.node.proofs.Outputs.{readable, tells_read}
 use Rattle.node.proofs.Running.{with_engine, still_runs, stops_before, ends, ends_stopped}
 use Rattle.node.proofs.node.Node.read.Goals as goal
@@ -9,7 +9,7 @@ use Rattle.node.proofs.node.Node.read.Goals as goal
 -- the value could not be had, and the engine holds what it held
 pub returns-in_err-value-clause-ends : goal.returns-in_err-value-clause-ends
 returns-in_err-value-clause-ends g c = λ x n input read r.
-    let a = show n c.args.request c.args.at in
+    let a = reply_read n c.args.request c.args.at in
     let p = err_from_is_err_and c.from_residual.result c.from_residual.ensures.1 in
     let old = c.args.self.now in
     let node = with_engine old c.get.new.disk old.engine in
@@ -20,8 +20,8 @@ returns-in_err-value-clause-ends g c = λ x n input read r.
     let found = c.in_err-value.ensures.found x n.epoch n.ids n.list n.floor n.kept r.honest r.store
     (readable n input c.args.request c.args.at c.args.key read) in
     ends_stopped g.D.Disk.is_honest g.D.Disk.state node x n a _ c.from_residual.result p.0 p.1
-    (subst IsOfMachine (sym p.2) found) runs.honest
-    (stops_before g.D.Disk.is_honest g.D.Disk.state c.sure_is_left.ensures node x n a runs)
+    (subst IsEnvironmental (sym p.2) found) runs.honest
+    (stops_before g.D.Disk.is_honest g.D.Disk.state c.durable_is_left.ensures node x n a runs)
 
 -- what the key has is shown
 pub returns-clause-ends : goal.returns-clause-ends
@@ -36,5 +36,5 @@ returns-clause-ends g c = λ x n input read r.
     (readable n input c.args.request c.args.at c.args.key read) in
     let tells = tells_read n input c.args.request c.args.at c.args.key c.show.result read
     (λ number. c.show.ensures.tells n c.args.key number found) in
-    ends g.D.Disk.is_honest g.D.Disk.state c.sure_is_left.ensures node x n input
-    (show n c.args.request c.args.at) c.show.result runs tells c.show.ensures.memory
+    ends g.D.Disk.is_honest g.D.Disk.state c.durable_is_left.ensures node x n input
+    (reply_read n c.args.request c.args.at) c.show.result runs tells c.show.ensures.memory

@@ -2,8 +2,8 @@ use Rattle.std.proofs.Common.{ℕ, sym, subst}
 use Rattle.std.specs.Prelude.{IfOk}
 use Rattle.std.proofs.lemmas.Result.{err_from_is_err_and}
 use Rattle.chain_model.specs.Rules.{resend}
-use Rattle.node.specs.Outputs.{Tells}
-use Rattle.node.specs.Stops.{IsOfMachine}
+use Rattle.node.specs.Outputs.{OutputRefines}
+use Rattle.node.specs.Stops.{IsEnvironmental}
 use Rattle.node.proofs.Running.{with_engine, still_runs, stops_before, ends, ends_stopped}
 use Rattle.node.proofs.node.Node.resend.Goals as goal
 
@@ -19,8 +19,8 @@ returns-in_err-sent-clause-ends g c = λ x n input r.
     let runs = still_runs g.D.Disk.is_honest g.D.Disk.state old c.resent.new.disk old.engine x n r
     (c.resent.ensures.kept.honest.1 r.honest) holds in
     ends_stopped g.D.Disk.is_honest g.D.Disk.state node x n a _ c.from_residual.result p.0 p.1
-    (subst IsOfMachine (sym p.2) (c.in_err-sent.ensures.sent x n r.core r.honest r.store))
-    runs.honest (stops_before g.D.Disk.is_honest g.D.Disk.state c.sure_is_left.ensures node x n a
+    (subst IsEnvironmental (sym p.2) (c.in_err-sent.ensures.sent x n r.core r.honest r.store))
+    runs.honest (stops_before g.D.Disk.is_honest g.D.Disk.state c.durable_is_left.ensures node x n a
     runs)
 
 -- the batches and what the node has are sent
@@ -33,7 +33,7 @@ returns-clause-ends g c = λ x n input r.
     let runs = still_runs g.D.Disk.is_honest g.D.Disk.state old c.resent.new.disk old.engine x n r
     (c.resent.ensures.kept.honest.1 r.honest) holds in
     let sent = c.in_ok-sent.ensures.sent x n r.core r.honest r.store in
-    let tells = subst (λ (y : ℕ). IfOk c.output_of.result (Tells input (resend y n))) r.id
+    let tells = subst (λ (y : ℕ). IfOk c.output_of.result (OutputRefines input (resend y n))) r.id
     (c.output_of.ensures.says n _ r.core sent) in
-    ends g.D.Disk.is_honest g.D.Disk.state c.sure_is_left.ensures node x n input (resend x n)
+    ends g.D.Disk.is_honest g.D.Disk.state c.durable_is_left.ensures node x n input (resend x n)
     c.output_of.result runs tells c.output_of.ensures.memory

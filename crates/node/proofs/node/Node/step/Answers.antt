@@ -1,5 +1,5 @@
 use Rattle.std.proofs.Common.{ℕ, sym, subst}
-use Rattle.chain_model.specs.Node.{Answer}
+use Rattle.chain_model.specs.Machine.{Answer}
 use Rattle.kv_types.specs.Content.{BatchContent}
 use Rattle.chain_core.specs.Decisions.{Decides}
 use Rattle.node.specs.Outputs.{StepEnds}

@@ -2,7 +2,7 @@ use Rattle.std.proofs.Common.{rules, sym, subst, ℕ, inr, ◌∙◌}
 use Rattle.std.proofs.lemmas.Result.{err_from_is_err_and}
 use Rattle.chain_core.specs.Decisions as core
 use Rattle.chain_core.specs.Decisions.{done_of}
-use Rattle.node.specs.Stops.{IsOfMachine}
+use Rattle.node.specs.Stops.{IsEnvironmental}
 use Rattle.node.proofs.Running.{with_engine, with_core, counts_appended, keeps_kept}
 use Rattle.node.proofs.Running.{holds_appended}
 use Rattle.node.proofs.Running.{stops_between, goes_on, ends_stopped}
@@ -21,7 +21,7 @@ returns-in_err-append-clause-ends g c = λ x n r.
     c.requires.done
     (c.append.ensures.crash x n.epoch n.ids n.list n.floor n.kept r.honest r.store) in
     ends_stopped g.D.Disk.is_honest g.D.Disk.state node x n a _ c.from_residual.result p.0 p.1
-    (subst IsOfMachine (sym p.2) appended) (c.append.ensures.kept.honest.1 r.honest) stops
+    (subst IsEnvironmental (sym p.2) appended) (c.append.ensures.kept.honest.1 r.honest) stops
 
 -- the batch is durable, and memory ran out
 pub returns-in_err-after-clause-ends : goal.returns-in_err-after-clause-ends
@@ -47,7 +47,7 @@ returns-clause-ends g c = λ x n r.
     let leaves = c.steps_leave.ensures x n batch d in
     let node = with_core (with_engine c.args.self.now c.append.new.disk c.append.new.self)
     c.after.new.self in
-    let follows = subst (λ (y : ℕ). core.Follows node.core (done_of y n batch d)
+    let follows = subst (λ (y : ℕ). core.CoreFollows node.core (done_of y n batch d)
     c.in_ok-after.field-0.items) r.id (c.in_ok-after.ensures.after n batch r.core) in
     let holds = holds_appended (g.D.Disk.state node.disk) node.engine x n batch d c.requires.done
     (c.in_ok-append.ensures.appended x n.epoch n.ids n.list n.floor n.kept r.honest r.store) in

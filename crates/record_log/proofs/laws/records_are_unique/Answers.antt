@@ -1,5 +1,5 @@
 use Rattle.record_log.proofs.Fronts.{one_reading}
-use Rattle.record_log.proofs.laws.one_list.Goals as goal
+use Rattle.record_log.proofs.laws.records_are_unique.Goals as goal
 
 -- bytes represent at most one list
 pub returns : goal.returns

@@ -6,7 +6,7 @@ use kv_types::Number;
 
 /// The persistent state of a node, besides its batches.
 #[derive(Debug, Drop)]
-pub struct AtRest {
+pub struct PersistentState {
     pub id: NodeId,
     pub epoch: Epoch,
     pub config: Config,

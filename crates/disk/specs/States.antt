@@ -2,27 +2,28 @@
 use Rattle.std.specs.Prelude.{◌≡◌, ◌≢◌, ℕ, ◌+◌, ◌<◌, ◌≤◌, ◌⊎◌}
 use Rattle.std.specs.Prelude.{List, [], ◌∷◌, ◌++◌, length, take, drop, slice_get}
 use Rattle.std.specs.Prelude.{Option, Some, None, IsSomeAnd}
-use Rattle.disk.specs.declared.touch.Touch.{Touch}
-use Rattle.disk.specs.declared.touch.Touch.TheVariants.{Wrote, Cut}
+use Rattle.disk.specs.declared.pending_write.PendingWrite.{PendingWrite}
+use Rattle.disk.specs.declared.pending_write.PendingWrite.TheVariants.{Wrote, Cut}
 
 -- ---- places
 
 -- A write or cut makes this place of a file unsynced, where the last sync ended the file here. A
 -- write does so for the places that it wrote and those past the synced end. A cut does so for the
 -- places past the cut.
-abbrev pub Loosens : Touch → ℕ → ℕ → Type 0
-Loosens (Wrote at len) end place = ((at ≤ place) × (place < at + len)) ⊎ (end ≤ place)
-Loosens (Cut len) end place = len ≤ place
+abbrev pub MakesUnsynced : PendingWrite → ℕ → ℕ → Type 0
+MakesUnsynced (Wrote at len) end place = ((at ≤ place) × (place < at + len)) ⊎ (end ≤ place)
+MakesUnsynced (Cut len) end place = len ≤ place
 
 -- a write or cut since the last sync has made the place unsynced
-abbrev pub IsLoose : ℕ → List Touch → ℕ → Type 0
-IsLoose end [] place = ⊥
-IsLoose end (touch ∷ touches) place = Loosens touch end place ⊎ IsLoose end touches place
+abbrev pub IsUnsynced : ℕ → List PendingWrite → ℕ → Type 0
+IsUnsynced end [] place = ⊥
+IsUnsynced end (touch ∷ touches) place = MakesUnsynced touch end place ⊎ IsUnsynced end touches
+    place
 
 -- two contents with the same bytes, or the same end, in all synced places
-abbrev pub AgreesOff : ℕ → List Touch → List ℕ → List ℕ → Type 0
-AgreesOff end touches a b =
-    (place : ℕ) → (IsLoose end touches place → ⊥) → slice_get a place ≡ slice_get b place
+abbrev pub AgreesOutside : ℕ → List PendingWrite → List ℕ → List ℕ → Type 0
+AgreesOutside end touches a b =
+    (place : ℕ) → (IsUnsynced end touches place → ⊥) → slice_get a place ≡ slice_get b place
 
 -- ---- files
 
@@ -33,7 +34,7 @@ pub data Slot : Type 0 where
   -- a file that was never synced, and the content of a removed one that may reappear
   Fresh : (bytes : List ℕ) (back : Option (List ℕ)) → Slot
   -- a file: the bytes that a read returns, the synced bytes, and the pending writes
-  Kept : (bytes kept : List ℕ) (touches : List Touch) → Slot
+  Kept : (bytes kept : List ℕ) (touches : List PendingWrite) → Slot
 
 -- the content that a read returns
 abbrev pub seen : Slot → Option (List ℕ)
@@ -42,17 +43,17 @@ seen (Fresh bytes back) = Some bytes
 seen (Kept bytes kept touches) = Some bytes
 
 -- a possible content after a crash
-abbrev pub Leaves : Slot → Option (List ℕ) → Type 0
-Leaves (Absent back) left = (left ≡ None) ⊎ (left ≡ back)
-Leaves (Fresh bytes back) left = Unit {0}
-Leaves (Kept bytes kept touches) left =
-    IsSomeAnd left (λ c. AgreesOff (length kept) touches c bytes)
+abbrev pub IsFileOutcome : Slot → Option (List ℕ) → Type 0
+IsFileOutcome (Absent back) left = (left ≡ None) ⊎ (left ≡ back)
+IsFileOutcome (Fresh bytes back) left = Unit {0}
+IsFileOutcome (Kept bytes kept touches) left =
+    IsSomeAnd left (λ c. AgreesOutside (length kept) touches c bytes)
 
 -- the slot is durable: a crash leaves exactly the content that a read returns
-abbrev pub IsSure : Slot → Type 0
-IsSure (Absent back) = back ≡ None
-IsSure (Fresh bytes back) = ⊥
-IsSure (Kept bytes kept touches) = (kept ≡ bytes) × (touches ≡ [])
+abbrev pub IsDurable : Slot → Type 0
+IsDurable (Absent back) = back ≡ None
+IsDurable (Fresh bytes back) = ⊥
+IsDurable (Kept bytes kept touches) = (kept ≡ bytes) × (touches ≡ [])
 
 -- ---- disks
 
@@ -69,13 +70,13 @@ abbrev pub contents : State → Contents
 contents disk file = seen (disk file)
 
 -- a possible content of the disk after a crash
-abbrev pub MayLeave : State → Contents → Type 0
-MayLeave disk left = (file : ℕ) → Leaves (disk file) (left file)
+abbrev pub IsCrashOutcome : State → Contents → Type 0
+IsCrashOutcome disk left = (file : ℕ) → IsFileOutcome (disk file) (left file)
 
 -- a crash leaves durable content exactly
-abbrev pub SureIsLeft : Type 0
-SureIsLeft = (disk : State) (left : Contents) (file : ℕ) → IsSure (disk file) →
-    MayLeave disk left → left file ≡ seen (disk file)
+abbrev pub DurableIsLeft : Type 0
+DurableIsLeft = (disk : State) (left : Contents) (file : ℕ) → IsDurable (disk file) →
+    IsCrashOutcome disk left → left file ≡ seen (disk file)
 
 -- two disks that are the same, file by file
 abbrev pub IsSame : State → State → Type 0
@@ -88,7 +89,8 @@ IsSameBut file old new = (other : ℕ) → other ≢ file → new other ≡ old 
 -- A crash leaves of this file only outcomes that were possible before, and the other files are the
 -- same.
 pub record AddsNoOutcome (file : ℕ) (old new : State) : Type 0 where
-  pub crash : (left : Option (List ℕ)) → Leaves (new file) left → Leaves (old file) left
+  pub crash : (left : Option (List ℕ)) → IsFileOutcome (new file) left → IsFileOutcome (old file)
+      left
   pub others : IsSameBut file old new
 
 -- ---- the effects of the calls on a slot
@@ -123,13 +125,13 @@ removed (Fresh bytes back) = Absent back
 removed (Kept bytes kept touches) = Absent (Some kept)
 
 -- one slot has this new value, and the others are unchanged
-pub record Changes (old new : State) (file : ℕ) (slot : Slot) : Type 0 where
+pub record ChangesSlot (old new : State) (file : ℕ) (slot : Slot) : Type 0 where
   pub here : new file ≡ slot
   pub others : (other : ℕ) → other ≢ file → new other ≡ old other
 
 -- The state after a failed call for this slot. Each crash outcome is one of the state before the
 -- call or of the state after its success.
-pub record MayHave (old new : State) (file : ℕ) (slot : Slot) : Type 0 where
-  pub leaves : (left : Option (List ℕ)) → Leaves (new file) left
-      → Leaves (old file) left ⊎ Leaves slot left
+pub record MayHaveChanged (old new : State) (file : ℕ) (slot : Slot) : Type 0 where
+  pub leaves : (left : Option (List ℕ)) → IsFileOutcome (new file) left
+      → IsFileOutcome (old file) left ⊎ IsFileOutcome slot left
   pub others : (other : ℕ) → other ≢ file → new other ≡ old other

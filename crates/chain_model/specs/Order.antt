@@ -1,69 +1,70 @@
 -- The order of lists along the chain, and the truth of frames. Definitions without a source are
 -- this store's profile.
 use Rattle.std.specs.Prelude.{◌≡◌, ◌⊎◌, ℕ, ◌<◌, ◌≤◌, List, ◌++◌, length, take, Some, true, All}
-use Rattle.chain_model.specs.Lists.{Begins, Part, place}
-use Rattle.chain_model.specs.Configuration.{Configurations, has, is_tail, leaves_out, Before}
+use Rattle.chain_model.specs.Lists.{IsPrefix, Part, place}
+use Rattle.chain_model.specs.Configuration.{Configurations, has, is_tail, leaves_out, IsBeforeIn}
 use Rattle.chain_model.specs.Configuration.{at_epoch}
-use Rattle.chain_model.specs.Frames.{Frame, Forward, Ack, addressee, epoch_of}
-use Rattle.chain_model.specs.World.{Event, reached, node_of}
-use Rattle.chain_model.specs.Headline.{handed_in, batches}
+use Rattle.chain_model.specs.Messages.{Message, Forward, Ack, addressee, epoch_of}
+use Rattle.chain_model.specs.System.{SystemEvent, reached, node_of}
+use Rattle.chain_model.specs.Headline.{submitted, batches}
 
 -- l is committed by epoch e: while the tail of e was at e, its list began with l (van Renesse and
 -- Schneider 2004, section 3; epochs are this store's profile)
-pub record WasCommitted {A : Type 0} (cs : Configurations) (events : List (Event A)) (e : ℕ)
+pub record WasCommitted {A : Type 0} (cs : Configurations) (events : List (SystemEvent A)) (e : ℕ)
     (l : List A) : Type 0 where
-  pub before : List (Event A)
-  pub later : List (Event A)
+  pub before : List (SystemEvent A)
+  pub later : List (SystemEvent A)
   pub whole : before ++ later ≡ events
   pub tail : ℕ
   pub is : is_tail (at_epoch cs e) tail ≡ true
   pub epoch : (node_of cs before tail).epoch ≡ e
-  pub begins : Begins l (node_of cs before tail).list
+  pub begins : IsPrefix l (node_of cs before tail).list
 
 -- epoch e or an earlier one committed l
-abbrev pub CommittedBy : {A : Type 0} → Configurations → List (Event A) → ℕ → List A → Type 0
+abbrev pub CommittedBy : {A : Type 0} → Configurations → List (SystemEvent A) → ℕ → List A → Type 0
 CommittedBy cs events e l = (earlier : ℕ) × ((earlier ≤ e) × WasCommitted cs events earlier l)
 
 -- z is node `from`, or precedes it in configuration 0 and is kept by epoch e
 abbrev pub IsUpTo : Configurations → (e from z : ℕ) → Type 0
-IsUpTo cs e from z = (z ≡ from) ⊎ (Before (at_epoch cs 0) z from × (has (at_epoch cs e) z ≡ true))
+IsUpTo cs e from z = (z ≡ from) ⊎
+    (IsBeforeIn (at_epoch cs 0) z from × (has (at_epoch cs e) z ≡ true))
 
 -- The Forward's batch is at its number in the list of its sender, and of every node before the
 -- sender that the frame's epoch keeps (van Renesse and Schneider 2004, section 3).
-abbrev pub TellsTrue : {A : Type 0} → Configurations → (ℕ → List A) → Frame A → Type 0
-TellsTrue cs lists (Forward to e from number batch) =
+abbrev pub ForwardIsTrue : {A : Type 0} → Configurations → (ℕ → List A) → Message A → Type 0
+ForwardIsTrue cs lists (Forward to e from number batch) =
     (z : ℕ) → IsUpTo cs e from z → place (lists z) number ≡ Some batch
-TellsTrue cs lists (Ack to e from committed have) = Unit {0}
+ForwardIsTrue cs lists (Ack to e from committed have) = Unit {0}
 
 -- the Ack has the length of a list that its epoch or an earlier one committed (van Renesse and
 -- Schneider 2004, section 3)
-abbrev pub TellsCommitted : {A : Type 0} → Configurations → List (Event A) → Frame A → Type 0
-TellsCommitted cs events (Ack to e from committed have) =
+abbrev pub AckIsTrue : {A : Type 0} → Configurations → List (SystemEvent A) → Message A → Type 0
+AckIsTrue cs events (Ack to e from committed have) =
     (l : List _) × ((length l ≡ committed) × CommittedBy cs events e l)
-TellsCommitted cs events (Forward to e from number batch) = Unit {0}
+AckIsTrue cs events (Forward to e from number batch) = Unit {0}
 
 -- l is a sublist of the submitted batches: their places rise along it
-abbrev pub IsTaken : {A : Type 0} → List (Event A) → List A → Type 0
-IsTaken events l =
-    (placed : List (ℕ × _)) × (Part placed (handed_in 1 events) × (batches placed ≡ l))
+abbrev pub IsInSubmittedOrder : {A : Type 0} → List (SystemEvent A) → List A → Type 0
+IsInSubmittedOrder events l =
+    (placed : List (ℕ × _)) × (Part placed (submitted 1 events) × (batches placed ≡ l))
 
 -- The invariant of every run (van Renesse and Schneider 2004, section 3, over removals that not
 -- every node knows of, which is this store's profile).
-pub record InOrder {A : Type 0} (cs : Configurations) (events : List (Event A)) : Type 0 where
+pub record InOrder {A : Type 0} (cs : Configurations) (events : List (SystemEvent A)) : Type 0 where
   -- if y's epoch keeps x, which preceded y, the list of x begins with that of y
-  pub lists : (x y : ℕ) → Before (at_epoch cs 0) x y
+  pub lists : (x y : ℕ) → IsBeforeIn (at_epoch cs 0) x y
       → has (at_epoch cs (node_of cs events y).epoch) x ≡ true
-      → Begins (node_of cs events y).list (node_of cs events x).list
+      → IsPrefix (node_of cs events y).list (node_of cs events x).list
   -- each frame is addressed to a node of its epoch
   pub addressed : All (λ f. has (at_epoch cs (epoch_of f)) (addressee f) ≡ true)
       (reached cs events).frames
   -- each frame is addressed to a node of configuration 0, which is created
   pub created : All (λ f. has (at_epoch cs 0) (addressee f) ≡ true) (reached cs events).frames
-  pub forwards : All (TellsTrue cs (λ z. (node_of cs events z).list)) (reached cs events).frames
-  pub acks : All (TellsCommitted cs events) (reached cs events).frames
+  pub forwards : All (ForwardIsTrue cs (λ z. (node_of cs events z).list)) (reached cs events).frames
+  pub acks : All (AckIsTrue cs events) (reached cs events).frames
   -- a list that an epoch committed begins the list of every node that the epoch keeps
   pub stays : (e : ℕ) (l : List A) → WasCommitted cs events e l
-      → (y : ℕ) → has (at_epoch cs e) y ≡ true → Begins l (node_of cs events y).list
+      → (y : ℕ) → has (at_epoch cs e) y ≡ true → IsPrefix l (node_of cs events y).list
   -- The batches that a node knows as committed were committed by an epoch that keeps the node. That
   -- epoch is its own or an earlier one.
   pub known : (x : ℕ) → (e : ℕ) × ((e ≤ (node_of cs events x).epoch)
@@ -71,10 +72,10 @@ pub record InOrder {A : Type 0} (cs : Configurations) (events : List (Event A)) 
       × WasCommitted cs events e (take (node_of cs events x).committed (node_of cs events x).list))
   -- every node that a node's epoch keeps has the batches that the node knows as committed
   pub committed : (x y : ℕ) → has (at_epoch cs (node_of cs events x).epoch) y ≡ true
-      → Begins (take (node_of cs events x).committed (node_of cs events x).list)
+      → IsPrefix (take (node_of cs events x).committed (node_of cs events x).list)
       (node_of cs events y).list
   -- each list is a sublist of the submitted batches
-  pub taken : (x : ℕ) → IsTaken events (node_of cs events x).list
+  pub taken : (x : ℕ) → IsInSubmittedOrder events (node_of cs events x).list
   -- each node's epoch is one of the list, and the node uses the configuration of that epoch
   pub epochs : (x : ℕ) → (node_of cs events x).epoch < length cs
   pub configured : (x : ℕ) → (node_of cs events x).ids ≡ at_epoch cs (node_of cs events x).epoch

@@ -6,16 +6,16 @@ use Rattle.std.specs.Prelude.{ℕ}
 -- that is passed on). An Ack reports to the predecessor how many batches the sender knows to be
 -- committed, and how many it has (there, the acknowledgement). The epoch and the numbers are this
 -- store's profile.
-pub data Frame (A : Type 0) : Type 0 where
-  Forward : (to epoch from number : ℕ) → (batch : A) → Frame A
-  Ack : (to epoch from committed have : ℕ) → Frame A
+pub data Message (A : Type 0) : Type 0 where
+  Forward : (to epoch from number : ℕ) → (batch : A) → Message A
+  Ack : (to epoch from committed have : ℕ) → Message A
 
 -- the node that the frame is addressed to
-abbrev pub addressee : {A : Type 0} → Frame A → ℕ
+abbrev pub addressee : {A : Type 0} → Message A → ℕ
 addressee (Forward to epoch from number batch) = to
 addressee (Ack to epoch from committed have) = to
 
 -- the sender's epoch when it sent the frame
-abbrev pub epoch_of : {A : Type 0} → Frame A → ℕ
+abbrev pub epoch_of : {A : Type 0} → Message A → ℕ
 epoch_of (Forward to epoch from number batch) = epoch
 epoch_of (Ack to epoch from committed have) = epoch

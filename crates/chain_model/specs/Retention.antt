@@ -2,8 +2,8 @@
 -- this store's profile.
 use Rattle.std.specs.Prelude.{◌≡◌, ℕ, ◌<◌, ◌≤◌, List, [], ◌∷◌, length, true, false}
 use Rattle.chain_model.specs.Configuration.{Configurations, has, is_tail, at_epoch}
-use Rattle.chain_model.specs.Node.{Node, least}
-use Rattle.chain_model.specs.World.{Event, node_of}
+use Rattle.chain_model.specs.Machine.{MachineState, least}
+use Rattle.chain_model.specs.System.{SystemEvent, node_of}
 
 -- the numbers of these pending requests are above k, and rise
 abbrev pub RisesFrom : ℕ → List (ℕ × ℕ) → Type 0
@@ -11,7 +11,7 @@ RisesFrom k [] = Unit {0}
 RisesFrom k (p ∷ ps) = (k < p.0) × RisesFrom p.0 ps
 
 -- the order of a node's numbers
-pub record IsOrdered {A : Type 0} (n : Node A) : Type 0 where
+pub record IsOrdered {A : Type 0} (n : MachineState A) : Type 0 where
   pub kept : n.kept ≤ n.floor
   pub floor : n.floor ≤ n.committed
   pub committed : n.committed ≤ length n.list
@@ -23,7 +23,8 @@ pub record IsOrdered {A : Type 0} (n : Node A) : Type 0 where
 -- Every node that a node's epoch keeps has the batches that this node has trimmed. The node knows
 -- so of its successor (van Renesse and Schneider 2004, section 3; floor and kept number are this
 -- store's profile).
-pub record KeepsEnough {A : Type 0} (cs : Configurations) (events : List (Event A)) : Type 0 where
+pub record KeepsEnough {A : Type 0} (cs : Configurations) (events : List (SystemEvent A)) : Type 0
+    where
   pub others : (x y : ℕ) → has (at_epoch cs (node_of cs events x).epoch) y ≡ true
       → (node_of cs events x).kept ≤ length (node_of cs events y).list
   pub resend : (x : ℕ) → (node_of cs events x).running ≡ true

@@ -4,16 +4,16 @@ ghost use Rattle.std.specs.Prelude.{IfOk, IfErr, OnOk, option_to_list, if◌then
 ghost use Rattle.kv_types.specs.Content.{BatchContent};
 ghost use Rattle.kv_types.specs.Maps.{map_of};
 ghost use Rattle.chain_model.specs.Configuration.{successor};
-ghost use Rattle.chain_model.specs.Frames.{Frame};
+ghost use Rattle.chain_model.specs.Messages.{Message};
 ghost use Rattle.chain_model.specs.Lists.{place};
-ghost use Rattle.chain_model.specs.Node.{dropped_for, refused};
-ghost use Rattle.chain_model.specs.Rules.{ack, forward, show, tell_again};
-ghost use Rattle.chain_core.specs.States.{Machine, Is};
+ghost use Rattle.chain_model.specs.Machine.{dropped_for, refused};
+ghost use Rattle.chain_model.specs.Rules.{ack, forward, reply_read, ack_duplicate};
+ghost use Rattle.chain_core.specs.States.{Machine, CoreRefines};
 ghost use Rattle.chain_core.specs.Decisions.{AreFrames};
-ghost use Rattle.node.specs.Outputs.{IsCopyFor, Says, Tells, told_to};
+ghost use Rattle.node.specs.Outputs.{IsCopyFor, OutputHas, OutputRefines, committed_reply};
 
 use crate::{Output, Reply, Stop};
-use chain_core::{CoreState, DropReason, Input, Sent, Waiting};
+use chain_core::{CoreState, DropReason, Input, Sent, PendingSubmit};
 use kv_types::{Batch, Number, Value};
 use link_messages::Refusal;
 use std::alloc::{AllocError, Global};
@@ -41,7 +41,7 @@ pub(crate) fn copy_for_successor(
 }
 
 fn ack_where(core: &CoreState, acks: bool) -> Option<Sent>
-    ensures { (n : Machine) → Is core.now n →
+    ensures { (n : Machine) → CoreRefines core.now n →
         AreFrames (option_to_list result) (if acks then ack core.now.id n else []) }
 {
     if acks { core.ack() } else { None }
@@ -49,7 +49,7 @@ fn ack_where(core: &CoreState, acks: bool) -> Option<Sent>
 
 // The frame of the last batch for the successor, if this is a copy of it.
 fn forward_last(core: &CoreState, copy: Option<Batch>) -> Option<Sent>
-    ensures { (n : Machine) (batch : BatchContent) → Is core.now n →
+    ensures { (n : Machine) (batch : BatchContent) → CoreRefines core.now n →
         place n.list core.now.count ≡ Some batch →
         IsCopyFor (successor n.ids core.now.id) batch copy →
         AreFrames (option_to_list result) (forward core.now.id n core.now.count) }
@@ -58,8 +58,8 @@ fn forward_last(core: &CoreState, copy: Option<Batch>) -> Option<Sent>
 }
 
 // The acknowledgements of these requests, whose batches are committed.
-fn replies_to(alloc: Global, due: &[Waiting]) -> Result<Vec<Reply>, AllocError>
-    ensures { IfOk result (λ replies. replies.items ≡ map told_to due.now) }
+fn replies_to(alloc: Global, due: &[PendingSubmit]) -> Result<Vec<Reply>, AllocError>
+    ensures { IfOk result (λ replies. replies.items ≡ map committed_reply due.now) }
 {
     let mut replies = Vec::with_capacity(alloc, due.len())?;
     for it in due {
@@ -72,7 +72,7 @@ fn replies_to(alloc: Global, due: &[Waiting]) -> Result<Vec<Reply>, AllocError>
 }
 
 fn replying(alloc: Global, reply: Reply) -> Result<Output, Stop>
-    ensures said { IfOk result (Says None [] (reply ∷ [])) }
+    ensures said { IfOk result (OutputHas None [] (reply ∷ [])) }
     ensures refused { IfErr result (λ e. e ≡ Stop.Memory) }
 {
     let mut replies = Vec::new(alloc);
@@ -91,12 +91,12 @@ pub(crate) fn output_of(
     core: &CoreState,
     sent: Vec<Sent>,
     acks: bool,
-    due: &[Waiting],
+    due: &[PendingSubmit],
 ) -> Result<Output, Stop>
-    ensures says { (n : Machine) (frames : List (Frame BatchContent)) → Is core.now n →
+    ensures says { (n : Machine) (frames : List (Message BatchContent)) → CoreRefines core.now n →
         AreFrames sent.items frames →
-        IfOk result (Says None (frames ++ (if acks then ack core.now.id n else []))
-        (map told_to due.now)) }
+        IfOk result (OutputHas None (frames ++ (if acks then ack core.now.id n else []))
+        (map committed_reply due.now)) }
     ensures memory { IfErr result (λ e. e ≡ Stop.Memory) }
 {
     let mut frames = sent;
@@ -109,18 +109,18 @@ pub(crate) fn output_of(
 }
 
 /// The output after an append: the batch is forwarded, if this is a copy of it.
-pub(crate) fn output_taken(
+pub(crate) fn output_of_append(
     alloc: Global,
     core: &CoreState,
     copy: Option<Batch>,
     acks: bool,
-    due: &[Waiting],
+    due: &[PendingSubmit],
 ) -> Result<Output, Stop>
-    ensures says { (n : Machine) (batch : BatchContent) → Is core.now n →
+    ensures says { (n : Machine) (batch : BatchContent) → CoreRefines core.now n →
         place n.list core.now.count ≡ Some batch →
         IsCopyFor (successor n.ids core.now.id) batch copy →
-        IfOk result (Says None (forward core.now.id n core.now.count
-        ++ (if acks then ack core.now.id n else [])) (map told_to due.now)) }
+        IfOk result (OutputHas None (forward core.now.id n core.now.count
+        ++ (if acks then ack core.now.id n else [])) (map committed_reply due.now)) }
     ensures memory { IfErr result (λ e. e ≡ Stop.Memory) }
 {
     let mut sent = Vec::new(alloc);
@@ -130,9 +130,9 @@ pub(crate) fn output_taken(
 
 /// The output after a batch with an unexpected number: the node acknowledges again to its
 /// predecessor.
-pub(crate) fn tell_again(alloc: Global, core: &CoreState) -> Result<Output, Stop>
-    ensures tells { (n : Machine) (input : Input) → Is core.now n →
-        IfOk result (Tells input (tell_again core.now.id n)) }
+pub(crate) fn ack_duplicate(alloc: Global, core: &CoreState) -> Result<Output, Stop>
+    ensures tells { (n : Machine) (input : Input) → CoreRefines core.now n →
+        IfOk result (OutputRefines input (ack_duplicate core.now.id n)) }
     ensures memory { IfErr result (λ e. e ≡ Stop.Memory) }
 {
     let mut frames = Vec::new(alloc);
@@ -153,7 +153,7 @@ pub(crate) fn show(
 ) -> Result<Output, Stop>
     ensures tells { (n : Machine) (key : List ℕ) (asked : Option ℕ) →
         value ≡ map_of (take number n.list) key →
-        IfOk result (Tells (Input.Get request key asked) (show n request number)) }
+        IfOk result (OutputRefines (Input.Get request key asked) (reply_read n request number)) }
     ensures memory { IfErr result (λ e. e ≡ Stop.Memory) }
 {
     replying(
@@ -168,15 +168,15 @@ pub(crate) fn show(
 
 pub(crate) fn refuse(alloc: Global, request: Number, refusal: Refusal) -> Result<Output, Stop>
     ensures tells { (n : Machine) (input : Input) →
-        IfOk result (Tells input (refused n request refusal)) }
+        IfOk result (OutputRefines input (refused n request refusal)) }
     ensures memory { IfErr result (λ e. e ≡ Stop.Memory) }
 {
     replying(alloc, Reply::Refused { request, refusal })
 }
 
-pub(crate) fn drop_for(alloc: Global, reason: DropReason) -> Output
+pub(crate) fn output_of_drop(alloc: Global, reason: DropReason) -> Output
     ensures { (n : Machine) (input : Input) →
-        Tells input (dropped_for n reason) result }
+        OutputRefines input (dropped_for n reason) result }
 {
     Output {
         dropped: Some(reason),

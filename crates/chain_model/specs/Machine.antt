@@ -5,12 +5,12 @@ use Rattle.std.specs.Prelude.{if◌then◌else◌, ◌==◌, nat_le, min}
 use Rattle.chain_model.specs.Configuration.{is_tail}
 use Rattle.chain_model.specs.declared.refusal.Refusal.{Refusal}
 use Rattle.chain_model.specs.declared.drop_reason.DropReason.{DropReason}
-use Rattle.chain_model.specs.Frames.{Frame}
-use Rattle.chain_model.specs.Requests.{Reply, Committed, Refused}
+use Rattle.chain_model.specs.Messages.{Message}
+use Rattle.chain_model.specs.Requests.{Response, Committed, Refused}
 
 -- A node: its history, the updates sent on and not known to be at every node, and its place in the
 -- chain (van Renesse and Schneider 2004, section 3; the numbers are this store's profile).
-pub record Node (A : Type 0) : Type 0 where
+pub record MachineState (A : Type 0) : Type 0 where
   -- every batch that it has accepted or appended
   pub list : List A
   -- the newest epoch that was reported to it, and the configuration of that epoch
@@ -33,29 +33,29 @@ pub record Node (A : Type 0) : Type 0 where
 -- The answer of a step: the node after it, its frames and replies, and the reason of a drop, if the
 -- input was dropped.
 pub record Answer (A : Type 0) : Type 0 where
-  pub node : Node A
-  pub frames : List (Frame A)
-  pub replies : List (Reply A)
+  pub node : MachineState A
+  pub frames : List (Message A)
+  pub replies : List (Response A)
   pub dropped : Option DropReason
 
 -- nothing is sent or replied
-abbrev pub silent : {A : Type 0} → Node A → Answer A
+abbrev pub silent : {A : Type 0} → MachineState A → Answer A
 silent n = record { node = n; frames = []; replies = []; dropped = None }
 
 -- the input is dropped
-abbrev pub dropped_for : {A : Type 0} → Node A → DropReason → Answer A
+abbrev pub dropped_for : {A : Type 0} → MachineState A → DropReason → Answer A
 dropped_for n reason = record { node = n; frames = []; replies = []; dropped = Some reason }
 
 -- a request is refused
-abbrev pub refused : {A : Type 0} → Node A → ℕ → Refusal → Answer A
+abbrev pub refused : {A : Type 0} → MachineState A → ℕ → Refusal → Answer A
 refused n i why = record { node = n; frames = []; replies = Refused i why ∷ []; dropped = None }
 
 -- a request is answered with this reply
-abbrev pub replied : {A : Type 0} → Node A → Reply A → Answer A
+abbrev pub replied : {A : Type 0} → MachineState A → Response A → Answer A
 replied n reply = record { node = n; frames = []; replies = reply ∷ []; dropped = None }
 
 -- the replies to pending requests of the numbers up to k, in order
-abbrev pub due : {A : Type 0} → ℕ → List (ℕ × ℕ) → List (Reply A)
+abbrev pub due : {A : Type 0} → ℕ → List (ℕ × ℕ) → List (Response A)
 due k [] = []
 due k (p ∷ ps) = if nat_le p.0 k then Committed p.1 p.0 ∷ due k ps else due k ps
 
@@ -80,7 +80,7 @@ least m [] = m
 least m (t ∷ ts) = least (min m t) ts
 
 -- a node at its creation, with configuration 0
-abbrev pub created : {A : Type 0} → List ℕ → Node A
+abbrev pub created : {A : Type 0} → List ℕ → MachineState A
 created ids = record {
   list = [];
   epoch = 0;
@@ -96,16 +96,16 @@ created ids = record {
 
 -- A node that does not run. Its list, epoch, configuration, floor and kept number are persistent; a
 -- start overwrites the rest.
-abbrev pub stopped : {A : Type 0} → Node A → Node A
+abbrev pub stopped : {A : Type 0} → MachineState A → MachineState A
 stopped n = record n { running = false }
 
 -- The number of batches that a node knows as committed when it starts: for a tail its list's
 -- length, for others the floor.
-abbrev pub committed_at_start : {A : Type 0} → ℕ → Node A → ℕ
+abbrev pub committed_at_start : {A : Type 0} → ℕ → MachineState A → ℕ
 committed_at_start x n = if is_tail n.ids x then length n.list else n.floor
 
 -- node x after a start
-abbrev pub started : {A : Type 0} → ℕ → Node A → Node A
+abbrev pub started : {A : Type 0} → ℕ → MachineState A → MachineState A
 started x n = record n {
   committed = committed_at_start x n;
   successor_has = committed_at_start x n;

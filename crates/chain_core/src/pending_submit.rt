@@ -3,7 +3,7 @@ use kv_types::Number;
 
 /// A pending request, whose batch has this number.
 #[derive(Clone, Copy, Debug, PartialEq, Eq)]
-pub struct Waiting {
+pub struct PendingSubmit {
     pub number: Number,
     pub request: Number,
 }

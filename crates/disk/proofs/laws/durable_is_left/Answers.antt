@@ -1,5 +1,5 @@
 use Rattle.disk.proofs.Steps.{sure_left}
-use Rattle.disk.proofs.laws.sure_is_left.Goals as goal
+use Rattle.disk.proofs.laws.durable_is_left.Goals as goal
 
 -- by the slot
 pub returns : goal.returns

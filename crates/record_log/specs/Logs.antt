@@ -3,14 +3,14 @@ use Rattle.std.specs.Prelude.{◌≡◌, ◌⊎◌, ℕ, ◌+◌, ◌<◌, ◌�
 use Rattle.std.specs.Prelude.{drop, Result, Ok, Err, IfErr, Option, Some, None, IsNone, IfSome}
 use Rattle.std.specs.Prelude.{IsSomeAnd, IsTrue}
 use Rattle.disk.specs.declared.error.DiskError.TheVariants as disk
-use Rattle.disk.specs.State.{State, seen}
+use Rattle.disk.specs.States.{State, seen}
 use Rattle.disk.specs.Calls.{EndsOutOfRange}
 use Rattle.record_log.specs.declared.error.LogError.{LogError}
 use Rattle.record_log.specs.declared.error.LogError.TheVariants as log
 use Rattle.record_log.specs.declared.log.Log.{Log}
 use Rattle.record_log.specs.declared.log.TheConstants.{MAX_RECORD}
-use Rattle.record_log.specs.Grammar.{StandsFor, ends_from, end_of}
-use Rattle.record_log.specs.Push.{IsSureOf}
+use Rattle.record_log.specs.Grammar.{RepresentsRecords, ends_from, end_of}
+use Rattle.record_log.specs.Push.{IsDurableAs}
 
 -- the file of a log
 abbrev pub file_of : Log → ℕ
@@ -39,24 +39,25 @@ HasFailed log = IsTrue log.has_failed
 
 -- The file durably holds these records from the log's first place on, and the log knows where each
 -- record ends.
-pub record Holds (disk : State) (log : Log) (records : List (List ℕ)) : Type 0 where
+pub record LogHolds (disk : State) (log : Log) (records : List (List ℕ)) : Type 0 where
   pub bytes : List ℕ
-  pub sure : IsSureOf disk log.file bytes
+  pub sure : IsDurableAs disk log.file bytes
   pub start : log.start ≤ length bytes
   pub fits : length bytes < 2 ^ 63
-  pub stands : StandsFor (drop log.start bytes) records
+  pub stands : RepresentsRecords (drop log.start bytes) records
   pub ends : log.ends.items ≡ ends_from 0 records
   pub end : log.end ≡ end_of 0 records
 
 -- the bytes that a read returns from this place on represent the records
 abbrev pub HasRecords : State → ℕ → ℕ → List (List ℕ) → Type 0
 HasRecords disk file start records =
-    IsSomeAnd (seen (disk file)) (λ bytes. StandsFor (drop start bytes) records)
+    IsSomeAnd (seen (disk file)) (λ bytes. RepresentsRecords (drop start bytes) records)
 
 -- from its first place on, the file represents the records, with or without the new one
 abbrev pub IsOldOrNew : ℕ → List (List ℕ) → List ℕ → List ℕ → Type 0
 IsOldOrNew start records one bytes =
-    StandsFor (drop start bytes) records ⊎ StandsFor (drop start bytes) (records ++ one ∷ [])
+    RepresentsRecords (drop start bytes) records ⊎ RepresentsRecords (drop start bytes)
+        (records ++ one ∷ [])
 
 -- the log stays at the same place of the same file
 pub record IsInPlace (old new : Log) : Type 0 where
@@ -73,8 +74,8 @@ begun None = 0 ∷ []
 begun (Some bytes) = 0 ∷ drop 1 bytes
 
 -- the refusals that say nothing of the file
-abbrev pub IsOfMachine : LogError → Type 0
-IsOfMachine e = (e ≡ log.Disk disk.Failed) ⊎ (e ≡ log.Memory)
+abbrev pub IsEnvironmentalError : LogError → Type 0
+IsEnvironmentalError e = (e ≡ log.Disk disk.Failed) ⊎ (e ≡ log.Memory)
 
 -- the bytes of this length from a place of the file on
 abbrev pub IsPart : State → ℕ → ℕ → ℕ → List ℕ → Type 0
@@ -85,20 +86,20 @@ IsPart disk file at len part =
 pub record IsRest (old : State) (file start : ℕ) (new : State) (rest : List ℕ) : Type 0 where
   pub whole : List ℕ
   pub was : seen (old file) ≡ Some whole
-  pub sure : IsSureOf new file whole
+  pub sure : IsDurableAs new file whole
   pub within : start ≤ length whole
   pub fits : length whole < 2 ^ 63
   pub is : rest ≡ drop start whole
 
 -- why a file's bytes up to a place are not read: it is absent, or ends before that place
-abbrev pub DeclinesBytes : LogError → Option (List ℕ) → ℕ → Type 0
-DeclinesBytes (log.Disk disk.Failed) bytes place = Unit {0}
-DeclinesBytes (log.Disk disk.NoFile) bytes place = IsNone bytes
-DeclinesBytes (log.Disk disk.Short) bytes place = IsSomeAnd bytes (λ it. length it < place)
-DeclinesBytes (log.Disk disk.Memory) bytes place = ⊥
-DeclinesBytes log.Memory bytes place = Unit {0}
-DeclinesBytes log.TooLong bytes place = ⊥
-DeclinesBytes log.Failed bytes place = ⊥
+abbrev pub ReadRefusal : LogError → Option (List ℕ) → ℕ → Type 0
+ReadRefusal (log.Disk disk.Failed) bytes place = Unit {0}
+ReadRefusal (log.Disk disk.NoFile) bytes place = IsNone bytes
+ReadRefusal (log.Disk disk.Short) bytes place = IsSomeAnd bytes (λ it. length it < place)
+ReadRefusal (log.Disk disk.Memory) bytes place = ⊥
+ReadRefusal log.Memory bytes place = Unit {0}
+ReadRefusal log.TooLong bytes place = ⊥
+ReadRefusal log.Failed bytes place = ⊥
 
 -- a log that has not failed, in this file from this place on
 pub record IsAt (file start : ℕ) (log : Log) : Type 0 where
@@ -107,54 +108,57 @@ pub record IsAt (file start : ℕ) (log : Log) : Type 0 where
   pub works : HasFailed log → ⊥
 
 -- an open log of the file, which holds the records that the file represents
-pub record Opens (old : State) (file start : ℕ) (new : State) (log : Log) : Type 0 where
+pub record IsOpenedLog (old : State) (file start : ℕ) (new : State) (log : Log) : Type 0 where
   pub records : List (List ℕ)
   pub stood : HasRecords old file start records
-  pub holds : Holds new log records
+  pub holds : LogHolds new log records
 
 -- why a file is not opened as a log: it is absent, or represents no records
-abbrev pub Declines : LogError → Option (List ℕ) → ℕ → Type 0
-Declines (log.Disk disk.Failed) bytes start = Unit {0}
-Declines (log.Disk disk.NoFile) bytes start = IsNone bytes
-Declines (log.Disk disk.Short) bytes start =
-    IsSomeAnd bytes (λ it. (records : List (List ℕ)) → StandsFor (drop start it) records → ⊥)
-Declines (log.Disk disk.Memory) bytes start = ⊥
-Declines log.Memory bytes start = Unit {0}
-Declines log.TooLong bytes start = ⊥
-Declines log.Failed bytes start = ⊥
+abbrev pub OpenRefusal : LogError → Option (List ℕ) → ℕ → Type 0
+OpenRefusal (log.Disk disk.Failed) bytes start = Unit {0}
+OpenRefusal (log.Disk disk.NoFile) bytes start = IsNone bytes
+OpenRefusal (log.Disk disk.Short) bytes start =
+    IsSomeAnd bytes (λ it. (records : List (List ℕ)) → RepresentsRecords (drop start it) records →
+        ⊥)
+OpenRefusal (log.Disk disk.Memory) bytes start = ⊥
+OpenRefusal log.Memory bytes start = Unit {0}
+OpenRefusal log.TooLong bytes start = ⊥
+OpenRefusal log.Failed bytes start = ⊥
 
 -- the answers of opening, and the state where it answers a log
-abbrev pub OpensOrDeclines : State → ℕ → ℕ → Result Log LogError → State → Type 0
-OpensOrDeclines old file start (Ok log) new = Opens old file start new log
-OpensOrDeclines old file start (Err e) new = Declines e (seen (old file)) start
+abbrev pub OpenOutcome : State → ℕ → ℕ → Result Log LogError → State → Type 0
+OpenOutcome old file start (Ok log) new = IsOpenedLog old file start new log
+OpenOutcome old file start (Err e) new = OpenRefusal e (seen (old file)) start
 
 -- The answers of an append, by the log alone; the number of records after it, and whether the log
 -- still works.
-abbrev pub Tells : {T : Type 0} → ℕ → Result T LogError → Log → Log → List ℕ → Type 0
-Tells limit (Ok _) old new one =
+abbrev pub AppendOutcome : {T : Type 0} → ℕ → Result T LogError → Log → Log → List ℕ → Type 0
+AppendOutcome limit (Ok _) old new one =
     (HasFailed old → ⊥) × (length one ≤ limit) × (HasFailed new → ⊥)
     × (count_of new ≡ count_of old + 1)
-Tells limit (Err (log.Disk e)) old new one =
+AppendOutcome limit (Err (log.Disk e)) old new one =
     (HasFailed old → ⊥) × (length one ≤ limit) × HasFailed new × (count_of new ≡ count_of old)
-Tells limit (Err log.Memory) old new one =
+AppendOutcome limit (Err log.Memory) old new one =
     (HasFailed old → ⊥) × (length one ≤ limit) × HasFailed new × (count_of new ≡ count_of old)
-Tells limit (Err log.TooLong) old new one =
+AppendOutcome limit (Err log.TooLong) old new one =
     (HasFailed old → ⊥) × (limit < length one) × (new ≡ old)
-Tells limit (Err log.Failed) old new one = HasFailed old × (new ≡ old)
+AppendOutcome limit (Err log.Failed) old new one = HasFailed old × (new ≡ old)
 
 -- the refusals of a log whose file holds the log's records
-abbrev pub IsMet : LogError → Type 0
-IsMet e = IsOfMachine e ⊎ ((e ≡ log.TooLong) ⊎ (e ≡ log.Failed))
+abbrev pub IsExpected : LogError → Type 0
+IsExpected e = IsEnvironmentalError e ⊎ ((e ≡ log.TooLong) ⊎ (e ≡ log.Failed))
 
 -- the refusals of the log itself, without a call of the disk
-abbrev pub IsOwn : LogError → Type 0
-IsOwn e = (e ≡ log.TooLong) ⊎ (e ≡ log.Failed)
+abbrev pub IsArgumentError : LogError → Type 0
+IsArgumentError e = (e ≡ log.TooLong) ⊎ (e ≡ log.Failed)
 
 -- An append keeps the log's place, and its answer depends on the log alone. A refusal of the log
 -- itself leaves the disk unchanged.
-abbrev pub Answers : {T : Type 0} → ℕ → Result T LogError → Log → Log → List ℕ → Type 0 → Type 0
-Answers limit result old new one untouched =
-    IsInPlace old new × Tells limit result old new one × IfErr result (λ e. IsOwn e → untouched)
+abbrev pub AppendAnswer : {T : Type 0} → ℕ → Result T LogError → Log → Log → List ℕ → Type 0 → Type
+    0
+AppendAnswer limit result old new one untouched =
+    IsInPlace old new × AppendOutcome limit result old new one × IfErr result
+        (λ e. IsArgumentError e → untouched)
 
 -- the limit of a record as a number
 abbrev pub RecordBoundIs : Type 0

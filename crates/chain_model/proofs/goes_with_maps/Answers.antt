@@ -1,9 +1,0 @@
-use Rattle.chain_model.specs.World.{beginning}
-use Rattle.chain_model.proofs.WorldMaps.{run_map, outcomes_map}
-use Rattle.chain_model.proofs.goes_with_maps.Goals as goal
-
-pub returns : goal.returns
-returns g c = λ f cs events. record {
-  world = run_map f cs events (beginning cs);
-  each = outcomes_map f cs events (beginning cs);
-}
