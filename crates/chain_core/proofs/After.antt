@@ -2,11 +2,9 @@
 use Rattle.std.proofs.Common.{◌≡◌, ℕ, suc, ◌+◌, List, [], ◌∷◌, ◌++◌, length, Bool, true, max}
 use Rattle.std.proofs.Common.{false, refl, sym, ap, subst, ◌∙◌, length-append, arith}
 use Rattle.std.specs.Prelude.{if◌then◌else◌, Option, Some, SomeIff}
-use Rattle.kv_types.specs.Content.{BatchContent}
-use Rattle.chain_model.specs.Configuration.{is_tail}
-use Rattle.chain_model.specs.Machine.{due, not_due}
-use Rattle.chain_model.specs.Rules.{accept, append, on_ack, longer_for}
-use Rattle.chain_model.specs.Rules.{acknowledge, forward}
+use Rattle.kv_types.specs.{BatchContent}
+use Rattle.chain_model.specs.{is_tail, due, not_due, accept, append, on_ack, longer_for}
+use Rattle.chain_model.specs.{acknowledge, forward}
 use Rattle.chain_core.specs.declared.pending_submit.PendingSubmit.{PendingSubmit}
 use Rattle.chain_core.specs.States.{Machine, Core, CoreRefines, IsInOrder, waiting}
 use Rattle.chain_core.specs.States.{committed_responses}

@@ -3,8 +3,8 @@ use Rattle.std.proofs.Common.{◌≡◌, ℕ, suc, ◌+◌, ◌≤◌, ◌<◌, 
 use Rattle.std.proofs.Common.{false, refl, ap, arith}
 use Rattle.std.specs.Prelude.{nat_le}
 use Rattle.std.proofs.lemmas.Bool.{leb-false, lt-leb}
-use Rattle.kv_types.specs.Content.{BatchContent}
-use Rattle.chain_model.specs.Machine.{due, not_due}
+use Rattle.kv_types.specs.{BatchContent}
+use Rattle.chain_model.specs.{due, not_due}
 use Rattle.chain_core.specs.declared.pending_submit.PendingSubmit.{PendingSubmit}
 use Rattle.chain_core.specs.States.{IsInOrder, waiting, committed_responses}
 use Rattle.chain_core.specs.Queues.{front, behind}

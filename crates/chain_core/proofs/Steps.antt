@@ -3,13 +3,9 @@ use Rattle.std.proofs.Common.{◌≡◌, ℕ, zero, suc, ◌+◌, List, [], ◌�
 use Rattle.std.proofs.Common.{Some, None, refl, sym, ap, subst, ◌∙◌, append_assoc, append-nil}
 use Rattle.std.proofs.Common.{arith}
 use Rattle.std.specs.Prelude.{if◌then◌else◌, nat_lt}
-use Rattle.kv_types.specs.Content.{BatchContent}
-use Rattle.chain_model.specs.Configuration.{is_tail, predecessor, successor}
-use Rattle.chain_model.specs.Messages.{Message}
-use Rattle.chain_model.specs.Lists.{place}
-use Rattle.chain_model.specs.Machine.{Answer, not_due}
-use Rattle.chain_model.specs.Rules.{ack, ack_to, acknowledge, forward, forward_to, forwards}
-use Rattle.chain_model.specs.Rules.{longer_for, acked}
+use Rattle.kv_types.specs.{BatchContent}
+use Rattle.chain_model.specs.{is_tail, predecessor, successor, Message, place, Answer, not_due, ack}
+use Rattle.chain_model.specs.{ack_to, acknowledge, forward, forward_to, forwards, longer_for, acked}
 use Rattle.chain_core.specs.declared.done.Done.TheVariants as done
 use Rattle.chain_core.specs.States.{Machine}
 use Rattle.chain_core.specs.Steps.{StepLeaves, StepsLeave, StandsLast, OneByOne}

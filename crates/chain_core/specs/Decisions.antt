@@ -2,14 +2,12 @@
 use Rattle.std.specs.Prelude.{◌≡◌, ◌≤◌, ◌<◌, ℕ, suc, List, length, map, Option}
 use Rattle.std.specs.Prelude.{Some, None}
 use Rattle.kv_types.specs.declared.bounds.TheConstants.{MAX_NUMBER}
-use Rattle.kv_types.specs.Content.{BatchContent}
-use Rattle.chain_model.specs.Messages as model_frame
-use Rattle.chain_model.specs.Requests as model_request
-use Rattle.chain_model.specs.Machine.{Answer, dropped_for, refused}
-use Rattle.chain_model.specs.Rules.{ask, receive, tick, accept, append, ack_duplicate, on_ack}
-use Rattle.chain_model.specs.Rules.{resend, reply_read}
-use Rattle.link_messages.specs.declared.frame.Frame.{Frame}
-use Rattle.link_messages.specs.declared.frame.Frame.TheVariants as frame
+use Rattle.kv_types.specs.{BatchContent}
+use Rattle.chain_model.specs as model_frame
+use Rattle.chain_model.specs.{Answer, dropped_for, refused, ask, receive, tick, accept, append}
+use Rattle.chain_model.specs.{ack_duplicate, on_ack, resend, reply_read, Message, Request}
+use Rattle.link_messages.specs.declared.Frame.{Frame}
+use Rattle.link_messages.specs.declared.Frame.TheVariants as frame
 use Rattle.chain_core.specs.declared.input.Input.{Input}
 use Rattle.chain_core.specs.declared.input.Input.TheVariants as input
 use Rattle.chain_core.specs.declared.decision.Decision.{Decision}
@@ -22,12 +20,12 @@ use Rattle.chain_core.specs.States.{Machine, Core, CoreRefines, committed_respon
 
 -- the answer of the machine of node x to an input
 abbrev pub answer_to : ℕ → Machine → Input → Answer BatchContent
-answer_to x n (input.Submit request batch) = ask x n request (model_request.Submit batch)
-answer_to x n (input.Get request key at) = ask x n request (model_request.Read at)
+answer_to x n (input.Submit request batch) = ask x n request (Request.Submit batch)
+answer_to x n (input.Get request key at) = ask x n request (Request.Read at)
 answer_to x n (input.Forward epoch from number batch) =
-    receive x n (model_frame.Forward x epoch from number batch)
+    receive x n (Message.Forward x epoch from number batch)
 answer_to x n (input.Ack epoch from committed have) =
-    receive x n (model_frame.Ack x epoch from committed have)
+    receive x n (Message.Ack x epoch from committed have)
 answer_to x n input.Tick = tick x n
 
 -- the rule that a decision names
@@ -82,9 +80,9 @@ pub record CoreFollows (new : Core) (answer : Answer BatchContent) (due : List P
 -- the model's frame of a frame between nodes
 abbrev pub frame_as : ℕ → Frame → Option (model_frame.Message BatchContent)
 frame_as to (frame.Forward epoch from number batch) =
-    Some (model_frame.Forward to epoch from number batch)
+    Some (Message.Forward to epoch from number batch)
 frame_as to (frame.Ack epoch from committed have) =
-    Some (model_frame.Ack to epoch from committed have)
+    Some (Message.Ack to epoch from committed have)
 frame_as to _ = None
 
 -- the sent frames are these frames of the model, one by one

@@ -3,3 +3,10 @@ pub mod CoreState
 pub mod Queues
 pub mod Decisions
 pub mod Steps
+
+-- What crates above name.
+pub use Rattle.chain_core.specs.Decisions.{AreFrames, CoreFollows, Decides, DecisionFitsCount}
+pub use Rattle.chain_core.specs.Decisions.{IsReadOf, answer_to, done_of, frame_as, rule_of}
+pub use Rattle.chain_core.specs.States.{Core, CoreRefines, Machine, committed_responses, waiting}
+pub use Rattle.chain_core.specs.Steps.{StandsLast, StepLeaves, StepsLeave, epoch_after, floor_after}
+pub use Rattle.chain_core.specs.Steps.{frames_after, ids_after, kept_after, list_after}

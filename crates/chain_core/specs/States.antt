@@ -1,9 +1,8 @@
 -- The numbers of a node without its batches, and the machine of the chain's model with them.
 use Rattle.std.specs.Prelude.{◌≡◌, ◌≤◌, ◌<◌, ℕ, List, [], ◌∷◌, length, map, true, false}
-use Rattle.kv_types.specs.Content.{BatchContent}
-use Rattle.chain_model.specs.Configuration.{is_tail}
-use Rattle.chain_model.specs.Machine as model
-use Rattle.chain_model.specs.Requests.{Response, Committed}
+use Rattle.kv_types.specs.{BatchContent}
+use Rattle.chain_model.specs.{is_tail, Response, Committed}
+use Rattle.chain_model.specs as model
 use Rattle.chain_core.specs.declared.pending_submit.PendingSubmit.{PendingSubmit}
 use Rattle.chain_core.specs.declared.persistent_state.PersistentState.{PersistentState}
 

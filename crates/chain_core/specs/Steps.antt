@@ -1,12 +1,8 @@
 -- The persistent state and the frames of a step whose store part is done, for the laws of `laws`.
 use Rattle.std.specs.Prelude.{◌≡◌, ℕ, suc, ◌+◌, List, [], ◌∷◌, ◌++◌, length, Some, None}
 use Rattle.std.specs.Prelude.{if◌then◌else◌, nat_lt}
-use Rattle.kv_types.specs.Content.{BatchContent}
-use Rattle.chain_model.specs.Configuration.{is_tail}
-use Rattle.chain_model.specs.Messages.{Message}
-use Rattle.chain_model.specs.Lists.{place}
-use Rattle.chain_model.specs.Machine.{Answer}
-use Rattle.chain_model.specs.Rules.{ack, forward, forwards}
+use Rattle.kv_types.specs.{BatchContent}
+use Rattle.chain_model.specs.{is_tail, Message, place, Answer, ack, forward, forwards}
 use Rattle.chain_core.specs.declared.done.Done.{Done}
 use Rattle.chain_core.specs.declared.done.Done.TheVariants as done
 use Rattle.chain_core.specs.States.{Machine}

@@ -1,9 +1,7 @@
 // The frames of a node: its acknowledgement, its batches, and those of a tick.
 ghost use Rattle.std.specs.Prelude.{◌≡◌, ◌<◌, ◌≤◌, ◌+◌, ◌-◌, Some, IsSome};
 ghost use Rattle.std.specs.Prelude.{option_to_list};
-ghost use Rattle.chain_model.specs.Configuration.{successor};
-ghost use Rattle.chain_model.specs.Lists.{place};
-ghost use Rattle.chain_model.specs.Rules.{ack, forward, forwards};
+ghost use Rattle.chain_model.specs.{successor, place, ack, forward, forwards};
 ghost use Rattle.chain_core.specs.States.{Machine, CoreRefines};
 ghost use Rattle.chain_core.specs.Decisions.{AreFrames};
 

@@ -3,10 +3,9 @@ ghost use Rattle.std.specs.Prelude.{◌≡◌, ◌<◌, ◌≤◌, suc, length, 
 ghost use Rattle.std.specs.Prelude.{if◌then◌else◌};
 ghost use Rattle.std.specs.Prelude.{IfOk, OnErr};
 ghost use Rattle.kv_types.specs.declared.bounds.TheConstants.{MAX_NUMBER};
-ghost use Rattle.kv_types.specs.Content.{BatchContent};
-ghost use Rattle.chain_model.specs.Configuration.{has, is_head, is_tail, predecessor, successor};
-ghost use Rattle.chain_model.specs.Machine.{created, started};
-ghost use Rattle.chain_model.specs.Rules.{accept, append, on_ack};
+ghost use Rattle.kv_types.specs.{BatchContent};
+ghost use Rattle.chain_model.specs.{has, is_head, is_tail, predecessor, successor, created};
+ghost use Rattle.chain_model.specs.{started, accept, append, on_ack};
 ghost use Rattle.chain_core.specs.States.{Machine, CoreRefines, PersistentRefines};
 ghost use Rattle.chain_core.specs.States.{HasOrderedNumbers};
 ghost use Rattle.chain_core.specs.Decisions.{CoreFollows, DoneFitsCount, done_of};

@@ -15,3 +15,24 @@ pub mod Maps
 pub mod Trace
 pub mod WorkedRuns
 pub mod WorkedDrops
+
+-- What crates above name.
+pub use Rattle.chain_model.specs.Configuration.{AllDifferent, Configurations, IsId, Lawful}
+pub use Rattle.chain_model.specs.Configuration.{at_epoch, has, is_head, is_part, is_tail, last_of}
+pub use Rattle.chain_model.specs.Configuration.{predecessor, successor}
+pub use Rattle.chain_model.specs.Headline.{OneList, ResponseAgrees, batches, numbered, submitted}
+pub use Rattle.chain_model.specs.Lists.{IsPrefix, Part, place}
+pub use Rattle.chain_model.specs.Machine.{Answer, MachineState, created, dropped_for, due, not_due}
+pub use Rattle.chain_model.specs.Machine.{refused, silent, started, stopped}
+pub use Rattle.chain_model.specs.Messages.{Ack, Forward, Message, addressee}
+pub use Rattle.chain_model.specs.Order.{ForwardIsTrue, InOrder}
+pub use Rattle.chain_model.specs.Outcomes.{RunIsOutcomes}
+pub use Rattle.chain_model.specs.Requests.{Closed, Committed, Opened, Refused, Request, Response}
+pub use Rattle.chain_model.specs.Requests.{Shows}
+pub use Rattle.chain_model.specs.Rules.{accept, ack, ack_duplicate, ack_to, acked, acknowledge}
+pub use Rattle.chain_model.specs.Rules.{append, ask, forward, forward_to, forwards, longer_for}
+pub use Rattle.chain_model.specs.Rules.{on_ack, receive, reply_read, resend, tick}
+pub use Rattle.chain_model.specs.System.{Answered, Outcome, StepResult, StoppedAfter, StoppedBefore}
+pub use Rattle.chain_model.specs.System.{SystemEvent, SystemState, after, answers, as_completed}
+pub use Rattle.chain_model.specs.System.{delivered, first_state, node_of, nothing, outcome}
+pub use Rattle.chain_model.specs.System.{outcomes, reached, run, state_after, stops}

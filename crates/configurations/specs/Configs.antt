@@ -2,7 +2,7 @@
 use Rattle.std.specs.Prelude.{ℕ, ◌≤◌, List, [], ◌∷◌, length, All, Bool, true, ◌&&◌, not, nat_le}
 use Rattle.std.specs.Prelude.{◌↔◌, IsTrue}
 use Rattle.std.specs.List.{list_all}
-use Rattle.chain_model.specs.Configuration.{IsId, AllDifferent, has}
+use Rattle.chain_model.specs.{IsId, AllDifferent, has}
 
 -- 1 to 16 different node ids
 pub record IsConfig (ids : List ℕ) : Type 0 where

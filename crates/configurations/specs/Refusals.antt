@@ -1,7 +1,6 @@
 -- The reasons for which ids are no configuration, or configurations no lawful list.
 use Rattle.std.specs.Prelude.{◌≡◌, ℕ, suc, ◌<◌, ◌≤◌, List, [], length, All}
-use Rattle.chain_model.specs.Configuration.{Configurations, IsId, AllDifferent, at_epoch}
-use Rattle.chain_model.specs.Lists.{Part}
+use Rattle.chain_model.specs.{Configurations, IsId, AllDifferent, at_epoch, Part}
 use Rattle.configurations.specs.declared.error.ConfigError.{ConfigError}
 use Rattle.configurations.specs.declared.error.ConfigError.TheVariants as fault
 

@@ -1,7 +1,7 @@
 // The configuration service's list: each configuration has fewer nodes than the one before.
 ghost use Rattle.std.specs.Prelude.{◌≡◌, ◌<◌, ◌≤◌, length, nat_lt};
 ghost use Rattle.std.specs.Prelude.{IfOk, IfErr, IsTrue, MatchOption};
-ghost use Rattle.chain_model.specs.Configuration.{Lawful, at_epoch, is_part};
+ghost use Rattle.chain_model.specs.{Lawful, at_epoch, is_part};
 ghost use Rattle.configurations.specs.Checks.{each_later, is_smaller, is_in_order};
 ghost use Rattle.configurations.specs.Refusals.{ListHas, IsLeast};
 
@@ -20,7 +20,7 @@ pub struct Configs {
 
 impl Model for Configs {
     ghost use Rattle.std.specs.Prelude.{List, ℕ};
-    ghost use Rattle.chain_model.specs.Configuration.{Lawful};
+    ghost use Rattle.chain_model.specs.{Lawful};
 
     ghost Value = { List (List ℕ) };
 
@@ -75,7 +75,7 @@ impl Configs {
             return Err(ConfigError::Empty);
         };
         let _ids = first.ids();
-        is_part_decides();
+        is_part_decides(); // law: the test of a part decides
         if !all_smaller(&configs) {
             return Err(ConfigError::NotSmaller);
         }

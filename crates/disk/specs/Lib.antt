@@ -8,3 +8,13 @@ pub mod File
 pub mod Held
 pub mod Memory
 pub mod Crashes
+
+-- What crates above name.
+pub use Rattle.disk.specs.Calls.{EndsOutOfRange, RisesByOne, WriteOutcome}
+pub use Rattle.disk.specs.Crashes.{CrashOutcome, CrashedIsDurable}
+pub use Rattle.disk.specs.Lent.{KeepsDisk}
+pub use Rattle.disk.specs.Memory.{IsReliable, Slots, state_of}
+pub use Rattle.disk.specs.States.{Absent, AddsNoOutcome, Contents, DurableIsLeft, Fresh}
+pub use Rattle.disk.specs.States.{IsCrashOutcome, IsDurable, IsFileOutcome, IsSame, IsSameBut}
+pub use Rattle.disk.specs.States.{IsUnsynced, Kept, Slot, State, contents, overwritten, seen}
+pub use Rattle.disk.specs.States.{synced, written}

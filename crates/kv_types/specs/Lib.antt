@@ -9,3 +9,12 @@ pub mod Pages
 pub mod Limits
 pub mod Bounds
 pub mod Examples
+
+-- What crates above name.
+pub use Rattle.kv_types.specs.Content.{BatchContent}
+pub use Rattle.kv_types.specs.Maps.{map_of}
+pub use Rattle.kv_types.specs.Pages.{KeepsLimits, row_size}
+pub use Rattle.kv_types.specs.Reading.{◌>>=◌}
+unfoldable pub use Rattle.kv_types.specs.Reading.{batch_at, text_at}
+pub use Rattle.kv_types.specs.Spans.{Rows, Span}
+pub use Rattle.kv_types.specs.Spelling.{IsBatch, SpellingsDiffer, batch_bytes, text_bytes}

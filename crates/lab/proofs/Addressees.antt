@@ -4,18 +4,15 @@ use Rattle.std.proofs.Common.{Option, Some, None, true, refl, sym, ap, subst, �
 use Rattle.std.proofs.Common.{inl}
 use Rattle.std.specs.List.{AllZip, AllByRecursion}
 use Rattle.std.proofs.lemmas.List.Elements.{All-weaker, recursion_from_All}
-use Rattle.kv_types.specs.Content.{BatchContent}
-use Rattle.chain_model.specs.Configuration.{Configurations, has, at_epoch}
-use Rattle.chain_model.specs.Messages as model_frame
-use Rattle.chain_model.specs.Messages.{Message as ModelFrame, addressee}
-use Rattle.chain_model.specs.Order.{InOrder, ForwardIsTrue}
-use Rattle.chain_model.specs.Lists.{place}
-use Rattle.chain_model.specs.System.{SystemEvent as ModelEvent, reached, node_of}
-use Rattle.link_messages.specs.declared.frame.Frame.{Frame}
-use Rattle.link_messages.specs.declared.frame.Frame.TheVariants as frame
-use Rattle.link_messages.specs.Spelling.{HasBounds}
-use Rattle.chain_core.specs.declared.sending.Sent.{Sent}
-use Rattle.chain_core.specs.Decisions.{AreFrames, frame_as}
+use Rattle.kv_types.specs.{BatchContent}
+use Rattle.chain_model.specs.{Configurations, has, at_epoch, Message as ModelFrame, addressee}
+use Rattle.chain_model.specs.{InOrder, ForwardIsTrue, place, SystemEvent as ModelEvent, reached}
+use Rattle.chain_model.specs.{node_of, Message}
+use Rattle.link_messages.specs.declared.Frame.{Frame}
+use Rattle.link_messages.specs.declared.Frame.TheVariants as frame
+use Rattle.link_messages.specs.{HasBounds}
+use Rattle.chain_core.specs.declared.Sent.{Sent}
+use Rattle.chain_core.specs.{AreFrames, frame_as}
 use Rattle.lab.specs.declared.delivery.Posted.{Posted}
 use Rattle.lab.specs.Worlds.{PostedRefines, IsPosted}
 use Rattle.lab.proofs.Places.{place_zero, place_each}
@@ -65,19 +62,19 @@ addressed cs es order p x it f there is =
 
 -- a Forward's number is that of a batch
 abbrev pub IsNumbered : ModelFrame BatchContent → Type 0
-IsNumbered (model_frame.Forward to epoch from number batch) = 1 ≤ number
-IsNumbered (model_frame.Ack to epoch from committed have) = Unit {0}
+IsNumbered (Message.Forward to epoch from number batch) = 1 ≤ number
+IsNumbered (Message.Ack to epoch from committed have) = Unit {0}
 
 -- .. since it is the place of one
 numbered : (cs : Configurations) (lists : ℕ → List BatchContent) (f : ModelFrame BatchContent) →
     ForwardIsTrue cs lists f → IsNumbered f
-numbered cs lists (model_frame.Forward to epoch from zero batch) tells =
+numbered cs lists (Message.Forward to epoch from zero batch) tells =
     absurd (no_batch (sym (place_zero (lists from)) ∙ tells from (inl refl)))
   where
     no_batch : None ≡ Some batch → ⊥
     no_batch e = cc
-numbered cs lists (model_frame.Forward to epoch from (suc number) batch) tells = omega arith
-numbered cs lists (model_frame.Ack to epoch from committed have) tells = tt
+numbered cs lists (Message.Forward to epoch from (suc number) batch) tells = omega arith
+numbered cs lists (Message.Ack to epoch from committed have) tells = tt
 
 pub all_numbered : (cs : Configurations) (es : List (ModelEvent BatchContent)) → InOrder cs es →
     AllByRecursion IsNumbered (reached cs es).frames

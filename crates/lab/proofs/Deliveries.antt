@@ -2,24 +2,21 @@
 use Rattle.std.proofs.Common.{◌≡◌, ℕ, List, map, Option, Some, None, refl, sym}
 use Rattle.std.proofs.Common.{ap, subst, ◌∙◌}
 use Rattle.std.proofs.lemmas.Bool.{cond-true, cond-false, false≢true}
-use Rattle.kv_types.specs.Content.{BatchContent}
-use Rattle.disk.specs.declared.junk.Junk.{Junk}
-use Rattle.disk.specs.Memory.{Slots}
-use Rattle.chain_model.specs.Configuration.{Configurations}
-use Rattle.chain_model.specs.Lists.{place}
-use Rattle.chain_model.specs.declared.drop_reason.DropReason.TheVariants as reason
-use Rattle.chain_model.specs.Messages.{Message as ModelFrame}
-use Rattle.chain_model.specs.Requests as request
-use Rattle.chain_model.specs.Machine.{dropped_for, silent, started, stopped}
-use Rattle.chain_model.specs.System.{SystemState, Answered, StoppedBefore, outcome, answers}
-use Rattle.chain_model.specs.System.{stops, delivered, nothing}
-use Rattle.link_messages.specs.declared.frame.Frame.{Frame}
-use Rattle.link_messages.specs.declared.frame.Frame.TheVariants as frame
-use Rattle.chain_core.specs.declared.input.Input.{Input}
-use Rattle.chain_core.specs.declared.input.Input.TheVariants as input
-use Rattle.chain_core.specs.Decisions.{frame_as}
-use Rattle.node.specs.declared.stop.Stop.TheVariants.{Disk}
-use Rattle.node.specs.Steps.{replies_to_response}
+use Rattle.kv_types.specs.{BatchContent}
+use Rattle.disk.specs.declared.Junk.{Junk}
+use Rattle.disk.specs.{Slots}
+use Rattle.chain_model.specs.{Configurations, place, Message as ModelFrame, dropped_for, silent}
+use Rattle.chain_model.specs.{started, stopped, SystemState, Answered, StoppedBefore, outcome}
+use Rattle.chain_model.specs.{answers, stops, delivered, nothing, Response}
+use Rattle.chain_model.specs.declared.DropReason.TheVariants as reason
+use Rattle.chain_model.specs as request
+use Rattle.link_messages.specs.declared.Frame.{Frame}
+use Rattle.link_messages.specs.declared.Frame.TheVariants as frame
+use Rattle.chain_core.specs.declared.Input.{Input}
+use Rattle.chain_core.specs.declared.Input.TheVariants as input
+use Rattle.chain_core.specs.{frame_as}
+use Rattle.node.specs.declared.Stop.TheVariants.{Disk}
+use Rattle.node.specs.{replies_to_response}
 use Rattle.lab.specs.declared.input.NodeInput.{NodeInput}
 use Rattle.lab.specs.declared.input.StepOutcome.{StepOutcome}
 use Rattle.lab.specs.declared.event.EventKind.{EventKind}
@@ -42,42 +39,42 @@ RepliesSo kind inp = (r : request.Response BatchContent) → reply_line kind r
 
 submit_replies : (x i : ℕ) (batch : BatchContent) →
     RepliesSo (Submit x batch) (input.Submit i batch)
-submit_replies x i batch (request.Committed j k) = refl
-submit_replies x i batch (request.Shows j s l) = refl
-submit_replies x i batch (request.Opened j s) = refl
-submit_replies x i batch (request.Closed j s) = refl
-submit_replies x i batch (request.Refused j why) = refl
+submit_replies x i batch (Response.Committed j k) = refl
+submit_replies x i batch (Response.Shows j s l) = refl
+submit_replies x i batch (Response.Opened j s) = refl
+submit_replies x i batch (Response.Closed j s) = refl
+submit_replies x i batch (Response.Refused j why) = refl
 
 get_replies : (x i : ℕ) (key : List ℕ) (at : Option ℕ) →
     RepliesSo (Get x key at) (input.Get i key at)
-get_replies x i key at (request.Committed j k) = refl
-get_replies x i key at (request.Shows j s l) = refl
-get_replies x i key at (request.Opened j s) = refl
-get_replies x i key at (request.Closed j s) = refl
-get_replies x i key at (request.Refused j why) = refl
+get_replies x i key at (Response.Committed j k) = refl
+get_replies x i key at (Response.Shows j s l) = refl
+get_replies x i key at (Response.Opened j s) = refl
+get_replies x i key at (Response.Closed j s) = refl
+get_replies x i key at (Response.Refused j why) = refl
 
 forward_replies : (p epoch from number : ℕ) (batch : BatchContent) →
     RepliesSo (Deliver p) (input.Forward epoch from number batch)
-forward_replies p epoch from number batch (request.Committed j k) = refl
-forward_replies p epoch from number batch (request.Shows j s l) = refl
-forward_replies p epoch from number batch (request.Opened j s) = refl
-forward_replies p epoch from number batch (request.Closed j s) = refl
-forward_replies p epoch from number batch (request.Refused j why) = refl
+forward_replies p epoch from number batch (Response.Committed j k) = refl
+forward_replies p epoch from number batch (Response.Shows j s l) = refl
+forward_replies p epoch from number batch (Response.Opened j s) = refl
+forward_replies p epoch from number batch (Response.Closed j s) = refl
+forward_replies p epoch from number batch (Response.Refused j why) = refl
 
 ack_replies : (p epoch from committed have : ℕ) →
     RepliesSo (Deliver p) (input.Ack epoch from committed have)
-ack_replies p epoch from committed have (request.Committed j k) = refl
-ack_replies p epoch from committed have (request.Shows j s l) = refl
-ack_replies p epoch from committed have (request.Opened j s) = refl
-ack_replies p epoch from committed have (request.Closed j s) = refl
-ack_replies p epoch from committed have (request.Refused j why) = refl
+ack_replies p epoch from committed have (Response.Committed j k) = refl
+ack_replies p epoch from committed have (Response.Shows j s l) = refl
+ack_replies p epoch from committed have (Response.Opened j s) = refl
+ack_replies p epoch from committed have (Response.Closed j s) = refl
+ack_replies p epoch from committed have (Response.Refused j why) = refl
 
 tick_replies : (x : ℕ) → RepliesSo (Tick x) input.Tick
-tick_replies x (request.Committed j k) = refl
-tick_replies x (request.Shows j s l) = refl
-tick_replies x (request.Opened j s) = refl
-tick_replies x (request.Closed j s) = refl
-tick_replies x (request.Refused j why) = refl
+tick_replies x (Response.Committed j k) = refl
+tick_replies x (Response.Shows j s l) = refl
+tick_replies x (Response.Opened j s) = refl
+tick_replies x (Response.Closed j s) = refl
+tick_replies x (Response.Refused j why) = refl
 
 module _ (cs : Configurations) (w : SystemState BatchContent) (i x : ℕ) (new : NodeState Slots)
     (did : StepOutcome)

@@ -2,16 +2,14 @@
 use Rattle.std.proofs.Common.{◌≡◌, ℕ, ◌+◌, ◌^◌, ◌-◌, ◌<◌, ◌≤◌, Option, Some, None, false}
 use Rattle.std.proofs.Common.{cond, ◌==◌, refl, sym, subst, ◌∙◌, eq-eqb, eqb-true, arith}
 use Rattle.std.proofs.lemmas.Bool.{cond_both, cond-true, cond-false, false≢true}
-use Rattle.kv_types.specs.Content.{BatchContent}
-use Rattle.disk.specs.Calls.{RisesByOne}
-use Rattle.disk.specs.declared.junk.Junk.{Junk}
-use Rattle.disk.specs.declared.junk.Junk.TheVariants.{Old}
-use Rattle.disk.specs.Memory.{Slots}
-use Rattle.disk.specs.States.{State}
-use Rattle.chain_model.specs.System.{Outcome}
-use Rattle.chain_core.specs.States.{Machine}
-use Rattle.node.specs.declared.stop.Stop.{Stop as Cause}
-use Rattle.node.specs.declared.stop.Stop.TheVariants.{Disk, Damaged, Memory, NotCreated}
+use Rattle.kv_types.specs.{BatchContent}
+use Rattle.disk.specs.{RisesByOne, Slots, State}
+use Rattle.disk.specs.declared.Junk.{Junk}
+use Rattle.disk.specs.declared.Junk.TheVariants.{Old}
+use Rattle.chain_model.specs.{Outcome}
+use Rattle.chain_core.specs.{Machine}
+use Rattle.node.specs.declared.Stop.{Stop as Cause}
+use Rattle.node.specs.declared.Stop.TheVariants.{Disk, Damaged, Memory, NotCreated}
 use Rattle.lab.specs.declared.input.StepOutcome.{StepOutcome}
 use Rattle.lab.specs.declared.input.StepOutcome.TheVariants as done
 use Rattle.lab.specs.declared.event.Event.{Event}

@@ -5,10 +5,10 @@ use Rattle.std.proofs.Common.{subst, ◌∙◌, length-append, arith}
 use Rattle.std.specs.Prelude.{All}
 use Rattle.std.specs.List.{AllZip}
 use Rattle.std.proofs.lemmas.Slice.Zip.{AllZip-long}
-use Rattle.kv_types.specs.Content.{BatchContent}
-use Rattle.chain_model.specs.Configuration.{Configurations, at_epoch}
-use Rattle.chain_model.specs.System.{SystemState, run, reached, first_state, state_after, outcome}
-use Rattle.disk.specs.Memory.{Slots}
+use Rattle.kv_types.specs.{BatchContent}
+use Rattle.chain_model.specs.{Configurations, at_epoch, SystemState, run, reached, first_state}
+use Rattle.chain_model.specs.{state_after, outcome}
+use Rattle.disk.specs.{Slots}
 use Rattle.lab.specs.declared.event.Event.{Event}
 use Rattle.lab.specs.declared.delivery.Posted.{Posted}
 use Rattle.lab.specs.declared.report.Line.{Line}

@@ -4,16 +4,13 @@ use Rattle.std.proofs.Common.{refl, ap, arith}
 use Rattle.std.specs.List.{AllZip, AllByRecursion, flat_map}
 use Rattle.std.proofs.lemmas.Bool.{cond_both}
 use Rattle.std.proofs.lemmas.List.Elements.{All-from_recursion}
-use Rattle.kv_types.specs.Content.{BatchContent}
-use Rattle.kv_types.specs.Maps.{map_of}
-use Rattle.chain_model.specs.Configuration.{Configurations}
+use Rattle.kv_types.specs.{BatchContent, map_of}
+use Rattle.chain_model.specs.{Configurations, Message, Forward, Ack, ResponseAgrees, numbered}
+use Rattle.chain_model.specs.{submitted, Response, Committed, Shows, Opened, Closed, Refused}
+use Rattle.chain_model.specs.{SystemEvent as ModelEvent, SystemState, Outcome, outcome, outcomes}
+use Rattle.chain_model.specs.{state_after}
 use Rattle.chain_model.specs.declared.drop_DropReason.{DropReason}
-use Rattle.chain_model.specs.Messages.{Message, Forward, Ack}
-use Rattle.chain_model.specs.Headline.{ResponseAgrees, numbered, submitted}
-use Rattle.chain_model.specs.Requests.{Response, Committed, Shows, Opened, Closed, Refused}
-use Rattle.chain_model.specs.System.{SystemEvent as ModelEvent, SystemState, Outcome, outcome}
-use Rattle.chain_model.specs.System.{outcomes, state_after}
-use Rattle.chain_core.specs.States.{Machine}
+use Rattle.chain_core.specs.{Machine}
 use Rattle.lab.specs.declared.event.Event.{Event}
 use Rattle.lab.specs.declared.event.EventKind.{EventKind}
 use Rattle.lab.specs.declared.event.EventKind.TheVariants.{Submit, Get, Deliver, Tick, Start, Stop}

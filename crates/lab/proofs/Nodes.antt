@@ -6,10 +6,9 @@ use Rattle.std.specs.Prelude.{All}
 use Rattle.std.specs.List.{AllByRecursion}
 use Rattle.std.proofs.lemmas.List.{map-append, take_more}
 use Rattle.std.proofs.lemmas.List.Elements.{All-push, recursion_from_All, All-from_recursion}
-use Rattle.disk.specs.Memory.{Slots}
-use Rattle.chain_model.specs.Configuration.{Configurations, Lawful, AllDifferent, has, at_epoch}
-use Rattle.chain_model.specs.Machine.{created}
-use Rattle.chain_core.specs.States.{Machine}
+use Rattle.disk.specs.{Slots}
+use Rattle.chain_model.specs.{Configurations, Lawful, AllDifferent, has, at_epoch, created}
+use Rattle.chain_core.specs.{Machine}
 use Rattle.lab.specs.declared.report.NodeReport.{NodeReport}
 use Rattle.lab.specs.declared.sim_node.SimNode.{SimNode}
 use Rattle.lab.specs.SimNodes.{StateRefines, disk_in, is_honest, state, failures}

@@ -5,30 +5,24 @@ use Rattle.std.proofs.Common.{arith}
 use Rattle.std.proofs.lemmas.List.{map-append}
 use Rattle.std.specs.Prelude.{Bool, IfSome}
 use Rattle.std.proofs.lemmas.Bool.{cond-true, cond-false, false≢true}
-use Rattle.kv_types.specs.Content.{BatchContent}
-use Rattle.disk.specs.Memory.{Slots}
-use Rattle.chain_model.specs.Configuration.{Configurations}
-use Rattle.chain_model.specs.declared.drop_reason.DropReason.{DropReason}
-use Rattle.chain_model.specs.Messages as model_frame
-use Rattle.chain_model.specs.Messages.{Message as ModelFrame, addressee}
-use Rattle.chain_model.specs.Requests as request
-use Rattle.chain_model.specs.Machine.{Answer, dropped_for, stopped}
-use Rattle.chain_model.specs.System.{SystemState, Outcome, StepResult, Answered, StoppedBefore}
-use Rattle.chain_model.specs.System.{StoppedAfter}
-use Rattle.chain_model.specs.System.{outcome, answers, stops, as_completed}
-use Rattle.link_messages.specs.declared.frame.Frame.{Frame}
-use Rattle.link_messages.specs.declared.frame.Frame.TheVariants as frame
-use Rattle.chain_core.specs.declared.input.Input.{Input}
-use Rattle.chain_core.specs.declared.input.Input.TheVariants as input
-use Rattle.chain_core.specs.declared.sending.Sent.{Sent}
-use Rattle.chain_core.specs.Decisions.{AreFrames, answer_to, frame_as}
-use Rattle.chain_core.specs.States.{Machine}
-use Rattle.node.specs.declared.output.Output.{Output}
-use Rattle.node.specs.declared.output.Reply.{Reply}
-use Rattle.node.specs.declared.stop.Stop.{Stop as Cause}
-use Rattle.node.specs.declared.stop.Stop.TheVariants.{Disk}
-use Rattle.node.specs.Steps.{replies_of, replies_to_response}
-use Rattle.node.specs.Stops.{IsEnvironmental}
+use Rattle.kv_types.specs.{BatchContent}
+use Rattle.disk.specs.{Slots}
+use Rattle.chain_model.specs.{Configurations, Message as ModelFrame, addressee, Answer, dropped_for}
+use Rattle.chain_model.specs.{stopped, SystemState, Outcome, StepResult, Answered, StoppedBefore}
+use Rattle.chain_model.specs.{StoppedAfter, outcome, answers, stops, as_completed, Message}
+use Rattle.chain_model.specs.declared.DropReason.{DropReason}
+use Rattle.chain_model.specs as request
+use Rattle.link_messages.specs.declared.Frame.{Frame}
+use Rattle.link_messages.specs.declared.Frame.TheVariants as frame
+use Rattle.chain_core.specs.declared.Input.{Input}
+use Rattle.chain_core.specs.declared.Input.TheVariants as input
+use Rattle.chain_core.specs.declared.Sent.{Sent}
+use Rattle.chain_core.specs.{AreFrames, answer_to, frame_as, Machine}
+use Rattle.node.specs.declared.Output.{Output}
+use Rattle.node.specs.declared.Reply.{Reply}
+use Rattle.node.specs.declared.Stop.{Stop as Cause}
+use Rattle.node.specs.declared.Stop.TheVariants.{Disk}
+use Rattle.node.specs.{replies_of, replies_to_response, IsEnvironmental}
 use Rattle.lab.specs.declared.input.StepOutcome.{StepOutcome}
 use Rattle.lab.specs.declared.input.StepOutcome.TheVariants as done
 use Rattle.lab.specs.declared.event.EventKind.{EventKind}
@@ -99,9 +93,9 @@ counts_drop (Some why) = refl
 counts_frames : (n : ℕ) (frames : List (ModelFrame BatchContent)) →
     frames_of_step (frame_lines n frames) ≡ length frames
 counts_frames n [] = refl
-counts_frames n (model_frame.Forward to epoch from number batch ∷ frames) =
+counts_frames n (Message.Forward to epoch from number batch ∷ frames) =
     omega (arith, counts_frames (suc n) frames)
-counts_frames n (model_frame.Ack to epoch from committed have ∷ frames) =
+counts_frames n (Message.Ack to epoch from committed have ∷ frames) =
     omega (arith, counts_frames (suc n) frames)
 
 counts_replies : (replies : List Reply) →

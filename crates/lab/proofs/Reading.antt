@@ -1,11 +1,10 @@
 -- What was spelled is read again.
 use Rattle.std.proofs.Common.{◌≡◌, ◌⊎◌, ℕ, List, [], Option, Some, None, Result, Ok, Err, inl, inr}
 use Rattle.std.proofs.Common.{refl, sym, append-nil}
-use Rattle.link_messages.specs.declared.error.FrameError.{FrameError}
-use Rattle.link_messages.specs.declared.error.FrameError.TheVariants as fault
-use Rattle.link_messages.specs.declared.frame.Frame.{Frame}
-use Rattle.link_messages.specs.Spelling.{IsFrame, frame_bytes}
-use Rattle.link_messages.specs.Stream.{NextOutcome, OneAnswer}
+use Rattle.link_messages.specs.declared.FrameError.{FrameError}
+use Rattle.link_messages.specs.declared.FrameError.TheVariants as fault
+use Rattle.link_messages.specs.declared.Frame.{Frame}
+use Rattle.link_messages.specs.{IsFrame, frame_bytes, NextOutcome, OneAnswer}
 
 -- of a frame's spelling the answer is that frame, or there was no memory
 pub read_again : OneAnswer → (answer : Result (Option Frame) FrameError) (it : Frame)

@@ -3,20 +3,14 @@ use Rattle.std.proofs.Common.{◌≡◌, ℕ, List, true, sym, subst, ◌∙◌}
 use Rattle.std.specs.Prelude.{All}
 use Rattle.std.specs.List.{AllZip, flat_map}
 use Rattle.std.proofs.lemmas.List.Elements.{All-weaker, recursion_from_All}
-use Rattle.kv_types.specs.Content.{BatchContent}
-use Rattle.disk.specs.Memory.{Slots}
-use Rattle.disk.specs.States.{State}
-use Rattle.chain_model.specs.Configuration.{Configurations, has, last_of}
-use Rattle.chain_model.specs.Headline.{ResponseAgrees, OneList, batches}
-use Rattle.chain_model.specs.Lists.{Part, IsPrefix}
-use Rattle.chain_model.specs.Outcomes.{RunIsOutcomes}
-use Rattle.chain_model.specs.Requests.{Response}
-use Rattle.chain_model.specs.System.{Outcome, SystemEvent as ModelEvent, outcomes, first_state}
-use Rattle.chain_model.specs.System.{reached}
-use Rattle.chain_model.specs.System.{node_of}
-use Rattle.chain_core.specs.States.{Machine}
-use Rattle.node.specs.declared.node.Node.{Node}
-use Rattle.node.specs.Steps.{NodeRefines, DiskAlwaysRefines, disk_of}
+use Rattle.kv_types.specs.{BatchContent}
+use Rattle.disk.specs.{Slots, State}
+use Rattle.chain_model.specs.{Configurations, has, last_of, ResponseAgrees, OneList, batches, Part}
+use Rattle.chain_model.specs.{IsPrefix, RunIsOutcomes, Response, Outcome, SystemEvent as ModelEvent}
+use Rattle.chain_model.specs.{outcomes, first_state, reached, node_of}
+use Rattle.chain_core.specs.{Machine}
+use Rattle.node.specs.declared.Node.{Node}
+use Rattle.node.specs.{NodeRefines, DiskAlwaysRefines, disk_of}
 use Rattle.lab.specs.declared.event.Event.{Event}
 use Rattle.lab.specs.declared.node_state.NodeState.{NodeState}
 use Rattle.lab.specs.declared.node_state.NodeState.TheVariants.{Up, Down}

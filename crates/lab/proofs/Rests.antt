@@ -1,13 +1,12 @@
 -- What a disk that crashed represents.
 use Rattle.std.proofs.Common.{◌≡◌, ◌⊎◌, ℕ, inl, inr, sym, subst}
-use Rattle.kv_types.specs.Content.{BatchContent}
-use Rattle.disk.specs.declared.junk.Junk.{Junk}
-use Rattle.disk.specs.States.{Slot, State, Contents, contents, IsDurable, DurableIsLeft}
-use Rattle.disk.specs.States.{IsCrashOutcome}
-use Rattle.disk.specs.Crashes.{CrashOutcome, CrashedIsDurable}
-use Rattle.chain_model.specs.Machine.{Answer, stopped}
-use Rattle.chain_core.specs.States.{Machine}
-use Rattle.node.specs.Steps.{DiskRefines, DiskAlwaysRefines, StopRefines}
+use Rattle.kv_types.specs.{BatchContent}
+use Rattle.disk.specs.declared.Junk.{Junk}
+use Rattle.disk.specs.{Slot, State, Contents, contents, IsDurable, DurableIsLeft, IsCrashOutcome}
+use Rattle.disk.specs.{CrashOutcome, CrashedIsDurable}
+use Rattle.chain_model.specs.{Answer, stopped}
+use Rattle.chain_core.specs.{Machine}
+use Rattle.node.specs.{DiskRefines, DiskAlwaysRefines, StopRefines}
 
 module _ (left_exactly : DurableIsLeft) (always_sure : CrashedIsDurable) where
   -- a disk that crashed represents what it reads as

@@ -5,12 +5,11 @@ use Rattle.std.proofs.Common.{arith}
 use Rattle.std.specs.List.{AllByRecursion}
 use Rattle.std.proofs.lemmas.Bool.{cond_both, cond-true, cond-false, false≢true}
 use Rattle.std.proofs.lemmas.List.Elements.{recursion_from_All}
-use Rattle.kv_types.specs.Content.{BatchContent}
-use Rattle.chain_model.specs.Configuration.{has, AllDifferent}
-use Rattle.chain_model.specs.System.{SystemState, Outcome, after}
-use Rattle.chain_core.specs.States.{Machine}
+use Rattle.kv_types.specs.{BatchContent}
+use Rattle.chain_model.specs.{has, AllDifferent, SystemState, Outcome, after}
+use Rattle.chain_core.specs.{Machine}
 use Rattle.lab.specs.declared.sim_node.SimNode.{SimNode}
-use Rattle.disk.specs.Memory.{Slots}
+use Rattle.disk.specs.{Slots}
 use Rattle.lab.specs.SimNodes.{StateRefines, disk_in, is_honest, state}
 use Rattle.lab.specs.Worlds.{SimNodeRefines, HasNoNode}
 use Rattle.lab.proofs.Disks.{with_disk, disk_here, disk_elsewhere}

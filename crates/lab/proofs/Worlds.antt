@@ -11,21 +11,17 @@ use Rattle.std.specs.List.{AllZip, AllByRecursion}
 use Rattle.std.proofs.lemmas.List.Elements.{recursion_from_All, All-from_recursion}
 use Rattle.std.proofs.lemmas.Slice.Zip.{AllZip-long}
 use Rattle.kv_types.specs.declared.bounds.TheConstants.{MAX_NUMBER}
-use Rattle.kv_types.specs.Content.{BatchContent}
-use Rattle.disk.specs.declared.junk.Junk.{Junk}
-use Rattle.disk.specs.Memory.{Slots}
-use Rattle.chain_model.specs.Configuration.{Configurations, Lawful, AllDifferent, has}
-use Rattle.chain_model.specs.Configuration.{at_epoch}
-use Rattle.chain_model.specs.Messages.{Message as ModelFrame}
-use Rattle.chain_model.specs.Order.{InOrder}
-use Rattle.chain_model.specs.System.{SystemEvent as ModelEvent, SystemState, Outcome, Answered}
-use Rattle.chain_model.specs.System.{reached}
-use Rattle.chain_model.specs.System.{first_state}
-use Rattle.chain_model.specs.System.{outcome, state_after, after, nothing}
-use Rattle.node.specs.declared.node.Node.{Node}
-use Rattle.node.specs.declared.stop.Stop.TheVariants.{Disk}
-use Rattle.node.specs.Steps.{disk_of}
-use Rattle.chain_core.specs.States.{Machine}
+use Rattle.kv_types.specs.{BatchContent}
+use Rattle.disk.specs.declared.Junk.{Junk}
+use Rattle.disk.specs.{Slots}
+use Rattle.chain_model.specs.{Configurations, Lawful, AllDifferent, has, at_epoch}
+use Rattle.chain_model.specs.{Message as ModelFrame, InOrder, SystemEvent as ModelEvent}
+use Rattle.chain_model.specs.{SystemState, Outcome, Answered, reached, first_state, outcome}
+use Rattle.chain_model.specs.{state_after, after, nothing}
+use Rattle.node.specs.declared.Node.{Node}
+use Rattle.node.specs.declared.Stop.TheVariants.{Disk}
+use Rattle.node.specs.{disk_of}
+use Rattle.chain_core.specs.{Machine}
 use Rattle.lab.specs.declared.node_state.NodeState.{NodeState}
 use Rattle.lab.specs.declared.node_state.NodeState.TheVariants.{Up, Down}
 use Rattle.lab.specs.declared.input.NodeInput.{NodeInput}

@@ -1,13 +1,13 @@
 -- What an event delivers to a simulated node: the node's id and its input.
 use Rattle.std.specs.Prelude.{◌≡◌, ℕ, List, Some, None}
-use Rattle.kv_types.specs.Content.{BatchContent}
-use Rattle.chain_model.specs.Lists.{place}
-use Rattle.chain_model.specs.Messages as model_frame
-use Rattle.link_messages.specs.declared.frame.Frame.{Frame}
-use Rattle.link_messages.specs.declared.frame.Frame.TheVariants as frame
-use Rattle.chain_model.specs.declared.drop_reason.DropReason.TheVariants as reason
-use Rattle.chain_core.specs.declared.input.Input.TheVariants as input
-use Rattle.chain_core.specs.Decisions.{frame_as}
+use Rattle.kv_types.specs.{BatchContent}
+use Rattle.chain_model.specs.{place}
+use Rattle.chain_model.specs as model_frame
+use Rattle.link_messages.specs.declared.Frame.{Frame}
+use Rattle.link_messages.specs.declared.Frame.TheVariants as frame
+use Rattle.chain_model.specs.declared.DropReason.TheVariants as reason
+use Rattle.chain_core.specs.declared.Input.TheVariants as input
+use Rattle.chain_core.specs.{frame_as}
 use Rattle.lab.specs.declared.input.NodeInput.{NodeInput}
 use Rattle.lab.specs.declared.input.NodeInput.TheVariants as to_node
 use Rattle.lab.specs.declared.event.EventKind.{EventKind}

@@ -1,17 +1,16 @@
 -- What a run leaves of its nodes' disks, event by event.
 use Rattle.std.specs.Prelude.{◌≡◌, ℕ, suc, ◌+◌, List, [], ◌∷◌, map, Option, Some, None, true, false}
 use Rattle.std.specs.Prelude.{All}
-use Rattle.kv_types.specs.Content.{BatchContent}
-use Rattle.disk.specs.declared.junk.Junk.{Junk}
-use Rattle.disk.specs.declared.junk.Junk.TheVariants.{Old}
-use Rattle.disk.specs.Crashes.{CrashOutcome}
-use Rattle.disk.specs.States.{State}
-use Rattle.chain_model.specs.Configuration.{Configurations, at_epoch}
-use Rattle.chain_model.specs.System as model
-use Rattle.chain_core.specs.States.{Machine}
-use Rattle.node.specs.declared.stop.Stop.{Stop as Cause}
-use Rattle.node.specs.declared.stop.Stop.TheVariants.{Disk}
-use Rattle.node.specs.Steps.{DiskAlwaysRefines}
+use Rattle.kv_types.specs.{BatchContent}
+use Rattle.disk.specs.declared.Junk.{Junk}
+use Rattle.disk.specs.declared.Junk.TheVariants.{Old}
+use Rattle.disk.specs.{CrashOutcome, State}
+use Rattle.chain_model.specs.{Configurations, at_epoch}
+use Rattle.chain_model.specs as model
+use Rattle.chain_core.specs.{Machine}
+use Rattle.node.specs.declared.Stop.{Stop as Cause}
+use Rattle.node.specs.declared.Stop.TheVariants.{Disk}
+use Rattle.node.specs.{DiskAlwaysRefines}
 use Rattle.lab.specs.declared.event.Event.{Event}
 use Rattle.lab.specs.declared.event.EventKind.{EventKind}
 use Rattle.lab.specs.declared.event.EventKind.TheVariants.{Submit, Get, Deliver, Tick, Start, Stop}

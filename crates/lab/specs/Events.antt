@@ -2,17 +2,15 @@
 use Rattle.std.specs.Prelude.{◌≡◌, ℕ, suc, List, [], ◌∷◌, ◌++◌, length, Option, Some, None}
 use Rattle.std.specs.Prelude.{IfSome, true, if◌then◌else◌, All}
 use Rattle.std.specs.List.{flat_map}
-use Rattle.kv_types.specs.Content.{BatchContent}
-use Rattle.kv_types.specs.Maps.{map_of}
-use Rattle.chain_model.specs.Configuration.{Configurations, has, at_epoch}
-use Rattle.chain_model.specs.declared.drop_reason.DropReason.{DropReason}
-use Rattle.chain_model.specs.Messages as model_frame
-use Rattle.chain_model.specs.Requests as model_request
-use Rattle.chain_model.specs.System as model
-use Rattle.chain_core.specs.States.{Machine}
-use Rattle.node.specs.declared.stop.Stop.{Stop as Cause}
-use Rattle.node.specs.declared.output.Reply.TheVariants as reply
-use Rattle.node.specs.Stops.{IsEnvironmental}
+use Rattle.kv_types.specs.{BatchContent, map_of}
+use Rattle.chain_model.specs.{Configurations, has, at_epoch, Message, Request, Response}
+use Rattle.chain_model.specs.{SystemEvent}
+use Rattle.chain_model.specs.declared.DropReason.{DropReason}
+use Rattle.chain_model.specs as model_frame
+use Rattle.chain_core.specs.{Machine}
+use Rattle.node.specs.declared.Stop.{Stop as Cause}
+use Rattle.node.specs.declared.Reply.TheVariants as reply
+use Rattle.node.specs.{IsEnvironmental}
 use Rattle.lab.specs.declared.event.Event.{Event}
 use Rattle.lab.specs.declared.event.EventKind.{EventKind}
 use Rattle.lab.specs.declared.event.EventKind.TheVariants.{Submit, Get, Deliver, Tick, Start, Stop}
@@ -38,14 +36,14 @@ abbrev pub NamesNodes : Configurations → List Event → Type 0
 NamesNodes cs events = All (λ event. NamesNode cs event.kind) events
 
 -- the event in place i, as the model has it, by what was chosen in it
-abbrev pub modelled : ℕ → EventKind → Choice → model.SystemEvent BatchContent
+abbrev pub modelled : ℕ → EventKind → Choice → model_frame.SystemEvent BatchContent
 modelled i (Submit node batch) choice =
-    model.Ask node i (model_request.Submit batch) choice.went
-modelled i (Get node key at) choice = model.Ask node i (model_request.Read at) choice.went
-modelled i (Deliver place) choice = model.Deliver place choice.went
-modelled i (Tick node) choice = model.Tick node choice.went
-modelled i (Start node) choice = model.Start node choice.went
-modelled i (Stop node junk) choice = model.Stop node
+    SystemEvent.Ask node i (Request.Submit batch) choice.went
+modelled i (Get node key at) choice = SystemEvent.Ask node i (Request.Read at) choice.went
+modelled i (Deliver place) choice = SystemEvent.Deliver place choice.went
+modelled i (Tick node) choice = SystemEvent.Tick node choice.went
+modelled i (Start node) choice = SystemEvent.Start node choice.went
+modelled i (Stop node junk) choice = SystemEvent.Stop node
 
 -- a drop has a line with its reason
 abbrev pub dropped_lines : Option DropReason → List Line
@@ -61,7 +59,7 @@ if_started None None = []
 if_started None (Some at) = start_line at.0 at.1 ∷ []
 if_started (Some why) at = []
 
-abbrev pub start_trace : EventKind → model.Outcome BatchContent → List Line
+abbrev pub start_trace : EventKind → model_frame.Outcome BatchContent → List Line
 start_trace (Start node) o = if_started o.dropped o.acted_on
 start_trace (Submit node batch) o = []
 start_trace (Get node key at) o = []
@@ -71,9 +69,9 @@ start_trace (Stop node junk) o = []
 
 -- a frame that is sent has a line with its place among all, from 1
 abbrev pub frame_line : ℕ → model_frame.Message BatchContent → Line
-frame_line place (model_frame.Forward to epoch from number batch) =
+frame_line place (Message.Forward to epoch from number batch) =
     line.Forwarded place from to epoch number
-frame_line place (model_frame.Ack to epoch from committed have) =
+frame_line place (Message.Ack to epoch from committed have) =
     line.Acknowledged place from to epoch committed have
 
 -- the frames that are sent after so many others
@@ -91,15 +89,15 @@ value_lines (Tick node) i s batches = []
 value_lines (Start node) i s batches = []
 value_lines (Stop node junk) i s batches = []
 
-abbrev pub reply_line : EventKind → model_request.Response BatchContent → List Line
-reply_line kind (model_request.Committed i k) = line.Replied (reply.Committed i k) ∷ []
-reply_line kind (model_request.Shows i s batches) = value_lines kind i s batches
-reply_line kind (model_request.Opened i s) = []
-reply_line kind (model_request.Closed i s) = []
-reply_line kind (model_request.Refused i why) =
+abbrev pub reply_line : EventKind → model_frame.Response BatchContent → List Line
+reply_line kind (Response.Committed i k) = line.Replied (reply.Committed i k) ∷ []
+reply_line kind (Response.Shows i s batches) = value_lines kind i s batches
+reply_line kind (Response.Opened i s) = []
+reply_line kind (Response.Closed i s) = []
+reply_line kind (Response.Refused i why) =
     line.Replied (reply.Refused i why) ∷ []
 
-abbrev pub reply_lines : EventKind → List (model_request.Response BatchContent) → List Line
+abbrev pub reply_lines : EventKind → List (model_frame.Response BatchContent) → List Line
 reply_lines kind replies = flat_map (reply_line kind) replies
 
 -- a node that stops by itself reports the cause
@@ -113,24 +111,26 @@ reported_cause (Start node) cause = Some cause
 
 -- the lines of an event at node x: why it was dropped, then a start, then frames, then
 -- replies
-abbrev pub lines_at : ℕ → ℕ → EventKind → Choice → model.Outcome BatchContent → List Line
+abbrev pub lines_at : ℕ → ℕ → EventKind → Choice → model_frame.Outcome BatchContent → List Line
 lines_at x sent kind choice o =
     if o.stopped then line.Stopped x (reported_cause kind choice.cause) ∷ []
     else dropped_lines o.dropped ++ (start_trace kind o
     ++ (frame_lines sent o.frames ++ reply_lines kind o.replies))
 
 -- the lines of an event, after so many frames
-abbrev pub lines_if : Option (ℕ × Machine) → ℕ → EventKind → Choice → model.Outcome BatchContent
+abbrev pub lines_if : Option (ℕ × Machine) → ℕ → EventKind → Choice → model_frame.Outcome
+    BatchContent
     → List Line
 lines_if None sent kind choice o = line.Nothing ∷ []
 lines_if (Some at) sent kind choice o = lines_at at.0 sent kind choice o
 
 -- the lines of an event after so many frames, and of a node that stopped by itself the cause
-abbrev pub lines_of_event : ℕ → EventKind → Choice → model.Outcome BatchContent → List Line
+abbrev pub lines_of_event : ℕ → EventKind → Choice → model_frame.Outcome BatchContent → List Line
 lines_of_event sent kind choice o = lines_if o.acted_on sent kind choice o
 
 -- What was chosen fits the event and its outcome. An event that bears a fault is as one without.
-pub record ChoiceFits (event : Event) (choice : Choice) (o : model.Outcome BatchContent) : Type 0
+pub record ChoiceFits (event : Event) (choice : Choice) (o : model_frame.Outcome BatchContent) :
+    Type 0
   where
     -- a node stops by itself for its device or for memory alone
     pub cause : o.stopped ≡ true → IfSome (reported_cause event.kind choice.cause) IsEnvironmental

@@ -2,15 +2,12 @@
 use Rattle.std.specs.Prelude.{◌≡◌, ℕ, suc, ◌≤◌, List, [], ◌∷◌, length, take, Option, Some, true}
 use Rattle.std.specs.Prelude.{All}
 use Rattle.std.specs.List.{AllZip}
-use Rattle.kv_types.specs.Content.{BatchContent}
-use Rattle.kv_types.specs.Maps.{map_of}
-use Rattle.disk.specs.States.{State, Contents, IsCrashOutcome}
-use Rattle.chain_model.specs.Lists.{IsPrefix, Part, place}
-use Rattle.chain_model.specs.Configuration.{Configurations, has, last_of}
-use Rattle.chain_model.specs.Headline.{batches}
-use Rattle.node.specs.Files.{DiskRepresents}
-use Rattle.node.specs.declared.output.Reply.{Reply}
-use Rattle.node.specs.declared.output.Reply.TheVariants.{Committed, Value, Refused}
+use Rattle.kv_types.specs.{BatchContent, map_of}
+use Rattle.disk.specs.{State, Contents, IsCrashOutcome}
+use Rattle.chain_model.specs.{IsPrefix, Part, place, Configurations, has, last_of, batches}
+use Rattle.node.specs.{DiskRepresents}
+use Rattle.node.specs.declared.Reply.{Reply}
+use Rattle.node.specs.declared.Reply.TheVariants.{Committed, Value, Refused}
 use Rattle.lab.specs.declared.event.Event.{Event}
 use Rattle.lab.specs.declared.event.EventKind.{EventKind}
 use Rattle.lab.specs.declared.event.EventKind.TheVariants.{Submit, Get, Deliver, Tick, Start, Stop}

@@ -18,3 +18,9 @@ pub use Rattle.disk.specs.declared.junk.Junk
 pub use Rattle.chain_model.specs.declared.refusal.Refusal
 pub use Rattle.node.specs.declared.output.Reply
 pub use Rattle.node.specs.declared.stop.Stop
+
+-- What crates above name.
+pub use Rattle.lab.specs.Events.{NamesNode, node_in}
+pub use Rattle.lab.specs.History.{OneHistory}
+pub use Rattle.lab.specs.Runs.{IsRun}
+pub use Rattle.lab.specs.Worlds.{HasRun, frames_of_step, frames_told}

@@ -1,29 +1,25 @@
 -- The outcomes of a simulated node: the state that each input leaves, its disk and its lines.
 use Rattle.std.specs.Prelude.{◌≡◌, ◌⊎◌, ℕ, List, [], ◌∷◌, ◌++◌, length, map, Option}
 use Rattle.std.specs.Prelude.{Some, None, suc, true, false}
-use Rattle.kv_types.specs.Content.{BatchContent}
-use Rattle.disk.specs.declared.junk.Junk.{Junk}
-use Rattle.disk.specs.declared.junk.Junk.TheVariants.{Old}
-use Rattle.disk.specs.Calls.{RisesByOne}
-use Rattle.disk.specs.Crashes.{CrashOutcome}
-use Rattle.disk.specs.States.{State}
-use Rattle.chain_model.specs.Machine.{Answer, dropped_for, refused, started, stopped}
-use Rattle.link_messages.specs.declared.frame.Frame.{Frame}
-use Rattle.link_messages.specs.declared.frame.Frame.TheVariants as frame
-use Rattle.chain_model.specs.declared.refusal.Refusal.TheVariants as refusal
-use Rattle.chain_model.specs.declared.drop_reason.DropReason.{DropReason}
-use Rattle.chain_model.specs.declared.drop_reason.DropReason.TheVariants as reason
-use Rattle.chain_core.specs.declared.input.Input.{Input}
-use Rattle.chain_core.specs.declared.input.Input.TheVariants as input
-use Rattle.chain_core.specs.declared.sending.Sent.{Sent}
-use Rattle.chain_core.specs.Decisions.{AreFrames, answer_to}
-use Rattle.chain_core.specs.States.{Machine}
-use Rattle.node.specs.declared.output.Output.{Output}
-use Rattle.node.specs.declared.output.Reply.TheVariants as reply
-use Rattle.node.specs.declared.stop.Stop.{Stop as Cause}
-use Rattle.node.specs.declared.stop.Stop.TheVariants.{Disk}
-use Rattle.node.specs.Steps.{replies_of, disk_of}
-use Rattle.node.specs.Stops.{IsEnvironmental}
+use Rattle.kv_types.specs.{BatchContent}
+use Rattle.disk.specs.declared.Junk.{Junk}
+use Rattle.disk.specs.declared.Junk.TheVariants.{Old}
+use Rattle.disk.specs.{RisesByOne, CrashOutcome, State}
+use Rattle.chain_model.specs.{Answer, dropped_for, refused, started, stopped}
+use Rattle.link_messages.specs.declared.Frame.{Frame}
+use Rattle.link_messages.specs.declared.Frame.TheVariants as frame
+use Rattle.chain_model.specs.declared.Refusal.TheVariants as refusal
+use Rattle.chain_model.specs.declared.DropReason.{DropReason}
+use Rattle.chain_model.specs.declared.DropReason.TheVariants as reason
+use Rattle.chain_core.specs.declared.Input.{Input}
+use Rattle.chain_core.specs.declared.Input.TheVariants as input
+use Rattle.chain_core.specs.declared.Sent.{Sent}
+use Rattle.chain_core.specs.{AreFrames, answer_to, Machine}
+use Rattle.node.specs.declared.Output.{Output}
+use Rattle.node.specs.declared.Reply.TheVariants as reply
+use Rattle.node.specs.declared.Stop.{Stop as Cause}
+use Rattle.node.specs.declared.Stop.TheVariants.{Disk}
+use Rattle.node.specs.{replies_of, disk_of, IsEnvironmental}
 use Rattle.lab.specs.declared.input.NodeInput.{NodeInput}
 use Rattle.lab.specs.declared.input.NodeInput.TheVariants as to_node
 use Rattle.lab.specs.declared.input.StepOutcome.{StepOutcome}

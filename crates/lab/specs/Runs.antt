@@ -1,9 +1,9 @@
 -- The report of a run, and the run of the model that it refines.
 use Rattle.std.specs.Prelude.{◌≡◌, List, length, Option, Some, None, true, false, All}
 use Rattle.std.specs.Prelude.{replicate}
-use Rattle.chain_model.specs.Configuration.{Configurations}
-use Rattle.chain_model.specs.System as model
-use Rattle.chain_core.specs.States.{Machine}
+use Rattle.chain_model.specs.{Configurations}
+use Rattle.chain_model.specs as model
+use Rattle.chain_core.specs.{Machine}
 use Rattle.lab.specs.declared.event.Event.{Event}
 use Rattle.lab.specs.declared.report.Numbers.{Numbers}
 use Rattle.lab.specs.declared.report.NodeReport.{NodeReport}

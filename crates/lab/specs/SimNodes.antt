@@ -1,12 +1,11 @@
 -- Simulated nodes: what a running or stopped one refines, and what the code may choose in a step.
 use Rattle.std.specs.Prelude.{◌≡◌, ℕ, false}
-use Rattle.disk.specs.States.{State}
-use Rattle.disk.specs.Memory.{Slots, state_of}
-use Rattle.chain_model.specs.System as model
-use Rattle.chain_core.specs.States.{Machine}
-use Rattle.node.specs.declared.node.Node.{Node}
-use Rattle.node.specs.declared.stop.Stop.{Stop as Cause}
-use Rattle.node.specs.Steps.{NodeRefines, DiskAlwaysRefines, IsReady, disk_of}
+use Rattle.disk.specs.{State, Slots, state_of}
+use Rattle.chain_model.specs as model
+use Rattle.chain_core.specs.{Machine}
+use Rattle.node.specs.declared.Node.{Node}
+use Rattle.node.specs.declared.Stop.{Stop as Cause}
+use Rattle.node.specs.{NodeRefines, DiskAlwaysRefines, IsReady, disk_of}
 use Rattle.lab.specs.declared.node_state.NodeState.{NodeState}
 use Rattle.lab.specs.declared.node_state.NodeState.TheVariants.{Up, Down}
 

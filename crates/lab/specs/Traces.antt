@@ -1,8 +1,8 @@
 -- Events and the lines of each, as a run of the model by what was chosen in each.
 use Rattle.std.specs.Prelude.{◌≡◌, ℕ, suc, List, [], ◌∷◌, length}
-use Rattle.kv_types.specs.Content.{BatchContent}
-use Rattle.chain_model.specs.Configuration.{Configurations}
-use Rattle.chain_model.specs.System as model
+use Rattle.kv_types.specs.{BatchContent}
+use Rattle.chain_model.specs.{Configurations}
+use Rattle.chain_model.specs as model
 use Rattle.lab.specs.declared.event.Event.{Event}
 use Rattle.lab.specs.declared.report.Line.{Line}
 use Rattle.lab.specs.Events.{modelled, lines_of_event, ChoiceFits}

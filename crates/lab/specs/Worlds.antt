@@ -2,20 +2,17 @@
 use Rattle.std.specs.Prelude.{◌≡◌, ℕ, ◌+◌, ◌≤◌, List, [], ◌∷◌, ◌++◌, length, map, Some}
 use Rattle.std.specs.Prelude.{All, true, ◌≢◌, ◌<◌, get_or, slice_set}
 use Rattle.std.specs.List.{AllZip, HoldsAt}
-use Rattle.kv_types.specs.Content.{BatchContent}
-use Rattle.chain_model.specs.Configuration.{Configurations, Lawful, at_epoch}
-use Rattle.chain_model.specs.Messages as model_frame
-use Rattle.chain_model.specs.Machine.{created}
-use Rattle.chain_model.specs.System as model
-use Rattle.disk.specs.declared.junk.Junk.{Junk}
-use Rattle.disk.specs.Memory.{Slots}
-use Rattle.node.specs.declared.node.Node.{Node}
-use Rattle.node.specs.Steps.{disk_of}
-use Rattle.link_messages.specs.declared.frame.Frame.{Frame}
-use Rattle.link_messages.specs.Spelling.{IsFrame, HasBounds, frame_bytes}
-use Rattle.chain_core.specs.Decisions.{frame_as}
-use Rattle.chain_core.specs.States.{Machine}
-use Rattle.chain_core.specs.declared.sending.Sent.{Sent}
+use Rattle.kv_types.specs.{BatchContent}
+use Rattle.chain_model.specs.{Configurations, Lawful, at_epoch, created}
+use Rattle.chain_model.specs as model_frame
+use Rattle.disk.specs.declared.Junk.{Junk}
+use Rattle.disk.specs.{Slots}
+use Rattle.node.specs.declared.Node.{Node}
+use Rattle.node.specs.{disk_of}
+use Rattle.link_messages.specs.declared.Frame.{Frame}
+use Rattle.link_messages.specs.{IsFrame, HasBounds, frame_bytes}
+use Rattle.chain_core.specs.{frame_as, Machine}
+use Rattle.chain_core.specs.declared.Sent.{Sent}
 use Rattle.lab.specs.declared.input.NodeInput.{NodeInput}
 use Rattle.lab.specs.declared.input.StepOutcome.{StepOutcome}
 use Rattle.lab.specs.declared.event.Event.{Event}
@@ -158,7 +155,7 @@ pub record RunRefines (sims : List SimNode) (posted : List Posted) (cs : Configu
   pub lawful : Lawful cs
   pub choices : List Choice
   pub trace : IsTrace cs events choices steps
-  pub frames : AllZip PostedRefines posted (model.reached cs
+  pub frames : AllZip PostedRefines posted (model_frame.reached cs
       (modelled_from 1 events choices)).frames
   pub sent : frames_told steps ≡ length posted
   pub nodes : map (λ sim. sim.id) sims ≡ at_epoch cs 0
@@ -166,7 +163,8 @@ pub record RunRefines (sims : List SimNode) (posted : List Posted) (cs : Configu
   pub after : AreDisksAfter state failures cs events choices disks
   -- no disk failed more often than there are events
   pub few : (x : ℕ) → failures (disks x) ≤ length events
-  pub each : All (SimNodeRefines (model.node_of cs (modelled_from 1 events choices)) disks) sims
+  pub each : All (SimNodeRefines (model_frame.node_of cs (modelled_from 1 events choices)) disks)
+      sims
 
 -- the events that were applied
 abbrev pub events_in : List EventRecord → List Event

@@ -1,9 +1,9 @@
 // Posted frames, and what an event delivers to which node.
 ghost use Rattle.std.specs.Prelude.{◌≡◌, List, Some, IfOk, IsErr, MatchOption};
 ghost use Rattle.std.specs.List.{AllZip};
-ghost use Rattle.kv_types.specs.Content.{BatchContent};
-ghost use Rattle.chain_model.specs.Messages.{Message as ModelFrame};
-ghost use Rattle.link_messages.specs.Spelling.{IsFrame, frame_bytes};
+ghost use Rattle.kv_types.specs.{BatchContent};
+ghost use Rattle.chain_model.specs.{Message as ModelFrame};
+ghost use Rattle.link_messages.specs.{IsFrame, frame_bytes};
 ghost use Rattle.lab.specs.Deliveries.{IsDelivered, IsPostedAt, HasNoFrame, input_of};
 ghost use Rattle.lab.specs.Deliveries.{IsDeliveryOf, HasNoDelivery};
 ghost use Rattle.lab.specs.Worlds.{PostedRefines};

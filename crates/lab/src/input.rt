@@ -1,6 +1,6 @@
 // The inputs of a simulated node, and the outcomes of its steps.
 ghost use Rattle.std.specs.Prelude.{IfOk};
-ghost use Rattle.chain_core.specs.States.{Machine};
+ghost use Rattle.chain_core.specs.{Machine};
 ghost use Rattle.lab.specs.Outcomes.{IsAnswer, IsDrop, IsRefusal, down_answer};
 
 use configurations::Epoch;

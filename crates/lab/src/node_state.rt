@@ -1,9 +1,9 @@
 // The state of a simulated node, up or down, and how it takes an input.
 ghost use Rattle.std.specs.Prelude.{◌⊎◌, ℕ, IfOk};
-ghost use Rattle.kv_types.specs.Content.{BatchContent};
-ghost use Rattle.chain_model.specs.Machine.{Answer, stopped};
-ghost use Rattle.chain_core.specs.States.{Machine};
-ghost use Rattle.node.specs.Steps.{DiskAlwaysRefines, StopRefines};
+ghost use Rattle.kv_types.specs.{BatchContent};
+ghost use Rattle.chain_model.specs.{Answer, stopped};
+ghost use Rattle.chain_core.specs.{Machine};
+ghost use Rattle.node.specs.{DiskAlwaysRefines, StopRefines};
 ghost use Rattle.lab.specs.SimNodes.{StateRefines, StateIsReady, disk_in};
 ghost use Rattle.lab.specs.Outcomes.{DiskFits, HasCrashed, HasStarted, OutcomeRefines};
 ghost use Rattle.lab.specs.Outcomes.{StateFollows, input_junk};
@@ -32,7 +32,7 @@ fn crash<D: Crash + Drop>(mut disk: D, junk: Junk) -> NodeState<D>
         ⊎ StateRefines D.is_honest D.state result x (stopped a.node) }
 {
     // laws: what a crash leaves is sure, and a crash leaves it again
-    durable_is_left();
+    durable_is_left(); // law: a crash leaves what is durable
     crashed_is_durable();
     disk.crash(junk);
     NodeState::Down(disk)

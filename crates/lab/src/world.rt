@@ -2,13 +2,13 @@
 ghost use Rattle.std.specs.Prelude.{◌≡◌, ℕ, List, [], ◌∷◌, ◌++◌, IfOk, IsErr, MatchResult, OnOk};
 ghost use Rattle.std.specs.Prelude.{MatchOption};
 ghost use Rattle.std.specs.Prelude.{map};
-ghost use Rattle.chain_model.specs.Configuration.{Configurations};
+ghost use Rattle.chain_model.specs.{Configurations};
 ghost use Rattle.lab.specs.declared.event.Event.{Event};
 ghost use Rattle.lab.specs.declared.report.Line.{Line};
 ghost use Rattle.lab.specs.Events.{NamesNode};
-ghost use Rattle.chain_core.specs.States.{Machine};
-ghost use Rattle.disk.specs.Memory.{Slots};
-ghost use Rattle.node.specs.Steps.{disk_of};
+ghost use Rattle.chain_core.specs.{Machine};
+ghost use Rattle.disk.specs.{Slots};
+ghost use Rattle.node.specs.{disk_of};
 ghost use Rattle.lab.specs.SimNodes.{StateRefines, disk_in, is_honest, state};
 ghost use Rattle.lab.specs.Runs.{IsRun};
 ghost use Rattle.lab.specs.History.{OneHistory};
@@ -229,7 +229,7 @@ impl World {
             HasRun self.now cs events steps → HasHistory self.now cs events result.now }
     {
         // laws: a run of the model has one history, and is made of its outcomes
-        one_history::<Batch>();
+        one_history::<Batch>(); // law: a run has one history
         run_is_outcomes::<Batch>();
         // law: the disk of a running node represents it
         disks_represent::<MemDisk>();
@@ -267,7 +267,7 @@ impl World {
         }
         let nodes = left_of_all(alloc, nodes)?;
         // laws: a run of the model has one history, and is made of its outcomes
-        one_history::<Batch>();
+        one_history::<Batch>(); // law: a run has one history
         run_is_outcomes::<Batch>();
         Ok(Report { steps, nodes })
     }

@@ -1,7 +1,7 @@
 -- What the content of a frame is: a frame, of no kind, malformed, or too much.
 use Rattle.std.proofs.Common.{◌≡◌, ◌⊎◌, inl, inr, ℕ, ◌≤◌, List, [], ◌∷◌, ◌++◌, length}
 use Rattle.std.proofs.Common.{Option, Some, None, Result, Ok, Err, refl, sym, ap, subst, ◌∙◌, arith}
-use Rattle.configurations.specs.Configs.{TestDecidesConfig}
+use Rattle.configurations.specs.{TestDecidesConfig}
 use Rattle.kv_types.proofs.Fields.{IsBytes, IsBytes-rest}
 use Rattle.link_messages.specs.declared.error.FrameError.{FrameError}
 use Rattle.link_messages.specs.declared.error.FrameError.TheVariants as fault

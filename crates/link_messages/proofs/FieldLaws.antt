@@ -7,19 +7,16 @@ use Rattle.std.specs.List.{flat_map, sum_by}
 use Rattle.std.specs.Prelude.{IsSomeAnd, option_map}
 use Rattle.std.specs.Int.{w8, w16, w32, w64}
 use Rattle.std.proofs.lemmas.Bool.{leb-true, le-leb}
-use Rattle.chain_model.specs.Configuration.{IsId}
-use Rattle.configurations.specs.Configs.{IsConfig, TestDecidesConfig, is_config}
-use Rattle.configurations.specs.Spelling.{config_text}
+use Rattle.chain_model.specs.{IsId}
+use Rattle.configurations.specs.{IsConfig, TestDecidesConfig, is_config, config_text}
 use Rattle.kv_types.specs.declared.bounds.TheConstants.{MAX_KEY, MAX_VALUE, MAX_ROWS, MAX_PAGE}
 use Rattle.kv_types.specs.declared.bounds.TheConstants.{MAX_NUMBER}
-use Rattle.kv_types.specs.Spelling.{text_bytes, IsBatch}
-use Rattle.kv_types.specs.Spelling.{batch_bytes as batch_text}
-use Rattle.kv_types.specs.Pages.{row_size}
-use Rattle.kv_types.specs.Reading.{◌>>=◌, text_at, batch_at}
+use Rattle.kv_types.specs.{text_bytes, IsBatch, batch_bytes as batch_text, row_size, ◌>>=◌, text_at}
+use Rattle.kv_types.specs.{batch_at}
 use Rattle.kv_types.proofs.Fields.{IsBytes, bind_some, some_is, Takes, text_takes, text_again}
 use Rattle.kv_types.proofs.Batches.{front_takes, front_again}
-use Rattle.chain_model.specs.declared.refusal.Refusal.{Refusal}
-use Rattle.chain_model.specs.declared.refusal.Refusal.TheVariants as refused
+use Rattle.chain_model.specs.declared.Refusal.{Refusal}
+use Rattle.chain_model.specs.declared.Refusal.TheVariants as refused
 use Rattle.link_messages.specs.Spelling.{u8, u16, u32, u64, optional, at_text}
 use Rattle.link_messages.specs.Spelling.{range_text, row_text, page_text, refusal_number, IsEpoch}
 use Rattle.link_messages.specs.Spelling.{IsNumber}

@@ -6,13 +6,10 @@ use Rattle.std.specs.List.{flat_map, sum_by}
 use Rattle.std.proofs.lemmas.List.{length-append}
 use Rattle.std.proofs.lemmas.List.Concat.{flat_map-cons}
 use Rattle.std.proofs.lemmas.List.Sums.{sum_by-cons}
-use Rattle.configurations.specs.Configs.{TestDecidesConfig}
-use Rattle.kv_types.specs.declared.row.Row.{Row}
-use Rattle.kv_types.specs.Pages.{row_size}
-use Rattle.kv_types.specs.Reading.{◌>>=◌}
+use Rattle.configurations.specs.{TestDecidesConfig}
+use Rattle.kv_types.specs.declared.Row.{Row}
+use Rattle.kv_types.specs.{row_size, ◌>>=◌, Span, Rows, text_bytes}
 use Rattle.kv_types.specs.declared.bounds.TheConstants.{MAX_KEY, MAX_VALUE, MAX_PAGE}
-use Rattle.kv_types.specs.Spans.{Span, Rows}
-use Rattle.kv_types.specs.Spelling.{text_bytes}
 use Rattle.kv_types.proofs.Fields.{IsBytes, bind_some, some_is, Takes}
 use Rattle.link_messages.specs.declared.frame.Frame.{Frame}
 use Rattle.link_messages.specs.declared.frame.Frame.TheVariants as frame

@@ -12,7 +12,7 @@ use Rattle.std.proofs.lemmas.List.Concat.{flat_map-cons}
 use Rattle.std.proofs.lemmas.List.Elements.{All-from_recursion, recursion_from_All}
 use Rattle.std.proofs.lemmas.Nat.{be_bytes_2, be_bytes_4, be_bytes_8, from_be_bytes-to_be_bytes_2}
 use Rattle.std.proofs.lemmas.Nat.{from_be_bytes-to_be_bytes_4, from_be_bytes-to_be_bytes_8}
-use Rattle.kv_types.specs.Reading.{◌>>=◌}
+use Rattle.kv_types.specs.{◌>>=◌}
 use Rattle.kv_types.proofs.Fields.{IsBytes, IsBytes-rest, bind_some, guard_some, some_is, Takes}
 use Rattle.kv_types.proofs.Fields.{Takes-then}
 use Rattle.link_messages.specs.Spelling.{truth, optional}

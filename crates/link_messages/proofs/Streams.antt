@@ -12,7 +12,7 @@ use Rattle.std.proofs.lemmas.List.Concat.{flat_map-cons}
 use Rattle.std.proofs.lemmas.List.Elements.{All-from_recursion, recursion_from_All}
 use Rattle.std.proofs.lemmas.Nat.{be_bytes_4, from_be_bytes-to_be_bytes_4}
 use Rattle.byteorder.specs.Endian.{big_number}
-use Rattle.configurations.specs.Configs.{TestDecidesConfig}
+use Rattle.configurations.specs.{TestDecidesConfig}
 use Rattle.kv_types.proofs.Fields.{IsBytes}
 use Rattle.link_messages.specs.declared.error.FrameError.{FrameError}
 use Rattle.link_messages.specs.declared.error.FrameError.TheVariants as fault

@@ -1,8 +1,8 @@
 -- Small frames, spelled out.
 use Rattle.std.specs.Prelude.{◌≡◌, [], ◌∷◌, codes}
-use Rattle.kv_types.specs.declared.edit.Edit.TheVariants.{Put}
-use Rattle.kv_types.specs.Content.{BatchContent}
-use Rattle.kv_types.specs.Spelling as batch
+use Rattle.kv_types.specs.declared.Edit.TheVariants.{Put}
+use Rattle.kv_types.specs.{BatchContent}
+use Rattle.kv_types.specs as batch
 use Rattle.link_messages.specs.declared.frame.Frame.{Frame}
 use Rattle.link_messages.specs.declared.frame.Frame.TheVariants as frame
 use Rattle.link_messages.specs.Spelling.{frame_bytes}

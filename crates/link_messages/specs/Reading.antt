@@ -5,15 +5,13 @@ use Rattle.std.specs.Prelude.{Result, Ok, Err, if◌then◌else◌}
 use Rattle.std.specs.Global.{Vec}
 use Rattle.std.specs.List.{sum_by}
 use Rattle.std.specs.Int.{Width, w8, w16, w32, w64, byte_len, from_be_bytes}
-use Rattle.configurations.specs.Configs.{is_config}
+use Rattle.configurations.specs.{is_config}
 use Rattle.kv_types.specs.declared.bounds.TheConstants.{MAX_KEY, MAX_VALUE, MAX_ROWS, MAX_PAGE}
 use Rattle.kv_types.specs.declared.bounds.TheConstants.{MAX_NUMBER}
-use Rattle.kv_types.specs.declared.row.Row.{Row}
-use Rattle.kv_types.specs.Spans.{Span, Rows}
-use Rattle.kv_types.specs.Pages.{row_size}
-use Rattle.kv_types.specs.Reading.{◌>>=◌, text_at, batch_at}
-use Rattle.chain_model.specs.declared.refusal.Refusal.{Refusal}
-use Rattle.chain_model.specs.declared.refusal.Refusal.TheVariants as refused
+use Rattle.kv_types.specs.declared.Row.{Row}
+use Rattle.kv_types.specs.{Span, Rows, row_size, ◌>>=◌, text_at, batch_at}
+use Rattle.chain_model.specs.declared.Refusal.{Refusal}
+use Rattle.chain_model.specs.declared.Refusal.TheVariants as refused
 use Rattle.link_messages.specs.declared.frame.Frame.{Frame}
 use Rattle.link_messages.specs.declared.frame.Frame.TheVariants as frame
 use Rattle.link_messages.specs.declared.frame.TheConstants.{MAX_FRAME}

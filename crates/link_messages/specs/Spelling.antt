@@ -3,18 +3,14 @@ use Rattle.std.specs.Prelude.{ℕ, ◌≤◌, List, [], ◌∷◌, ◌++◌, len
 use Rattle.std.specs.Prelude.{Some, None, IfSome, All}
 use Rattle.std.specs.List.{flat_map}
 use Rattle.std.specs.Int.{w8, w16, w32, w64, to_be_bytes}
-use Rattle.chain_model.specs.Configuration.{IsId}
-use Rattle.configurations.specs.Configs.{IsConfig}
-use Rattle.configurations.specs.Spelling.{config_text}
+use Rattle.chain_model.specs.{IsId}
+use Rattle.configurations.specs.{IsConfig, config_text}
 use Rattle.kv_types.specs.declared.bounds.TheConstants.{MAX_KEY, MAX_VALUE, MAX_ROWS, MAX_PAGE}
 use Rattle.kv_types.specs.declared.bounds.TheConstants.{MAX_NUMBER}
-use Rattle.kv_types.specs.declared.row.Row.{Row}
-use Rattle.kv_types.specs.Spans.{Span, Rows}
-use Rattle.kv_types.specs.Spelling.{text_bytes, IsBatch}
-use Rattle.kv_types.specs.Spelling.{batch_bytes as batch_text}
-use Rattle.kv_types.specs.Pages.{KeepsLimits}
-use Rattle.chain_model.specs.declared.refusal.Refusal.{Refusal}
-use Rattle.chain_model.specs.declared.refusal.Refusal.TheVariants as refused
+use Rattle.kv_types.specs.declared.Row.{Row}
+use Rattle.kv_types.specs.{Span, Rows, text_bytes, IsBatch, batch_bytes as batch_text, KeepsLimits}
+use Rattle.chain_model.specs.declared.Refusal.{Refusal}
+use Rattle.chain_model.specs.declared.Refusal.TheVariants as refused
 use Rattle.link_messages.specs.declared.frame.Frame.{Frame}
 use Rattle.link_messages.specs.declared.frame.Frame.TheVariants as frame
 

@@ -1,7 +1,7 @@
 // The rows of an answer, written as bytes and read from them.
 ghost use Rattle.std.specs.Prelude.{◌≡◌, ◌++◌, OnOk, All, nat_le};
 ghost use Rattle.std.specs.List.{flat_map, sum_by};
-ghost use Rattle.kv_types.specs.Pages.{row_size};
+ghost use Rattle.kv_types.specs.{row_size};
 ghost use Rattle.link_messages.specs.Spelling.{row_text, page_text, IsRow};
 ghost use Rattle.link_messages.specs.Reading.{ReadsField, items_of, many, row_at, rows_at, page_at};
 

@@ -2,14 +2,13 @@
 use Rattle.std.proofs.Common.{◌≡◌, ℕ, ◌<◌, List, [], ◌∷◌, length, Option, Some, None}
 use Rattle.std.proofs.Common.{Result, Ok, Err, inl, inr, refl, ap, subst, arith}
 use Rattle.std.specs.Prelude.{IfErr, IsSomeAnd, MatchOption}
-use Rattle.disk.specs.States.{State}
-use Rattle.disk.specs.declared.error.DiskError.TheVariants as disk
-use Rattle.record_log.specs.declared.error.LogError.{LogError}
-use Rattle.record_log.specs.declared.error.LogError.TheVariants as log
-use Rattle.record_log.specs.declared.log.Log.{Log}
-use Rattle.record_log.specs.Grammar.{RepresentsRecords, RecordsAreUnique}
-use Rattle.record_log.specs.Logs as log_stands
-use Rattle.record_log.specs.Logs.{LogHolds, count_of}
+use Rattle.disk.specs.{State}
+use Rattle.disk.specs.declared.DiskError.TheVariants as disk
+use Rattle.record_log.specs.declared.LogError.{LogError}
+use Rattle.record_log.specs.declared.LogError.TheVariants as log
+use Rattle.record_log.specs.declared.Log.{Log}
+use Rattle.record_log.specs.{RepresentsRecords, RecordsAreUnique, LogHolds, count_of}
+use Rattle.record_log.specs as log_stands
 use Rattle.node.specs.declared.stop.Stop.{Stop}
 use Rattle.node.specs.declared.stop.Stop.TheVariants as stop
 use Rattle.node.specs.Files.{IsLog, IsBlankFile}

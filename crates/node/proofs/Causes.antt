@@ -1,10 +1,10 @@
 -- Causes of a stop, by the errors of the layers below.
 use Rattle.std.proofs.Common.{◌≡◌, ◌⊎◌, ℕ, ◌≤◌, List, length, Result, Ok, Err, inl, inr, ap, arith}
 use Rattle.std.specs.Prelude.{IfErr, OnErr, OnOk, IsErrOf}
-use Rattle.record_log.specs.declared.error.LogError.{LogError}
-use Rattle.record_log.specs.declared.error.LogError.TheVariants as log
-use Rattle.record_log.specs.declared.log.Log.{Log}
-use Rattle.record_log.specs.Logs as log_stands
+use Rattle.record_log.specs.declared.LogError.{LogError}
+use Rattle.record_log.specs.declared.LogError.TheVariants as log
+use Rattle.record_log.specs.declared.Log.{Log}
+use Rattle.record_log.specs as log_stands
 use Rattle.node.specs.declared.stop.Stop.{Stop}
 use Rattle.node.specs.declared.stop.Stop.TheVariants as stop
 use Rattle.node.specs.Stops.{log_stop, IsEnvironmental}

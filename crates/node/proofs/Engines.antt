@@ -5,25 +5,20 @@ use Rattle.std.proofs.Common.{inl, inr, refl, sym, ap, subst, ◌∙◌, arith}
 use Rattle.std.proofs.Common.{zero, suc, ◌-◌, get_or, length-append}
 use Rattle.std.specs.Prelude.{IsSomeAnd, slice_get, ◌⊎◌, ◌≢◌}
 use Rattle.std.proofs.lemmas.List.Elements.{All-push}
-use Rattle.kv_types.specs.Spelling.{IsBatch}
-use Rattle.disk.specs.States.{State, Slot, Absent, Fresh, Kept, Contents, IsFileOutcome}
-use Rattle.disk.specs.States.{IsCrashOutcome}
-use Rattle.disk.specs.States.{contents, seen, IsDurable, DurableIsLeft}
-use Rattle.record_log.specs.declared.log.Log.{Log}
-use Rattle.record_log.specs.Grammar.{RepresentsRecords}
-use Rattle.record_log.specs.Push.{LeavesAt}
-use Rattle.record_log.specs.Logs.{LogHolds, IsAt, IsOldOrNew, count_of}
+use Rattle.kv_types.specs.{IsBatch, BatchContent}
+use Rattle.disk.specs.{State, Slot, Absent, Fresh, Kept, Contents, IsFileOutcome, IsCrashOutcome}
+use Rattle.disk.specs.{contents, seen, IsDurable, DurableIsLeft}
+use Rattle.record_log.specs.declared.Log.{Log}
+use Rattle.record_log.specs.{RepresentsRecords, LeavesAt, LogHolds, IsAt, IsOldOrNew, count_of}
 use Rattle.node.specs.declared.engine.Engine.{Engine}
-use Rattle.chain_model.specs.Configuration.{IsId}
-use Rattle.configurations.specs.Configs.{IsConfig}
+use Rattle.chain_model.specs.{IsId, place}
+use Rattle.configurations.specs.{IsConfig}
 use Rattle.kv_types.specs.declared.bounds.TheConstants.{MAX_NUMBER}
-use Rattle.kv_types.specs.Content.{BatchContent}
 use Rattle.node.specs.Layout.{identity_file, identity_records, batches_file}
 use Rattle.node.specs.Layout.{batch_record, records_from}
 use Rattle.node.specs.Files.{IsLog, HasId, DiskRepresents, IsDurableIdOf, KeepsOneOf}
 use Rattle.node.specs.Engines.{EngineHolds, HasNumbersOf, KeepsStore, engine_count}
-use Rattle.chain_core.specs.States.{Machine}
-use Rattle.chain_model.specs.Lists.{place}
+use Rattle.chain_core.specs.{Machine}
 use Rattle.node.proofs.Records.{records_from-push, length-ends}
 
 -- two calls in a row keep what each keeps

@@ -3,8 +3,7 @@ use Rattle.std.proofs.Common.{◌≡◌, ℕ, suc, ◌-◌, ◌≤◌, List, [],
 use Rattle.std.proofs.Common.{sym, ◌∙◌, length-append, arith}
 use Rattle.std.specs.Int.{w16, to_be_bytes}
 use Rattle.std.proofs.lemmas.List.{append-nil, take_all}
-use Rattle.configurations.specs.Configs.{IsConfig}
-use Rattle.configurations.specs.Spelling.{config_text, ConfigTextIsShort}
+use Rattle.configurations.specs.{IsConfig, config_text, ConfigTextIsShort}
 use Rattle.node.specs.Layout.{identity_record}
 
 -- behind the id stands the configuration

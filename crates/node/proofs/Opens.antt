@@ -6,16 +6,13 @@ use Rattle.std.specs.Int.{w16, to_be_bytes, from_be_bytes}
 use Rattle.std.proofs.lemmas.Nat.{from_be_bytes-to_be_bytes_2}
 use Rattle.std.proofs.lemmas.List.{append-nil}
 use Rattle.std.proofs.lemmas.List.Elements.{All-head, All-tail}
-use Rattle.kv_types.specs.Content.{BatchContent}
-use Rattle.kv_types.specs.Spelling.{IsBatch, SpellingsDiffer, batch_bytes}
-use Rattle.disk.specs.States.{State, Slot, Contents, seen, IsSame}
-use Rattle.record_log.specs.declared.log.Log.{Log}
-use Rattle.record_log.specs.Logs.{LogHolds, HasRecords, IsAt, IsOpenedLog, count_of}
-use Rattle.record_log.specs.Grammar.{RecordsAreUnique}
+use Rattle.kv_types.specs.{BatchContent, IsBatch, SpellingsDiffer, batch_bytes}
+use Rattle.disk.specs.{State, Slot, Contents, seen, IsSame}
+use Rattle.record_log.specs.declared.Log.{Log}
+use Rattle.record_log.specs.{LogHolds, HasRecords, IsAt, IsOpenedLog, count_of, RecordsAreUnique}
 use Rattle.node.specs.declared.stop.Stop.{Stop}
-use Rattle.chain_model.specs.Configuration.{IsId}
-use Rattle.configurations.specs.Configs.{IsConfig}
-use Rattle.configurations.specs.Spelling.{config_text, ConfigTextIsUnique}
+use Rattle.chain_model.specs.{IsId}
+use Rattle.configurations.specs.{IsConfig, config_text, ConfigTextIsUnique}
 use Rattle.node.specs.declared.layout.Identity.{Identity}
 use Rattle.node.specs.Layout.{identity_file, identity_record, identity_records}
 use Rattle.node.specs.Layout.{batch_record, records_from}

@@ -6,20 +6,16 @@ use Rattle.std.specs.Prelude.{SomeIff, IfOk, nat_lt}
 use Rattle.std.specs.Ordering.{is_gt, nat_cmp}
 use Rattle.std.proofs.lemmas.Bool.Decides.{nat_tests}
 use Rattle.std.proofs.lemmas.List.{map-append}
-use Rattle.kv_types.specs.Content.{BatchContent}
-use Rattle.chain_model.specs.Messages.{Message}
-use Rattle.chain_model.specs.Machine.{Answer}
-use Rattle.chain_model.specs.Rules.{reply_read}
-use Rattle.chain_core.specs.declared.done.Done.{Done}
-use Rattle.chain_core.specs.declared.input.Input.{Input}
-use Rattle.chain_core.specs.declared.input.Input.TheVariants as asked
-use Rattle.chain_core.specs.declared.decision.Decision.TheVariants as decision
-use Rattle.chain_core.specs.declared.sending.Sent.{Sent}
-use Rattle.chain_core.specs.declared.pending_submit.PendingSubmit.{PendingSubmit}
-use Rattle.chain_core.specs.States.{Machine}
-use Rattle.chain_core.specs.States as core
-use Rattle.chain_core.specs.Decisions.{AreFrames, IsReadOf, frame_as}
-use Rattle.chain_core.specs.Steps.{StepLeaves, frames_after}
+use Rattle.kv_types.specs.{BatchContent}
+use Rattle.chain_model.specs.{Message, Answer, reply_read}
+use Rattle.chain_core.specs.declared.Done.{Done}
+use Rattle.chain_core.specs.declared.Input.{Input}
+use Rattle.chain_core.specs.declared.Input.TheVariants as asked
+use Rattle.chain_core.specs.declared.Decision.TheVariants as decision
+use Rattle.chain_core.specs.declared.Sent.{Sent}
+use Rattle.chain_core.specs.declared.PendingSubmit.{PendingSubmit}
+use Rattle.chain_core.specs.{Machine, AreFrames, IsReadOf, frame_as, StepLeaves, frames_after}
+use Rattle.chain_core.specs as core
 use Rattle.node.specs.declared.output.Output.{Output}
 use Rattle.node.specs.declared.stop.Stop.{Stop}
 use Rattle.node.specs.Outputs.{OutputHas, OutputRefines, committed_reply}

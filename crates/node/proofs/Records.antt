@@ -5,12 +5,10 @@ use Rattle.std.specs.Prelude.{All, slice_get}
 use Rattle.std.proofs.lemmas.List.{take_all}
 use Rattle.std.proofs.lemmas.List.Elements.{All-head, All-tail}
 use Rattle.std.specs.Int.{w64, to_be_bytes}
-use Rattle.kv_types.specs.Content.{BatchContent}
-use Rattle.kv_types.specs.Spelling.{IsBatch, batch_bytes}
-use Rattle.disk.specs.States.{State}
-use Rattle.record_log.specs.declared.log.Log.{Log}
-use Rattle.record_log.specs.Logs.{LogHolds, count_of}
-use Rattle.record_log.specs.Grammar.{ends_from}
+use Rattle.kv_types.specs.{BatchContent, IsBatch, batch_bytes}
+use Rattle.disk.specs.{State}
+use Rattle.record_log.specs.declared.Log.{Log}
+use Rattle.record_log.specs.{LogHolds, count_of, ends_from}
 use Rattle.node.specs.Layout.{batch_record, records_from}
 
 -- one batch more is one record more

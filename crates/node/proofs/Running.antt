@@ -4,22 +4,18 @@ use Rattle.std.proofs.Common.{suc, arith, map, Option, Some, None, refl, sym, ap
 use Rattle.std.proofs.Common.{replicate, length-append}
 use Rattle.std.specs.Prelude.{Result, Ok, Err, IfOk, IfErr}
 use Rattle.std.proofs.lemmas.List.{length-replicate}
-use Rattle.kv_types.specs.Content.{BatchContent}
-use Rattle.disk.specs.States.{State, Contents, DurableIsLeft, contents}
-use Rattle.chain_model.specs.Configuration.{successor}
-use Rattle.chain_model.specs.Lists.{place}
-use Rattle.chain_model.specs.Machine.{Answer, started}
-use Rattle.chain_core.specs.declared.done.Done.{Done}
-use Rattle.chain_core.specs.declared.done.Done.TheVariants as done
-use Rattle.chain_core.specs.declared.input.Input.{Input}
-use Rattle.chain_core.specs.declared.pending_submit.PendingSubmit.{PendingSubmit}
-use Rattle.chain_core.specs.States.{Machine, Core, CoreRefines, waiting}
-use Rattle.chain_core.specs.Decisions as core
-use Rattle.chain_core.specs.declared.decision.Decision.{Decision}
-use Rattle.chain_core.specs.Decisions.{done_of, rule_of}
-use Rattle.chain_core.specs.Steps.{StepLeaves, StepsLeave, StandsLast, list_after, epoch_after}
-use Rattle.chain_core.specs.Steps.{ids_after, floor_after, kept_after, frames_after}
-use Rattle.chain_model.specs.Messages.{Message}
+use Rattle.kv_types.specs.{BatchContent}
+use Rattle.disk.specs.{State, Contents, DurableIsLeft, contents}
+use Rattle.chain_model.specs.{successor, place, Answer, started, Message}
+use Rattle.chain_core.specs.declared.Done.{Done}
+use Rattle.chain_core.specs.declared.Done.TheVariants as done
+use Rattle.chain_core.specs.declared.Input.{Input}
+use Rattle.chain_core.specs.declared.PendingSubmit.{PendingSubmit}
+use Rattle.chain_core.specs.{Machine, Core, CoreRefines, waiting, done_of, rule_of, StepLeaves}
+use Rattle.chain_core.specs.{StepsLeave, StandsLast, list_after, epoch_after, ids_after}
+use Rattle.chain_core.specs.{floor_after, kept_after, frames_after}
+use Rattle.chain_core.specs as core
+use Rattle.chain_core.specs.declared.Decision.{Decision}
 use Rattle.node.specs.declared.engine.Engine.{Engine}
 use Rattle.node.specs.declared.node.Node.{Node}
 use Rattle.node.specs.declared.output.Output.{Output}

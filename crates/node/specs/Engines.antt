@@ -1,13 +1,11 @@
 -- An open engine over a node's files: its numbers, and the batches that it holds.
 use Rattle.std.specs.Prelude.{◌≡◌, ℕ, ◌+◌, ◌≤◌, List, length, All}
 use Rattle.kv_types.specs.declared.bounds.TheConstants.{MAX_NUMBER}
-use Rattle.kv_types.specs.Content.{BatchContent}
-use Rattle.kv_types.specs.Spelling.{IsBatch}
-use Rattle.disk.specs.States.{State}
-use Rattle.disk.specs.Calls.{EndsOutOfRange}
+use Rattle.kv_types.specs.{BatchContent, IsBatch}
+use Rattle.disk.specs.{State, EndsOutOfRange}
 use Rattle.record_log.specs.declared.log.TheConstants.{MAX_RECORD}
-use Rattle.record_log.specs.Logs.{HasFailed, LogHolds, IsAt, file_of, gate_of}
-use Rattle.chain_core.specs.States.{Machine}
+use Rattle.record_log.specs.{HasFailed, LogHolds, IsAt, file_of, gate_of}
+use Rattle.chain_core.specs.{Machine}
 use Rattle.node.specs.declared.engine.Engine.{Engine}
 use Rattle.node.specs.declared.layout.Identity.{Identity}
 use Rattle.node.specs.Layout.{batches_file, records_from}

@@ -2,13 +2,11 @@
 use Rattle.std.specs.Prelude.{◌≡◌, ◌⊎◌, ◌≤◌, ℕ, List, [], length, Option, All}
 use Rattle.std.specs.Prelude.{IsSomeAnd, MatchOption}
 use Rattle.kv_types.specs.declared.bounds.TheConstants.{MAX_NUMBER}
-use Rattle.kv_types.specs.Content.{BatchContent}
-use Rattle.kv_types.specs.Spelling.{IsBatch}
-use Rattle.disk.specs.States.{State, Contents, IsCrashOutcome, contents}
-use Rattle.record_log.specs.Grammar.{RepresentsRecords}
-use Rattle.record_log.specs.Push.{IsDurableAs}
-use Rattle.chain_model.specs.Configuration.{IsId}
-use Rattle.configurations.specs.Configs.{IsConfig}
+use Rattle.kv_types.specs.{BatchContent, IsBatch}
+use Rattle.disk.specs.{State, Contents, IsCrashOutcome, contents}
+use Rattle.record_log.specs.{RepresentsRecords, IsDurableAs}
+use Rattle.chain_model.specs.{IsId}
+use Rattle.configurations.specs.{IsConfig}
 use Rattle.node.specs.Layout.{identity_file, batches_file, identity_records, records_from}
 use Rattle.node.specs.Layout.{IsOwnFile}
 

@@ -1,9 +1,8 @@
 -- The layout of a node's files, for now: a log with its id and configuration, and a log of batches.
 use Rattle.std.specs.Prelude.{◌≡◌, ◌⊎◌, ℕ, suc, List, [], ◌∷◌, ◌++◌}
 use Rattle.std.specs.Int.{w16, w64, to_be_bytes}
-use Rattle.kv_types.specs.Content.{BatchContent}
-use Rattle.kv_types.specs.Spelling.{batch_bytes}
-use Rattle.configurations.specs.Spelling.{config_text}
+use Rattle.kv_types.specs.{BatchContent, batch_bytes}
+use Rattle.configurations.specs.{config_text}
 
 -- the file with the node's id and configuration, and the file of its batches
 abbrev pub identity_file : ℕ

@@ -2,20 +2,17 @@
 -- answer.
 use Rattle.std.specs.Prelude.{◌≡◌, ℕ, List, Option, Some, None, Result, MatchResult}
 use Rattle.std.specs.Prelude.{OnErr, OnOk}
-use Rattle.kv_types.specs.Content.{BatchContent}
-use Rattle.disk.specs.declared.disk.Disk.{Ghosts}
-use Rattle.disk.specs.States.{State}
-use Rattle.disk.specs.Lent.{KeepsDisk}
-use Rattle.chain_model.specs.Messages.{Message}
-use Rattle.chain_model.specs.Machine.{Answer}
-use Rattle.chain_model.specs.declared.drop_reason.DropReason.{DropReason}
-use Rattle.chain_core.specs.declared.done.Done.{Done}
-use Rattle.chain_core.specs.declared.done.Done.TheVariants as done
-use Rattle.chain_core.specs.declared.input.Input.{Input}
-use Rattle.chain_core.specs.declared.pending_submit.PendingSubmit.{PendingSubmit}
-use Rattle.chain_core.specs.States.{Machine}
-use Rattle.chain_core.specs.States as core
-use Rattle.chain_core.specs.Decisions.{AreFrames}
+use Rattle.kv_types.specs.{BatchContent}
+use Rattle.disk.specs.declared.Disk.{Ghosts}
+use Rattle.disk.specs.{State, KeepsDisk}
+use Rattle.chain_model.specs.{Message, Answer}
+use Rattle.chain_model.specs.declared.DropReason.{DropReason}
+use Rattle.chain_core.specs.declared.Done.{Done}
+use Rattle.chain_core.specs.declared.Done.TheVariants as done
+use Rattle.chain_core.specs.declared.Input.{Input}
+use Rattle.chain_core.specs.declared.PendingSubmit.{PendingSubmit}
+use Rattle.chain_core.specs.{Machine, AreFrames}
+use Rattle.chain_core.specs as core
 use Rattle.node.specs.declared.node.Node.{Node}
 use Rattle.node.specs.declared.output.Output.{Output}
 use Rattle.node.specs.declared.output.Reply.{Reply}

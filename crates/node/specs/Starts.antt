@@ -1,12 +1,12 @@
 -- The answers of the calls that receive a disk: a node, or a refusal.
 use Rattle.std.specs.Prelude.{ℕ, Result, Ok, Err}
-use Rattle.disk.specs.States.{State, Contents, contents}
-use Rattle.chain_model.specs.Machine.{started}
+use Rattle.disk.specs.{State, Contents, contents}
+use Rattle.chain_model.specs.{started}
 use Rattle.node.specs.declared.node.Node.{Node}
 use Rattle.node.specs.declared.stop.Stop.{Stop}
 use Rattle.node.specs.declared.stop.Stop.TheVariants as stop
 use Rattle.node.specs.Files.{IsBlank, IsDamaged}
-use Rattle.chain_core.specs.States.{Machine}
+use Rattle.chain_core.specs.{Machine}
 use Rattle.node.specs.Steps.{DiskRefines, NodeRefines}
 
 -- the started node refines a machine that its disk represented

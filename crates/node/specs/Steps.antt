@@ -2,15 +2,13 @@
 -- of a step.
 use Rattle.std.specs.Prelude.{◌≡◌, ◌⊎◌, ℕ, List, [], ◌∷◌}
 use Rattle.std.specs.List.{flat_map}
-use Rattle.kv_types.specs.Content.{BatchContent}
-use Rattle.kv_types.specs.Maps.{map_of}
-use Rattle.disk.specs.States.{State, Contents, IsCrashOutcome}
-use Rattle.chain_model.specs.Machine as model
-use Rattle.chain_model.specs.Requests as model_request
-use Rattle.chain_core.specs.declared.input.Input.{Input}
-use Rattle.chain_core.specs.declared.input.Input.TheVariants as input
-use Rattle.chain_core.specs.States.{Machine, CoreRefines}
-use Rattle.chain_core.specs.Decisions.{AreFrames}
+use Rattle.kv_types.specs.{BatchContent, map_of}
+use Rattle.disk.specs.{State, Contents, IsCrashOutcome}
+use Rattle.chain_model.specs.{Response}
+use Rattle.chain_model.specs as model
+use Rattle.chain_core.specs.declared.Input.{Input}
+use Rattle.chain_core.specs.declared.Input.TheVariants as input
+use Rattle.chain_core.specs.{Machine, CoreRefines, AreFrames}
 use Rattle.node.specs.declared.engine.Engine.{Engine}
 use Rattle.node.specs.declared.node.Node.{Node}
 use Rattle.node.specs.declared.output.Output.{Output}
@@ -61,18 +59,18 @@ value_for (input.Ack epoch from committed have) i s batches = []
 value_for input.Tick i s batches = []
 
 -- the reply to a client for a reply of the machine (no input requests the other replies yet)
-abbrev pub replies_to_response : Input → model_request.Response BatchContent → List Reply
-replies_to_response input (model_request.Committed i k) = reply.Committed i k ∷ []
-replies_to_response input (model_request.Shows i s batches) = value_for input i s batches
-replies_to_response input (model_request.Opened i s) = []
-replies_to_response input (model_request.Closed i s) = []
-replies_to_response input (model_request.Refused i why) = reply.Refused i why ∷ []
+abbrev pub replies_to_response : Input → model.Response BatchContent → List Reply
+replies_to_response input (Response.Committed i k) = reply.Committed i k ∷ []
+replies_to_response input (Response.Shows i s batches) = value_for input i s batches
+replies_to_response input (Response.Opened i s) = []
+replies_to_response input (Response.Closed i s) = []
+replies_to_response input (Response.Refused i why) = reply.Refused i why ∷ []
 
-abbrev pub replies_of : Input → List (model_request.Response BatchContent) → List Reply
+abbrev pub replies_of : Input → List (model.Response BatchContent) → List Reply
 replies_of input replies = flat_map (replies_to_response input) replies
 
 -- these replies are those of the machine to an input
-abbrev pub AreReplies : Input → List (model_request.Response BatchContent) → List Reply → Type 0
+abbrev pub AreReplies : Input → List (model.Response BatchContent) → List Reply → Type 0
 AreReplies input of_machine replies = replies ≡ replies_of input of_machine
 
 -- A node that answered refines the machine after the step. Its drop, frames and replies are those

@@ -1,9 +1,9 @@
 -- The node's report of the errors of its disk and its log.
 use Rattle.std.specs.Prelude.{◌≡◌, ◌⊎◌, Result, Err}
-use Rattle.disk.specs.declared.error.DiskError.{DiskError}
-use Rattle.disk.specs.declared.error.DiskError.TheVariants as disk
-use Rattle.record_log.specs.declared.error.LogError.{LogError}
-use Rattle.record_log.specs.declared.error.LogError.TheVariants as log
+use Rattle.disk.specs.declared.DiskError.{DiskError}
+use Rattle.disk.specs.declared.DiskError.TheVariants as disk
+use Rattle.record_log.specs.declared.LogError.{LogError}
+use Rattle.record_log.specs.declared.LogError.TheVariants as log
 use Rattle.node.specs.declared.stop.Stop.{Stop}
 use Rattle.node.specs.declared.stop.Stop.TheVariants as stop
 

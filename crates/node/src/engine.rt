@@ -3,15 +3,11 @@ ghost use Rattle.std.specs.Prelude.{◌≡◌, ◌≢◌, ℕ, ◌+◌, ◌<◌,
 ghost use Rattle.std.specs.Prelude.{◌≤◌, List, length, take, slice_get, All, Some, MatchOption};
 ghost use Rattle.std.specs.Prelude.{IfOk, IfErr, OnOk, MatchResult};
 ghost use Rattle.kv_types.specs.declared.bounds.TheConstants.{MAX_NUMBER};
-ghost use Rattle.kv_types.specs.Content.{BatchContent};
-ghost use Rattle.kv_types.specs.Spelling.{IsBatch};
-ghost use Rattle.kv_types.specs.Maps.{map_of};
-ghost use Rattle.disk.specs.States.{AddsNoOutcome, contents, IsSame};
-ghost use Rattle.disk.specs.Lent.{KeepsDisk};
-ghost use Rattle.record_log.specs.Logs.{EndsInRange, LogHolds, HasFailed, count_of};
-ghost use Rattle.chain_model.specs.Configuration.{IsId};
-ghost use Rattle.chain_model.specs.Lists.{place};
-ghost use Rattle.configurations.specs.Configs.{IsConfig};
+ghost use Rattle.kv_types.specs.{BatchContent, IsBatch, map_of};
+ghost use Rattle.disk.specs.{AddsNoOutcome, contents, IsSame, KeepsDisk};
+ghost use Rattle.record_log.specs.{EndsInRange, LogHolds, HasFailed, count_of};
+ghost use Rattle.chain_model.specs.{IsId, place};
+ghost use Rattle.configurations.specs.{IsConfig};
 ghost use Rattle.node.specs.Files.{DiskRepresents, HasId, IsBlank, HasDurableId};
 ghost use Rattle.node.specs.Files.{IsRecovered, KeepsOneOf, KeepsOthers};
 ghost use Rattle.node.specs.Layout.{identity_file, identity_records};
@@ -134,7 +130,7 @@ fn identity_on<D: Disk>(alloc: Global, disk: &mut D) -> Result<Identity, Stop>
     ensures blank { D.is_honest disk.old →
         IfErr result (λ e. MatchesBlank e (IsBlank (contents (D.state disk.old)))) }
 {
-    records_are_unique();
+    records_are_unique(); // law: bytes represent one list of records at most
     if length_of(disk, IDENTITY_FILE)? == 0 {
         return Err(Stop::NotCreated);
     }
@@ -186,7 +182,7 @@ impl Engine {
             IfErr result (λ e. MatchesBlank e (IsBlank (contents (D.state disk.old)))) }
         ensures usable { IfOk result (λ it. IsUsable it.1) }
     {
-        records_are_unique();
+        records_are_unique(); // law: bytes represent one list of records at most
         spellings_differ();
         config_text_is_unique(); // law: no two configurations have one spelling
         let identity = identity_on(alloc, disk)?;
@@ -246,7 +242,7 @@ impl Engine {
             × (engine_count self.new ≡ engine_count self.old + 1)
             × (engine_kept self.new ≡ engine_kept self.old)) }
     {
-        durable_is_left();
+        durable_is_left(); // law: a crash leaves what is durable
         let number = self.batches.len() as u64 + 1;
         let record = batch_record(alloc, number, &batch)?;
         self.batches.reserve(1)?;

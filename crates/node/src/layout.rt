@@ -1,9 +1,8 @@
 // The records of a node's two files.
 ghost use Rattle.std.specs.Prelude.{◌≡◌, ◌⊎◌, ℕ, List, IfOk, IfErr, IsErrOf};
-ghost use Rattle.kv_types.specs.Content.{BatchContent};
-ghost use Rattle.kv_types.specs.Spelling.{IsBatch};
-ghost use Rattle.chain_model.specs.Configuration.{IsId};
-ghost use Rattle.configurations.specs.Configs.{IsConfig};
+ghost use Rattle.kv_types.specs.{BatchContent, IsBatch};
+ghost use Rattle.chain_model.specs.{IsId};
+ghost use Rattle.configurations.specs.{IsConfig};
 ghost use Rattle.node.specs.Layout.{identity_record, batch_record};
 
 use crate::Stop;

@@ -2,18 +2,16 @@
 ghost use Rattle.std.specs.Prelude.{◌≡◌, ℕ, ◌+◌, ◌-◌, length, replicate};
 ghost use Rattle.std.specs.Prelude.{◌<◌, ◌≤◌, suc, OnOk, IfOk, IfErr, MatchResult, IsErrAnd};
 ghost use Rattle.kv_types.specs.declared.bounds.TheConstants.{MAX_NUMBER};
-ghost use Rattle.disk.specs.States.{contents};
-ghost use Rattle.disk.specs.Lent.{KeepsDisk};
-ghost use Rattle.chain_model.specs.Machine.{created, started};
-ghost use Rattle.chain_model.specs.Rules.{accept, append, forwards, on_ack, resend, reply_read};
+ghost use Rattle.disk.specs.{contents, KeepsDisk};
+ghost use Rattle.chain_model.specs.{created, started, accept, append, forwards, on_ack, resend};
+ghost use Rattle.chain_model.specs.{reply_read};
 ghost use Rattle.node.specs.Engines.{EngineHolds, HasNumbersOf, IsUsable};
 ghost use Rattle.node.specs.Engines.{KeepsStore, engine_count, engine_kept};
 ghost use Rattle.node.specs.Files.{IsRecovered, KeepsOthers};
 ghost use Rattle.node.specs.Starts.{IsStarted, StartRefusal, disk_behind};
-ghost use Rattle.chain_core.specs.States.{Machine, CoreRefines};
-ghost use Rattle.chain_core.specs.Decisions.{answer_to, done_of, rule_of};
-ghost use Rattle.chain_core.specs.Decisions.{AreFrames, DecisionFitsCount, IsReadOf};
-ghost use Rattle.chain_core.specs.declared.decision.Decision.{Decision};
+ghost use Rattle.chain_core.specs.{Machine, CoreRefines, answer_to, done_of, rule_of, AreFrames};
+ghost use Rattle.chain_core.specs.{DecisionFitsCount, IsReadOf};
+ghost use Rattle.chain_core.specs.declared.Decision.{Decision};
 ghost use Rattle.node.specs.Steps.{NodeRefines, DiskAlwaysRefines, IsReady, disk_of};
 ghost use Rattle.node.specs.Outputs.{CallRefines, StepEnds, NodeFollows, HasAppended, KeepsNode};
 ghost use Rattle.node.specs.Stops.{IsDeviceStop, IsEnvironmental};
@@ -81,7 +79,7 @@ fn resent<D: Disk>(
         MatchResult result (λ sent. AreFrames sent.items
         (forwards core.now.id n n.successor_has 16)) IsEnvironmental }
 {
-    one_by_one();
+    one_by_one(); // law: frames are sent one by one
     let numbers = core.resends();
     let mut sent = Vec::new(alloc);
     for number in numbers.start..numbers.end {
@@ -158,7 +156,7 @@ impl<D: Disk + Drop> Node<D> {
             let a = done_of x n batch done in CallRefines D.is_honest D.state self.new x n a
             (λ due. NodeFollows D.is_honest D.state self.new x a due.items) result }
     {
-        steps_leave();
+        steps_leave(); // law: what a step leaves of the machine
         self.engine.append(alloc, &mut self.disk, batch)?;
         Ok(self.core.after(alloc, done)?)
     }
@@ -171,9 +169,9 @@ impl<D: Disk + Drop> Node<D> {
         ensures ends { (x : ℕ) (n : Machine) (input : Input) →
             StepEnds D.Disk self.old self.new result x n input (accept x n request batch) }
     {
-        steps_leave();
+        steps_leave(); // law: what a step leaves of the machine
         stands_last();
-        durable_is_left();
+        durable_is_left(); // law: a crash leaves what is durable
         let copy = copy_for_successor(&self.core, &batch)?;
         let due = self.take(alloc, batch, Done::Accepted { request })?;
         output_of_append(alloc, &self.core, copy, false, &due)
@@ -188,9 +186,9 @@ impl<D: Disk + Drop> Node<D> {
             StepEnds D.Disk self.old self.new result x n input
             (append x n (suc (length n.list)) batch) }
     {
-        steps_leave();
+        steps_leave(); // law: what a step leaves of the machine
         stands_last();
-        durable_is_left();
+        durable_is_left(); // law: a crash leaves what is durable
         let copy = copy_for_successor(&self.core, &batch)?;
         let due = self.take(alloc, batch, Done::Appended)?;
         output_of_append(alloc, &self.core, copy, self.core.is_tail(), &due)
@@ -206,7 +204,7 @@ impl<D: Disk + Drop> Node<D> {
         ensures memory { IfErr result (λ e. e ≡ Stop.Memory) }
         ensures works { OnOk result (IsReady self.new) }
     {
-        steps_leave();
+        steps_leave(); // law: what a step leaves of the machine
         durable_is_left();
         let grows = committed > self.core.committed();
         let due = self.core.after(alloc, Done::Acked { committed, have })?;
@@ -220,7 +218,7 @@ impl<D: Disk + Drop> Node<D> {
         ensures ends { (x : ℕ) (n : Machine) (input : Input) →
             StepEnds D.Disk self.old self.new result x n input (resend x n) }
     {
-        durable_is_left();
+        durable_is_left(); // law: a crash leaves what is durable
         let sent = resent(alloc, &self.core, &self.engine, &mut self.disk)?;
         output_of(alloc, &self.core, sent, true, &[])
     }
@@ -233,7 +231,7 @@ impl<D: Disk + Drop> Node<D> {
             IsReadOf n input (Decision.Read request key at) →
             StepEnds D.Disk self.old self.new result x n input (reply_read n request at) }
     {
-        durable_is_left();
+        durable_is_left(); // law: a crash leaves what is durable
         let value = self.engine.get(&mut self.disk, at, &key)?;
         show(alloc, request, at, value)
     }
@@ -246,7 +244,7 @@ impl<D: Disk + Drop> Node<D> {
         ensures ends { (x : ℕ) (n : Machine) (input : Input) → IsReadOf n input decision →
             StepEnds D.Disk self.old self.new result x n input (rule_of x n decision) }
     {
-        durable_is_left();
+        durable_is_left(); // law: a crash leaves what is durable
         match decision {
             Decision::Accept { request, batch } => self.accept(alloc, request, batch),
             Decision::Append { batch } => self.append(alloc, batch),
@@ -340,7 +338,7 @@ impl<D: Disk + Drop> Node<D> {
         ensures rests { (x : ℕ) (n : Machine) → NodeRefines D.is_honest D.state self x n →
             DiskAlwaysRefines (D.state result) x n }
     {
-        durable_is_left();
+        durable_is_left(); // law: a crash leaves what is durable
         let Node {
             disk,
             engine: _engine,

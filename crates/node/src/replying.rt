@@ -1,15 +1,10 @@
 // The output of a step, from a node's numbers and the results of its store.
 ghost use Rattle.std.specs.Prelude.{◌≡◌, ℕ, [], ◌∷◌, ◌++◌, List, map, take, Option};
 ghost use Rattle.std.specs.Prelude.{IfOk, IfErr, OnOk, option_to_list, if◌then◌else◌, Some};
-ghost use Rattle.kv_types.specs.Content.{BatchContent};
-ghost use Rattle.kv_types.specs.Maps.{map_of};
-ghost use Rattle.chain_model.specs.Configuration.{successor};
-ghost use Rattle.chain_model.specs.Messages.{Message};
-ghost use Rattle.chain_model.specs.Lists.{place};
-ghost use Rattle.chain_model.specs.Machine.{dropped_for, refused};
-ghost use Rattle.chain_model.specs.Rules.{ack, forward, reply_read, ack_duplicate};
-ghost use Rattle.chain_core.specs.States.{Machine, CoreRefines};
-ghost use Rattle.chain_core.specs.Decisions.{AreFrames};
+ghost use Rattle.kv_types.specs.{BatchContent, map_of};
+ghost use Rattle.chain_model.specs.{successor, Message, place, dropped_for, refused, ack, forward};
+ghost use Rattle.chain_model.specs.{reply_read, ack_duplicate};
+ghost use Rattle.chain_core.specs.{Machine, CoreRefines, AreFrames};
 ghost use Rattle.node.specs.Outputs.{IsCopyFor, OutputHas, OutputRefines, committed_reply};
 
 use crate::{Output, Reply, Stop};

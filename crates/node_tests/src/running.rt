@@ -13,7 +13,7 @@ pub struct Running {
 }
 
 impl Model for Running {
-    ghost use Rattle.node.specs.Steps.{IsReady};
+    ghost use Rattle.node.specs.{IsReady};
 
     ghost Value = { Unit {0} };
 

@@ -4,16 +4,14 @@ use Rattle.std.proofs.Common.{length, map, take, drop, refl, sym, ap, ap₂, sub
 use Rattle.std.proofs.Common.{append_assoc, append-nil, length-append, Option, Some, None, get_or}
 use Rattle.lab.specs.Machine.{without}
 use Rattle.lab.specs.Configuration.{Configurations}
-use Rattle.lab.specs.declared.event.Event as lab
-use Rattle.kv_types.specs.declared.error.KvError.{KvError}
-use Rattle.lab.specs.declared.event.EventKind.{EventKind}
-use Rattle.lab.specs.declared.event.EventKind.TheVariants.{Submit, Get, Deliver, Tick, Start, Stop}
-use Rattle.lab.specs.declared.report.Line.{Line}
-use Rattle.lab.specs.declared.world.World.{World}
-use Rattle.lab.specs.declared.report.Report.{Report}
-use Rattle.lab.specs.Runs.{IsRun}
-use Rattle.lab.specs.History.{OneHistory}
-use Rattle.lab.specs.Worlds.{HasRun, frames_told, frames_of_step}
+use Rattle.lab.specs.declared.Event as lab
+use Rattle.kv_types.specs.declared.KvError.{KvError}
+use Rattle.lab.specs.declared.EventKind.{EventKind}
+use Rattle.lab.specs.declared.EventKind.TheVariants.{Submit, Get, Deliver, Tick, Start, Stop}
+use Rattle.lab.specs.declared.Line.{Line}
+use Rattle.lab.specs.declared.World.{World}
+use Rattle.lab.specs.declared.Report.{Report}
+use Rattle.lab.specs.{IsRun, OneHistory, HasRun, frames_told, frames_of_step}
 use Rattle.std.proofs.Math.Seq.{drop-cons}
 use Rattle.program.specs.declared.script.setup.Setup.{Setup}
 use Rattle.program.specs.declared.script.statement.Statement.{Statement}

@@ -7,8 +7,8 @@ use Rattle.std.proofs.Common.{arith}
 use Rattle.std.proofs.lemmas.Grind.{common_steps}
 use Rattle.std.specs.Option.{option_map_or}
 use Rattle.lab.specs.Configuration.{Configurations}
-use Rattle.lab.specs.declared.event.EventKind.{EventKind}
-use Rattle.lab.specs.Events.{NamesNode}
+use Rattle.lab.specs.declared.EventKind.{EventKind}
+use Rattle.lab.specs.{NamesNode}
 use Rattle.program.specs.declared.script.setup.Setup.{Setup}
 use Rattle.program.specs.declared.script.statement.ParserState.{ParserState}
 use Rattle.program.specs.declared.script.statement.LineItem.{LineItem}
@@ -16,7 +16,7 @@ use Rattle.program.specs.declared.script.statement.LineItem.TheVariants.{Skipped
 use Rattle.program.specs.declared.script.statement.Statement.{Statement}
 use Rattle.program.specs.Actions.{error_of}
 use Rattle.program.specs.declared.script.statement.Action.TheVariants.{Event, Invalid}
-use Rattle.kv_types.specs.declared.error.KvError.{KvError}
+use Rattle.kv_types.specs.declared.KvError.{KvError}
 use Rattle.std.proofs.Common.{Bool}
 use Rattle.program.specs.declared.script.statement.Action.{Action}
 use Rattle.program.specs.Scripts.{IsScript, AreStatements, IsStatement, Names, SetsUp, statement}

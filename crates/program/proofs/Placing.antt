@@ -8,9 +8,9 @@ use Rattle.std.specs.Fmt.{decimal}
 use Rattle.std.proofs.lemmas.Fmt.{digits_value-decimal}
 use Rattle.lab.specs.Configuration.{Configurations, has, at_epoch}
 use Rattle.lab.specs.Configs.{IsConfig}
-use Rattle.lab.specs.declared.event.EventKind.{EventKind}
-use Rattle.lab.specs.declared.event.EventKind.TheVariants.{Submit, Get, Deliver, Tick, Start, Stop}
-use Rattle.lab.specs.Events.{node_in, NamesNode}
+use Rattle.lab.specs.declared.EventKind.{EventKind}
+use Rattle.lab.specs.declared.EventKind.TheVariants.{Submit, Get, Deliver, Tick, Start, Stop}
+use Rattle.lab.specs.{node_in, NamesNode}
 use Rattle.program.specs.declared.script.error.ScriptError.{ScriptError}
 use Rattle.program.specs.declared.script.statement.ParserState.{ParserState}
 use Rattle.program.specs.declared.script.statement.LineItem.TheVariants.{Config}

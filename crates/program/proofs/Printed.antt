@@ -3,7 +3,7 @@ use Rattle.std.proofs.Common.{◌≡◌, ◌+◌, ◌<◌, ℕ, List, ◌∷◌,
 use Rattle.std.proofs.Common.{ap, ◌∙◌, append_assoc, add-one, suc, get_or, Some, None}
 use Rattle.std.proofs.Math.Seq.{drop-cons}
 use Rattle.std.specs.Io.KnownBytes.{Appends}
-use Rattle.lab.specs.declared.report.Line.{Line}
+use Rattle.lab.specs.declared.Line.{Line}
 use Rattle.program.specs.declared.statement_result.StatementResult.{StatementResult}
 use Rattle.program.specs.Text.{results_text, result_text}
 

@@ -18,10 +18,10 @@ use Rattle.std.proofs.lemmas.Fmt.{first_decimal, length-decimal-le}
 use Rattle.std.proofs.lemmas.List.Elements.{All-head, All-tail}
 use Rattle.lab.specs.Junk.{Junk}
 use Rattle.lab.specs.Junk.TheVariants.{Old, New, Bytes}
-use Rattle.kv_types.specs.declared.edit.Edit.{Edit}
-use Rattle.kv_types.specs.declared.edit.Edit.TheVariants.{Put, Delete}
-use Rattle.lab.specs.declared.event.EventKind.{EventKind}
-use Rattle.lab.specs.declared.event.EventKind.TheVariants.{Submit, Get, Deliver, Tick, Start, Stop}
+use Rattle.kv_types.specs.declared.Edit.{Edit}
+use Rattle.kv_types.specs.declared.Edit.TheVariants.{Put, Delete}
+use Rattle.lab.specs.declared.EventKind.{EventKind}
+use Rattle.lab.specs.declared.EventKind.TheVariants.{Submit, Get, Deliver, Tick, Start, Stop}
 use Rattle.program.specs.Words.{is_plain, byte_text, bytes_text, is_hex, hex_value, escaped}
 use Rattle.program.specs.Words.{are_bytes, is_byte_string, is_number}
 use Rattle.program.specs.Statements.{edit_word, hex_text, IsJunk, IsSpelled, is_edit, is_junk}

@@ -11,11 +11,11 @@ use Rattle.std.proofs.lemmas.Bool.Decides.{nat_tests}
 use Rattle.std.proofs.lemmas.List.Elements.{All-head, All-tail}
 use Rattle.lab.specs.Junk.{Junk}
 use Rattle.lab.specs.Junk.TheVariants.{Old, New, Bytes}
-use Rattle.kv_types.specs.declared.edit.Edit.{Edit}
-use Rattle.kv_types.specs.declared.edit.Edit.TheVariants.{Put, Delete}
-use Rattle.lab.specs.declared.event.EventKind.{EventKind}
-use Rattle.lab.specs.declared.event.EventKind.TheVariants.{Submit, Get, Deliver, Tick, Start, Stop}
-use Rattle.lab.specs.Events.{node_in, NamesNode}
+use Rattle.kv_types.specs.declared.Edit.{Edit}
+use Rattle.kv_types.specs.declared.Edit.TheVariants.{Put, Delete}
+use Rattle.lab.specs.declared.EventKind.{EventKind}
+use Rattle.lab.specs.declared.EventKind.TheVariants.{Submit, Get, Deliver, Tick, Start, Stop}
+use Rattle.lab.specs.{node_in, NamesNode}
 use Rattle.lab.specs.Configuration.{Configurations, has, at_epoch}
 use Rattle.lab.specs.Configs.{IsConfig}
 use Rattle.program.specs.declared.script.statement.Action.{Action}

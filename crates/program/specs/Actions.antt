@@ -3,14 +3,14 @@ use Rattle.std.specs.Prelude.{ℕ, ◌==◌, nat_lt, if◌then◌else◌, List, 
 use Rattle.std.specs.Prelude.{Option, Some, None}
 use Rattle.std.specs.Option.{option_map_or, option_or}
 use Rattle.kv_types.specs.declared.bounds.TheConstants.{MAX_KEY, MAX_VALUE, MAX_EDITS, MAX_BATCH}
-use Rattle.kv_types.specs.declared.edit.Edit.{Edit}
-use Rattle.kv_types.specs.declared.edit.Edit.TheVariants.{Put, Delete}
-use Rattle.kv_types.specs.declared.error.KvError.{KvError}
-use Rattle.kv_types.specs.declared.error.KvError.TheVariants.{KeyTooLong, ValueTooLong, NoEdits}
-use Rattle.kv_types.specs.declared.error.KvError.TheVariants.{TooManyEdits, BatchTooLong}
-use Rattle.kv_types.specs.Spelling.{batch_bytes}
-use Rattle.lab.specs.declared.event.EventKind.{EventKind}
-use Rattle.lab.specs.declared.event.EventKind.TheVariants.{Submit, Get, Deliver, Tick, Start, Stop}
+use Rattle.kv_types.specs.declared.Edit.{Edit}
+use Rattle.kv_types.specs.declared.Edit.TheVariants.{Put, Delete}
+use Rattle.kv_types.specs.declared.KvError.{KvError}
+use Rattle.kv_types.specs.declared.KvError.TheVariants.{KeyTooLong, ValueTooLong, NoEdits}
+use Rattle.kv_types.specs.declared.KvError.TheVariants.{TooManyEdits, BatchTooLong}
+use Rattle.kv_types.specs.{batch_bytes}
+use Rattle.lab.specs.declared.EventKind.{EventKind}
+use Rattle.lab.specs.declared.EventKind.TheVariants.{Submit, Get, Deliver, Tick, Start, Stop}
 use Rattle.program.specs.declared.script.statement.Action.{Action}
 use Rattle.program.specs.declared.script.statement.Action.TheVariants.{Event, Invalid}
 

@@ -1,6 +1,6 @@
 -- The edit that a change is.
-use Rattle.kv_types.specs.declared.edit.Edit.{Edit}
-use Rattle.kv_types.specs.declared.edit.Edit.TheVariants as edit
+use Rattle.kv_types.specs.declared.Edit.{Edit}
+use Rattle.kv_types.specs.declared.Edit.TheVariants as edit
 use Rattle.program.specs.declared.script.command.RawEdit.{RawEdit}
 use Rattle.program.specs.declared.script.command.RawEdit.TheVariants.{Put, Delete}
 

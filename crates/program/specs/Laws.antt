@@ -1,7 +1,7 @@
 -- Nothing has two meanings, and what is spelled is read.
 use Rattle.std.specs.Prelude.{◌≡◌, ◌≤◌, ℕ, List, All, length, None}
-use Rattle.kv_types.specs.declared.edit.Edit.{Edit}
-use Rattle.lab.specs.declared.event.EventKind.{EventKind}
+use Rattle.kv_types.specs.declared.Edit.{Edit}
+use Rattle.lab.specs.declared.EventKind.{EventKind}
 use Rattle.program.specs.declared.script.setup.Setup.{Setup}
 use Rattle.program.specs.declared.script.statement.Statement.{Statement}
 use Rattle.program.specs.Words.{AreBytes, bytes_text}

@@ -2,8 +2,8 @@
 use Rattle.std.specs.Prelude.{◌≡◌, ◌≢◌, ◌≤◌, ℕ, true, List, [], ◌∷◌, ◌++◌, map, codes}
 use Rattle.std.specs.Prelude.{Some, None, Result, Ok, Err}
 use Rattle.std.specs.Fmt.{decimal}
-use Rattle.lab.specs.declared.event.EventKind.{EventKind}
-use Rattle.lab.specs.declared.event.EventKind.TheVariants as what
+use Rattle.lab.specs.declared.EventKind.{EventKind}
+use Rattle.lab.specs.declared.EventKind.TheVariants as what
 use Rattle.lab.specs.Configuration.{Configurations}
 use Rattle.lab.specs.Configs.{IsConfig}
 use Rattle.program.specs.declared.script.error.ScriptError.{ScriptError}

@@ -1,10 +1,9 @@
 -- A whole run: from the bytes of a script to the bytes that are printed, and how it can end.
 use Rattle.std.specs.Prelude.{◌≡◌, ◌≢◌, ◌⊎◌, ℕ, List, [], take, Option, None, IfSome}
 use Rattle.std.specs.Io.KnownBytes.{Appends}
-use Rattle.lab.specs.declared.event.Event as lab
-use Rattle.lab.specs.declared.report.Report.{Report}
-use Rattle.lab.specs.Runs.{IsRun}
-use Rattle.lab.specs.History.{OneHistory}
+use Rattle.lab.specs.declared.Event as lab
+use Rattle.lab.specs.declared.Report.{Report}
+use Rattle.lab.specs.{IsRun, OneHistory}
 use Rattle.program.specs.declared.failure.Failure.{Failure}
 use Rattle.program.specs.declared.failure.Failure.TheVariants.{Output}
 use Rattle.program.specs.declared.script.setup.Setup.{Setup}

@@ -3,11 +3,11 @@ use Rattle.std.specs.Prelude.{◌≡◌, ℕ, zero, suc, ◌+◌, List, [], ◌�
 use Rattle.std.specs.Prelude.{Option, Some, None}
 use Rattle.lab.specs.Machine.{without}
 use Rattle.lab.specs.Fault.TheVariants as fault
-use Rattle.lab.specs.declared.event.Event as lab
-use Rattle.lab.specs.declared.event.EventKind.{EventKind}
-use Rattle.lab.specs.declared.event.EventKind.TheVariants.{Submit, Get, Deliver, Tick, Start, Stop}
-use Rattle.lab.specs.declared.report.Line.{Line}
-use Rattle.lab.specs.Worlds.{frames_told}
+use Rattle.lab.specs.declared.Event as lab
+use Rattle.lab.specs.declared.EventKind.{EventKind}
+use Rattle.lab.specs.declared.EventKind.TheVariants.{Submit, Get, Deliver, Tick, Start, Stop}
+use Rattle.lab.specs.declared.Line.{Line}
+use Rattle.lab.specs.{frames_told}
 use Rattle.program.specs.declared.script.statement.Action.{Action}
 use Rattle.program.specs.declared.script.statement.Action.TheVariants.{Event, Invalid, Flow}
 use Rattle.program.specs.declared.script.statement.Statement.{Statement}

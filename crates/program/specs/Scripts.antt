@@ -4,10 +4,10 @@ use Rattle.std.specs.Prelude.{map, codes}
 use Rattle.std.specs.Fmt.{decimal}
 use Rattle.std.specs.List.{slice_split, onto_first}
 use Rattle.lab.specs.Configuration.{Configurations}
-use Rattle.kv_types.specs.declared.limits.Limits.{Limits}
-use Rattle.lab.specs.declared.event.EventKind.{EventKind}
+use Rattle.kv_types.specs.declared.Limits.{Limits}
+use Rattle.lab.specs.declared.EventKind.{EventKind}
 use Rattle.lab.specs.Configs.{IsConfig}
-use Rattle.lab.specs.Events.{NamesNode}
+use Rattle.lab.specs.{NamesNode}
 use Rattle.program.specs.declared.script.setup.Setup.{Setup}
 use Rattle.program.specs.declared.script.statement.Statement.{Statement}
 use Rattle.program.specs.declared.script.statement.Action.{Action}

@@ -4,8 +4,8 @@ use Rattle.std.specs.Prelude.{Option, Some, None}
 use Rattle.std.specs.Fmt.{decimal}
 use Rattle.std.specs.List.{flat_map}
 use Rattle.std.specs.Option.{option_map_or}
-use Rattle.kv_types.specs.declared.error.KvError.{KvError}
-use Rattle.kv_types.specs.declared.error.KvError.TheVariants as kv
+use Rattle.kv_types.specs.declared.KvError.{KvError}
+use Rattle.kv_types.specs.declared.KvError.TheVariants as kv
 use Rattle.lab.specs.Refusal.{Refusal}
 use Rattle.lab.specs.Refusal.TheVariants as refused
 use Rattle.lab.specs.Reply.{Reply}
@@ -14,8 +14,8 @@ use Rattle.lab.specs.Stop.{Stop}
 use Rattle.lab.specs.Stop.TheVariants as stop
 use Rattle.lab.specs.DropReason.{DropReason}
 use Rattle.lab.specs.DropReason.TheVariants as reason
-use Rattle.lab.specs.declared.report.Line.{Line}
-use Rattle.lab.specs.declared.report.Line.TheVariants as line
+use Rattle.lab.specs.declared.Line.{Line}
+use Rattle.lab.specs.declared.Line.TheVariants as line
 use Rattle.program.specs.declared.statement_result.StatementResult.{StatementResult}
 use Rattle.program.specs.declared.statement_result.Note.{Note}
 use Rattle.program.specs.declared.statement_result.Note.TheVariants as note

@@ -3,10 +3,9 @@ ghost use Rattle.std.specs.Prelude.{◌≡◌, ℕ, List, [], ◌∷◌, ◌++�
 ghost use Rattle.std.specs.Prelude.{OnOk, IfOk, ◌+◌, ◌-◌};
 ghost use Rattle.lab.specs.Configuration.{Configurations};
 ghost use Rattle.lab.specs.Machine.{without};
-ghost use Rattle.lab.specs.declared.event.Event.{Event as LabEvent};
-ghost use Rattle.lab.specs.declared.report.Line.{Line};
-ghost use Rattle.lab.specs.Events.{NamesNode};
-ghost use Rattle.lab.specs.Worlds.{HasRun, frames_told, frames_of_step};
+ghost use Rattle.lab.specs.declared.Event.{Event as LabEvent};
+ghost use Rattle.lab.specs.declared.Line.{Line};
+ghost use Rattle.lab.specs.{NamesNode, HasRun, frames_told, frames_of_step};
 ghost use Rattle.program.specs.ScriptRuns.{event, deliveries, left_after, left_after_event};
 ghost use Rattle.program.specs.ScriptRuns.{IsResult, places_after, most};
 ghost use Rattle.program.specs.Scripts.{Names};

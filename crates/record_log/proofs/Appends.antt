@@ -4,9 +4,9 @@ use Rattle.std.proofs.Common.{Option, Some, None, sym, ap, subst, ◌∙◌, inl
 use Rattle.std.proofs.Common.{◌-◌, min, arith}
 use Rattle.std.specs.Prelude.{IsSomeAnd, ◌⊎◌}
 use Rattle.std.proofs.lemmas.List.{length-take, length-drop}
-use Rattle.disk.specs.declared.error.DiskError.{DiskError}
-use Rattle.disk.specs.declared.error.DiskError.TheVariants as disk
-use Rattle.disk.specs.States.{Slot, Kept, State}
+use Rattle.disk.specs.declared.DiskError.{DiskError}
+use Rattle.disk.specs.declared.DiskError.TheVariants as disk
+use Rattle.disk.specs.{Slot, Kept, State}
 use Rattle.disk.proofs.Steps.{Only, sure_only}
 use Rattle.record_log.specs.declared.log.Log.{Log}
 use Rattle.record_log.specs.Error.{log_error}

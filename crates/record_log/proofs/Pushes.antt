@@ -5,10 +5,9 @@ use Rattle.std.proofs.Common.{append_assoc, length-append, arith}
 use Rattle.std.specs.Prelude.{IsSomeAnd}
 use Rattle.std.proofs.lemmas.List.{take_at, drop_at, take-append-drop, length-take, length-drop}
 use Rattle.std.proofs.lemmas.List.{drop_more}
-use Rattle.disk.specs.declared.pending_write.PendingWrite.TheVariants.{Wrote}
-use Rattle.disk.specs.States.{Slot, Kept, IsUnsynced, State, overwritten, written, synced}
-use Rattle.disk.specs.declared.error.DiskError.{DiskError}
-use Rattle.disk.specs.Calls.{WriteOutcome}
+use Rattle.disk.specs.declared.PendingWrite.TheVariants.{Wrote}
+use Rattle.disk.specs.{Slot, Kept, IsUnsynced, State, overwritten, written, synced, WriteOutcome}
+use Rattle.disk.specs.declared.DiskError.{DiskError}
 use Rattle.disk.proofs.Places.{take_same, window_same, overwritten_before}
 use Rattle.disk.proofs.Steps.{Only, sure_only, writes_only}
 use Rattle.record_log.specs.Push.{pushed, IsPartlyPushed, IsDurableAs}

@@ -7,8 +7,8 @@ use Rattle.std.specs.Prelude.{IsSomeAnd, IsNone, IfErr, MatchResult, slice_get}
 use Rattle.std.specs.Prelude.{slice_index_or, ◌⊎◌}
 use Rattle.std.specs.Int.{w32, to_be_bytes}
 use Rattle.std.proofs.lemmas.List.{take_at, drop_at, drop-drop, length-drop}
-use Rattle.disk.specs.declared.error.DiskError.TheVariants as disk'
-use Rattle.disk.specs.States.{State, Slot, seen}
+use Rattle.disk.specs.declared.DiskError.TheVariants as disk'
+use Rattle.disk.specs.{State, Slot, seen}
 use Rattle.record_log.specs.declared.log.Log.{Log}
 use Rattle.record_log.specs.declared.error.LogError.{LogError}
 use Rattle.record_log.specs.declared.error.LogError.TheVariants as log'

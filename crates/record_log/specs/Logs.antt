@@ -2,9 +2,8 @@
 use Rattle.std.specs.Prelude.{◌≡◌, ◌⊎◌, ℕ, ◌+◌, ◌<◌, ◌≤◌, ◌^◌, List, [], ◌∷◌, ◌++◌, length, take}
 use Rattle.std.specs.Prelude.{drop, Result, Ok, Err, IfErr, Option, Some, None, IsNone, IfSome}
 use Rattle.std.specs.Prelude.{IsSomeAnd, IsTrue}
-use Rattle.disk.specs.declared.error.DiskError.TheVariants as disk
-use Rattle.disk.specs.States.{State, seen}
-use Rattle.disk.specs.Calls.{EndsOutOfRange}
+use Rattle.disk.specs.declared.DiskError.TheVariants as disk
+use Rattle.disk.specs.{State, seen, EndsOutOfRange}
 use Rattle.record_log.specs.declared.error.LogError.{LogError}
 use Rattle.record_log.specs.declared.error.LogError.TheVariants as log
 use Rattle.record_log.specs.declared.log.Log.{Log}

@@ -2,7 +2,7 @@
 use Rattle.std.specs.Prelude.{◌≡◌, ◌⊎◌, ℕ, ◌+◌, List, [], ◌∷◌, ◌++◌, length, take, Option}
 use Rattle.std.specs.Prelude.{IsSomeAnd}
 use Rattle.std.specs.Int.{w32, to_be_bytes}
-use Rattle.disk.specs.States.{Kept, State, IsFileOutcome, overwritten}
+use Rattle.disk.specs.{Kept, State, IsFileOutcome, overwritten}
 
 -- the file's bytes after all four calls
 abbrev pub pushed : List ℕ → ℕ → List ℕ → List ℕ

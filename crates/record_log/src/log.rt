@@ -2,8 +2,7 @@
 ghost use Rattle.std.specs.Prelude.{◌≡◌, ◌↔◌, ◌⊎◌, ℕ, ◌+◌, ◌<◌, ◌^◌, ◌-◌, min, List, []};
 ghost use Rattle.std.specs.Prelude.{◌∷◌, ◌++◌, length, slice_get, slice_index_or, Some, IfOk};
 ghost use Rattle.std.specs.Prelude.{IfErr, IsErrOf, OnOk, MatchResult};
-ghost use Rattle.disk.specs.States.{seen, AddsNoOutcome, IsSame, IsSameBut};
-ghost use Rattle.disk.specs.Lent.{KeepsDisk};
+ghost use Rattle.disk.specs.{seen, AddsNoOutcome, IsSame, IsSameBut, KeepsDisk};
 ghost use Rattle.record_log.specs.Error.{IsDeviceFailure};
 ghost use Rattle.record_log.specs.Push.{IsDurableAs, LeavesAt, behind_of, pushed};
 ghost use Rattle.record_log.specs.Logs.{LogHolds, HasRecords, IsAt, IsPart, IsRest, ReadRefusal};

@@ -1,8 +1,6 @@
 // The four device calls of an append.
 ghost use Rattle.std.specs.Prelude.{◌≡◌, ◌⊎◌, ℕ, ◌+◌, ◌<◌, ◌^◌, List, length, IsErrOf, MatchResult};
-ghost use Rattle.disk.specs.States.{IsSameBut};
-ghost use Rattle.disk.specs.Calls.{EndsOutOfRange};
-ghost use Rattle.disk.specs.Lent.{KeepsDisk};
+ghost use Rattle.disk.specs.{IsSameBut, EndsOutOfRange, KeepsDisk};
 ghost use Rattle.record_log.specs.Push.{pushed, IsPartlyPushed, IsDurableAs, LeavesAt};
 
 use disk::{Disk, DiskError};

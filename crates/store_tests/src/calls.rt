@@ -1,7 +1,6 @@
 // The device calls of a log, in their order.
 ghost use Rattle.std.specs.Prelude.{None};
-ghost use Rattle.disk.specs.States.{Absent};
-ghost use Rattle.disk.specs.Memory.{IsReliable};
+ghost use Rattle.disk.specs.{Absent, IsReliable};
 
 use disk::{Disk, DiskError, MemDisk};
 use record_log::{Log, LogError};

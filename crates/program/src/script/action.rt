@@ -1,7 +1,7 @@
 //! What a statement asks for: an event, all frames that are left, or nothing valid.
 ghost use Rattle.std.specs.Prelude.{◌≡◌, None, Some, map, IfOk, MatchResult};
 ghost use Rattle.std.specs.Option.{option_or};
-ghost use Rattle.lab.specs.Events.{node_in};
+ghost use Rattle.lab.specs.{node_in};
 ghost use Rattle.program.specs.Edits.{edit_of};
 ghost use Rattle.program.specs.Actions.{key_error, value_error, edit_error, edits_error};
 ghost use Rattle.program.specs.Actions.{size_error, action_of};

@@ -1,6 +1,6 @@
 //! The words of a statement whose form is right.
 ghost use Rattle.std.specs.Prelude.{◌≡◌, ◌++◌, ◌∷◌, [], map, Some, OnOk};
-ghost use Rattle.lab.specs.Events.{node_in};
+ghost use Rattle.lab.specs.{node_in};
 ghost use Rattle.program.specs.Reading.{what_of};
 ghost use Rattle.program.specs.Edits.{edit_of};
 
@@ -52,7 +52,7 @@ pub struct RawEdits {
 
 impl Model for RawEdits {
     ghost use Rattle.std.specs.Prelude.{List, map};
-    ghost use Rattle.kv_types.specs.declared.edit.Edit.{Edit};
+    ghost use Rattle.kv_types.specs.declared.Edit.{Edit};
     ghost use Rattle.program.specs.Edits.{edit_of};
 
     ghost Value = { List Edit };

@@ -1,6 +1,6 @@
 use Rattle.std.proofs.Common.{◌≡◌, List, ℕ, Some, Ok, Err, inl, inr, subst, drop}
 use Rattle.std.proofs.lemmas.Result.{IfOk-from_err}
-use Rattle.link_messages.specs.Stream.{NextOutcome}
+use Rattle.link_messages.specs.{NextOutcome}
 use Rattle.lab.proofs.Reading.{read_again}
 use Rattle.lab.proofs.delivery.read.Goals as goal
 

@@ -1,5 +1,5 @@
 use Rattle.std.proofs.Common.{refl, inl, inr}
-use Rattle.chain_model.specs.Machine.{started, stopped, silent}
+use Rattle.chain_model.specs.{started, stopped, silent}
 use Rattle.lab.specs.SimNodes.{StateRefines}
 use Rattle.lab.specs.Outcomes.{Starts, Fails}
 use Rattle.lab.proofs.Disks.{ends_by}

@@ -1,5 +1,5 @@
 use Rattle.std.proofs.Common.{sym, ap, subst, ◌∙◌}
-use Rattle.disk.specs.Memory.{Slots}
+use Rattle.disk.specs.{Slots}
 use Rattle.lab.specs.declared.node_state.NodeState.{NodeState}
 use Rattle.lab.specs.SimNodes.{StateRefines, disk_in, is_honest, state}
 use Rattle.lab.proofs.world.left_of.Goals as goal

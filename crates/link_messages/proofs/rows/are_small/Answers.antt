@@ -4,8 +4,8 @@ use Rattle.std.proofs.lemmas.List.{take_all}
 use Rattle.std.proofs.lemmas.List.Sums.{sum_by_more, sum_by-take-le}
 use Rattle.std.proofs.lemmas.Bool.{lt-leb, le-leb}
 use Rattle.kv_types.specs.declared.bounds.TheConstants.{MAX_PAGE}
-use Rattle.kv_types.specs.declared.row.Row.{Row}
-use Rattle.kv_types.specs.Pages.{row_size}
+use Rattle.kv_types.specs.declared.Row.{Row}
+use Rattle.kv_types.specs.{row_size}
 use Rattle.link_messages.proofs.rows.are_small.Goals as goal
 
 pub returns-then-left-size : goal.returns-then-left-size

@@ -1,6 +1,6 @@
 use Rattle.std.proofs.Common.{rules, arith}
 use Rattle.std.proofs.lemmas.List.Elements.{All-push}
-use Rattle.kv_types.specs.Spelling.{IsBatch}
+use Rattle.kv_types.specs.{IsBatch}
 use Rattle.node.proofs.Records.{grows, all_read}
 use Rattle.node.proofs.Engines.{holds_in}
 use Rattle.node.proofs.engine.batches_in.Goals as goal

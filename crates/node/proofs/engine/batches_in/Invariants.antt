@@ -1,8 +1,8 @@
 use Rattle.std.proofs.Common.{◌≡◌, ◌↔◌, ℕ, List, length, take}
 use Rattle.std.specs.Prelude.{All}
-use Rattle.kv_types.specs.Spelling.{IsBatch}
-use Rattle.disk.specs.States.{IsSame}
-use Rattle.record_log.specs.Logs.{LogHolds}
+use Rattle.kv_types.specs.{IsBatch}
+use Rattle.disk.specs.{IsSame}
+use Rattle.record_log.specs.{LogHolds}
 use Rattle.node.specs.Layout.{records_from}
 use Rattle.node.proofs.engine.batches_in.Given as goal
 

@@ -1,7 +1,7 @@
 use Rattle.std.proofs.Common.{◌≡◌, Err, ◌∷◌, [], ap, ◌∙◌, sym, arith, Some}
 use Rattle.std.specs.Prelude.{slice_get}
 use Rattle.std.proofs.lemmas.Result.{err_from_is_err_and}
-use Rattle.record_log.specs.Logs.{count_of}
+use Rattle.record_log.specs.{count_of}
 use Rattle.node.specs.Layout.{identity_record, identity_records}
 use Rattle.node.proofs.Blank.{none_held}
 use Rattle.node.proofs.Causes.{working_log, undamaged}

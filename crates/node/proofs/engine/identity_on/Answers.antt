@@ -1,8 +1,8 @@
 use Rattle.std.proofs.Common.{subst}
 use Rattle.std.proofs.lemmas.Result.{err_from_is_err_and}
-use Rattle.disk.specs.States.{Slot, seen}
-use Rattle.record_log.specs.Logs as log_stands
-use Rattle.record_log.specs.Grammar.{RepresentsRecords}
+use Rattle.disk.specs.{Slot, seen}
+use Rattle.record_log.specs as log_stands
+use Rattle.record_log.specs.{RepresentsRecords}
 use Rattle.std.specs.Prelude.{IsSomeAnd}
 use Rattle.node.specs.Layout.{identity_file, identity_records}
 use Rattle.node.proofs.Blank.{has_bytes, blank_read, blank_declined}

@@ -1,7 +1,7 @@
 use Rattle.std.proofs.Common.{ℕ, List, [], replicate, refl, sym, ◌∙◌}
 use Rattle.std.proofs.lemmas.List.{length-replicate}
-use Rattle.chain_model.specs.Machine.{created}
-use Rattle.chain_core.specs.States.{Machine}
+use Rattle.chain_model.specs.{created}
+use Rattle.chain_core.specs.{Machine}
 use Rattle.node.proofs.node.core_of.Goals as goal
 
 -- a machine that has these numbers, and so many batches

@@ -1,8 +1,8 @@
 use Rattle.std.proofs.Common.{rules, ◌≡◌, ◌+◌, ◌-◌, ◌++◌, suc, ap, ◌∙◌, sym, subst, arith}
 use Rattle.std.specs.Prelude.{option_to_list}
 use Rattle.std.proofs.lemmas.Result.{err_from_is_err_and}
-use Rattle.chain_model.specs.Rules.{forward, forwards}
-use Rattle.chain_core.specs.Decisions.{AreFrames}
+use Rattle.chain_model.specs.{forward, forwards}
+use Rattle.chain_core.specs.{AreFrames}
 use Rattle.node.proofs.Engines.{kept_on}
 use Rattle.node.proofs.Outputs.{both_sent, made_of}
 use Rattle.node.proofs.node.resent.Goals as goal

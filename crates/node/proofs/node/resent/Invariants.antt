@@ -1,7 +1,6 @@
 use Rattle.std.proofs.Common.{◌≡◌, ◌↔◌, ℕ, ◌-◌, ◌≤◌, max}
-use Rattle.chain_model.specs.Rules.{forwards}
-use Rattle.chain_core.specs.States.{Machine, CoreRefines}
-use Rattle.chain_core.specs.Decisions.{AreFrames}
+use Rattle.chain_model.specs.{forwards}
+use Rattle.chain_core.specs.{Machine, CoreRefines, AreFrames}
 use Rattle.node.specs.Engines.{EngineHolds, KeepsStore}
 use Rattle.node.proofs.node.resent.Given as goal
 

@@ -1,7 +1,6 @@
 use Rattle.std.proofs.Common.{◌≡◌, suc, length, refl, sym, ap, subst, ◌∙◌, arith}
 use Rattle.std.specs.Prelude.{if◌then◌else◌}
-use Rattle.chain_model.specs.Configuration.{is_tail}
-use Rattle.chain_model.specs.Rules.{append}
+use Rattle.chain_model.specs.{is_tail, append}
 use Rattle.chain_core.specs.States.{Core, CoreRefines}
 use Rattle.chain_core.proofs.Queues.{raise}
 use Rattle.chain_core.specs.CoreState.{core_value}

@@ -1,5 +1,5 @@
 use Rattle.std.proofs.Common.{◌≡◌, ◌≤◌, ◌++◌, List, sym, ap, subst, ◌∙◌, max, arith}
-use Rattle.chain_model.specs.Rules.{on_ack}
+use Rattle.chain_model.specs.{on_ack}
 use Rattle.chain_core.specs.declared.pending_submit.PendingSubmit.{PendingSubmit}
 use Rattle.chain_core.specs.States.{Core, IsInOrder}
 use Rattle.chain_core.specs.Queues.{front, behind}

@@ -1,12 +1,10 @@
 use Rattle.std.proofs.Common.{Err, Result, None, Some, refl, sym, ap, subst, inl, inr}
-use Rattle.chain_model.specs.Machine.{stopped, silent}
-use Rattle.chain_core.specs.Decisions.{answer_to}
-use Rattle.node.specs.declared.output.Output.{Output}
-use Rattle.node.specs.declared.stop.Stop.{Stop as Cause}
-use Rattle.disk.specs.Lent.{KeepsDisk}
-use Rattle.node.specs.Engines.{IsNearlyFull, KeepsOthersOf}
-use Rattle.node.specs.Steps.{StopRefines, disk_of, engine_of}
-use Rattle.node.specs.Stops.{IsDeviceStop}
+use Rattle.chain_model.specs.{stopped, silent}
+use Rattle.chain_core.specs.{answer_to}
+use Rattle.node.specs.declared.Output.{Output}
+use Rattle.node.specs.declared.Stop.{Stop as Cause}
+use Rattle.disk.specs.{KeepsDisk}
+use Rattle.node.specs.{IsNearlyFull, KeepsOthersOf, StopRefines, disk_of, engine_of, IsDeviceStop}
 use Rattle.lab.specs.declared.input.NodeInput.{NodeInput}
 use Rattle.lab.specs.declared.input.StepOutcome.TheVariants as done
 use Rattle.lab.specs.declared.node_state.NodeState.TheVariants.{Up, Down}

@@ -1,7 +1,7 @@
 use Rattle.std.proofs.Common.{◌≡◌, ◌+◌, ◌≤◌, [], ◌∷◌, ◌++◌, length, refl, ◌∙◌, ap, subst, arith}
 use Rattle.std.proofs.lemmas.Result.{err_from_is_err_and}
-use Rattle.kv_types.specs.Spelling.{IsBatch}
-use Rattle.record_log.specs.Logs.{IsAt}
+use Rattle.kv_types.specs.{IsBatch}
+use Rattle.record_log.specs.{IsAt}
 use Rattle.node.specs.declared.engine.Engine.{Engine}
 use Rattle.node.specs.Layout.{batches_file, records_from}
 use Rattle.node.proofs.Causes.{met}

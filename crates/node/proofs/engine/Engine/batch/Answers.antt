@@ -1,5 +1,5 @@
 use Rattle.std.proofs.Common.{◌≤◌, length, ap, sym, ◌∙◌, arith}
-use Rattle.chain_model.specs.Lists.{place}
+use Rattle.chain_model.specs.{place}
 use Rattle.node.proofs.Engines.{stands_at}
 use Rattle.node.proofs.engine.Engine.batch.Goals as goal
 

@@ -1,9 +1,9 @@
 use Rattle.std.proofs.Common.{refl, ◌≡◌, ◌≤◌, [], ◌∷◌, ap, length, subst, ◌∙◌, arith, sym}
 use Rattle.std.proofs.lemmas.Result.{err_from_is_err_and}
 use Rattle.std.proofs.lemmas.List.Elements.{All-nil}
-use Rattle.kv_types.specs.Spelling.{IsBatch}
-use Rattle.disk.specs.States.{Slot, seen}
-use Rattle.record_log.specs.Logs.{EndsInRange, LogHolds}
+use Rattle.kv_types.specs.{IsBatch}
+use Rattle.disk.specs.{Slot, seen}
+use Rattle.record_log.specs.{EndsInRange, LogHolds}
 use Rattle.node.specs.Layout.{identity_file, identity_record, identity_records, batches_file}
 use Rattle.node.proofs.Causes.{met}
 use Rattle.node.proofs.Identities.{identity_fits}

@@ -2,10 +2,9 @@ use Rattle.std.proofs.Common.{◌≡◌, ℕ, suc, List, [], ◌++◌, length}
 use Rattle.std.proofs.Common.{ap, subst, sym, ◌∙◌, inr}
 use Rattle.std.proofs.lemmas.Result.{err_from_is_err_and}
 use Rattle.std.proofs.lemmas.List.{append-nil}
-use Rattle.kv_types.specs.Content.{BatchContent}
-use Rattle.chain_model.specs.Messages.{Message}
-use Rattle.chain_model.specs.Rules.{accept, forward}
-use Rattle.chain_core.specs.declared.done.Done.TheVariants as done
+use Rattle.kv_types.specs.{BatchContent}
+use Rattle.chain_model.specs.{Message, accept, forward}
+use Rattle.chain_core.specs.declared.Done.TheVariants as done
 use Rattle.node.specs.Stops.{IsEnvironmental}
 use Rattle.node.proofs.Running.{ends_rule, ends_stopped, stops_before}
 use Rattle.node.proofs.Running.{copy_after, number_taken, taken_stands}

@@ -1,11 +1,9 @@
 use Rattle.std.proofs.Common.{◌≡◌, ℕ, suc, List, [], ◌++◌, length}
 use Rattle.std.proofs.Common.{Bool, if◌then◌else◌, ap, subst, sym, ◌∙◌, inr}
 use Rattle.std.proofs.lemmas.Result.{err_from_is_err_and}
-use Rattle.kv_types.specs.Content.{BatchContent}
-use Rattle.chain_model.specs.Configuration.{is_tail}
-use Rattle.chain_model.specs.Messages.{Message}
-use Rattle.chain_model.specs.Rules.{ack, append, forward}
-use Rattle.chain_core.specs.declared.done.Done.TheVariants as done
+use Rattle.kv_types.specs.{BatchContent}
+use Rattle.chain_model.specs.{is_tail, Message, ack, append, forward}
+use Rattle.chain_core.specs.declared.Done.TheVariants as done
 use Rattle.node.specs.Stops.{IsEnvironmental}
 use Rattle.node.proofs.Running.{ends_rule, ends_stopped, stops_before}
 use Rattle.node.proofs.Running.{copy_after, number_taken, taken_stands}

@@ -1,12 +1,11 @@
 use Rattle.std.proofs.Common.{◌≡◌, ℕ, List, [], refl}
 use Rattle.std.proofs.Common.{Bool, nat_lt, if◌then◌else◌, ap, subst, sym, ◌∙◌, inr}
 use Rattle.std.proofs.lemmas.Result.{err_from_is_err_and}
-use Rattle.kv_types.specs.Content.{BatchContent}
-use Rattle.chain_model.specs.Messages.{Message}
-use Rattle.chain_model.specs.Rules.{ack, on_ack}
-use Rattle.chain_core.specs.declared.done.Done.TheVariants as done
-use Rattle.chain_core.specs.Decisions as core
-use Rattle.chain_core.specs.Decisions.{AreFrames, done_of}
+use Rattle.kv_types.specs.{BatchContent}
+use Rattle.chain_model.specs.{Message, ack, on_ack}
+use Rattle.chain_core.specs.declared.Done.TheVariants as done
+use Rattle.chain_core.specs as core
+use Rattle.chain_core.specs.{AreFrames, done_of}
 use Rattle.node.proofs.Outputs.{greater}
 use Rattle.node.proofs.Running.{ends_rule, ends_stopped, stops_before, goes_on}
 use Rattle.node.proofs.Running.{with_core, counts_told, keeps_kept}

@@ -1,8 +1,8 @@
 use Rattle.std.proofs.Common.{Ok, ℕ, subst}
 use Rattle.std.specs.Prelude.{IfOk}
-use Rattle.chain_model.specs.Rules.{ack_duplicate}
-use Rattle.chain_core.specs.Decisions.{IsReadOf, rule_of}
-use Rattle.chain_core.specs.declared.decision.Decision.TheVariants as decision
+use Rattle.chain_model.specs.{ack_duplicate}
+use Rattle.chain_core.specs.{IsReadOf, rule_of}
+use Rattle.chain_core.specs.declared.Decision.TheVariants as decision
 use Rattle.node.specs.Outputs.{OutputRefines}
 use Rattle.node.proofs.Running.{ends, ends_as}
 use Rattle.node.proofs.node.Node.perform.Goals as goal

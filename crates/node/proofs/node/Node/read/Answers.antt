@@ -1,6 +1,6 @@
 use Rattle.std.proofs.Common.{sym, subst}
 use Rattle.std.proofs.lemmas.Result.{err_from_is_err_and}
-use Rattle.chain_model.specs.Rules.{reply_read}
+use Rattle.chain_model.specs.{reply_read}
 use Rattle.node.specs.Stops.{IsEnvironmental}
 use Rattle.node.proofs.Outputs.{readable, tells_read}
 use Rattle.node.proofs.Running.{with_engine, still_runs, stops_before, ends, ends_stopped}

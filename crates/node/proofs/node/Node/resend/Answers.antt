@@ -1,7 +1,7 @@
 use Rattle.std.proofs.Common.{ℕ, sym, subst}
 use Rattle.std.specs.Prelude.{IfOk}
 use Rattle.std.proofs.lemmas.Result.{err_from_is_err_and}
-use Rattle.chain_model.specs.Rules.{resend}
+use Rattle.chain_model.specs.{resend}
 use Rattle.node.specs.Outputs.{OutputRefines}
 use Rattle.node.specs.Stops.{IsEnvironmental}
 use Rattle.node.proofs.Running.{with_engine, still_runs, stops_before, ends, ends_stopped}

@@ -1,6 +1,6 @@
-use Rattle.chain_core.specs.States.{Machine}
-use Rattle.chain_model.specs.Machine.{created}
-use Rattle.disk.specs.States.{contents}
+use Rattle.chain_core.specs.{Machine}
+use Rattle.chain_model.specs.{created}
+use Rattle.disk.specs.{contents}
 use Rattle.node.specs.declared.node.Node.{Node}
 use Rattle.node.specs.Engines.{engine_epoch, engine_floor, engine_kept}
 use Rattle.node.proofs.Running.{runs_opened, starts}

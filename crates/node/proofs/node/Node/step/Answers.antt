@@ -1,7 +1,7 @@
 use Rattle.std.proofs.Common.{ℕ, sym, subst}
-use Rattle.chain_model.specs.Machine.{Answer}
-use Rattle.kv_types.specs.Content.{BatchContent}
-use Rattle.chain_core.specs.Decisions.{Decides}
+use Rattle.chain_model.specs.{Answer}
+use Rattle.kv_types.specs.{BatchContent}
+use Rattle.chain_core.specs.{Decides}
 use Rattle.node.specs.Outputs.{StepEnds}
 use Rattle.node.proofs.node.Node.step.Goals as goal
 

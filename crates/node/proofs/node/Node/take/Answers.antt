@@ -1,7 +1,7 @@
 use Rattle.std.proofs.Common.{rules, sym, subst, ℕ, inr, ◌∙◌}
 use Rattle.std.proofs.lemmas.Result.{err_from_is_err_and}
-use Rattle.chain_core.specs.Decisions as core
-use Rattle.chain_core.specs.Decisions.{done_of}
+use Rattle.chain_core.specs as core
+use Rattle.chain_core.specs.{done_of}
 use Rattle.node.specs.Stops.{IsEnvironmental}
 use Rattle.node.proofs.Running.{with_engine, with_core, counts_appended, keeps_kept}
 use Rattle.node.proofs.Running.{holds_appended}

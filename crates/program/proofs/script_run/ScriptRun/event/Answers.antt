@@ -1,5 +1,5 @@
 use Rattle.std.proofs.Common.{◌++◌}
-use Rattle.lab.specs.Worlds.{frames_told, frames_of_step}
+use Rattle.lab.specs.{frames_told, frames_of_step}
 use Rattle.program.specs.ScriptRuns.{places_after}
 use Rattle.program.proofs.Flowing.{left_as, left_delivered}
 use Rattle.program.proofs.script_run.ScriptRun.event.Goals as goal

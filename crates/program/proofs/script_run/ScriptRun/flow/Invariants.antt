@@ -1,8 +1,8 @@
 use Rattle.std.proofs.Common.{◌-◌, List}
 use Rattle.lab.specs.Configuration.{Configurations}
-use Rattle.lab.specs.declared.event.Event as lab
-use Rattle.lab.specs.declared.report.Line.{Line}
-use Rattle.lab.specs.Worlds.{HasRun}
+use Rattle.lab.specs.declared.Event as lab
+use Rattle.lab.specs.declared.Line.{Line}
+use Rattle.lab.specs.{HasRun}
 use Rattle.program.specs.ScriptRuns.{most}
 use Rattle.program.proofs.Flowing.{Flows}
 use Rattle.program.proofs.script_run.ScriptRun.flow.Given as goal

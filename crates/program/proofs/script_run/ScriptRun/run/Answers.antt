@@ -1,7 +1,7 @@
 use Rattle.std.proofs.Common.{◌≡◌, ◌+◌, ℕ, [], ◌∷◌, ◌++◌, Some, None, refl, sym, subst, ap, ◌∙◌}
 use Rattle.std.proofs.Common.{arith, append-nil, drop}
 use Rattle.std.proofs.lemmas.Bool.Decides.{nat_tests}
-use Rattle.lab.specs.Worlds.{frames_told, frames_of_step}
+use Rattle.lab.specs.{frames_told, frames_of_step}
 use Rattle.program.specs.ScriptRuns.{event, deliveries, left_after_event, places_after, busy, most}
 use Rattle.program.specs.declared.statement_result.Note.TheVariants as note
 use Rattle.program.proofs.Flowing.{result_of_event, result_of_error, result_of_flow}

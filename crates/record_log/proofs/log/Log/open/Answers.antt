@@ -1,6 +1,6 @@
 use Rattle.std.proofs.Common.{ℕ, List, false, refl, sym, subst}
 use Rattle.std.proofs.lemmas.Result.{err_from_is_err_and}
-use Rattle.disk.specs.States.{seen}
+use Rattle.disk.specs.{seen}
 use Rattle.record_log.specs.declared.log.Log.{Log}
 use Rattle.record_log.specs.Logs.{IsRest}
 use Rattle.record_log.proofs.Opens.{declines_bytes, declined, holds_them}
