@@ -9,7 +9,7 @@ use Rattle.chain_model.specs.{Configurations, Message, Forward, Ack, ResponseAgr
 use Rattle.chain_model.specs.{submitted, Response, Committed, Shows, Opened, Closed, Refused}
 use Rattle.chain_model.specs.{SystemEvent as ModelEvent, SystemState, Outcome, outcome, outcomes}
 use Rattle.chain_model.specs.{state_after}
-use Rattle.chain_model.specs.declared.drop_DropReason.{DropReason}
+use Rattle.chain_model.specs.declared.DropReason.{DropReason}
 use Rattle.chain_core.specs.{Machine}
 use Rattle.lab.specs.declared.event.Event.{Event}
 use Rattle.lab.specs.declared.event.EventKind.{EventKind}

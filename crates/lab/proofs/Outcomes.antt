@@ -229,11 +229,11 @@ stop_traced x kind choice traced n is of_machine = record {
 }
 
 -- a drop has a line with its reason
-pub dropped_linesd : (x : ℕ) (kind : EventKind) (choice : Choice) (n : Machine)
+pub drop_traced : (x : ℕ) (kind : EventKind) (choice : Choice) (n : Machine)
     (why : DropReason) (output : Output) → IsDrop why output →
     start_trace kind (answers x (dropped_for n why)) ≡ [] →
     IsTraced x kind choice (done.Answered output) (answers x (dropped_for n why))
-dropped_linesd x kind choice n why output is starts =
+drop_traced x kind choice n why output is starts =
     answer_traced x kind input.Tick choice (dropped_for n why) output (record {
       dropped = is.dropped;
       frames = ap (map (λ (it : Sent). frame_as it.to it.frame)) is.frames;
@@ -251,7 +251,7 @@ shows_so inp kind [] each = refl
 shows_so inp kind (r ∷ replies) each =
     ap₂ (λ (a b : List Line). a ++ b) (each r) (shows_so inp kind replies each)
     ∙ sym (map-append (λ reply. line.Replied reply) (replies_to_response inp r)
-        (replies_of inp replies))
+    (replies_of inp replies))
 
 -- an input, as the model has it
 module _ (cs : Configurations) (w : SystemState BatchContent) (i x : ℕ) (kind : EventKind)
@@ -259,7 +259,7 @@ module _ (cs : Configurations) (w : SystemState BatchContent) (i x : ℕ) (kind 
     (new : NodeState Slots) (did : StepOutcome)
     (at : (choice : Choice) → outcome w cs (modelled i kind choice)
     ≡ cond (w.nodes x).running
-        (as_completed x (w.nodes x) (answer_to x (w.nodes x) inp) choice.went)
+    (as_completed x (w.nodes x) (answer_to x (w.nodes x) inp) choice.went)
     (answers x (down_answer (w.nodes x) inp)))
     (causes : (cause : Cause) → reported_cause kind cause ≡ Some cause)
     (starts : (o : Outcome BatchContent) → start_trace kind o ≡ [])

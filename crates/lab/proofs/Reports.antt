@@ -41,11 +41,11 @@ one_of state failures id disk cs events choices steps nodes trace disks one made
     let agrees = subst (λ (l : List (ModelEvent BatchContent)). All (ResponseAgrees one.B)
     (reached cs l).replies) same one.agrees in
     let joined = flat_map (λ (o : Outcome BatchContent). o.replies)
-        (outcomes cs es (first_state cs))
+    (outcomes cs es (first_state cs))
     in
     let replies = recursion_from_All (ResponseAgrees one.B) joined
     (subst (λ (l : List (Response BatchContent)). All (ResponseAgrees one.B) l) made.replies agrees)
-        in
+    in
     let begins = subst (λ (l : List (ModelEvent BatchContent)). (x : ℕ) → has (last_of cs) x ≡ true
     → IsPrefix (batches one.B) (node_of cs l x).list) same one.stands in
     record {

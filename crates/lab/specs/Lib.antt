@@ -18,7 +18,6 @@ pub use Rattle.disk.specs.declared.junk.Junk
 pub use Rattle.chain_model.specs.declared.refusal.Refusal
 pub use Rattle.node.specs.declared.output.Reply
 pub use Rattle.node.specs.declared.stop.Stop
-
 -- What crates above name.
 pub use Rattle.lab.specs.Events.{NamesNode, node_in}
 pub use Rattle.lab.specs.History.{OneHistory}

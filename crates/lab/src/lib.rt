@@ -15,12 +15,11 @@ mod world;
 // The types that events, lines and reports have, so that a caller names this crate alone.
 pub use configurations::{Config, ConfigError, Configs, Epoch, NodeId};
 pub use disk::{Fault, Junk, JunkBytes, MemDisk};
+pub use error::LabError;
+pub use event::{Event, EventKind, EventRecord, names_node, names_nodes};
 pub use kv_types::{Batch, Key, Limits, Number, Value};
 pub use link_messages::Refusal;
 pub use node::{DropReason, Reply, Stop};
-
-pub use error::LabError;
-pub use event::{Event, EventKind, EventRecord, names_node, names_nodes};
 pub use report::{Line, Lines, NodeReport, Numbers, Report};
 pub use runs::run;
 pub use world::World;

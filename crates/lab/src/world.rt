@@ -22,7 +22,7 @@ use crate::report::{Line, Lines, NodeReport, Numbers, Report};
 use crate::sim_node::SimNode;
 use crate::trace::{one_line, trace_of};
 use crate::{Event, EventRecord, LabError};
-use chain_model::{in_order, run_is_outcomes, one_history};
+use chain_model::{in_order, one_history, run_is_outcomes};
 use configurations::{Config, Configs, NodeId};
 use disk::MemDisk;
 use kv_types::{Batch, Limits, Number};

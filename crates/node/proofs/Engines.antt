@@ -224,7 +224,7 @@ module _ (law : DurableIsLeft) (old : State) (engine : Engine) (x epoch : ℕ) (
           KeepsOneOf new x epoch ids list (list ++ batch ∷ []) floor kept
       crashed new others leaves left now =
           let id : IsDurableIdOf new x ids = id_in old new x ids (others identity_file apart) s.id
-              in
+          in
           let P : ℕ → List ℕ → Type 0 = λ start. IsOldOrNew start (records_from 1 list) one in
           let at_log : IsSomeAnd (left engine.log.file) (P engine.log.start) =
           leaves (left engine.log.file) (now engine.log.file) in

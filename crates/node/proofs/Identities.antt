@@ -3,7 +3,7 @@ use Rattle.std.proofs.Common.{◌≡◌, ℕ, suc, ◌-◌, ◌≤◌, List, [],
 use Rattle.std.proofs.Common.{sym, ◌∙◌, length-append, arith}
 use Rattle.std.specs.Int.{w16, to_be_bytes}
 use Rattle.std.proofs.lemmas.List.{append-nil, take_all}
-use Rattle.configurations.specs.{IsConfig, config_text, ConfigTextIsShort}
+use Rattle.configurations.specs.{IsConfig, config_text}
 use Rattle.node.specs.Layout.{identity_record}
 
 -- behind the id stands the configuration
@@ -12,9 +12,3 @@ pub behind_id : (bytes : List ℕ) (x : ℕ) (xs : List ℕ) → bytes ≡ ident
 behind_id bytes x xs is =
     let text = config_text xs in
     rw is (take_all (suc (suc (length text)) - 2) text (omega arith) ∙ sym (append-nil text))
-
--- a record of a configuration is shorter than the limit of a log
-pub identity_fits : ConfigTextIsShort → (x : ℕ) (xs : List ℕ) → IsConfig xs →
-    length (identity_record x xs) ≤ 16777216
-identity_fits short x xs config =
-    omega (arith, length-append (to_be_bytes w16 x) (config_text xs), short xs config)

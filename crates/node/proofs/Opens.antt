@@ -72,7 +72,7 @@ same_batches law number (x ∷ a) (y ∷ b) each_a each_b same =
 pub found_id : (result : Result Identity Stop) (s0 s1 s2 s3 : State) (log : Log) →
     IsSame s0 s1 → IsSame s2 s3 → IsAt identity_file 0 log →
     (o : IsOpenedLog s1 identity_file 0 s2 log) → IfOk result
-        (λ it. IsId it.id × IsConfig it.config) →
+    (λ it. IsId it.id × IsConfig it.config) →
     IfOk result (λ it. o.records ≡ identity_records it.id it.config) →
     IfOk result (λ it. HasDurableId s0 s3 it.id it.config)
 found_id (Ok it) s0 s1 s2 s3 log same_before same_after at o is records =

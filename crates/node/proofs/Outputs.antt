@@ -48,7 +48,7 @@ replies_due input (it ∷ due) = ap (λ l. committed_reply it ∷ l) (replies_du
 pub tells_rule : (x : ℕ) (n : Machine) (input : Input) (batch : BatchContent) (d : Done)
     (a : Answer BatchContent) (due : List PendingSubmit) (sent : List (Message BatchContent))
     (result : Result Output Stop) → StepLeaves x n batch d a → a.replies ≡ core.committed_responses
-        due →
+    due →
     sent ≡ frames_after x n d a.node → IfOk result (OutputHas None sent (map committed_reply due)) →
     IfOk result (OutputRefines input a)
 tells_rule x n input batch d a due sent (Ok output) leaves replied frames says = record {
@@ -71,7 +71,7 @@ pub tells_read : (n : Machine) (input : Input) (request at : ℕ) (key : List �
     IfOk result (OutputRefines input (reply_read n request at))
 tells_read n (asked.Get other asked_key number) request at key result read tells =
     subst (λ (k : List ℕ). IfOk result
-        (OutputRefines (asked.Get request k number) (reply_read n request at)))
+    (OutputRefines (asked.Get request k number) (reply_read n request at)))
     read.0 (tells number)
 tells_read n (asked.Submit other batch) request at key result read tells = absurd read
 tells_read n (asked.Forward epoch from number batch) request at key result read tells = absurd read

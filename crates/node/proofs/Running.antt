@@ -196,7 +196,7 @@ module _ {D : Type 0} (is_honest : D → Type 0) (state : D → State) where
 
   pub stops_before : DurableIsLeft → (node : Node D) (x : ℕ) (n : Machine)
       (a : Answer BatchContent) → NodeRefines is_honest state node x n → StopRefines
-          (state node.disk) x n a
+      (state node.disk) x n a
   stops_before law node x n a r left leaves = inl (rests law node x n r left leaves)
 
   pub stops_after : DurableIsLeft → (node : Node D) (x : ℕ) (n : Machine)
@@ -232,7 +232,7 @@ module _ {D : Type 0} (is_honest : D → Type 0) (state : D → State) where
   -- the output is the machine's answer, and for want of memory the node stops
   pub ends : DurableIsLeft → (node : Node D) (x : ℕ) (n : Machine) (input : Input)
       (a : Answer BatchContent) (result : Result Output Stop) → NodeRefines is_honest state node x
-          a.node →
+      a.node →
       IfOk result (OutputRefines input a) → IfErr result (λ e. e ≡ stop.Memory) →
       CallRefines is_honest state node x n a (StepRefines is_honest state node x input a) result
   ends law node x n input a (Ok output) r tells memory = record {
@@ -274,7 +274,7 @@ module _ {D : Type 0} (is_honest : D → Type 0) (state : D → State) where
       let by_x = subst (λ (y : ℕ). IfOk result (OutputHas None (sent y) (map committed_reply told)))
       follows.runs.id says in
       let of_due = subst (λ (l : List PendingSubmit). IfOk result
-          (OutputHas None (sent x) (map committed_reply l)))
+      (OutputHas None (sent x) (map committed_reply l)))
       same by_x in
       ends law node x n input a result follows.runs
       (tells_rule x n input batch d a due (sent x) result leaves follows.replied frames of_due)

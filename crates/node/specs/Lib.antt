@@ -5,7 +5,6 @@ pub mod Engines
 pub mod Steps
 pub mod Outputs
 pub mod Starts
-
 -- What crates above name.
 pub use Rattle.node.specs.Engines.{IsNearlyFull, KeepsOthersOf}
 pub use Rattle.node.specs.Files.{DiskRepresents}

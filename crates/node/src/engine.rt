@@ -149,13 +149,11 @@ impl Engine {
         ensures kept { KeepsDisk D.Disk disk.old disk.new (IsDeviceStop result) ⊥ KeepsOthers }
         ensures created { D.is_honest disk.old →
             MatchResult result
-            (λ engine. EngineHolds (D.state disk.new) engine id 0 config.now [] 0 0) IsEnvironmental
-            }
+            (λ engine. EngineHolds (D.state disk.new) engine id 0 config.now [] 0 0) IsEnvironmental }
         ensures usable { IfOk result IsUsable }
         ensures none { IfOk result
             (λ engine. (engine_count engine ≡ 0) × (engine_kept engine ≡ 0)) }
     {
-        config_text_is_unique(); // law: a configuration's spelling is short, so the log takes it
         length_of(disk, BATCHES_FILE)?;
         length_of(disk, IDENTITY_FILE)?;
         let log = Log::create(alloc, disk, BATCHES_FILE)?;

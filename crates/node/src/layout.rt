@@ -1,11 +1,12 @@
 // The records of a node's two files.
-ghost use Rattle.std.specs.Prelude.{◌≡◌, ◌⊎◌, ℕ, List, IfOk, IfErr, IsErrOf};
+ghost use Rattle.std.specs.Prelude.{◌≡◌, ◌⊎◌, ◌≤◌, ℕ, List, length, IfOk, IfErr, IsErrOf};
 ghost use Rattle.kv_types.specs.{BatchContent, IsBatch};
 ghost use Rattle.chain_model.specs.{IsId};
 ghost use Rattle.configurations.specs.{IsConfig};
 ghost use Rattle.node.specs.Layout.{identity_record, batch_record};
 
 use crate::Stop;
+use configurations::laws::config_text_is_unique;
 use configurations::{Config, NodeId};
 use kv_types::{Batch, KvError};
 use std::alloc::{AllocError, Global};
@@ -26,9 +27,11 @@ pub struct Identity {
 /// The record of a node's id and configuration.
 pub fn identity_record(alloc: Global, id: NodeId, config: &Config) -> Result<Vec<u8>, AllocError>
     ensures spelled { IfOk result (λ bytes. bytes.items ≡ identity_record id config.now) }
+    ensures short { IfOk result (λ bytes. length bytes.items ≤ 35) }
     ensures id { IsId id }
     ensures config { IsConfig config.now }
 {
+    config_text_is_unique(); // law: a configuration is spelled in at most 33 bytes
     // law: these are a configuration
     let _ids = config.ids();
     let mut out = Vec::new(alloc);

@@ -6,8 +6,8 @@ pub mod laws;
 mod layout;
 mod node;
 mod output;
-mod stop;
 mod replying;
+mod stop;
 
 pub use chain_core::{DropReason, Input, Sent};
 pub use node::Node;

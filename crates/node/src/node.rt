@@ -19,12 +19,12 @@ ghost use Rattle.node.specs.Stops.{IsDeviceStop, IsEnvironmental};
 use crate::engine::Engine;
 use crate::layout::Identity;
 use crate::replying::{
-    copy_for_successor, output_of_drop, output_of, output_of_append, push_some, refuse, show,
-    ack_duplicate,
+    ack_duplicate, copy_for_successor, output_of, output_of_append, output_of_drop, push_some,
+    refuse, show,
 };
 use crate::{Output, Stop};
 use chain_core::laws::{one_by_one, stands_last, steps_leave};
-use chain_core::{PersistentState, CoreState, Decision, Done, Input, Sent, PendingSubmit, decide};
+use chain_core::{CoreState, Decision, Done, Input, PendingSubmit, PersistentState, Sent, decide};
 use configurations::{Config, Epoch, NodeId};
 use disk::Disk;
 use disk::laws::durable_is_left;

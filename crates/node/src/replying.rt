@@ -8,7 +8,7 @@ ghost use Rattle.chain_core.specs.{Machine, CoreRefines, AreFrames};
 ghost use Rattle.node.specs.Outputs.{IsCopyFor, OutputHas, OutputRefines, committed_reply};
 
 use crate::{Output, Reply, Stop};
-use chain_core::{CoreState, DropReason, Input, Sent, PendingSubmit};
+use chain_core::{CoreState, DropReason, Input, PendingSubmit, Sent};
 use kv_types::{Batch, Number, Value};
 use link_messages::Refusal;
 use std::alloc::{AllocError, Global};

@@ -10,7 +10,7 @@ returns-in-Ok-Some c = λ it is bytes.
     let answer : NextOutcome (Ok (Some c.in-Ok-Some.frame)) c.args.bytes.now left =
     rw c.in-Ok-Some.field-0-is at c.in-Ok-Some.ensures.answer in
     let says = subst (λ (l : List ℕ). NextOutcome (Ok (Some c.in-Ok-Some.frame)) l left) bytes
-        answer in
+    answer in
     elim (read_again c.one_answer.ensures.one (Ok (Some c.in-Ok-Some.frame)) it left is says) [
       | inl same ↦ cc
       | inr other ↦ absurd (cc)

@@ -57,7 +57,7 @@ returns-clause-blank g c = λ honest.
     let has = has_bytes bytes c.in_ok-length_of.field-0 c.if-branch-eq0.false
     (c.in_ok-length_of.ensures.length honest) in
     let stood = subst (λ (slot : Slot). IsSomeAnd (seen slot)
-        (λ it. RepresentsRecords it o.records))
+    (λ it. RepresentsRecords it o.records))
     (c.length_of.ensures.kept.files honest identity_file) o.stood in
     let told = c.identity_in.ensures.blank o.records honest2 o.holds in
     blank_read c.records_are_unique.ensures c.identity_in.result bytes o.records has stood told

@@ -53,7 +53,7 @@ returns-in-Step-clause-disk g c = λ was.
     let engine = engine_of c.in-Up.node in
     let kept = subst
     (λ d. KeepsDisk g.D.Disk old d (IsDeviceStop ended) (IsNearlyFull engine)
-        (KeepsOthersOf engine))
+    (KeepsOthersOf engine))
     (sym c.into_disk.ensures.disk) c.in-Err.ensures.kept.disk in
     subst (λ m. DiskEnds g.D.Disk.state g.D.Disk.failures stop (disk_in m)
     (disk_in c.crash-state.result)) (sym c.in-Up.is)

@@ -6,7 +6,6 @@ use Rattle.disk.specs.{Slot, seen}
 use Rattle.record_log.specs.{EndsInRange, LogHolds}
 use Rattle.node.specs.Layout.{identity_file, identity_record, identity_records, batches_file}
 use Rattle.node.proofs.Causes.{met}
-use Rattle.node.proofs.Identities.{identity_fits}
 use Rattle.node.proofs.Engines.{holds_in, sure_of_id}
 use Rattle.node.proofs.engine.Engine.create.Goals as goal
 
@@ -70,10 +69,8 @@ returns-in_err-append-clause-created g c = λ honest.
     ∙ c.length_of-2.ensures.kept.files honest_a identity_file))
     (c.in_ok-length_of-2.ensures.range honest_a) in
     let new = c.in_ok-identity.ensures.created honest1 ends in
-    let one = c.deref.ensures.value ∙ c.in_ok-record.ensures.spelled in
-    let short = identity_fits c.config_text_is_unique.ensures.short c.args.id c.args.config.now
-    c.in_ok-record.ensures.config in
-    let fits : length c.deref.result.now ≤ 16777216 = omega (arith, ap length one, short) in
+    let fits : length c.deref.result.now ≤ 16777216 =
+    omega (arith, ap length c.deref.ensures.value, c.in_ok-record.ensures.short) in
     let why = c.in_err-append.ensures.appended [] honest2 new in
     rw (p.1, p.2) (met 16777216 c.in_err-append.field-0.0 c.in_ok-identity.identity
     c.append.new.self c.deref.result.now c.in_err-append.ensures.told.1 fits

@@ -31,7 +31,7 @@ returns-clause-opened g c = λ x epoch ids list floor kept honest represents.
     let it = c.in_ok-identity.identity in
     let unique = c.config_text_is_unique.ensures.unique in
     let same = same_identity c.records_are_unique.ensures unique _ it.id x it.config ids found.had
-        had.id in
+    had.id in
     let apart : identity_file ≡ batches_file → ⊥ = λ e. omega (arith, e) in
     let back : batches_file ≡ identity_file → ⊥ = λ e. omega (arith, e) in
     let there = (c.identity_on.ensures.kept.files honest).others batches_file back in

@@ -29,7 +29,7 @@ returns-in-OnAck-clause-ends g c = λ x n input read r.
 pub returns-in-AckDuplicate-clause-ends : goal.returns-in-AckDuplicate-clause-ends
 returns-in-AckDuplicate-clause-ends g c = λ x n input read r.
     let tells = subst (λ (y : ℕ). IfOk c.ack_duplicate.result
-        (OutputRefines input (ack_duplicate y n))) r.id
+    (OutputRefines input (ack_duplicate y n))) r.id
     (c.ack_duplicate.ensures.tells n input r.core) in
     ends_as g.D.Disk.is_honest g.D.Disk.state c.args.self.now x n input c.args.decision
     decision.AckDuplicate c.ack_duplicate.result c.in-AckDuplicate.is
@@ -63,5 +63,5 @@ returns-in-Drop-clause-ends g c = λ x n input read r.
     ends_as g.D.Disk.is_honest g.D.Disk.state c.args.self.now x n input c.args.decision known
     (Ok c.output_of_drop.result) c.in-Drop.is (ends g.D.Disk.is_honest g.D.Disk.state
     c.durable_is_left.ensures c.args.self.now x n input (rule_of x n known)
-        (Ok c.output_of_drop.result) r
+    (Ok c.output_of_drop.result) r
     (c.output_of_drop.ensures n input) tt)
