@@ -53,7 +53,7 @@ module _ (core : Core) (n : Machine) (is : CoreRefines core n) where
         let waits : m.pending ≡ waiting all =
         rw (is.pending, is.count, ← next) (sym (waiting_push core.pending asked)) in
         let base : CoreFollows new (acknowledge m (forward core.id m (suc (length n.list))))
-            answered =
+        answered =
         record {
           is = record {
             epoch = is.epoch;

@@ -3,7 +3,6 @@ pub mod CoreState
 pub mod Queues
 pub mod Decisions
 pub mod Steps
-
 -- What crates above name.
 pub use Rattle.chain_core.specs.Decisions.{AreFrames, CoreFollows, Decides, DecisionFitsCount}
 pub use Rattle.chain_core.specs.Decisions.{IsReadOf, answer_to, done_of, frame_as, rule_of}

@@ -22,8 +22,11 @@ pub(crate) fn count_due(pending: &VecDeque<PendingSubmit>, upto: Number) -> usiz
 }
 
 // Moves the requests at the front with numbers up to this one to the end of `due`.
-pub(crate) fn move_due(pending: &mut VecDeque<PendingSubmit>, due: &mut Vec<PendingSubmit>, upto:
-Number)
+pub(crate) fn move_due(
+    pending: &mut VecDeque<PendingSubmit>,
+    due: &mut Vec<PendingSubmit>,
+    upto: Number,
+)
     requires { vec_len due.old + length (front upto pending.old.items) ≤ vec_capacity due.old }
     ensures due { due.new.items ≡ due.old.items ++ front upto pending.old.items }
     ensures pending { pending.new.items ≡ behind upto pending.old.items }

@@ -11,7 +11,7 @@ ghost use Rattle.chain_core.specs.States.{HasOrderedNumbers};
 ghost use Rattle.chain_core.specs.Decisions.{CoreFollows, DoneFitsCount, done_of};
 
 use crate::queue::{count_due, move_due};
-use crate::{PersistentState, CoreError, Done, PendingSubmit};
+use crate::{CoreError, Done, PendingSubmit, PersistentState};
 use configurations::{Config, Epoch, NodeId};
 use kv_types::Number;
 use std::alloc::Global;

@@ -69,7 +69,7 @@ taken_of events l part = part_of_map (λ (p : ℕ × _). p.1) l (submitted 1 eve
 is_addressed : {A : Type 0} (cs : List (List ℕ)) (events : List (SystemEvent A))
     (lists : ℕ → List A)
     (f : Message A) → FrameOk cs events lists f → has (at_epoch cs (epoch_of f)) (addressee f) ≡
-        true
+    true
 is_addressed cs events lists (Forward to e from number batch) ok = ok.0
 is_addressed cs events lists (Ack to e from committed have) ok = ok.0
 

@@ -22,11 +22,11 @@ Speaks events B _ = Unit {0}
 
 -- there is one list, of batches of any kind
 pub record OneHistory {A : Type 0} (cs : List (List ℕ)) (events : List (SystemEvent A)) : Type 0
-    where
-  pub B : List A
-  pub taken : Part B (handed events)
-  pub speaks : AllByRecursion (Speaks events B) (reached cs events).replies
-  pub stands : (x : ℕ) → has (last_of cs) x ≡ true → IsPrefix B (node_of cs events x).list
+  where
+    pub B : List A
+    pub taken : Part B (handed events)
+    pub speaks : AllByRecursion (Speaks events B) (reached cs events).replies
+    pub stands : (x : ℕ) → has (last_of cs) x ≡ true → IsPrefix B (node_of cs events x).list
 
 -- the number that a reply speaks of
 abbrev number_of : {A : Type 0} → Response A → ℕ
@@ -42,56 +42,56 @@ top [] = 0
 top (r ∷ rs) = max (number_of r) (top rs)
 
 module _ {A : Type 0} (events : List (SystemEvent A)) (cs : List (List ℕ)) (lists : ℕ → List A)
-    where
-  -- a reply of which the invariant holds
-  abbrev GoodReply : Response A → Type 0
-  GoodReply r = ReplyOk cs events lists r
+  where
+    -- a reply of which the invariant holds
+    abbrev GoodReply : Response A → Type 0
+    GoodReply r = ReplyOk cs events lists r
 
-  -- the list that a reply is about
-  list_of : (r : Response A) → GoodReply r → (l : List A)
-      × ((length l ≡ number_of r) × Safe lists (last_of cs) l)
-  list_of (Committed i n) ok = (ok.0, (ok.1.0, ok.1.2))
-  list_of (Shows i s l) ok = (l, (ok.0, ok.1))
-  list_of (Opened i s) ok = ([], (refl, λ y k. begins_nil (lists y)))
-  list_of (Closed i s) ok = ([], (refl, λ y k. begins_nil (lists y)))
-  list_of (Refused i why) ok = ([], (refl, λ y k. begins_nil (lists y)))
+    -- the list that a reply is about
+    list_of : (r : Response A) → GoodReply r → (l : List A)
+        × ((length l ≡ number_of r) × Safe lists (last_of cs) l)
+    list_of (Committed i n) ok = (ok.0, (ok.1.0, ok.1.2))
+    list_of (Shows i s l) ok = (l, (ok.0, ok.1))
+    list_of (Opened i s) ok = ([], (refl, λ y k. begins_nil (lists y)))
+    list_of (Closed i s) ok = ([], (refl, λ y k. begins_nil (lists y)))
+    list_of (Refused i why) ok = ([], (refl, λ y k. begins_nil (lists y)))
 
-  -- the longest list that a reply is about
-  longest : (rs : List (Response A)) → AllByRecursion GoodReply rs → (l : List A)
-      × ((length l ≡ top rs) × Safe lists (last_of cs) l)
-  longest [] ok = ([], (refl, λ y k. begins_nil (lists y)))
-  longest (r ∷ rs) ok =
-      let a = list_of r ok.0 in
-      let b = longest rs ok.1 in
-      ⊎_elim
-      (λ (lt : number_of r < top rs). (b.0, (omega (arith, b.1.0), b.1.1)))
-      (λ (ge : top rs ≤ number_of r). (a.0, (omega (arith, a.1.0), a.1.1)))
-      (cases_lt (number_of r) (top rs))
+    -- the longest list that a reply is about
+    longest : (rs : List (Response A)) → AllByRecursion GoodReply rs → (l : List A)
+        × ((length l ≡ top rs) × Safe lists (last_of cs) l)
+    longest [] ok = ([], (refl, λ y k. begins_nil (lists y)))
+    longest (r ∷ rs) ok =
+        let a = list_of r ok.0 in
+        let b = longest rs ok.1 in
+        ⊎_elim
+        (λ (lt : number_of r < top rs). (b.0, (omega (arith, b.1.0), b.1.1)))
+        (λ (ge : top rs ≤ number_of r). (a.0, (omega (arith, a.1.0), a.1.1)))
+        (cases_lt (number_of r) (top rs))
 
-  module _ (z : ℕ) (last : has (last_of cs) z ≡ true) (B : List A)
-      (safe : Safe lists (last_of cs) B) where
-    agree : (r : Response A) → GoodReply r → number_of r ≤ length B → Speaks events B r
-    agree (Committed i n) ok le =
-        let p = ok.1.1 in (
-          p.0,
-          (
-            p.1.0,
-            begins-place n p.0 (begins_shorter ok.0 B (lists z) (ok.1.2 z last)
-                (safe z last) (omega (arith, ok.1.0))) p.1.1,
-          ),
-        )
-    agree (Shows i s l) ok le =
-        let begins : IsPrefix l B = begins_shorter l B (lists z) (ok.1 z last) (safe z last)
-        (omega (arith, ok.0)) in
-        (le, sym (subst (λ k. take k B ≡ l) ok.0 (take_begins l B begins)))
-    agree (Opened i s) ok le = tt
-    agree (Closed i s) ok le = tt
-    agree (Refused i why) ok le = tt
+    module _ (z : ℕ) (last : has (last_of cs) z ≡ true) (B : List A)
+        (safe : Safe lists (last_of cs) B) where
+      agree : (r : Response A) → GoodReply r → number_of r ≤ length B → Speaks events B r
+      agree (Committed i n) ok le =
+          let p = ok.1.1 in (
+            p.0,
+            (
+              p.1.0,
+              begins-place n p.0 (begins_shorter ok.0 B (lists z) (ok.1.2 z last)
+                  (safe z last) (omega (arith, ok.1.0))) p.1.1,
+            ),
+          )
+      agree (Shows i s l) ok le =
+          let begins : IsPrefix l B = begins_shorter l B (lists z) (ok.1 z last) (safe z last)
+          (omega (arith, ok.0)) in
+          (le, sym (subst (λ k. take k B ≡ l) ok.0 (take_begins l B begins)))
+      agree (Opened i s) ok le = tt
+      agree (Closed i s) ok le = tt
+      agree (Refused i why) ok le = tt
 
-    agree_all : (rs : List (Response A)) → AllByRecursion GoodReply rs → top rs ≤ length B
-        → AllByRecursion (Speaks events B) rs
-    agree_all [] ok le = tt
-    agree_all (r ∷ rs) ok le = (agree r ok.0 (omega arith), agree_all rs ok.1 (omega arith))
+      agree_all : (rs : List (Response A)) → AllByRecursion GoodReply rs → top rs ≤ length B
+          → AllByRecursion (Speaks events B) rs
+      agree_all [] ok le = tt
+      agree_all (r ∷ rs) ok le = (agree r ok.0 (omega arith), agree_all rs ok.1 (omega arith))
 
 -- it is the one list
 pub one_history : {A : Type 0} (cs : List (List ℕ)) (events : List (SystemEvent A)) → IsChain cs

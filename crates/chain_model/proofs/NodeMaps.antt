@@ -138,7 +138,7 @@ module _ {A B : Type 0} (f : A → B) where
       tail_map x (longer_for n i b) ∙ ap (tail_commits x) appends in
       acknowledge_map m (forward x m k) (forward x (node_map f m) k) (forward_map x m k)
       ∙ ap₂ (λ (o : MachineState B) (s : ℕ). acknowledge o (forward x o (suc s))) same
-          (sym (size n))
+      (sym (size n))
 
   -- a submit
   submit_map : (x : ℕ) (n : MachineState A) (i : ℕ) (b : A)
@@ -230,7 +230,7 @@ module _ {A B : Type 0} (f : A → B) where
       let near = is_some_of (successor n.ids x) s in
       three (answer_map f) (not (has n.ids x)) (not (e == n.epoch)) near near
       (dropped_for n reason.Removed) (dropped_for n reason.OtherEpoch)
-          (receive_ack x n committed have)
+      (receive_ack x n committed have)
       (dropped_for n reason.NotSuccessor) (dropped_for n' reason.Removed)
       (dropped_for n' reason.OtherEpoch) (receive_ack x n' committed have)
       (dropped_for n' reason.NotSuccessor) refl refl refl (take_ack_map x n committed have) refl
@@ -308,9 +308,9 @@ module _ {A B : Type 0} (f : A → B) where
       let many = refused n i refusal.TooManySnapshots in
       let many' = refused n' i refusal.TooManySnapshots in
       readable_map x n i s (cond full many (add_snapshot n i s))
-          (cond full many' (add_snapshot n' i s))
+      (cond full many' (add_snapshot n' i s))
       (cond_of (answer_map f) full full many (add_snapshot n i s) many' (add_snapshot n' i s) refl
-          refl refl)
+      refl refl)
 
   -- a snapshot is closed
   close_map : (x : ℕ) (n : MachineState A) (i s : ℕ)
@@ -325,7 +325,7 @@ module _ {A B : Type 0} (f : A → B) where
       (cond there (remove_snapshot n i s) none) (refused n' i refusal.Removed)
       (cond there (remove_snapshot n' i s) none') refl refl
       (cond_of (answer_map f) there there (remove_snapshot n i s) none (remove_snapshot n' i s)
-          none' refl refl
+      none' refl refl
       refl)
 
   -- a tend

@@ -50,7 +50,7 @@ module _ {A : Type 0} (cs : List (List ℕ)) where
   -- no other node changes
   others_after : (w : SystemState A) (e : SystemEvent A) (x y : ℕ) (n : MachineState A)
       → (outcome w cs e).acted_on ≡ Some (x, n) → (x ≡ y → ⊥) → (state_after cs w e).nodes y ≡
-          w.nodes y
+      w.nodes y
   others_after w e x y n is other =
       subst (λ c. with_node w.nodes c y ≡ w.nodes y) (sym is)
       (cond_both {A = MachineState A} (x == y) n (w.nodes y) (λ m. m ≡ w.nodes y)

@@ -57,36 +57,36 @@ start_world_ok cs lawful events tails = record {
 
 -- What is reached.
 module _ {A : Type 0} (cs : List (List ℕ)) (lawful : IsChain cs) (events : List (SystemEvent A))
-    where
-  -- the list of a tail, at any time of the run, is committed
-  tails_in : (before later : List (SystemEvent A)) → before ++ later ≡ events
-      → TailsIn cs events (run cs before (first_state cs))
-  tails_in before later e t is = record {
-    before = before;
-    later = later;
-    whole = e;
-    tail = t;
-    is = is;
-    epoch = refl;
-    begins = begins_refl _;
-  }
+  where
+    -- the list of a tail, at any time of the run, is committed
+    tails_in : (before later : List (SystemEvent A)) → before ++ later ≡ events
+        → TailsIn cs events (run cs before (first_state cs))
+    tails_in before later e t is = record {
+      before = before;
+      later = later;
+      whole = e;
+      tail = t;
+      is = is;
+      epoch = refl;
+      begins = begins_refl _;
+    }
 
-  -- so all worlds on the way are as they should be
-  along : (before later : List (SystemEvent A)) → before ++ later ≡ events
-      → Along cs lawful events later (run cs before (first_state cs))
-  along before [] e = tt
-  along before (f ∷ later) e =
-      let next : before ++ (f ∷ []) ++ later ≡ events = append_assoc before (f ∷ []) later ∙ e in
-      let is : run cs (before ++ f ∷ []) (first_state cs) ≡ state_after cs
-      (run cs before (first_state cs)) f = run_append cs before (f ∷ []) (first_state cs) in (
-        subst (λ (v : SystemState A). TailsIn cs events v) is
-            (tails_in (before ++ f ∷ []) later next),
-        subst (λ (v : SystemState A). Along cs lawful events later v) is
-            (along (before ++ f ∷ []) later next),
-      )
+    -- so all worlds on the way are as they should be
+    along : (before later : List (SystemEvent A)) → before ++ later ≡ events
+        → Along cs lawful events later (run cs before (first_state cs))
+    along before [] e = tt
+    along before (f ∷ later) e =
+        let next : before ++ (f ∷ []) ++ later ≡ events = append_assoc before (f ∷ []) later ∙ e in
+        let is : run cs (before ++ f ∷ []) (first_state cs) ≡ state_after cs
+        (run cs before (first_state cs)) f = run_append cs before (f ∷ []) (first_state cs) in (
+          subst (λ (v : SystemState A). TailsIn cs events v) is
+              (tails_in (before ++ f ∷ []) later next),
+          subst (λ (v : SystemState A). Along cs lawful events later v) is
+              (along (before ++ f ∷ []) later next),
+        )
 
-  pub reached_ok : WorldOk cs events (handed events) (reached cs events)
-  reached_ok =
-      run_ok cs lawful events events (all_told (WasHandedIn events) events (λ i b was. was)) []
-      (first_state cs) (along [] events refl)
-      (start_world_ok cs lawful events (tails_in [] events refl))
+    pub reached_ok : WorldOk cs events (handed events) (reached cs events)
+    reached_ok =
+        run_ok cs lawful events events (all_told (WasHandedIn events) events (λ i b was. was)) []
+        (first_state cs) (along [] events refl)
+        (start_world_ok cs lawful events (tails_in [] events refl))

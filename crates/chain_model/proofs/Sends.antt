@@ -51,7 +51,7 @@ module _ {A : Type 0} (cs : List (List ℕ)) (lawful : IsChain cs) (events : Lis
   -- the order of the first configuration is that of a smaller one
   pub before_known : (n : MachineState A) → SoundNode cs events h lists x n → (y z : ℕ)
       → has n.ids y ≡ true → has n.ids z ≡ true → IsBeforeIn (at_epoch cs 0) y z → IsBeforeIn n.ids
-          y z
+      y z
   before_known n s y z ky kz b =
       before_back n.ids (at_epoch cs 0) y z (subst (λ c. Part c (at_epoch cs 0)) (sym s.knows)
       (later_part cs 0 n.epoch lawful (omega arith) s.in_range))

@@ -25,7 +25,7 @@ module _ {A B : Type 0} (f : A → B) where
   -- a step, however it ended
   went_map : (x : ℕ) (n : MachineState A) (a : Answer A) (a' : Answer B) (went : StepResult)
       → answer_map f a ≡ a' → outcome_map f (as_completed x n a went) ≡ as_completed x
-          (node_map f n)
+      (node_map f n)
       a' went
   went_map x n a a' Answered e = ap (answers x) e
   went_map x n a a' StoppedBefore e = refl

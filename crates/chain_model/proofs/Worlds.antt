@@ -55,7 +55,7 @@ module _ {A : Type 0} (cs : List (List ℕ)) (lawful : IsChain cs) (events : Lis
       → IsPrefix (lists_of w y) (new x a y)
   grow x a g y =
       cond_both {A = MachineState A} (x == y) a.node (w.nodes y)
-          (λ n. IsPrefix (w.nodes y).list n.list)
+      (λ n. IsPrefix (w.nodes y).list n.list)
       (λ is. subst (λ z. IsPrefix (w.nodes z).list a.node.list) (eqb-true x y is) g)
       (λ not. begins_refl (w.nodes y).list)
 
@@ -247,52 +247,52 @@ module _ {A : Type 0} (cs : List (List ℕ)) (lawful : IsChain cs) (events : Lis
       (λ down. drops_ok x reason.NotRunning)
 
 module _ {A : Type 0} (cs : List (List ℕ)) (lawful : IsChain cs) (events : List (SystemEvent A))
-    where
-  -- the batches that an event submits are submitted in the run
-  abbrev EventOk : SystemEvent A → Type 0
-  EventOk e = (i : ℕ) (b : A) → IsHandIn i b e → WasHandedIn events i b
+  where
+    -- the batches that an event submits are submitted in the run
+    abbrev EventOk : SystemEvent A → Type 0
+    EventOk e = (i : ℕ) (b : A) → IsHandIn i b e → WasHandedIn events i b
 
-  -- every event keeps the invariant
-  pub happens_ok : (h : List A) (w : SystemState A) → WorldOk cs events h w → (e : SystemEvent A) →
-      EventOk e
-      → TailsIn cs events (state_after cs w e) → WorldOk cs events (h ++ handed_by e)
-          (state_after cs w e)
-  happens_ok h w ok (Ask x i (Submit b) went) told tails = asked_ok cs lawful events h w ok
-      (b ∷ []) x i (Submit b) went
-      (λ lists. (
-        told i b (refl, refl),
-        part_both (w.nodes x).list h b
-            (ok.nodes x).sound.handed,
-      )) tails
-  happens_ok h w ok (Ask x i (Read at) went) told tails = asked_ok cs lawful events h w ok [] x i
-      (Read at) went (λ lists. tt) tails
-  happens_ok h w ok (Ask x i (Open at) went) told tails = asked_ok cs lawful events h w ok [] x i
-      (Open at) went (λ lists. tt) tails
-  happens_ok h w ok (Ask x i (Close s) went) told tails = asked_ok cs lawful events h w ok [] x i
-      (Close s) went (λ lists. tt) tails
-  happens_ok h w ok (Tick x went) told tails = ticked_ok cs lawful events h w ok [] x went tails
-  happens_ok h w ok (Tend x rises gives_up went) told tails =
-      tended_ok cs lawful events h w ok [] x rises gives_up went tails
-  happens_ok h w ok (Notice x e went) told tails = noticed_ok cs lawful events h w ok [] x e went
-      tails
-  happens_ok h w ok (Deliver p went) told tails = delivered_ok cs lawful events h w ok [] p went
-      (place w.frames p) refl tails
-  happens_ok h w ok (Start x went) told tails = start_ok cs lawful events h w ok [] x went tails
-  happens_ok h w ok (Stop x) told tails = stop_ok cs lawful events h w ok [] x tails
-  happens_ok h w ok Lost told tails = nothing_ok cs lawful events h w ok []
+    -- every event keeps the invariant
+    pub happens_ok : (h : List A) (w : SystemState A) → WorldOk cs events h w → (e : SystemEvent A) →
+        EventOk e
+        → TailsIn cs events (state_after cs w e) → WorldOk cs events (h ++ handed_by e)
+        (state_after cs w e)
+    happens_ok h w ok (Ask x i (Submit b) went) told tails = asked_ok cs lawful events h w ok
+        (b ∷ []) x i (Submit b) went
+        (λ lists. (
+          told i b (refl, refl),
+          part_both (w.nodes x).list h b
+              (ok.nodes x).sound.handed,
+        )) tails
+    happens_ok h w ok (Ask x i (Read at) went) told tails = asked_ok cs lawful events h w ok [] x i
+        (Read at) went (λ lists. tt) tails
+    happens_ok h w ok (Ask x i (Open at) went) told tails = asked_ok cs lawful events h w ok [] x i
+        (Open at) went (λ lists. tt) tails
+    happens_ok h w ok (Ask x i (Close s) went) told tails = asked_ok cs lawful events h w ok [] x i
+        (Close s) went (λ lists. tt) tails
+    happens_ok h w ok (Tick x went) told tails = ticked_ok cs lawful events h w ok [] x went tails
+    happens_ok h w ok (Tend x rises gives_up went) told tails =
+        tended_ok cs lawful events h w ok [] x rises gives_up went tails
+    happens_ok h w ok (Notice x e went) told tails = noticed_ok cs lawful events h w ok [] x e went
+        tails
+    happens_ok h w ok (Deliver p went) told tails = delivered_ok cs lawful events h w ok [] p went
+        (place w.frames p) refl tails
+    happens_ok h w ok (Start x went) told tails = start_ok cs lawful events h w ok [] x went tails
+    happens_ok h w ok (Stop x) told tails = stop_ok cs lawful events h w ok [] x tails
+    happens_ok h w ok Lost told tails = nothing_ok cs lawful events h w ok []
 
-  -- of every world on the way
-  abbrev pub Along : List (SystemEvent A) → SystemState A → Type 0
-  Along [] w = Unit {0}
-  Along (e ∷ es) w = TailsIn cs events (state_after cs w e) × Along es (state_after cs w e)
+    -- of every world on the way
+    abbrev pub Along : List (SystemEvent A) → SystemState A → Type 0
+    Along [] w = Unit {0}
+    Along (e ∷ es) w = TailsIn cs events (state_after cs w e) × Along es (state_after cs w e)
 
-  -- every run keeps the invariant
-  pub run_ok : (es : List (SystemEvent A)) → AllByRecursion EventOk es → (h : List A)
-      (w : SystemState A)
-      → Along es w → WorldOk cs events h w → WorldOk cs events (h ++ handed es) (run cs es w)
-  run_ok [] told h w along ok = subst (λ l. WorldOk cs events l w) (sym (append-nil h)) ok
-  run_ok (e ∷ es) told h w along ok =
-      subst (λ l. WorldOk cs events l (run cs es (state_after cs w e)))
-      (append_assoc h (handed_by e) (handed es))
-      (run_ok es told.1 (h ++ handed_by e) (state_after cs w e) along.1
-      (happens_ok h w ok e told.0 along.0))
+    -- every run keeps the invariant
+    pub run_ok : (es : List (SystemEvent A)) → AllByRecursion EventOk es → (h : List A)
+        (w : SystemState A)
+        → Along es w → WorldOk cs events h w → WorldOk cs events (h ++ handed es) (run cs es w)
+    run_ok [] told h w along ok = subst (λ l. WorldOk cs events l w) (sym (append-nil h)) ok
+    run_ok (e ∷ es) told h w along ok =
+        subst (λ l. WorldOk cs events l (run cs es (state_after cs w e)))
+        (append_assoc h (handed_by e) (handed es))
+        (run_ok es told.1 (h ++ handed_by e) (state_after cs w e) along.1
+        (happens_ok h w ok e told.0 along.0))

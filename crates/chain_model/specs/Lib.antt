@@ -15,7 +15,6 @@ pub mod Maps
 pub mod Trace
 pub mod WorkedRuns
 pub mod WorkedDrops
-
 -- What crates above name.
 pub use Rattle.chain_model.specs.Configuration.{AllDifferent, Configurations, IsId, Lawful}
 pub use Rattle.chain_model.specs.Configuration.{at_epoch, has, is_head, is_part, is_tail, last_of}

@@ -24,10 +24,10 @@ pub record IsOrdered {A : Type 0} (n : MachineState A) : Type 0 where
 -- so of its successor (van Renesse and Schneider 2004, section 3; floor and kept number are this
 -- store's profile).
 pub record KeepsEnough {A : Type 0} (cs : Configurations) (events : List (SystemEvent A)) : Type 0
-    where
-  pub others : (x y : ℕ) → has (at_epoch cs (node_of cs events x).epoch) y ≡ true
-      → (node_of cs events x).kept ≤ length (node_of cs events y).list
-  pub resend : (x : ℕ) → (node_of cs events x).running ≡ true
-      → is_tail (node_of cs events x).ids x ≡ false
-      → (node_of cs events x).kept ≤ (node_of cs events x).successor_has
-  pub ordered : (x : ℕ) → IsOrdered (node_of cs events x)
+  where
+    pub others : (x y : ℕ) → has (at_epoch cs (node_of cs events x).epoch) y ≡ true
+        → (node_of cs events x).kept ≤ length (node_of cs events y).list
+    pub resend : (x : ℕ) → (node_of cs events x).running ≡ true
+        → is_tail (node_of cs events x).ids x ≡ false
+        → (node_of cs events x).kept ≤ (node_of cs events x).successor_has
+    pub ordered : (x : ℕ) → IsOrdered (node_of cs events x)

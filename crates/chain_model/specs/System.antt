@@ -111,7 +111,7 @@ module _ {A : Type 0} (w : SystemState A) where
   outcome cs (Tend x rises gives_up went) = dispatched x (λ n. tend n rises gives_up) went
   outcome cs (Notice x e went) =
       if nat_lt e (length cs) then dispatched x (λ n. notice x n e (at_epoch cs e)) went
-          else nothing
+      else nothing
   outcome cs (Deliver p went) = delivered (place w.frames p) went
   outcome cs (Start x went) =
       if (w.nodes x).running then answers x (dropped_for (w.nodes x) reason.Running)

@@ -136,7 +136,7 @@ pub crashes_allowed : (junk : Junk) (old new : State) → AllKeptAgree old → C
     → IsCrashOutcome old (contents new)
 crashes_allowed junk old new all crashes = λ file.
     subst (IsFileOutcome (old file))
-        (sym (ap seen (crashes file) ∙ seen-sure (crash_outcome junk (old file))))
+    (sym (ap seen (crashes file) ∙ seen-sure (crash_outcome junk (old file))))
     (left_allowed junk (old file) (all file))
 
 -- every crash outcome is durable

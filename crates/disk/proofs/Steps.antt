@@ -17,7 +17,7 @@ Only P slot = (left : Option (List ℕ)) → IsFileOutcome slot left → P left
 -- the outcomes after a refusal
 pub fails_only : (P : Option (List ℕ) → Type 0) (e : DiskError) (old new : State) (file : ℕ)
     (slot : Slot) → FailureLeaves e old file slot new → Only P (old file) → Only P slot → Only P
-        (new file)
+    (new file)
 fails_only P Failed old new file slot f before behind =
     λ left now. elim (f.leaves left now) [ inl was ↦ before left was | inr is ↦ behind left is ]
 fails_only P NoFile old new file slot f before behind =
@@ -47,7 +47,7 @@ synced_only P (Kept bytes kept touches) before None now = absurd now
 -- the outcomes after a sync, whatever it answers
 pub syncs_only : {T : Type 0} (P : Option (List ℕ) → Type 0) (result : Result T DiskError)
     (old new : State) (file : ℕ) → SyncOutcome old file result new → Only P (old file) → Only P
-        (new file)
+    (new file)
 syncs_only P (Ok x) old new file w before =
     λ left now. synced_only P (old file) before left
     (subst (λ (s : Slot). IsFileOutcome s left) w.1.here now)

@@ -84,8 +84,12 @@ pub junk_within : (end : ℕ) (touches : List PendingWrite) (junk old bytes : Li
     → 0 < length junk
     → IsTornTo end touches junk old bytes place next → next < length junk
 junk_within end touches junk old bytes place next some so_far =
-    omega (arith, so_far.junk_part, mod_below (unsynced_before end touches place) (length junk)
-        some)
+    omega (
+      arith,
+      so_far.junk_part,
+      mod_below (unsynced_before end touches place) (length junk)
+          some,
+    )
 
 -- the torn byte at a place of the old bytes
 torn_at : (b : Bool) (end : ℕ) (touches : List PendingWrite) (junk old : List ℕ) (place : ℕ)

@@ -8,7 +8,6 @@ pub mod File
 pub mod Held
 pub mod Memory
 pub mod Crashes
-
 -- What crates above name.
 pub use Rattle.disk.specs.Calls.{EndsOutOfRange, RisesByOne, WriteOutcome}
 pub use Rattle.disk.specs.Crashes.{CrashOutcome, CrashedIsDurable}

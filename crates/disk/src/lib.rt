@@ -10,9 +10,9 @@ mod file;
 mod junk;
 pub mod laws;
 mod memory;
+mod pending_write;
 mod slot;
 mod tear;
-mod pending_write;
 
 pub use crash::Crash;
 pub use disk::Disk;

@@ -181,7 +181,12 @@ fn left_torn(held: Held, junk: &[u8]) -> Option<Vec<u8>>
     match held {
         Held::Absent(_back) => None,
         Held::Fresh(mut bytes, _back) => {
-            tear(bytes.as_mut_slice(), 0, &[PendingWrite::Cut { len: 0 }], junk);
+            tear(
+                bytes.as_mut_slice(),
+                0,
+                &[PendingWrite::Cut { len: 0 }],
+                junk,
+            );
             Some(bytes)
         }
         Held::Kept(file) => Some(file.into_torn(junk)),

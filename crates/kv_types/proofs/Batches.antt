@@ -66,7 +66,7 @@ edit_again : (edit : Edit) (rest : List ℕ) → IsEdit edit
 unfolding edit_at
 edit_again (Put key value) rest fits =
     let regrouped : (text_bytes key ++ text_bytes value) ++ rest ≡ text_bytes key ++
-        (text_bytes value ++ rest) =
+    (text_bytes value ++ rest) =
     append_assoc (text_bytes key) (text_bytes value) rest in
     ap (λ (b : List ℕ). edit_at (1 ∷ b)) regrouped
     ∙ rw (
@@ -211,7 +211,7 @@ batch_again edits is =
 pub spellings_differ : SpellingsDiffer
 spellings_differ a b rest is_a is_b same =
     let bytes : batch_bytes a ++ rest ≡ batch_bytes b ++ [] = same ∙ sym
-        (append-nil (batch_bytes b)) in
+    (append-nil (batch_bytes b)) in
     let first : List Edit × List ℕ = (a, rest) in
     let second : List Edit × List ℕ = (b, []) in
     let one : first ≡ second =

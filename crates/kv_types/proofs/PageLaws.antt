@@ -67,7 +67,7 @@ cut (suc limit) size (row ∷ rows) =
     by_test : (b : Bool) → nat_le (row_size row) size ≡ b
         → (left : List Row)
         × IsCut limit (size - row_size row) rows (fitting_rows limit (size - row_size row) rows)
-            left
+        left
         → (left : List Row)
         × IsCut (suc limit) size (row ∷ rows)
         (cond b (row ∷ fitting_rows limit (size - row_size row) rows) []) left

@@ -9,7 +9,6 @@ pub mod Pages
 pub mod Limits
 pub mod Bounds
 pub mod Examples
-
 -- What crates above name.
 pub use Rattle.kv_types.specs.Content.{BatchContent}
 pub use Rattle.kv_types.specs.Maps.{map_of}

@@ -216,7 +216,7 @@ refusal_reads = record {
   takes = λ bytes x fits e.
       let n = bind_some (number_at w8 bytes)
       (λ refusal_number. refusal_of refusal_number.0 >>= λ refusal. Some
-          (refusal, refusal_number.1)) x e in
+      (refusal, refusal_number.1)) x e in
       let r = bind_some (refusal_of n.0.0) (λ refusal. Some (refusal, n.0.1)) x n.2 in
       let t = u8_reads.takes bytes n.0 fits n.1 in
       let whole : Takes bytes (u8 (refusal_number r.0)) n.0.1 =
@@ -226,9 +226,9 @@ refusal_reads = record {
       (some_is found x r.2) (whole, tt);
   again = λ refusal rest is.
       ap (λ (o : Option (ℕ × List ℕ)). o >>= λ refusal_number. refusal_of refusal_number.0 >>=
-          λ refusal. Some
+      λ refusal. Some
       (refusal, refusal_number.1))
-          (u8_reads.again (refusal_number refusal) rest (small_code refusal))
+      (u8_reads.again (refusal_number refusal) rest (small_code refusal))
       ∙ ap (λ (o : Option Refusal). o >>= λ refusal. Some (refusal, rest))
       (refusal_of_code refusal);
 }

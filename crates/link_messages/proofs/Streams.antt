@@ -331,7 +331,7 @@ one_split decides stream rest other (f ∷ fs) [] s t =
     absurd (no_frame decides stream other rest f fs t s)
 one_split decides stream rest other (f ∷ fs) (g ∷ gs) s t =
     let both = one_answer decides (Ok (Some f)) (Ok (Some g)) stream
-        (flat_map frame_bytes fs ++ rest)
+    (flat_map frame_bytes fs ++ rest)
     (flat_map frame_bytes gs ++ other) (first_told stream rest f fs s)
     (first_told stream other g gs t) in
     let same = some_is f g both.0 in

@@ -47,7 +47,7 @@ at_text at = optional u64 at
 abbrev pub range_text : Span → List ℕ
 range_text range =
     text_bytes range.from ++
-        (optional text_bytes range.to ++ (truth range.backward ++ u32 range.limit))
+    (optional text_bytes range.to ++ (truth range.backward ++ u32 range.limit))
 
 abbrev pub row_text : Row → List ℕ
 row_text row = text_bytes row.key ++ text_bytes row.value

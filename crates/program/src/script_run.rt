@@ -13,7 +13,7 @@ ghost use Rattle.program.specs.Scripts.{Names};
 use crate::script::{Action, Statement};
 use crate::statement_result::{Note, StatementResult};
 use kv_types::Limits;
-use lab::{Configs, Event, Fault, LabError, EventKind, World};
+use lab::{Configs, Event, EventKind, Fault, LabError, World};
 use std::alloc::{AllocError, Global};
 use std::collections::VecDeque;
 

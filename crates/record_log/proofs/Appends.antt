@@ -82,7 +82,7 @@ module _ (old : State) (log : Log) (records : List (List ℕ)) (one : List ℕ) 
       → after.file ≡ log.file → after.start ≡ log.start → header ≡ min (log.end + 5) (2 ^ 64 - 1)
       → after.end ≡ min (header + length one) (2 ^ 64 - 1)
       → after.ends.items ≡ log.ends.items ++ after.end ∷ [] → LogHolds new after
-          (records ++ one ∷ [])
+      (records ++ one ∷ [])
   appended new after behind header behind_is done file_is start_is header_is end_is ends_is =
       let g = the_gate in
       let place = log.start + log.end in

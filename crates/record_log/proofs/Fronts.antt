@@ -123,7 +123,7 @@ stands_behind bytes (first ∷ others) rest [] f s =
 stands_behind bytes (first ∷ others) rest (one ∷ all) f s =
     let same = one_entry first one f.0 s.0 f.1 s.1 (sym f.2 ∙ s.2) in
     let moved : RepresentsRecords f.0 all = subst (λ (b : List ℕ). RepresentsRecords b all)
-        (sym same.1) s.3 in
+    (sym same.1) s.3 in
     let below = stands_behind f.0 others rest all f.3 moved in
     let heads = same.0 in
     let tails = below.1 in
@@ -145,7 +145,7 @@ one_reading bytes (x ∷ a) [] s t =
 one_reading bytes (x ∷ a) (y ∷ b) s t =
     let same = one_entry x y s.0 t.0 s.1 t.1 (sym s.2 ∙ t.2) in
     let moved : RepresentsRecords s.0 b = subst (λ (c : List ℕ). RepresentsRecords c b) (sym same.1)
-        t.3 in
+    t.3 in
     let below = one_reading s.0 a b s.3 moved in
     let heads = same.0 in
     cc

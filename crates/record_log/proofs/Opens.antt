@@ -44,14 +44,14 @@ declined log.Failed bytes start records why stood = absurd why
 pub holds_them : (old new : State) (file start : ℕ) (rest : List ℕ) (log : Log)
     (found records : List (List ℕ)) →
     IsRest old file start new rest → RepresentsRecords rest found → log.file ≡ file → log.start ≡
-        start →
+    start →
     log.ends.items ≡ ends_from 0 found → log.end ≡ end_of 0 found →
     HasRecords old file start records → LogHolds new log records
 holds_them old new file start rest log found records r stands file_is start_is ends_are end_is stood
     =
     let whole : RepresentsRecords (drop start r.whole) records =
     subst (λ (o : Option (List ℕ)). IsSomeAnd o (λ it. RepresentsRecords (drop start it) records))
-        r.was
+    r.was
     stood in
     let again : RepresentsRecords (drop start r.whole) found =
     subst (λ (b : List ℕ). RepresentsRecords b found) r.is stands in

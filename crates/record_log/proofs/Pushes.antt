@@ -152,7 +152,7 @@ module _ (bytes : List ℕ) (gate : ℕ) (behind : List ℕ) (within : gate < le
   -- when the first write is synced
   pub second_write : {T : Type 0} (file : ℕ) (result : Result T DiskError) (s0 s1 s2 s3 : State)
       → 0 < length behind → IsDurableAs s0 file bytes → s1 file ≡ written (gate + 1) behind
-          (s0 file)
+      (s0 file)
       → s2 file ≡ synced (s1 file) → WriteOutcome s2 file gate (1 ∷ []) result s3
       → Only (OnTheWay bytes gate behind) (s3 file)
   second_write file result s0 s1 s2 s3 some was wrote kept w =

@@ -56,7 +56,7 @@ HasRecords disk file start records =
 abbrev pub IsOldOrNew : ℕ → List (List ℕ) → List ℕ → List ℕ → Type 0
 IsOldOrNew start records one bytes =
     RepresentsRecords (drop start bytes) records ⊎ RepresentsRecords (drop start bytes)
-        (records ++ one ∷ [])
+    (records ++ one ∷ [])
 
 -- the log stays at the same place of the same file
 pub record IsInPlace (old new : Log) : Type 0 where
@@ -118,7 +118,7 @@ OpenRefusal (log.Disk disk.Failed) bytes start = Unit {0}
 OpenRefusal (log.Disk disk.NoFile) bytes start = IsNone bytes
 OpenRefusal (log.Disk disk.Short) bytes start =
     IsSomeAnd bytes (λ it. (records : List (List ℕ)) → RepresentsRecords (drop start it) records →
-        ⊥)
+    ⊥)
 OpenRefusal (log.Disk disk.Memory) bytes start = ⊥
 OpenRefusal log.Memory bytes start = Unit {0}
 OpenRefusal log.TooLong bytes start = ⊥
@@ -157,7 +157,7 @@ abbrev pub AppendAnswer : {T : Type 0} → ℕ → Result T LogError → Log →
     0
 AppendAnswer limit result old new one untouched =
     IsInPlace old new × AppendOutcome limit result old new one × IfErr result
-        (λ e. IsArgumentError e → untouched)
+    (λ e. IsArgumentError e → untouched)
 
 -- the limit of a record as a number
 abbrev pub RecordBoundIs : Type 0

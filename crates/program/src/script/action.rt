@@ -10,7 +10,7 @@ ghost use Rattle.program.specs.Reading.{what_of};
 use super::command::{Bytes, Command, RawEdit, RawEdits};
 use super::statement::Action;
 use kv_types::{Batch, Edit, Key, KvError, Value};
-use lab::{NodeId, EventKind};
+use lab::{EventKind, NodeId};
 use std::alloc::{AllocError, Global};
 
 fn key_of(bytes: Bytes) -> Result<Key, KvError>

@@ -7,7 +7,7 @@ ghost use Rattle.program.specs.Reading.{after_item, statements_of};
 
 use super::error::ScriptError;
 use kv_types::KvError;
-use lab::{Configs, NodeId, EventKind};
+use lab::{Configs, EventKind, NodeId};
 use std::alloc::AllocError;
 
 /// What a statement comes to.

@@ -24,7 +24,7 @@ overflow_add-count_due c =
 pub move_due-requires : goal.move_due-requires
 move_due-requires c =
     let asked : PendingSubmit = record { number = c.unwrap-number.result; request = c.args.request }
-        in
+    in
     let committed = c.committed_with-committed.result in
     let due = front_push committed c.self.inside.pending.items asked in
     rw c.in_ok-push_back.ensures.items

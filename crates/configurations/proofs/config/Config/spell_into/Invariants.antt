@@ -7,4 +7,4 @@ use Rattle.configurations.proofs.config.Config.spell_into.Given as goal
 abbrev pub invariant-loop-id : goal.invariant-loop-id
 invariant-loop-id l =
     l.out.items ≡ (l.fn.out.items ++ to_be_bytes w8 (length l.ids)) ++ ids_text
-        (take l.id-index l.ids)
+    (take l.id-index l.ids)

@@ -14,7 +14,7 @@ returns-in_err-edits-clause-bad c =
     let same : c.in_err-edits.field-0.0 ≡ BadBytes = cc (p.1, p.2, is) in
     no_batch c.args.bytes.now
     (subst (λ (e : KvError). RefusesBytes e (batch_at c.args.bytes.now)) same
-        c.in_err-edits.ensures)
+    c.in_err-edits.ensures)
 
 pub invariant_of-result : goal.invariant_of-result
 invariant_of-result c =
