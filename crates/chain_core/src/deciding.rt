@@ -119,7 +119,8 @@ fn of_tick(state: &CoreState) -> Decision
 
 /// Decides what a node does with an input. It changes nothing.
 pub fn decide(state: &CoreState, input: Input) -> Decision
-    ensures decides { (n : Machine) → CoreRefines state.now n → Decides state.now.id n input result }
+    ensures decides { (n : Machine) → CoreRefines state.now n →
+        Decides state.now.id n input result }
     ensures room { DecisionFitsCount state.now.count result }
 {
     match input {

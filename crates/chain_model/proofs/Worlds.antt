@@ -253,8 +253,8 @@ module _ {A : Type 0} (cs : List (List ℕ)) (lawful : IsChain cs) (events : Lis
     EventOk e = (i : ℕ) (b : A) → IsHandIn i b e → WasHandedIn events i b
 
     -- every event keeps the invariant
-    pub happens_ok : (h : List A) (w : SystemState A) → WorldOk cs events h w → (e : SystemEvent A) →
-        EventOk e
+    pub happens_ok : (h : List A) (w : SystemState A) → WorldOk cs events h w → (e : SystemEvent A)
+        → EventOk e
         → TailsIn cs events (state_after cs w e) → WorldOk cs events (h ++ handed_by e)
         (state_after cs w e)
     happens_ok h w ok (Ask x i (Submit b) went) told tails = asked_ok cs lawful events h w ok

@@ -25,13 +25,15 @@ pub use refusal::Refusal;
 /// For every lawful list of configurations and every list of events there is one list of batches.
 /// Every read and acknowledgement agrees with it, and it is a prefix of each last node's list.
 pub fn one_history<B>()
-    ensures { (cs : Configurations) (events : List (SystemEvent B)) → Lawful cs → OneList cs events }
+    ensures { (cs : Configurations) (events : List (SystemEvent B)) → Lawful cs →
+        OneList cs events }
 {}
 
 /// Along the chain each later list is a prefix of the earlier ones, and frames are true. The list
 /// of an epoch's tail at that epoch is never lost.
 pub fn in_order<B>()
-    ensures { (cs : Configurations) (events : List (SystemEvent B)) → Lawful cs → InOrder cs events }
+    ensures { (cs : Configurations) (events : List (SystemEvent B)) → Lawful cs →
+        InOrder cs events }
 {}
 
 /// A read at the last configuration's tail, once it is at that epoch, sees every batch that was

@@ -149,7 +149,8 @@ impl Engine {
         ensures kept { KeepsDisk D.Disk disk.old disk.new (IsDeviceStop result) ⊥ KeepsOthers }
         ensures created { D.is_honest disk.old →
             MatchResult result
-            (λ engine. EngineHolds (D.state disk.new) engine id 0 config.now [] 0 0) IsEnvironmental }
+            (λ engine. EngineHolds (D.state disk.new) engine id 0 config.now [] 0 0)
+            IsEnvironmental }
         ensures usable { IfOk result IsUsable }
         ensures none { IfOk result
             (λ engine. (engine_count engine ≡ 0) × (engine_kept engine ≡ 0)) }

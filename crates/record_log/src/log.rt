@@ -95,7 +95,8 @@ impl Log {
         ensures created { D.is_honest disk.old → EndsInRange (seen (D.state disk.old file)) →
             MatchResult result (λ log. LogHolds (D.state disk.new) log []) IsEnvironmentalError }
         ensures spelled { D.is_honest disk.old →
-            OnOk result (IsDurableAs (D.state disk.new) file (begun (seen (D.state disk.old file)))) }
+            OnOk result
+            (IsDurableAs (D.state disk.new) file (begun (seen (D.state disk.old file)))) }
         ensures at { IfOk result (IsAt file 0) }
         ensures empty { IfOk result (λ log. (gate_of log ≡ 0) × (count_of log ≡ 0)) }
     {
@@ -124,7 +125,8 @@ impl Log {
             OpenOutcome (D.state disk.old) file start result (D.state disk.new) }
         ensures opened { (records : List (List ℕ)) → D.is_honest disk.old →
             HasRecords (D.state disk.old) file start records →
-            MatchResult result (λ log. LogHolds (D.state disk.new) log records) IsEnvironmentalError }
+            MatchResult result (λ log. LogHolds (D.state disk.new) log records)
+            IsEnvironmentalError }
     {
         let bytes = synced_from(alloc, disk, file, start)?;
         let (ends, end) = scan(alloc, &bytes)?;
