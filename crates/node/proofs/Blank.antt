@@ -7,7 +7,7 @@ use Rattle.disk.specs.declared.DiskError.TheVariants as disk
 use Rattle.record_log.specs.declared.LogError.{LogError}
 use Rattle.record_log.specs.declared.LogError.TheVariants as log
 use Rattle.record_log.specs.declared.Log.{Log}
-use Rattle.record_log.specs.{RepresentsRecords, RecordsAreUnique, LogHolds, count_of}
+use Rattle.record_log.specs.{Represents, RecordsAreUnique, LogHolds, count_of}
 use Rattle.record_log.specs as log_stands
 use Rattle.node.specs.declared.stop.Stop.{Stop}
 use Rattle.node.specs.declared.stop.Stop.TheVariants as stop
@@ -50,7 +50,7 @@ blank_holds law bytes records stop.Damaged has stands told =
 blank_holds law bytes records stop.Memory has stands told = tt
 blank_holds law None records stop.NotCreated has stands told = absurd has
 blank_holds law (Some it) records stop.NotCreated has stands told =
-    inr (subst (λ (r : List (List ℕ)). RepresentsRecords it r) told stands)
+    inr (subst (λ (r : List (List ℕ)). Represents it r) told stands)
 
 pub blank_read : RecordsAreUnique → {T : Type 0} (result : Result T Stop) (bytes : Option (List ℕ))
     (records : List (List ℕ)) → HasBytes bytes → IsLog bytes records →

@@ -10,11 +10,11 @@ use Rattle.node.specs.declared.stop.Stop.TheVariants as stop
 use Rattle.node.specs.Stops.{log_stop, IsEnvironmental}
 
 -- a log that works on its own file reports environment errors alone
-pub of_machine : (e : LogError) → log_stands.IsEnvironmentalError e → IsEnvironmental (log_stop e)
+pub of_machine : (e : LogError) → log_stands.IsExternal e → IsEnvironmental (log_stop e)
 of_machine e (inl failed) = inl (ap log_stop failed)
 of_machine e (inr memory) = inr (ap log_stop memory)
 
-pub working_log : (e : LogError) → log_stands.IsEnvironmentalError e ⊎ (e ≡ log.Failed) →
+pub working_log : (e : LogError) → log_stands.IsExternal e ⊎ (e ≡ log.Failed) →
     (e ≡ log.Failed → ⊥) → IsEnvironmental (log_stop e)
 working_log e (inl machine) works = of_machine e machine
 working_log e (inr failed) works = absurd (works failed)

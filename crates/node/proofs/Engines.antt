@@ -9,7 +9,7 @@ use Rattle.kv_types.specs.{IsBatch, BatchContent}
 use Rattle.disk.specs.{State, Slot, Absent, Fresh, Kept, Contents, IsFileOutcome, IsCrashOutcome}
 use Rattle.disk.specs.{contents, seen, IsDurable, DurableIsLeft}
 use Rattle.record_log.specs.declared.Log.{Log}
-use Rattle.record_log.specs.{RepresentsRecords, LeavesAt, LogHolds, IsAt, IsOldOrNew, count_of}
+use Rattle.record_log.specs.{Represents, LeavesAt, LogHolds, IsAt, IsOldOrNew, count_of}
 use Rattle.node.specs.declared.engine.Engine.{Engine}
 use Rattle.chain_model.specs.{IsId, place}
 use Rattle.configurations.specs.{IsConfig}
@@ -45,7 +45,7 @@ holds_in old new log records same h = record {
 
 -- a durable file represents what it represented
 stands_left : DurableIsLeft → (disk : State) (file : ℕ) (bytes : List ℕ)
-    (records : List (List ℕ)) → disk file ≡ Kept bytes bytes [] → RepresentsRecords bytes records →
+    (records : List (List ℕ)) → disk file ≡ Kept bytes bytes [] → Represents bytes records →
     (left : Contents) → IsCrashOutcome disk left → IsLog (left file) records
 stands_left law disk file bytes records sure stands left leaves =
     let is_sure = subst (λ (slot : Slot). IsDurable slot) (sym sure) (refl, refl) in
@@ -70,7 +70,7 @@ sure_of_id disk log x ids id config file start h = record {
   config = config;
   bytes = h.bytes;
   sure = sym (ap disk file) ∙ h.sure;
-  identity = subst (λ (s : ℕ). RepresentsRecords (drop s h.bytes) (identity_records x ids)) start
+  identity = subst (λ (s : ℕ). Represents (drop s h.bytes) (identity_records x ids)) start
       h.stands;
 }
 
@@ -137,8 +137,8 @@ module _ (law : DurableIsLeft) (old : State) (engine : Engine) (x epoch : ℕ) (
       IsLog (left batches_file) (records_from 1 list)
   log_left left leaves =
       let records : List (List ℕ) = records_from 1 list in
-      let stands : RepresentsRecords s.log.bytes records =
-      subst (λ (k : ℕ). RepresentsRecords (drop k s.log.bytes) records) s.at.from s.log.stands in
+      let stands : Represents s.log.bytes records =
+      subst (λ (k : ℕ). Represents (drop k s.log.bytes) records) s.at.from s.log.stands in
       let sure : old batches_file ≡ Kept s.log.bytes s.log.bytes [] =
       sym (ap old s.at.in_file) ∙ s.log.sure in
       stands_left law old batches_file s.log.bytes records sure stands left leaves
@@ -204,8 +204,8 @@ module _ (law : DurableIsLeft) (old : State) (engine : Engine) (x epoch : ℕ) (
               })
           split (Some it) same (inr stands) =
               let more : List (List ℕ) = records_from 1 (list ++ batch ∷ []) in
-              let whole : RepresentsRecords it more =
-              subst (λ (r : List (List ℕ)). RepresentsRecords it r) one_more stands in
+              let whole : Represents it more =
+              subst (λ (r : List (List ℕ)). Represents it r) one_more stands in
               let P : Option (List ℕ) → Type 0 = λ o. IsLog o more in
               inr (record {
                 batches = record {

@@ -4,7 +4,7 @@ use Rattle.std.specs.Prelude.{IsSomeAnd, MatchOption}
 use Rattle.kv_types.specs.declared.bounds.TheConstants.{MAX_NUMBER}
 use Rattle.kv_types.specs.{BatchContent, IsBatch}
 use Rattle.disk.specs.{State, Contents, IsCrashOutcome, contents}
-use Rattle.record_log.specs.{RepresentsRecords, IsDurableAs}
+use Rattle.record_log.specs.{Represents, IsDurableAs}
 use Rattle.chain_model.specs.{IsId}
 use Rattle.configurations.specs.{IsConfig}
 use Rattle.node.specs.Layout.{identity_file, batches_file, identity_records, records_from}
@@ -12,11 +12,11 @@ use Rattle.node.specs.Layout.{IsOwnFile}
 
 -- the file exists, and is a log of these records
 abbrev pub IsLog : Option (List ℕ) → List (List ℕ) → Type 0
-IsLog file records = IsSomeAnd file (λ bytes. RepresentsRecords bytes records)
+IsLog file records = IsSomeAnd file (λ bytes. Represents bytes records)
 
 -- an identity file of no node: it is absent, empty, or a log of no record
 abbrev pub IsBlankFile : Option (List ℕ) → Type 0
-IsBlankFile file = MatchOption file (Unit {0}) (λ bytes. (bytes ≡ []) ⊎ RepresentsRecords bytes [])
+IsBlankFile file = MatchOption file (Unit {0}) (λ bytes. (bytes ≡ []) ⊎ Represents bytes [])
 
 -- no node was created on a disk
 abbrev pub IsBlank : Contents → Type 0
@@ -62,7 +62,7 @@ pub record IsDurableIdOf (disk : State) (x : ℕ) (ids : List ℕ) : Type 0 wher
   pub config : IsConfig ids
   pub bytes : List ℕ
   pub sure : IsDurableAs disk identity_file bytes
-  pub identity : RepresentsRecords bytes (identity_records x ids)
+  pub identity : Represents bytes (identity_records x ids)
 
 -- the identity file represented node x with this configuration, and is now durable
 pub record HasDurableId (old new : State) (x : ℕ) (ids : List ℕ) : Type 0 where

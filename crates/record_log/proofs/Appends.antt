@@ -10,7 +10,7 @@ use Rattle.disk.specs.{Slot, Kept, State}
 use Rattle.disk.proofs.Steps.{Only, sure_only}
 use Rattle.record_log.specs.declared.log.Log.{Log}
 use Rattle.record_log.specs.Error.{log_error}
-use Rattle.record_log.specs.Grammar.{RepresentsRecords, ends_from}
+use Rattle.record_log.specs.Grammar.{Represents, ends_from}
 use Rattle.record_log.specs.Push.{pushed, IsPartlyPushed, IsDurableAs, LeavesAt, behind_of}
 use Rattle.record_log.specs.Logs.{LogHolds, IsExpected, IsOldOrNew}
 use Rattle.record_log.proofs.Fronts.{ends_push, end_push}
@@ -101,14 +101,14 @@ module _ (old : State) (log : Log) (records : List (List ℕ)) (one : List ℕ) 
       let tail_len = length-drop (place + 1 + length text) h.bytes in
       let end : after.end ≡ log.end + 5 + length one =
       omega (arith, header_is, end_is, done.1, gate_is, text_len) in
-      let stands : RepresentsRecords (drop log.start all) (records ++ one ∷ []) =
+      let stands : Represents (drop log.start all) (records ++ one ∷ []) =
       pushed_stands h.bytes log.start place records one short g in
       record {
         bytes = all;
         sure = ap new file_is ∙ done.0 ∙ ap (λ (b : List ℕ). Kept b b []) same;
         start = omega (arith, start_is, size, front_len);
         fits = omega (arith, size, front_len, tail_len, h.fits, done.1, gate_is, text_len);
-        stands = subst (λ (s : ℕ). RepresentsRecords (drop s all) (records ++ one ∷ []))
+        stands = subst (λ (s : ℕ). Represents (drop s all) (records ++ one ∷ []))
             (sym start_is) stands;
         ends = ends_is ∙ ap (λ (e : ℕ). log.ends.items ++ e ∷ []) end
             ∙ ap (λ (l : List ℕ). l ++ (log.end + 5 + length one) ∷ []) h.ends

@@ -9,7 +9,7 @@ use Rattle.std.proofs.lemmas.Nat.{be_bytes_4, from_be_bytes-to_be_bytes_4}
 use Rattle.std.proofs.lemmas.Bool.{eqb-true, cases_lt}
 use Rattle.std.proofs.lemmas.List.{nil_from_length, get_or-take, get_or-drop, get_or_past}
 use Rattle.std.proofs.lemmas.List.{length-take, drop_all, take-append-drop}
-use Rattle.record_log.specs.Grammar.{entry, RepresentsRecords}
+use Rattle.record_log.specs.Grammar.{entry, Represents}
 use Rattle.record_log.proofs.Fronts.{split_same}
 
 -- ---- the parts that the code reads
@@ -47,7 +47,7 @@ fits_within bytes n k part fits is i = rw is (elim (cases_lt i n) [
 -- ---- bytes that represent no records
 
 -- no bytes at all
-pub nothing : (bytes : List ℕ) (records : List (List ℕ)) → bytes ≡ [] → RepresentsRecords bytes
+pub nothing : (bytes : List ℕ) (records : List (List ℕ)) → bytes ≡ [] → Represents bytes
     records → ⊥
 nothing bytes [] none s =
     let two : [] ≡ s.0 ∷ s.1 = sym none ∙ s.3 in
@@ -58,7 +58,7 @@ nothing bytes (x ∷ records) none s =
 
 -- behind an open gate there are a length and a record
 opened : (bytes rest : List ℕ) (records : List (List ℕ)) → bytes ≡ 1 ∷ rest
-    → RepresentsRecords bytes records → (one : List ℕ) × (after : List ℕ) × (length one < 2 ^ 32)
+    → Represents bytes records → (one : List ℕ) × (after : List ℕ) × (length one < 2 ^ 32)
     × (rest ≡ to_be_bytes w32 (length one) ++ (one ++ after))
 opened bytes rest [] open_gate s =
     let two : 1 ∷ rest ≡ s.0 ∷ s.1 = sym open_gate ∙ s.3 in
@@ -71,7 +71,7 @@ opened bytes rest (one ∷ records) open_gate s =
 
 -- an open gate and fewer than four bytes
 pub no_length : (bytes rest : List ℕ) (records : List (List ℕ)) → bytes ≡ 1 ∷ rest → length rest < 4
-    → RepresentsRecords bytes records → ⊥
+    → Represents bytes records → ⊥
 no_length bytes rest records open_gate short s =
     let one = opened bytes rest records open_gate s in
     let size : length rest ≡ length (to_be_bytes w32 (length one.0)) + length (one.0 ++ one.1) =
@@ -81,7 +81,7 @@ no_length bytes rest records open_gate short s =
 -- a length and fewer bytes than it says
 pub no_record : (bytes rest head tail : List ℕ) (records : List (List ℕ)) → bytes ≡ 1 ∷ rest
     → rest ≡ head ++ tail → length head ≡ 4 → length tail < from_be_bytes w32 head
-    → RepresentsRecords bytes records → ⊥
+    → Represents bytes records → ⊥
 no_record bytes rest head tail records open_gate parts four short s =
     let one = opened bytes rest records open_gate s in
     let text = to_be_bytes w32 (length one.0) in
@@ -94,7 +94,7 @@ no_record bytes rest head tail records open_gate parts four short s =
 
 -- there is no byte past the end
 pub nothing_past : (bytes : List ℕ) (start : ℕ) (records : List (List ℕ)) → length bytes < start
-    → RepresentsRecords (drop start bytes) records → ⊥
+    → Represents (drop start bytes) records → ⊥
 nothing_past bytes start records past s =
     nothing (drop start bytes) records (drop_all start bytes (omega arith)) s
 

@@ -3,7 +3,7 @@ use Rattle.std.proofs.Common.{◌≡◌, ℕ, ◌+◌, ◌-◌, ◌^◌, ◌<◌
 use Rattle.std.proofs.Common.{ap, subst, ◌∙◌, append_assoc, length-append, arith}
 use Rattle.std.specs.Int.{w32, to_be_bytes, from_be_bytes}
 use Rattle.std.proofs.lemmas.Nat.{from_be_bytes-to_be_bytes_4}
-use Rattle.record_log.specs.Grammar.{IsClosed, entry, RepresentsRecords, ends_from, end_of}
+use Rattle.record_log.specs.Grammar.{IsClosed, entry, Represents, ends_from, end_of}
 
 -- the bytes begin with these records, and this follows
 abbrev pub Front : List ℕ → List (List ℕ) → List ℕ → Type 0
@@ -13,7 +13,7 @@ Front bytes (first ∷ others) rest =
 
 -- with a closed gate behind them they are all
 pub front_closed : (bytes : List ℕ) (records : List (List ℕ)) (rest : List ℕ)
-    → Front bytes records rest → IsClosed rest → RepresentsRecords bytes records
+    → Front bytes records rest → IsClosed rest → Represents bytes records
 front_closed bytes [] rest f s = subst IsClosed (sym f) s
 front_closed bytes (first ∷ others) rest f s = (f.0, f.1, f.2, front_closed f.0 others rest f.3 s)
 
@@ -112,17 +112,17 @@ one_entry a b x y short_a short_b e =
 
 -- bytes that represent records represent those at the front, and then others
 pub stands_behind : (bytes : List ℕ) (records : List (List ℕ)) (rest : List ℕ) (all : List (List ℕ))
-    → Front bytes records rest → RepresentsRecords bytes all → (more : List (List ℕ))
-    × (all ≡ records ++ more) × RepresentsRecords rest more
+    → Front bytes records rest → Represents bytes all → (more : List (List ℕ))
+    × (all ≡ records ++ more) × Represents rest more
 stands_behind bytes [] rest all f s =
-    (all, refl, subst (λ (b : List ℕ). RepresentsRecords b all) f s)
+    (all, refl, subst (λ (b : List ℕ). Represents b all) f s)
 stands_behind bytes (first ∷ others) rest [] f s =
     let two : entry first ++ f.0 ≡ s.0 ∷ s.1 = sym f.2 ∙ s.3 in
     let open_gate : s.0 ≡ 1 = cc in
     absurd (s.2 open_gate)
 stands_behind bytes (first ∷ others) rest (one ∷ all) f s =
     let same = one_entry first one f.0 s.0 f.1 s.1 (sym f.2 ∙ s.2) in
-    let moved : RepresentsRecords f.0 all = subst (λ (b : List ℕ). RepresentsRecords b all)
+    let moved : Represents f.0 all = subst (λ (b : List ℕ). Represents b all)
     (sym same.1) s.3 in
     let below = stands_behind f.0 others rest all f.3 moved in
     let heads = same.0 in
@@ -130,8 +130,8 @@ stands_behind bytes (first ∷ others) rest (one ∷ all) f s =
     (below.0, cc, below.2)
 
 -- two lists that the bytes represent are equal
-pub one_reading : (bytes : List ℕ) (a b : List (List ℕ)) → RepresentsRecords bytes a →
-    RepresentsRecords bytes b
+pub one_reading : (bytes : List ℕ) (a b : List (List ℕ)) → Represents bytes a →
+    Represents bytes b
     → a ≡ b
 one_reading bytes [] [] s t = refl
 one_reading bytes [] (y ∷ b) s t =
@@ -144,7 +144,7 @@ one_reading bytes (x ∷ a) [] s t =
     absurd (t.2 open_gate)
 one_reading bytes (x ∷ a) (y ∷ b) s t =
     let same = one_entry x y s.0 t.0 s.1 t.1 (sym s.2 ∙ t.2) in
-    let moved : RepresentsRecords s.0 b = subst (λ (c : List ℕ). RepresentsRecords c b) (sym same.1)
+    let moved : Represents s.0 b = subst (λ (c : List ℕ). Represents c b) (sym same.1)
     t.3 in
     let below = one_reading s.0 a b s.3 moved in
     let heads = same.0 in

@@ -7,9 +7,9 @@ use Rattle.disk.specs.declared.DiskError.TheVariants as disk
 use Rattle.record_log.specs.declared.error.LogError.{LogError}
 use Rattle.record_log.specs.declared.error.LogError.TheVariants as log
 use Rattle.record_log.specs.declared.log.Log.{Log}
-use Rattle.record_log.specs.Grammar.{RepresentsRecords, ends_from, end_of}
+use Rattle.record_log.specs.Grammar.{Represents, ends_from, end_of}
 use Rattle.record_log.specs.Logs.{OpenRefusal, ReadRefusal, HasRecords, LogHolds}
-use Rattle.record_log.specs.Logs.{IsEnvironmentalError, IsRest}
+use Rattle.record_log.specs.Logs.{IsExternal, IsRest}
 use Rattle.record_log.proofs.Fronts.{one_reading}
 use Rattle.record_log.proofs.First.{nothing_past}
 
@@ -29,7 +29,7 @@ declines_bytes log.Failed bytes start why = absurd why
 -- opening a file that represents records is refused for environment errors alone
 pub declined : (e : LogError) (bytes : Option (List ℕ)) (start : ℕ) (records : List (List ℕ))
     → OpenRefusal e bytes start →
-    IsSomeAnd bytes (λ it. RepresentsRecords (drop start it) records) → IsEnvironmentalError e
+    IsSomeAnd bytes (λ it. Represents (drop start it) records) → IsExternal e
 declined (log.Disk disk.Failed) bytes start records why stood = inl refl
 declined (log.Disk disk.NoFile) None start records why stood = absurd stood
 declined (log.Disk disk.NoFile) (Some it) start records why stood = absurd cc
@@ -43,25 +43,25 @@ declined log.Failed bytes start records why stood = absurd why
 -- a log that knows where the file's records end holds them
 pub holds_them : (old new : State) (file start : ℕ) (rest : List ℕ) (log : Log)
     (found records : List (List ℕ)) →
-    IsRest old file start new rest → RepresentsRecords rest found → log.file ≡ file → log.start ≡
+    IsRest old file start new rest → Represents rest found → log.file ≡ file → log.start ≡
     start →
     log.ends.items ≡ ends_from 0 found → log.end ≡ end_of 0 found →
     HasRecords old file start records → LogHolds new log records
 holds_them old new file start rest log found records r stands file_is start_is ends_are end_is stood
     =
-    let whole : RepresentsRecords (drop start r.whole) records =
-    subst (λ (o : Option (List ℕ)). IsSomeAnd o (λ it. RepresentsRecords (drop start it) records))
+    let whole : Represents (drop start r.whole) records =
+    subst (λ (o : Option (List ℕ)). IsSomeAnd o (λ it. Represents (drop start it) records))
     r.was
     stood in
-    let again : RepresentsRecords (drop start r.whole) found =
-    subst (λ (b : List ℕ). RepresentsRecords b found) r.is stands in
+    let again : Represents (drop start r.whole) found =
+    subst (λ (b : List ℕ). Represents b found) r.is stands in
     let same : found ≡ records = one_reading (drop start r.whole) found records again whole in
     record {
       bytes = r.whole;
       sure = ap new file_is ∙ r.sure;
       start = omega (arith, start_is, r.within);
       fits = r.fits;
-      stands = subst (λ (s : ℕ). RepresentsRecords (drop s r.whole) records) (sym start_is) whole;
+      stands = subst (λ (s : ℕ). Represents (drop s r.whole) records) (sym start_is) whole;
       ends = ends_are ∙ ap (ends_from 0) same;
       end = end_is ∙ ap (end_of 0) same;
     }

@@ -12,8 +12,8 @@ use Rattle.disk.specs.{State, Slot, seen}
 use Rattle.record_log.specs.declared.log.Log.{Log}
 use Rattle.record_log.specs.declared.error.LogError.{LogError}
 use Rattle.record_log.specs.declared.error.LogError.TheVariants as log'
-use Rattle.record_log.specs.Grammar.{RepresentsRecords, entry, ends_from}
-use Rattle.record_log.specs.Logs.{LogHolds, IsEnvironmentalError, IsArgumentError, IsPart}
+use Rattle.record_log.specs.Grammar.{Represents, entry, ends_from}
+use Rattle.record_log.specs.Logs.{LogHolds, IsExternal, IsArgumentError, IsPart}
 use Rattle.record_log.specs.Logs.{ReadRefusal}
 
 -- record number i of those that begin at a place: its bytes, and what stands around them
@@ -28,7 +28,7 @@ pub record Span (bytes : List ℕ) (at : ℕ) (records : List (List ℕ)) (i : �
 
 -- each record has its bytes in their place
 pub span_of : (bytes : List ℕ) (at : ℕ) (records : List (List ℕ)) (i : ℕ) →
-    RepresentsRecords bytes records → i < length records → Span bytes at records i
+    Represents bytes records → i < length records → Span bytes at records i
 span_of bytes at [] i s within = absurd (omega (arith, within))
 span_of bytes at (first ∷ others) zero s within =
     let head = 1 ∷ to_be_bytes w32 (length first) in
@@ -118,7 +118,7 @@ module _ (disk : State) (log : Log) (records : List (List ℕ)) (i begin len at 
   -- a record that a log has is there to be read
   pub there : (e : LogError) → ReadRefusal e (seen (disk log.file)) (at + len) →
       (IsArgumentError e → ⊥) →
-      IsEnvironmentalError e ⊎ (e ≡ log'.Failed)
+      IsExternal e ⊎ (e ≡ log'.Failed)
   there (log'.Disk disk'.Failed) why own = inl (inl refl)
   there (log'.Disk disk'.NoFile) why own =
       let gone : IsNone (Some h.bytes) = subst (λ (slot : Slot). IsNone (seen slot)) h.sure why in
@@ -139,6 +139,6 @@ module _ (disk : State) (log : Log) (records : List (List ℕ)) (i begin len at 
       (λ e. ReadRefusal e (seen (disk log.file)) (at + len))
       → IfErr result (λ e. IsArgumentError e → ⊥)
       → MatchResult result (λ v. slice_get records i ≡ Some v.items)
-      (λ e. IsEnvironmentalError e ⊎ (e ≡ log'.Failed))
+      (λ e. IsExternal e ⊎ (e ≡ log'.Failed))
   answers (Ok v) read own = given v.items read
   answers (Err e) why own = there e why own

@@ -6,14 +6,14 @@ use Rattle.std.specs.Int.{w32, to_be_bytes}
 use Rattle.std.proofs.lemmas.Bool.{cases_eq}
 use Rattle.std.proofs.Math.Seq.{get_or-append_seam}
 use Rattle.std.proofs.lemmas.List.{take_at, drop_at, take-append-drop, length-take, take_more}
-use Rattle.record_log.specs.Grammar.{IsClosed, entry, RepresentsRecords, end_of}
+use Rattle.record_log.specs.Grammar.{IsClosed, entry, Represents, end_of}
 use Rattle.record_log.specs.Push.{pushed, IsPartlyPushed, behind_of}
 use Rattle.record_log.specs.Logs.{IsOldOrNew}
 use Rattle.record_log.proofs.Fronts.{Front, front_closed, front_push}
 use Rattle.record_log.proofs.Pushes.{pushed_is}
 
 -- the bytes of records are their text and a closed gate
-pub front_of : (bytes : List ℕ) (records : List (List ℕ)) → RepresentsRecords bytes records
+pub front_of : (bytes : List ℕ) (records : List (List ℕ)) → Represents bytes records
     → (rest : List ℕ) × Front bytes records rest × IsClosed rest
 front_of bytes [] s = (bytes, refl, s)
 front_of bytes (first ∷ others) s =
@@ -54,7 +54,7 @@ pub record Gate (bytes : List ℕ) (start gate : ℕ) (records : List (List ℕ)
 
 -- the gate is where the last record ends
 pub gate_at : (bytes : List ℕ) (start gate : ℕ) (records : List (List ℕ)) → start ≤ length bytes
-    → RepresentsRecords (drop start bytes) records → gate ≡ start + end_of 0 records
+    → Represents (drop start bytes) records → gate ≡ start + end_of 0 records
     → Gate bytes start gate records
 gate_at bytes start gate records inside stands is =
     let front = front_of (drop start bytes) records stands in
@@ -100,7 +100,7 @@ closed_zero rest = (0, rest, (λ e. absurd cc), refl)
 opened_stands : (bytes : List ℕ) (start gate : ℕ) (records : List (List ℕ)) (one : List ℕ)
     → length one < 2 ^ 32 → Gate bytes start gate records → (c rest : List ℕ)
     → c ≡ take gate bytes ++ (1 ∷ (behind_of one ++ rest))
-    → RepresentsRecords (drop start c) (records ++ one ∷ [])
+    → Represents (drop start c) (records ++ one ∷ [])
 opened_stands bytes start gate records one short g c rest is =
     let text = to_be_bytes w32 (length one) in
     let regrouped : behind_of one ++ rest ≡ (text ++ one) ++ (0 ∷ rest) =
@@ -113,7 +113,7 @@ opened_stands bytes start gate records one short g c rest is =
 -- with it closed the others stand, whatever follows
 closed_stands : (bytes : List ℕ) (start gate : ℕ) (records : List (List ℕ))
     → Gate bytes start gate records → (c : List ℕ) (value : ℕ) (rest : List ℕ) → value ≢ 1
-    → c ≡ take gate bytes ++ (value ∷ rest) → RepresentsRecords (drop start c) records
+    → c ≡ take gate bytes ++ (value ∷ rest) → Represents (drop start c) records
 closed_stands bytes start gate records g c value rest shut is =
     front_closed (drop start c) records (value ∷ rest) (g.again c (value ∷ rest) is)
     (value, rest, shut, refl)
@@ -143,7 +143,7 @@ way_stands bytes start gate records one short g c (inr way) =
 -- the content after all four calls represents one record more
 pub pushed_stands : (bytes : List ℕ) (start gate : ℕ) (records : List (List ℕ)) (one : List ℕ)
     → length one < 2 ^ 32 → Gate bytes start gate records
-    → RepresentsRecords (drop start (pushed bytes gate (behind_of one))) (records ++ one ∷ [])
+    → Represents (drop start (pushed bytes gate (behind_of one))) (records ++ one ∷ [])
 pushed_stands bytes start gate records one short g =
     opened_stands bytes start gate records one short g (pushed bytes gate (behind_of one))
     (drop (gate + 1 + length (behind_of one)) bytes) (pushed_is bytes gate (behind_of one) g.within)

@@ -13,5 +13,5 @@ log_error disk.Short = log.Disk disk.Short
 log_error disk.Memory = log.Memory
 
 -- the call reports a failure of the device
-abbrev pub IsDeviceFailure : {T : Type 0} → Result T LogError → Type 0
-IsDeviceFailure result = result ≡ Err (log.Disk disk.Failed)
+abbrev pub DeviceFailed : {T : Type 0} → Result T LogError → Type 0
+DeviceFailed result = result ≡ Err (log.Disk disk.Failed)

@@ -12,11 +12,11 @@ IsClosed bytes = (gate : ℕ) × (rest : List ℕ) × (gate ≢ 1) × (bytes ≡
 
 -- The bytes represent these records. A closed gate ends the list, whatever follows it. Behind an
 -- open gate follow a record and the bytes of the others.
-abbrev pub RepresentsRecords : List ℕ → List (List ℕ) → Type 0
-RepresentsRecords bytes [] = IsClosed bytes
-RepresentsRecords bytes (first ∷ others) =
+abbrev pub Represents : List ℕ → List (List ℕ) → Type 0
+Represents bytes [] = IsClosed bytes
+Represents bytes (first ∷ others) =
     (rest : List ℕ) × (length first < 2 ^ 32) × (bytes ≡ entry first ++ rest)
-    × RepresentsRecords rest others
+    × Represents rest others
 
 -- the places where the records end, if the first begins at this place
 abbrev pub ends_from : ℕ → List (List ℕ) → List ℕ
@@ -32,4 +32,4 @@ end_of at (first ∷ others) = end_of (at + 5 + length first) others
 -- bytes represent at most one list of records
 abbrev pub RecordsAreUnique : Type 0
 RecordsAreUnique = (bytes : List ℕ) (records others : List (List ℕ)) →
-    RepresentsRecords bytes records → RepresentsRecords bytes others → records ≡ others
+    Represents bytes records → Represents bytes others → records ≡ others

@@ -8,7 +8,7 @@ use Rattle.record_log.specs.declared.error.LogError.{LogError}
 use Rattle.record_log.specs.declared.error.LogError.TheVariants as log
 use Rattle.record_log.specs.declared.log.Log.{Log}
 use Rattle.record_log.specs.declared.log.TheConstants.{MAX_RECORD}
-use Rattle.record_log.specs.Grammar.{RepresentsRecords, ends_from, end_of}
+use Rattle.record_log.specs.Grammar.{Represents, ends_from, end_of}
 use Rattle.record_log.specs.Push.{IsDurableAs}
 
 -- the file of a log
@@ -43,19 +43,19 @@ pub record LogHolds (disk : State) (log : Log) (records : List (List ℕ)) : Typ
   pub sure : IsDurableAs disk log.file bytes
   pub start : log.start ≤ length bytes
   pub fits : length bytes < 2 ^ 63
-  pub stands : RepresentsRecords (drop log.start bytes) records
+  pub stands : Represents (drop log.start bytes) records
   pub ends : log.ends.items ≡ ends_from 0 records
   pub end : log.end ≡ end_of 0 records
 
 -- the bytes that a read returns from this place on represent the records
 abbrev pub HasRecords : State → ℕ → ℕ → List (List ℕ) → Type 0
 HasRecords disk file start records =
-    IsSomeAnd (seen (disk file)) (λ bytes. RepresentsRecords (drop start bytes) records)
+    IsSomeAnd (seen (disk file)) (λ bytes. Represents (drop start bytes) records)
 
 -- from its first place on, the file represents the records, with or without the new one
 abbrev pub IsOldOrNew : ℕ → List (List ℕ) → List ℕ → List ℕ → Type 0
 IsOldOrNew start records one bytes =
-    RepresentsRecords (drop start bytes) records ⊎ RepresentsRecords (drop start bytes)
+    Represents (drop start bytes) records ⊎ Represents (drop start bytes)
     (records ++ one ∷ [])
 
 -- the log stays at the same place of the same file
@@ -73,8 +73,8 @@ begun None = 0 ∷ []
 begun (Some bytes) = 0 ∷ drop 1 bytes
 
 -- the refusals that say nothing of the file
-abbrev pub IsEnvironmentalError : LogError → Type 0
-IsEnvironmentalError e = (e ≡ log.Disk disk.Failed) ⊎ (e ≡ log.Memory)
+abbrev pub IsExternal : LogError → Type 0
+IsExternal e = (e ≡ log.Disk disk.Failed) ⊎ (e ≡ log.Memory)
 
 -- the bytes of this length from a place of the file on
 abbrev pub IsPart : State → ℕ → ℕ → ℕ → List ℕ → Type 0
@@ -117,7 +117,7 @@ abbrev pub OpenRefusal : LogError → Option (List ℕ) → ℕ → Type 0
 OpenRefusal (log.Disk disk.Failed) bytes start = Unit {0}
 OpenRefusal (log.Disk disk.NoFile) bytes start = IsNone bytes
 OpenRefusal (log.Disk disk.Short) bytes start =
-    IsSomeAnd bytes (λ it. (records : List (List ℕ)) → RepresentsRecords (drop start it) records →
+    IsSomeAnd bytes (λ it. (records : List (List ℕ)) → Represents (drop start it) records →
     ⊥)
 OpenRefusal (log.Disk disk.Memory) bytes start = ⊥
 OpenRefusal log.Memory bytes start = Unit {0}
@@ -145,7 +145,7 @@ AppendOutcome limit (Err log.Failed) old new one = HasFailed old × (new ≡ old
 
 -- the refusals of a log whose file holds the log's records
 abbrev pub IsExpected : LogError → Type 0
-IsExpected e = IsEnvironmentalError e ⊎ ((e ≡ log.TooLong) ⊎ (e ≡ log.Failed))
+IsExpected e = IsExternal e ⊎ ((e ≡ log.TooLong) ⊎ (e ≡ log.Failed))
 
 -- the refusals of the log itself, without a call of the disk
 abbrev pub IsArgumentError : LogError → Type 0
@@ -153,9 +153,9 @@ IsArgumentError e = (e ≡ log.TooLong) ⊎ (e ≡ log.Failed)
 
 -- An append keeps the log's place, and its answer depends on the log alone. A refusal of the log
 -- itself leaves the disk unchanged.
-abbrev pub AppendAnswer : {T : Type 0} → ℕ → Result T LogError → Log → Log → List ℕ → Type 0 → Type
+abbrev pub Appended : {T : Type 0} → ℕ → Result T LogError → Log → Log → List ℕ → Type 0 → Type
     0
-AppendAnswer limit result old new one untouched =
+Appended limit result old new one untouched =
     IsInPlace old new × AppendOutcome limit result old new one × IfErr result
     (λ e. IsArgumentError e → untouched)
 

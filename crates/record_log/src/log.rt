@@ -3,11 +3,11 @@ ghost use Rattle.std.specs.Prelude.{◌≡◌, ◌↔◌, ◌⊎◌, ℕ, ◌+�
 ghost use Rattle.std.specs.Prelude.{◌∷◌, ◌++◌, length, slice_get, slice_index_or, Some, IfOk};
 ghost use Rattle.std.specs.Prelude.{IfErr, IsErrOf, OnOk, MatchResult};
 ghost use Rattle.disk.specs.{seen, AddsNoOutcome, IsSame, IsSameBut, KeepsDisk};
-ghost use Rattle.record_log.specs.Error.{IsDeviceFailure};
+ghost use Rattle.record_log.specs.Error.{DeviceFailed};
 ghost use Rattle.record_log.specs.Push.{IsDurableAs, LeavesAt, behind_of, pushed};
 ghost use Rattle.record_log.specs.Logs.{LogHolds, HasRecords, IsAt, IsPart, IsRest, ReadRefusal};
-ghost use Rattle.record_log.specs.Logs.{OpenOutcome, AppendAnswer, IsExpected};
-ghost use Rattle.record_log.specs.Logs.{IsEnvironmentalError, IsArgumentError};
+ghost use Rattle.record_log.specs.Logs.{OpenOutcome, Appended, IsExpected};
+ghost use Rattle.record_log.specs.Logs.{IsExternal, IsArgumentError};
 ghost use Rattle.record_log.specs.Logs.{IsOldOrNew, EndsInRange, begun, file_of, start_of};
 ghost use Rattle.record_log.specs.Logs.{gate_of, count_of, HasFailed, HasNoRoom};
 
@@ -53,7 +53,7 @@ fn bytes_at<D: Disk>(
     at: u64,
     len: usize,
 ) -> Result<Vec<u8>, LogError>
-    ensures kept { KeepsDisk D.Disk disk.old disk.new (IsDeviceFailure result) ⊥ IsSame }
+    ensures kept { KeepsDisk D.Disk disk.old disk.new (DeviceFailed result) ⊥ IsSame }
     ensures read { D.is_honest disk.old →
         MatchResult result (λ bytes. IsPart (D.state disk.old) file at len bytes.items)
         (λ e. ReadRefusal e (seen (D.state disk.old file)) (at + len)) }
@@ -71,8 +71,7 @@ fn synced_from<D: Disk>(
     file: u64,
     start: u64,
 ) -> Result<Vec<u8>, LogError>
-    ensures kept { KeepsDisk D.Disk disk.old disk.new (IsDeviceFailure result) ⊥
-        (AddsNoOutcome file) }
+    ensures kept { KeepsDisk D.Disk disk.old disk.new (DeviceFailed result) ⊥ (AddsNoOutcome file) }
     ensures read { D.is_honest disk.old → MatchResult result
         (λ bytes. IsRest (D.state disk.old) file start (D.state disk.new) bytes.items)
         (λ e. ReadRefusal e (seen (D.state disk.old file)) start) }
@@ -90,10 +89,9 @@ impl Log {
     /// device calls: write and sync. An existing file loses its first byte, and with it the records
     /// from there on. A refusal may leave the file changed.
     pub fn create<D: Disk>(alloc: Global, disk: &mut D, file: u64) -> Result<Log, LogError>
-        ensures kept { KeepsDisk D.Disk disk.old disk.new (IsDeviceFailure result) ⊥
-            (IsSameBut file) }
+        ensures kept { KeepsDisk D.Disk disk.old disk.new (DeviceFailed result) ⊥ (IsSameBut file) }
         ensures created { D.is_honest disk.old → EndsInRange (seen (D.state disk.old file)) →
-            MatchResult result (λ log. LogHolds (D.state disk.new) log []) IsEnvironmentalError }
+            MatchResult result (λ log. LogHolds (D.state disk.new) log []) IsExternal }
         ensures spelled { D.is_honest disk.old →
             OnOk result
             (IsDurableAs (D.state disk.new) file (begun (seen (D.state disk.old file)))) }
@@ -118,15 +116,14 @@ impl Log {
         file: u64,
         start: u64,
     ) -> Result<Log, LogError>
-        ensures kept { KeepsDisk D.Disk disk.old disk.new (IsDeviceFailure result) ⊥
+        ensures kept { KeepsDisk D.Disk disk.old disk.new (DeviceFailed result) ⊥
             (AddsNoOutcome file) }
         ensures at { IfOk result (IsAt file start) }
         ensures told { D.is_honest disk.old →
             OpenOutcome (D.state disk.old) file start result (D.state disk.new) }
         ensures opened { (records : List (List ℕ)) → D.is_honest disk.old →
             HasRecords (D.state disk.old) file start records →
-            MatchResult result (λ log. LogHolds (D.state disk.new) log records)
-            IsEnvironmentalError }
+            MatchResult result (λ log. LogHolds (D.state disk.new) log records) IsExternal }
     {
         let bytes = synced_from(alloc, disk, file, start)?;
         let (ends, end) = scan(alloc, &bytes)?;
@@ -175,10 +172,10 @@ impl Log {
         disk: &mut D,
         bytes: &[u8],
     ) -> Result<(), LogError>
-        ensures kept { KeepsDisk D.Disk disk.old disk.new (IsDeviceFailure result)
+        ensures kept { KeepsDisk D.Disk disk.old disk.new (DeviceFailed result)
             (HasNoRoom self.old bytes.now) (IsSameBut (file_of self.old)) }
-        ensures told { AppendAnswer MAX_RECORD result self.old self.new bytes.now
-            (disk.new ≡ disk.old) }
+        ensures told { Appended MAX_RECORD result self.old self.new bytes.now (disk.new ≡ disk.old)
+            }
         ensures appended { (records : List (List ℕ)) → D.is_honest disk.old →
             LogHolds (D.state disk.old) self.old records →
             MatchResult result
@@ -218,12 +215,12 @@ impl Log {
         index: usize,
     ) -> Result<Vec<u8>, LogError>
         requires { index < count_of self.now }
-        ensures kept { KeepsDisk D.Disk disk.old disk.new (IsDeviceFailure result) ⊥ IsSame }
+        ensures kept { KeepsDisk D.Disk disk.old disk.new (DeviceFailed result) ⊥ IsSame }
         ensures failed { IsErrOf result LogError.Failed ↔ HasFailed self.now }
         ensures given { (records : List (List ℕ)) → D.is_honest disk.old →
             LogHolds (D.state disk.old) self.now records →
             MatchResult result (λ bytes. slice_get records index ≡ Some bytes.items)
-            (λ e. IsEnvironmentalError e ⊎ (e ≡ LogError.Failed)) }
+            (λ e. IsExternal e ⊎ (e ≡ LogError.Failed)) }
     {
         if self.has_failed {
             return Err(LogError::Failed);

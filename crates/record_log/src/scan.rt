@@ -1,7 +1,7 @@
 // Recovery of a log: the records in the bytes of a file.
 ghost use Rattle.std.specs.Prelude.{◌≡◌, ◌≤◌, ◌++◌, ◌<◌, ◌^◌, List, ℕ, length, ◌⊎◌, IfOk, IfErr};
 ghost use Rattle.std.specs.Prelude.{Err, IsErr, MatchOption};
-ghost use Rattle.record_log.specs.Grammar.{IsClosed, RepresentsRecords, entry, ends_from, end_of};
+ghost use Rattle.record_log.specs.Grammar.{IsClosed, Represents, entry, ends_from, end_of};
 
 use crate::LogError;
 use disk::DiskError;
@@ -15,8 +15,7 @@ struct Malformed;
 fn first_of(bytes: &[u8]) -> Result<Option<(&[u8], &[u8])>, Malformed>
     ensures first { IfOk result (λ found. MatchOption found (IsClosed bytes.now)
         (λ x. (length x.0.now < 2 ^ 32) × (bytes.now ≡ entry x.0.now ++ x.1.now))) }
-    ensures malformed { IsErr result → (records : List (List ℕ)) → RepresentsRecords bytes.now
-        records → ⊥ }
+    ensures malformed { IsErr result → (l : List (List ℕ)) → Represents bytes.now l → ⊥ }
 {
     if bytes.is_empty() {
         return Err(Malformed);
@@ -38,12 +37,11 @@ fn first_of(bytes: &[u8]) -> Result<Option<(&[u8], &[u8])>, Malformed>
 
 /// The places where the records of the bytes end, and the place where the last ends.
 pub fn scan(alloc: Global, bytes: &[u8]) -> Result<(Vec<usize>, usize), LogError>
-    ensures found { IfOk result
-        (λ found. (records : List (List ℕ)) × RepresentsRecords bytes.now records
+    ensures found { IfOk result (λ found. (records : List (List ℕ)) × Represents bytes.now records
         × (found.0.items ≡ ends_from 0 records) × (found.1 ≡ end_of 0 records)) }
     ensures only { IfErr result (λ e. (e ≡ LogError.Disk DiskError.Short) ⊎ (e ≡ LogError.Memory)) }
     ensures short { result ≡ Err (LogError.Disk DiskError.Short) →
-        (records : List (List ℕ)) → RepresentsRecords bytes.now records → ⊥ }
+        (records : List (List ℕ)) → Represents bytes.now records → ⊥ }
 {
     let mut ends = Vec::new(alloc);
     let mut end = 0;

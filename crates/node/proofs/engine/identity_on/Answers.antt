@@ -2,7 +2,7 @@ use Rattle.std.proofs.Common.{subst}
 use Rattle.std.proofs.lemmas.Result.{err_from_is_err_and}
 use Rattle.disk.specs.{Slot, seen}
 use Rattle.record_log.specs as log_stands
-use Rattle.record_log.specs.{RepresentsRecords}
+use Rattle.record_log.specs.{Represents}
 use Rattle.std.specs.Prelude.{IsSomeAnd}
 use Rattle.node.specs.Layout.{identity_file, identity_records}
 use Rattle.node.proofs.Blank.{has_bytes, blank_read, blank_declined}
@@ -57,7 +57,7 @@ returns-clause-blank g c = λ honest.
     let has = has_bytes bytes c.in_ok-length_of.field-0 c.if-branch-eq0.false
     (c.in_ok-length_of.ensures.length honest) in
     let stood = subst (λ (slot : Slot). IsSomeAnd (seen slot)
-    (λ it. RepresentsRecords it o.records))
+    (λ it. Represents it o.records))
     (c.length_of.ensures.kept.files honest identity_file) o.stood in
     let told = c.identity_in.ensures.blank o.records honest2 o.holds in
     blank_read c.records_are_unique.ensures c.identity_in.result bytes o.records has stood told
