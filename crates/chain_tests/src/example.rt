@@ -3,7 +3,7 @@ use crate::courses::{configs, shown};
 use configurations::Configs;
 use disk::Fault;
 use kv_types::{Batch, Edit, Key, KvError, Limits, Value};
-use lab::{Event, Report, What, World};
+use lab::{Event, EventKind, Report, World};
 use std::alloc::Global;
 use std::test::Fail;
 
@@ -12,9 +12,9 @@ fn name(alloc: Global) -> Result<Key, KvError> {
 }
 
 // An event in which no call of a disk fails.
-fn event(what: What) -> Event {
+fn event(kind: EventKind) -> Event {
     let fault = Fault::None;
-    Event { what, fault }
+    Event { kind, fault }
 }
 
 // README begins
@@ -24,24 +24,24 @@ fn put_name(alloc: Global) -> Result<Batch, KvError> {
     Batch::new(vec![in alloc; Edit::Put(name(alloc)?, value)]?)
 }
 
-/// The head takes the batch, two frames bring it to the tail, and the tail reads it.
+/// The head accepts the batch, two frames carry it to the tail, and the tail reads it.
 fn write_and_read(alloc: Global, chain: &Configs) -> Result<Report, Fail> {
     let mut world = World::new(alloc, chain, &Limits::default())?;
     let (node, batch) = (chain.first().head(), put_name(alloc)?);
-    for what in [
-        What::Submit { node, batch },
-        What::Deliver { place: 1 },
-        What::Deliver { place: 2 },
+    for kind in [
+        EventKind::Submit { node, batch },
+        EventKind::Deliver { place: 1 },
+        EventKind::Deliver { place: 2 },
     ] {
-        world.step(alloc, &event(what))?;
+        world.step(alloc, &event(kind))?;
     }
     let (node, key, at) = (chain.first().tail(), name(alloc)?, None);
-    world.step(alloc, &event(What::Get { node, key, at }))?;
+    world.step(alloc, &event(EventKind::Get { node, key, at }))?;
     Ok(world.finish(alloc)?)
 }
 // README ends
 
-// What each event shows: the third node commits the batch, since it is the tail.
+// EventKind each event shows: the third node commits the batch, since it is the tail.
 const SHOWN: &str = "\
 #1 1>2 forward 0 1
 #2 2>3 forward 0 1
