@@ -33,8 +33,7 @@ pub record AnswerOk {A : Type 0} (cs : List (List ℕ)) (events : List (SystemEv
 
 -- the new list of a node in the world, and the batches that a tail commits by it
 pub record Lands {A : Type 0} (cs : List (List ℕ)) (events : List (SystemEvent A))
-    (lists : ℕ → List A)
-    (x : ℕ) (n : MachineState A) : Type 0 where
+    (lists : ℕ → List A) (x : ℕ) (n : MachineState A) : Type 0 where
   pub list : lists x ≡ n.list
   pub tail : is_tail (at_epoch cs n.epoch) x ≡ true → WasCommitted cs events n.epoch n.list
 

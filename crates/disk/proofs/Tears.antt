@@ -151,8 +151,7 @@ module _ (end : ℕ) (touches : List PendingWrite) (junk old : List ℕ) (some :
     torn_part = λ k lt. elim (cases_lt k place) [
       | inl below ↦ so_far.torn_part k below
       | inr above ↦ subst (λ (n : ℕ). slice_get bytes n ≡ slice_get (torn end touches junk old) n)
-          (omega (arith, lt, above))
-          (so_far.old_part place (omega arith)
+          (omega (arith, lt, above)) (so_far.old_part place (omega arith)
           ∙ slice_get-get_or old place 0 within
           ∙ sym (torn_at false end touches junk old place some within tight))
     ];

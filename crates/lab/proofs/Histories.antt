@@ -160,8 +160,7 @@ lines_speak_at B x n kind choice o agree =
 
 -- so do the lines of an event that was for none
 lines_speak : (B : List Placed) (at : Option (ℕ × Machine)) (n : ℕ) (kind : EventKind)
-    (choice : Choice)
-    (o : Outcome BatchContent) → AllByRecursion (ResponseAgrees B) o.replies →
+    (choice : Choice) (o : Outcome BatchContent) → AllByRecursion (ResponseAgrees B) o.replies →
     Each B kind (lines_if at n kind choice o)
 lines_speak B None n kind choice o agree = (tt, tt)
 lines_speak B (Some at) n kind choice o agree = lines_speak_at B at.0 n kind choice o agree

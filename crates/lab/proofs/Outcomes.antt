@@ -119,8 +119,7 @@ StopsSo kind choice (done.Stopped traced) stopped =
 
 -- an event's outcome with its lines: the node that it was for, and the state of that node now
 pub record IsOutcome (cs : Configurations) (w : SystemState BatchContent) (i x : ℕ)
-    (kind : EventKind)
-    (new : NodeState Slots) (did : StepOutcome) : Type 0 where
+    (kind : EventKind) (new : NodeState Slots) (did : StepOutcome) : Type 0 where
   pub choice : Choice
   pub node : Machine
   pub came : (outcome w cs (modelled i kind choice)).acted_on ≡ Some (x, node)
@@ -147,8 +146,7 @@ abbrev pub chosen : StepResult → Cause → Choice
 chosen went cause = record { went = went; cause = cause }
 
 module _ (cs : Configurations) (w : SystemState BatchContent) (i x : ℕ) (kind : EventKind)
-    (new : NodeState Slots)
-    (did : StepOutcome) where
+    (new : NodeState Slots) (did : StepOutcome) where
   -- with this choice the outcome is this one
   pub as_chosen : (choice : Choice) (o : Outcome BatchContent) (n : Machine) →
       outcome w cs (modelled i kind choice) ≡ o → o.acted_on ≡ Some (x, n) →
@@ -255,8 +253,7 @@ shows_so inp kind (r ∷ replies) each =
 
 -- an input, as the model has it
 module _ (cs : Configurations) (w : SystemState BatchContent) (i x : ℕ) (kind : EventKind)
-    (inp : Input)
-    (new : NodeState Slots) (did : StepOutcome)
+    (inp : Input) (new : NodeState Slots) (did : StepOutcome)
     (at : (choice : Choice) → outcome w cs (modelled i kind choice)
     ≡ cond (w.nodes x).running
     (as_completed x (w.nodes x) (answer_to x (w.nodes x) inp) choice.went)

@@ -42,8 +42,7 @@ has_at (s ∷ sims) (suc k) d within =
 
 -- an event was for node x, which is n after it and has this disk
 module _ (w : SystemState BatchContent) (disks : ℕ → Slots) (o : Outcome BatchContent) (x : ℕ)
-    (n : Machine)
-    (own : Slots) (came : o.acted_on ≡ Some (x, n)) where
+    (n : Machine) (own : Slots) (came : o.acted_on ≡ Some (x, n)) where
   -- the disks then
   abbrev now_disks : ℕ → Slots
   now_disks = with_disk disks x own

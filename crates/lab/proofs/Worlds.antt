@@ -253,8 +253,7 @@ module _ (in_order : AlwaysInOrder) (cs : Configurations) (events : List Event)
 
   -- a node that was stopped while it ran has a crash of its disk with the junk
   stopped_next : (kind : EventKind) (x : ℕ) (node_input : NodeInput) (lines : List Line)
-      (now : List SimNode)
-      (more : List Posted) → IsDeliveryOf w.frames i kind x node_input →
+      (now : List SimNode) (more : List Posted) → IsDeliveryOf w.frames i kind x node_input →
       HasStepped sims posted x node_input lines now more → StopsNode kind sims now
   stopped_next (Stop node junk) x node_input lines now more brings t =
       let sim = t.sim in

@@ -51,8 +51,7 @@ HasAppended (done.Acked committed have) = ⊥
 
 -- after the store's part, the node refines the machine of the rule, and these requests are due
 pub record NodeFollows {D : Type 0} (is_honest : D → Type 0) (state : D → State) (new : Node D)
-    (x : ℕ)
-    (a : Answer BatchContent) (due : List PendingSubmit) : Type 0 where
+    (x : ℕ) (a : Answer BatchContent) (due : List PendingSubmit) : Type 0 where
   pub runs : NodeRefines is_honest state new x a.node
   pub replied : a.replies ≡ core.committed_responses due
 

@@ -36,8 +36,7 @@ engine_of node = node.engine
 -- The running node is node x and refines this machine: it has its numbers, and its batches are on
 -- its disk.
 pub record NodeRefines {D : Type 0} (is_honest : D → Type 0) (state : D → State) (node : Node D)
-    (x : ℕ)
-    (n : Machine) : Type 0 where
+    (x : ℕ) (n : Machine) : Type 0 where
   pub honest : is_honest node.disk
   pub store : EngineHolds (state node.disk) node.engine x n.epoch n.ids n.list n.floor n.kept
   pub core : CoreRefines node.core n
@@ -76,8 +75,7 @@ AreReplies input of_machine replies = replies ≡ replies_of input of_machine
 -- A node that answered refines the machine after the step. Its drop, frames and replies are those
 -- of the machine.
 pub record StepRefines {D : Type 0} (is_honest : D → Type 0) (state : D → State) (new : Node D)
-    (x : ℕ)
-    (input : Input) (a : model.Answer BatchContent) (output : Output) : Type 0 where
+    (x : ℕ) (input : Input) (a : model.Answer BatchContent) (output : Output) : Type 0 where
   pub runs : NodeRefines is_honest state new x a.node
   pub dropped : output.dropped ≡ a.dropped
   pub frames : AreFrames output.frames.items a.frames

@@ -339,8 +339,7 @@ result_of_error sent left it e is = record {
 }
 
 pub result_of_flow : (sent : ℕ) (left : List ℕ) (it : Statement) (own : List (List Line))
-    (count : ℕ)
-    (said : Option Note) → it.action ≡ Flow → count ≡ length own →
+    (count : ℕ) (said : Option Note) → it.action ≡ Flow → count ≡ length own →
     count ≡ length (deliveries (left ++ places_after sent (frames_told own))) →
     busy (drop most (left ++ places_after sent (frames_told own))) ≡ said →
     IsResult sent left it (record { line = it.line; events = count; note = said })

@@ -73,8 +73,7 @@ is_placed before name args cut what action node whole before_it none good said s
     )
 
 pub is_misplaced : (before : ParserState) (name : List ℕ) (args cut : List (List ℕ))
-    (what : EventKind)
-    (node : ℕ) (e : ScriptError) → cut ≡ args → cut ≡ before_fault args
+    (what : EventKind) (node : ℕ) (e : ScriptError) → cut ≡ args → cut ≡ before_fault args
     → false ≡ has_fault args → CanBeSaid what → fault_of_words (name ∷ cut) ≡ None
     → IsSpelled what (name ∷ cut) → node_in what ≡ Some node
     → node_fault before.configs (Some node) ≡ Some e

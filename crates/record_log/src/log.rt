@@ -174,8 +174,8 @@ impl Log {
     ) -> Result<(), LogError>
         ensures kept { KeepsDisk D.Disk disk.old disk.new (DeviceFailed result)
             (HasNoRoom self.old bytes.now) (IsSameBut (file_of self.old)) }
-        ensures told { Appended MAX_RECORD result self.old self.new bytes.now (disk.new ≡ disk.old)
-            }
+        ensures told { Appended MAX_RECORD result self.old self.new bytes.now
+            (disk.new ≡ disk.old) }
         ensures appended { (records : List (List ℕ)) → D.is_honest disk.old →
             LogHolds (D.state disk.old) self.old records →
             MatchResult result

@@ -13,8 +13,7 @@ returns-in_err-batch-clause-sent g c = λ x n is honest s.
     let was = c.loop-number.invariant in
     let p = err_from_is_err_and c.from_residual.result c.from_residual.ensures.1 in
     let found = c.in_err-batch.ensures.found x n.epoch n.ids n.list n.floor n.kept
-    (was.honest.1 honest)
-    ((was.kept honest).holds x n.epoch n.ids n.list n.floor n.kept s) in
+    (was.honest.1 honest) ((was.kept honest).holds x n.epoch n.ids n.list n.floor n.kept s) in
     rw (p.1, p.2) found
 
 -- the engine holds what it held
@@ -68,8 +67,7 @@ loop-number-preserved g c =
           let made = made_of c.new.result _ at c.unwrap-number.result c.new.ensures
           c.unwrap-number.ensures in
           let there = c.in_ok-batch.ensures.found y n.epoch n.ids n.list n.floor n.kept
-          (was.honest.1 honest)
-          ((was.kept honest).holds y n.epoch n.ids n.list n.floor n.kept s) in
+          (was.honest.1 honest) ((was.kept honest).holds y n.epoch n.ids n.list n.floor n.kept s) in
           let frame = option_to_list c.forward.result in
           let one = subst (λ i. AreFrames frame (forward x n i)) made
           (c.forward.ensures n is there) in
