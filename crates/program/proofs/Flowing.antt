@@ -21,7 +21,8 @@ use Rattle.program.specs.declared.statement_result.Note.{Note}
 use Rattle.program.specs.declared.statement_result.Note.TheVariants as note
 use Rattle.program.specs.Runs.{HasRunStatements}
 use Rattle.program.specs.ScriptRuns.{places_after, event, deliveries, left_after, left_after_event}
-use Rattle.program.specs.ScriptRuns.{most, busy, IsResult, AreResults}
+use Rattle.program.specs.ScriptRuns.{most, busy, IsResult, IsRising, AreResults}
+use Rattle.program.proofs.Leaving.{left_rises}
 
 -- ---- places and frames add up
 
@@ -253,6 +254,7 @@ pub record Goes (world : World) (cs : Configurations) (left : List ℕ) (behind 
   pub events : List lab.Event
   pub steps : List (List Line)
   pub run : HasRun world cs events steps
+  pub rising : IsRising 0 (frames_told steps) left
   pub whole : (ts : List StatementResult) (es : List lab.Event) (ss : List (List Line)) →
       AreResults (frames_told steps) left behind ts es ss →
       AreResults 0 [] all (turns ++ ts) (events ++ es) (steps ++ ss)
@@ -263,6 +265,7 @@ goes_nowhere world cs left all run none = record {
   events = [];
   steps = [];
   run = run;
+  rising = rw none (omega arith);
   whole = λ ts es ss c. subst (λ (l : List ℕ). AreResults 0 l all ts es ss) none c;
 }
 
@@ -278,6 +281,8 @@ goes_on world after cs left next it behind all turns turn g own lines is run lef
   events = g.events ++ own;
   steps = g.steps ++ lines;
   run = run;
+  rising = rw (left_is, frames_told-more g.steps lines)
+      (left_rises it.action left (frames_told g.steps) (frames_told lines) g.rising);
   whole = λ ts es ss c.
       let first = subst (λ (k : ℕ). AreResults k next behind ts es ss)
       (frames_told-more g.steps lines) c in
@@ -382,6 +387,7 @@ goes_next world after cs left next all i d it turns turn within at g own lines i
       events = g.events;
       steps = g.steps;
       run = g.run;
+      rising = g.rising;
       whole = subst (λ (b : List Statement). (ts : List StatementResult) (es : List lab.Event)
           (ss : List (List Line)) → AreResults (frames_told g.steps) left b ts es ss →
           AreResults 0 [] all (turns ++ ts) (g.events ++ es) (g.steps ++ ss)) parts g.whole;

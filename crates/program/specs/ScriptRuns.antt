@@ -1,5 +1,5 @@
 -- The course of a run: the events of each statement, and the frames that none has delivered yet.
-use Rattle.std.specs.Prelude.{◌≡◌, ℕ, zero, suc, ◌+◌, List, [], ◌∷◌, ◌++◌, length, map, take, drop}
+use Rattle.std.specs.Prelude.{◌≡◌, ◌<◌, ◌≤◌, ℕ, zero, suc, ◌+◌, List, [], ◌∷◌, ◌++◌, length, map, take, drop}
 use Rattle.std.specs.Prelude.{Option, Some, None}
 use Rattle.lab.specs.Machine.{without}
 use Rattle.lab.specs.Fault.TheVariants as fault
@@ -23,6 +23,11 @@ most = 10000
 abbrev pub places_after : ℕ → ℕ → List ℕ
 places_after sent zero = []
 places_after sent (suc count) = suc sent ∷ places_after (suc sent) count
+
+-- places that rise, from above `low` up to `high`
+abbrev pub IsRising : ℕ → ℕ → List ℕ → Type 0
+IsRising low high [] = low ≤ high
+IsRising low high (place ∷ places) = (low < place) × IsRising place high places
 
 abbrev pub event : EventKind → lab.Event
 event what = record { kind = what; fault = fault.None }

@@ -7,7 +7,7 @@ ghost use Rattle.lab.specs.declared.Event.{Event as LabEvent};
 ghost use Rattle.lab.specs.declared.Line.{Line};
 ghost use Rattle.lab.specs.{NamesNode, HasRun, frames_told, frames_of_step};
 ghost use Rattle.program.specs.ScriptRuns.{event, deliveries, left_after, left_after_event};
-ghost use Rattle.program.specs.ScriptRuns.{IsResult, places_after, most};
+ghost use Rattle.program.specs.ScriptRuns.{IsResult, IsRising, places_after, most};
 ghost use Rattle.program.specs.Scripts.{Names};
 
 use crate::script::{Action, Statement};
@@ -39,15 +39,13 @@ fn add_places(left: &mut VecDeque<u64>, before: u64, now: u64) -> Result<(), All
     Ok(())
 }
 
-// A place that is there is left out.
+// A place that is there is left out. The places rise, so it is found by halving.
 fn remove_place(left: &mut VecDeque<u64>, place: u64)
-    ensures { left.new.items ≡ without place left.old.items }
+    ensures { (low high : ℕ) → IsRising low high left.old.items →
+        left.new.items ≡ without place left.old.items }
 {
-    for index in 0..left.len() {
-        if left[index] == place {
-            left.remove(index);
-            return;
-        }
+    if let Ok(index) = left.binary_search(&place) {
+        left.remove(index);
     }
 }
 
@@ -82,6 +80,7 @@ impl ScriptRun {
     fn event(&mut self, alloc: Global, kind: &EventKind) -> Result<(), LabError>
         ensures { (cs : Configurations) (events : List LabEvent) (steps : List (List Line)) →
             HasRun self.old.world cs events steps → NamesNode cs kind.now →
+            IsRising 0 (frames_told steps) self.old.left.items →
             OnOk result ((lines : List Line)
             × HasRun self.new.world cs (events ++ event kind.now ∷ []) (steps ++ lines ∷ [])
             × (self.new.left.items ≡ left_after_event kind.now (self.old.left.items
@@ -121,6 +120,7 @@ impl ScriptRun {
     pub fn run(&mut self, alloc: Global, statement: &Statement) -> Result<StatementResult, LabError>
         ensures { (cs : Configurations) (events : List LabEvent) (steps : List (List Line)) →
             HasRun self.old.world cs events steps → Names cs statement.now.action →
+            IsRising 0 (frames_told steps) self.old.left.items →
             IfOk result (λ turn. (own : List LabEvent) × (lines : List (List Line))
             × IsResult (frames_told steps) self.old.left.items statement.now turn own lines
             × HasRun self.new.world cs (events ++ own) (steps ++ lines)

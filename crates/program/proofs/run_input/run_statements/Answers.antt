@@ -13,7 +13,7 @@ loop-statement-preserved c =
     let it = c.statement-item.result in
     let names = subst (λ (x : Statement). Names cs x.action) (sym c.statement-item.is)
     (c.requires i _ c.loop-statement-test.true) in
-    let took = c.in_ok-run.ensures cs g.events g.steps g.run names in
+    let took = c.in_ok-run.ensures cs g.events g.steps g.run names g.rising in
     rw (add-one, c.in_ok-push.ensures.items) (goes_next c.loop-statement.course.world
     c.run.new.self.world cs c.loop-statement.course.left.items c.run.new.self.left.items all i
     _ it c.loop-statement.turns.items c.in_ok-run.field-0 c.loop-statement-test.true

@@ -1,54 +1,22 @@
-use Rattle.std.proofs.Common.{◌<◌, ◌≤◌, length, ◌∙◌, sym, ap, arith, add-one}
-use Rattle.std.specs.VecDeque.{deque_len}
-use Rattle.lab.specs.Machine.{without}
-use Rattle.program.proofs.Leaving.{not_yet, left_out, not_there, whole}
+use Rattle.std.proofs.Common.{◌∙◌, ℕ, List, Ok, Err}
+use Rattle.std.proofs.lemmas.List.Sorted.{searched}
+use Rattle.program.proofs.Leaving.{rises, left_out, not_there, beyond}
 use Rattle.program.proofs.script_run.remove_place.Goals as goal
 
-pub returns-then-index-place : goal.returns-then-index-place
-returns-then-index-place c =
-    let was = c.loop-index.invariant in
-    let size = ap (λ d. deque_len d) was.same in
-    let within : c.loop-index.index < deque_len c.loop-index.left =
-    omega (arith, c.loop-index-test.true, c.len-index-end.ensures, size) in
-    let inside : c.loop-index.index < length c.loop-index.left.items =
-    omega (arith, within, c.loop-index.left.ok.0) in
-    let removed = rw (c.remove.ensures.succeeds 0 within) at c.remove.ensures.items in
-    removed
-    ∙ left_out c.loop-index.left.items c.loop-index.index c.args.place c.index.result.now inside
-    was.not_yet (sym c.index.ensures ∙ c.if-index-place.true)
-    ∙ ap (λ d. without c.args.place d.items) was.same
+pub returns-in-Ok : goal.returns-in-Ok
+returns-in-Ok c = λ low high up.
+    let left = c.args.left.now.items in
+    let found = searched left c.args.place (Ok c.in-Ok.index) c.in-Ok.ensures.position
+    (λ i j. rises left low high i j up) in
+    let removed = rw (c.remove.ensures.succeeds 0 c.in-Ok.ensures.bound) at c.remove.ensures.items
+    in
+    ◌∙◌ {A = List ℕ} removed
+    (left_out left low high c.in-Ok.index c.args.place up found.0 found.1)
 
-pub loop-index-preserved : goal.loop-index-preserved
-loop-index-preserved c =
-    let was = c.loop-index.invariant in
-    let size = ap (λ d. deque_len d) was.same in
-    let inside : c.loop-index.index < length c.loop-index.left.items =
-    omega (
-      arith,
-      c.loop-index-test.true,
-      c.len-index-end.ensures,
-      size,
-      c.loop-index.left.ok.0,
-    ) in
-    record {
-      same = was.same;
-      not_yet = rw add-one (not_yet c.loop-index.left.items c.loop-index.index c.args.place
-          c.index.result.now inside was.not_yet
-          (λ e. c.if-index-place.false (c.index.ensures ∙ e)));
-    }
-
-pub returns : goal.returns
-returns c =
-    let was = c.loop-index.invariant in
-    let size = ap (λ d. deque_len d) was.same in
-    let past : length c.loop-index.left.items ≤ c.loop-index.index =
-    omega (
-      arith,
-      c.loop-index-test.false,
-      c.len-index-end.ensures,
-      size,
-      c.loop-index.left.ok.0,
-    ) in
-    not_there c.loop-index.left.items c.args.place
-    (whole c.loop-index.left.items c.loop-index.index c.args.place past was.not_yet)
-    ∙ ap (λ d. without c.args.place d.items) was.same
+pub returns-in_default : goal.returns-in_default
+returns-in_default c = λ low high up.
+    let left = c.args.left.now.items in
+    let found = searched left c.args.place (Err c.in_default.field-0) c.in_default.ensures.position
+    (λ i j. rises left low high i j up) in
+    not_there left c.args.place
+    (beyond left c.args.place c.in_default.field-0 found.1 found.2)

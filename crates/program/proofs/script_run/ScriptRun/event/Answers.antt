@@ -1,22 +1,25 @@
-use Rattle.std.proofs.Common.{◌++◌}
+use Rattle.std.proofs.Common.{◌+◌, ◌++◌}
 use Rattle.lab.specs.{frames_told, frames_of_step}
 use Rattle.program.specs.ScriptRuns.{places_after}
 use Rattle.program.proofs.Flowing.{left_as, left_delivered}
+use Rattle.program.proofs.Leaving.{all_rise}
 use Rattle.program.proofs.script_run.ScriptRun.event.Goals as goal
 
 pub returns-in-Deliver : goal.returns-in-Deliver
-returns-in-Deliver c = λ cs events steps run named.
+returns-in-Deliver c = λ cs events steps run named up.
     let gave = rw c.in_ok-clone.ensures at c.in_ok-step.ensures in
     let went = gave cs events steps run named in (
       went.0,
       went.1,
       left_delivered c.args.kind.now c.in-Deliver.place (c.args.self.now.left.items
           ++ places_after (frames_told steps) (frames_of_step went.0)) c.step.new.self.left.items _
-          c.in-Deliver.is went.2 c.remove_place.ensures,
+          c.in-Deliver.is went.2 (c.remove_place.ensures 0
+          (frames_told steps + frames_of_step went.0) (rw went.2 (all_rise
+          c.args.self.now.left.items 0 (frames_told steps) (frames_of_step went.0) up))),
     )
 
 pub returns-in_default : goal.returns-in_default
-returns-in_default c = λ cs events steps run named.
+returns-in_default c = λ cs events steps run named up.
     let gave = rw c.in_ok-clone.ensures at c.in_ok-step.ensures in
     let went = gave cs events steps run named in (
       went.0,

@@ -9,11 +9,11 @@ use Rattle.program.proofs.Flowing.{none_left, some_left}
 use Rattle.program.proofs.script_run.ScriptRun.run.Goals as goal
 
 pub returns-in_ok-event-in-Event : goal.returns-in_ok-event-in-Event
-returns-in_ok-event-in-Event c = λ cs events steps run named.
+returns-in_ok-event-in-Event c = λ cs events steps run named up.
     let what = c.in-Event.kind in
     let it = c.args.statement.now in
     let went = c.in_ok-event-in-Event.ensures cs events steps run
-    (rw c.in-Event.is at named) in
+    (rw c.in-Event.is at named) up in
     let one : frames_of_step went.0 ≡ frames_of_step went.0 + 0 = omega arith in (
       event what ∷ [],
       went.0 ∷ [],
@@ -24,7 +24,7 @@ returns-in_ok-event-in-Event c = λ cs events steps run named.
     )
 
 pub returns-in-Invalid : goal.returns-in-Invalid
-returns-in-Invalid c = λ cs events steps run named. (
+returns-in-Invalid c = λ cs events steps run named up. (
   [],
   [],
   result_of_error (frames_told steps) c.args.self.now.left.items c.args.statement.now _
@@ -34,7 +34,7 @@ returns-in-Invalid c = λ cs events steps run named. (
 )
 
 pub returns-then-is_empty : goal.returns-then-is_empty
-returns-then-is_empty c = λ cs events steps run named.
+returns-then-is_empty c = λ cs events steps run named up.
     let went = c.in_ok-events-in-Flow.ensures cs events steps run in
     let all = c.args.self.now.left.items ++ places_after (frames_told steps) (frames_told went.0)
     in
@@ -50,7 +50,7 @@ returns-then-is_empty c = λ cs events steps run named.
     )
 
 pub returns-else-is_empty : goal.returns-else-is_empty
-returns-else-is_empty c = λ cs events steps run named.
+returns-else-is_empty c = λ cs events steps run named up.
     let went = c.in_ok-events-in-Flow.ensures cs events steps run in
     let all = c.args.self.now.left.items ++ places_after (frames_told steps) (frames_told went.0)
     in
