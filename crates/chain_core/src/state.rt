@@ -245,7 +245,7 @@ impl CoreState {
     }
 
     // Applies the report of the successor.
-    fn pass_on(
+    fn on_ack(
         &mut self,
         alloc: Global,
         committed: Number,
@@ -283,7 +283,7 @@ impl CoreState {
                 self.append();
                 Ok(Vec::new(alloc))
             }
-            Done::Acked { committed, have } => self.pass_on(alloc, committed, have),
+            Done::Acked { committed, have } => self.on_ack(alloc, committed, have),
         }
     }
 }

@@ -50,7 +50,7 @@ const SHOWN: &str = "\
 ";
 
 #[test]
-fn the_tail_reads_what_the_head_took(rt: HostRuntime) -> Result<(), Fail> {
+fn the_tail_reads_what_the_head_accepted(rt: HostRuntime) -> Result<(), Fail> {
     let chain = configs(rt.alloc(), &[1, 2, 3])?;
     let text = shown(rt.alloc(), &write_and_read(rt.alloc(), &chain)?)?;
     assert!(rt; text.as_str() == SHOWN, "{text}");

@@ -76,7 +76,7 @@ fn what_each_event_shows(rt: HostRuntime) -> Result<(), Fail> {
 }
 
 #[test]
-fn the_report_tells_the_numbers_of_a_running_node(rt: HostRuntime) -> Result<(), Fail> {
+fn the_report_has_the_numbers_of_a_running_node(rt: HostRuntime) -> Result<(), Fail> {
     let steps = [Step::Submit(1, ONE), Step::Submit(1, TWO)];
     let report = report_of(rt.alloc(), &[1], &steps)?.ok_or("no node")?;
     assert!(rt; report.nodes.len() == 1);

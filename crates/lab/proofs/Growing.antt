@@ -17,7 +17,8 @@ use Rattle.lab.specs.Disks.{DisksFollow, AllFollow}
 use Rattle.lab.specs.Events.{modelled, lines_of_event, ChoiceFits}
 use Rattle.lab.specs.SimNodes.{Choice, state, failures}
 use Rattle.lab.specs.Traces.{modelled_from, lines_from, AllFit}
-use Rattle.lab.specs.Worlds.{PostedRefines, SimNodeRefines, RunRefines, frames_told, frames_of_step}
+use Rattle.lab.specs.Worlds.{PostedRefines, SimNodeRefines, RunRefines, frames_in_steps}
+use Rattle.lab.specs.Worlds.{frames_of_step}
 
 -- one event more at the end
 module _ (cs : Configurations) (e : Event) (ch : Choice) where
@@ -100,10 +101,10 @@ length-lines_from cs i (e ∷ es) (ch ∷ chs) w same =
     (omega arith))
 
 -- so many frames more have lines
-pub frames_told-push : (steps : List (List Line)) (lines : List Line) →
-    frames_told (steps ++ lines ∷ []) ≡ frames_told steps + frames_of_step lines
-frames_told-push [] lines = omega arith
-frames_told-push (step ∷ steps) lines = omega (arith, frames_told-push steps lines)
+pub frames_in_steps-push : (steps : List (List Line)) (lines : List Line) →
+    frames_in_steps (steps ++ lines ∷ []) ≡ frames_in_steps steps + frames_of_step lines
+frames_in_steps-push [] lines = omega arith
+frames_in_steps-push (step ∷ steps) lines = omega (arith, frames_in_steps-push steps lines)
 
 -- what the event in place i makes of a world, and its lines
 pub record Next (cs : Configurations) (w : SystemState BatchContent) (old : ℕ → Slots) (i : ℕ)
@@ -165,7 +166,7 @@ module _ (cs : Configurations) (events : List Event) (steps : List (List Line))
               next.frames;
           sent = omega (
             arith,
-            frames_told-push steps lines,
+            frames_in_steps-push steps lines,
             made.sent,
             next.counted,
             AllZip-long PostedRefines posted so_far.frames made.frames,

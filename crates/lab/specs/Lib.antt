@@ -22,4 +22,4 @@ pub use Rattle.node.specs.declared.stop.Stop
 pub use Rattle.lab.specs.Events.{NamesNode, node_in}
 pub use Rattle.lab.specs.History.{OneHistory}
 pub use Rattle.lab.specs.Runs.{IsRun}
-pub use Rattle.lab.specs.Worlds.{HasRun, frames_of_step, frames_told}
+pub use Rattle.lab.specs.Worlds.{HasRun, frames_of_step, frames_in_steps}

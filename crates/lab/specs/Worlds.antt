@@ -50,9 +50,9 @@ abbrev pub frames_of_step : List Line → ℕ
 frames_of_step [] = 0
 frames_of_step (line ∷ lines) = frames_in line + frames_of_step lines
 
-abbrev pub frames_told : List (List Line) → ℕ
-frames_told [] = 0
-frames_told (step ∷ steps) = frames_of_step step + frames_told steps
+abbrev pub frames_in_steps : List (List Line) → ℕ
+frames_in_steps [] = 0
+frames_in_steps (step ∷ steps) = frames_of_step step + frames_in_steps steps
 
 -- a posted frame refines one of the model: it has its addressee and its bytes
 pub record PostedRefines (posted : Posted) (frame : model_frame.Message BatchContent) : Type 0 where
@@ -157,7 +157,7 @@ pub record RunRefines (sims : List SimNode) (posted : List Posted) (cs : Configu
   pub trace : IsTrace cs events choices steps
   pub frames : AllZip PostedRefines posted (model_frame.reached cs
       (modelled_from 1 events choices)).frames
-  pub sent : frames_told steps ≡ length posted
+  pub sent : frames_in_steps steps ≡ length posted
   pub nodes : map (λ sim. sim.id) sims ≡ at_epoch cs 0
   pub disks : ℕ → Slots
   pub after : AreDisksAfter state failures cs events choices disks

@@ -14,7 +14,7 @@ ghost use Rattle.lab.specs.Runs.{IsRun};
 ghost use Rattle.lab.specs.History.{OneHistory};
 ghost use Rattle.lab.specs.Worlds.{HasRun, HasApplied, HasEnded, AreCreated, AreLeft, IsCreated};
 ghost use Rattle.lab.specs.Worlds.{IsLeft, IsRunSoFar, HasHistory, StopsNode, IsIndexOf, HasNoNode};
-ghost use Rattle.lab.specs.Worlds.{events_in, frames_told};
+ghost use Rattle.lab.specs.Worlds.{events_in, frames_in_steps};
 
 use crate::delivery::{Posted, delivery_of};
 use crate::node_state::NodeState;
@@ -214,7 +214,7 @@ impl World {
     /// How many frames were sent so far.
     pub fn sent(&self) -> u64
         ensures { (cs : Configurations) (events : List Event) (steps : List (List Line)) →
-            HasRun self.now cs events steps → result ≡ frames_told steps }
+            HasRun self.now cs events steps → result ≡ frames_in_steps steps }
     {
         self.frames.len() as u64
     }

@@ -19,7 +19,7 @@ use Rattle.link_messages.specs.declared.error.FrameError.TheVariants as fault
 use Rattle.link_messages.specs.declared.frame.Frame.{Frame}
 use Rattle.link_messages.specs.declared.frame.TheConstants.{MAX_FRAME}
 use Rattle.link_messages.specs.Spelling.{u32, body, frame_bytes, IsFrame}
-use Rattle.link_messages.specs.Stream.{length_field, IsPartial, IsWhole, BeginsWithFrame}
+use Rattle.link_messages.specs.Stream.{length_field, IsPartial, IsComplete, BeginsWithFrame}
 use Rattle.link_messages.specs.Stream.{NextOutcome, IsByteOutcome, Splits, OneSpelling, OneAnswer}
 use Rattle.link_messages.specs.Stream.{FaultsStay}
 use Rattle.link_messages.specs.Stream.{OneSplit}
@@ -37,7 +37,7 @@ told_length n front bytes same told =
 
 -- a length in bounds, and so many bytes
 pub whole : (bytes : List ℕ) (n : ℕ) → IsBytes bytes → 4 ≤ length bytes → n ≡ length_field bytes
-    → 1 ≤ n → n ≤ MAX_FRAME → n ≤ length (drop 4 bytes) → IsWhole bytes (take n (drop 4 bytes))
+    → 1 ≤ n → n ≤ MAX_FRAME → n ≤ length (drop 4 bytes) → IsComplete bytes (take n (drop 4 bytes))
 whole bytes n fits long told some few there =
     let content = take n (drop 4 bytes) in
     let len : n ≡ length content = omega (arith, length-take n (drop 4 bytes)) in
@@ -78,7 +78,7 @@ front_frame decides bytes n f fits long told some few there read =
           ∙ ap (λ (r : List ℕ). frame_bytes f ++ r) rest,
     )
 
-fault_of : (e : FrameError) (bytes content : List ℕ) → IsWhole bytes content
+fault_of : (e : FrameError) (bytes content : List ℕ) → IsComplete bytes content
     → Verdict (Err e) content → NextOutcome (Err e) bytes bytes
 fault_of fault.TooLong bytes content w v = absurd v
 fault_of fault.BadKind bytes content w v = ((content, w, v), refl)
@@ -87,7 +87,7 @@ fault_of fault.Trailing bytes content w v = ((content, w, v), refl)
 fault_of fault.Memory bytes content w v = absurd v
 
 told_fault : TestDecidesConfig →
-    (e : FrameError) (bytes content : List ℕ) → IsWhole bytes content → IsBytes content
+    (e : FrameError) (bytes content : List ℕ) → IsComplete bytes content → IsBytes content
     → content_at content ≡ Err e → NextOutcome (Err e) bytes bytes
 told_fault decides e bytes content w fits read =
     fault_of e bytes content w
@@ -95,7 +95,7 @@ told_fault decides e bytes content w fits read =
     (verdict decides content w.some fits))
 
 fault_or : TestDecidesConfig →
-    (e : FrameError) (bytes content : List ℕ) → IsWhole bytes content → IsBytes content
+    (e : FrameError) (bytes content : List ℕ) → IsComplete bytes content → IsBytes content
     → IsOr (Err e) (content_at content) → NextOutcome (Err e) bytes bytes
 fault_or decides fault.Memory bytes content w fits read = ((content, w), refl)
 fault_or decides fault.TooLong bytes content w fits read =
@@ -169,7 +169,7 @@ empty_shape : (bytes : List ℕ) → 4 ≤ length bytes → length_field bytes �
     → shape_of bytes ≡ Err fault.BadField
 empty_shape bytes told none = rw (le-ltb _ _ told, none) refl
 
-whole_shape : (bytes content : List ℕ) → IsWhole bytes content
+whole_shape : (bytes content : List ℕ) → IsComplete bytes content
     → shape_of bytes ≡ Ok (Some content)
 whole_shape bytes content w =
     let n = length content in
@@ -186,7 +186,7 @@ whole_shape bytes content w =
     rw (told, field, few, some, after, there, take_at content w.rest n refl) refl
 
 whole_frame : (bytes rest : List ℕ) (f : Frame) → IsFrame f → bytes ≡ frame_bytes f ++ rest
-    → IsWhole bytes (body f)
+    → IsComplete bytes (body f)
 whole_frame bytes rest f is parts =
     record {
       some = omega arith;
@@ -199,7 +199,7 @@ frame_verdict : (f : Frame) → IsFrame f → Verdict (Ok f) (body f)
 frame_verdict f is = record { frame = is; parts = sym (append-nil (body f)) }
 
 goes_whole : (bytes content : List ℕ) (v : Result Frame FrameError)
-    (a : Result (Option Frame) FrameError) → IsWhole bytes content → Verdict v content
+    (a : Result (Option Frame) FrameError) → IsComplete bytes content → Verdict v content
     → a ≡ as_answer v → Goes (shape_of bytes) a
 goes_whole bytes content v a w is same =
     subst (λ (s : Shape). Goes s a) (sym (whole_shape bytes content w)) (w.some, v, is, same)
@@ -261,7 +261,7 @@ one_spelling decides f g x y is_f is_g same =
     (is_g, same) in
     (some_is f g both.0, both.1)
 
-whole_stays : (bytes more content : List ℕ) → IsWhole bytes content → IsWhole
+whole_stays : (bytes more content : List ℕ) → IsComplete bytes content → IsComplete
     (bytes ++ more) content
 whole_stays bytes more content w =
     let field = u32 (length content) in

@@ -25,7 +25,7 @@ abbrev pub IsPartial : List ℕ → Type 0
 IsPartial bytes = (length bytes < 4) ⊎ LacksBytes bytes
 
 -- a length from 1 to 131,072 and that many bytes, the content; more bytes may follow
-pub record IsWhole (bytes content : List ℕ) : Type 0 where
+pub record IsComplete (bytes content : List ℕ) : Type 0 where
   pub some : 1 ≤ length content
   pub few : length content ≤ MAX_FRAME
   pub rest : List ℕ
@@ -56,11 +56,11 @@ pub record IsTooMuch (content : List ℕ) : Type 0 where
 -- the error at the front of the bytes
 abbrev pub HasFault : FrameError → List ℕ → Type 0
 HasFault fault.TooLong bytes = (4 ≤ length bytes) × (MAX_FRAME < length_field bytes)
-HasFault fault.BadKind bytes = (content : List ℕ) × IsWhole bytes content × (HasKind content → ⊥)
+HasFault fault.BadKind bytes = (content : List ℕ) × IsComplete bytes content × (HasKind content → ⊥)
 HasFault fault.BadField bytes =
     ((4 ≤ length bytes) × (length_field bytes ≡ 0))
-    ⊎ ((content : List ℕ) × IsWhole bytes content × IsMalformed content)
-HasFault fault.Trailing bytes = (content : List ℕ) × IsWhole bytes content × IsTooMuch content
+    ⊎ ((content : List ℕ) × IsComplete bytes content × IsMalformed content)
+HasFault fault.Trailing bytes = (content : List ℕ) × IsComplete bytes content × IsTooMuch content
 HasFault fault.Memory bytes = ⊥
 
 -- The answers of a read. There is a frame at the front, and the bytes behind it remain. Or the
@@ -70,7 +70,7 @@ abbrev pub NextOutcome : Result (Option Frame) FrameError → List ℕ → List 
 NextOutcome (Ok (Some f)) old new = IsFrame f × (old ≡ frame_bytes f ++ new)
 NextOutcome (Ok None) old new = IsPartial old × (new ≡ old)
 NextOutcome (Err fault.Memory) old new =
-    ((content : List ℕ) × IsWhole old content) × (new ≡ old)
+    ((content : List ℕ) × IsComplete old content) × (new ≡ old)
 NextOutcome (Err e) old new = HasFault e old × (new ≡ old)
 
 -- the stream is these frames, and then an incomplete one

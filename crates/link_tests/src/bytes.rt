@@ -94,7 +94,7 @@ static ANSWERS: [(&[u8], usize, Option<FrameError>); 15] = [
 ];
 
 #[test]
-fn each_answer_whole_and_byte_by_byte(rt: HostRuntime) {
+fn each_answer_at_once_and_byte_by_byte(rt: HostRuntime) {
     let alloc = rt.alloc();
     for (bytes, frames, fault) in &ANSWERS {
         for size in [bytes.len(), 1] {

@@ -20,7 +20,7 @@ use crate::engine::Engine;
 use crate::layout::Identity;
 use crate::replying::{
     ack_duplicate, copy_for_successor, output_of, output_of_append, output_of_drop, push_some,
-    refuse, show,
+    refuse, value_output,
 };
 use crate::{Output, Stop};
 use chain_core::laws::{one_by_one, stands_last, steps_leave};
@@ -147,7 +147,12 @@ impl<D: Disk + Drop> Node<D> {
     }
 
     // Appends a batch to the store, and then to the node's state.
-    fn take(&mut self, alloc: Global, batch: Batch, done: Done) -> Result<Vec<PendingSubmit>, Stop>
+    fn append_batch(
+        &mut self,
+        alloc: Global,
+        batch: Batch,
+        done: Done,
+    ) -> Result<Vec<PendingSubmit>, Stop>
         requires may { IsReady self.old }
         requires room { self.old.core.count < MAX_NUMBER }
         requires done { HasAppended done }
@@ -173,7 +178,7 @@ impl<D: Disk + Drop> Node<D> {
         stands_last();
         durable_is_left(); // law: a crash leaves what is durable
         let copy = copy_for_successor(&self.core, &batch)?;
-        let due = self.take(alloc, batch, Done::Accepted { request })?;
+        let due = self.append_batch(alloc, batch, Done::Accepted { request })?;
         output_of_append(alloc, &self.core, copy, false, &due)
     }
 
@@ -190,12 +195,12 @@ impl<D: Disk + Drop> Node<D> {
         stands_last();
         durable_is_left(); // law: a crash leaves what is durable
         let copy = copy_for_successor(&self.core, &batch)?;
-        let due = self.take(alloc, batch, Done::Appended)?;
+        let due = self.append_batch(alloc, batch, Done::Appended)?;
         output_of_append(alloc, &self.core, copy, self.core.is_tail(), &due)
     }
 
     // Applies the successor's report, and reports to the predecessor if more is committed.
-    fn pass_on(&mut self, alloc: Global, committed: Number, have: Number) -> Result<Output, Stop>
+    fn on_ack(&mut self, alloc: Global, committed: Number, have: Number) -> Result<Output, Stop>
         requires may { IsReady self.old }
         requires there { (committed ≤ have) × (have ≤ self.old.core.count) }
         ensures disk { disk_of self.new ≡ disk_of self.old }
@@ -233,7 +238,7 @@ impl<D: Disk + Drop> Node<D> {
     {
         durable_is_left(); // law: a crash leaves what is durable
         let value = self.engine.get(&mut self.disk, at, &key)?;
-        show(alloc, request, at, value)
+        value_output(alloc, request, at, value)
     }
 
     // Executes a decision.
@@ -249,7 +254,7 @@ impl<D: Disk + Drop> Node<D> {
             Decision::Accept { request, batch } => self.accept(alloc, request, batch),
             Decision::Append { batch } => self.append(alloc, batch),
             Decision::AckDuplicate => ack_duplicate(alloc, &self.core),
-            Decision::OnAck { committed, have } => self.pass_on(alloc, committed, have),
+            Decision::OnAck { committed, have } => self.on_ack(alloc, committed, have),
             Decision::Read { request, key, at } => self.read(alloc, request, key, at),
             Decision::Resend => self.resend(alloc),
             Decision::Refuse { request, refusal } => refuse(alloc, request, refusal),

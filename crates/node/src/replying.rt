@@ -140,7 +140,7 @@ pub(crate) fn ack_duplicate(alloc: Global, core: &CoreState) -> Result<Output, S
 }
 
 /// The output of a read: the value of the key at this number.
-pub(crate) fn show(
+pub(crate) fn value_output(
     alloc: Global,
     request: Number,
     number: Number,

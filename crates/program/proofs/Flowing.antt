@@ -11,7 +11,7 @@ use Rattle.lab.specs.declared.EventKind.TheVariants.{Submit, Get, Deliver, Tick,
 use Rattle.lab.specs.declared.Line.{Line}
 use Rattle.lab.specs.declared.World.{World}
 use Rattle.lab.specs.declared.Report.{Report}
-use Rattle.lab.specs.{IsRun, OneHistory, HasRun, frames_told, frames_of_step}
+use Rattle.lab.specs.{IsRun, OneHistory, HasRun, frames_in_steps, frames_of_step}
 use Rattle.std.proofs.Math.Seq.{drop-cons}
 use Rattle.program.specs.declared.script.setup.Setup.{Setup}
 use Rattle.program.specs.declared.script.statement.Statement.{Statement}
@@ -46,30 +46,30 @@ places_after-more s (suc a) b =
     ∙ ap (λ (l : List ℕ). suc s ∷ l) (places_after-more (suc s) a b
     ∙ ap (λ (n : ℕ). places_after (suc s) a ++ places_after n b) start)
 
-pub frames_told-more : (xs ys : List (List Line)) →
-    frames_told (xs ++ ys) ≡ frames_told xs + frames_told ys
-frames_told-more [] ys = omega arith
-frames_told-more (x ∷ xs) ys = omega (arith, frames_told-more xs ys)
+pub frames_in_steps-more : (xs ys : List (List Line)) →
+    frames_in_steps (xs ++ ys) ≡ frames_in_steps xs + frames_in_steps ys
+frames_in_steps-more [] ys = omega arith
+frames_in_steps-more (x ∷ xs) ys = omega (arith, frames_in_steps-more xs ys)
 
-pub frames_told-push : (xs : List (List Line)) (step : List Line) →
-    frames_told (xs ++ step ∷ []) ≡ frames_told xs + frames_of_step step
-frames_told-push xs step = omega (arith, frames_told-more xs (step ∷ []))
+pub frames_in_steps-push : (xs : List (List Line)) (step : List Line) →
+    frames_in_steps (xs ++ step ∷ []) ≡ frames_in_steps xs + frames_of_step step
+frames_in_steps-push xs step = omega (arith, frames_in_steps-more xs (step ∷ []))
 
 -- the places that a world's step adds
 pub added : (before now : ℕ) (left old : List ℕ) (steps : List (List Line)) (lines : List Line) →
-    before ≡ frames_told steps → now ≡ frames_told (steps ++ lines ∷ []) →
+    before ≡ frames_in_steps steps → now ≡ frames_in_steps (steps ++ lines ∷ []) →
     left ≡ old ++ places_after before (now - before) →
-    left ≡ old ++ places_after (frames_told steps) (frames_of_step lines)
+    left ≡ old ++ places_after (frames_in_steps steps) (frames_of_step lines)
 added before now left old steps lines was is e =
     let more : now - before ≡ frames_of_step lines =
-    omega (arith, was, is, frames_told-push steps lines) in
+    omega (arith, was, is, frames_in_steps-push steps lines) in
     e ∙ ap₂ (λ (s k : ℕ). old ++ places_after s k) was more
 
 -- ---- a flow
 
 -- the frames that are left, with those that were sent in these steps
 abbrev pub all_left : List ℕ → List (List Line) → List (List Line) → List ℕ
-all_left left steps own = left ++ places_after (frames_told steps) (frames_told own)
+all_left left steps own = left ++ places_after (frames_in_steps steps) (frames_in_steps own)
 
 abbrev delivery : ℕ → lab.Event
 delivery place = event (Deliver place)
@@ -131,26 +131,26 @@ module _ (cs : Configurations) (events : List lab.Event) (steps : List (List Lin
     -- all that is left grows by what is sent
     grown : (own : List (List Line)) (lines : List Line) →
         all_left old steps (own ++ lines ∷ []) ≡ all_left old steps own
-        ++ places_after (frames_told (steps ++ own)) (frames_of_step lines)
+        ++ places_after (frames_in_steps (steps ++ own)) (frames_of_step lines)
     grown own lines =
-        ap (λ (k : ℕ). old ++ places_after (frames_told steps) k) (frames_told-push own lines)
+        ap (λ (k : ℕ). old ++ places_after (frames_in_steps steps) k) (frames_in_steps-push own lines)
         ∙ ap (λ (l : List ℕ). old ++ l)
-        (places_after-more (frames_told steps) (frames_told own) (frames_of_step lines))
-        ∙ ap (λ (s : ℕ). old ++ (places_after (frames_told steps) (frames_told own)
-        ++ places_after s (frames_of_step lines))) (sym (frames_told-more steps own))
-        ∙ sym (append_assoc old (places_after (frames_told steps) (frames_told own))
-        (places_after (frames_told (steps ++ own)) (frames_of_step lines)))
+        (places_after-more (frames_in_steps steps) (frames_in_steps own) (frames_of_step lines))
+        ∙ ap (λ (s : ℕ). old ++ (places_after (frames_in_steps steps) (frames_in_steps own)
+        ++ places_after s (frames_of_step lines))) (sym (frames_in_steps-more steps own))
+        ∙ sym (append_assoc old (places_after (frames_in_steps steps) (frames_in_steps own))
+        (places_after (frames_in_steps (steps ++ own)) (frames_of_step lines)))
 
     pub flows_on : (world after : World) (left rest next : List ℕ) (count p : ℕ)
         (f : Flows world cs events steps old left count) → left ≡ p ∷ rest → suc count ≤ most →
         (lines : List Line) → HasRun after cs
         ((events ++ map delivery (take count (all_left old steps f.own))) ++ event (Deliver p) ∷ [])
         ((steps ++ f.own) ++ lines ∷ []) →
-        next ≡ rest ++ places_after (frames_told (steps ++ f.own)) (frames_of_step lines) →
+        next ≡ rest ++ places_after (frames_in_steps (steps ++ f.own)) (frames_of_step lines) →
         Flows after cs events steps old next (suc count)
     flows_on world after left rest next count p f first few lines run is =
         let all = all_left old steps f.own in
-        let new = places_after (frames_told (steps ++ f.own)) (frames_of_step lines) in
+        let new = places_after (frames_in_steps (steps ++ f.own)) (frames_of_step lines) in
         let front : p ∷ rest ≡ drop count all = sym first ∙ f.behind in
         let more = grown f.own lines in
         let taken : take (suc count) (all_left old steps (f.own ++ lines ∷ []))
@@ -254,9 +254,9 @@ pub record Goes (world : World) (cs : Configurations) (left : List ℕ) (behind 
   pub events : List lab.Event
   pub steps : List (List Line)
   pub run : HasRun world cs events steps
-  pub rising : IsRising 0 (frames_told steps) left
+  pub rising : IsRising 0 (frames_in_steps steps) left
   pub whole : (ts : List StatementResult) (es : List lab.Event) (ss : List (List Line)) →
-      AreResults (frames_told steps) left behind ts es ss →
+      AreResults (frames_in_steps steps) left behind ts es ss →
       AreResults 0 [] all (turns ++ ts) (events ++ es) (steps ++ ss)
 
 pub goes_nowhere : (world : World) (cs : Configurations) (left : List ℕ) (all : List Statement) →
@@ -273,20 +273,22 @@ goes_nowhere world cs left all run none = record {
 pub goes_on : (world after : World) (cs : Configurations) (left next : List ℕ) (it : Statement)
     (behind all : List Statement) (turns : List StatementResult) (turn : StatementResult)
     (g : Goes world cs left (it ∷ behind) all turns) (own : List lab.Event)
-    (lines : List (List Line)) → IsResult (frames_told g.steps) left it turn own lines →
+    (lines : List (List Line)) → IsResult (frames_in_steps g.steps) left it turn own lines →
     HasRun after cs (g.events ++ own) (g.steps ++ lines) →
-    next ≡ left_after it.action (left ++ places_after (frames_told g.steps) (frames_told lines)) →
+    next ≡ left_after it.action
+    (left ++ places_after (frames_in_steps g.steps) (frames_in_steps lines)) →
     Goes after cs next behind all (turns ++ turn ∷ [])
 goes_on world after cs left next it behind all turns turn g own lines is run left_is = record {
   events = g.events ++ own;
   steps = g.steps ++ lines;
   run = run;
-  rising = rw (left_is, frames_told-more g.steps lines)
-      (left_rises it.action left (frames_told g.steps) (frames_told lines) g.rising);
+  rising = rw (left_is, frames_in_steps-more g.steps lines)
+      (left_rises it.action left (frames_in_steps g.steps) (frames_in_steps lines) g.rising);
   whole = λ ts es ss c.
       let first = subst (λ (k : ℕ). AreResults k next behind ts es ss)
-      (frames_told-more g.steps lines) c in
-      let second = subst (λ (l : List ℕ). AreResults (frames_told g.steps + frames_told lines) l
+      (frames_in_steps-more g.steps lines) c in
+      let second = subst (λ (l : List ℕ). AreResults
+      (frames_in_steps g.steps + frames_in_steps lines) l
       behind ts es ss) left_is first in
       let one = g.whole (turn ∷ ts) (own ++ es) (lines ++ ss)
       (turn, own, lines, ts, es, ss, is, refl, refl, refl, second) in
@@ -345,10 +347,10 @@ result_of_error sent left it e is = record {
 
 pub result_of_flow : (sent : ℕ) (left : List ℕ) (it : Statement) (own : List (List Line))
     (count : ℕ) (said : Option Note) → it.action ≡ Flow → count ≡ length own →
-    count ≡ length (deliveries (left ++ places_after sent (frames_told own))) →
-    busy (drop most (left ++ places_after sent (frames_told own))) ≡ said →
+    count ≡ length (deliveries (left ++ places_after sent (frames_in_steps own))) →
+    busy (drop most (left ++ places_after sent (frames_in_steps own))) ≡ said →
     IsResult sent left it (record { line = it.line; events = count; note = said })
-    (deliveries (left ++ places_after sent (frames_told own))) own
+    (deliveries (left ++ places_after sent (frames_in_steps own))) own
 result_of_flow sent left it own count said is each events notes = record {
   line = refl;
   count = events;
@@ -376,9 +378,10 @@ pub goes_next : (world after : World) (cs : Configurations) (left next : List �
     i < length all →
     it ≡ get_or all i d → (g : Goes world cs left (drop i all) all turns)
     (own : List lab.Event) (lines : List (List Line)) →
-    IsResult (frames_told g.steps) left it turn own lines →
+    IsResult (frames_in_steps g.steps) left it turn own lines →
     HasRun after cs (g.events ++ own) (g.steps ++ lines) →
-    next ≡ left_after it.action (left ++ places_after (frames_told g.steps) (frames_told lines)) →
+    next ≡ left_after it.action
+    (left ++ places_after (frames_in_steps g.steps) (frames_in_steps lines)) →
     Goes after cs next (drop (suc i) all) all (turns ++ turn ∷ [])
 goes_next world after cs left next all i d it turns turn within at g own lines is run left_is =
     let parts : drop i all ≡ it ∷ drop (suc i) all = drop-cons all i d within
@@ -389,7 +392,7 @@ goes_next world after cs left next all i d it turns turn within at g own lines i
       run = g.run;
       rising = g.rising;
       whole = subst (λ (b : List Statement). (ts : List StatementResult) (es : List lab.Event)
-          (ss : List (List Line)) → AreResults (frames_told g.steps) left b ts es ss →
+          (ss : List (List Line)) → AreResults (frames_in_steps g.steps) left b ts es ss →
           AreResults 0 [] all (turns ++ ts) (g.events ++ es) (g.steps ++ ss)) parts g.whole;
     } in
     goes_on world after cs left next it (drop (suc i) all) all turns turn h own lines is run
@@ -402,8 +405,8 @@ pub gone : (world : World) (setup : Setup) (left : List ℕ) (all behind : List 
     behind ≡ [] → report.steps.items ≡ g.steps → IsRun setup.configs g.events report →
     OneHistory setup.configs g.events report → HasRunStatements setup all turns report
 gone world setup left all behind turns report g none steps run history =
-    let nothing : AreResults (frames_told g.steps) left behind [] [] [] =
-    subst (λ (b : List Statement). AreResults (frames_told g.steps) left b [] [] []) (sym none)
+    let nothing : AreResults (frames_in_steps g.steps) left behind [] [] [] =
+    subst (λ (b : List Statement). AreResults (frames_in_steps g.steps) left b [] [] []) (sym none)
     (refl, refl, refl) in
     let whole = g.whole [] [] [] nothing in
     let first = subst (λ (t : List StatementResult). AreResults 0 [] all t (g.events ++ [])

@@ -8,7 +8,7 @@ use Rattle.lab.specs.declared.Event as lab
 use Rattle.lab.specs.declared.EventKind.{EventKind}
 use Rattle.lab.specs.declared.EventKind.TheVariants.{Submit, Get, Deliver, Tick, Start, Stop}
 use Rattle.lab.specs.declared.Line.{Line}
-use Rattle.lab.specs.{frames_told}
+use Rattle.lab.specs.{frames_in_steps}
 use Rattle.program.specs.declared.script.statement.Action.{Action}
 use Rattle.program.specs.declared.script.statement.Action.TheVariants.{Event, Invalid, Flow}
 use Rattle.program.specs.declared.script.statement.Statement.{Statement}
@@ -74,7 +74,8 @@ pub record IsResult (sent : ℕ) (left : List ℕ) (it : Statement) (turn : Stat
   pub line : turn.line ≡ it.line
   pub count : turn.events ≡ length events
   pub each : length steps ≡ length events
-  pub did : IsResultOfAction it.action (left ++ places_after sent (frames_told steps)) steps events
+  pub did : IsResultOfAction it.action (left ++ places_after sent (frames_in_steps steps)) steps
+      events
       turn.note
 
 -- statements were run, one after another
@@ -88,6 +89,6 @@ AreResults sent left (it ∷ statements) turns events steps =
     × IsResult sent left it turn own lines
     × (turns ≡ turn ∷ turns_behind) × (events ≡ own ++ events_behind)
     × (steps ≡ lines ++ steps_behind)
-    × AreResults (sent + frames_told lines)
-    (left_after it.action (left ++ places_after sent (frames_told lines)))
+    × AreResults (sent + frames_in_steps lines)
+    (left_after it.action (left ++ places_after sent (frames_in_steps lines)))
     statements turns_behind events_behind steps_behind

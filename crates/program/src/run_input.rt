@@ -17,7 +17,7 @@ use crate::script::{Script, Setup, Statement, read_script};
 use crate::script_run::ScriptRun;
 use crate::statement_result::StatementResult;
 use crate::text::{event_places, print_run};
-use crate::writing::write_whole;
+use crate::writing::write_text;
 use lab::{LabError, Lines, Report};
 use std::alloc::Global;
 use std::io::{Read, Write};
@@ -64,7 +64,7 @@ fn print<W: Write>(text: &[u8], out: &mut W) -> Result<(), RunError>
     ensures part { AppendsPart (W.contents out.old) (W.contents out.new) text.now }
     ensures cause { IfErr result (λ e. e ≡ error.Write) }
 {
-    write_whole(text, out)?;
+    write_text(text, out)?;
     match out.flush() {
         Ok(()) => Ok(()),
         Err(_) => Err(RunError::Write),

@@ -5,7 +5,7 @@ ghost use Rattle.lab.specs.Configuration.{Configurations};
 ghost use Rattle.lab.specs.Machine.{without};
 ghost use Rattle.lab.specs.declared.Event.{Event as LabEvent};
 ghost use Rattle.lab.specs.declared.Line.{Line};
-ghost use Rattle.lab.specs.{NamesNode, HasRun, frames_told, frames_of_step};
+ghost use Rattle.lab.specs.{NamesNode, HasRun, frames_in_steps, frames_of_step};
 ghost use Rattle.program.specs.ScriptRuns.{event, deliveries, left_after, left_after_event};
 ghost use Rattle.program.specs.ScriptRuns.{IsResult, IsRising, places_after, most};
 ghost use Rattle.program.specs.Scripts.{Names};
@@ -67,7 +67,7 @@ impl ScriptRun {
             OnOk result ((lines : List Line)
             × HasRun self.new.world cs (events ++ event kind ∷ []) (steps ++ lines ∷ [])
             × (self.new.left.items ≡ self.old.left.items
-            ++ places_after (frames_told steps) (frames_of_step lines))) }
+            ++ places_after (frames_in_steps steps) (frames_of_step lines))) }
     {
         let before = self.world.sent();
         let fault = Fault::None;
@@ -80,11 +80,11 @@ impl ScriptRun {
     fn event(&mut self, alloc: Global, kind: &EventKind) -> Result<(), LabError>
         ensures { (cs : Configurations) (events : List LabEvent) (steps : List (List Line)) →
             HasRun self.old.world cs events steps → NamesNode cs kind.now →
-            IsRising 0 (frames_told steps) self.old.left.items →
+            IsRising 0 (frames_in_steps steps) self.old.left.items →
             OnOk result ((lines : List Line)
             × HasRun self.new.world cs (events ++ event kind.now ∷ []) (steps ++ lines ∷ [])
             × (self.new.left.items ≡ left_after_event kind.now (self.old.left.items
-            ++ places_after (frames_told steps) (frames_of_step lines)))) }
+            ++ places_after (frames_in_steps steps) (frames_of_step lines)))) }
     {
         self.step(alloc, kind.clone()?)?;
         if let EventKind::Deliver { place } = kind {
@@ -99,11 +99,11 @@ impl ScriptRun {
             HasRun self.old.world cs events steps →
             IfOk result (λ count. (own : List (List Line))
             × HasRun self.new.world cs (events ++ deliveries (self.old.left.items
-            ++ places_after (frames_told steps) (frames_told own))) (steps ++ own)
+            ++ places_after (frames_in_steps steps) (frames_in_steps own))) (steps ++ own)
             × (count ≡ length own) × (count ≡ length (deliveries (self.old.left.items
-            ++ places_after (frames_told steps) (frames_told own))))
+            ++ places_after (frames_in_steps steps) (frames_in_steps own))))
             × (self.new.left.items ≡ drop most (self.old.left.items
-            ++ places_after (frames_told steps) (frames_told own)))) }
+            ++ places_after (frames_in_steps steps) (frames_in_steps own)))) }
     {
         let mut count = 0;
         while count < MOST {
@@ -120,12 +120,12 @@ impl ScriptRun {
     pub fn run(&mut self, alloc: Global, statement: &Statement) -> Result<StatementResult, LabError>
         ensures { (cs : Configurations) (events : List LabEvent) (steps : List (List Line)) →
             HasRun self.old.world cs events steps → Names cs statement.now.action →
-            IsRising 0 (frames_told steps) self.old.left.items →
+            IsRising 0 (frames_in_steps steps) self.old.left.items →
             IfOk result (λ turn. (own : List LabEvent) × (lines : List (List Line))
-            × IsResult (frames_told steps) self.old.left.items statement.now turn own lines
+            × IsResult (frames_in_steps steps) self.old.left.items statement.now turn own lines
             × HasRun self.new.world cs (events ++ own) (steps ++ lines)
             × (self.new.left.items ≡ left_after statement.now.action (self.old.left.items
-            ++ places_after (frames_told steps) (frames_told lines)))) }
+            ++ places_after (frames_in_steps steps) (frames_in_steps lines)))) }
     {
         let line = statement.line;
         match &statement.action {

@@ -23,7 +23,7 @@ fn write_some<W: Write>(bytes: &[u8], out: &mut W) -> Result<usize, RunError>
 }
 
 /// Writes the bytes. Where the output takes no more, a beginning of them was written.
-pub fn write_whole<W: Write>(bytes: &[u8], out: &mut W) -> Result<(), RunError>
+pub fn write_text<W: Write>(bytes: &[u8], out: &mut W) -> Result<(), RunError>
     ensures whole { OnOk result (Appends (W.contents out.old) (W.contents out.new) bytes.now) }
     ensures part { AppendsPart (W.contents out.old) (W.contents out.new) bytes.now }
     ensures cause { IfErr result (λ e. e ≡ error.Write) }

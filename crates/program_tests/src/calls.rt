@@ -11,7 +11,7 @@ pub struct Outcome {
 
 impl Outcome {
     // Whether this is on standard output and on standard error.
-    pub fn tells(&self, out: &[u8], err: &[u8]) -> bool {
+    pub fn prints(&self, out: &[u8], err: &[u8]) -> bool {
         self.out.as_slice() == out && self.err.as_slice() == err
     }
 }

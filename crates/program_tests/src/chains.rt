@@ -54,7 +54,7 @@ fn put_reads(script: &mut Vec<u8>, told: &mut Vec<u8>, mut line: u32) -> io::Res
 }
 
 #[test]
-fn all_nodes_come_to_the_same_rows(rt: HostRuntime) -> Result<(), Fail> {
+fn all_nodes_reach_the_same_rows(rt: HostRuntime) -> Result<(), Fail> {
     let (mut script, mut told) = (Vec::new(rt.alloc()), Vec::new(rt.alloc()));
     put_course(&mut script)?;
     let lines = 1 + 4 * SUBMITS + 7 + 3 * (SUBMITS / 10);

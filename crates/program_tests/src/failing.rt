@@ -72,14 +72,14 @@ fn a_script_at_a_path_is_run(rt: HostRuntime) -> Result<(), Fail> {
     let outcome = called(&rt, &["chainstore", "lab", path], SCRIPT);
     let behind = called(&rt, &["chainstore", "lab", "--", path], SCRIPT);
     fs::remove_file(&rt, path)?;
-    assert!(rt; outcome.status == 0 && outcome.tells(b"2: node 7 stopped\n", b""));
-    assert!(rt; behind.status == 0 && behind.tells(b"2: node 7 stopped\n", b""));
+    assert!(rt; outcome.status == 0 && outcome.prints(b"2: node 7 stopped\n", b""));
+    assert!(rt; behind.status == 0 && behind.prints(b"2: node 7 stopped\n", b""));
     Ok(())
 }
 
 // However much is taken, it is a beginning of the text, and the failure is told.
 #[test]
-fn an_output_takes_a_beginning(rt: HostRuntime) {
+fn an_output_accepts_a_beginning(rt: HostRuntime) {
     for room in 0..TEXT.len() {
         let (taken, mut err) = (Vec::new(rt.alloc()), Vec::new(rt.alloc()));
         let (mut input, mut out) = (SCRIPT, Full { taken, room });

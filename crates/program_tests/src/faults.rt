@@ -89,11 +89,11 @@ const FAULTS: &[(&str, &str)] = &[
 ];
 
 #[test]
-fn the_first_fault_is_told(rt: HostRuntime) {
+fn the_first_fault_is_reported(rt: HostRuntime) {
     for (script, err) in FAULTS {
         let outcome = ran(&rt, script.as_bytes());
         assert!(rt;
-            outcome.tells(b"", err.as_bytes()) && outcome.status == 1,
+            outcome.prints(b"", err.as_bytes()) && outcome.status == 1,
             "{script}"
         );
     }

@@ -134,7 +134,7 @@ fn scripts_print_what_happens(rt: HostRuntime) {
     for (script, out) in RUNS {
         let outcome = ran(&rt, script.as_bytes());
         assert!(rt;
-            outcome.tells(out.as_bytes(), b"") && outcome.status == 0,
+            outcome.prints(out.as_bytes(), b"") && outcome.status == 0,
             "{script}"
         );
     }

@@ -36,7 +36,7 @@ fn keys_values_and_batches_have_bounds(rt: HostRuntime) -> Result<(), Fail> {
         let (head, piece, tail) = (head.as_bytes(), piece.as_bytes(), tail.as_bytes());
         let outcome = script(&rt, head, piece, *count, tail)?;
         assert!(rt;
-            outcome.tells(out.as_bytes(), b"") && outcome.status == 0,
+            outcome.prints(out.as_bytes(), b"") && outcome.status == 0,
             "{out}"
         );
     }
@@ -49,21 +49,21 @@ fn a_batch_has_a_bound_in_bytes(rt: HostRuntime) -> Result<(), Fail> {
     let mut edit = b" k=".to_vec(rt.alloc())?;
     edit.extend_from_slice(&value)?;
     let outcome = script(&rt, b"submit 1", &edit, 3, b"")?;
-    assert!(rt; outcome.tells(b"2: committed 1\n", b""));
+    assert!(rt; outcome.prints(b"2: committed 1\n", b""));
     let outcome = script(&rt, b"submit 1", &edit, 4, b"")?;
-    assert!(rt; outcome.tells(b"2: invalid 5 BatchTooLong\n", b""));
+    assert!(rt; outcome.prints(b"2: invalid 5 BatchTooLong\n", b""));
     Ok(())
 }
 
 #[test]
 fn lines_and_scripts_have_bounds(rt: HostRuntime) -> Result<(), Fail> {
     let full = script(&rt, b"#", b"c", 262143, b"\nget 1 a\n")?;
-    assert!(rt; full.tells(b"3: none at 0\n", b""));
+    assert!(rt; full.prints(b"3: none at 0\n", b""));
     let over = script(&rt, b"#", b"c", 262144, b"\nget 1 a\n")?;
-    assert!(rt; over.tells(b"", b"line 2: line too long\n") && over.status == 1);
+    assert!(rt; over.prints(b"", b"line 2: line too long\n") && over.status == 1);
     let full = script(&rt, b"", b"\n", 99998, b"get 1 a\n")?;
-    assert!(rt; full.tells(b"100000: none at 0\n", b""));
+    assert!(rt; full.prints(b"100000: none at 0\n", b""));
     let over = script(&rt, b"", b"\n", 99999, b"get 1 a\n")?;
-    assert!(rt; over.tells(b"", b"line 100001: too many lines\n") && over.status == 1);
+    assert!(rt; over.prints(b"", b"line 100001: too many lines\n") && over.status == 1);
     Ok(())
 }

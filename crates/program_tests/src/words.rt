@@ -25,7 +25,7 @@ const REFUSED: &[&[&str]] = &[
 fn other_words_show_the_usage(rt: HostRuntime) {
     for words in REFUSED {
         let outcome = called(&rt, words, SCRIPT);
-        assert!(rt; outcome.tells(b"", USAGE) && outcome.status == 2);
+        assert!(rt; outcome.prints(b"", USAGE) && outcome.status == 2);
     }
 }
 
@@ -36,9 +36,9 @@ fn words_name_a_script(rt: HostRuntime) {
         &["chainstore", "lab", "--", "-"],
     ] {
         let outcome = called(&rt, words, SCRIPT);
-        assert!(rt; outcome.tells(b"2: committed 1\n3: value 1 at 1\n", b""));
+        assert!(rt; outcome.prints(b"2: committed 1\n3: value 1 at 1\n", b""));
         assert_eq!(rt; outcome.status, 0);
     }
     let absent = called(&rt, &["chainstore", "lab", "/no/such/script"], SCRIPT);
-    assert!(rt; absent.tells(b"", b"script: unreadable\n") && absent.status == 1);
+    assert!(rt; absent.prints(b"", b"script: unreadable\n") && absent.status == 1);
 }

@@ -33,7 +33,7 @@ impl NotingDisk {
     }
 
     // The calls since the last question.
-    fn taken(&mut self) -> &[Called] {
+    fn recorded(&mut self) -> &[Called] {
         let count = self.count.min(8);
         self.count = 0;
         &self.calls[..count]
@@ -120,9 +120,9 @@ fn appends_so(
     want: &[Called],
 ) -> Result<bool, LogError> {
     append(alloc, disk, log, b"one")?;
-    let is_first = disk.taken() == want;
+    let is_first = disk.recorded() == want;
     append(alloc, disk, log, b"")?;
-    Ok(is_first && disk.taken() == want)
+    Ok(is_first && disk.recorded() == want)
 }
 
 // Whether the first call is a sync, and no other is a write.
@@ -138,11 +138,11 @@ fn a_log_makes_its_calls_in_their_order(rt: HostRuntime) -> Result<(), Fail> {
     let alloc = rt.alloc();
     let mut disk = NotingDisk::new(alloc);
     let mut log = create(alloc, &mut disk)?;
-    assert!(rt; disk.taken() == [Called::Write, Called::Sync].as_slice());
+    assert!(rt; disk.recorded() == [Called::Write, Called::Sync].as_slice());
     let appended = [Called::Write, Called::Sync, Called::Write, Called::Sync];
     let is_so = appends_so(alloc, &mut disk, &mut log, &appended)?;
     assert!(rt; is_so);
     let _opened = open(alloc, &mut disk)?;
-    assert!(rt; syncs_and_reads(disk.taken()));
+    assert!(rt; syncs_and_reads(disk.recorded()));
     Ok(())
 }

@@ -248,7 +248,7 @@ fn each_file_begins_with_the_first_junk(rt: HostRuntime) -> Result<(), Fail> {
 }
 
 // Whether these are the files as they are made, once the synced one is removed, and after a crash.
-fn comes_back(alloc: Global) -> Result<(bool, bool, bool), DiskError> {
+fn returns_after(alloc: Global) -> Result<(bool, bool, bool), DiskError> {
     let mut disk = three_files(alloc)?;
     let is_made = has_files(&mut disk, &[2, 5, 9])?;
     attempt(&mut disk, Try::Remove(5))?;
@@ -260,7 +260,7 @@ fn comes_back(alloc: Global) -> Result<(bool, bool, bool), DiskError> {
 
 #[test]
 fn old_leaves_what_was_synced(rt: HostRuntime) -> Result<(), Fail> {
-    let found = comes_back(rt.alloc())?;
+    let found = returns_after(rt.alloc())?;
     assert!(rt; found == (true, true, true), "{found:?}");
     Ok(())
 }

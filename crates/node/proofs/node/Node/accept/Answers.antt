@@ -27,7 +27,7 @@ returns-in_err-due-clause-ends g c = λ x n input r.
     let result = c.from_residual-in_err-due.result in
     let p = err_from_is_err_and result c.from_residual-in_err-due.ensures.1 in
     let e = c.in_err-due.ensures.ends x n r in
-    ends_stopped g.D.Disk.is_honest g.D.Disk.state c.take.new.self x n a _ result p.0 p.1
+    ends_stopped g.D.Disk.is_honest g.D.Disk.state c.append_batch.new.self x n a _ result p.0 p.1
     (subst IsEnvironmental (sym p.2) e.done) e.stopped.0 e.stopped.1
 
 -- the appended batch is sent
@@ -39,7 +39,7 @@ returns-clause-ends g c = λ x n input r.
     let leaves = c.steps_leave.ensures x n batch d in
     let follows = (c.in_ok-due.ensures.ends x n r).done in
     let old = c.args.self.now.core in
-    let new = c.take.new.self.core in
+    let new = c.append_batch.new.self.core in
     let number : new.count ≡ suc (length n.list) =
     sym follows.runs.core.count ∙ number_taken x n batch d a leaves tt in
     let there = taken_stands c.stands_last.ensures x n batch d a new.count leaves tt number in
@@ -48,6 +48,7 @@ returns-clause-ends g c = λ x n input r.
     let says = c.output_of_append.ensures.says a.node batch follows.runs.core there copied in
     let sent : ℕ → List (Message BatchContent) = λ y. forward y a.node new.count ++ [] in
     let one = append-nil (forward x a.node new.count) ∙ ap (forward x a.node) number in
-    ends_rule g.D.Disk.is_honest g.D.Disk.state c.durable_is_left.ensures c.take.new.self x n input
+    ends_rule g.D.Disk.is_honest g.D.Disk.state c.durable_is_left.ensures c.append_batch.new.self x
+    n input
     batch d a c.in_ok-due.due.items c.deref.result.now sent c.output_of_append.result leaves follows
     c.deref.ensures.value one says c.output_of_append.ensures.memory

@@ -26,7 +26,7 @@ returns-in_err-due-clause-ends g c = λ x n input r.
     let result = c.from_residual-in_err-due.result in
     let p = err_from_is_err_and result c.from_residual-in_err-due.ensures.1 in
     let e = c.in_err-due.ensures.ends x n r in
-    ends_stopped g.D.Disk.is_honest g.D.Disk.state c.take.new.self x n a _ result p.0 p.1
+    ends_stopped g.D.Disk.is_honest g.D.Disk.state c.append_batch.new.self x n a _ result p.0 p.1
     (subst IsEnvironmental (sym p.2) e.done) e.stopped.0 e.stopped.1
 
 -- the appended batch is sent, and a tail acknowledges it
@@ -38,7 +38,7 @@ returns-clause-ends g c = λ x n input r.
     let leaves = c.steps_leave.ensures x n batch d in
     let follows = (c.in_ok-due.ensures.ends x n r).done in
     let old = c.args.self.now.core in
-    let new = c.take.new.self.core in
+    let new = c.append_batch.new.self.core in
     let number : new.count ≡ suc (length n.list) =
     sym follows.runs.core.count ∙ number_taken x n batch d a leaves tt in
     let there = taken_stands c.stands_last.ensures x n batch d a new.count leaves tt number in
@@ -54,6 +54,7 @@ returns-clause-ends g c = λ x n input r.
     ∙ ap (is_tail a.node.ids) follows.runs.id in
     let both = ap (λ k. forward x a.node k ++ told acks) number
     ∙ ap (λ b. forward x a.node (suc (length n.list)) ++ told b) tail in
-    ends_rule g.D.Disk.is_honest g.D.Disk.state c.durable_is_left.ensures c.take.new.self x n input
+    ends_rule g.D.Disk.is_honest g.D.Disk.state c.durable_is_left.ensures c.append_batch.new.self x
+    n input
     batch d a c.in_ok-due.due.items c.deref.result.now sent c.output_of_append.result leaves follows
     c.deref.ensures.value both says c.output_of_append.ensures.memory

@@ -21,9 +21,9 @@ returns-in-Append-clause-ends g c = λ x n input read r.
 
 pub returns-in-OnAck-clause-ends : goal.returns-in-OnAck-clause-ends
 returns-in-OnAck-clause-ends g c = λ x n input read r.
-    ends_as g.D.Disk.is_honest g.D.Disk.state c.pass_on.new.self x n input c.args.decision
-    (decision.OnAck c.in-OnAck.committed c.in-OnAck.have) c.pass_on.result c.in-OnAck.is
-    (c.pass_on.ensures.ends x n input r)
+    ends_as g.D.Disk.is_honest g.D.Disk.state c.on_ack.new.self x n input c.args.decision
+    (decision.OnAck c.in-OnAck.committed c.in-OnAck.have) c.on_ack.result c.in-OnAck.is
+    (c.on_ack.ensures.ends x n input r)
 
 -- the output of a rule that changes nothing follows from the node's numbers and batches
 pub returns-in-AckDuplicate-clause-ends : goal.returns-in-AckDuplicate-clause-ends

@@ -34,7 +34,8 @@ returns-clause-ends g c = λ x n input read r.
     (c.get.ensures.kept.honest.1 r.honest) holds in
     let found = c.in_ok-value.ensures.found x n.epoch n.ids n.list n.floor n.kept r.honest r.store
     (readable n input c.args.request c.args.at c.args.key read) in
-    let tells = tells_read n input c.args.request c.args.at c.args.key c.show.result read
-    (λ number. c.show.ensures.tells n c.args.key number found) in
+    let tells = tells_read n input c.args.request c.args.at c.args.key c.value_output.result read
+    (λ number. c.value_output.ensures.tells n c.args.key number found) in
     ends g.D.Disk.is_honest g.D.Disk.state c.durable_is_left.ensures node x n input
-    (reply_read n c.args.request c.args.at) c.show.result runs tells c.show.ensures.memory
+    (reply_read n c.args.request c.args.at) c.value_output.result runs tells
+    c.value_output.ensures.memory

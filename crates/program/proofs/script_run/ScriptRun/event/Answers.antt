@@ -1,5 +1,5 @@
 use Rattle.std.proofs.Common.{◌+◌, ◌++◌}
-use Rattle.lab.specs.{frames_told, frames_of_step}
+use Rattle.lab.specs.{frames_in_steps, frames_of_step}
 use Rattle.program.specs.ScriptRuns.{places_after}
 use Rattle.program.proofs.Flowing.{left_as, left_delivered}
 use Rattle.program.proofs.Leaving.{all_rise}
@@ -12,10 +12,11 @@ returns-in-Deliver c = λ cs events steps run named up.
       went.0,
       went.1,
       left_delivered c.args.kind.now c.in-Deliver.place (c.args.self.now.left.items
-          ++ places_after (frames_told steps) (frames_of_step went.0)) c.step.new.self.left.items _
+          ++ places_after (frames_in_steps steps) (frames_of_step went.0))
+          c.step.new.self.left.items _
           c.in-Deliver.is went.2 (c.remove_place.ensures 0
-          (frames_told steps + frames_of_step went.0) (rw went.2 (all_rise
-          c.args.self.now.left.items 0 (frames_told steps) (frames_of_step went.0) up))),
+          (frames_in_steps steps + frames_of_step went.0) (rw went.2 (all_rise
+          c.args.self.now.left.items 0 (frames_in_steps steps) (frames_of_step went.0) up))),
     )
 
 pub returns-in_default : goal.returns-in_default
@@ -25,6 +26,7 @@ returns-in_default c = λ cs events steps run named up.
       went.0,
       went.1,
       left_as c.args.kind.now (c.args.self.now.left.items
-          ++ places_after (frames_told steps) (frames_of_step went.0)) c.step.new.self.left.items
+          ++ places_after (frames_in_steps steps) (frames_of_step went.0))
+          c.step.new.self.left.items
           c.in_default.not-Deliver went.2,
     )

@@ -10,7 +10,7 @@ use Rattle.node.proofs.Outputs.{greater}
 use Rattle.node.proofs.Running.{ends_rule, ends_stopped, stops_before, goes_on}
 use Rattle.node.proofs.Running.{with_core, counts_told, keeps_kept}
 use Rattle.node.proofs.Causes.{on_ok}
-use Rattle.node.proofs.node.Node.pass_on.Goals as goal
+use Rattle.node.proofs.node.Node.on_ack.Goals as goal
 
 -- nothing has changed
 pub returns-in_err-due-clause-ends : goal.returns-in_err-due-clause-ends

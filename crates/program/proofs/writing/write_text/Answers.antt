@@ -1,6 +1,6 @@
 use Rattle.std.proofs.Common.{arith}
 use Rattle.program.proofs.Written.{writes_more}
-use Rattle.program.proofs.writing.write_whole.Goals as goal
+use Rattle.program.proofs.writing.write_text.Goals as goal
 
 pub loop-preserved : goal.loop-preserved
 loop-preserved g c =

@@ -6,7 +6,7 @@ use Rattle.node.specs.Stops.{IsEnvironmental}
 use Rattle.node.proofs.Running.{with_engine, with_core, counts_appended, keeps_kept}
 use Rattle.node.proofs.Running.{holds_appended}
 use Rattle.node.proofs.Running.{stops_between, goes_on, ends_stopped}
-use Rattle.node.proofs.node.Node.take.Goals as goal
+use Rattle.node.proofs.node.Node.append_batch.Goals as goal
 
 -- the store stopped, and a crash leaves its batches with or without the new one
 pub returns-in_err-append-clause-ends : goal.returns-in_err-append-clause-ends

@@ -8,7 +8,7 @@ use Rattle.chain_core.proofs.Queues.{behind_in_order}
 use Rattle.chain_core.specs.CoreState.{core_value}
 use Rattle.chain_core.proofs.Orders.{ordered_told}
 use Rattle.chain_core.proofs.After.{follows_told}
-use Rattle.chain_core.proofs.state.CoreState.pass_on.Goals as goal
+use Rattle.chain_core.proofs.state.CoreState.on_ack.Goals as goal
 
 pub invariant_of-self : goal.invariant_of-self
 invariant_of-self c =

@@ -1,6 +1,6 @@
 use Rattle.std.proofs.Common.{◌≤◌, length, take}
 use Rattle.std.specs.Io.KnownBytes.{Appends}
-use Rattle.program.proofs.writing.write_whole.Given as goal
+use Rattle.program.proofs.writing.write_text.Given as goal
 
 -- a beginning is written
 abbrev pub invariant-loop : goal.invariant-loop
