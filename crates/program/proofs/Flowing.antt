@@ -133,7 +133,8 @@ module _ (cs : Configurations) (events : List lab.Event) (steps : List (List Lin
         all_left old steps (own ++ lines ∷ []) ≡ all_left old steps own
         ++ places_after (frames_in_steps (steps ++ own)) (frames_of_step lines)
     grown own lines =
-        ap (λ (k : ℕ). old ++ places_after (frames_in_steps steps) k) (frames_in_steps-push own lines)
+        ap (λ (k : ℕ). old ++ places_after (frames_in_steps steps) k)
+        (frames_in_steps-push own lines)
         ∙ ap (λ (l : List ℕ). old ++ l)
         (places_after-more (frames_in_steps steps) (frames_in_steps own) (frames_of_step lines))
         ∙ ap (λ (s : ℕ). old ++ (places_after (frames_in_steps steps) (frames_in_steps own)
