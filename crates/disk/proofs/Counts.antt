@@ -1,5 +1,5 @@
 -- The count of failures, over one call and over several.
-use Rattle.std.proofs.Common.{ℕ, ◌-◌, ◌^◌, ◌≤◌, Result, Ok, Err, refl, arith}
+use Rattle.std.proofs.Common.{ℕ, List, Option, ◌-◌, ◌^◌, ◌≤◌, Result, Ok, Err, refl, arith}
 use Rattle.std.specs.Prelude.{IsErrOf}
 use Rattle.std.proofs.lemmas.Bool.{cases_lt}
 use Rattle.std.proofs.Common.{⊎_elim}
@@ -15,15 +15,16 @@ rises_later before now rises =
 
 -- a call that fails raises the count, and no call lowers it
 module _ {D T : Type 0} (is_honest : D → Type 0) (state : D → State) (failures : D → ℕ)
-    (is_reliable : D → Type 0) (old new : D) (cause : Type 0) (IsKept : State → State → Type 0)
+    (is_reliable : D → Type 0) (past : D → List State) (fault_at : D → Option ℕ) (old new : D)
+    (cause : Type 0) (IsKept : State → State → Type 0)
   where
     pub has_risen : (result : Result T DiskError) →
-        CallKeeps is_honest state failures is_reliable old new result cause IsKept →
+        CallKeeps is_honest state failures is_reliable past fault_at old new result cause IsKept →
         IsErrOf result Failed → HasRisen (failures old) (failures new)
     has_risen result keeps failed = λ below. omega (arith, (keeps.disk.failed failed).below below)
 
     pub later : (result : Result T DiskError) →
-        CallKeeps is_honest state failures is_reliable old new result cause IsKept →
+        CallKeeps is_honest state failures is_reliable past fault_at old new result cause IsKept →
         failures old ≤ failures new
     later (Ok x) keeps = omega (arith, keeps.disk.count (λ e. absurd cc))
     later (Err Failed) keeps = rises_later (failures old) (failures new) (keeps.disk.failed refl)

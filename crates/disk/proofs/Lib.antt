@@ -1,8 +1,12 @@
+mod Walks
 pub mod Places
 pub mod Steps
+pub mod Moments
+pub mod Beside
 pub mod Counts
 pub mod Buffers
 pub mod Agreement
 pub mod Numbers
 pub mod Tears
 pub mod Outcomes
+pub mod Devices

@@ -1,6 +1,6 @@
 -- What a crash may leave after a call, by what it may leave before it.
 use Rattle.std.proofs.Common.{ℕ, List, [], Option, Some, None, Result}
-use Rattle.std.proofs.Common.{Ok, Err, sym, subst, inl, inr}
+use Rattle.std.proofs.Common.{Ok, Err, refl, sym, subst, inl, inr}
 use Rattle.std.proofs.Common.{◌≡◌, ap, ◌∙◌, length}
 use Rattle.disk.specs.declared.pending_write.PendingWrite.{PendingWrite}
 use Rattle.disk.specs.declared.error.DiskError.{DiskError}
@@ -72,3 +72,9 @@ sure_left (Kept bytes kept touches) None sure now = absurd now
 sure_left (Kept bytes kept touches) (Some c) sure now =
     ap Some (same_bytes c bytes (λ place. now place (λ loose.
     subst (λ (t : List PendingWrite). IsUnsynced (length kept) t place) sure.1 loose)))
+
+-- the content that a read returns is an outcome
+pub read_is_outcome : (slot : Slot) → IsFileOutcome slot (seen slot)
+read_is_outcome (Absent back) = inl refl
+read_is_outcome (Fresh bytes back) = tt
+read_is_outcome (Kept bytes kept touches) = λ place synced. refl

@@ -9,6 +9,7 @@ use Rattle.disk.specs.declared.error.DiskError.{DiskError}
 use Rattle.disk.specs.declared.error.DiskError.TheVariants.{Failed, NoFile, Short, Memory}
 use Rattle.disk.specs.States.{State, Slot, seen, IsSame, ChangesSlot, MayHaveChanged}
 use Rattle.disk.specs.States.{written, cut_to, synced, removed}
+use Rattle.disk.specs.Faults.{HasStruckBy}
 
 -- a write of this length from this place on would end past the greatest place of a file
 abbrev pub EndsOutOfRange : ℕ → ℕ → Type 0
@@ -25,30 +26,40 @@ pub record RisesByOne (before now : ℕ) : Type 0 where
   pub below : before < 2 ^ 64 - 1 → now ≡ before + 1
   pub last : 2 ^ 64 - 1 ≤ before → now ≡ before
 
+-- the fault that the disk is armed with has struck
+abbrev pub HasStruck : {D : Type 0} → (D → Option ℕ) → (D → List State) → D → Type 0
+HasStruck fault_at past disk = HasStruckBy (fault_at disk) (length (past disk))
+
 -- The effect of a call on a disk with these ghost members, honest or not. `has_failed` says that
 -- the call reports a failure of the device.
 pub record KeepsBy {D : Type 0} (is_honest : D → Type 0) (state : D → State) (failures : D → ℕ)
-    (is_reliable : D → Type 0) (old new : D) (has_failed cause : Type 0)
-    (IsKept : State → State → Type 0) : Type 0 where
+    (is_reliable : D → Type 0) (past : D → List State) (fault_at : D → Option ℕ) (old new : D)
+    (has_failed cause : Type 0) (IsKept : State → State → Type 0) : Type 0 where
   -- the disk is honest after the call exactly if it was before
   pub honest : is_honest new ↔ is_honest old
   -- a failure is reported only where the count rises
   pub failed : has_failed → RisesByOne (failures old) (failures new)
   -- otherwise the count stays the same
   pub count : (has_failed → ⊥) → failures new ≡ failures old
-  -- a reliable disk fails only for this cause
-  pub only : is_reliable old → has_failed → cause
+  -- a reliable disk whose fault has not struck fails only for this cause
+  pub only : is_reliable old → (HasStruck fault_at past new → ⊥) → has_failed → cause
   -- the disk stays reliable after a call that has not failed
   pub reliable : is_reliable old → (has_failed → ⊥) → is_reliable new
   -- the files of an honest disk keep this relation
   pub files : is_honest old → IsKept (state old) (state new)
+  -- a fault that is armed stays armed
+  pub fault : fault_at new ≡ fault_at old
+  -- where it strikes, the call fails
+  pub spared : (HasStruck fault_at past old → ⊥) → (has_failed → ⊥) →
+      HasStruck fault_at past new → ⊥
 
 -- The effect of one of the disk's own calls. At the last value of the count it only fails.
 pub record CallKeeps {D T : Type 0} (is_honest : D → Type 0) (state : D → State)
-    (failures : D → ℕ) (is_reliable : D → Type 0) (old new : D) (result : Result T DiskError)
+    (failures : D → ℕ) (is_reliable : D → Type 0) (past : D → List State)
+    (fault_at : D → Option ℕ) (old new : D) (result : Result T DiskError)
     (cause : Type 0) (IsKept : State → State → Type 0) : Type 0 where
-  pub disk : KeepsBy is_honest state failures is_reliable old new (IsErrOf result Failed) cause
-      IsKept
+  pub disk : KeepsBy is_honest state failures is_reliable past fault_at old new
+      (IsErrOf result Failed) cause IsKept
   pub last : 2 ^ 64 - 1 ≤ failures old → IsErrOf result Failed
 
 -- ---- the calls that read
@@ -138,3 +149,8 @@ RemoveOutcome old file (Ok _) new = IsSome (seen (old file)) × ChangesSlot old 
     (removed (old file))
 RemoveOutcome old file (Err e) new = FailureLeaves e old file (removed (old file)) new × IsRefusalOf
     e old file 0
+
+-- The effect of a write that was begun. One that would end out of range has none.
+abbrev pub BegunWrite : {T : Type 0} → State → ℕ → ℕ → List ℕ → Result T DiskError → State → Type 0
+BegunWrite old file at bytes answer new =
+    (EndsOutOfRange at (length bytes) × IsSame old new) ⊎ WriteOutcome old file at bytes answer new

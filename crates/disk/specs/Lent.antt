@@ -1,11 +1,24 @@
--- The effect of a call on a disk that is passed to it.
+-- The effect of a call on a disk that is passed to it, and of arming it with a fault.
 use Rattle.disk.specs.declared.disk.Disk.{Ghosts}
-use Rattle.disk.specs.States.{State}
+use Rattle.std.specs.Prelude.{◌≡◌, ◌↔◌, length}
+use Rattle.disk.specs.declared.fault.Fault.{Fault}
+use Rattle.disk.specs.States.{State, IsSame}
 use Rattle.disk.specs.Calls.{KeepsBy}
+use Rattle.disk.specs.Faults.{armed_after, struck_call}
 
 -- The disk is honest exactly if it was, and its count of failures rises exactly where `has_failed`.
 -- A reliable disk fails only for this cause, and otherwise stays reliable. The last
 -- argument relates the files of an honest disk before and after the call.
 abbrev pub KeepsDisk : {D : Type 0} → Ghosts D → (old new : D) → (has_failed cause : Type 0) →
     (State → State → Type 0) → Type 0
-KeepsDisk g = KeepsBy g.is_honest g.state g.failures g.is_reliable
+KeepsDisk g = KeepsBy g.is_honest g.state g.failures g.is_reliable g.past g.fault_at
+
+-- the disk was armed with this fault, and is the same otherwise
+pub record IsArmed {D : Type 0} (g : Ghosts D) (fault : Fault) (old new : D) : Type 0 where
+  pub honest : g.is_honest new ↔ g.is_honest old
+  pub count : g.failures new ≡ g.failures old
+  pub reliable : g.is_reliable old → g.is_reliable new
+  pub same : g.is_honest old → IsSame (g.state old) (g.state new)
+  pub past : g.past new ≡ g.past old
+  pub strikes : g.is_honest old →
+      g.fault_at new ≡ armed_after (length (g.past old)) (struck_call fault)

@@ -1,5 +1,8 @@
 pub mod States
 pub mod Calls
+pub mod Moments
+pub mod Faults
+pub mod Devices
 pub mod Lent
 pub mod Piece
 pub mod Buffer
@@ -9,10 +12,12 @@ pub mod Held
 pub mod Memory
 pub mod Crashes
 -- What crates above name.
-pub use Rattle.disk.specs.Calls.{EndsOutOfRange, RisesByOne, WriteOutcome}
+pub use Rattle.disk.specs.Calls.{EndsOutOfRange, HasStruck, RisesByOne, WriteOutcome}
 pub use Rattle.disk.specs.Crashes.{CrashOutcome, CrashedIsDurable}
-pub use Rattle.disk.specs.Lent.{KeepsDisk}
-pub use Rattle.disk.specs.Memory.{IsReliable, Slots, state_of}
+pub use Rattle.disk.specs.Faults.{HasStruckBy, armed_after, struck_call}
+pub use Rattle.disk.specs.Lent.{IsArmed, KeepsDisk}
+pub use Rattle.disk.specs.Memory.{IsReliable, Slots, past_states, state_of}
+pub use Rattle.disk.specs.Moments.{AllLeave, IsLeftAt, LeavesSince, OnlyLeaves, Passes}
 pub use Rattle.disk.specs.States.{Absent, AddsNoOutcome, Contents, DurableIsLeft, Fresh}
 pub use Rattle.disk.specs.States.{IsCrashOutcome, IsDurable, IsFileOutcome, IsSame, IsSameBut}
 pub use Rattle.disk.specs.States.{IsUnsynced, Kept, Slot, State, contents, overwritten, seen}

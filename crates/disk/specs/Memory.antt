@@ -1,16 +1,20 @@
 -- A disk in memory, as a state.
-use Rattle.std.specs.Prelude.{ℕ, ◌-◌, ◌^◌, ◌<◌, List, length, Option, Some, None}
+use Rattle.std.specs.Prelude.{ℕ, ◌-◌, ◌^◌, ◌<◌, List, length, map, Option, Some, None}
 use Rattle.std.specs.Map.{lookup}
 use Rattle.std.specs.BTreeMap.{is_at}
 use Rattle.std.specs.Ordering.{nat_cmp}
 use Rattle.disk.specs.States.{Slot, Absent, Fresh, Kept, State, AgreesOutside}
 
--- the slots by number, and the count of failed calls
+-- the slots by number, the count of failed calls, the slots that each call left, the latest first,
+-- and the call that an armed fault strikes, by its number among all calls
 pub record Slots : Type 0 where
   pub slots : List (ℕ × Slot)
   pub failures : ℕ
+  pub past : List (List (ℕ × Slot))
+  pub fault_at : Option ℕ
 
--- a call with valid arguments does not fail: the count of failures is below its last value
+-- a call with valid arguments fails only where a fault struck: the count of failures is below its
+-- last value
 abbrev pub IsReliable : Slots → Type 0
 IsReliable disk = disk.failures < 2 ^ 64 - 1
 
@@ -22,6 +26,10 @@ slot_found (Some slot) = slot
 -- a disk in memory, as a state by file number
 abbrev pub state_of : List (ℕ × Slot) → State
 state_of slots file = slot_found (lookup (is_at (nat_cmp file)) slots)
+
+-- the states that its calls left, the latest first
+abbrev pub past_states : Slots → List State
+past_states disk = map state_of disk.past
 
 -- The synced bytes agree with the bytes that a read returns, in all synced places. Every reachable
 -- state has this property.

@@ -1,26 +1,31 @@
 // Disks that can be made to fail and to crash.
-ghost use Rattle.std.specs.Prelude.{◌≡◌, ◌↔◌};
-ghost use Rattle.disk.specs.States.{IsSame, IsCrashOutcome, contents};
+ghost use Rattle.std.specs.Prelude.{◌≡◌, ◌↔◌, None, IsTrue};
+ghost use Rattle.disk.specs.Calls.{HasStruck};
+ghost use Rattle.disk.specs.Lent.{IsArmed};
+ghost use Rattle.disk.specs.States.{IsCrashOutcome, contents};
 ghost use Rattle.disk.specs.Crashes.{CrashOutcome};
 
 use crate::{Disk, Fault, Junk};
 
 /// A disk that can be made to fail and to crash, for tests and simulation.
 pub trait Crash: Disk {
-    /// Arms a fault for the next calls. It has no effect yet.
-    fn arm(&mut self, fault: Fault)
-        ensures honest { Self.is_honest self.new ↔ Self.is_honest self.old }
-        ensures count { Self.failures self.new ≡ Self.failures self.old }
-        ensures reliable { fault ≡ Fault.None →
-            Self.is_reliable self.old → Self.is_reliable self.new }
-        ensures same { Self.is_honest self.old →
-            IsSame (Self.state self.old) (Self.state self.new) };
+    /// Arms the disk with a fault at one of its next calls, or with none. The call that it strikes
+    /// fails, and has begun: what it writes or cuts is unsynced, what it syncs is not durable, what
+    /// it removes may be back. Every later call fails, and changes nothing, until the disk is armed
+    /// again or crashes.
+    fn arm(&mut self, fault: &Fault)
+        ensures { IsArmed Self.Disk fault.now self.old self.new };
 
-    /// Crashes and restarts the machine. It allocates no memory.
+    /// Whether the fault has struck.
+    fn has_struck(&self) -> bool
+        ensures { IsTrue result ↔ HasStruck Self.fault_at Self.past self.now };
+
+    /// Crashes and restarts the machine. A fault is forgotten. It allocates no memory.
     fn crash(&mut self, junk: Junk)
         ensures honest { Self.is_honest self.new ↔ Self.is_honest self.old }
         ensures count { Self.failures self.new ≡ Self.failures self.old }
         ensures reliable { Self.is_reliable self.old → Self.is_reliable self.new }
+        ensures past { (Self.past self.new ≡ Self.past self.old) × (Self.fault_at self.new ≡ None) }
         ensures crashes { Self.is_honest self.old →
             CrashOutcome junk (Self.state self.old) (Self.state self.new) }
         ensures allowed { Self.is_honest self.old →

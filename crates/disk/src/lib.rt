@@ -3,10 +3,12 @@
 
 mod buffer;
 mod crash;
+mod device;
 mod disk;
 mod error;
 mod fault;
 mod file;
+mod history;
 mod junk;
 pub mod laws;
 mod memory;

@@ -1,14 +1,16 @@
 // A disk in memory.
 ghost use Rattle.std.specs.Prelude.{◌≡◌, ◌≢◌, ℕ, ◌+◌, ◌-◌, ◌^◌, ◌<◌, ◌≤◌, length, min};
-ghost use Rattle.std.specs.Prelude.{IfOk, OnOk, OnErr, Err, Some, None};
+ghost use Rattle.std.specs.Prelude.{◌↔◌, IfOk, OnOk, OnErr, Err, Some, None, [], IsTrue};
 ghost use Rattle.std.specs.BTreeMap.{insert_entry};
 ghost use Rattle.std.specs.Ordering.{nat_cmp};
 ghost use Rattle.disk.specs.States.{IsSame, Absent, seen};
-ghost use Rattle.disk.specs.Calls.{ListsFiles, WriteOutcome, CutOutcome, SyncOutcome};
-ghost use Rattle.disk.specs.Calls.{RemoveOutcome};
+ghost use Rattle.disk.specs.Calls.{CutOutcome, EndsOutOfRange, LengthAnswer, ListsFiles, ReadAnswer};
+ghost use Rattle.disk.specs.Calls.{RemoveOutcome, SyncOutcome, WriteOutcome};
+ghost use Rattle.disk.specs.Faults.{WasMade};
 ghost use Rattle.disk.specs.Crashes.{CrashOutcome};
-ghost use Rattle.disk.specs.Memory.{state_of, IsReliable};
+ghost use Rattle.disk.specs.Memory.{state_of, past_states, IsReliable};
 
+use crate::device::Device;
 use crate::slot::MemSlot;
 use crate::{Crash, Disk, DiskError, Fault, Junk};
 use std::alloc::{AllocError, Global};
@@ -20,7 +22,7 @@ use std::marker::Model;
 pub struct MemDisk {
     alloc: Global,
     slots: BTreeMap<u64, MemSlot>,
-    failures: u64,
+    device: Device,
 }
 
 impl Model for MemDisk {
@@ -28,7 +30,12 @@ impl Model for MemDisk {
 
     ghost Value = { Slots };
 
-    ghost view = { λ disk. record { slots = disk.slots.entries; failures = disk.failures } };
+    ghost view = { λ disk. record {
+        slots = disk.slots.entries;
+        failures = disk.device.failures;
+        past = disk.device.past;
+        fault_at = disk.device.fault_at;
+    } };
 
     ghost invariant = { λ disk. AllKeptAgree (state_of disk.slots.entries) };
 }
@@ -36,42 +43,40 @@ impl Model for MemDisk {
 // The greatest place where a file may end.
 const MAX_LEN: u64 = (1 << 63) - 1;
 
+fn ends_out_of_range(at: u64, len: usize) -> bool
+    ensures { IsTrue result ↔ EndsOutOfRange at len }
+{
+    at > MAX_LEN || len as u64 > MAX_LEN - at
+}
+
 impl MemDisk {
     /// A disk without files.
     pub fn new(alloc: Global) -> MemDisk
         ensures empty { (file : ℕ) → state_of result.slots file ≡ Absent None }
         ensures count { result.failures ≡ 0 }
         ensures reliable { IsReliable result }
+        ensures past { result.past ≡ [] }
+        ensures fault { result.fault_at ≡ None }
     {
         MemDisk {
             alloc,
             slots: BTreeMap::new(alloc),
-            failures: 0,
+            device: Device::new(),
         }
     }
 
-    // Fails where the count of failures is at its last value.
-    fn at_work(&self) -> Result<(), DiskError>
-        ensures ok { OnOk result (self.now.failures < 2 ^ 64 - 1) }
-        ensures last { OnErr result (2 ^ 64 - 1 ≤ self.now.failures) }
-        ensures failed { OnErr result (result ≡ Err DiskError.Failed) }
-    {
-        if self.failures == u64::MAX {
-            return Err(DiskError::Failed);
-        }
-        Ok(())
-    }
-
-    /// A disk with the same slots and the same count of failures.
+    /// A disk with the same slots, the same count of failures and the same fault.
     pub fn clone(&self) -> Result<MemDisk, AllocError>
         ensures same { IfOk result (λ disk.
             IsSame (state_of self.now.slots) (state_of disk.slots)) }
         ensures count { IfOk result (λ disk. disk.failures ≡ self.now.failures) }
+        ensures fault { IfOk result (λ disk.
+            (disk.past ≡ self.now.past) × (disk.fault_at ≡ self.now.fault_at)) }
     {
         Ok(MemDisk {
             alloc: self.alloc,
             slots: clone_slots(self.alloc, &self.slots)?,
-            failures: self.failures,
+            device: self.device.clone(),
         })
     }
 }
@@ -107,8 +112,16 @@ fn bytes_of(slots: &BTreeMap<u64, MemSlot>, file: u64) -> Result<&[u8], DiskErro
     }
 }
 
-fn numbers(alloc: Global, slots: &BTreeMap<u64, MemSlot>) -> Result<Vec<u64>, AllocError>
-    ensures { IfOk result (λ numbers. ListsFiles (state_of slots.now.entries) numbers.items) }
+fn length_in(slots: &BTreeMap<u64, MemSlot>, file: u64) -> Result<u64, DiskError>
+    ensures length { LengthAnswer (state_of slots.now.entries) file result }
+    ensures made { WasMade result }
+{
+    Ok(bytes_of(slots, file)?.len() as u64)
+}
+
+fn numbers(alloc: Global, slots: &BTreeMap<u64, MemSlot>) -> Result<Vec<u64>, DiskError>
+    ensures lists { IfOk result (λ numbers. ListsFiles (state_of slots.now.entries) numbers.items) }
+    ensures err { OnErr result (result ≡ Err DiskError.Memory) }
 {
     let mut numbers = Vec::new(alloc);
     for (number, slot) in slots {
@@ -190,6 +203,28 @@ fn remove_in(slots: &mut BTreeMap<u64, MemSlot>, file: u64) -> Result<(), DiskEr
     Ok(())
 }
 
+fn read_in(
+    slots: &BTreeMap<u64, MemSlot>,
+    file: u64,
+    at: u64,
+    into: &mut [u8],
+) -> Result<(), DiskError>
+    ensures reads { ReadAnswer (state_of slots.now.entries) file at (length into.old) result
+        into.new }
+    ensures made { WasMade result }
+{
+    let bytes = bytes_of(slots, file)?;
+    if at > bytes.len() as u64 {
+        return Err(DiskError::Short);
+    }
+    let rest = &bytes[at as usize..];
+    if rest.len() < into.len() {
+        return Err(DiskError::Short);
+    }
+    into.copy_from_slice(&rest[..into.len()]);
+    Ok(())
+}
+
 impl Disk for MemDisk {
     ghost is_honest = { λ disk. Unit {0} };
 
@@ -199,54 +234,73 @@ impl Disk for MemDisk {
 
     ghost is_reliable = { IsReliable };
 
+    ghost past = { past_states };
+
+    ghost fault_at = { λ disk. disk.fault_at };
+
     ghost allocates = { ⊥ };
 
     fn files(&mut self) -> Result<Vec<u64>, DiskError> {
-        self.at_work()?;
-        Ok(numbers(self.alloc, &self.slots)?)
+        if !self.device.works() {
+            return self.device.fail(&self.slots);
+        }
+        let answer = numbers(self.alloc, &self.slots);
+        self.device.end(&self.slots, answer)
     }
 
     fn length(&mut self, file: u64) -> Result<u64, DiskError> {
-        self.at_work()?;
-        Ok(bytes_of(&self.slots, file)?.len() as u64)
+        if !self.device.works() {
+            return self.device.fail(&self.slots);
+        }
+        let answer = length_in(&self.slots, file);
+        self.device.end(&self.slots, answer)
     }
 
     fn read(&mut self, file: u64, at: u64, into: &mut [u8]) -> Result<(), DiskError> {
-        self.at_work()?;
-        let bytes = bytes_of(&self.slots, file)?;
-        if at > bytes.len() as u64 {
-            return Err(DiskError::Short);
+        if !self.device.works() {
+            return self.device.fail(&self.slots);
         }
-        let rest = &bytes[at as usize..];
-        if rest.len() < into.len() {
-            return Err(DiskError::Short);
-        }
-        into.copy_from_slice(&rest[..into.len()]);
-        Ok(())
+        let answer = read_in(&self.slots, file, at, into);
+        self.device.end(&self.slots, answer)
     }
 
     fn write_at(&mut self, file: u64, at: u64, bytes: &[u8]) -> Result<(), DiskError> {
-        self.at_work()?;
-        if at > MAX_LEN || bytes.len() as u64 > MAX_LEN - at {
-            self.failures += 1;
-            return Err(DiskError::Failed);
+        if ends_out_of_range(at, bytes.len()) {
+            return self.device.fail(&self.slots);
         }
-        write_in(self.alloc, &mut self.slots, file, at, bytes)
+        if !self.device.works() {
+            return self.device.fail(&self.slots);
+        }
+        let answer = write_in(self.alloc, &mut self.slots, file, at, bytes);
+        self.device.end(&self.slots, answer)
     }
 
     fn cut(&mut self, file: u64, length: u64) -> Result<(), DiskError> {
-        self.at_work()?;
-        cut_in(&mut self.slots, file, length)
+        if !self.device.works() {
+            return self.device.fail(&self.slots);
+        }
+        let answer = cut_in(&mut self.slots, file, length);
+        self.device.end(&self.slots, answer)
     }
 
     fn sync(&mut self, file: u64) -> Result<(), DiskError> {
-        self.at_work()?;
-        sync_in(self.alloc, &mut self.slots, file)
+        if !self.device.works() {
+            return self.device.fail(&self.slots);
+        }
+        // A sync that was begun has made nothing durable.
+        if self.device.strikes_next() {
+            return self.device.fail(&self.slots);
+        }
+        let answer = sync_in(self.alloc, &mut self.slots, file);
+        self.device.end(&self.slots, answer)
     }
 
     fn remove(&mut self, file: u64) -> Result<(), DiskError> {
-        self.at_work()?;
-        remove_in(&mut self.slots, file)
+        if !self.device.works() {
+            return self.device.fail(&self.slots);
+        }
+        let answer = remove_in(&mut self.slots, file);
+        self.device.end(&self.slots, answer)
     }
 }
 
@@ -262,9 +316,16 @@ fn crash_in(alloc: Global, slots: &mut BTreeMap<u64, MemSlot>, junk: &Junk)
 }
 
 impl Crash for MemDisk {
-    fn arm(&mut self, _fault: Fault) {}
+    fn arm(&mut self, fault: &Fault) {
+        self.device.arm(fault);
+    }
+
+    fn has_struck(&self) -> bool {
+        self.device.has_struck()
+    }
 
     fn crash(&mut self, junk: Junk) {
         crash_in(self.alloc, &mut self.slots, &junk);
+        self.device.arm(&Fault::None);
     }
 }

@@ -7,8 +7,8 @@ use Rattle.disk.proofs.Numbers.{numbers_of, lists_numbers}
 use Rattle.disk.proofs.memory.numbers.Goals as goal
 
 -- none is left
-pub returns : goal.returns
-returns c =
+pub returns-clause-lists : goal.returns-clause-lists
+returns-clause-lists c =
     let all : c.loop-number.numbers.items ≡ numbers_of c.args.slots.now.entries =
     grind (arith, common_steps) in
     subst (ListsFiles (state_of c.args.slots.now.entries)) (sym all)

@@ -3,8 +3,9 @@ use Rattle.disk.proofs.Agreement.{cuts_agree}
 use Rattle.disk.proofs.memory.MemDiskDisk.cut.Goals as goal
 
 -- a cut keeps the agreement
-pub invariant_of-self : goal.invariant_of-self
-invariant_of-self c =
-    cuts_agree c.cut_in.result (state_of c.self.inside.slots.entries)
-    (state_of c.cut_in.new.slots.entries)
-    c.args.file c.args.length c.cut_in.ensures.cuts c.cut_in.ensures.other c.self.invariant
+pub invariant_of-self-2 : goal.invariant_of-self-2
+invariant_of-self-2 c =
+    cuts_agree c.cut_in-answer.result (state_of c.self.inside.slots.entries)
+    (state_of c.cut_in-answer.new.slots.entries)
+    c.args.file c.args.length c.cut_in-answer.ensures.cuts c.cut_in-answer.ensures.other
+    c.self.invariant

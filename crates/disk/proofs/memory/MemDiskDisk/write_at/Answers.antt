@@ -1,10 +1,28 @@
-use Rattle.disk.specs.Memory.{state_of}
+use Rattle.std.proofs.Common.{List, map, refl, inl, subst}
+use Rattle.disk.specs.States.{State}
+use Rattle.disk.specs.Calls.{BegunWrite}
+use Rattle.disk.specs.Faults.{CallPasses}
+use Rattle.disk.specs.Memory.{IsReliable, Slots, past_states, state_of}
 use Rattle.disk.proofs.Agreement.{writes_agree}
+use Rattle.disk.proofs.Devices.{fail_passes}
 use Rattle.disk.proofs.memory.MemDiskDisk.write_at.Goals as goal
+
+-- a write that would end out of range has no effect
+pub returns-then-ends_out_of_range-clause-passes : goal.returns-then-ends_out_of_range-clause-passes
+returns-then-ends_out_of_range-clause-passes c = λ honest.
+    let slots = c.self.inside.slots.entries in
+    let since : List State = map state_of c.fail.new.self.past in
+    subst (λ (disk : Slots). CallPasses (past_states disk) since disk.fault_at (IsReliable disk)
+    c.fail.result (state_of disk.slots) (state_of slots)
+    (BegunWrite (state_of disk.slots) c.args.file c.args.at c.args.bytes.now))
+    c.self.view_is
+    (fail_passes _ slots c.self.inside.device c.fail.new.self c.fail.result _
+    (BegunWrite (state_of slots) c.args.file c.args.at c.args.bytes.now) c.fail.ensures
+    (inl (c.ends_out_of_range.ensures.0 c.if-ends_out_of_range.true, λ file. refl)))
 
 -- a write keeps the agreement
 pub invariant_of-self-2 : goal.invariant_of-self-2
 invariant_of-self-2 c =
-    writes_agree c.write_in.result (state_of c.self.inside.slots.entries)
-    (state_of c.write_in.new.slots.entries) c.args.file c.args.at c.args.bytes.now
-    c.write_in.ensures.writes c.write_in.ensures.other c.self.invariant
+    writes_agree c.write_in-answer.result (state_of c.self.inside.slots.entries)
+    (state_of c.write_in-answer.new.slots.entries) c.args.file c.args.at c.args.bytes.now
+    c.write_in-answer.ensures.writes c.write_in-answer.ensures.other c.self.invariant

@@ -1,0 +1,59 @@
+-- The device behind a disk in memory: its failures, the states that its calls left, and its fault.
+use Rattle.std.specs.Prelude.{◌≡◌, ◌⊎◌, ℕ, suc, ◌+◌, ◌-◌, ◌^◌, ◌<◌, List, ◌∷◌, length}
+use Rattle.std.specs.Prelude.{Option, Some, None, Result, Ok, Err, IsErrOf}
+use Rattle.disk.specs.declared.error.DiskError.{DiskError}
+use Rattle.disk.specs.declared.error.DiskError.TheVariants.{Failed, Memory}
+use Rattle.disk.specs.declared.device.Armed.{Armed}
+use Rattle.disk.specs.States.{Slot}
+use Rattle.disk.specs.Calls.{RisesByOne}
+use Rattle.disk.specs.Faults.{WasMade}
+
+-- how often it failed, the slots that its calls left, the latest first, and the call that its fault
+-- strikes, by its number among all calls
+pub record DeviceState : Type 0 where
+  pub failures : ℕ
+  pub past : List (List (ℕ × Slot))
+  pub fault_at : Option ℕ
+
+-- the call that a fault strikes, which was armed after these
+abbrev pub strikes_at : {A : Type 0} → List A → Option Armed → Option ℕ
+strikes_at before None = None
+strikes_at before (Some fault) = Some (length before + fault.call)
+
+-- The calls that are left to the fault are those that were not made since it was armed. It is armed
+-- for a call to come.
+abbrev pub IsLeftOf : {A : Type 0} → List A → List A → Option Armed → Type 0
+IsLeftOf before past None = Unit {0}
+IsLeftOf before past (Some fault) = fault.left ≡ length before + fault.call - length past
+
+-- the fault strikes the next call
+abbrev pub IsNext : DeviceState → Type 0
+IsNext device = device.fault_at ≡ Some (suc (length device.past))
+
+-- a call was counted that left these slots
+pub record IsCounted (slots : List (ℕ × Slot)) (old new : DeviceState) : Type 0 where
+  pub past : new.past ≡ slots ∷ old.past
+  pub fault : new.fault_at ≡ old.fault_at
+
+-- a call failed, and left these slots
+pub record DeviceFails {T : Type 0} (slots : List (ℕ × Slot)) (old new : DeviceState)
+    (result : Result T DiskError) : Type 0 where
+  pub counted : IsCounted slots old new
+  pub rises : RisesByOne old.failures new.failures
+  pub is : result ≡ Err Failed
+
+-- how a call with this answer ends
+pub data AnswerEnds {T : Type 0} (slots : List (ℕ × Slot)) (old new : DeviceState)
+    (answer result : Result T DiskError) : Type 0 where
+  -- it wants memory, and was not made
+  Wants : answer ≡ Err Memory → result ≡ Err Memory → new ≡ old →
+      AnswerEnds slots old new answer result
+  -- the device fails
+  Fails : answer ≡ Err Failed → DeviceFails slots old new result →
+      AnswerEnds slots old new answer result
+  -- the fault strikes it
+  IsStruck : WasMade answer → IsNext old → DeviceFails slots old new result →
+      AnswerEnds slots old new answer result
+  -- it is answered
+  Answers : WasMade answer → (IsNext old → ⊥) → result ≡ answer → IsCounted slots old new →
+      new.failures ≡ old.failures → AnswerEnds slots old new answer result

@@ -1,0 +1,160 @@
+// The device behind a disk in memory: how often it failed, and the fault that it is armed with.
+ghost use Rattle.std.specs.Prelude.{◌≡◌, ◌↔◌, ◌-◌, ◌^◌, ◌<◌, [], ◌∷◌, length, None, IsTrue};
+ghost use Rattle.disk.specs.Faults.{HasStruckBy, armed_after, struck_call};
+ghost use Rattle.disk.specs.Devices.{AnswerEnds, DeviceFails, IsNext};
+
+use crate::history::History;
+use crate::slot::MemSlot;
+use crate::{DiskError, Fault};
+use std::collections::BTreeMap;
+use std::marker::Model;
+
+/// A fault that the device is armed with.
+#[derive(Clone, Copy, Debug)]
+pub struct Armed {
+    // The call that it strikes, from 1 from the moment that it was armed, and how many calls are
+    // left to it, with itself.
+    call: u64,
+    left: u64,
+}
+
+#[derive(Drop)]
+pub struct Device {
+    failures: u64,
+    fault: Option<Armed>,
+    // The slots after each call so far, now and as they were when the fault was armed.
+    history: History<BTreeMap<u64, MemSlot>>,
+    at_arming: History<BTreeMap<u64, MemSlot>>,
+}
+
+impl Model for Device {
+    ghost use Rattle.std.specs.Prelude.{map};
+    ghost use Rattle.disk.specs.Devices.{DeviceState, IsLeftOf, strikes_at};
+
+    ghost Value = { DeviceState };
+
+    ghost view = { λ device. record {
+        failures = device.failures;
+        past = map (λ it. it.entries) device.history.past;
+        fault_at = strikes_at device.at_arming.past device.fault;
+    } };
+
+    ghost invariant = { λ device. IsLeftOf device.at_arming.past device.history.past device.fault };
+}
+
+impl Device {
+    pub fn new() -> Device
+        ensures failures { result.failures ≡ 0 }
+        ensures past { result.past ≡ [] }
+        ensures fault { result.fault_at ≡ None }
+    {
+        Device {
+            failures: 0,
+            fault: None,
+            history: History::new(),
+            at_arming: History::new(),
+        }
+    }
+
+    /// A device with the same failures, the same fault and the same past.
+    pub fn clone(&self) -> Device
+        ensures { result ≡ self.now }
+    {
+        Device {
+            failures: self.failures,
+            fault: self.fault,
+            history: self.history.copy(),
+            at_arming: self.at_arming.copy(),
+        }
+    }
+
+    /// Arms it with a fault, or with none.
+    pub fn arm(&mut self, fault: &Fault)
+        ensures failures { self.new.failures ≡ self.old.failures }
+        ensures past { self.new.past ≡ self.old.past }
+        ensures fault { self.new.fault_at ≡
+            armed_after (length self.old.past) (struck_call fault.now) }
+    {
+        self.at_arming = self.history.copy();
+        self.fault = match fault {
+            Fault::None | Fault::Fail(0) | Fault::Stop(0, _) => None,
+            Fault::Fail(call) | Fault::Stop(call, _) => Some(Armed {
+                call: *call,
+                left: *call,
+            }),
+        };
+    }
+
+    /// Whether the fault has struck.
+    pub fn has_struck(&self) -> bool
+        ensures { IsTrue result ↔ HasStruckBy self.now.fault_at (length self.now.past) }
+    {
+        match self.fault {
+            None => false,
+            Some(fault) => fault.left == 0,
+        }
+    }
+
+    /// Whether the fault strikes the next call.
+    pub fn strikes_next(&self) -> bool
+        ensures { IsTrue result ↔ IsNext self.now }
+    {
+        match self.fault {
+            None => false,
+            Some(fault) => fault.left == 1,
+        }
+    }
+
+    /// Whether the next call is made at all: the fault has not struck, and the count of failures is
+    /// below its last value.
+    pub fn works(&self) -> bool
+        ensures { IsTrue result ↔ ((self.now.failures < 2 ^ 64 - 1)
+            × (HasStruckBy self.now.fault_at (length self.now.past) → ⊥)) }
+    {
+        self.failures < u64::MAX && !self.has_struck()
+    }
+
+    // Counts a call, which left these slots.
+    fn count(&mut self, slots: &BTreeMap<u64, MemSlot>)
+        ensures failures { self.new.failures ≡ self.old.failures }
+        ensures past { self.new.past ≡ slots.now.entries ∷ self.old.past }
+        ensures fault { self.new.fault_at ≡ self.old.fault_at }
+    {
+        self.history = self.history.with(slots);
+        self.fault = match self.fault {
+            None => None,
+            Some(Armed { call, left }) => Some(Armed {
+                call,
+                left: left.saturating_sub(1),
+            }),
+        };
+    }
+
+    /// A call fails. At its last value the count of failures stays.
+    pub fn fail<T>(&mut self, slots: &BTreeMap<u64, MemSlot>) -> Result<T, DiskError>
+        ensures { DeviceFails slots.now.entries self.old self.new result }
+    {
+        self.count(slots);
+        self.failures = self.failures.saturating_add(1);
+        Err(DiskError::Failed)
+    }
+
+    /// A call ends that has this answer, unless the fault strikes it.
+    pub fn end<T: Drop>(
+        &mut self,
+        slots: &BTreeMap<u64, MemSlot>,
+        answer: Result<T, DiskError>,
+    ) -> Result<T, DiskError>
+        ensures { AnswerEnds slots.now.entries self.old self.new answer result }
+    {
+        match answer {
+            Err(DiskError::Memory) => Err(DiskError::Memory),
+            Err(DiskError::Failed) => self.fail(slots),
+            _ if self.strikes_next() => self.fail(slots),
+            answer => {
+                self.count(slots);
+                answer
+            }
+        }
+    }
+}
