@@ -2,7 +2,8 @@
 use Rattle.disk.specs.declared.disk.Disk.{Ghosts}
 use Rattle.std.specs.Prelude.{◌≡◌, ◌↔◌, length}
 use Rattle.disk.specs.declared.fault.Fault.{Fault}
-use Rattle.disk.specs.States.{State, IsSame}
+use Rattle.disk.specs.States.{State, Contents, IsCrashOutcome, IsSame}
+use Rattle.disk.specs.Moments.{LeavesSince}
 use Rattle.disk.specs.Calls.{KeepsBy}
 use Rattle.disk.specs.Faults.{armed_after, struck_call}
 
@@ -12,6 +13,14 @@ use Rattle.disk.specs.Faults.{armed_after, struck_call}
 abbrev pub KeepsDisk : {D : Type 0} → Ghosts D → (old new : D) → (has_failed cause : Type 0) →
     (State → State → Type 0) → Type 0
 KeepsDisk g = KeepsBy g.is_honest g.state g.failures g.is_reliable g.past g.fault_at
+
+-- a crash at any moment since the call began leaves only contents with P
+abbrev pub AlwaysLeaves : {D : Type 0} → Ghosts D → (old new : D) → (Contents → Type 0) → Type 0
+AlwaysLeaves g old new P = LeavesSince (g.state old) (g.past old) (g.state new) (g.past new) P
+
+-- a crash at any moment since the call began leaves only what it might have left before
+abbrev pub IsStill : {D : Type 0} → Ghosts D → (old new : D) → Type 0
+IsStill g old new = g.is_honest old → AlwaysLeaves g old new (IsCrashOutcome (g.state old))
 
 -- the disk was armed with this fault, and is the same otherwise
 pub record IsArmed {D : Type 0} (g : Ghosts D) (fault : Fault) (old new : D) : Type 0 where

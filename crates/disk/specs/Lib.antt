@@ -15,7 +15,7 @@ pub mod Crashes
 pub use Rattle.disk.specs.Calls.{EndsOutOfRange, HasStruck, RisesByOne, WriteOutcome}
 pub use Rattle.disk.specs.Crashes.{CrashOutcome, CrashedIsDurable}
 pub use Rattle.disk.specs.Faults.{HasStruckBy, armed_after, struck_call}
-pub use Rattle.disk.specs.Lent.{IsArmed, KeepsDisk}
+pub use Rattle.disk.specs.Lent.{AlwaysLeaves, IsArmed, IsStill, KeepsDisk}
 pub use Rattle.disk.specs.Memory.{IsReliable, Slots, past_states, state_of}
 pub use Rattle.disk.specs.Moments.{AllLeave, IsLeftAt, LeavesSince, OnlyLeaves, Passes}
 pub use Rattle.disk.specs.States.{Absent, AddsNoOutcome, Contents, DurableIsLeft, Fresh}

@@ -2,7 +2,7 @@
 ghost use Rattle.std.specs.Prelude.{◌≡◌, ℕ, ◌+◌, ◌-◌, length, replicate};
 ghost use Rattle.std.specs.Prelude.{◌<◌, ◌≤◌, suc, OnOk, IfOk, IfErr, MatchResult, IsErrAnd};
 ghost use Rattle.kv_types.specs.declared.bounds.TheConstants.{MAX_NUMBER};
-ghost use Rattle.disk.specs.{contents, KeepsDisk};
+ghost use Rattle.disk.specs.{contents, IsArmed, KeepsDisk};
 ghost use Rattle.chain_model.specs.{created, started, accept, append, forwards, on_ack, resend};
 ghost use Rattle.chain_model.specs.{reply_read};
 ghost use Rattle.node.specs.Engines.{EngineHolds, HasNumbersOf, IsUsable};
@@ -12,7 +12,7 @@ ghost use Rattle.node.specs.Starts.{IsStarted, StartRefusal, disk_behind};
 ghost use Rattle.chain_core.specs.{Machine, CoreRefines, answer_to, done_of, rule_of, AreFrames};
 ghost use Rattle.chain_core.specs.{DecisionFitsCount, IsReadOf};
 ghost use Rattle.chain_core.specs.declared.Decision.{Decision};
-ghost use Rattle.node.specs.Steps.{NodeRefines, DiskAlwaysRefines, IsReady, disk_of};
+ghost use Rattle.node.specs.Steps.{NodeRefines, DiskAlwaysRefines, IsReady, disk_of, engine_of};
 ghost use Rattle.node.specs.Outputs.{CallRefines, StepEnds, NodeFollows, HasAppended, KeepsNode};
 ghost use Rattle.node.specs.Stops.{IsDeviceStop, IsEnvironmental};
 
@@ -26,8 +26,8 @@ use crate::{Output, Stop};
 use chain_core::laws::{one_by_one, stands_last, steps_leave};
 use chain_core::{CoreState, Decision, Done, Input, PendingSubmit, PersistentState, Sent, decide};
 use configurations::{Config, Epoch, NodeId};
-use disk::Disk;
 use disk::laws::durable_is_left;
+use disk::{Crash, Disk, Fault};
 use kv_types::{Batch, Key, Limits, Number};
 use std::alloc::Global;
 
@@ -351,5 +351,18 @@ impl<D: Disk + Drop> Node<D> {
             limits: _limits,
         } = self;
         disk
+    }
+}
+
+impl<D: Crash + Drop> Node<D> {
+    /// Arms its disk with a fault at one of its next calls, or with none.
+    pub fn arm(&mut self, fault: &Fault)
+        ensures armed { IsArmed D.Disk fault.now (disk_of self.old) (disk_of self.new) }
+        ensures refines { (x : ℕ) (n : Machine) → NodeRefines D.is_honest D.state self.old x n →
+            NodeRefines D.is_honest D.state self.new x n }
+        ensures ready { IsReady self.old → IsReady self.new }
+        ensures engine { engine_of self.new ≡ engine_of self.old }
+    {
+        self.disk.arm(fault);
     }
 }

@@ -1,7 +1,7 @@
 use Rattle.std.proofs.Common.{◌≡◌, ◌↔◌, ℕ, List, length, take}
 use Rattle.std.specs.Prelude.{All}
 use Rattle.kv_types.specs.{IsBatch}
-use Rattle.disk.specs.{IsSame}
+use Rattle.disk.specs.{HasStruck, IsSame}
 use Rattle.record_log.specs.{LogHolds}
 use Rattle.node.specs.Layout.{records_from}
 use Rattle.node.proofs.engine.batches_in.Given as goal
@@ -12,6 +12,9 @@ invariant-loop-index g l = record {
   honest : g.D.Disk.is_honest l.disk ↔ g.D.Disk.is_honest l.fn.disk;
   reliable : g.D.Disk.is_reliable l.fn.disk → g.D.Disk.is_reliable l.disk;
   count : g.D.Disk.failures l.disk ≡ g.D.Disk.failures l.fn.disk;
+  fault : g.D.Disk.fault_at l.disk ≡ g.D.Disk.fault_at l.fn.disk;
+  spared : (HasStruck g.D.Disk.fault_at g.D.Disk.past l.fn.disk → ⊥) →
+      HasStruck g.D.Disk.fault_at g.D.Disk.past l.disk → ⊥;
   same : g.D.Disk.is_honest l.fn.disk → IsSame (g.D.Disk.state l.fn.disk) (g.D.Disk.state l.disk);
   size : length l.batches.items ≡ l.index;
   each : All IsBatch l.batches.items;
