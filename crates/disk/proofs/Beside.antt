@@ -1,5 +1,5 @@
 -- Moments over calls on one file, and over calls beside the files that are named.
-use Rattle.std.proofs.Common.{◌≡◌, ◌≢◌, ℕ, List, Option, Result, Ok, Err, sym, ap, subst, ◌∙◌}
+use Rattle.std.proofs.Common.{◌≡◌, ◌≢◌, ℕ, List, Option, Result, sym, ap, subst, ◌∙◌}
 use Rattle.std.proofs.Common.{false, arith, eqb, eq-eqb, inl, inr, refl}
 use Rattle.std.specs.Prelude.{if◌then◌else◌, ◌==◌}
 use Rattle.std.proofs.lemmas.Bool.{cases_eq}

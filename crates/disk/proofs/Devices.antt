@@ -1,10 +1,10 @@
 -- A call that fails, for the moments of a disk and for its fault.
-use Rattle.std.proofs.Common.{◌≡◌, ℕ, suc, List, ◌∷◌, length, map, Option, Result, Ok, Err}
-use Rattle.std.proofs.Common.{refl, ap, ◌∙◌, inl, inr}
+use Rattle.std.proofs.Common.{◌≡◌, ℕ, suc, List, ◌∷◌, length, map, Result, Ok, Err}
+use Rattle.std.proofs.Common.{refl, ap, inr}
 use Rattle.disk.specs.declared.error.DiskError.{DiskError}
 use Rattle.disk.specs.declared.error.DiskError.TheVariants.{Failed, NoFile, Short, Memory}
-use Rattle.disk.specs.States.{Slot, State, IsSame}
-use Rattle.disk.specs.Faults.{CallPasses, Counts, IsBegun, WasMade}
+use Rattle.disk.specs.States.{Slot, State}
+use Rattle.disk.specs.Faults.{CallPasses, Counts, WasMade}
 use Rattle.disk.specs.Memory.{state_of}
 use Rattle.disk.specs.Devices.{DeviceState, DeviceFails}
 

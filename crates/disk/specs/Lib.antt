@@ -12,7 +12,8 @@ pub mod Held
 pub mod Memory
 pub mod Crashes
 -- What crates above name.
-pub use Rattle.disk.specs.Calls.{EndsOutOfRange, HasStruck, RisesByOne, WriteOutcome}
+pub use Rattle.disk.specs.Calls.{EndsOutOfRange, HasStruck, RisesByOne, SyncOutcome}
+pub use Rattle.disk.specs.Calls.{WriteOutcome}
 pub use Rattle.disk.specs.Crashes.{CrashOutcome, CrashedIsDurable}
 pub use Rattle.disk.specs.Faults.{HasStruckBy, armed_after, struck_call}
 pub use Rattle.disk.specs.Lent.{AlwaysLeaves, IsArmed, IsStill, KeepsDisk}

@@ -1,10 +1,8 @@
 -- What a crash at any moment since an earlier one may have left. A moment is the list of the states
 -- that calls had left until then, the latest first.
-use Rattle.std.specs.Prelude.{◌≡◌, ◌⊎◌, ℕ, suc, List, ◌∷◌, length, Option, Result, Ok, Err}
+use Rattle.std.specs.Prelude.{◌≡◌, ◌⊎◌, ℕ, List, ◌∷◌, Option}
 use Rattle.std.specs.Prelude.{◌≢◌}
-use Rattle.disk.specs.declared.error.DiskError.{DiskError}
-use Rattle.disk.specs.declared.error.DiskError.TheVariants.{Failed, NoFile, Short, Memory}
-use Rattle.disk.specs.States.{State, Contents, IsCrashOutcome, IsFileOutcome, IsSame, IsSameBut}
+use Rattle.disk.specs.States.{State, Contents, IsCrashOutcome, IsFileOutcome, IsSame}
 
 -- every crash outcome of the state has P
 abbrev pub OnlyLeaves : (Contents → Type 0) → State → Type 0

@@ -34,9 +34,9 @@ impl Model for Device {
     ghost Value = { DeviceState };
 
     ghost view = { λ device. record {
-        failures = device.failures;
-        past = map (λ it. it.entries) device.history.past;
-        fault_at = strikes_at device.at_arming.past device.fault;
+      failures = device.failures;
+      past = map (λ it. it.entries) device.history.past;
+      fault_at = strikes_at device.at_arming.past device.fault;
     } };
 
     ghost invariant = { λ device. IsLeftOf device.at_arming.past device.history.past device.fault };

@@ -31,10 +31,10 @@ impl Model for MemDisk {
     ghost Value = { Slots };
 
     ghost view = { λ disk. record {
-        slots = disk.slots.entries;
-        failures = disk.device.failures;
-        past = disk.device.past;
-        fault_at = disk.device.fault_at;
+      slots = disk.slots.entries;
+      failures = disk.device.failures;
+      past = disk.device.past;
+      fault_at = disk.device.fault_at;
     } };
 
     ghost invariant = { λ disk. AllKeptAgree (state_of disk.slots.entries) };

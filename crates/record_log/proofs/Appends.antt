@@ -1,28 +1,54 @@
 -- What a log holds after a record is appended, and what a crash leaves.
 use Rattle.std.proofs.Common.{◌≡◌, refl, ℕ, ◌+◌, ◌^◌, ◌<◌, List, [], ◌∷◌, ◌++◌, length, take, drop}
 use Rattle.std.proofs.Common.{Option, Some, None, sym, ap, subst, ◌∙◌, inl, inr, length-append}
-use Rattle.std.proofs.Common.{◌-◌, min, arith}
+use Rattle.std.proofs.Common.{◌-◌, ◌≤◌, zero, suc, min, arith}
 use Rattle.std.specs.Prelude.{IsSomeAnd, ◌⊎◌}
-use Rattle.std.proofs.lemmas.List.{length-take, length-drop}
+use Rattle.std.proofs.lemmas.List.{length-take, length-drop, take-append-le}
 use Rattle.disk.specs.declared.DiskError.{DiskError}
 use Rattle.disk.specs.declared.DiskError.TheVariants as disk
-use Rattle.disk.specs.{Slot, Kept, State}
+use Rattle.disk.specs.{IsLeftAt, Kept, LeavesSince, Slot, State}
+use Rattle.disk.proofs.Beside.{at_start, at_weaker}
 use Rattle.disk.proofs.Steps.{Only, sure_only}
 use Rattle.record_log.specs.declared.log.Log.{Log}
 use Rattle.record_log.specs.Error.{log_error}
 use Rattle.record_log.specs.Grammar.{Represents, ends_from}
-use Rattle.record_log.specs.Push.{pushed, IsPartlyPushed, IsDurableAs, LeavesAt, behind_of}
-use Rattle.record_log.specs.Logs.{LogHolds, IsExpected, IsOldOrNew}
+use Rattle.record_log.specs.Push.{pushed, IsPartlyPushed, IsDurableAs, behind_of}
+use Rattle.record_log.specs.Logs.{LogHolds, IsExpected, IsOldOrNewFrom}
 use Rattle.record_log.proofs.Fronts.{ends_push, end_push}
 use Rattle.record_log.proofs.Pushes.{pushed_is}
 use Rattle.record_log.proofs.Ways.{Gate, gate_at, way_stands, pushed_stands}
 
--- an unchanged file has the old records
-pub unchanged : (disk : State) (log : Log) (records : List (List ℕ)) (one : List ℕ) →
-    LogHolds disk log records → LeavesAt disk log.file (IsOldOrNew log.start records one)
-unchanged disk log records one h =
-    let P : Option (List ℕ) → Type 0 = λ left. IsSomeAnd left (IsOldOrNew log.start records one) in
-    subst (λ (slot : Slot). Only P slot) (sym h.sure) (sure_only P h.bytes (inl h.stands))
+-- before its first call an append leaves the old records
+pub unchanged : (disk : State) (past : List State) (log : Log) (records : List (List ℕ))
+    (one : List ℕ) (h : LogHolds disk log records) → LeavesSince disk past disk past
+    (IsLeftAt disk log.file (λ left. IsSomeAnd left
+    (IsOldOrNewFrom h.bytes log.start records one)))
+unchanged disk past log records one h =
+    let P : Option (List ℕ) → Type 0 =
+    λ left. IsSomeAnd left (IsOldOrNewFrom h.bytes log.start records one) in
+    at_start P log.file disk past
+    (subst (λ (slot : Slot). Only P slot) (sym h.sure)
+    (sure_only P h.bytes (record { head = refl; is = inl h.stands })))
+
+-- the front of a front
+take_front : (n m : ℕ) (l : List ℕ) → n ≤ m → take n (take m l) ≡ take n l
+take_front zero m l le = refl
+take_front (suc n) zero l le = absurd (omega (arith, le))
+take_front (suc n) (suc m) [] le = refl
+take_front (suc n) (suc m) (x ∷ l) le = ap (λ (t : List ℕ). x ∷ t) (take_front n m l (omega arith))
+
+-- an outcome on the way has the bytes before the gate
+way_head : (bytes : List ℕ) (start gate : ℕ) (behind c : List ℕ) → start ≤ gate →
+    gate < length bytes → IsPartlyPushed bytes gate behind c → take start c ≡ take start bytes
+way_head bytes start gate behind c le within (inl same) =
+    sym (take_front start (gate + 1) c (omega arith)) ∙ ap (take start) same
+    ∙ take_front start (gate + 1) bytes (omega arith)
+way_head bytes start gate behind c le within (inr way) =
+    let front = take gate bytes in
+    ap (take start) way.2
+    ∙ take-append-le start front (way.0 ∷ (behind ++ way.1))
+    (omega (arith, length-take gate bytes))
+    ∙ take_front start gate bytes le
 
 -- the log reports the device's failure and want of memory as expected refusals
 pub is_met : (e : DiskError) → (e ≡ disk.Failed) ⊎ (e ≡ disk.Memory) → IsExpected (log_error e)
@@ -46,24 +72,35 @@ module _ (old : State) (log : Log) (records : List (List ℕ)) (one : List ℕ) 
   pub gate_within : gate < length h.bytes
   gate_within = let within = the_gate.within in omega (arith, gate_is, within)
 
-  -- a crash outcome on the way represents the records, with or without the new one
+  -- a crash outcome on the way represents the records, with or without the new one, behind the
+  -- bytes that were before them
   on_the_way : (left : Option (List ℕ)) →
       IsSomeAnd left (IsPartlyPushed h.bytes (log.start + log.end) (behind_of one)) →
-      IsSomeAnd left (IsOldOrNew log.start records one)
+      IsSomeAnd left (IsOldOrNewFrom h.bytes log.start records one)
   on_the_way None way = way
-  on_the_way (Some c) way =
-      way_stands h.bytes log.start (log.start + log.end) records one short the_gate c way
+  on_the_way (Some c) way = record {
+    head = way_head h.bytes log.start (log.start + log.end) (behind_of one) c (omega arith)
+        the_gate.within way;
+    is = way_stands h.bytes log.start (log.start + log.end) records one short the_gate c way;
+  }
 
-  -- the crash outcomes while the record is written behind the gate
-  pub crashed : (new : State) (behind : List ℕ) → behind ≡ behind_of one →
+  -- the crash outcomes at each moment while the record is written behind the gate
+  pub crashed : (new : State) (past since : List State) (behind : List ℕ) →
+      behind ≡ behind_of one →
       ((bytes : List ℕ) → IsDurableAs old log.file bytes → gate < length bytes →
-      LeavesAt new log.file (IsPartlyPushed bytes gate behind)) →
-      LeavesAt new log.file (IsOldOrNew log.start records one)
-  crashed new behind is leaves = λ left now.
+      LeavesSince old past new since
+      (IsLeftAt old log.file (λ left. IsSomeAnd left (IsPartlyPushed bytes gate behind)))) →
+      LeavesSince old past new since (IsLeftAt old log.file
+      (λ left. IsSomeAnd left (IsOldOrNewFrom h.bytes log.start records one)))
+  crashed new past since behind is leaves =
+      at_weaker (λ left. IsSomeAnd left (IsPartlyPushed h.bytes gate behind))
+      (λ left. IsSomeAnd left (IsOldOrNewFrom h.bytes log.start records one))
+      log.file old past new since
+      (λ left way.
       let P : ℕ → List ℕ → Type 0 = λ g b. IsSomeAnd left (IsPartlyPushed h.bytes g b) in
-      let way : P gate behind = leaves h.bytes h.sure gate_within left now in
       on_the_way left
-      (subst (P (log.start + log.end)) is (subst (λ (g : ℕ). P g behind) gate_is way))
+      (subst (P (log.start + log.end)) is (subst (λ (g : ℕ). P g behind) gate_is way)))
+      (leaves h.bytes h.sure gate_within)
 
   -- the file's bytes with the record behind an open gate
   pub spelled : (new : State) (behind : List ℕ) → behind ≡ behind_of one →

@@ -162,3 +162,11 @@ module _ (bytes : List ℕ) (gate : ℕ) (behind : List ℕ) (within : gate < le
       writes_only P result s2 s3 file gate (1 ∷ []) w
       (subst (λ (slot : Slot). Only P slot) (sym sure) at_sync)
       (subst (λ (slot : Slot). Only P (written gate (1 ∷ []) slot)) (sym sure) (gate_only some))
+
+-- a durable file is on the way
+pub durable_start : (bytes : List ℕ) (gate : ℕ) (behind : List ℕ) → gate < length bytes →
+    (disk : State) (file : ℕ) → IsDurableAs disk file bytes →
+    Only (OnTheWay bytes gate behind) (disk file)
+durable_start bytes gate behind within disk file sure =
+    subst (λ (slot : Slot). Only (OnTheWay bytes gate behind) slot) (sym sure)
+    (at_start bytes gate behind within)

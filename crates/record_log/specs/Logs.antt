@@ -58,6 +58,12 @@ IsOldOrNew start records one bytes =
     Represents (drop start bytes) records ⊎ Represents (drop start bytes)
     (records ++ one ∷ [])
 
+-- It does, and the bytes before its first place are those that were there.
+pub record IsOldOrNewFrom (was : List ℕ) (start : ℕ) (records : List (List ℕ)) (one : List ℕ)
+    (bytes : List ℕ) : Type 0 where
+  pub head : take start bytes ≡ take start was
+  pub is : IsOldOrNew start records one bytes
+
 -- the log stays at the same place of the same file
 pub record IsInPlace (old new : Log) : Type 0 where
   pub file : file_of new ≡ file_of old

@@ -1,8 +1,7 @@
 -- Bytes written behind a closed gate, which is then opened.
-use Rattle.std.specs.Prelude.{◌≡◌, ◌⊎◌, ℕ, ◌+◌, List, [], ◌∷◌, ◌++◌, length, take, Option}
-use Rattle.std.specs.Prelude.{IsSomeAnd}
+use Rattle.std.specs.Prelude.{◌≡◌, ◌⊎◌, ℕ, ◌+◌, List, [], ◌∷◌, ◌++◌, length, take}
 use Rattle.std.specs.Int.{w32, to_be_bytes}
-use Rattle.disk.specs.{Kept, State, IsFileOutcome, overwritten}
+use Rattle.disk.specs.{Kept, State, overwritten}
 
 -- the file's bytes after all four calls
 abbrev pub pushed : List ℕ → ℕ → List ℕ → List ℕ
@@ -17,10 +16,6 @@ IsPartlyPushed bytes gate behind left = (take (gate + 1) left ≡ take (gate + 1
 -- the file has these bytes, and they are durable
 abbrev pub IsDurableAs : State → ℕ → List ℕ → Type 0
 IsDurableAs disk file bytes = disk file ≡ Kept bytes bytes []
-
--- a crash outcome of the file has the property P
-abbrev pub LeavesAt : State → ℕ → (List ℕ → Type 0) → Type 0
-LeavesAt disk file P = (left : Option (List ℕ)) → IsFileOutcome (disk file) left → IsSomeAnd left P
 
 -- the bytes behind the gate of a record: the length, the record, and a closed gate
 abbrev pub behind_of : List ℕ → List ℕ

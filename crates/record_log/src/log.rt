@@ -1,14 +1,15 @@
 // A log of records behind gates, in one file of a disk.
 ghost use Rattle.std.specs.Prelude.{◌≡◌, ◌↔◌, ◌⊎◌, ℕ, ◌+◌, ◌<◌, ◌^◌, ◌-◌, min, List, []};
 ghost use Rattle.std.specs.Prelude.{◌∷◌, ◌++◌, length, slice_get, slice_index_or, Some, IfOk};
-ghost use Rattle.std.specs.Prelude.{IfErr, IsErrOf, OnOk, MatchResult};
-ghost use Rattle.disk.specs.{seen, AddsNoOutcome, IsSame, IsSameBut, KeepsDisk};
+ghost use Rattle.std.specs.Prelude.{IfErr, IsErrOf, IsSomeAnd, OnOk, MatchResult};
+ghost use Rattle.disk.specs.{seen, AddsNoOutcome, AlwaysLeaves, IsLeftAt, IsSame, IsSameBut};
+ghost use Rattle.disk.specs.{IsStill, KeepsDisk};
 ghost use Rattle.record_log.specs.Error.{DeviceFailed};
-ghost use Rattle.record_log.specs.Push.{IsDurableAs, LeavesAt, behind_of, pushed};
+ghost use Rattle.record_log.specs.Push.{IsDurableAs, behind_of, pushed};
 ghost use Rattle.record_log.specs.Logs.{LogHolds, HasRecords, IsAt, IsPart, IsRest, ReadRefusal};
 ghost use Rattle.record_log.specs.Logs.{OpenOutcome, Appended, IsExpected};
 ghost use Rattle.record_log.specs.Logs.{IsExternal, IsArgumentError};
-ghost use Rattle.record_log.specs.Logs.{IsOldOrNew, EndsInRange, begun, file_of, start_of};
+ghost use Rattle.record_log.specs.Logs.{IsOldOrNewFrom, EndsInRange, begun, file_of, start_of};
 ghost use Rattle.record_log.specs.Logs.{gate_of, count_of, HasFailed, HasNoRoom};
 
 use crate::LogError;
@@ -58,6 +59,7 @@ fn bytes_at<D: Disk>(
         MatchResult result (λ bytes. IsPart (D.state disk.old) file at len bytes.items)
         (λ e. ReadRefusal e (seen (D.state disk.old file)) (at + len)) }
     ensures not_own { IfErr result (λ e. IsArgumentError e → ⊥) }
+    ensures still { IsStill D.Disk disk.old disk.new }
 {
     let mut bytes = vec![in alloc; 0u8; len]?;
     disk.read(file, at, &mut bytes)?;
@@ -75,6 +77,7 @@ fn synced_from<D: Disk>(
     ensures read { D.is_honest disk.old → MatchResult result
         (λ bytes. IsRest (D.state disk.old) file start (D.state disk.new) bytes.items)
         (λ e. ReadRefusal e (seen (D.state disk.old file)) start) }
+    ensures still { IsStill D.Disk disk.old disk.new }
 {
     disk.sync(file)?;
     let length = disk.length(file)?;
@@ -124,6 +127,7 @@ impl Log {
         ensures opened { (records : List (List ℕ)) → D.is_honest disk.old →
             HasRecords (D.state disk.old) file start records →
             MatchResult result (λ log. LogHolds (D.state disk.new) log records) IsExternal }
+        ensures still { IsStill D.Disk disk.old disk.new }
     {
         let bytes = synced_from(alloc, disk, file, start)?;
         let (ends, end) = scan(alloc, &bytes)?;
@@ -185,11 +189,13 @@ impl Log {
             OnOk result (IsDurableAs (D.state disk.new) (file_of self.old)
             (pushed held.bytes (gate_of self.old) (behind_of bytes.now))) }
 
-        // A crash now, whatever the answer, leaves the old records, with or without the new one.
-        ensures crash { (records : List (List ℕ)) → D.is_honest disk.old →
-            LogHolds (D.state disk.old) self.old records →
-            LeavesAt (D.state disk.new) (file_of self.old)
-            (IsOldOrNew (start_of self.old) records bytes.now) }
+        // A crash at any moment since the call began, whatever it answers, leaves the old records,
+        // with or without the new one.
+        ensures any_moment { (records : List (List ℕ)) → D.is_honest disk.old →
+            (held : LogHolds (D.state disk.old) self.old records) →
+            AlwaysLeaves D.Disk disk.old disk.new (IsLeftAt (D.state disk.old) (file_of self.old)
+            (λ left. IsSomeAnd left
+            (IsOldOrNewFrom held.bytes (start_of self.old) records bytes.now))) }
     {
         if self.has_failed {
             return Err(LogError::Failed);
@@ -221,6 +227,7 @@ impl Log {
             LogHolds (D.state disk.old) self.now records →
             MatchResult result (λ bytes. slice_get records index ≡ Some bytes.items)
             (λ e. IsExternal e ⊎ (e ≡ LogError.Failed)) }
+        ensures still { IsStill D.Disk disk.old disk.new }
     {
         if self.has_failed {
             return Err(LogError::Failed);

@@ -1,7 +1,8 @@
 // The four device calls of an append.
 ghost use Rattle.std.specs.Prelude.{◌≡◌, ◌⊎◌, ℕ, ◌+◌, ◌<◌, ◌^◌, List, length, IsErrOf, MatchResult};
-ghost use Rattle.disk.specs.{IsSameBut, EndsOutOfRange, KeepsDisk};
-ghost use Rattle.record_log.specs.Push.{pushed, IsPartlyPushed, IsDurableAs, LeavesAt};
+ghost use Rattle.std.specs.Prelude.{IsSomeAnd};
+ghost use Rattle.disk.specs.{AlwaysLeaves, EndsOutOfRange, IsLeftAt, IsSameBut, KeepsDisk};
+ghost use Rattle.record_log.specs.Push.{pushed, IsPartlyPushed, IsDurableAs};
 
 use disk::{Disk, DiskError};
 
@@ -17,10 +18,11 @@ pub fn push<D: Disk>(disk: &mut D, file: u64, gate: u64, behind: &[u8]) -> Resul
         × (gate + 1 + length behind.now < 2 ^ 63))
         (λ e. (e ≡ DiskError.Failed) ⊎ (e ≡ DiskError.Memory)) }
 
-    // The outcomes of a crash now, whatever the answer.
-    ensures crash { (bytes : List ℕ) → D.is_honest disk.old →
+    // The outcomes of a crash at any moment since the call began, whatever it answers.
+    ensures any_moment { (bytes : List ℕ) → D.is_honest disk.old →
         IsDurableAs (D.state disk.old) file bytes → gate < length bytes →
-        LeavesAt (D.state disk.new) file (IsPartlyPushed bytes gate behind.now) }
+        AlwaysLeaves D.Disk disk.old disk.new (IsLeftAt (D.state disk.old) file
+        (λ left. IsSomeAnd left (IsPartlyPushed bytes gate behind.now))) }
 {
     disk.write_at(file, gate + 1, behind)?;
     disk.sync(file)?;

@@ -5,42 +5,44 @@ use Rattle.record_log.proofs.Appends.{unchanged, is_met, gate_within, crashed}
 use Rattle.record_log.proofs.Appends.{spelled, appended}
 use Rattle.record_log.proofs.log.Log.append.Goals as goal
 
--- ---- what a crash leaves; before the four calls nothing was done
+-- ---- what a crash leaves at each moment; before the four calls nothing was done
 
-pub returns-then-self-clause-crash : goal.returns-then-self-clause-crash
-returns-then-self-clause-crash g c = λ records honest h.
-    unchanged _ c.args.self.now records c.args.bytes.now h
+pub returns-then-self-clause-any_moment : goal.returns-then-self-clause-any_moment
+returns-then-self-clause-any_moment g c = λ records honest h.
+    unchanged _ _ c.args.self.now records c.args.bytes.now h
 
-pub returns-then-bytes-gt-MAX_RECORD-clause-crash :
-    goal.returns-then-bytes-gt-MAX_RECORD-clause-crash
-returns-then-bytes-gt-MAX_RECORD-clause-crash g c = λ records honest h.
-    unchanged _ c.args.self.now records c.args.bytes.now h
+pub returns-then-bytes-gt-MAX_RECORD-clause-any_moment :
+    goal.returns-then-bytes-gt-MAX_RECORD-clause-any_moment
+returns-then-bytes-gt-MAX_RECORD-clause-any_moment g c = λ records honest h.
+    unchanged _ _ c.args.self.now records c.args.bytes.now h
 
-pub returns-in_err-behind-clause-crash : goal.returns-in_err-behind-clause-crash
-returns-in_err-behind-clause-crash g c = λ records honest h.
-    unchanged _ c.args.self.now records c.args.bytes.now h
+pub returns-in_err-behind-clause-any_moment : goal.returns-in_err-behind-clause-any_moment
+returns-in_err-behind-clause-any_moment g c = λ records honest h.
+    unchanged _ _ c.args.self.now records c.args.bytes.now h
 
-pub returns-in_err-reserve-clause-crash : goal.returns-in_err-reserve-clause-crash
-returns-in_err-reserve-clause-crash g c = λ records honest h.
-    unchanged _ c.args.self.now records c.args.bytes.now h
+pub returns-in_err-reserve-clause-any_moment : goal.returns-in_err-reserve-clause-any_moment
+returns-in_err-reserve-clause-any_moment g c = λ records honest h.
+    unchanged _ _ c.args.self.now records c.args.bytes.now h
 
 -- on the way a crash leaves the record or not
-pub returns-in_err-push-clause-crash : goal.returns-in_err-push-clause-crash
-returns-in_err-push-clause-crash g c = λ records honest h.
+pub returns-in_err-push-clause-any_moment : goal.returns-in_err-push-clause-any_moment
+returns-in_err-push-clause-any_moment g c = λ records honest h.
     let old = g.D.Disk.state c.args.disk.now in
     let new = g.D.Disk.state c.push.new.disk in
     let behind = c.deref.ensures.value ∙ c.in_ok-behind.ensures in
     crashed old c.args.self.now records c.args.bytes.now c.gate.result h (omega arith)
-    c.gate.ensures.gate new c.deref.result.now behind (λ bytes. c.push.ensures.crash bytes honest)
+    c.gate.ensures.gate new (g.D.Disk.past c.args.disk.now) (g.D.Disk.past c.push.new.disk)
+    c.deref.result.now behind (λ bytes. c.push.ensures.any_moment bytes honest)
 
 -- and so it does at the end
-pub returns-clause-crash : goal.returns-clause-crash
-returns-clause-crash g c = λ records honest h.
+pub returns-clause-any_moment : goal.returns-clause-any_moment
+returns-clause-any_moment g c = λ records honest h.
     let old = g.D.Disk.state c.args.disk.now in
     let new = g.D.Disk.state c.push.new.disk in
     let behind = c.deref.ensures.value ∙ c.in_ok-behind.ensures in
     crashed old c.args.self.now records c.args.bytes.now c.gate.result h (omega arith)
-    c.gate.ensures.gate new c.deref.result.now behind (λ bytes. c.push.ensures.crash bytes honest)
+    c.gate.ensures.gate new (g.D.Disk.past c.args.disk.now) (g.D.Disk.past c.push.new.disk)
+    c.deref.result.now behind (λ bytes. c.push.ensures.any_moment bytes honest)
 
 -- ---- what it answers
 

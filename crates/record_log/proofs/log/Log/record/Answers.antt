@@ -1,3 +1,4 @@
+use Rattle.disk.proofs.Still.{still}
 use Rattle.record_log.proofs.Spans.{answers}
 use Rattle.record_log.proofs.log.Log.record.Goals as goal
 
@@ -9,3 +10,7 @@ returns-clause-given g c = λ records honest h.
     c.saturating_add-at.result h c.requires c.span-begin.ensures.begin c.span-begin.ensures.len
     c.saturating_add-at.ensures c.bytes_at.result (c.bytes_at.ensures.read honest)
     c.bytes_at.ensures.not_own
+
+-- a log that failed reads nothing
+pub returns-then-self-clause-still : goal.returns-then-self-clause-still
+returns-then-self-clause-still g c = λ honest. still _ _
