@@ -28,6 +28,8 @@ returns-in_err-batch-clause-kept g c =
       reliable = search rules;
       files = λ honest.
           kept_on (was.kept honest) (c.batch.ensures.kept.files (was.honest.1 honest));
+      fault = search rules;
+      spared = search rules;
     }
 
 pub returns-in_err-push_some-clause-kept : goal.returns-in_err-push_some-clause-kept
@@ -41,6 +43,8 @@ returns-in_err-push_some-clause-kept g c =
       reliable = search rules;
       files = λ honest.
           kept_on (was.kept honest) (c.batch.ensures.kept.files (was.honest.1 honest));
+      fault = search rules;
+      spared = search rules;
     }
 
 -- the batch of one number more was sent
@@ -61,6 +65,8 @@ loop-number-preserved g c =
       honest = search rules;
       reliable = search rules;
       count = search rules;
+      fault = search rules;
+      spared = search rules;
       kept = λ honest.
           kept_on (was.kept honest) (c.batch.ensures.kept.files (was.honest.1 honest));
       sent = λ y n is honest s.

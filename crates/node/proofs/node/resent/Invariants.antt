@@ -1,4 +1,5 @@
 use Rattle.std.proofs.Common.{◌≡◌, ◌↔◌, ℕ, ◌-◌, ◌≤◌, max}
+use Rattle.disk.specs.{HasStruck}
 use Rattle.chain_model.specs.{forwards}
 use Rattle.chain_core.specs.{Machine, CoreRefines, AreFrames}
 use Rattle.node.specs.Engines.{EngineHolds, KeepsStore}
@@ -11,6 +12,9 @@ invariant-loop-number g l = record {
   honest : g.D.Disk.is_honest l.disk ↔ g.D.Disk.is_honest l.fn.disk;
   reliable : g.D.Disk.is_reliable l.fn.disk → g.D.Disk.is_reliable l.disk;
   count : g.D.Disk.failures l.disk ≡ g.D.Disk.failures l.fn.disk;
+  fault : g.D.Disk.fault_at l.disk ≡ g.D.Disk.fault_at l.fn.disk;
+  spared : (HasStruck g.D.Disk.fault_at g.D.Disk.past l.fn.disk → ⊥) →
+      HasStruck g.D.Disk.fault_at g.D.Disk.past l.disk → ⊥;
   kept : g.D.Disk.is_honest l.fn.disk →
       KeepsStore l.engine (g.D.Disk.state l.fn.disk) (g.D.Disk.state l.disk);
   sent : (x : ℕ) (n : Machine) → CoreRefines l.core n → g.D.Disk.is_honest l.fn.disk →

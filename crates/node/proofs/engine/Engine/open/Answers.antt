@@ -13,6 +13,8 @@ returns-in_err-log-clause-kept g c = record {
   count = search rules;
   only = search rules;
   reliable = search rules;
+  fault = search rules;
+  spared = search rules;
   files = λ honest. record { crash = search rules; others = search rules };
 }
 
