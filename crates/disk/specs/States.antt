@@ -78,6 +78,11 @@ abbrev pub DurableIsLeft : Type 0
 DurableIsLeft = (disk : State) (left : Contents) (file : ℕ) → IsDurable (disk file) →
     IsCrashOutcome disk left → left file ≡ seen (disk file)
 
+-- .. and of each durable file exactly its content, whatever it leaves of the others
+abbrev pub DurableFileIsLeft : Type 0
+DurableFileIsLeft = (slot : Slot) (left : Option (List ℕ)) → IsDurable slot →
+    IsFileOutcome slot left → left ≡ seen slot
+
 -- two disks that are the same, file by file
 abbrev pub IsSame : State → State → Type 0
 IsSame old new = (file : ℕ) → new file ≡ old file

@@ -2,7 +2,7 @@
 ghost use Rattle.std.specs.Prelude.{◌↔◌, ℕ, List, IsTrue};
 ghost use Rattle.disk.specs.declared.pending_write.PendingWrite.{PendingWrite};
 ghost use Rattle.disk.specs.States.{State, contents};
-ghost use Rattle.disk.specs.States.{IsUnsynced, IsCrashOutcome, DurableIsLeft};
+ghost use Rattle.disk.specs.States.{IsUnsynced, IsCrashOutcome, DurableFileIsLeft, DurableIsLeft};
 ghost use Rattle.disk.specs.Crashes.{CrashedIsDurable, is_unsynced};
 
 /// The content that a disk reads is a possible outcome of a crash now.
@@ -13,6 +13,11 @@ pub fn reads_are_outcomes()
 /// A crash leaves durable content exactly.
 pub fn durable_is_left()
     ensures { DurableIsLeft }
+{}
+
+/// A crash leaves a durable file exactly, whatever it leaves of the others.
+pub fn durable_file_is_left()
+    ensures { DurableFileIsLeft }
 {}
 
 /// Every outcome of a crash is durable.

@@ -7,16 +7,18 @@ use Rattle.std.specs.Prelude.{IsSomeAnd, slice_get, ◌⊎◌, ◌≢◌}
 use Rattle.std.proofs.lemmas.List.Elements.{All-push}
 use Rattle.kv_types.specs.{IsBatch, BatchContent}
 use Rattle.disk.specs.{State, Slot, Absent, Fresh, Kept, Contents, IsFileOutcome, IsCrashOutcome}
-use Rattle.disk.specs.{contents, seen, IsDurable, DurableIsLeft}
+use Rattle.disk.specs.{DurableFileIsLeft, DurableIsLeft, IsDurable, IsLeftAt, LeavesSince, contents}
+use Rattle.disk.specs.{seen}
+use Rattle.disk.proofs.Moments.{started, weaker}
 use Rattle.record_log.specs.declared.Log.{Log}
-use Rattle.record_log.specs.{Represents, LeavesAt, LogHolds, IsAt, IsOldOrNew, count_of}
+use Rattle.record_log.specs.{Represents, LogHolds, IsAt, IsOldOrNew, IsOldOrNewFrom, count_of}
 use Rattle.node.specs.declared.engine.Engine.{Engine}
 use Rattle.chain_model.specs.{IsId, place}
 use Rattle.configurations.specs.{IsConfig}
 use Rattle.kv_types.specs.declared.bounds.TheConstants.{MAX_NUMBER}
 use Rattle.node.specs.Layout.{identity_file, identity_records, batches_file}
 use Rattle.node.specs.Layout.{batch_record, records_from}
-use Rattle.node.specs.Files.{IsLog, HasId, DiskRepresents, IsDurableIdOf, KeepsOneOf}
+use Rattle.node.specs.Files.{IsLog, HasId, DiskRepresents, IsDurableIdOf, IsOneOf}
 use Rattle.node.specs.Engines.{EngineHolds, HasNumbersOf, KeepsStore, engine_count}
 use Rattle.chain_core.specs.{Machine}
 use Rattle.node.proofs.Records.{records_from-push, length-ends}
@@ -43,6 +45,15 @@ holds_in old new log records same h = record {
   end = h.end;
 }
 
+-- .. whatever a crash leaves of the others
+stands_beside : DurableFileIsLeft → (disk : State) (file : ℕ) (bytes : List ℕ)
+    (records : List (List ℕ)) → disk file ≡ Kept bytes bytes [] → Represents bytes records →
+    (left : Option (List ℕ)) → IsFileOutcome (disk file) left → IsLog left records
+stands_beside law disk file bytes records sure stands left leaves =
+    let is_sure = subst (λ (slot : Slot). IsDurable slot) (sym sure) (refl, refl) in
+    let same : left ≡ Some bytes = law (disk file) left is_sure leaves ∙ ap seen sure in
+    subst (λ (it : Option (List ℕ)). IsLog it records) (sym same) stands
+
 -- a durable file represents what it represented
 stands_left : DurableIsLeft → (disk : State) (file : ℕ) (bytes : List ℕ)
     (records : List (List ℕ)) → disk file ≡ Kept bytes bytes [] → Represents bytes records →
@@ -59,6 +70,16 @@ id_left law disk x ids s left leaves = record {
   config = s.config;
   identity = stands_left law disk identity_file s.bytes (identity_records x ids) s.sure s.identity
       left leaves;
+}
+
+pub id_beside : DurableFileIsLeft → (disk : State) (x : ℕ) (ids : List ℕ) →
+    IsDurableIdOf disk x ids → (left : Contents) →
+    IsFileOutcome (disk identity_file) (left identity_file) → HasId left x ids
+id_beside law disk x ids s left leaves = record {
+  id = s.id;
+  config = s.config;
+  identity = stands_beside law disk identity_file s.bytes (identity_records x ids) s.sure s.identity
+      (left identity_file) leaves;
 }
 
 -- the identity file is that of the node where a log of it holds its record
@@ -161,8 +182,11 @@ module _ (law : DurableIsLeft) (old : State) (engine : Engine) (x epoch : ℕ) (
   apart same = absurd (omega (arith, same, s.at.in_file))
 
   module _ (batch : BatchContent) (is_batch : IsBatch batch) where
-    pub unchanged : KeepsOneOf old x epoch ids list (list ++ batch ∷ []) floor kept
-    unchanged left leaves = inl (represented left leaves)
+    pub unchanged : (past : List State) → LeavesSince old past old past
+        (IsOneOf x epoch ids list (list ++ batch ∷ []) floor kept)
+    unchanged past =
+        started (IsOneOf x epoch ids list (list ++ batch ∷ []) floor kept) old past
+        (λ left leaves. inl (represented left leaves))
 
     pub next_record : (number : ℕ) → number ≡ length engine.batches.items + 1 →
         batch_record number batch ≡ batch_record (1 + length list) batch
@@ -218,20 +242,38 @@ module _ (law : DurableIsLeft) (old : State) (engine : Engine) (x epoch : ℕ) (
               })
 
       -- a crash while a record is appended leaves the batches, with one more or without
-      pub crashed : (new : State) →
-          ((other : ℕ) → other ≢ engine.log.file → new other ≡ old other) →
-          LeavesAt new engine.log.file (IsOldOrNew engine.log.start (records_from 1 list) one) →
-          KeepsOneOf new x epoch ids list (list ++ batch ∷ []) floor kept
-      crashed new others leaves left now =
-          let id : IsDurableIdOf new x ids = id_in old new x ids (others identity_file apart) s.id
-          in
-          let P : ℕ → List ℕ → Type 0 = λ start. IsOldOrNew start (records_from 1 list) one in
-          let at_log : IsSomeAnd (left engine.log.file) (P engine.log.start) =
-          leaves (left engine.log.file) (now engine.log.file) in
-          let at_file : IsSomeAnd (left batches_file) (P engine.log.start) =
-          subst (λ (f : ℕ). IsSomeAnd (left f) (P engine.log.start)) s.at.in_file at_log in
-          one_of left (id_left law new x ids id left now)
-          (subst (λ (k : ℕ). IsSomeAnd (left batches_file) (P k)) s.at.from at_file)
+      pub crashed : DurableFileIsLeft → (new : State) (past since : List State) →
+          LeavesSince old past new since (IsLeftAt old engine.log.file (λ left. IsSomeAnd left
+          (IsOldOrNewFrom s.log.bytes engine.log.start (records_from 1 list) one))) →
+          LeavesSince old past new since
+          (IsOneOf x epoch ids list (list ++ batch ∷ []) floor kept)
+      crashed file_law new past since run =
+          let Q : Option (List ℕ) → Type 0 = λ left. IsSomeAnd left
+          (IsOldOrNewFrom s.log.bytes engine.log.start (records_from 1 list) one) in
+          weaker (IsLeftAt old engine.log.file Q)
+          (IsOneOf x epoch ids list (list ++ batch ∷ []) floor kept) old past new since
+          (λ left at. one_of left
+          (id_beside file_law old x ids s.id left (at.others identity_file apart))
+          (at_log left at.here)) run
+        where
+          in_place : (it : List ℕ) →
+              IsOldOrNewFrom s.log.bytes engine.log.start (records_from 1 list) one it →
+              IsOldOrNew 0 (records_from 1 list) one it
+          in_place it from = subst (λ k. IsOldOrNew k (records_from 1 list) one it) s.at.from
+              from.is
+
+          from_start : (bytes : Option (List ℕ)) → IsSomeAnd bytes
+              (IsOldOrNewFrom s.log.bytes engine.log.start (records_from 1 list) one) →
+              IsSomeAnd bytes (IsOldOrNew 0 (records_from 1 list) one)
+          from_start None none = none
+          from_start (Some it) from = in_place it from
+
+          at_log : (left : Contents) → IsSomeAnd (left engine.log.file)
+              (IsOldOrNewFrom s.log.bytes engine.log.start (records_from 1 list) one) →
+              IsSomeAnd (left batches_file) (IsOldOrNew 0 (records_from 1 list) one)
+          at_log left here = subst (λ (f : ℕ). IsSomeAnd (left f)
+              (IsOldOrNew 0 (records_from 1 list) one)) s.at.in_file
+              (from_start (left engine.log.file) here)
 
       -- the store with the batch in its log
       pub appended : (new : State) (after : Engine) →

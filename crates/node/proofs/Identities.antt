@@ -1,9 +1,8 @@
 -- The record of a node's id and configuration, read back.
-use Rattle.std.proofs.Common.{◌≡◌, ℕ, suc, ◌-◌, ◌≤◌, List, [], ◌++◌, length, take, drop}
-use Rattle.std.proofs.Common.{sym, ◌∙◌, length-append, arith}
-use Rattle.std.specs.Int.{w16, to_be_bytes}
+use Rattle.std.proofs.Common.{◌≡◌, ℕ, suc, ◌-◌, List, [], ◌++◌, length, take, drop}
+use Rattle.std.proofs.Common.{sym, ◌∙◌, arith}
 use Rattle.std.proofs.lemmas.List.{append-nil, take_all}
-use Rattle.configurations.specs.{IsConfig, config_text}
+use Rattle.configurations.specs.{config_text}
 use Rattle.node.specs.Layout.{identity_record}
 
 -- behind the id stands the configuration

@@ -2,10 +2,13 @@
 use Rattle.std.proofs.Common.{◌≡◌, ℕ, ◌+◌, List, [], ◌∷◌, ◌++◌, length, true, inl, inr}
 use Rattle.std.proofs.Common.{suc, arith, map, Option, Some, None, refl, sym, ap, subst, ◌∙◌}
 use Rattle.std.proofs.Common.{replicate, length-append}
-use Rattle.std.specs.Prelude.{Result, Ok, Err, IfOk, IfErr}
+use Rattle.std.specs.Prelude.{◌⊎◌, Result, Ok, Err, IfOk, IfErr}
 use Rattle.std.proofs.lemmas.List.{length-replicate}
 use Rattle.kv_types.specs.{BatchContent}
-use Rattle.disk.specs.{State, Contents, DurableIsLeft, contents}
+use Rattle.disk.specs.declared.Disk.{Ghosts}
+use Rattle.disk.specs.{AlwaysLeaves, Contents, DurableIsLeft, IsCrashOutcome, State, contents}
+use Rattle.disk.proofs.Moments.{weaker}
+use Rattle.disk.proofs.Still.{still}
 use Rattle.chain_model.specs.{successor, place, Answer, started, Message}
 use Rattle.chain_core.specs.declared.Done.{Done}
 use Rattle.chain_core.specs.declared.Done.TheVariants as done
@@ -23,13 +26,13 @@ use Rattle.node.specs.declared.stop.Stop.{Stop}
 use Rattle.node.specs.declared.stop.Stop.TheVariants as stop
 use Rattle.node.specs.declared.layout.Identity.{Identity}
 use Rattle.node.specs.Engines.{EngineHolds, HasNumbersOf, IsOpened}
-use Rattle.node.specs.Files.{DiskRepresents, KeepsOneOf}
+use Rattle.node.specs.Files.{DiskRepresents, IsOneOf}
 use Rattle.node.specs.Starts.{IsStarted}
-use Rattle.node.specs.Steps.{DiskRefines, NodeRefines, DiskAlwaysRefines, StopRefines, StepRefines}
+use Rattle.node.specs.Steps.{DiskRefines, NodeRefines, DiskAlwaysRefines, StepRefines}
 use Rattle.node.specs.Stops.{IsEnvironmental}
 use Rattle.node.proofs.Outputs.{tells_rule}
 use Rattle.node.specs.Outputs.{OutputHas, OutputRefines, committed_reply, NodeFollows, CallRefines}
-use Rattle.node.specs.Outputs.{HasAppended, IsCopyFor}
+use Rattle.node.specs.Outputs.{AlwaysRefines, HasAppended, IsCopyFor}
 use Rattle.node.proofs.Engines.{has_numbers_of, holds_as, represented}
 
 -- a node after a call of its engine, and one that knows other numbers
@@ -142,20 +145,19 @@ represents_as : (left : Contents) (x e d : ℕ) (ids js : List ℕ) (list more :
 represents_as left x e d ids js list more f g k h of_epoch of_ids of_list of_floor of_kept it =
     rw (of_epoch, of_ids, of_list, of_floor, of_kept) it
 
--- during an append the disk represents the machine before or after
-pub stops_between : (disk : State) (x : ℕ) (n : Machine) (batch : BatchContent) (d : Done)
-    (a : Answer BatchContent) → StepLeaves x n batch d a → HasAppended d →
-    KeepsOneOf disk x n.epoch n.ids n.list (n.list ++ batch ∷ []) n.floor n.kept →
-    StopRefines disk x n a
-stops_between disk x n batch d a leaves has one_of left now =
+-- a disk that represents the batches before an append or after it is that of the machine before or
+-- after
+pub one_of_machines : (x : ℕ) (n : Machine) (batch : BatchContent) (d : Done)
+    (a : Answer BatchContent) → StepLeaves x n batch d a → HasAppended d → (left : Contents) →
+    IsOneOf x n.epoch n.ids n.list (n.list ++ batch ∷ []) n.floor n.kept left →
+    DiskRefines left x n ⊎ DiskRefines left x a.node
+one_of_machines x n batch d a leaves has left (inl old) = inl old
+one_of_machines x n batch d a leaves has left (inr new) =
     let m = a.node in
-    elim (one_of left now) [
-      | inl old ↦ inl old
-      | inr new ↦ inr (represents_as left x (epoch_after n d) m.epoch (ids_after n d) m.ids
-          (list_after n batch d) m.list (floor_after n d) m.floor (kept_after n d) m.kept
-          leaves.epoch leaves.ids leaves.list leaves.floor leaves.kept
-          (represents_appended left x n batch d has new))
-    ]
+    inr (represents_as left x (epoch_after n d) m.epoch (ids_after n d) m.ids
+    (list_after n batch d) m.list (floor_after n d) m.floor (kept_after n d) m.kept
+    leaves.epoch leaves.ids leaves.list leaves.floor leaves.kept
+    (represents_appended left x n batch d has new))
 
 -- a copy for the successor is one after a step, which leaves id and configuration
 pub copy_after : (old new : Core) (n m : Machine) (x : ℕ) (batch : BatchContent)
@@ -186,43 +188,59 @@ taken_stands law x n batch d a count leaves has number =
     ap (λ l. place l count) (leaves.list ∙ appended_list n batch d has)
     ∙ ap (place (n.list ++ batch ∷ [])) number ∙ law n.list batch
 
-module _ {D : Type 0} (is_honest : D → Type 0) (state : D → State) where
+module _ {D : Type 0} (g : Ghosts D) where
   -- every crash outcome of its disk represents the node
   pub rests : DurableIsLeft → (node : Node D) (x : ℕ) (n : Machine) →
-      NodeRefines is_honest state node x n → DiskAlwaysRefines (state node.disk) x n
+      NodeRefines g.is_honest g.state node x n → DiskAlwaysRefines (g.state node.disk) x n
   rests law node x n r left leaves =
-      represented law (state node.disk) node.engine x n.epoch n.ids n.list n.floor n.kept r.store
+      represented law (g.state node.disk) node.engine x n.epoch n.ids n.list n.floor n.kept r.store
       left leaves
 
-  pub stops_before : DurableIsLeft → (node : Node D) (x : ℕ) (n : Machine)
-      (a : Answer BatchContent) → NodeRefines is_honest state node x n → StopRefines
-      (state node.disk) x n a
-  stops_before law node x n a r left leaves = inl (rests law node x n r left leaves)
+  -- calls that leave nothing new leave its disk
+  pub still_refines : DurableIsLeft → (old : Node D) (new : D) (x : ℕ) (n m : Machine) →
+      NodeRefines g.is_honest g.state old x n → AlwaysLeaves g old.disk new
+      (IsCrashOutcome (g.state old.disk)) → AlwaysRefines g old.disk new x n m
+  still_refines law old new x n m r run =
+      weaker (IsCrashOutcome (g.state old.disk))
+      (λ left. DiskRefines left x n ⊎ DiskRefines left x m) (g.state old.disk) (g.past old.disk)
+      (g.state new) (g.past new) (λ left leaves. inl (rests law old x n r left leaves)) run
 
-  pub stops_after : DurableIsLeft → (node : Node D) (x : ℕ) (n : Machine)
-      (a : Answer BatchContent) → NodeRefines is_honest state node x a.node →
-      StopRefines (state node.disk) x n a
-  stops_after law node x n a r left leaves = inr (rests law node x a.node r left leaves)
+  -- no call leaves it
+  pub at_rest : DurableIsLeft → (old : Node D) (x : ℕ) (n m : Machine) →
+      NodeRefines g.is_honest g.state old x n → AlwaysRefines g old.disk old.disk x n m
+  at_rest law old x n m r =
+      still_refines law old old.disk x n m r (still (g.state old.disk) (g.past old.disk))
+
+  -- an append leaves it before or after
+  pub appends : (old new : D) (x : ℕ) (n : Machine) (batch : BatchContent) (d : Done)
+      (a : Answer BatchContent) → StepLeaves x n batch d a → HasAppended d →
+      AlwaysLeaves g old new
+      (IsOneOf x n.epoch n.ids n.list (n.list ++ batch ∷ []) n.floor n.kept) →
+      AlwaysRefines g old new x n a.node
+  appends old new x n batch d a leaves has run =
+      weaker (IsOneOf x n.epoch n.ids n.list (n.list ++ batch ∷ []) n.floor n.kept)
+      (λ left. DiskRefines left x n ⊎ DiskRefines left x a.node) (g.state old) (g.past old)
+      (g.state new) (g.past new) (one_of_machines x n batch d a leaves has) run
 
   -- a node whose engine holds what it held runs on
   pub still_runs : (node : Node D) (disk : D) (engine : Engine) (x : ℕ) (n : Machine) →
-      NodeRefines is_honest state node x n → is_honest disk →
-      EngineHolds (state disk) engine x n.epoch n.ids n.list n.floor n.kept →
-      NodeRefines is_honest state (with_engine node disk engine) x n
+      NodeRefines g.is_honest g.state node x n → g.is_honest disk →
+      EngineHolds (g.state disk) engine x n.epoch n.ids n.list n.floor n.kept →
+      NodeRefines g.is_honest g.state (with_engine node disk engine) x n
   still_runs node disk engine x n r honest holds =
       record { honest = honest; store = holds; core = r.core; id = r.id }
 
   -- a node that did its store's part runs as the machine after the rule
   pub goes_on : (node : Node D) (x : ℕ) (n : Machine) (batch : BatchContent) (d : Done)
-      (a : Answer BatchContent) → StepLeaves x n batch d a → is_honest node.disk →
-      EngineHolds (state node.disk) node.engine x (epoch_after n d) (ids_after n d)
+      (a : Answer BatchContent) → StepLeaves x n batch d a → g.is_honest node.disk →
+      EngineHolds (g.state node.disk) node.engine x (epoch_after n d) (ids_after n d)
       (list_after n batch d) (floor_after n d) (kept_after n d) → CoreRefines node.core a.node →
-      node.core.id ≡ x → NodeRefines is_honest state node x a.node
+      node.core.id ≡ x → NodeRefines g.is_honest g.state node x a.node
   goes_on node x n batch d a leaves honest holds is id =
       let m = a.node in
       record {
         honest = honest;
-        store = holds_as (state node.disk) node.engine x (epoch_after n d) m.epoch (ids_after n d)
+        store = holds_as (g.state node.disk) node.engine x (epoch_after n d) m.epoch (ids_after n d)
             m.ids (list_after n batch d) m.list (floor_after n d) m.floor (kept_after n d) m.kept
             leaves.epoch leaves.ids leaves.list leaves.floor leaves.kept holds;
         core = is;
@@ -230,73 +248,78 @@ module _ {D : Type 0} (is_honest : D → Type 0) (state : D → State) where
       }
 
   -- the output is the machine's answer, and for want of memory the node stops
-  pub ends : DurableIsLeft → (node : Node D) (x : ℕ) (n : Machine) (input : Input)
-      (a : Answer BatchContent) (result : Result Output Stop) → NodeRefines is_honest state node x
-      a.node →
+  pub ends : (old node : Node D) (x : ℕ) (n : Machine) (input : Input)
+      (a : Answer BatchContent) (result : Result Output Stop) →
+      AlwaysRefines g old.disk node.disk x n a.node →
+      NodeRefines g.is_honest g.state node x a.node →
       IfOk result (OutputRefines input a) → IfErr result (λ e. e ≡ stop.Memory) →
-      CallRefines is_honest state node x n a (StepRefines is_honest state node x input a) result
-  ends law node x n input a (Ok output) r tells memory = record {
+      CallRefines g old node x n a (StepRefines g.is_honest g.state node x input a) result
+  ends old node x n input a (Ok output) moments r tells memory = record {
     done = record {
       runs = r;
       dropped = tells.dropped;
       frames = tells.frames;
       replied = tells.replied;
     };
-    stopped = tt;
+    honest = r.honest;
+    any_moment = moments;
   }
-  ends law node x n input a (Err e) r tells memory = record {
+  ends old node x n input a (Err e) moments r tells memory = record {
     done = inr memory;
-    stopped = (r.honest, stops_after law node x n a r);
+    honest = r.honest;
+    any_moment = moments;
   }
 
   -- the rule is that of the decision
-  pub ends_as : (node : Node D) (x : ℕ) (n : Machine) (input : Input) (decision known : Decision)
+  pub ends_as : (old node : Node D) (x : ℕ) (n : Machine) (input : Input) (decision known : Decision)
       (result : Result Output Stop) → decision ≡ known →
-      CallRefines is_honest state node x n (rule_of x n known)
-      (StepRefines is_honest state node x input (rule_of x n known)) result →
-      CallRefines is_honest state node x n (rule_of x n decision)
-      (StepRefines is_honest state node x input (rule_of x n decision)) result
-  ends_as node x n input decision known result is done =
-      subst (λ (d : Decision). CallRefines is_honest state node x n (rule_of x n d)
-      (StepRefines is_honest state node x input (rule_of x n d)) result) (sym is) done
+      CallRefines g old node x n (rule_of x n known)
+      (StepRefines g.is_honest g.state node x input (rule_of x n known)) result →
+      CallRefines g old node x n (rule_of x n decision)
+      (StepRefines g.is_honest g.state node x input (rule_of x n decision)) result
+  ends_as old node x n input decision known result is done =
+      subst (λ (d : Decision). CallRefines g old node x n (rule_of x n d)
+      (StepRefines g.is_honest g.state node x input (rule_of x n d)) result) (sym is) done
 
   -- the rule is that of the decision, also after the store's part
-  pub ends_rule : DurableIsLeft → (node : Node D) (x : ℕ) (n : Machine) (input : Input)
+  pub ends_rule : (old node : Node D) (x : ℕ) (n : Machine) (input : Input)
       (batch : BatchContent) (d : Done) (a : Answer BatchContent) (due told : List PendingSubmit)
       (sent : ℕ → List (Message BatchContent)) (result : Result Output Stop) →
-      StepLeaves x n batch d a → NodeFollows is_honest state node x a due → told ≡ due →
+      AlwaysRefines g old.disk node.disk x n a.node →
+      StepLeaves x n batch d a → NodeFollows g.is_honest g.state node x a due → told ≡ due →
       sent x ≡ frames_after x n d a.node →
       IfOk result (OutputHas None (sent node.core.id) (map committed_reply told)) →
       IfErr result (λ e. e ≡ stop.Memory) →
-      CallRefines is_honest state node x n a (StepRefines is_honest state node x input a) result
-  ends_rule law node x n input batch d a due told sent result leaves follows same frames says
-      memory =
+      CallRefines g old node x n a (StepRefines g.is_honest g.state node x input a) result
+  ends_rule old node x n input batch d a due told sent result moments leaves follows same frames
+      says memory =
       let by_x = subst (λ (y : ℕ). IfOk result (OutputHas None (sent y) (map committed_reply told)))
       follows.runs.id says in
       let of_due = subst (λ (l : List PendingSubmit). IfOk result
       (OutputHas None (sent x) (map committed_reply l)))
       same by_x in
-      ends law node x n input a result follows.runs
+      ends old node x n input a result moments follows.runs
       (tells_rule x n input batch d a due (sent x) result leaves follows.replied frames of_due)
       memory
 
   -- a call that stops
-  pub ends_stopped : {T : Type 0} (node : Node D) (x : ℕ) (n : Machine) (a : Answer BatchContent)
+  pub ends_stopped : {T : Type 0} (old node : Node D) (x : ℕ) (n : Machine) (a : Answer BatchContent)
       (IsDone : T → Type 0) (result : Result T Stop) (e : Stop) → result ≡ Err e →
-      IsEnvironmental e → is_honest node.disk → StopRefines (state node.disk) x n a →
-      CallRefines is_honest state node x n a IsDone result
-  ends_stopped node x n a IsDone result e is machine honest stops =
-      rw is (record { done = machine; stopped = (honest, stops) })
+      IsEnvironmental e → g.is_honest node.disk →
+      AlwaysRefines g old.disk node.disk x n a.node →
+      CallRefines g old node x n a IsDone result
+  ends_stopped old node x n a IsDone result e is machine honest moments =
+      rw is (record { done = machine; honest = honest; any_moment = moments })
 
   -- the node of an opened engine refines the machine that was started
   module _ (node : Node D) (identity : Identity)
       (is : (n : Machine) → HasNumbersOf node.engine n → n.ids ≡ identity.config →
       CoreRefines node.core (started identity.id n)) where
-    pub runs_opened : (x : ℕ) (n : Machine) → is_honest node.disk →
-        IsOpened (state node.disk) identity node.engine x n.epoch n.ids n.list n.floor n.kept →
-        node.core.id ≡ identity.id → NodeRefines is_honest state node x (started x n)
+    pub runs_opened : (x : ℕ) (n : Machine) → g.is_honest node.disk →
+        IsOpened (g.state node.disk) identity node.engine x n.epoch n.ids n.list n.floor n.kept →
+        node.core.id ≡ identity.id → NodeRefines g.is_honest g.state node x (started x n)
     runs_opened x n honest opened id =
-        let numbers = has_numbers_of (state node.disk) node.engine x n opened.holds in
+        let numbers = has_numbers_of (g.state node.disk) node.engine x n opened.holds in
         record {
           honest = honest;
           store = opened.holds;
@@ -307,9 +330,9 @@ module _ {D : Type 0} (is_honest : D → Type 0) (state : D → State) where
 
     -- the started node is one that its disk represented
     pub starts : (old : D) (n : Machine) → n.ids ≡ identity.config →
-        DiskRefines (contents (state old)) identity.id n → is_honest node.disk →
-        IsOpened (state node.disk) identity node.engine identity.id n.epoch n.ids n.list n.floor
-        n.kept → node.core.id ≡ identity.id → IsStarted is_honest state old node
+        DiskRefines (contents (g.state old)) identity.id n → g.is_honest node.disk →
+        IsOpened (g.state node.disk) identity node.engine identity.id n.epoch n.ids n.list n.floor
+        n.kept → node.core.id ≡ identity.id → IsStarted g.is_honest g.state old node
     starts old n ids had honest opened id = record {
       x = identity.id;
       n = n;

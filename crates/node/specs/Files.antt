@@ -83,9 +83,9 @@ pub record IsRecovered (old new : State) : Type 0 where
   pub crash : LeavesNoMore old new
   pub others : KeepsOthers old new
 
--- every crash outcome of the disk represents node x with one of two lists of batches
-abbrev pub KeepsOneOf : State → (x epoch : ℕ) → List ℕ → (list more : List BatchContent) →
-    (floor kept : ℕ) → Type 0
-KeepsOneOf disk x epoch ids list more floor kept = (left : Contents) → IsCrashOutcome disk left →
+-- the disk's content represents node x with one of two lists of batches
+abbrev pub IsOneOf : (x epoch : ℕ) → List ℕ → (list more : List BatchContent) → (floor kept : ℕ) →
+    Contents → Type 0
+IsOneOf x epoch ids list more floor kept left =
     DiskRepresents left x epoch ids list floor kept
     ⊎ DiskRepresents left x epoch ids more floor kept

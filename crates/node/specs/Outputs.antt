@@ -1,10 +1,9 @@
 -- The end of a step and the state that it keeps, and the contracts of private functions on its
 -- answer.
-use Rattle.std.specs.Prelude.{◌≡◌, ℕ, List, Option, Some, None, Result, MatchResult}
-use Rattle.std.specs.Prelude.{OnErr, OnOk}
+use Rattle.std.specs.Prelude.{◌≡◌, ◌⊎◌, ℕ, List, Option, Some, None, Result, MatchResult, OnOk}
 use Rattle.kv_types.specs.{BatchContent}
 use Rattle.disk.specs.declared.Disk.{Ghosts}
-use Rattle.disk.specs.{State, KeepsDisk}
+use Rattle.disk.specs.{AlwaysLeaves, KeepsDisk, State}
 use Rattle.chain_model.specs.{Message, Answer}
 use Rattle.chain_model.specs.declared.DropReason.{DropReason}
 use Rattle.chain_core.specs.declared.Done.{Done}
@@ -19,7 +18,7 @@ use Rattle.node.specs.declared.output.Reply.{Reply}
 use Rattle.node.specs.declared.output.Reply.TheVariants as reply
 use Rattle.node.specs.declared.stop.Stop.{Stop}
 use Rattle.node.specs.Engines.{IsNearlyFull, KeepsOthersOf}
-use Rattle.node.specs.Steps.{StepRefines, IsReady, NodeRefines, StopRefines, disk_of, engine_of}
+use Rattle.node.specs.Steps.{DiskRefines, StepRefines, IsReady, NodeRefines, disk_of, engine_of}
 use Rattle.node.specs.Steps.{replies_of}
 use Rattle.node.specs.Stops.{IsEnvironmental, IsDeviceStop}
 
@@ -55,20 +54,24 @@ pub record NodeFollows {D : Type 0} (is_honest : D → Type 0) (state : D → St
   pub runs : NodeRefines is_honest state new x a.node
   pub replied : a.replies ≡ core.committed_responses due
 
--- A call that leads machine n to this answer is done, or it ends in a stop. After a stop the disk
--- represents the machine before or after the answer.
-pub record CallRefines {D T : Type 0} (is_honest : D → Type 0) (state : D → State) (new : Node D)
-    (x : ℕ)
-    (n : Machine) (a : Answer BatchContent) (IsDone : T → Type 0) (result : Result T Stop) : Type 0
-  where
-    pub done : MatchResult result IsDone IsEnvironmental
-    pub stopped : OnErr result (is_honest (disk_of new) × StopRefines (state (disk_of new)) x n a)
+-- a crash at any moment since the call began leaves the disk of machine n or of machine m
+abbrev pub AlwaysRefines : {D : Type 0} → Ghosts D → (old new : D) → ℕ → Machine → Machine → Type 0
+AlwaysRefines g old new x n m =
+    AlwaysLeaves g old new (λ left. DiskRefines left x n ⊎ DiskRefines left x m)
+
+-- A call that leads machine n to this answer is done, or it ends in a stop. A crash at any moment
+-- since it began leaves the disk of the machine before the answer or of the one after it.
+pub record CallRefines {D T : Type 0} (g : Ghosts D) (old new : Node D) (x : ℕ) (n : Machine)
+    (a : Answer BatchContent) (IsDone : T → Type 0) (result : Result T Stop) : Type 0 where
+  pub done : MatchResult result IsDone IsEnvironmental
+  pub honest : g.is_honest (disk_of new)
+  pub any_moment : AlwaysRefines g (disk_of old) (disk_of new) x n a.node
 
 -- node x, which refined machine n, ends a step as the machine does in this answer to an input
 abbrev pub StepEnds : {D : Type 0} → Ghosts D → (old new : Node D) → Result Output Stop → ℕ →
     Machine → Input → Answer BatchContent → Type 0
 StepEnds g old new result x n input a = NodeRefines g.is_honest g.state old x n →
-    CallRefines g.is_honest g.state new x n a (StepRefines g.is_honest g.state new x input a) result
+    CallRefines g old new x n a (StepRefines g.is_honest g.state new x input a) result
 
 -- the step keeps the node's disk and, if it ends with an answer, the node is ready for another step
 pub record KeepsNode {D T : Type 0} (g : Ghosts D) (old new : Node D) (result : Result T Stop) :

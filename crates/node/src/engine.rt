@@ -4,12 +4,12 @@ ghost use Rattle.std.specs.Prelude.{◌≤◌, List, length, take, slice_get, Al
 ghost use Rattle.std.specs.Prelude.{IfOk, IfErr, OnOk, MatchResult};
 ghost use Rattle.kv_types.specs.declared.bounds.TheConstants.{MAX_NUMBER};
 ghost use Rattle.kv_types.specs.{BatchContent, IsBatch, map_of};
-ghost use Rattle.disk.specs.{AddsNoOutcome, contents, IsSame, KeepsDisk};
+ghost use Rattle.disk.specs.{AddsNoOutcome, AlwaysLeaves, contents, IsSame, IsStill, KeepsDisk};
 ghost use Rattle.record_log.specs.{EndsInRange, LogHolds, HasFailed, count_of};
 ghost use Rattle.chain_model.specs.{IsId, place};
 ghost use Rattle.configurations.specs.{IsConfig};
 ghost use Rattle.node.specs.Files.{DiskRepresents, HasId, IsBlank, HasDurableId};
-ghost use Rattle.node.specs.Files.{IsRecovered, KeepsOneOf, KeepsOthers};
+ghost use Rattle.node.specs.Files.{IsOneOf, IsRecovered, KeepsOthers};
 ghost use Rattle.node.specs.Layout.{identity_file, identity_records};
 ghost use Rattle.node.specs.Layout.{batch_record, records_from};
 ghost use Rattle.node.specs.Engines.{EngineHolds, IsOpened, IsUsable};
@@ -23,7 +23,7 @@ use crate::layout::{
 };
 use configurations::laws::config_text_is_unique;
 use configurations::{Config, Epoch, NodeId};
-use disk::laws::durable_is_left;
+use disk::laws::{durable_file_is_left, durable_is_left};
 use disk::{Disk, DiskError};
 use kv_types::laws::spellings_differ;
 use kv_types::{Batch, Key, Number, Value, value_at};
@@ -50,6 +50,7 @@ fn batch_at<D: Disk>(alloc: Global, disk: &mut D, log: &Log, index: usize) -> Re
         LogHolds (D.state disk.old) log.now (records_from 1 list) → All IsBatch list →
         IfErr result IsEnvironmental }
     ensures created { IfErr result (λ e. e ≢ Stop.NotCreated) }
+    ensures still { IsStill D.Disk disk.old disk.new }
 {
     let record = log.record(alloc, disk, index)?;
     batch_of(alloc, index as u64 + 1, &record)
@@ -68,6 +69,7 @@ fn batches_in<D: Disk>(alloc: Global, disk: &mut D, log: &Log) -> Result<Vec<Bat
         LogHolds (D.state disk.old) log.now (records_from 1 list) → All IsBatch list →
         length list ≤ MAX_NUMBER → IfErr result IsEnvironmental }
     ensures created { IfErr result (λ e. e ≢ Stop.NotCreated) }
+    ensures still { IsStill D.Disk disk.old disk.new }
 {
     if Number::new(log.len() as u64).is_none() {
         return Err(Stop::Damaged);
@@ -93,6 +95,7 @@ fn identity_in<D: Disk>(alloc: Global, disk: &mut D, log: &Log) -> Result<Identi
     ensures blank { (records : List (List ℕ)) → D.is_honest disk.old →
         LogHolds (D.state disk.old) log.now records →
         IfErr result (λ e. MatchesBlank e (records ≡ [])) }
+    ensures still { IsStill D.Disk disk.old disk.new }
 {
     if log.len() == 0 {
         return Err(Stop::NotCreated);
@@ -112,6 +115,7 @@ fn length_of<D: Disk>(disk: &mut D, file: u64) -> Result<u64, Stop>
         (λ bytes. len ≡ length bytes)) IsEnvironmental }
     ensures range { D.is_honest disk.old →
         OnOk result (EndsInRange (contents (D.state disk.old) file)) }
+    ensures still { IsStill D.Disk disk.old disk.new }
 {
     match disk.length(file) {
         Err(DiskError::NoFile) => Ok(0),
@@ -129,6 +133,7 @@ fn identity_on<D: Disk>(alloc: Global, disk: &mut D) -> Result<Identity, Stop>
         HasId (contents (D.state disk.old)) x ids → IfErr result IsEnvironmental }
     ensures blank { D.is_honest disk.old →
         IfErr result (λ e. MatchesBlank e (IsBlank (contents (D.state disk.old)))) }
+    ensures still { IsStill D.Disk disk.old disk.new }
 {
     records_are_unique(); // law: bytes represent one list of records at most
     if length_of(disk, IDENTITY_FILE)? == 0 {
@@ -180,6 +185,7 @@ impl Engine {
         ensures blank { D.is_honest disk.old →
             IfErr result (λ e. MatchesBlank e (IsBlank (contents (D.state disk.old)))) }
         ensures usable { IfOk result (λ it. IsUsable it.1) }
+        ensures still { IsStill D.Disk disk.old disk.new }
     {
         records_are_unique(); // law: bytes represent one list of records at most
         spellings_differ();
@@ -232,16 +238,20 @@ impl Engine {
             MatchResult result (λ _. EngineHolds (D.state disk.new) self.new x epoch ids
             (list ++ batch ∷ []) floor kept) IsEnvironmental }
 
-        // A crash now, whatever the answer, leaves the old batches, with or without the new one.
-        ensures crash { (x epoch : ℕ) (ids : List ℕ) (list : List BatchContent)
+        // A crash at any moment since the call began, whatever it answers, leaves the old batches,
+        // with or without the new one.
+        ensures any_moment { (x epoch : ℕ) (ids : List ℕ) (list : List BatchContent)
             (floor kept : ℕ) → D.is_honest disk.old →
             EngineHolds (D.state disk.old) self.old x epoch ids list floor kept →
-            KeepsOneOf (D.state disk.new) x epoch ids list (list ++ batch ∷ []) floor kept }
+            AlwaysLeaves D.Disk disk.old disk.new
+            (IsOneOf x epoch ids list (list ++ batch ∷ []) floor kept) }
         ensures usable { OnOk result (IsUsable self.new
             × (engine_count self.new ≡ engine_count self.old + 1)
             × (engine_kept self.new ≡ engine_kept self.old)) }
     {
-        durable_is_left(); // law: a crash leaves what is durable
+        // laws: a crash leaves what is durable, file by file
+        durable_is_left();
+        durable_file_is_left();
         let number = self.batches.len() as u64 + 1;
         let record = batch_record(alloc, number, &batch)?;
         self.batches.reserve(1)?;
@@ -260,6 +270,7 @@ impl Engine {
             D.is_honest disk.old →
             EngineHolds (D.state disk.old) self.now x epoch ids list floor kept →
             MatchResult result (λ batch. place list number ≡ Some batch) IsEnvironmental }
+        ensures still { IsStill D.Disk disk.old disk.new }
     {
         Ok(self.batches[number.get() as usize - 1].clone()?)
     }
@@ -272,6 +283,7 @@ impl Engine {
             D.is_honest disk.old →
             EngineHolds (D.state disk.old) self.now x epoch ids list floor kept → floor ≤ at →
             MatchResult result (λ value. value ≡ map_of (take at list) key.now) IsEnvironmental }
+        ensures still { IsStill D.Disk disk.old disk.new }
     {
         let first = self.batches.len().min(at.get() as usize);
         match value_at(&self.batches[..first], key) {

@@ -2,7 +2,7 @@
 ghost use Rattle.std.specs.Prelude.{◌≡◌, ℕ, ◌+◌, ◌-◌, length, replicate};
 ghost use Rattle.std.specs.Prelude.{◌<◌, ◌≤◌, suc, OnOk, IfOk, IfErr, MatchResult, IsErrAnd};
 ghost use Rattle.kv_types.specs.declared.bounds.TheConstants.{MAX_NUMBER};
-ghost use Rattle.disk.specs.{contents, IsArmed, KeepsDisk};
+ghost use Rattle.disk.specs.{contents, IsArmed, IsStill, KeepsDisk};
 ghost use Rattle.chain_model.specs.{created, started, accept, append, forwards, on_ack, resend};
 ghost use Rattle.chain_model.specs.{reply_read};
 ghost use Rattle.node.specs.Engines.{EngineHolds, HasNumbersOf, IsUsable};
@@ -78,6 +78,7 @@ fn resent<D: Disk>(
         EngineHolds (D.state disk.old) engine.now x n.epoch n.ids n.list n.floor n.kept →
         MatchResult result (λ sent. AreFrames sent.items
         (forwards core.now.id n n.successor_has 16)) IsEnvironmental }
+    ensures still { IsStill D.Disk disk.old disk.new }
 {
     one_by_one(); // law: frames are sent one by one
     let numbers = core.resends();
@@ -134,6 +135,7 @@ impl<D: Disk + Drop> Node<D> {
             MatchResult result (IsStarted D.is_honest D.state disk)
             (λ refused. StartRefusal refused.0 (contents (D.state disk))) }
         ensures works { IfOk result IsReady }
+        ensures still { IsStill D.Disk disk (disk_behind result) }
     {
         match Engine::open(alloc, &mut disk) {
             Ok((identity, engine)) => Ok(Node {
@@ -158,7 +160,7 @@ impl<D: Disk + Drop> Node<D> {
         requires done { HasAppended done }
         ensures kept { KeepsNode D.Disk self.old self.new result }
         ensures ends { (x : ℕ) (n : Machine) → NodeRefines D.is_honest D.state self.old x n →
-            let a = done_of x n batch done in CallRefines D.is_honest D.state self.new x n a
+            let a = done_of x n batch done in CallRefines D.Disk self.old self.new x n a
             (λ due. NodeFollows D.is_honest D.state self.new x a due.items) result }
     {
         steps_leave(); // law: what a step leaves of the machine

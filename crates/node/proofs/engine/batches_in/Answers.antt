@@ -3,7 +3,23 @@ use Rattle.std.proofs.lemmas.List.Elements.{All-push}
 use Rattle.kv_types.specs.{IsBatch}
 use Rattle.node.proofs.Records.{grows, all_read}
 use Rattle.node.proofs.Engines.{holds_in}
+use Rattle.disk.proofs.Still.{still, still_more}
 use Rattle.node.proofs.engine.batches_in.Goals as goal
+
+-- none was read
+pub loop-index-init : goal.loop-index-init
+loop-index-init g c = record {
+  honest = search rules;
+  still = λ honest. still _ _;
+  reliable = search rules;
+  count = search rules;
+  fault = search rules;
+  spared = search rules;
+  same = search rules;
+  size = search rules;
+  each = search rules;
+  found = search rules;
+}
 
 -- one record more was read
 pub loop-index-preserved : goal.loop-index-preserved
@@ -18,6 +34,8 @@ loop-index-preserved g c =
     record {
       honest = search rules;
       reliable = search rules;
+      still = λ honest.
+          still_more (was.still honest) (c.batch_at.ensures.still (was.honest.1 honest));
       count = search rules;
       fault = search rules;
       spared = search rules;
@@ -40,3 +58,17 @@ returns-clause-found g c = λ records honest h.
     let read = all_read s0 c.args.log.now records c.loop-index.index list h
     (omega (arith, c.loop-index-test.false)) (was.found records honest h) in
     (read, was.each)
+
+-- each read leaves nothing new
+pub returns-in_err-batch_at-clause-still : goal.returns-in_err-batch_at-clause-still
+returns-in_err-batch_at-clause-still g c = λ honest.
+    let was = c.loop-index.invariant in
+    still_more (was.still honest) (c.batch_at.ensures.still (was.honest.1 honest))
+
+pub returns-in_err-push-clause-still : goal.returns-in_err-push-clause-still
+returns-in_err-push-clause-still g c = λ honest.
+    let was = c.loop-index.invariant in
+    still_more (was.still honest) (c.batch_at.ensures.still (was.honest.1 honest))
+
+pub returns-clause-still : goal.returns-clause-still
+returns-clause-still g c = λ honest. c.loop-index.invariant.still honest

@@ -6,6 +6,7 @@ use Rattle.node.specs.Layout.{identity_record, identity_records}
 use Rattle.node.proofs.Blank.{none_held}
 use Rattle.node.proofs.Causes.{working_log, undamaged}
 use Rattle.node.proofs.Opens.{named_by}
+use Rattle.disk.proofs.Still.{still}
 use Rattle.node.proofs.engine.identity_in.Goals as goal
 
 -- there is no record
@@ -42,3 +43,10 @@ returns-clause-named g c = λ x ids honest id config h.
     let same : one ≡ c.in_ok-record.record.items = cc in
     undamaged c.identity_of.result c.identity_of.ensures.only (λ damaged.
     c.identity_of.ensures.damaged damaged x ids id config (c.deref.ensures.value ∙ sym same))
+
+-- nothing was read
+pub returns-then-len-eq0-clause-still : goal.returns-then-len-eq0-clause-still
+returns-then-len-eq0-clause-still g c = λ honest. still _ _
+
+pub returns-then-len-gt1-clause-still : goal.returns-then-len-gt1-clause-still
+returns-then-len-gt1-clause-still g c = λ honest. still _ _

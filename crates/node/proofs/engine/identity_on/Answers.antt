@@ -8,6 +8,7 @@ use Rattle.node.specs.Layout.{identity_file, identity_records}
 use Rattle.node.proofs.Blank.{has_bytes, blank_read, blank_declined}
 use Rattle.node.proofs.Causes.{of_machine}
 use Rattle.node.proofs.Opens.{has_in, found_id}
+use Rattle.disk.proofs.Still.{still_more}
 use Rattle.node.proofs.engine.identity_on.Goals as goal
 
 pub returns-in_err-identity-clause-opened : goal.returns-in_err-identity-clause-opened
@@ -74,3 +75,15 @@ returns-clause-opened g c = λ x ids honest had.
     let stood = has_in s0 s1 identity_file records same had.identity in
     let holds = c.in_ok-identity.ensures.opened records honest1 stood in
     c.identity_in.ensures.named x ids honest2 had.id had.config holds
+
+-- the parts leave nothing new
+pub returns-in_err-identity-clause-still : goal.returns-in_err-identity-clause-still
+returns-in_err-identity-clause-still g c = λ honest.
+    still_more (c.length_of.ensures.still honest)
+    (c.open.ensures.still (c.length_of.ensures.kept.honest.1 honest))
+
+pub returns-clause-still : goal.returns-clause-still
+returns-clause-still g c = λ honest.
+    let honest' = c.length_of.ensures.kept.honest.1 honest in
+    still_more (still_more (c.length_of.ensures.still honest) (c.open.ensures.still honest'))
+    (c.identity_in.ensures.still (c.open.ensures.kept.honest.1 honest'))

@@ -3,4 +3,4 @@ use Rattle.node.proofs.laws.disks_represent.Goals as goal
 
 pub returns : goal.returns
 returns g c = λ node x n r.
-    running.rests g.D.Disk.is_honest g.D.Disk.state c.durable_is_left.ensures node x n r
+    running.rests g.D.Disk c.durable_is_left.ensures node x n r

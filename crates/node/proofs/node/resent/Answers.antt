@@ -5,6 +5,7 @@ use Rattle.chain_model.specs.{forward, forwards}
 use Rattle.chain_core.specs.{AreFrames}
 use Rattle.node.proofs.Engines.{kept_on}
 use Rattle.node.proofs.Outputs.{both_sent, made_of}
+use Rattle.disk.proofs.Still.{still, still_more}
 use Rattle.node.proofs.node.resent.Goals as goal
 
 -- a batch that could not be had is wanted for the engine's cause
@@ -47,6 +48,20 @@ returns-in_err-push_some-clause-kept g c =
       spared = search rules;
     }
 
+-- none was sent
+pub loop-number-init : goal.loop-number-init
+loop-number-init g c = record {
+  reached = search rules;
+  honest = search rules;
+  still = λ honest. still _ _;
+  reliable = search rules;
+  count = search rules;
+  fault = search rules;
+  spared = search rules;
+  kept = search rules;
+  sent = search rules;
+}
+
 -- the batch of one number more was sent
 pub loop-number-preserved : goal.loop-number-preserved
 loop-number-preserved g c =
@@ -64,6 +79,8 @@ loop-number-preserved g c =
       reached = search rules;
       honest = search rules;
       reliable = search rules;
+      still = λ honest.
+          still_more (was.still honest) (c.batch.ensures.still (was.honest.1 honest));
       count = search rules;
       fault = search rules;
       spared = search rules;
@@ -97,3 +114,17 @@ returns-clause-sent g c = λ x n is honest s.
     let whole = c.resends-numbers.ensures.all n is
     ∙ ap (λ k. forwards core.id n k (numbers.end - numbers.start)) is.successor_has in
     subst (AreFrames at.sent.items) (sym whole) sent
+
+-- each batch leaves nothing new
+pub returns-in_err-batch-clause-still : goal.returns-in_err-batch-clause-still
+returns-in_err-batch-clause-still g c = λ honest.
+    let was = c.loop-number.invariant in
+    still_more (was.still honest) (c.batch.ensures.still (was.honest.1 honest))
+
+pub returns-in_err-push_some-clause-still : goal.returns-in_err-push_some-clause-still
+returns-in_err-push_some-clause-still g c = λ honest.
+    let was = c.loop-number.invariant in
+    still_more (was.still honest) (c.batch.ensures.still (was.honest.1 honest))
+
+pub returns-clause-still : goal.returns-clause-still
+returns-clause-still g c = λ honest. c.loop-number.invariant.still honest

@@ -1,5 +1,5 @@
 use Rattle.std.proofs.Common.{◌≡◌, ◌↔◌, ℕ, ◌-◌, ◌≤◌, max}
-use Rattle.disk.specs.{HasStruck}
+use Rattle.disk.specs.{HasStruck, IsStill}
 use Rattle.chain_model.specs.{forwards}
 use Rattle.chain_core.specs.{Machine, CoreRefines, AreFrames}
 use Rattle.node.specs.Engines.{EngineHolds, KeepsStore}
@@ -10,6 +10,7 @@ abbrev pub invariant-loop-number : goal.invariant-loop-number
 invariant-loop-number g l = record {
   reached : l.number ≤ max l.initial.number l.number-end;
   honest : g.D.Disk.is_honest l.disk ↔ g.D.Disk.is_honest l.fn.disk;
+  still : IsStill g.D.Disk l.fn.disk l.disk;
   reliable : g.D.Disk.is_reliable l.fn.disk → g.D.Disk.is_reliable l.disk;
   count : g.D.Disk.failures l.disk ≡ g.D.Disk.failures l.fn.disk;
   fault : g.D.Disk.fault_at l.disk ≡ g.D.Disk.fault_at l.fn.disk;

@@ -10,17 +10,17 @@ use Rattle.node.proofs.Engines.{unchanged, next_record, crashed, appended}
 use Rattle.node.proofs.engine.Engine.append.Goals as goal
 
 -- nothing was written
-pub returns-in_err-record-clause-crash : goal.returns-in_err-record-clause-crash
-returns-in_err-record-clause-crash g c = λ x epoch ids list floor kept honest s.
+pub returns-in_err-record-clause-any_moment : goal.returns-in_err-record-clause-any_moment
+returns-in_err-record-clause-any_moment g c = λ x epoch ids list floor kept honest s.
     let is_batch = subst IsBatch c.batch.view_is c.batch.invariant in
     unchanged c.durable_is_left.ensures (g.D.Disk.state c.args.disk.now) c.args.self.now x epoch ids
-    list floor kept s c.args.batch is_batch
+    list floor kept s c.args.batch is_batch (g.D.Disk.past c.args.disk.now)
 
-pub returns-in_err-reserve-clause-crash : goal.returns-in_err-reserve-clause-crash
-returns-in_err-reserve-clause-crash g c = λ x epoch ids list floor kept honest s.
+pub returns-in_err-reserve-clause-any_moment : goal.returns-in_err-reserve-clause-any_moment
+returns-in_err-reserve-clause-any_moment g c = λ x epoch ids list floor kept honest s.
     let is_batch = subst IsBatch c.batch.view_is c.batch.invariant in
     unchanged c.durable_is_left.ensures (g.D.Disk.state c.args.disk.now) c.args.self.now x epoch ids
-    list floor kept s c.args.batch is_batch
+    list floor kept s c.args.batch is_batch (g.D.Disk.past c.args.disk.now)
 
 -- the log works and the record fits, so it reports environment errors alone
 pub returns-in_err-append-clause-appended : goal.returns-in_err-append-clause-appended
@@ -37,8 +37,8 @@ returns-in_err-append-clause-appended g c = λ x epoch ids list floor kept hones
     c.requires.usable.works why)
 
 -- whether the log answered or not, a crash leaves what its file may be left as
-pub returns-in_err-append-clause-crash : goal.returns-in_err-append-clause-crash
-returns-in_err-append-clause-crash g c = λ x epoch ids list floor kept honest s.
+pub returns-in_err-append-clause-any_moment : goal.returns-in_err-append-clause-any_moment
+returns-in_err-append-clause-any_moment g c = λ x epoch ids list floor kept honest s.
     let old = g.D.Disk.state c.args.disk.now in
     let is_batch = subst IsBatch c.batch.view_is c.batch.invariant in
     let self = c.args.self.now in
@@ -46,11 +46,12 @@ returns-in_err-append-clause-crash g c = λ x epoch ids list floor kept honest s
     c.args.batch is_batch (c.len.result + 1) (omega (arith, c.len.ensures)) in
     crashed c.durable_is_left.ensures old self x epoch ids list floor kept s c.args.batch is_batch
     c.deref.result.now (c.deref.ensures.value ∙ c.in_ok-record.ensures ∙ number) c.requires.room
-    (g.D.Disk.state c.append.new.disk) (c.append.ensures.kept.files honest)
-    (c.append.ensures.crash (records_from 1 list) honest s.log)
+    c.durable_file_is_left.ensures (g.D.Disk.state c.append.new.disk)
+    (g.D.Disk.past c.args.disk.now) (g.D.Disk.past c.append.new.disk)
+    (c.append.ensures.any_moment (records_from 1 list) honest s.log)
 
-pub returns-clause-crash : goal.returns-clause-crash
-returns-clause-crash g c = λ x epoch ids list floor kept honest s.
+pub returns-clause-any_moment : goal.returns-clause-any_moment
+returns-clause-any_moment g c = λ x epoch ids list floor kept honest s.
     let old = g.D.Disk.state c.args.disk.now in
     let is_batch = subst IsBatch c.batch.view_is c.batch.invariant in
     let self = c.args.self.now in
@@ -58,8 +59,9 @@ returns-clause-crash g c = λ x epoch ids list floor kept honest s.
     c.args.batch is_batch (c.len.result + 1) (omega (arith, c.len.ensures)) in
     crashed c.durable_is_left.ensures old self x epoch ids list floor kept s c.args.batch is_batch
     c.deref.result.now (c.deref.ensures.value ∙ c.in_ok-record.ensures ∙ number) c.requires.room
-    (g.D.Disk.state c.append.new.disk) (c.append.ensures.kept.files honest)
-    (c.append.ensures.crash (records_from 1 list) honest s.log)
+    c.durable_file_is_left.ensures (g.D.Disk.state c.append.new.disk)
+    (g.D.Disk.past c.args.disk.now) (g.D.Disk.past c.append.new.disk)
+    (c.append.ensures.any_moment (records_from 1 list) honest s.log)
 
 -- the record is in the log, and the batch in memory
 pub returns-clause-appended : goal.returns-clause-appended

@@ -3,6 +3,7 @@ use Rattle.node.specs.Layout.{identity_file, batches_file, records_from}
 use Rattle.node.specs.Files.{IsDurableIdOf}
 use Rattle.node.proofs.Opens.{has_in, same_identity, same_batches}
 use Rattle.node.proofs.Engines.{holds_in, id_in}
+use Rattle.disk.proofs.Still.{still_more}
 use Rattle.node.proofs.engine.Engine.open.Goals as goal
 
 -- the log's file was synced, and the identity file before it
@@ -59,3 +60,21 @@ returns-clause-opened g c = λ x epoch ids list floor kept honest represents.
         numbers = represents.numbers;
       };
     }
+
+-- the parts leave nothing new
+pub returns-in_err-log-clause-still : goal.returns-in_err-log-clause-still
+returns-in_err-log-clause-still g c = λ honest.
+    still_more (c.identity_on.ensures.still honest)
+    (c.open.ensures.still (c.identity_on.ensures.kept.honest.1 honest))
+
+pub returns-in_err-batches-clause-still : goal.returns-in_err-batches-clause-still
+returns-in_err-batches-clause-still g c = λ honest.
+    let honest' = c.identity_on.ensures.kept.honest.1 honest in
+    still_more (still_more (c.identity_on.ensures.still honest) (c.open.ensures.still honest'))
+    (c.batches_in.ensures.still (c.open.ensures.kept.honest.1 honest'))
+
+pub returns-clause-still : goal.returns-clause-still
+returns-clause-still g c = λ honest.
+    let honest' = c.identity_on.ensures.kept.honest.1 honest in
+    still_more (still_more (c.identity_on.ensures.still honest) (c.open.ensures.still honest'))
+    (c.batches_in.ensures.still (c.open.ensures.kept.honest.1 honest'))

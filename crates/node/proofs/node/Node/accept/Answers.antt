@@ -6,7 +6,7 @@ use Rattle.kv_types.specs.{BatchContent}
 use Rattle.chain_model.specs.{Message, accept, forward}
 use Rattle.chain_core.specs.declared.Done.TheVariants as done
 use Rattle.node.specs.Stops.{IsEnvironmental}
-use Rattle.node.proofs.Running.{ends_rule, ends_stopped, stops_before}
+use Rattle.node.proofs.Running.{at_rest, ends_rule, ends_stopped}
 use Rattle.node.proofs.Running.{copy_after, number_taken, taken_stands}
 use Rattle.node.proofs.node.Node.accept.Goals as goal
 
@@ -16,9 +16,8 @@ returns-in_err-copy-clause-ends g c = λ x n input r.
     let a = accept x n c.args.request c.args.batch in
     let p = err_from_is_err_and c.from_residual.result c.from_residual.ensures.1 in
     let old = c.args.self.now in
-    ends_stopped g.D.Disk.is_honest g.D.Disk.state old x n a _ c.from_residual.result p.0 p.1
-    (inr p.2) r.honest
-    (stops_before g.D.Disk.is_honest g.D.Disk.state c.durable_is_left.ensures old x n a r)
+    ends_stopped g.D.Disk old old x n a _ c.from_residual.result p.0 p.1 (inr p.2) r.honest
+    (at_rest g.D.Disk c.durable_is_left.ensures old x n a.node r)
 
 -- it stops as the store's part does
 pub returns-in_err-due-clause-ends : goal.returns-in_err-due-clause-ends
@@ -27,8 +26,8 @@ returns-in_err-due-clause-ends g c = λ x n input r.
     let result = c.from_residual-in_err-due.result in
     let p = err_from_is_err_and result c.from_residual-in_err-due.ensures.1 in
     let e = c.in_err-due.ensures.ends x n r in
-    ends_stopped g.D.Disk.is_honest g.D.Disk.state c.append_batch.new.self x n a _ result p.0 p.1
-    (subst IsEnvironmental (sym p.2) e.done) e.stopped.0 e.stopped.1
+    ends_stopped g.D.Disk c.args.self.now c.append_batch.new.self x n a _ result p.0 p.1
+    (subst IsEnvironmental (sym p.2) e.done) e.honest e.any_moment
 
 -- the appended batch is sent
 pub returns-clause-ends : goal.returns-clause-ends
@@ -37,7 +36,8 @@ returns-clause-ends g c = λ x n input r.
     let d = done.Accepted c.args.request in
     let a = accept x n c.args.request batch in
     let leaves = c.steps_leave.ensures x n batch d in
-    let follows = (c.in_ok-due.ensures.ends x n r).done in
+    let e = c.in_ok-due.ensures.ends x n r in
+    let follows = e.done in
     let old = c.args.self.now.core in
     let new = c.append_batch.new.self.core in
     let number : new.count ≡ suc (length n.list) =
@@ -48,7 +48,6 @@ returns-clause-ends g c = λ x n input r.
     let says = c.output_of_append.ensures.says a.node batch follows.runs.core there copied in
     let sent : ℕ → List (Message BatchContent) = λ y. forward y a.node new.count ++ [] in
     let one = append-nil (forward x a.node new.count) ∙ ap (forward x a.node) number in
-    ends_rule g.D.Disk.is_honest g.D.Disk.state c.durable_is_left.ensures c.append_batch.new.self x
-    n input
-    batch d a c.in_ok-due.due.items c.deref.result.now sent c.output_of_append.result leaves follows
+    ends_rule g.D.Disk c.args.self.now c.append_batch.new.self x n input batch d a
+    c.in_ok-due.due.items c.deref.result.now sent c.output_of_append.result e.any_moment leaves follows
     c.deref.ensures.value one says c.output_of_append.ensures.memory

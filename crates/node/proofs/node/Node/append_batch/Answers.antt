@@ -5,7 +5,7 @@ use Rattle.chain_core.specs.{done_of}
 use Rattle.node.specs.Stops.{IsEnvironmental}
 use Rattle.node.proofs.Running.{with_engine, with_core, counts_appended, keeps_kept}
 use Rattle.node.proofs.Running.{holds_appended}
-use Rattle.node.proofs.Running.{stops_between, goes_on, ends_stopped}
+use Rattle.node.proofs.Running.{appends, goes_on, ends_stopped}
 use Rattle.node.proofs.node.Node.append_batch.Goals as goal
 
 -- the store stopped, and a crash leaves its batches with or without the new one
@@ -17,11 +17,11 @@ returns-in_err-append-clause-ends g c = λ x n r.
     let node = with_engine c.args.self.now c.append.new.disk c.append.new.self in
     let appended = c.in_err-append.ensures.appended x n.epoch n.ids n.list n.floor n.kept r.honest
     r.store in
-    let stops = stops_between (g.D.Disk.state node.disk) x n c.args.batch c.args.done a leaves
-    c.requires.done
-    (c.append.ensures.crash x n.epoch n.ids n.list n.floor n.kept r.honest r.store) in
-    ends_stopped g.D.Disk.is_honest g.D.Disk.state node x n a _ c.from_residual.result p.0 p.1
-    (subst IsEnvironmental (sym p.2) appended) (c.append.ensures.kept.honest.1 r.honest) stops
+    let moments = appends g.D.Disk c.args.self.now.disk node.disk x n c.args.batch c.args.done a
+    leaves c.requires.done
+    (c.append.ensures.any_moment x n.epoch n.ids n.list n.floor n.kept r.honest r.store) in
+    ends_stopped g.D.Disk c.args.self.now node x n a _ c.from_residual.result p.0 p.1
+    (subst IsEnvironmental (sym p.2) appended) (c.append.ensures.kept.honest.1 r.honest) moments
 
 -- the batch is durable, and memory ran out
 pub returns-in_err-after-clause-ends : goal.returns-in_err-after-clause-ends
@@ -32,11 +32,11 @@ returns-in_err-after-clause-ends g c = λ x n r.
     let p = err_from_is_err_and result c.from_residual-in_err-after.ensures.1 in
     let node = with_core (with_engine c.args.self.now c.append.new.disk c.append.new.self)
     c.after.new.self in
-    let stops = stops_between (g.D.Disk.state node.disk) x n c.args.batch c.args.done a leaves
-    c.requires.done
-    (c.append.ensures.crash x n.epoch n.ids n.list n.floor n.kept r.honest r.store) in
-    ends_stopped g.D.Disk.is_honest g.D.Disk.state node x n a _ result p.0 p.1 (inr p.2)
-    (c.append.ensures.kept.honest.1 r.honest) stops
+    let moments = appends g.D.Disk c.args.self.now.disk node.disk x n c.args.batch c.args.done a
+    leaves c.requires.done
+    (c.append.ensures.any_moment x n.epoch n.ids n.list n.floor n.kept r.honest r.store) in
+    ends_stopped g.D.Disk c.args.self.now node x n a _ result p.0 p.1 (inr p.2)
+    (c.append.ensures.kept.honest.1 r.honest) moments
 
 -- the node refines the machine of the rule
 pub returns-clause-ends : goal.returns-clause-ends
@@ -51,10 +51,16 @@ returns-clause-ends g c = λ x n r.
     c.in_ok-after.field-0.items) r.id (c.in_ok-after.ensures.after n batch r.core) in
     let holds = holds_appended (g.D.Disk.state node.disk) node.engine x n batch d c.requires.done
     (c.in_ok-append.ensures.appended x n.epoch n.ids n.list n.floor n.kept r.honest r.store) in
-    let runs = goes_on g.D.Disk.is_honest g.D.Disk.state node x n batch d a leaves
+    let runs = goes_on g.D.Disk node x n batch d a leaves
     (c.append.ensures.kept.honest.1 r.honest) holds follows.is
     (c.in_ok-after.ensures.same ∙ r.id) in
-    record { done = record { runs = runs; replied = follows.replied }; stopped = tt }
+    record {
+      done = record { runs = runs; replied = follows.replied };
+      honest = runs.honest;
+      any_moment = appends g.D.Disk c.args.self.now.disk node.disk x n batch d a leaves
+          c.requires.done
+          (c.append.ensures.any_moment x n.epoch n.ids n.list n.floor n.kept r.honest r.store);
+    }
 
 -- one batch more is counted, and none was trimmed
 pub returns-clause-kept : goal.returns-clause-kept

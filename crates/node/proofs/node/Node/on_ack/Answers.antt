@@ -7,7 +7,7 @@ use Rattle.chain_core.specs.declared.Done.TheVariants as done
 use Rattle.chain_core.specs as core
 use Rattle.chain_core.specs.{AreFrames, done_of}
 use Rattle.node.proofs.Outputs.{greater}
-use Rattle.node.proofs.Running.{ends_rule, ends_stopped, stops_before, goes_on}
+use Rattle.node.proofs.Running.{at_rest, ends_rule, ends_stopped, goes_on}
 use Rattle.node.proofs.Running.{with_core, counts_told, keeps_kept}
 use Rattle.node.proofs.Causes.{on_ok}
 use Rattle.node.proofs.node.Node.on_ack.Goals as goal
@@ -19,9 +19,8 @@ returns-in_err-due-clause-ends g c = λ x n input r.
     let p = err_from_is_err_and c.from_residual.result c.from_residual.ensures.1 in
     let old = c.args.self.now in
     let node = with_core old c.after.new.self in
-    ends_stopped g.D.Disk.is_honest g.D.Disk.state node x n a _ c.from_residual.result
-    p.0 p.1 (inr p.2) r.honest (stops_before g.D.Disk.is_honest g.D.Disk.state
-    c.durable_is_left.ensures old x n a r)
+    ends_stopped g.D.Disk old node x n a _ c.from_residual.result p.0 p.1 (inr p.2) r.honest
+    (at_rest g.D.Disk c.durable_is_left.ensures old x n a.node r)
 
 -- as many batches are counted as before, and none was given up
 pub returns-clause-works : goal.returns-clause-works
@@ -47,7 +46,7 @@ returns-clause-ends g c = λ x n input r.
     let node = with_core old c.after.new.self in
     let follows = subst (λ (y : ℕ). core.CoreFollows node.core (done_of y n [] d) due) r.id
     (c.in_ok-due.ensures.after n [] r.core) in
-    let runs = goes_on g.D.Disk.is_honest g.D.Disk.state node x n [] d a leaves r.honest
+    let runs = goes_on g.D.Disk node x n [] d a leaves r.honest
     r.store follows.is (c.in_ok-due.ensures.same ∙ r.id) in
     let told : Bool → List (Message BatchContent) = λ acks. if acks then ack x a.node else [] in
     let sent : ℕ → List (Message BatchContent) =
@@ -56,8 +55,7 @@ returns-clause-ends g c = λ x n input r.
     let grows : c.gt-grows.result ≡ nat_lt n.committed c.args.committed =
     c.gt-grows.ensures ∙ greater c.args.committed c.committed.result
     ∙ ap (λ k. nat_lt k c.args.committed) (c.committed.ensures.same ∙ sym r.core.committed) in
-    ends_rule g.D.Disk.is_honest g.D.Disk.state c.durable_is_left.ensures node x n input [] d a due
-    c.deref.result.now sent
-    c.output_of.result leaves (record { runs = runs; replied = follows.replied })
+    ends_rule g.D.Disk old node x n input [] d a due c.deref.result.now sent c.output_of.result
+    (at_rest g.D.Disk c.durable_is_left.ensures old x n a.node r) leaves (record { runs = runs; replied = follows.replied })
     c.deref.ensures.value (ap told grows)
     (c.output_of.ensures.says a.node [] runs.core none) c.output_of.ensures.memory

@@ -3,7 +3,7 @@ use Rattle.std.proofs.lemmas.Result.{err_from_is_err_and}
 use Rattle.chain_model.specs.{reply_read}
 use Rattle.node.specs.Stops.{IsEnvironmental}
 use Rattle.node.proofs.Outputs.{readable, tells_read}
-use Rattle.node.proofs.Running.{with_engine, still_runs, stops_before, ends, ends_stopped}
+use Rattle.node.proofs.Running.{with_engine, still_refines, still_runs, ends, ends_stopped}
 use Rattle.node.proofs.node.Node.read.Goals as goal
 
 -- the value could not be had, and the engine holds what it held
@@ -15,13 +15,14 @@ returns-in_err-value-clause-ends g c = λ x n input read r.
     let node = with_engine old c.get.new.disk old.engine in
     let files = c.get.ensures.kept.files r.honest in
     let holds = files.holds x n.epoch n.ids n.list n.floor n.kept r.store in
-    let runs = still_runs g.D.Disk.is_honest g.D.Disk.state old c.get.new.disk old.engine x n r
+    let runs = still_runs g.D.Disk old c.get.new.disk old.engine x n r
     (c.get.ensures.kept.honest.1 r.honest) holds in
     let found = c.in_err-value.ensures.found x n.epoch n.ids n.list n.floor n.kept r.honest r.store
     (readable n input c.args.request c.args.at c.args.key read) in
-    ends_stopped g.D.Disk.is_honest g.D.Disk.state node x n a _ c.from_residual.result p.0 p.1
+    ends_stopped g.D.Disk old node x n a _ c.from_residual.result p.0 p.1
     (subst IsEnvironmental (sym p.2) found) runs.honest
-    (stops_before g.D.Disk.is_honest g.D.Disk.state c.durable_is_left.ensures node x n a runs)
+    (still_refines g.D.Disk c.durable_is_left.ensures old c.get.new.disk x n a.node r
+    (c.get.ensures.still r.honest))
 
 -- what the key has is shown
 pub returns-clause-ends : goal.returns-clause-ends
@@ -30,12 +31,14 @@ returns-clause-ends g c = λ x n input read r.
     let node = with_engine old c.get.new.disk old.engine in
     let files = c.get.ensures.kept.files r.honest in
     let holds = files.holds x n.epoch n.ids n.list n.floor n.kept r.store in
-    let runs = still_runs g.D.Disk.is_honest g.D.Disk.state old c.get.new.disk old.engine x n r
+    let runs = still_runs g.D.Disk old c.get.new.disk old.engine x n r
     (c.get.ensures.kept.honest.1 r.honest) holds in
     let found = c.in_ok-value.ensures.found x n.epoch n.ids n.list n.floor n.kept r.honest r.store
     (readable n input c.args.request c.args.at c.args.key read) in
     let tells = tells_read n input c.args.request c.args.at c.args.key c.value_output.result read
     (λ number. c.value_output.ensures.tells n c.args.key number found) in
-    ends g.D.Disk.is_honest g.D.Disk.state c.durable_is_left.ensures node x n input
-    (reply_read n c.args.request c.args.at) c.value_output.result runs tells
+    let a = reply_read n c.args.request c.args.at in
+    ends g.D.Disk old node x n input a c.value_output.result
+    (still_refines g.D.Disk c.durable_is_left.ensures old c.get.new.disk x n a.node r
+    (c.get.ensures.still r.honest)) runs tells
     c.value_output.ensures.memory

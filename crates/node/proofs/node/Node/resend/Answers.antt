@@ -4,7 +4,7 @@ use Rattle.std.proofs.lemmas.Result.{err_from_is_err_and}
 use Rattle.chain_model.specs.{resend}
 use Rattle.node.specs.Outputs.{OutputRefines}
 use Rattle.node.specs.Stops.{IsEnvironmental}
-use Rattle.node.proofs.Running.{with_engine, still_runs, stops_before, ends, ends_stopped}
+use Rattle.node.proofs.Running.{with_engine, still_refines, still_runs, ends, ends_stopped}
 use Rattle.node.proofs.node.Node.resend.Goals as goal
 
 -- a batch could not be had, and the engine holds what it held
@@ -16,12 +16,12 @@ returns-in_err-sent-clause-ends g c = λ x n input r.
     let node = with_engine old c.resent.new.disk old.engine in
     let files = c.resent.ensures.kept.files r.honest in
     let holds = files.holds x n.epoch n.ids n.list n.floor n.kept r.store in
-    let runs = still_runs g.D.Disk.is_honest g.D.Disk.state old c.resent.new.disk old.engine x n r
+    let runs = still_runs g.D.Disk old c.resent.new.disk old.engine x n r
     (c.resent.ensures.kept.honest.1 r.honest) holds in
-    ends_stopped g.D.Disk.is_honest g.D.Disk.state node x n a _ c.from_residual.result p.0 p.1
+    ends_stopped g.D.Disk old node x n a _ c.from_residual.result p.0 p.1
     (subst IsEnvironmental (sym p.2) (c.in_err-sent.ensures.sent x n r.core r.honest r.store))
-    runs.honest (stops_before g.D.Disk.is_honest g.D.Disk.state c.durable_is_left.ensures node x n a
-    runs)
+    runs.honest (still_refines g.D.Disk c.durable_is_left.ensures old c.resent.new.disk x n a.node r
+    (c.resent.ensures.still r.honest))
 
 -- the batches and what the node has are sent
 pub returns-clause-ends : goal.returns-clause-ends
@@ -30,10 +30,11 @@ returns-clause-ends g c = λ x n input r.
     let node = with_engine old c.resent.new.disk old.engine in
     let files = c.resent.ensures.kept.files r.honest in
     let holds = files.holds x n.epoch n.ids n.list n.floor n.kept r.store in
-    let runs = still_runs g.D.Disk.is_honest g.D.Disk.state old c.resent.new.disk old.engine x n r
+    let runs = still_runs g.D.Disk old c.resent.new.disk old.engine x n r
     (c.resent.ensures.kept.honest.1 r.honest) holds in
     let sent = c.in_ok-sent.ensures.sent x n r.core r.honest r.store in
     let tells = subst (λ (y : ℕ). IfOk c.output_of.result (OutputRefines input (resend y n))) r.id
     (c.output_of.ensures.says n _ r.core sent) in
-    ends g.D.Disk.is_honest g.D.Disk.state c.durable_is_left.ensures node x n input (resend x n)
-    c.output_of.result runs tells c.output_of.ensures.memory
+    ends g.D.Disk old node x n input (resend x n) c.output_of.result
+    (still_refines g.D.Disk c.durable_is_left.ensures old c.resent.new.disk x n n r
+    (c.resent.ensures.still r.honest)) runs tells c.output_of.ensures.memory

@@ -20,7 +20,7 @@ returns-in-Ok-clause-started g c = λ x n honest rests.
       core = c.core_of.result;
       limits = c.args.limits.now;
     } in
-    runs_opened g.D.Disk.is_honest g.D.Disk.state node c.in-Ok.identity c.core_of.ensures.is x n
+    runs_opened g.D.Disk node c.in-Ok.identity c.core_of.ensures.is x n
     (c.open.ensures.kept.honest.1 honest) opened c.core_of.ensures.id
 
 pub returns-in-Err-clause-started : goal.returns-in-Err-clause-started
@@ -50,5 +50,5 @@ returns-in-Ok-clause-told g c = λ honest.
       core = c.core_of.result;
       limits = c.args.limits.now;
     } in
-    starts g.D.Disk.is_honest g.D.Disk.state node it c.core_of.ensures.is c.args.disk n refl found.1
+    starts g.D.Disk node it c.core_of.ensures.is c.args.disk n refl found.1
     (c.open.ensures.kept.honest.1 honest) opened c.core_of.ensures.id
