@@ -32,7 +32,7 @@ fn number(n: u64) -> Number {
     Number::new(n).unwrap_or(Number::ZERO)
 }
 
-fn key(alloc: Global) -> Result<Key, KvError> {
+pub fn key(alloc: Global) -> Result<Key, KvError> {
     Key::new(b"a".to_vec(alloc)?)
 }
 
@@ -75,7 +75,8 @@ fn kind_of(alloc: Global, step: &Step) -> Result<EventKind, KvError> {
     })
 }
 
-fn event(alloc: Global, step: &Step) -> Result<Event, KvError> {
+/// The event of a step, without a fault.
+pub fn event(alloc: Global, step: &Step) -> Result<Event, KvError> {
     let kind = kind_of(alloc, step)?;
     let fault = Fault::None;
     Ok(Event { kind, fault })

@@ -8,4 +8,6 @@ mod example;
 #[cfg(test)]
 mod one_node;
 #[cfg(test)]
+mod sweep;
+#[cfg(test)]
 mod three_nodes;

@@ -1,8 +1,8 @@
 -- An open engine over a node's files: its numbers, and the batches that it holds.
-use Rattle.std.specs.Prelude.{◌≡◌, ℕ, ◌+◌, ◌≤◌, List, length, All}
+use Rattle.std.specs.Prelude.{◌≡◌, ℕ, ◌+◌, ◌≤◌, List, length, All, IsSomeAnd}
 use Rattle.kv_types.specs.declared.bounds.TheConstants.{MAX_NUMBER}
 use Rattle.kv_types.specs.{BatchContent, IsBatch}
-use Rattle.disk.specs.{State, EndsOutOfRange}
+use Rattle.disk.specs.{State, EndsOutOfRange, seen}
 use Rattle.record_log.specs.declared.log.TheConstants.{MAX_RECORD}
 use Rattle.record_log.specs.{HasFailed, LogHolds, IsAt, file_of, gate_of}
 use Rattle.chain_core.specs.{Machine}
@@ -37,6 +37,11 @@ pub record IsUsable (engine : Engine) : Type 0 where
 -- one more record of the greatest length would end past the greatest place of a file
 abbrev pub IsNearlyFull : Engine → Type 0
 IsNearlyFull engine = EndsOutOfRange (gate_of engine.log) (MAX_RECORD + 6)
+
+-- a file of the disk is as long: one more record would end past the greatest place of a file
+abbrev pub HasLongFile : State → Type 0
+HasLongFile disk =
+    (file : ℕ) × IsSomeAnd (seen (disk file)) (λ it. EndsOutOfRange (length it) (MAX_RECORD + 6))
 
 -- an open engine holds the state that the disk durably represents
 pub record EngineHolds (disk : State) (engine : Engine) (x epoch : ℕ) (ids : List ℕ)

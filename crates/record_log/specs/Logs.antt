@@ -168,3 +168,9 @@ Appended limit result old new one untouched =
 -- the limit of a record as a number
 abbrev pub RecordBoundIs : Type 0
 RecordBoundIs = MAX_RECORD ≡ 16777216
+
+-- the closed gate of a log is within its file
+abbrev pub GatesAreInFiles : Type 0
+GatesAreInFiles = (disk : State) (log : Log) (records : List (List ℕ)) →
+    LogHolds disk log records →
+    IsSomeAnd (seen (disk (file_of log))) (λ bytes. gate_of log < length bytes)

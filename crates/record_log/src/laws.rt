@@ -1,11 +1,16 @@
 //! Laws of the definitions that contracts use. The functions do nothing: their clauses are the
 //! laws.
 ghost use Rattle.record_log.specs.Grammar.{RecordsAreUnique};
-ghost use Rattle.record_log.specs.Logs.{RecordBoundIs};
+ghost use Rattle.record_log.specs.Logs.{GatesAreInFiles, RecordBoundIs};
 
 /// Bytes represent at most one list of records.
 pub fn records_are_unique()
     ensures { RecordsAreUnique }
+{}
+
+/// The closed gate of a log is within its file.
+pub fn gates_are_in_files()
+    ensures { GatesAreInFiles }
 {}
 
 /// The limit of a record as a number.
