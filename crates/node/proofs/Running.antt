@@ -271,7 +271,8 @@ module _ {D : Type 0} (g : Ghosts D) where
   }
 
   -- the rule is that of the decision
-  pub ends_as : (old node : Node D) (x : ℕ) (n : Machine) (input : Input) (decision known : Decision)
+  pub ends_as : (old node : Node D) (x : ℕ) (n : Machine) (input : Input) (decision known :
+      Decision)
       (result : Result Output Stop) → decision ≡ known →
       CallRefines g old node x n (rule_of x n known)
       (StepRefines g.is_honest g.state node x input (rule_of x n known)) result →
@@ -303,7 +304,8 @@ module _ {D : Type 0} (g : Ghosts D) where
       memory
 
   -- a call that stops
-  pub ends_stopped : {T : Type 0} (old node : Node D) (x : ℕ) (n : Machine) (a : Answer BatchContent)
+  pub ends_stopped : {T : Type 0} (old node : Node D) (x : ℕ) (n : Machine) (a : Answer
+      BatchContent)
       (IsDone : T → Type 0) (result : Result T Stop) (e : Stop) → result ≡ Err e →
       IsEnvironmental e → g.is_honest node.disk →
       AlwaysRefines g old.disk node.disk x n a.node →

@@ -2,7 +2,8 @@ use Rattle.disk.proofs.Still.{still, still_same}
 use Rattle.node.proofs.engine.length_of.Goals as goal
 
 -- the length is read
-pub returns-in_err-answer-in_default-clause-still : goal.returns-in_err-answer-in_default-clause-still
+pub returns-in_err-answer-in_default-clause-still :
+    goal.returns-in_err-answer-in_default-clause-still
 returns-in_err-answer-in_default-clause-still g c = λ honest.
     still_same (still (g.D.Disk.state c.args.disk.now) (g.D.Disk.past c.args.disk.now))
     (c.length.ensures.passes honest).moment (c.length.ensures.kept.disk.files honest)

@@ -49,5 +49,6 @@ returns-clause-ends g c = λ x n input r.
     let sent : ℕ → List (Message BatchContent) = λ y. forward y a.node new.count ++ [] in
     let one = append-nil (forward x a.node new.count) ∙ ap (forward x a.node) number in
     ends_rule g.D.Disk c.args.self.now c.append_batch.new.self x n input batch d a
-    c.in_ok-due.due.items c.deref.result.now sent c.output_of_append.result e.any_moment leaves follows
+    c.in_ok-due.due.items c.deref.result.now sent c.output_of_append.result e.any_moment leaves
+    follows
     c.deref.ensures.value one says c.output_of_append.ensures.memory

@@ -55,5 +55,6 @@ returns-clause-ends g c = λ x n input r.
     let both = ap (λ k. forward x a.node k ++ told acks) number
     ∙ ap (λ b. forward x a.node (suc (length n.list)) ++ told b) tail in
     ends_rule g.D.Disk c.args.self.now c.append_batch.new.self x n input batch d a
-    c.in_ok-due.due.items c.deref.result.now sent c.output_of_append.result e.any_moment leaves follows
+    c.in_ok-due.due.items c.deref.result.now sent c.output_of_append.result e.any_moment leaves
+    follows
     c.deref.ensures.value both says c.output_of_append.ensures.memory

@@ -34,7 +34,8 @@ returns-in-AckDuplicate-clause-ends g c = λ x n input read r.
     ends_as g.D.Disk c.args.self.now c.args.self.now x n input c.args.decision
     decision.AckDuplicate c.ack_duplicate.result c.in-AckDuplicate.is
     (ends g.D.Disk c.args.self.now c.args.self.now x n input (ack_duplicate x n)
-    c.ack_duplicate.result (at_rest g.D.Disk c.durable_is_left.ensures c.args.self.now x n n r) r tells c.ack_duplicate.ensures.memory)
+    c.ack_duplicate.result (at_rest g.D.Disk c.durable_is_left.ensures c.args.self.now x n n r) r
+    tells c.ack_duplicate.ensures.memory)
 
 pub returns-in-Read-clause-ends : goal.returns-in-Read-clause-ends
 returns-in-Read-clause-ends g c = λ x n input read r.
@@ -62,7 +63,8 @@ pub returns-in-Drop-clause-ends : goal.returns-in-Drop-clause-ends
 returns-in-Drop-clause-ends g c = λ x n input read r.
     let known = decision.Drop c.in-Drop.reason in
     ends_as g.D.Disk c.args.self.now c.args.self.now x n input c.args.decision known
-    (Ok c.output_of_drop.result) c.in-Drop.is (ends g.D.Disk c.args.self.now c.args.self.now x n input
+    (Ok c.output_of_drop.result) c.in-Drop.is (ends g.D.Disk c.args.self.now c.args.self.now x n
+    input
     (rule_of x n known) (Ok c.output_of_drop.result)
     (at_rest g.D.Disk c.durable_is_left.ensures c.args.self.now x n n r) r
     (c.output_of_drop.ensures n input) tt)
