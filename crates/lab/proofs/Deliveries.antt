@@ -1,8 +1,9 @@
 -- The outcome of what an event delivers, by the kind of event.
-use Rattle.std.proofs.Common.{◌≡◌, ℕ, List, map, Option, Some, None, refl, sym}
+use Rattle.std.proofs.Common.{◌≡◌, ℕ, Bool, List, map, Option, Some, None, refl, sym}
 use Rattle.std.proofs.Common.{ap, subst, ◌∙◌}
 use Rattle.std.proofs.lemmas.Bool.{cond-true, cond-false, false≢true}
 use Rattle.kv_types.specs.{BatchContent}
+use Rattle.disk.specs.declared.Fault.{Fault}
 use Rattle.disk.specs.declared.Junk.{Junk}
 use Rattle.disk.specs.{Slots}
 use Rattle.chain_model.specs.{Configurations, place, Message as ModelFrame, dropped_for, silent}
@@ -23,14 +24,14 @@ use Rattle.lab.specs.declared.event.EventKind.{EventKind}
 use Rattle.lab.specs.declared.event.EventKind.TheVariants.{Submit, Get, Deliver, Tick, Start, Stop}
 use Rattle.lab.specs.declared.node_state.NodeState.{NodeState}
 use Rattle.lab.specs.declared.report.Line.TheVariants as line
-use Rattle.lab.specs.Events.{modelled, reply_line}
+use Rattle.lab.specs.Events.{modelled, reply_line, told_cause}
 use Rattle.lab.specs.Deliveries.{IsDeliveryOf, HasNoDelivery, input_of}
 use Rattle.lab.specs.Outcomes.{HasStarted, Starts, Fails, RunsOn, HasStopped, Stops, RestsOn}
 use Rattle.lab.specs.Outcomes.{OutcomeRefines, input_junk}
 use Rattle.lab.specs.Disks.{junk_of}
 use Rattle.lab.specs.SimNodes.{Choice, is_honest, state}
 use Rattle.lab.proofs.Outcomes.{IsOutcome, IsTraced, chosen, as_chosen, given, stop_traced}
-use Rattle.lab.proofs.Outcomes.{drop_traced}
+use Rattle.lab.proofs.Outcomes.{drop_traced, told_fits, with_fault}
 
 -- each kind has the lines of replies that the node has
 abbrev RepliesSo : EventKind → Input → Type 0
@@ -76,28 +77,32 @@ tick_replies x (Response.Opened j s) = refl
 tick_replies x (Response.Closed j s) = refl
 tick_replies x (Response.Refused j why) = refl
 
-module _ (cs : Configurations) (w : SystemState BatchContent) (i x : ℕ) (new : NodeState Slots)
-    (did : StepOutcome)
+module _ (cs : Configurations) (w : SystemState BatchContent) (i x : ℕ) (it : Fault)
+    (struck : Bool) (new : NodeState Slots) (did : StepOutcome)
   where
+    -- the choice in a step that the node does not stop by itself
+    abbrev plain : Choice
+    plain = chosen Answered struck Disk
+
     -- a frame in a place is delivered to its addressee
-    to_addressee : (p : ℕ) (it : Frame) (f : ModelFrame BatchContent) (choice : Choice) →
-        place w.frames p ≡ Some f → frame_as x it ≡ Some f →
-        outcome w cs (modelled i (Deliver p) choice) ≡ delivered w (frame_as x it) choice.went
-    to_addressee p it f choice there same =
+    to_addressee : (p : ℕ) (sent : Frame) (f : ModelFrame BatchContent) (choice : Choice) →
+        place w.frames p ≡ Some f → frame_as x sent ≡ Some f →
+        outcome w cs (modelled i (Deliver p) choice) ≡ delivered w (frame_as x sent) choice.went
+    to_addressee p sent f choice there same =
         ap (λ (o : Option (ModelFrame BatchContent)). delivered w o choice.went) (there ∙ sym same)
 
-    deliver : (p : ℕ) (it : Frame) (f : ModelFrame BatchContent) → place w.frames p ≡ Some f →
-        frame_as x it ≡ Some f → OutcomeRefines is_honest state x (w.nodes x)
-        (input_of it) new did →
-        IsOutcome cs w i x (Deliver p) new did
+    deliver : (p : ℕ) (sent : Frame) (f : ModelFrame BatchContent) → place w.frames p ≡ Some f →
+        frame_as x sent ≡ Some f → OutcomeRefines is_honest state it struck x (w.nodes x)
+        (input_of sent) new did →
+        IsOutcome cs w i x (Deliver p) it struck new did
     deliver p (frame.Forward epoch from number batch) f there same was =
-        given cs w i x (Deliver p) (input.Forward epoch from number batch) new did
+        given cs w i x (Deliver p) it struck (input.Forward epoch from number batch) new did
         (λ choice. to_addressee p (frame.Forward epoch from number batch) f choice there same)
-        (λ cause. refl) (λ o. refl) (forward_replies p epoch from number batch) was
+        (λ choice. refl) (λ o. refl) (forward_replies p epoch from number batch) was
     deliver p (frame.Ack epoch from committed have) f there same was =
-        given cs w i x (Deliver p) (input.Ack epoch from committed have) new did
+        given cs w i x (Deliver p) it struck (input.Ack epoch from committed have) new did
         (λ choice. to_addressee p (frame.Ack epoch from committed have) f choice there same)
-        (λ cause. refl) (λ o. refl) (ack_replies p epoch from committed have) was
+        (λ choice. refl) (λ o. refl) (ack_replies p epoch from committed have) was
     deliver p (frame.Notice epoch config) f there same was = absurd (cc)
     deliver p (frame.Submit request batch) f there same was = absurd (cc)
     deliver p (frame.Get request at key) f there same was = absurd (cc)
@@ -111,13 +116,13 @@ module _ (cs : Configurations) (w : SystemState BatchContent) (i x : ℕ) (new :
     deliver p (frame.Refused request why) f there same was = absurd (cc)
     deliver p (frame.Closed request number) f there same was = absurd (cc)
 
-    start : HasStarted is_honest state x (w.nodes x) new did →
-        IsOutcome cs w i x (Start x) new did
+    start : HasStarted is_honest state it struck x (w.nodes x) new did →
+        IsOutcome cs w i x (Start x) it struck new did
     start (Starts off is traced) =
         let o = answers x (silent (started x (w.nodes x))) in
-        as_chosen cs w i x (Start x) new did (chosen Answered Disk) o
+        as_chosen cs w i x (Start x) it new did plain o
         (started x (w.nodes x)) (cond-false _ _ _ off) refl is
-        (subst (λ (d : StepOutcome). IsTraced x (Start x) (chosen Answered Disk) d o) (sym traced)
+        (subst (λ (d : StepOutcome). IsTraced x (with_fault (Start x) it) plain d o) (sym traced)
         (record {
           frames = refl;
           traced = λ n. refl;
@@ -125,72 +130,74 @@ module _ (cs : Configurations) (w : SystemState BatchContent) (i x : ℕ) (new :
           fits = λ stops. absurd (false≢true stops);
           ends = refl;
         }))
-    start (Fails off cause of_machine is traced) =
-        as_chosen cs w i x (Start x) new did (chosen StoppedBefore cause) (stops x (w.nodes x))
-        (stopped (w.nodes x)) (cond-false _ _ _ off) refl is
-        (subst (λ (d : StepOutcome). IsTraced x (Start x) (chosen StoppedBefore cause) d
-        (stops x (w.nodes x))) (sym traced)
-        (stop_traced x (Start x) (chosen StoppedBefore cause) (Some cause) (w.nodes x) refl
-        of_machine))
+    start (Fails off by is) =
+        as_chosen cs w i x (Start x) it new did (chosen StoppedBefore struck by.cause)
+        (stops x (w.nodes x)) (stopped (w.nodes x)) (cond-false _ _ _ off) refl is
+        (subst (λ (d : StepOutcome). IsTraced x (with_fault (Start x) it)
+        (chosen StoppedBefore struck by.cause) d (stops x (w.nodes x))) (sym by.told)
+        (stop_traced x (with_fault (Start x) it) (chosen StoppedBefore struck by.cause)
+        (told_cause it struck by.cause) (w.nodes x) refl by.device
+        (told_fits it struck by.cause by.environmental)))
     start (RunsOn up is traced) =
         let o = answers x (dropped_for (w.nodes x) reason.Running) in
-        as_chosen cs w i x (Start x) new did (chosen Answered Disk) o (w.nodes x)
+        as_chosen cs w i x (Start x) it new did plain o (w.nodes x)
         (cond-true _ _ _ up) refl is
-        (subst (λ (d : StepOutcome). IsTraced x (Start x) (chosen Answered Disk) d o) (sym traced.1)
-        (drop_traced x (Start x) (chosen Answered Disk) (w.nodes x) reason.Running traced.0
+        (subst (λ (d : StepOutcome). IsTraced x (with_fault (Start x) it) plain d o) (sym traced.1)
+        (drop_traced x (with_fault (Start x) it) plain (w.nodes x) reason.Running traced.0
         traced.2 refl))
 
     stop : (junk : Junk) → HasStopped is_honest state x (w.nodes x) new did →
-        IsOutcome cs w i x (Stop x junk) new did
+        IsOutcome cs w i x (Stop x junk) it struck new did
     stop junk (Stops up is traced) =
-        as_chosen cs w i x (Stop x junk) new did (chosen Answered Disk) (stops x (w.nodes x))
+        as_chosen cs w i x (Stop x junk) it new did plain (stops x (w.nodes x))
         (stopped (w.nodes x)) (cond-true _ _ _ up) refl is
-        (subst (λ (d : StepOutcome). IsTraced x (Stop x junk) (chosen Answered Disk) d
+        (subst (λ (d : StepOutcome). IsTraced x (with_fault (Stop x junk) it) plain d
         (stops x (w.nodes x))) (sym traced)
-        (stop_traced x (Stop x junk) (chosen Answered Disk) None (w.nodes x) refl tt))
+        (stop_traced x (with_fault (Stop x junk) it) plain None (w.nodes x) refl
+        (λ e. refl) tt))
     stop junk (RestsOn off is traced) =
         let o = answers x (dropped_for (w.nodes x) reason.NotRunning) in
-        as_chosen cs w i x (Stop x junk) new did (chosen Answered Disk) o (w.nodes x)
+        as_chosen cs w i x (Stop x junk) it new did plain o (w.nodes x)
         (cond-false _ _ _ off) refl is
-        (subst (λ (d : StepOutcome). IsTraced x (Stop x junk) (chosen Answered Disk) d o)
+        (subst (λ (d : StepOutcome). IsTraced x (with_fault (Stop x junk) it) plain d o)
         (sym traced.1)
-        (drop_traced x (Stop x junk) (chosen Answered Disk) (w.nodes x) reason.NotRunning
+        (drop_traced x (with_fault (Stop x junk) it) plain (w.nodes x) reason.NotRunning
         traced.0 traced.2 refl))
 
     -- the outcome of the input that an event delivers is the event's
     pub refined : (kind : EventKind) (node_input : NodeInput) → IsDeliveryOf w.frames i kind x
         node_input →
-        OutcomeRefines is_honest state x (w.nodes x) node_input new did →
-        IsOutcome cs w i x kind new did
+        OutcomeRefines is_honest state it struck x (w.nodes x) node_input new did →
+        IsOutcome cs w i x kind it struck new did
     refined (Submit node batch) node_input brings was =
-        subst (λ (y : ℕ). IsOutcome cs w i x (Submit y batch) new did) brings.0
-        (given cs w i x (Submit x batch) (input.Submit i batch) new did (λ choice. refl)
-        (λ cause. refl) (λ o. refl) (submit_replies x i batch)
-        (subst (λ (k : NodeInput). OutcomeRefines is_honest state x
+        subst (λ (y : ℕ). IsOutcome cs w i x (Submit y batch) it struck new did) brings.0
+        (given cs w i x (Submit x batch) it struck (input.Submit i batch) new did (λ choice. refl)
+        (λ choice. refl) (λ o. refl) (submit_replies x i batch)
+        (subst (λ (k : NodeInput). OutcomeRefines is_honest state it struck x
         (w.nodes x) k new did) brings.1 was))
     refined (Get node key at) node_input brings was =
-        subst (λ (y : ℕ). IsOutcome cs w i x (Get y key at) new did) brings.0
-        (given cs w i x (Get x key at) (input.Get i key at) new did (λ choice. refl)
-        (λ cause. refl) (λ o. refl) (get_replies x i key at)
-        (subst (λ (k : NodeInput). OutcomeRefines is_honest state x
+        subst (λ (y : ℕ). IsOutcome cs w i x (Get y key at) it struck new did) brings.0
+        (given cs w i x (Get x key at) it struck (input.Get i key at) new did (λ choice. refl)
+        (λ choice. refl) (λ o. refl) (get_replies x i key at)
+        (subst (λ (k : NodeInput). OutcomeRefines is_honest state it struck x
         (w.nodes x) k new did) brings.1 was))
     refined (Deliver p) node_input brings was =
         deliver p brings.it brings.frame brings.there brings.same
-        (subst (λ (k : NodeInput). OutcomeRefines is_honest state x
+        (subst (λ (k : NodeInput). OutcomeRefines is_honest state it struck x
         (w.nodes x) k new did) brings.is was)
     refined (Tick node) node_input brings was =
-        subst (λ (y : ℕ). IsOutcome cs w i x (Tick y) new did) brings.0
-        (given cs w i x (Tick x) input.Tick new did (λ choice. refl)
-        (λ cause. refl) (λ o. refl) (tick_replies x)
-        (subst (λ (k : NodeInput). OutcomeRefines is_honest state x
+        subst (λ (y : ℕ). IsOutcome cs w i x (Tick y) it struck new did) brings.0
+        (given cs w i x (Tick x) it struck input.Tick new did (λ choice. refl)
+        (λ choice. refl) (λ o. refl) (tick_replies x)
+        (subst (λ (k : NodeInput). OutcomeRefines is_honest state it struck x
         (w.nodes x) k new did) brings.1 was))
     refined (Start node) node_input brings was =
-        subst (λ (y : ℕ). IsOutcome cs w i x (Start y) new did) brings.0
-        (start (subst (λ (k : NodeInput). OutcomeRefines is_honest state x (w.nodes x) k new did)
-        brings.1 was))
+        subst (λ (y : ℕ). IsOutcome cs w i x (Start y) it struck new did) brings.0
+        (start (subst (λ (k : NodeInput). OutcomeRefines is_honest state it struck x (w.nodes x) k
+        new did) brings.1 was))
     refined (Stop node junk) node_input brings was =
-        subst (λ (y : ℕ). IsOutcome cs w i x (Stop y junk) new did) brings.0
-        (stop junk (subst (λ (k : NodeInput). OutcomeRefines is_honest state x
+        subst (λ (y : ℕ). IsOutcome cs w i x (Stop y junk) it struck new did) brings.0
+        (stop junk (subst (λ (k : NodeInput). OutcomeRefines is_honest state it struck x
         (w.nodes x) k new did)
         brings.1 was))
 

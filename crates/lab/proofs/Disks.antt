@@ -1,11 +1,13 @@
 -- The disk behind an outcome of its node.
-use Rattle.std.proofs.Common.{◌≡◌, ℕ, ◌+◌, ◌^◌, ◌-◌, ◌<◌, ◌≤◌, Option, Some, None, false}
+use Rattle.std.proofs.Common.{◌≡◌, ℕ, ◌+◌, ◌^◌, ◌-◌, ◌<◌, ◌≤◌, Bool, Option, Some, None}
+use Rattle.std.proofs.Common.{true, false}
 use Rattle.std.proofs.Common.{cond, ◌==◌, refl, sym, subst, ◌∙◌, eq-eqb, eqb-true, arith}
 use Rattle.std.proofs.lemmas.Bool.{cond_both, cond-true, cond-false, false≢true}
 use Rattle.kv_types.specs.{BatchContent}
-use Rattle.disk.specs.{RisesByOne, Slots, State}
+use Rattle.disk.specs.{Slots, struck_call}
+use Rattle.disk.specs.declared.Fault.{Fault}
+use Rattle.disk.specs.declared.Fault.TheVariants as fault
 use Rattle.disk.specs.declared.Junk.{Junk}
-use Rattle.disk.specs.declared.Junk.TheVariants.{Old}
 use Rattle.chain_model.specs.{Outcome}
 use Rattle.chain_core.specs.{Machine}
 use Rattle.node.specs.declared.Stop.{Stop as Cause}
@@ -19,23 +21,11 @@ use Rattle.lab.specs.declared.node_state.NodeState.{NodeState}
 use Rattle.lab.specs.declared.node_state.NodeState.TheVariants.{Up, Down}
 use Rattle.lab.specs.Outcomes.{HasCrashed, DiskEnds, DiskFits}
 use Rattle.lab.specs.Disks.{junk_of, IsCrashOf, IsEndOf, IsStopOf, DiskFollows, DisksFollow}
-use Rattle.lab.specs.Events.{reported_cause}
+use Rattle.lab.specs.Disks.{has_reached, junk_at_end}
+use Rattle.lab.specs.Events.{reported_cause, told_cause}
 use Rattle.lab.specs.SimNodes.{Choice, StateRefines, IsDown, disk_in, is_honest, state, failures}
+use Rattle.lab.specs.SimNodes.{calls}
 use Rattle.lab.proofs.Outcomes.{StopsSo}
-
--- a node stopped by itself and left this disk, which then crashed
-pub ends_by : {D : Type 0} (state : D → State) (failures : D → ℕ) (cause : Cause) (old left : D)
-    (new : NodeState D) → HasCrashed state failures Old left new →
-    (cause ≡ Disk → RisesByOne (failures old) (failures left)) →
-    ((cause ≡ Disk → ⊥) → failures left ≡ failures old) →
-    DiskEnds state failures cause old (disk_in new)
-ends_by state failures cause old left (Up node) crashed failed others = absurd crashed
-ends_by state failures cause old left (Down disk) crashed failed others = record {
-  failed = λ is. subst (λ (n : ℕ). RisesByOne (failures old) n) (sym crashed.count) (failed is);
-  others = λ other. crashed.count ∙ others other;
-  left = state left;
-  crashes = crashed.crashes;
-}
 
 -- a count of failures that may rise
 abbrev pub MayRise : Slots → Type 0
@@ -44,14 +34,15 @@ MayRise disk = failures disk < 2 ^ 64 - 1
 -- ---- one disk
 
 crash_of : (junk : Junk) (old : Slots) (new : NodeState Slots) →
-    HasCrashed state failures junk old new →
-    IsCrashOf state failures junk old (disk_in new)
+    HasCrashed state failures calls junk old new →
+    IsCrashOf state failures calls junk old (disk_in new)
 crash_of junk old (Up node) crashed = absurd crashed
 crash_of junk old (Down disk) crashed = crashed
 
-end_of : (cause : Cause) (old new : Slots) → DiskEnds state failures cause old new → MayRise old →
-    IsEndOf state failures cause old new
-end_of cause old new ends may = record {
+end_of : (junk : Junk) (cause : Cause) (old new : Slots) →
+    DiskEnds state failures junk cause old new → MayRise old →
+    IsEndOf state failures junk cause old new
+end_of junk cause old new ends may = record {
   failed = λ is. (ends.failed is).below may;
   others = ends.others;
   left = ends.left;
@@ -59,52 +50,68 @@ end_of cause old new ends may = record {
 }
 
 -- no call failed but for one of a node that stopped by itself
-pub at_most_one : (junk : Option Junk) (did : StepOutcome) (old : Slots) (new : NodeState Slots) →
-    DiskFits state failures junk did old new → MayRise old →
+at_end : (junk : Junk) (cause : Cause) (old new : Slots) →
+    DiskEnds state failures junk cause old new → MayRise old → failures new ≤ failures old + 1
+at_end junk Disk old new left may = omega (arith, (left.failed refl).below may)
+at_end junk Damaged old new left may = omega (arith, left.others (λ e. cc))
+at_end junk Memory old new left may = omega (arith, left.others (λ e. cc))
+at_end junk NotCreated old new left may = omega (arith, left.others (λ e. cc))
+
+pub at_most_one : (junk : Option Junk) (it : Fault) (struck : Bool) (did : StepOutcome)
+    (old : Slots) (new : NodeState Slots) →
+    DiskFits state failures calls junk it struck did old new → MayRise old →
     failures (disk_in new) ≤ failures old + 1
-at_most_one junk (done.Answered output) old new left may = omega (arith, left.count)
-at_most_one junk (done.Started epoch count committed) old new left may = omega (arith, left.count)
-at_most_one None (done.Stopped None) old new left may = absurd left
-at_most_one (Some junk) (done.Stopped None) old new left may =
+at_most_one junk it struck (done.Answered output) old new left may = omega (arith, left.count)
+at_most_one junk it struck (done.Started epoch count committed) old new left may =
+    omega (arith, left.count)
+at_most_one None it struck (done.Stopped None) old new left may =
+    at_end (junk_at_end it struck) Disk old (disk_in new) left may
+at_most_one (Some junk) it struck (done.Stopped None) old new left may =
     omega (arith, (crash_of junk old new left).count)
-at_most_one junk (done.Stopped (Some Disk)) old new left may =
-    omega (arith, (left.failed refl).below may)
-at_most_one junk (done.Stopped (Some Damaged)) old new left may =
-    omega (arith, left.others (λ e. cc))
-at_most_one junk (done.Stopped (Some Memory)) old new left may =
-    omega (arith, left.others (λ e. cc))
-at_most_one junk (done.Stopped (Some NotCreated)) old new left may =
-    omega (arith, left.others (λ e. cc))
+at_most_one junk it struck (done.Stopped (Some cause)) old new left may =
+    at_end (junk_at_end it struck) cause old (disk_in new) left may
 
 module _ (old : Slots) (new : NodeState Slots) (may : MayRise old) where
-  -- a stop is that of the event, or by itself for the cause that was chosen
-  stop_of : (kind : EventKind) (choice : Choice) (traced : Option Cause) →
-      reported_cause kind choice.cause ≡ traced → DiskFits state failures (junk_of kind)
-      (done.Stopped traced) old new →
-      IsStopOf state failures (junk_of kind) choice.cause old (disk_in new)
-  stop_of (Stop x junk) choice traced is left = crash_of junk old new
-      (subst (λ (c : Option Cause). DiskFits state failures (Some junk) (done.Stopped c) old new)
-      (sym is) left)
-  stop_of (Submit x batch) choice traced is left = by_itself choice.cause traced is left
+  -- a node stopped by itself for the cause that was chosen, whatever of it was told
+  ended_by : (it : Fault) (struck : Bool) (cause : Cause) (traced : Option Cause) →
+      told_cause it struck cause ≡ traced → (struck ≡ true → cause ≡ Disk) →
+      DiskFits state failures calls None it struck (done.Stopped traced) old new →
+      IsEndOf state failures (junk_at_end it struck) cause old (disk_in new)
+  ended_by it struck cause traced is device left =
+      end_of (junk_at_end it struck) cause old (disk_in new)
+      (ends it struck device
+      (subst (λ (c : Option Cause). DiskFits state failures calls None it struck (done.Stopped c)
+      old new) (sym is) left)) may
     where
-      by_itself : (cause : Cause) (traced : Option Cause) → Some cause ≡ traced →
-          DiskFits state failures None (done.Stopped traced) old new →
-          IsEndOf state failures cause old (disk_in new)
-      by_itself cause traced is left = end_of cause old (disk_in new)
-          (subst (λ (c : Option Cause). DiskFits state failures None (done.Stopped c) old new)
-          (sym is) left) may
-  stop_of (Get x key at) choice traced is left = end_of choice.cause old (disk_in new)
-      (subst (λ (c : Option Cause). DiskFits state failures None (done.Stopped c) old new)
-      (sym is) left) may
-  stop_of (Deliver p) choice traced is left = end_of choice.cause old (disk_in new)
-      (subst (λ (c : Option Cause). DiskFits state failures None (done.Stopped c) old new)
-      (sym is) left) may
-  stop_of (Tick x) choice traced is left = end_of choice.cause old (disk_in new)
-      (subst (λ (c : Option Cause). DiskFits state failures None (done.Stopped c) old new)
-      (sym is) left) may
-  stop_of (Start x) choice traced is left = end_of choice.cause old (disk_in new)
-      (subst (λ (c : Option Cause). DiskFits state failures None (done.Stopped c) old new)
-      (sym is) left) may
+      ends : (it : Fault) (struck : Bool) → (struck ≡ true → cause ≡ Disk) →
+          DiskFits state failures calls None it struck
+          (done.Stopped (told_cause it struck cause)) old new →
+          DiskEnds state failures (junk_at_end it struck) cause old (disk_in new)
+      ends fault.None struck device left = left
+      ends (fault.Fail call) struck device left = left
+      ends (fault.Stop call junk) false device left = left
+      ends (fault.Stop call junk) true device left =
+          subst (λ (c : Cause). DiskEnds state failures junk c old (disk_in new))
+          (sym (device refl)) left
+
+  -- a stop is that of the event, or by itself for the cause that was chosen
+  stop_of : (kind : EventKind) (it : Fault) (choice : Choice) (traced : Option Cause) →
+      reported_cause kind it choice ≡ traced → (choice.struck ≡ true → choice.cause ≡ Disk) →
+      DiskFits state failures calls (junk_of kind) it choice.struck (done.Stopped traced) old new →
+      IsStopOf state failures calls (junk_of kind) it choice old (disk_in new)
+  stop_of (Stop x junk) it choice traced is device left = crash_of junk old new
+      (subst (λ (c : Option Cause). DiskFits state failures calls (Some junk) it choice.struck
+      (done.Stopped c) old new) (sym is) left)
+  stop_of (Submit x batch) it choice traced is device left =
+      ended_by it choice.struck choice.cause traced is device left
+  stop_of (Get x key at) it choice traced is device left =
+      ended_by it choice.struck choice.cause traced is device left
+  stop_of (Deliver p) it choice traced is device left =
+      ended_by it choice.struck choice.cause traced is device left
+  stop_of (Tick x) it choice traced is device left =
+      ended_by it choice.struck choice.cause traced is device left
+  stop_of (Start x) it choice traced is device left =
+      ended_by it choice.struck choice.cause traced is device left
 
   -- a state that refines a machine which does not run is down
   rests_so : (m : NodeState Slots) (x : ℕ) (n : Machine) → StateRefines is_honest state m x n →
@@ -112,27 +119,44 @@ module _ (old : Slots) (new : NodeState Slots) (may : MayRise old) where
   rests_so (Up node) x n is off = absurd (false≢true (sym off ∙ is.core.running))
   rests_so (Down disk) x n is off = tt
 
-  -- what the node left is what the event's outcome leaves
-  pub follows : (event : Event) (choice : Choice) (o : Outcome BatchContent) (x : ℕ) (n : Machine)
-      (did : StepOutcome) → StateRefines is_honest state new x n →
-      StopsSo event.kind choice did o.stopped →
-      DiskFits state failures (junk_of event.kind) did old new →
-      DiskFollows state failures event choice o n old (disk_in new)
-  follows event choice o x n (done.Answered output) is ends left = record {
-    stops = λ stops. absurd (false≢true (sym ends ∙ stops));
-    count = λ _. left.count;
-    rests = λ _. λ off. left.same (rests_so new x n is off);
-  }
-  follows event choice o x n (done.Started epoch count committed) is ends left = record {
-    stops = λ stops. absurd (false≢true (sym ends ∙ stops));
-    count = λ _. left.count;
-    rests = λ _. λ off. left.same (rests_so new x n is off);
-  }
-  follows event choice o x n (done.Stopped traced) is ends left = record {
-    stops = λ _. stop_of event.kind choice traced ends.1 left;
-    count = λ goes. absurd (false≢true (sym goes ∙ ends.0));
-    rests = λ goes. absurd (false≢true (sym goes ∙ ends.0));
-  }
+  module _ (event : Event) (choice : Choice) (o : Outcome BatchContent) (x : ℕ) (n : Machine) where
+    -- the fault struck, then, as the count of calls says
+    abbrev pub StruckSo : Type 0
+    StruckSo = choice.struck ≡ has_reached (struck_call event.fault) (calls old)
+        (calls (disk_in new))
+
+    -- where it struck, the node stopped, and for its device
+    pub stops_so : (did : StepOutcome) → StopsSo event choice did o.stopped →
+        DiskFits state failures calls (junk_of event.kind) event.fault choice.struck did old new →
+        choice.struck ≡ true → (o.stopped ≡ true) × (choice.cause ≡ Disk)
+    stops_so (done.Answered output) ends left e = absurd (false≢true (sym left.spared ∙ e))
+    stops_so (done.Started epoch count committed) ends left e =
+        absurd (false≢true (sym left.spared ∙ e))
+    stops_so (done.Stopped traced) ends left e = (ends.0, ends.2 e)
+
+    -- what the node left is what the event's outcome leaves
+    pub follows : (did : StepOutcome) → StateRefines is_honest state new x n → StruckSo →
+        StopsSo event choice did o.stopped →
+        DiskFits state failures calls (junk_of event.kind) event.fault choice.struck did old new →
+        DiskFollows state failures calls event choice o n old (disk_in new)
+    follows (done.Answered output) is struck ends left = record {
+      fault = struck;
+      stops = λ stops. absurd (false≢true (sym ends ∙ stops));
+      count = λ _. left.count;
+      rests = λ _. λ off. left.same (rests_so new x n is off);
+    }
+    follows (done.Started epoch count committed) is struck ends left = record {
+      fault = struck;
+      stops = λ stops. absurd (false≢true (sym ends ∙ stops));
+      count = λ _. left.count;
+      rests = λ _. λ off. left.same (rests_so new x n is off);
+    }
+    follows (done.Stopped traced) is struck ends left = record {
+      fault = struck;
+      stops = λ _. stop_of event.kind event.fault choice traced ends.1 ends.2 left;
+      count = λ goes. absurd (false≢true (sym goes ∙ ends.0));
+      rests = λ goes. absurd (false≢true (sym goes ∙ ends.0));
+    }
 
 -- ---- all disks
 
@@ -152,15 +176,15 @@ disk_elsewhere disks x own y other = cond-false (y == x) own (disks y) other
 -- what the node that an event was for left is what the event leaves of all disks
 pub all_follow : (event : Event) (choice : Choice) (o : Outcome BatchContent) (x : ℕ) (n : Machine)
     (disks : ℕ → Slots) (own : Slots) → o.acted_on ≡ Some (x, n) →
-    DiskFollows state failures event choice o n (disks x) own →
-    DisksFollow state failures event choice o disks (with_disk disks x own)
+    DiskFollows state failures calls event choice o n (disks x) own →
+    DisksFollow state failures calls event choice o disks (with_disk disks x own)
 all_follow event choice o x n disks own came follow = record {
   at = λ y m is.
       let both : Some (x, n) ≡ Some (y, m) = sym came ∙ is in
       let same : (x, n) ≡ (y, m) = cc in
-      subst (λ (q : ℕ × Machine). DiskFollows state failures event choice o q.1 (disks q.0)
+      subst (λ (q : ℕ × Machine). DiskFollows state failures calls event choice o q.1 (disks q.0)
       (with_disk disks x own q.0)) same
-      (subst (λ (d : Slots). DiskFollows state failures event choice o n (disks x) d)
+      (subst (λ (d : Slots). DiskFollows state failures calls event choice o n (disks x) d)
       (sym (disk_here disks x own)) follow);
   others = λ y none. cond_both (y == x) own (disks y) (λ (d : Slots). d ≡ disks y)
       (λ same. absurd (none n (subst (λ (z : ℕ). o.acted_on ≡ Some (z, n))
@@ -169,7 +193,7 @@ all_follow event choice o x n disks own came follow = record {
 
 -- an event that was for none leaves them
 pub none_follow : (event : Event) (choice : Choice) (o : Outcome BatchContent) (disks : ℕ → Slots) →
-    o.acted_on ≡ None → DisksFollow state failures event choice o disks disks
+    o.acted_on ≡ None → DisksFollow state failures calls event choice o disks disks
 none_follow event choice o disks none = record {
   at = λ x n is.
       let both : None ≡ Some (x, n) = sym none ∙ is in

@@ -15,7 +15,7 @@ use Rattle.lab.specs.declared.report.Line.{Line}
 use Rattle.lab.specs.declared.sim_node.SimNode.{SimNode}
 use Rattle.lab.specs.Disks.{DisksFollow, AllFollow}
 use Rattle.lab.specs.Events.{modelled, lines_of_event, ChoiceFits}
-use Rattle.lab.specs.SimNodes.{Choice, state, failures}
+use Rattle.lab.specs.SimNodes.{Choice, state, failures, calls}
 use Rattle.lab.specs.Traces.{modelled_from, lines_from, AllFit}
 use Rattle.lab.specs.Worlds.{PostedRefines, SimNodeRefines, RunRefines, frames_in_steps}
 use Rattle.lab.specs.Worlds.{frames_of_step}
@@ -38,14 +38,14 @@ module _ (cs : Configurations) (e : Event) (ch : Choice) where
       length chs ≡ length es → k ≡ i + length es →
       let u = run cs (modelled_from i es chs) w in
       lines_from cs i (es ++ e ∷ []) (chs ++ ch ∷ []) w ≡ lines_from cs i es chs w ++ lines_of_event
-      (length u.frames) e.kind ch (outcome u cs (modelled k e.kind ch)) ∷ []
+      (length u.frames) e ch (outcome u cs (modelled k e.kind ch)) ∷ []
   lines_from-push i k [] [] w same at = ap
-      (λ (j : ℕ). lines_of_event (length w.frames) e.kind ch
+      (λ (j : ℕ). lines_of_event (length w.frames) e ch
       (outcome w cs (modelled j e.kind ch)) ∷ []) (omega arith)
   lines_from-push i k [] (c ∷ chs) w same at = absurd (omega arith)
   lines_from-push i k (f ∷ es) [] w same at = absurd (omega arith)
   lines_from-push i k (f ∷ es) (c ∷ chs) w same at =
-      ap (λ (l : List (List Line)). lines_of_event (length w.frames) f.kind c
+      ap (λ (l : List (List Line)). lines_of_event (length w.frames) f c
       (outcome w cs (modelled i f.kind c)) ∷ l)
       (lines_from-push (suc i) k es chs (state_after cs w (modelled i f.kind c)) (omega arith)
       (omega arith))
@@ -69,15 +69,15 @@ module _ (cs : Configurations) (e : Event) (ch : Choice) where
 
   pub follow-push : (i k : ℕ) (es : List Event) (chs : List Choice) (w : SystemState BatchContent)
       (old disks new : ℕ → Slots) → length chs ≡ length es → k ≡ i + length es →
-      AllFollow state failures cs i es chs w old disks →
+      AllFollow state failures calls cs i es chs w old disks →
       let u = run cs (modelled_from i es chs) w in
-      DisksFollow state failures e ch (outcome u cs (modelled k e.kind ch)) disks new →
-      AllFollow state failures cs i (es ++ e ∷ []) (chs ++ ch ∷ []) w old new
+      DisksFollow state failures calls e ch (outcome u cs (modelled k e.kind ch)) disks new →
+      AllFollow state failures calls cs i (es ++ e ∷ []) (chs ++ ch ∷ []) w old new
   follow-push i k [] [] w old disks new same at all one = (
     new,
-    subst (λ (d : ℕ → Slots). DisksFollow state failures e ch
+    subst (λ (d : ℕ → Slots). DisksFollow state failures calls e ch
         (outcome w cs (modelled i e.kind ch)) d new) all
-        (subst (λ (j : ℕ). DisksFollow state failures e ch
+        (subst (λ (j : ℕ). DisksFollow state failures calls e ch
         (outcome w cs (modelled j e.kind ch)) disks new) (omega arith) one),
     refl,
   )
@@ -111,14 +111,14 @@ pub record Next (cs : Configurations) (w : SystemState BatchContent) (old : ℕ 
     (event : Event) (choice : Choice) (sims : List SimNode) (posted : List Posted)
     (lines : List Line)
     : Type 0 where
-  pub traced : lines ≡ lines_of_event (length w.frames) event.kind choice
+  pub traced : lines ≡ lines_of_event (length w.frames) event choice
       (outcome w cs (modelled i event.kind choice))
   pub fits : ChoiceFits event choice (outcome w cs (modelled i event.kind choice))
   pub counted : frames_of_step lines ≡ length (outcome w cs (modelled i event.kind choice)).frames
   pub frames : AllZip PostedRefines posted (state_after cs w (modelled i event.kind choice)).frames
   pub nodes : map (λ sim. sim.id) sims ≡ at_epoch cs 0
   pub disks : ℕ → Slots
-  pub follow : DisksFollow state failures event choice
+  pub follow : DisksFollow state failures calls event choice
       (outcome w cs (modelled i event.kind choice)) old disks
   pub few : (x : ℕ) → failures (disks x) ≤ i
   pub each : All (SimNodeRefines (state_after cs w (modelled i event.kind choice)).nodes disks) sims

@@ -143,13 +143,14 @@ replied B kind (r ∷ replies) agree =
     (speaks B kind r agree.0) (replied B kind replies agree.1)
 
 -- the lines of an event at a node speak of B where the replies of its outcome do
-lines_speak_at : (B : List Placed) (x n : ℕ) (kind : EventKind) (choice : Choice)
+lines_speak_at : (B : List Placed) (x n : ℕ) (event : Event) (choice : Choice)
     (o : Outcome BatchContent) → AllByRecursion (ResponseAgrees B) o.replies →
-    Each B kind (lines_at x n kind choice o)
-lines_speak_at B x n kind choice o agree =
+    Each B event.kind (lines_at x n event choice o)
+lines_speak_at B x n event choice o agree =
+    let kind = event.kind in
     let Of = LineSpeaksOf B kind in
     let replies = reply_lines kind o.replies in
-    cond_both o.stopped (Stopped x (reported_cause kind choice.cause) ∷ [])
+    cond_both o.stopped (Stopped x (reported_cause kind event.fault choice) ∷ [])
     (dropped_lines o.dropped ++ (start_trace kind o ++ (frame_lines n o.frames ++ replies)))
     (Each B kind) (λ stops. (tt, tt))
     (λ goes_on. both Of (dropped_lines o.dropped)
@@ -159,11 +160,11 @@ lines_speak_at B x n kind choice o agree =
     (replied B kind o.replies agree))))
 
 -- so do the lines of an event that was for none
-lines_speak : (B : List Placed) (at : Option (ℕ × Machine)) (n : ℕ) (kind : EventKind)
+lines_speak : (B : List Placed) (at : Option (ℕ × Machine)) (n : ℕ) (event : Event)
     (choice : Choice) (o : Outcome BatchContent) → AllByRecursion (ResponseAgrees B) o.replies →
-    Each B kind (lines_if at n kind choice o)
-lines_speak B None n kind choice o agree = (tt, tt)
-lines_speak B (Some at) n kind choice o agree = lines_speak_at B at.0 n kind choice o agree
+    Each B event.kind (lines_if at n event choice o)
+lines_speak B None n event choice o agree = (tt, tt)
+lines_speak B (Some at) n event choice o agree = lines_speak_at B at.0 n event choice o agree
 
 -- .. and so do those of all events
 pub all_speak : (B : List Placed) (cs : Configurations) (i : ℕ) (events : List Event)
@@ -179,8 +180,8 @@ all_speak B cs i (event ∷ events) (ch ∷ chs) w same agree =
     let n = length w.frames in
     let later = flat_map (λ (p : Outcome BatchContent). p.replies)
     (outcomes cs (modelled_from (suc i) events chs) (state_after cs w e)) in (
-      All-from_recursion (LineSpeaksOf B event.kind) (lines_of_event n event.kind ch o)
-          (lines_speak B o.acted_on n event.kind ch o
+      All-from_recursion (LineSpeaksOf B event.kind) (lines_of_event n event ch o)
+          (lines_speak B o.acted_on n event ch o
           (front (ResponseAgrees B) o.replies later agree)),
       all_speak B cs (suc i) events chs (state_after cs w e) (omega arith)
           (back (ResponseAgrees B) o.replies later agree),

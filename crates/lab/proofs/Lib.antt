@@ -1,4 +1,5 @@
 mod Rests
+mod Faults
 mod Disks
 mod Posting
 mod Reading

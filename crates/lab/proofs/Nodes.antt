@@ -1,6 +1,6 @@
 -- Nodes one after another: as they are created, and as they are left.
 use Rattle.std.proofs.Common.{◌≡◌, ℕ, ◌+◌, ◌<◌, List, [], ◌∷◌, ◌++◌, length, map, take, get_or}
-use Rattle.std.proofs.Common.{◌==◌, true, false, refl, sym, ap, ap₂, subst, ◌∙◌, arith}
+use Rattle.std.proofs.Common.{None, ◌==◌, true, false, refl, sym, ap, ap₂, subst, ◌∙◌, arith}
 use Rattle.std.proofs.lemmas.Bool.{cond_both, false≢true}
 use Rattle.std.specs.Prelude.{All}
 use Rattle.std.specs.List.{AllByRecursion}
@@ -70,7 +70,7 @@ left_next sims nodes now sim node id left whole are = record {
 
 -- the disk of the node with this id
 abbrev pub disks_of : List SimNode → ℕ → Slots
-disks_of [] x = record { slots = []; failures = 0 }
+disks_of [] x = record { slots = []; failures = 0; past = []; fault_at = None }
 disks_of (s ∷ sims) x = with_disk (disks_of sims) s.id (disk_in s.state) x
 
 -- of no node that was just created has it failed

@@ -6,6 +6,8 @@ use Rattle.std.proofs.lemmas.List.{map-append}
 use Rattle.std.specs.Prelude.{Bool, IfSome}
 use Rattle.std.proofs.lemmas.Bool.{cond-true, cond-false, false≢true}
 use Rattle.kv_types.specs.{BatchContent}
+use Rattle.disk.specs.declared.Fault.{Fault}
+use Rattle.disk.specs.declared.Fault.TheVariants as fault
 use Rattle.disk.specs.{Slots}
 use Rattle.chain_model.specs.{Configurations, Message as ModelFrame, addressee, Answer, dropped_for}
 use Rattle.chain_model.specs.{stopped, SystemState, Outcome, StepResult, Answered, StoppedBefore}
@@ -25,16 +27,17 @@ use Rattle.node.specs.declared.Stop.TheVariants.{Disk}
 use Rattle.node.specs.{replies_of, replies_to_response, IsEnvironmental}
 use Rattle.lab.specs.declared.input.StepOutcome.{StepOutcome}
 use Rattle.lab.specs.declared.input.StepOutcome.TheVariants as done
+use Rattle.lab.specs.declared.event.Event.{Event}
 use Rattle.lab.specs.declared.event.EventKind.{EventKind}
 use Rattle.lab.specs.declared.node_state.NodeState.{NodeState}
 use Rattle.lab.specs.declared.report.Line.{Line}
 use Rattle.lab.specs.declared.report.Line.TheVariants as line
 use Rattle.lab.specs.Events.{modelled, lines_of_event, dropped_lines, start_trace, frame_line}
 use Rattle.lab.specs.Events.{frame_lines}
-use Rattle.lab.specs.Events.{reply_line, reply_lines, reported_cause}
+use Rattle.lab.specs.Events.{reply_line, reply_lines, reported_cause, told_cause}
 use Rattle.lab.specs.SimNodes.{StateRefines, Choice, is_honest, state}
 use Rattle.lab.specs.Outcomes.{down_answer, IsAnswer, IsDrop, HasAnswered}
-use Rattle.lab.specs.Outcomes.{HasHandled, Answers, Ends, Rests}
+use Rattle.lab.specs.Outcomes.{HasHandled, Answers, Ends, Rests, StopsByItself}
 use Rattle.lab.specs.Outcomes.{sent_by, sent_as, sent_lines}
 use Rattle.lab.specs.Outcomes.{outcome_lines}
 use Rattle.lab.specs.Worlds.{frames_of_step}
@@ -106,57 +109,69 @@ counts_replies (reply ∷ replies) = omega (arith, counts_replies replies)
 -- ---- outcomes
 
 -- a node that stops by itself stops for its device or for memory
-abbrev pub CauseFits : EventKind → Choice → Outcome BatchContent → Type 0
-CauseFits kind choice o = o.stopped ≡ true → IfSome (reported_cause kind choice.cause)
-    IsEnvironmental
+abbrev pub CauseFits : Event → Choice → Outcome BatchContent → Type 0
+CauseFits event choice o =
+    o.stopped ≡ true → IfSome (reported_cause event.kind event.fault choice) IsEnvironmental
 
--- the node stopped where its doing says so, with the cause that was chosen
-abbrev pub StopsSo : EventKind → Choice → StepOutcome → Bool → Type 0
-StopsSo kind choice (done.Answered output) stopped = stopped ≡ false
-StopsSo kind choice (done.Started epoch count committed) stopped = stopped ≡ false
-StopsSo kind choice (done.Stopped traced) stopped =
-    (stopped ≡ true) × (reported_cause kind choice.cause ≡ traced)
+-- the node stopped where its doing says so, with the cause that was chosen: for its device where
+-- the fault struck
+abbrev pub StopsSo : Event → Choice → StepOutcome → Bool → Type 0
+StopsSo event choice (done.Answered output) stopped = stopped ≡ false
+StopsSo event choice (done.Started epoch count committed) stopped = stopped ≡ false
+StopsSo event choice (done.Stopped traced) stopped =
+    (stopped ≡ true)
+    × (reported_cause event.kind event.fault choice ≡ traced)
+    × (choice.struck ≡ true → choice.cause ≡ Disk)
 
--- an event's outcome with its lines: the node that it was for, and the state of that node now
+-- the event of this kind with this fault
+abbrev pub with_fault : EventKind → Fault → Event
+with_fault kind it = record { kind = kind; fault = it }
+
+-- an event's outcome with its lines: the node that it was for, and the state of that node now,
+-- where the fault struck or did not
 pub record IsOutcome (cs : Configurations) (w : SystemState BatchContent) (i x : ℕ)
-    (kind : EventKind) (new : NodeState Slots) (did : StepOutcome) : Type 0 where
+    (kind : EventKind) (it : Fault) (struck : Bool) (new : NodeState Slots) (did : StepOutcome)
+    : Type 0 where
   pub choice : Choice
+  pub chose : choice.struck ≡ struck
   pub node : Machine
   pub came : (outcome w cs (modelled i kind choice)).acted_on ≡ Some (x, node)
   pub is : StateRefines is_honest state new x node
   pub frames : AreFrames (sent_by did) (outcome w cs (modelled i kind choice)).frames
   pub traced : (n : ℕ) → outcome_lines x n did
-      ≡ lines_of_event n kind choice (outcome w cs (modelled i kind choice))
+      ≡ lines_of_event n (with_fault kind it) choice (outcome w cs (modelled i kind choice))
   pub counted : (n : ℕ) → frames_of_step (outcome_lines x n did)
       ≡ length (outcome w cs (modelled i kind choice)).frames
-  pub fits : CauseFits kind choice (outcome w cs (modelled i kind choice))
-  pub ends : StopsSo kind choice did (outcome w cs (modelled i kind choice)).stopped
+  pub fits : CauseFits (with_fault kind it) choice (outcome w cs (modelled i kind choice))
+  pub ends : StopsSo (with_fault kind it) choice did (outcome w cs (modelled i kind choice)).stopped
 
 -- what a node's doing is at an outcome
-pub record IsTraced (x : ℕ) (kind : EventKind) (choice : Choice) (did : StepOutcome)
+pub record IsTraced (x : ℕ) (event : Event) (choice : Choice) (did : StepOutcome)
     (o : Outcome BatchContent)
     : Type 0 where
   pub frames : AreFrames (sent_by did) o.frames
-  pub traced : (n : ℕ) → outcome_lines x n did ≡ lines_of_event n kind choice o
+  pub traced : (n : ℕ) → outcome_lines x n did ≡ lines_of_event n event choice o
   pub counted : (n : ℕ) → frames_of_step (outcome_lines x n did) ≡ length o.frames
-  pub fits : CauseFits kind choice o
-  pub ends : StopsSo kind choice did o.stopped
+  pub fits : CauseFits event choice o
+  pub ends : StopsSo event choice did o.stopped
 
-abbrev pub chosen : StepResult → Cause → Choice
-chosen went cause = record { went = went; cause = cause }
+abbrev pub chosen : StepResult → Bool → Cause → Choice
+chosen went struck cause = record { went = went; struck = struck; cause = cause }
 
 module _ (cs : Configurations) (w : SystemState BatchContent) (i x : ℕ) (kind : EventKind)
-    (new : NodeState Slots) (did : StepOutcome) where
+    (it : Fault) (new : NodeState Slots) (did : StepOutcome) where
   -- with this choice the outcome is this one
   pub as_chosen : (choice : Choice) (o : Outcome BatchContent) (n : Machine) →
       outcome w cs (modelled i kind choice) ≡ o → o.acted_on ≡ Some (x, n) →
-      StateRefines is_honest state new x n →
-      IsTraced x kind choice did o → IsOutcome cs w i x kind new did
+      StateRefines is_honest state new x n → IsTraced x (with_fault kind it) choice did o →
+      IsOutcome cs w i x kind it choice.struck new did
   as_chosen choice o n is_o came is tells =
       let same = sym is_o in
-      let all = subst (λ (p : Outcome BatchContent). IsTraced x kind choice did p) same tells in
+      let all = subst (λ (p : Outcome BatchContent). IsTraced x (with_fault kind it) choice did p)
+      same tells in
       record {
         choice = choice;
+        chose = refl;
         node = n;
         came = ap (λ (p : Outcome BatchContent). p.acted_on) is_o ∙ came;
         is = is;
@@ -189,7 +204,7 @@ counts_answer n a replies =
     )
 
 -- an input's answer has the lines of the model's
-module _ (x : ℕ) (kind : EventKind) (inp : Input) (choice : Choice) (a : Answer BatchContent)
+module _ (x : ℕ) (event : Event) (inp : Input) (choice : Choice) (a : Answer BatchContent)
     (output : Output) (is : IsAnswer inp a output) where
   answer_lines : (n : ℕ) → outcome_lines x n (done.Answered output)
       ≡ answered_lines n a (replies_of inp a.replies)
@@ -199,9 +214,10 @@ module _ (x : ℕ) (kind : EventKind) (inp : Input) (choice : Choice) (a : Answe
       (lines_same n output.frames.items a.frames is.frames)
       ∙ ap (λ (rs : List Reply). answered_lines n a rs) is.replied
 
-  answer_traced : (start_trace kind (answers x a) ≡ []) →
-      (reply_lines kind a.replies ≡ map (λ reply. line.Replied reply) (replies_of inp a.replies)) →
-      IsTraced x kind choice (done.Answered output) (answers x a)
+  answer_traced : (start_trace event.kind (answers x a) ≡ []) →
+      (reply_lines event.kind a.replies
+      ≡ map (λ reply. line.Replied reply) (replies_of inp a.replies)) →
+      IsTraced x event choice (done.Answered output) (answers x a)
   answer_traced starts replies = record {
     frames = is.frames;
     traced = λ n. answer_lines n
@@ -214,25 +230,33 @@ module _ (x : ℕ) (kind : EventKind) (inp : Input) (choice : Choice) (a : Answe
   }
 
 -- a stop has a line with its cause
-pub stop_traced : (x : ℕ) (kind : EventKind) (choice : Choice) (traced : Option Cause)
-    (n : Machine) →
-    reported_cause kind choice.cause ≡ traced → IfSome traced IsEnvironmental →
-    IsTraced x kind choice (done.Stopped traced) (stops x n)
-stop_traced x kind choice traced n is of_machine = record {
+pub stop_traced : (x : ℕ) (event : Event) (choice : Choice) (traced : Option Cause)
+    (n : Machine) → reported_cause event.kind event.fault choice ≡ traced →
+    (choice.struck ≡ true → choice.cause ≡ Disk) → IfSome traced IsEnvironmental →
+    IsTraced x event choice (done.Stopped traced) (stops x n)
+stop_traced x event choice traced n is device of_machine = record {
   frames = refl;
   traced = λ m. ap (λ (c : Option Cause). line.Stopped x c ∷ []) (sym is);
   counted = λ m. refl;
   fits = λ stops. subst (λ (c : Option Cause). IfSome c IsEnvironmental) (sym is) of_machine;
-  ends = (refl, is);
+  ends = (refl, is, device);
 }
 
+-- the cause that is told is that of the stop, or none
+pub told_fits : (it : Fault) (struck : Bool) (cause : Cause) → IsEnvironmental cause →
+    IfSome (told_cause it struck cause) IsEnvironmental
+told_fits fault.None struck cause is = is
+told_fits (fault.Fail call) struck cause is = is
+told_fits (fault.Stop call junk) true cause is = tt
+told_fits (fault.Stop call junk) false cause is = is
+
 -- a drop has a line with its reason
-pub drop_traced : (x : ℕ) (kind : EventKind) (choice : Choice) (n : Machine)
+pub drop_traced : (x : ℕ) (event : Event) (choice : Choice) (n : Machine)
     (why : DropReason) (output : Output) → IsDrop why output →
-    start_trace kind (answers x (dropped_for n why)) ≡ [] →
-    IsTraced x kind choice (done.Answered output) (answers x (dropped_for n why))
-drop_traced x kind choice n why output is starts =
-    answer_traced x kind input.Tick choice (dropped_for n why) output (record {
+    start_trace event.kind (answers x (dropped_for n why)) ≡ [] →
+    IsTraced x event choice (done.Answered output) (answers x (dropped_for n why))
+drop_traced x event choice n why output is starts =
+    answer_traced x event input.Tick choice (dropped_for n why) output (record {
       dropped = is.dropped;
       frames = ap (map (λ (it : Sent). frame_as it.to it.frame)) is.frames;
       replied = is.replied;
@@ -253,12 +277,13 @@ shows_so inp kind (r ∷ replies) each =
 
 -- an input, as the model has it
 module _ (cs : Configurations) (w : SystemState BatchContent) (i x : ℕ) (kind : EventKind)
-    (inp : Input) (new : NodeState Slots) (did : StepOutcome)
+    (it : Fault) (struck : Bool) (inp : Input) (new : NodeState Slots) (did : StepOutcome)
     (at : (choice : Choice) → outcome w cs (modelled i kind choice)
     ≡ cond (w.nodes x).running
     (as_completed x (w.nodes x) (answer_to x (w.nodes x) inp) choice.went)
     (answers x (down_answer (w.nodes x) inp)))
-    (causes : (cause : Cause) → reported_cause kind cause ≡ Some cause)
+    (causes : (choice : Choice) →
+    reported_cause kind it choice ≡ told_cause it choice.struck choice.cause)
     (starts : (o : Outcome BatchContent) → start_trace kind o ≡ [])
     (replies : (r : request.Response BatchContent) → reply_line kind r
     ≡ map (λ reply. line.Replied reply) (replies_to_response inp r)) where
@@ -272,38 +297,44 @@ module _ (cs : Configurations) (w : SystemState BatchContent) (i x : ℕ) (kind 
 
   -- the node answers so
   tells : (a : Answer BatchContent) → (traced : HasAnswered did (IsAnswer inp a)) →
-      IsTraced x kind (chosen Answered Disk) did (answers x a)
-  tells a traced = subst (λ (d : StepOutcome). IsTraced x kind (chosen Answered Disk) d
-      (answers x a))
+      IsTraced x (with_fault kind it) (chosen Answered struck Disk) did (answers x a)
+  tells a traced = subst (λ (d : StepOutcome). IsTraced x (with_fault kind it)
+      (chosen Answered struck Disk) d (answers x a))
       (sym traced.1)
-      (answer_traced x kind inp (chosen Answered Disk) a traced.0 traced.2 (starts (answers x a))
+      (answer_traced x (with_fault kind it) inp (chosen Answered struck Disk) a traced.0 traced.2
+      (starts (answers x a))
       (shows_so inp kind a.replies replies))
 
-  ends : (went : StepResult) (cause : Cause) (n : Machine) → IsEnvironmental cause →
-      did ≡ done.Stopped (Some cause) → IsTraced x kind (chosen went cause) did (stops x n)
-  ends went cause n of_machine is =
-      subst (λ (d : StepOutcome). IsTraced x kind (chosen went cause) d (stops x n)) (sym is)
-      (stop_traced x kind (chosen went cause) (Some cause) n (causes cause) of_machine)
+  -- .. or stops so
+  ends : (went : StepResult) (n : Machine) (stop : StopsByItself it struck did) →
+      IsTraced x (with_fault kind it) (chosen went struck stop.cause) did (stops x n)
+  ends went n stop =
+      let choice = chosen went struck stop.cause in
+      subst (λ (d : StepOutcome). IsTraced x (with_fault kind it) choice d (stops x n))
+      (sym stop.told)
+      (stop_traced x (with_fault kind it) choice (told_cause it struck stop.cause) n (causes choice)
+      stop.device (told_fits it struck stop.cause stop.environmental))
 
-  pub given : HasHandled is_honest state x (w.nodes x) inp new did →
-      IsOutcome cs w i x kind new did
+  pub given : HasHandled is_honest state it struck x (w.nodes x) inp new did →
+      IsOutcome cs w i x kind it struck new did
   given (Answers up is traced) =
-      as_chosen cs w i x kind new did (chosen Answered Disk)
+      as_chosen cs w i x kind it new did (chosen Answered struck Disk)
       (answers x (answer_to x (w.nodes x) inp)) (answer_to x (w.nodes x) inp).node
-      (runs (chosen Answered Disk) up) refl is (tells (answer_to x (w.nodes x) inp) traced)
-  given (Ends up cause of_machine (inl before) traced) =
-      as_chosen cs w i x kind new did (chosen StoppedBefore cause) (stops x (w.nodes x))
-      (stopped (w.nodes x)) (runs (chosen StoppedBefore cause) up) refl before
-      (ends StoppedBefore cause (w.nodes x) of_machine traced)
-  given (Ends up cause of_machine (inr behind) traced) =
-      as_chosen cs w i x kind new did (chosen StoppedAfter cause)
+      (runs (chosen Answered struck Disk) up) refl is (tells (answer_to x (w.nodes x) inp) traced)
+  given (Ends up stop (inl before)) =
+      as_chosen cs w i x kind it new did (chosen StoppedBefore struck stop.cause)
+      (stops x (w.nodes x)) (stopped (w.nodes x))
+      (runs (chosen StoppedBefore struck stop.cause) up) refl before
+      (ends StoppedBefore (w.nodes x) stop)
+  given (Ends up stop (inr behind)) =
+      as_chosen cs w i x kind it new did (chosen StoppedAfter struck stop.cause)
       (stops x (answer_to x (w.nodes x) inp).node) (stopped (answer_to x (w.nodes x) inp).node)
-      (runs (chosen StoppedAfter cause) up) refl behind
-      (ends StoppedAfter cause (answer_to x (w.nodes x) inp).node of_machine traced)
+      (runs (chosen StoppedAfter struck stop.cause) up) refl behind
+      (ends StoppedAfter (answer_to x (w.nodes x) inp).node stop)
   given (Rests off is traced) =
-      as_chosen cs w i x kind new did (chosen Answered Disk)
+      as_chosen cs w i x kind it new did (chosen Answered struck Disk)
       (answers x (down_answer (w.nodes x) inp)) (down_answer (w.nodes x) inp).node
-      (rests (chosen Answered Disk) off) refl
+      (rests (chosen Answered struck Disk) off) refl
       (subst (λ (n : Machine). StateRefines is_honest state new x n) (sym (rests_same inp)) is)
       (tells (down_answer (w.nodes x) inp) traced)
     where

@@ -21,21 +21,21 @@ use Rattle.lab.specs.declared.report.Report.{Report}
 use Rattle.lab.specs.declared.sim_node.SimNode.{SimNode}
 use Rattle.lab.specs.Disks.{HaveDisks, IsDiskOf}
 use Rattle.lab.specs.History.{Placed, IsHistory, StepSpeaksOf, HasAll}
-use Rattle.lab.specs.SimNodes.{Choice, StateRefines, disk_in, is_honest, state, failures}
+use Rattle.lab.specs.SimNodes.{Choice, StateRefines, disk_in, is_honest, state, failures, calls}
 use Rattle.lab.specs.Runs.{IsRun, RunningRefines}
 use Rattle.lab.specs.Traces.{modelled_from, IsTrace}
 use Rattle.lab.specs.Worlds.{SimNodeRefines, IsLeft, AreLeft, RunRefines}
 use Rattle.lab.proofs.Histories.{numbered_same, submitted_same, all_speak}
 
 -- the model's one list is that of the lines and of the disks
-pub one_of : {D N : Type 0} (state : D → State) (failures : D → ℕ) (id : N → ℕ) (disk : N → D)
+pub one_of : {D N : Type 0} (state : D → State) (failures calls : D → ℕ) (id : N → ℕ) (disk : N → D)
     (cs : Configurations) (events : List Event) (choices : List Choice) (steps : List (List Line))
     (nodes : List N) → IsTrace cs events choices steps →
-    HaveDisks state failures id disk cs events choices nodes →
+    HaveDisks state failures calls id disk cs events choices nodes →
     OneList cs (modelled_from 1 events choices) →
     RunIsOutcomes cs (modelled_from 1 events choices) →
     IsHistory state id disk cs events steps nodes
-one_of state failures id disk cs events choices steps nodes trace disks one made =
+one_of state failures calls id disk cs events choices steps nodes trace disks one made =
     let es = modelled_from 1 events choices in
     let same = numbered_same 1 events choices in
     let agrees = subst (λ (l : List (ModelEvent BatchContent)). All (ResponseAgrees one.B)
@@ -101,7 +101,8 @@ module _ (sims : List SimNode) (posted : List Posted) (cs : Configurations) (eve
   pub disks_so_far : ((node : Node Slots) (x : ℕ) (n : Machine) → NodeRefines is_honest state node x
       n →
       DiskAlwaysRefines (state (disk_of node)) x n) →
-      HaveDisks state failures (λ (sim : SimNode). sim.id) (λ (sim : SimNode). disk_in sim.state) cs
+      HaveDisks state failures calls (λ (sim : SimNode). sim.id)
+      (λ (sim : SimNode). disk_in sim.state) cs
       events made.choices sims
   disks_so_far law =
       let machines = node_of cs (modelled_from 1 events made.choices) in

@@ -1,6 +1,6 @@
 -- A step of the lab's world is a step of the model's.
 use Rattle.std.proofs.Common.{◌≡◌, ℕ, ◌+◌, ◌≤◌, List, [], ◌∷◌, ◌++◌, length, get_or, slice_set}
-use Rattle.std.proofs.Common.{true}
+use Rattle.std.proofs.Common.{Bool, true, false}
 use Rattle.std.proofs.Common.{refl, sym, ap, subst, ◌∙◌, arith, append-nil}
 use Rattle.std.proofs.Math.Seq.{map-set_same}
 use Rattle.std.proofs.lemmas.List.{set-set, get_or_default}
@@ -12,8 +12,9 @@ use Rattle.std.proofs.lemmas.List.Elements.{recursion_from_All, All-from_recursi
 use Rattle.std.proofs.lemmas.Slice.Zip.{AllZip-long}
 use Rattle.kv_types.specs.declared.bounds.TheConstants.{MAX_NUMBER}
 use Rattle.kv_types.specs.{BatchContent}
+use Rattle.disk.specs.declared.Fault.{Fault}
 use Rattle.disk.specs.declared.Junk.{Junk}
-use Rattle.disk.specs.{Slots}
+use Rattle.disk.specs.{Slots, struck_call}
 use Rattle.chain_model.specs.{Configurations, Lawful, AllDifferent, has, at_epoch}
 use Rattle.chain_model.specs.{Message as ModelFrame, InOrder, SystemEvent as ModelEvent}
 use Rattle.chain_model.specs.{SystemState, Outcome, Answered, reached, first_state, outcome}
@@ -36,11 +37,11 @@ use Rattle.lab.specs.declared.report.Line.TheVariants.{Nothing}
 use Rattle.lab.specs.declared.sim_node.SimNode.{SimNode}
 use Rattle.lab.specs.declared.world.World.{World as LabWorld}
 use Rattle.lab.specs.Events.{modelled, lines_of_event, NamesNode}
-use Rattle.lab.specs.SimNodes.{StateRefines, Choice, disk_in, is_honest, state, failures}
+use Rattle.lab.specs.SimNodes.{StateRefines, Choice, disk_in, is_honest, state, failures, calls}
 use Rattle.lab.specs.Deliveries.{IsDeliveryOf, HasNoDelivery}
 use Rattle.lab.specs.Outcomes.{DiskFits, HasCrashed, OutcomeRefines, StateFollows}
-use Rattle.lab.specs.Outcomes.{input_junk, outcome_lines, sent_by}
-use Rattle.lab.specs.Disks.{junk_of, IsCrashOf}
+use Rattle.lab.specs.Outcomes.{has_struck_in, input_junk, outcome_lines, sent_by}
+use Rattle.lab.specs.Disks.{has_reached, junk_of, IsCrashOf}
 use Rattle.lab.specs.Traces.{modelled_from}
 use Rattle.lab.specs.Worlds.{PostedRefines, SimNodeRefines, HasNoNode, HasStepped, RunRefines}
 use Rattle.lab.specs.Worlds.{HasRun}
@@ -49,7 +50,7 @@ use Rattle.lab.specs.Worlds.{frames_of_step}
 use Rattle.lab.proofs.Posting.{zip_both}
 use Rattle.lab.proofs.Deliveries.{refined, nothing_done, junk_same}
 use Rattle.lab.proofs.Disks.{MayRise, with_disk, all_follow, none_follow, follows, few_more}
-use Rattle.lab.proofs.Disks.{at_most_one}
+use Rattle.lab.proofs.Disks.{at_most_one, stops_so}
 use Rattle.lab.proofs.SimNodes.{ids_of, has_at, has_one, refined_at}
 use Rattle.lab.proofs.Growing.{length-steps, grown, run-push}
 use Rattle.lab.proofs.Addressees.{IsNumbered, addressed, all_numbered, back, kept_all}
@@ -83,46 +84,55 @@ place_of world cs events steps run n i long fits is = record {
 
 -- a running node that was stopped is down, and its disk is a crash of the one that it had
 crash_of : (junk : Junk) (own : Node Slots) (old new : NodeState Slots) → old ≡ Up own →
-    StateFollows is_honest state failures old (to_node.Stop junk) new →
-    IsCrashOf state failures junk (disk_of own) (disk_in new)
+    StateFollows is_honest state failures calls old (to_node.Stop junk) new →
+    IsCrashOf state failures calls junk (disk_of own) (disk_in new)
 crash_of junk own old new runs follows =
-    crashed new (subst (λ (m : NodeState Slots). StateFollows is_honest state failures m
+    crashed new (subst (λ (m : NodeState Slots). StateFollows is_honest state failures calls m
     (to_node.Stop junk) new) runs follows tt)
   where
-    crashed : (left : NodeState Slots) → HasCrashed state failures junk (disk_of own) left →
-        IsCrashOf state failures junk (disk_of own) (disk_in left)
+    crashed : (left : NodeState Slots) → HasCrashed state failures calls junk (disk_of own) left →
+        IsCrashOf state failures calls junk (disk_of own) (disk_in left)
     crashed (Up other) has = absurd has
     crashed (Down disk) has = has
 
+-- whether the fault struck between these states of a node
+abbrev struck_by : Fault → SimNode → SimNode → Bool
+struck_by it was now = has_struck_in calls it (disk_in was.state) now.state
+
 -- the node at this index was replaced twice, by its new state in the end
 pub stepped : (old : List SimNode) (i x : ℕ) (between was was' now : SimNode)
-    (node_input : NodeInput) (did : StepOutcome) (posted more : List Posted) (lines : List Line) →
-    IsIndexOf old i x → was ≡ get_or old i was' → now.id ≡ x →
+    (node_input : NodeInput) (it given : Fault) (did : StepOutcome) (posted more : List Posted)
+    (lines : List Line) → it ≡ given → IsIndexOf old i x → was ≡ get_or old i was' → now.id ≡ x →
     ((y : ℕ) (n : Machine) → StateRefines is_honest state was.state y n →
-    OutcomeRefines is_honest state y n node_input now.state did) →
-    DiskFits state failures (input_junk node_input) did (disk_in was.state) now.state →
-    StateFollows is_honest state failures was.state node_input now.state →
+    OutcomeRefines is_honest state it (struck_by it was now) y n node_input now.state did) →
+    DiskFits state failures calls (input_junk node_input) it (struck_by it was now) did
+    (disk_in was.state) now.state →
+    StateFollows is_honest state failures calls was.state node_input now.state →
     HasPosted posted (sent_by did) more → lines ≡ outcome_lines x (length posted) did →
-    HasStepped old posted x node_input lines (slice_set (slice_set old i between) i now) more
-stepped old i x between was was' now node_input did posted more lines at out id refines disk
-    follows sent traced =
+    HasStepped old posted x node_input given lines (slice_set (slice_set old i between) i now) more
+stepped old i x between was was' now node_input it given did posted more lines same at out id
+    refines disk follows sent traced =
     let is : was ≡ get_or old i now = out ∙ get_or_default old i was' now at.within in
-    record {
+    subst (λ (f : Fault). HasStepped old posted x node_input f lines
+    (slice_set (slice_set old i between) i now) more) same
+    (record {
       index = i;
       at = at;
       sim = now;
       others = set-set old i between now;
       id = id;
       did = did;
-      refines = λ y n r. refines y n
-          (subst (λ (s : SimNode). StateRefines is_honest state s.state y n) (sym is) r);
-      disk = subst (λ (s : SimNode). DiskFits state failures (input_junk node_input) did
-          (disk_in s.state) now.state) is disk;
-      follows = subst (λ (s : SimNode). StateFollows is_honest state failures s.state node_input
-          now.state) is follows;
+      refines = subst (λ (s : SimNode). (y : ℕ) (n : Machine) →
+          StateRefines is_honest state s.state y n →
+          OutcomeRefines is_honest state it (struck_by it s now) y n node_input now.state did) is
+          refines;
+      disk = subst (λ (s : SimNode). DiskFits state failures calls (input_junk node_input) it
+          (struck_by it s now) did (disk_in s.state) now.state) is disk;
+      follows = subst (λ (s : SimNode). StateFollows is_honest state failures calls s.state
+          node_input now.state) is follows;
       sent = sent;
       traced = traced;
-    }
+    })
 
 -- in every run frames are in order
 abbrev pub AlwaysInOrder : Type 0
@@ -175,7 +185,7 @@ module _ (in_order : AlwaysInOrder) (cs : Configurations) (events : List Event)
   -- a step of the node refines one event more
   refined_next : (x : ℕ) (node_input : NodeInput) (lines : List Line) (now : List SimNode)
       (more : List Posted) → IsDeliveryOf w.frames i event.kind x node_input →
-      HasStepped sims posted x node_input lines now more →
+      HasStepped sims posted x node_input event.fault lines now more →
       RunRefines now more cs (events ++ event ∷ []) (steps ++ lines ∷ [])
   refined_next x node_input lines now more brings t =
       let sim = t.sim in
@@ -188,22 +198,34 @@ module _ (in_order : AlwaysInOrder) (cs : Configurations) (events : List Event)
       let slots : disk_in old.state ≡ made.disks x =
       (made.each t.index sim t.at.within).disk ∙ ap made.disks was in
       let own = disk_in sim.state in
-      let left : DiskFits state failures (junk_of event.kind) t.did (made.disks x) sim.state =
-      subst (λ (d : Slots). DiskFits state failures (junk_of event.kind) t.did d sim.state) slots
-      (subst (λ (j : Option Junk). DiskFits state failures j t.did (disk_in old.state)
-      sim.state)
-      (junk_same w.frames i x event.kind node_input brings) t.disk) in
+      let struck = struck_by event.fault old sim in
+      let out = refined cs w i x event.fault struck sim.state t.did event.kind node_input brings
+      (t.refines x (w.nodes x) before) in
+      let so : out.choice.struck
+      ≡ has_reached (struck_call event.fault) (calls (made.disks x)) (calls own) = out.chose
+      ∙ ap (λ (d : Slots). has_reached (struck_call event.fault) (calls d) (calls own)) slots in
+      let left : DiskFits state failures calls (junk_of event.kind) event.fault out.choice.struck
+      t.did (made.disks x) sim.state =
+      subst (λ (b : Bool). DiskFits state failures calls (junk_of event.kind) event.fault b t.did
+      (made.disks x) sim.state) (sym out.chose)
+      (subst (λ (d : Slots). DiskFits state failures calls (junk_of event.kind) event.fault struck
+      t.did d sim.state) slots
+      (subst (λ (j : Option Junk). DiskFits state failures calls j event.fault struck t.did
+      (disk_in old.state) sim.state)
+      (junk_same w.frames i x event.kind node_input brings) t.disk)) in
       let few = made.few x in
       let may : MayRise (made.disks x) = omega (arith, few, next.at, next.fits) in
-      let out = refined cs w i x sim.state t.did event.kind node_input brings
-      (t.refines x (w.nodes x) before) in
       let o = outcome w cs (modelled i event.kind out.choice) in
       let id : sim.id ≡ x = t.id in
       let long = AllZip-long PostedRefines posted w.frames made.frames in
       grown cs events steps sims posted made i event out.choice now more lines next.at (record {
         traced = t.traced ∙ out.traced (length posted)
-            ∙ ap (λ n. lines_of_event n event.kind out.choice o) (sym long);
-        fits = record { cause = out.fits };
+            ∙ ap (λ n. lines_of_event n event out.choice o) (sym long);
+        fits = record {
+          cause = out.fits;
+          struck = stops_so (made.disks x) sim.state may event out.choice o x out.node t.did
+              out.ends left;
+        };
         counted = ap frames_of_step t.traced ∙ out.counted (length posted);
         frames = subst (λ (l : List Posted). AllZip PostedRefines l (w.frames ++ o.frames))
             (sym t.sent.whole)
@@ -215,10 +237,11 @@ module _ (in_order : AlwaysInOrder) (cs : Configurations) (events : List Event)
             (t.id ∙ sym was) ∙ made.nodes;
         disks = with_disk made.disks x own;
         follow = all_follow event out.choice o x out.node made.disks own out.came
-            (follows (made.disks x) sim.state may event out.choice o x out.node t.did out.is
+            (follows (made.disks x) sim.state may event out.choice o x out.node t.did out.is so
             out.ends left);
         few = few_more made.disks x own (length events) i next.at made.few
-            (at_most_one (junk_of event.kind) t.did (made.disks x) sim.state left may);
+            (at_most_one (junk_of event.kind) event.fault out.choice.struck t.did (made.disks x)
+            sim.state left may);
         each = subst (λ (l : List SimNode). All (SimNodeRefines (state_after cs w
             (modelled i event.kind out.choice)).nodes (with_disk made.disks x own)) l)
             (sym t.others)
@@ -232,7 +255,7 @@ module _ (in_order : AlwaysInOrder) (cs : Configurations) (events : List Event)
   -- the event of a step names a node of configuration 0, if it names one
   named_next : (x : ℕ) (node_input : NodeInput) (lines : List Line) (now : List SimNode)
       (more : List Posted) → IsDeliveryOf w.frames i event.kind x node_input →
-      HasStepped sims posted x node_input lines now more → NamesNode cs event.kind
+      HasStepped sims posted x node_input event.fault lines now more → NamesNode cs event.kind
   named_next x node_input lines now more brings t = named event.kind brings
     where
       has_it : (node : ℕ) → x ≡ node → has (at_epoch cs 0) node ≡ true
@@ -254,7 +277,7 @@ module _ (in_order : AlwaysInOrder) (cs : Configurations) (events : List Event)
   -- a node that was stopped while it ran has a crash of its disk with the junk
   stopped_next : (kind : EventKind) (x : ℕ) (node_input : NodeInput) (lines : List Line)
       (now : List SimNode) (more : List Posted) → IsDeliveryOf w.frames i kind x node_input →
-      HasStepped sims posted x node_input lines now more → StopsNode kind sims now
+      HasStepped sims posted x node_input event.fault lines now more → StopsNode kind sims now
   stopped_next (Stop node junk) x node_input lines now more brings t =
       let sim = t.sim in
       let old = get_or sims t.index sim in
@@ -264,7 +287,8 @@ module _ (in_order : AlwaysInOrder) (cs : Configurations) (events : List Event)
         sim = sim;
         others = t.others;
         crashes = λ own runs. crash_of junk own old.state sim.state runs
-            (subst (λ (k : NodeInput). StateFollows is_honest state failures old.state k sim.state)
+            (subst (λ (k : NodeInput). StateFollows is_honest state failures calls old.state k
+            sim.state)
             brings.1 t.follows);
       }
   stopped_next (Submit node batch) x node_input lines now more brings t = tt
@@ -277,16 +301,17 @@ module _ (in_order : AlwaysInOrder) (cs : Configurations) (events : List Event)
   nothing_next : HasNoDelivery w.frames event.kind →
       RunRefines sims posted cs (events ++ event ∷ []) (steps ++ (Nothing ∷ []) ∷ [])
   nothing_next brings =
-      let choice : Choice = record { went = Answered; cause = Disk } in
+      let choice : Choice = record { went = Answered; struck = false; cause = Disk } in
       let none = nothing_done cs w i event.kind choice brings in
       let same : after w nothing ≡ state_after cs w (modelled i event.kind choice) =
       ap (after w) (sym none) in
       grown cs events steps sims posted made i event choice sims posted (Nothing ∷ []) next.at
       (record {
-        traced = ap (lines_of_event (length w.frames) event.kind choice) (sym none);
+        traced = ap (lines_of_event (length w.frames) event choice) (sym none);
         fits = record {
           cause = λ stops. absurd (false≢true
               (ap (λ (o : Outcome BatchContent). o.stopped) (sym none) ∙ stops));
+          struck = λ strikes. absurd (false≢true strikes);
         };
         counted = ap (λ (o : Outcome BatchContent). length o.frames) (sym none);
         frames = subst (λ (v : SystemState BatchContent). AllZip PostedRefines posted v.frames) same
@@ -336,16 +361,17 @@ module _ (in_order : AlwaysInOrder) (cs : Configurations) (events : List Event)
         node_after names none = has_its_node it.0 it.1 names brings none
 
         pub named_after : (lines : List Line) (now : List SimNode) (more : List Posted) →
-            HasStepped sims posted it.0 it.1 lines now more → NamesNode cs event.kind
+            HasStepped sims posted it.0 it.1 event.fault lines now more → NamesNode cs event.kind
         named_after lines now more t = named_next it.0 it.1 lines now more brings t
 
         pub stopped_after : (lines : List Line) (now : List SimNode) (more : List Posted) →
-            HasStepped sims posted it.0 it.1 lines now more → StopsNode event.kind sims now
+            HasStepped sims posted it.0 it.1 event.fault lines now more →
+            StopsNode event.kind sims now
         stopped_after lines now more t =
             stopped_next event.kind it.0 it.1 lines now more brings t
 
         pub refined_after : (lines : List Line) (now : List SimNode) (more : List Posted) →
-            HasStepped sims posted it.0 it.1 lines now more →
+            HasStepped sims posted it.0 it.1 event.fault lines now more →
             RunRefines now more cs (events ++ event ∷ []) (steps ++ lines ∷ [])
         refined_after lines now more t = refined_next it.0 it.1 lines now more brings t
 
@@ -356,7 +382,8 @@ pub applied_after : (in_order : AlwaysInOrder) (cs : Configurations) (events : L
     (fits : FitsDelivery old.frames.items i event.kind found) (it : ℕ × NodeInput) →
     found ≡ Some it → (lines : List Line) → new.steps.items ≡ old.steps.items ++ lines ∷ [] →
     events_in new.events.items ≡ events_in old.events.items ++ event ∷ [] →
-    HasStepped old.nodes.items old.frames.items it.0 it.1 lines new.nodes.items new.frames.items →
+    HasStepped old.nodes.items old.frames.items it.0 it.1 event.fault lines new.nodes.items
+    new.frames.items →
     HasApplied old new cs events steps event
 applied_after in_order cs events steps old new run i next event found fits it is lines kept taken
     t =

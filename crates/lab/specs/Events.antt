@@ -1,14 +1,17 @@
 -- Events as the chain's model has them, and the lines of their outcomes.
 use Rattle.std.specs.Prelude.{◌≡◌, ℕ, suc, List, [], ◌∷◌, ◌++◌, length, Option, Some, None}
-use Rattle.std.specs.Prelude.{IfSome, true, if◌then◌else◌, All}
+use Rattle.std.specs.Prelude.{Bool, IfSome, true, false, if◌then◌else◌, All}
 use Rattle.std.specs.List.{flat_map}
 use Rattle.kv_types.specs.{BatchContent, map_of}
+use Rattle.disk.specs.declared.Fault.{Fault}
+use Rattle.disk.specs.declared.Fault.TheVariants as fault
 use Rattle.chain_model.specs.{Configurations, has, at_epoch, Message, Request, Response}
 use Rattle.chain_model.specs.{SystemEvent}
 use Rattle.chain_model.specs.declared.DropReason.{DropReason}
 use Rattle.chain_model.specs as model_frame
 use Rattle.chain_core.specs.{Machine}
 use Rattle.node.specs.declared.Stop.{Stop as Cause}
+use Rattle.node.specs.declared.Stop.TheVariants.{Disk}
 use Rattle.node.specs.declared.Reply.TheVariants as reply
 use Rattle.node.specs.{IsEnvironmental}
 use Rattle.lab.specs.declared.event.Event.{Event}
@@ -100,37 +103,46 @@ reply_line kind (Response.Refused i why) =
 abbrev pub reply_lines : EventKind → List (model_frame.Response BatchContent) → List Line
 reply_lines kind replies = flat_map (reply_line kind) replies
 
--- a node that stops by itself reports the cause
-abbrev pub reported_cause : EventKind → Cause → Option Cause
-reported_cause (Stop node junk) cause = None
-reported_cause (Submit node batch) cause = Some cause
-reported_cause (Get node key at) cause = Some cause
-reported_cause (Deliver place) cause = Some cause
-reported_cause (Tick node) cause = Some cause
-reported_cause (Start node) cause = Some cause
+-- a node that stops by itself reports the cause, but not where a fault stopped its machine
+abbrev pub told_cause : Fault → Bool → Cause → Option Cause
+told_cause (fault.Stop call junk) true cause = None
+told_cause (fault.Stop call junk) false cause = Some cause
+told_cause (fault.Fail call) struck cause = Some cause
+told_cause fault.None struck cause = Some cause
+
+-- what is reported of a node that stopped in an event with this fault
+abbrev pub reported_cause : EventKind → Fault → Choice → Option Cause
+reported_cause (Stop node junk) fault choice = None
+reported_cause (Submit node batch) fault choice = told_cause fault choice.struck choice.cause
+reported_cause (Get node key at) fault choice = told_cause fault choice.struck choice.cause
+reported_cause (Deliver place) fault choice = told_cause fault choice.struck choice.cause
+reported_cause (Tick node) fault choice = told_cause fault choice.struck choice.cause
+reported_cause (Start node) fault choice = told_cause fault choice.struck choice.cause
 
 -- the lines of an event at node x: why it was dropped, then a start, then frames, then
 -- replies
-abbrev pub lines_at : ℕ → ℕ → EventKind → Choice → model_frame.Outcome BatchContent → List Line
-lines_at x sent kind choice o =
-    if o.stopped then line.Stopped x (reported_cause kind choice.cause) ∷ []
-    else dropped_lines o.dropped ++ (start_trace kind o
-    ++ (frame_lines sent o.frames ++ reply_lines kind o.replies))
+abbrev pub lines_at : ℕ → ℕ → Event → Choice → model_frame.Outcome BatchContent → List Line
+lines_at x sent event choice o =
+    if o.stopped then line.Stopped x (reported_cause event.kind event.fault choice) ∷ []
+    else dropped_lines o.dropped ++ (start_trace event.kind o
+    ++ (frame_lines sent o.frames ++ reply_lines event.kind o.replies))
 
 -- the lines of an event, after so many frames
-abbrev pub lines_if : Option (ℕ × Machine) → ℕ → EventKind → Choice → model_frame.Outcome
-    BatchContent
+abbrev pub lines_if : Option (ℕ × Machine) → ℕ → Event → Choice → model_frame.Outcome BatchContent
     → List Line
-lines_if None sent kind choice o = line.Nothing ∷ []
-lines_if (Some at) sent kind choice o = lines_at at.0 sent kind choice o
+lines_if None sent event choice o = line.Nothing ∷ []
+lines_if (Some at) sent event choice o = lines_at at.0 sent event choice o
 
 -- the lines of an event after so many frames, and of a node that stopped by itself the cause
-abbrev pub lines_of_event : ℕ → EventKind → Choice → model_frame.Outcome BatchContent → List Line
-lines_of_event sent kind choice o = lines_if o.acted_on sent kind choice o
+abbrev pub lines_of_event : ℕ → Event → Choice → model_frame.Outcome BatchContent → List Line
+lines_of_event sent event choice o = lines_if o.acted_on sent event choice o
 
--- What was chosen fits the event and its outcome. An event that bears a fault is as one without.
+-- what was chosen fits the event and its outcome
 pub record ChoiceFits (event : Event) (choice : Choice) (o : model_frame.Outcome BatchContent) :
     Type 0
   where
     -- a node stops by itself for its device or for memory alone
-    pub cause : o.stopped ≡ true → IfSome (reported_cause event.kind choice.cause) IsEnvironmental
+    pub cause : o.stopped ≡ true →
+        IfSome (reported_cause event.kind event.fault choice) IsEnvironmental
+    -- where the fault of the event struck, a call of the disk failed, and so the node stopped
+    pub struck : choice.struck ≡ true → (o.stopped ≡ true) × (choice.cause ≡ Disk)

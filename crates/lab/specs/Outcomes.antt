@@ -1,10 +1,10 @@
 -- The outcomes of a simulated node: the state that each input leaves, its disk and its lines.
 use Rattle.std.specs.Prelude.{◌≡◌, ◌⊎◌, ℕ, List, [], ◌∷◌, ◌++◌, length, map, Option}
-use Rattle.std.specs.Prelude.{Some, None, suc, true, false}
+use Rattle.std.specs.Prelude.{Bool, Some, None, suc, true, false}
 use Rattle.kv_types.specs.{BatchContent}
+use Rattle.disk.specs.declared.Fault.{Fault}
 use Rattle.disk.specs.declared.Junk.{Junk}
-use Rattle.disk.specs.declared.Junk.TheVariants.{Old}
-use Rattle.disk.specs.{RisesByOne, CrashOutcome, State}
+use Rattle.disk.specs.{RisesByOne, CrashOutcome, State, struck_call}
 use Rattle.chain_model.specs.{Answer, dropped_for, refused, started, stopped}
 use Rattle.link_messages.specs.declared.Frame.{Frame}
 use Rattle.link_messages.specs.declared.Frame.TheVariants as frame
@@ -28,8 +28,8 @@ use Rattle.lab.specs.declared.node_state.NodeState.{NodeState}
 use Rattle.lab.specs.declared.node_state.NodeState.TheVariants.{Up, Down}
 use Rattle.lab.specs.declared.report.Line.{Line}
 use Rattle.lab.specs.declared.report.Line.TheVariants as line
-use Rattle.lab.specs.Disks.{IsCrashOf}
-use Rattle.lab.specs.Events.{dropped_lines}
+use Rattle.lab.specs.Disks.{IsCrashOf, has_reached, junk_at_end}
+use Rattle.lab.specs.Events.{dropped_lines, told_cause}
 use Rattle.lab.specs.SimNodes.{StateRefines, IsDown, disk_in}
 
 -- ---- what a node answers
@@ -64,36 +64,50 @@ pub record IsRefusal (i : ℕ) (output : Output) : Type 0 where
 abbrev pub HasAnswered : StepOutcome → (Output → Type 0) → Type 0
 HasAnswered did P = (output : Output) × (did ≡ done.Answered output) × P output
 
+-- ---- the fault of an event
+
+-- whether the fault struck a call of a node's disk
+abbrev pub has_struck_in : {D : Type 0} → (D → ℕ) → Fault → D → NodeState D → Bool
+has_struck_in calls fault old new =
+    has_reached (struck_call fault) (calls old) (calls (disk_in new))
+
+-- A node stopped by itself, for its device or for memory: for its device where the fault struck.
+pub record StopsByItself (fault : Fault) (struck : Bool) (did : StepOutcome) : Type 0 where
+  pub cause : Cause
+  pub environmental : IsEnvironmental cause
+  pub device : struck ≡ true → cause ≡ Disk
+  pub told : did ≡ done.Stopped (told_cause fault struck cause)
+
 -- ---- outcomes of node x, which was machine n, and the state that each leaves
 
--- an input of a step: the node ran and answered; or it stopped by itself, for its device or for
--- memory, as before the step or as after it; or it is down
-pub data HasHandled {D : Type 0} (is_honest : D → Type 0) (state : D → State) (x : ℕ) (n : Machine)
-    (inp : Input) (new : NodeState D) (did : StepOutcome) : Type 0 where
+-- an input of a step: the node ran and answered; or it stopped by itself, as before the step or as
+-- after it; or it is down
+pub data HasHandled {D : Type 0} (is_honest : D → Type 0) (state : D → State) (fault : Fault)
+    (struck : Bool) (x : ℕ) (n : Machine) (inp : Input) (new : NodeState D) (did : StepOutcome)
+    : Type 0 where
   Answers : n.running ≡ true → StateRefines is_honest state new x (answer_to x n inp).node
       → HasAnswered did (IsAnswer inp (answer_to x n inp))
-      → HasHandled is_honest state x n inp new did
-  Ends : n.running ≡ true → (cause : Cause) → IsEnvironmental cause
+      → HasHandled is_honest state fault struck x n inp new did
+  Ends : n.running ≡ true → StopsByItself fault struck did
       → StateRefines is_honest state new x (stopped n)
       ⊎ StateRefines is_honest state new x (stopped (answer_to x n inp).node)
-      → did ≡ done.Stopped (Some cause) → HasHandled is_honest state x n inp new did
+      → HasHandled is_honest state fault struck x n inp new did
   Rests : n.running ≡ false → StateRefines is_honest state new x n
       → HasAnswered did (IsAnswer inp (down_answer n inp))
-      → HasHandled is_honest state x n inp new did
+      → HasHandled is_honest state fault struck x n inp new did
 
--- a node was started: it runs as the machine that was started, or could not, for its device or for
--- memory; or it ran
-pub data HasStarted {D : Type 0} (is_honest : D → Type 0) (state : D → State) (x : ℕ)
-    (n : Machine) (new : NodeState D) (did : StepOutcome) : Type 0 where
+-- a node was started: it runs as the machine that was started, or stopped by itself; or it ran
+pub data HasStarted {D : Type 0} (is_honest : D → Type 0) (state : D → State) (fault : Fault)
+    (struck : Bool) (x : ℕ) (n : Machine) (new : NodeState D) (did : StepOutcome) : Type 0 where
   Starts : n.running ≡ false → StateRefines is_honest state new x (started x n)
       → did ≡ done.Started n.epoch (length n.list) (started x n).committed
-      → HasStarted is_honest state x n new did
-  Fails : n.running ≡ false → (cause : Cause) → IsEnvironmental cause
+      → HasStarted is_honest state fault struck x n new did
+  Fails : n.running ≡ false → StopsByItself fault struck did
       → StateRefines is_honest state new x (stopped n)
-      → did ≡ done.Stopped (Some cause) → HasStarted is_honest state x n new did
+      → HasStarted is_honest state fault struck x n new did
   RunsOn : n.running ≡ true → StateRefines is_honest state new x n →
       HasAnswered did (IsDrop reason.Running)
-      → HasStarted is_honest state x n new did
+      → HasStarted is_honest state fault struck x n new did
 
 -- a node was stopped: it is down, or was
 pub data HasStopped {D : Type 0} (is_honest : D → Type 0) (state : D → State) (x : ℕ)
@@ -114,16 +128,17 @@ pub data HasDropped {D : Type 0} (is_honest : D → Type 0) (state : D → State
       → HasAnswered did (IsDrop reason.NotRunning)
       → HasDropped is_honest state x n why new did
 
--- this input left node x, which was machine n, in this state with this outcome
-abbrev pub OutcomeRefines : {D : Type 0} → (D → Type 0) → (D → State) → ℕ → Machine → NodeInput
-    → NodeState D
-    → StepOutcome → Type 0
-OutcomeRefines is_honest state x n (to_node.Step inp) new did =
-    HasHandled is_honest state x n inp new did
-OutcomeRefines is_honest state x n (to_node.BadFrame why) new did =
+-- this input left node x, which was machine n, in this state with this outcome, where a fault
+-- struck or did not
+abbrev pub OutcomeRefines : {D : Type 0} → (D → Type 0) → (D → State) → Fault → Bool → ℕ → Machine
+    → NodeInput → NodeState D → StepOutcome → Type 0
+OutcomeRefines is_honest state fault struck x n (to_node.Step inp) new did =
+    HasHandled is_honest state fault struck x n inp new did
+OutcomeRefines is_honest state fault struck x n (to_node.BadFrame why) new did =
     HasDropped is_honest state x n why new did
-OutcomeRefines is_honest state x n to_node.Start new did = HasStarted is_honest state x n new did
-OutcomeRefines is_honest state x n (to_node.Stop junk) new did =
+OutcomeRefines is_honest state fault struck x n to_node.Start new did =
+    HasStarted is_honest state fault struck x n new did
+OutcomeRefines is_honest state fault struck x n (to_node.Stop junk) new did =
     HasStopped is_honest state x n new did
 
 -- ---- the disk behind an outcome
@@ -135,57 +150,63 @@ input_junk (to_node.Step inp) = None
 input_junk (to_node.BadFrame why) = None
 input_junk to_node.Start = None
 
--- no call of the disk failed, and a node that is down has the same one
-pub record DiskStays {D : Type 0} (failures : D → ℕ) (old : D) (new : NodeState D) : Type 0 where
+-- no call of the disk failed, so no fault struck, and a node that is down has the same one
+pub record DiskStays {D : Type 0} (failures : D → ℕ) (struck : Bool) (old : D) (new : NodeState D)
+    : Type 0 where
+  pub spared : struck ≡ false
   pub count : failures (disk_in new) ≡ failures old
   pub same : IsDown new → disk_in new ≡ old
 
 -- a node that was stopped is down, and its disk crashed with this junk
-abbrev pub HasCrashed : {D : Type 0} → (D → State) → (D → ℕ) → Junk → D → NodeState D → Type 0
-HasCrashed state failures junk old (Up node) = ⊥
-HasCrashed state failures junk old (Down disk) = IsCrashOf state failures junk old disk
-
-abbrev pub HasCrashedWith : {D : Type 0} → (D → State) → (D → ℕ) → Option Junk → D → NodeState D
+abbrev pub HasCrashed : {D : Type 0} → (D → State) → (D → ℕ) → (D → ℕ) → Junk → D → NodeState D
     → Type 0
-HasCrashedWith state failures (Some junk) old new = HasCrashed state failures junk old new
-HasCrashedWith state failures None old new = ⊥
+HasCrashed state failures calls junk old (Up node) = ⊥
+HasCrashed state failures calls junk old (Down disk) = IsCrashOf state failures calls junk old disk
 
 -- a node stopped by itself: a call of the disk failed if that is the cause, and else none; what was
--- left of the disk crashed so that each file is as it was synced
-pub record DiskEnds {D : Type 0} (state : D → State) (failures : D → ℕ) (cause : Cause)
-    (old new : D) : Type 0 where
+-- left of the disk crashed with this junk
+pub record DiskEnds {D : Type 0} (state : D → State) (failures : D → ℕ) (junk : Junk)
+    (cause : Cause) (old new : D) : Type 0 where
   pub failed : cause ≡ Disk → RisesByOne (failures old) (failures new)
   pub others : (cause ≡ Disk → ⊥) → failures new ≡ failures old
   pub left : State
-  pub crashes : CrashOutcome Old left (state new)
+  pub crashes : CrashOutcome junk left (state new)
+
+-- a node stopped and tells no cause: the event stopped it with its junk, or else the fault did
+abbrev pub HasCrashedWith : {D : Type 0} → (D → State) → (D → ℕ) → (D → ℕ) → Option Junk → Fault
+    → Bool → D → NodeState D → Type 0
+HasCrashedWith state failures calls (Some junk) fault struck old new =
+    HasCrashed state failures calls junk old new
+HasCrashedWith state failures calls None fault struck old new =
+    DiskEnds state failures (junk_at_end fault struck) Disk old (disk_in new)
 
 -- the disk that a node had and the one behind its outcome
-abbrev pub DiskFits : {D : Type 0} → (D → State) → (D → ℕ) → Option Junk → StepOutcome → D
-    → NodeState D
-    → Type 0
-DiskFits state failures junk (done.Answered output) old new = DiskStays failures old new
-DiskFits state failures junk (done.Started epoch count committed) old new =
-    DiskStays failures old new
-DiskFits state failures junk (done.Stopped None) old new =
-    HasCrashedWith state failures junk old new
-DiskFits state failures junk (done.Stopped (Some cause)) old new =
-    DiskEnds state failures cause old (disk_in new)
+abbrev pub DiskFits : {D : Type 0} → (D → State) → (D → ℕ) → (D → ℕ) → Option Junk → Fault → Bool
+    → StepOutcome → D → NodeState D → Type 0
+DiskFits state failures calls junk fault struck (done.Answered output) old new =
+    DiskStays failures struck old new
+DiskFits state failures calls junk fault struck (done.Started epoch count committed) old new =
+    DiskStays failures struck old new
+DiskFits state failures calls junk fault struck (done.Stopped None) old new =
+    HasCrashedWith state failures calls junk fault struck old new
+DiskFits state failures calls junk fault struck (done.Stopped (Some cause)) old new =
+    DiskEnds state failures (junk_at_end fault struck) cause old (disk_in new)
 
 -- ---- the state behind an input, whatever the machine
 
 -- an input that the node ignores leaves its state as it was, and one that stops a running node
 -- leaves a crash of its disk with the junk
-abbrev pub StateFollows : {D : Type 0} → (D → Type 0) → (D → State) → (D → ℕ) → NodeState D
-    → NodeInput → NodeState D → Type 0
-StateFollows is_honest state failures (Up node) (to_node.Step inp) new = Unit {0}
-StateFollows is_honest state failures (Up node) (to_node.BadFrame why) new = new ≡ Up node
-StateFollows is_honest state failures (Up node) to_node.Start new = new ≡ Up node
-StateFollows is_honest state failures (Up node) (to_node.Stop junk) new =
-    is_honest (disk_of node) → HasCrashed state failures junk (disk_of node) new
-StateFollows is_honest state failures (Down disk) (to_node.Step inp) new = new ≡ Down disk
-StateFollows is_honest state failures (Down disk) (to_node.BadFrame why) new = new ≡ Down disk
-StateFollows is_honest state failures (Down disk) to_node.Start new = Unit {0}
-StateFollows is_honest state failures (Down disk) (to_node.Stop junk) new = new ≡ Down disk
+abbrev pub StateFollows : {D : Type 0} → (D → Type 0) → (D → State) → (D → ℕ) → (D → ℕ)
+    → NodeState D → NodeInput → NodeState D → Type 0
+StateFollows is_honest state failures calls (Up node) (to_node.Step inp) new = Unit {0}
+StateFollows is_honest state failures calls (Up node) (to_node.BadFrame why) new = new ≡ Up node
+StateFollows is_honest state failures calls (Up node) to_node.Start new = new ≡ Up node
+StateFollows is_honest state failures calls (Up node) (to_node.Stop junk) new =
+    is_honest (disk_of node) → HasCrashed state failures calls junk (disk_of node) new
+StateFollows is_honest state failures calls (Down disk) (to_node.Step inp) new = new ≡ Down disk
+StateFollows is_honest state failures calls (Down disk) (to_node.BadFrame why) new = new ≡ Down disk
+StateFollows is_honest state failures calls (Down disk) to_node.Start new = Unit {0}
+StateFollows is_honest state failures calls (Down disk) (to_node.Stop junk) new = new ≡ Down disk
 
 -- ---- the lines of an outcome
 

@@ -9,7 +9,7 @@ use Rattle.lab.specs.declared.report.Numbers.{Numbers}
 use Rattle.lab.specs.declared.report.NodeReport.{NodeReport}
 use Rattle.lab.specs.declared.report.Report.{Report}
 use Rattle.lab.specs.Disks.{HaveDisks}
-use Rattle.lab.specs.SimNodes.{Choice, state, failures}
+use Rattle.lab.specs.SimNodes.{Choice, state, failures, calls}
 use Rattle.lab.specs.Traces.{modelled_from, IsTrace}
 
 -- the numbers are the machine's; it has no tables yet
@@ -32,7 +32,7 @@ RunningRefines (Some numbers) n = (n.running ≡ true) × NumbersRefine n number
 pub record IsRun (cs : Configurations) (events : List Event) (report : Report) : Type 0 where
   pub choices : List Choice
   pub trace : IsTrace cs events choices report.steps.items
-  pub disks : HaveDisks state failures (λ (node : NodeReport). node.id)
+  pub disks : HaveDisks state failures calls (λ (node : NodeReport). node.id)
       (λ (node : NodeReport). node.disk) cs events choices report.nodes.items
   pub numbers : All (λ node. RunningRefines node.running
       (model.node_of cs (modelled_from 1 events choices) node.id)) report.nodes.items

@@ -1,6 +1,7 @@
 -- Simulated nodes: what a running or stopped one refines, and what the code may choose in a step.
-use Rattle.std.specs.Prelude.{◌≡◌, ℕ, false}
-use Rattle.disk.specs.{State, Slots, state_of}
+use Rattle.std.specs.Prelude.{◌≡◌, ℕ, Bool, false, length}
+use Rattle.disk.specs.{State, Slots, past_states, state_of}
+use Rattle.disk.specs.declared.disk.Disk.{Ghosts}
 use Rattle.chain_model.specs as model
 use Rattle.chain_core.specs.{Machine}
 use Rattle.node.specs.declared.Node.{Node}
@@ -31,10 +32,16 @@ StateRefines is_honest state (Up node) x n = NodeRefines is_honest state node x 
 StateRefines is_honest state (Down disk) x n =
     is_honest disk × DiskAlwaysRefines (state disk) x n × (n.running ≡ false)
 
--- what the code may choose in a step: how it went, and why the node stopped if it did
+-- what the code may choose in a step: how it went, whether the event's fault struck in it, and why
+-- the node stopped if it did
 pub record Choice : Type 0 where
   pub went : model.StepResult
+  pub struck : Bool
   pub cause : Cause
+
+-- how many calls a disk ever had
+abbrev pub calls_of : {D : Type 0} → Ghosts D → D → ℕ
+calls_of g disk = length (g.past disk)
 
 -- ---- a disk in memory
 
@@ -48,3 +55,7 @@ state disk = state_of disk.slots
 -- how often a call of it failed
 abbrev pub failures : Slots → ℕ
 failures disk = disk.failures
+
+-- .. and how many calls it ever had
+abbrev pub calls : Slots → ℕ
+calls disk = length (past_states disk)

@@ -23,7 +23,7 @@ lines_from cs i [] choices w = []
 lines_from cs i (event ∷ events) [] w = []
 lines_from cs i (event ∷ events) (choice ∷ choices) w =
     let e = modelled i event.kind choice in
-    lines_of_event (length w.frames) event.kind choice (model.outcome w cs e)
+    lines_of_event (length w.frames) event choice (model.outcome w cs e)
     ∷ lines_from cs (suc i) events choices (model.state_after cs w e)
 
 -- what was chosen fits each of them, from a world on

@@ -5,6 +5,7 @@ use Rattle.std.specs.List.{AllZip, HoldsAt}
 use Rattle.kv_types.specs.{BatchContent}
 use Rattle.chain_model.specs.{Configurations, Lawful, at_epoch, created}
 use Rattle.chain_model.specs as model_frame
+use Rattle.disk.specs.declared.Fault.{Fault}
 use Rattle.disk.specs.declared.Junk.{Junk}
 use Rattle.disk.specs.{Slots}
 use Rattle.node.specs.declared.Node.{Node}
@@ -26,10 +27,10 @@ use Rattle.lab.specs.declared.delivery.Posted.{Posted}
 use Rattle.lab.specs.declared.report.NodeReport.{NodeReport}
 use Rattle.lab.specs.declared.sim_node.SimNode.{SimNode}
 use Rattle.lab.specs.declared.world.World.{World}
-use Rattle.lab.specs.SimNodes.{Choice, StateRefines, disk_in, is_honest, state, failures}
+use Rattle.lab.specs.SimNodes.{Choice, StateRefines, disk_in, is_honest, state, failures, calls}
 use Rattle.lab.specs.Events.{NamesNode}
 use Rattle.lab.specs.Outcomes.{OutcomeRefines, DiskFits, StateFollows, input_junk, sent_by}
-use Rattle.lab.specs.Outcomes.{outcome_lines}
+use Rattle.lab.specs.Outcomes.{has_struck_in, outcome_lines}
 use Rattle.lab.specs.Disks.{AreDisksAfter, HaveDisks, IsDiskOf, IsCrashOf}
 use Rattle.lab.specs.History.{IsHistory}
 use Rattle.lab.specs.Runs.{RunningRefines}
@@ -109,10 +110,11 @@ pub record AreLeft (sims : List SimNode) (nodes : List NodeReport) : Type 0 wher
       (SimNodeRefines machines disks) sims →
       All (λ node. IsLeft (machines node.id) (disks node.id) node) nodes
 
--- Node x took a step by this input: its outcome and its new state refine every machine that it was,
--- the frames that it sent are posted, and these are its lines. Every other node is as it was.
+-- Node x took a step by this input with this fault: its outcome and its new state refine every
+-- machine that it was, the frames that it sent are posted, and these are its lines. Every other
+-- node is as it was.
 pub record HasStepped (sims : List SimNode) (posted : List Posted) (x : ℕ) (node_input : NodeInput)
-    (lines : List Line) (now : List SimNode) (more : List Posted) : Type 0 where
+    (fault : Fault) (lines : List Line) (now : List SimNode) (more : List Posted) : Type 0 where
   pub index : ℕ
   pub at : IsIndexOf sims index x
   pub sim : SimNode
@@ -121,10 +123,13 @@ pub record HasStepped (sims : List SimNode) (posted : List Posted) (x : ℕ) (no
   pub did : StepOutcome
   pub refines : (y : ℕ) (n : Machine) →
       StateRefines is_honest state (get_or sims index sim).state y n →
-      OutcomeRefines is_honest state y n node_input sim.state did
-  pub disk : DiskFits state failures (input_junk node_input) did
+      OutcomeRefines is_honest state fault
+      (has_struck_in calls fault (disk_in (get_or sims index sim).state) sim.state) y n node_input
+      sim.state did
+  pub disk : DiskFits state failures calls (input_junk node_input) fault
+      (has_struck_in calls fault (disk_in (get_or sims index sim).state) sim.state) did
       (disk_in (get_or sims index sim).state) sim.state
-  pub follows : StateFollows is_honest state failures (get_or sims index sim).state node_input
+  pub follows : StateFollows is_honest state failures calls (get_or sims index sim).state node_input
       sim.state
   pub sent : HasPosted posted (sent_by did) more
   pub traced : lines ≡ outcome_lines x (length posted) did
@@ -137,7 +142,7 @@ pub record IsStopped (old new : List SimNode) (x : ℕ) (junk : Junk) : Type 0 w
   pub sim : SimNode
   pub others : new ≡ slice_set old index sim
   pub crashes : (node : Node Slots) → (get_or old index sim).state ≡ Up node →
-      IsCrashOf state failures junk (disk_of node) (disk_in sim.state)
+      IsCrashOf state failures calls junk (disk_of node) (disk_in sim.state)
 
 -- a stop event stops the node that it names, with its junk
 abbrev pub StopsNode : EventKind → List SimNode → List SimNode → Type 0
@@ -160,7 +165,7 @@ pub record RunRefines (sims : List SimNode) (posted : List Posted) (cs : Configu
   pub sent : frames_in_steps steps ≡ length posted
   pub nodes : map (λ sim. sim.id) sims ≡ at_epoch cs 0
   pub disks : ℕ → Slots
-  pub after : AreDisksAfter state failures cs events choices disks
+  pub after : AreDisksAfter state failures calls cs events choices disks
   -- no disk failed more often than there are events
   pub few : (x : ℕ) → failures (disks x) ≤ length events
   pub each : All (SimNodeRefines (model_frame.node_of cs (modelled_from 1 events choices)) disks)
@@ -198,7 +203,7 @@ pub record IsRunSoFar (world : World) (cs : Configurations) (events : List Event
     (steps : List (List Line)) : Type 0 where
   pub choices : List Choice
   pub trace : IsTrace cs events choices steps
-  pub disks : HaveDisks state failures (λ (sim : SimNode). sim.id)
+  pub disks : HaveDisks state failures calls (λ (sim : SimNode). sim.id)
       (λ (sim : SimNode). disk_in sim.state) cs events choices world.nodes.items
 
 -- .. and there is one history of them

@@ -1,18 +1,21 @@
 // The state of a simulated node, up or down, and how it takes an input.
-ghost use Rattle.std.specs.Prelude.{◌⊎◌, ℕ, IfOk};
+ghost use Rattle.std.specs.Prelude.{◌≡◌, ◌↔◌, ◌⊎◌, ℕ, Bool, IfOk, IsTrue};
 ghost use Rattle.kv_types.specs.{BatchContent};
 ghost use Rattle.chain_model.specs.{Answer, stopped};
+ghost use Rattle.disk.specs.{HasStruck};
 ghost use Rattle.chain_core.specs.{Machine};
-ghost use Rattle.node.specs.{DiskAlwaysRefines, StopRefines};
-ghost use Rattle.lab.specs.SimNodes.{StateRefines, StateIsReady, disk_in};
-ghost use Rattle.lab.specs.Outcomes.{DiskFits, HasCrashed, HasStarted, OutcomeRefines};
-ghost use Rattle.lab.specs.Outcomes.{StateFollows, input_junk};
+ghost use Rattle.node.specs.{DiskAlwaysRefines, IsReady, NodeRefines, StopRefines, disk_of};
+ghost use Rattle.lab.specs.Disks.{junk_at_end};
+ghost use Rattle.lab.specs.Events.{told_cause};
+ghost use Rattle.lab.specs.SimNodes.{StateRefines, StateIsReady, calls_of, disk_in};
+ghost use Rattle.lab.specs.Outcomes.{DiskFits, HasCrashed, HasHandled, HasStarted, OutcomeRefines};
+ghost use Rattle.lab.specs.Outcomes.{StateFollows, has_struck_in, input_junk};
 
 use crate::input::{NodeInput, StepOutcome, dropped, output_down};
 use disk::laws::{crashed_is_durable, durable_is_left};
-use disk::{Crash, Disk, Junk};
+use disk::{Crash, Disk, Fault, Junk};
 use kv_types::Limits;
-use node::{DropReason, Node};
+use node::{DropReason, Input, Node, Stop};
 use std::alloc::{AllocError, Global};
 
 /// A node that is up, or the disk of one that is down.
@@ -25,7 +28,8 @@ pub enum NodeState<D: Disk + Drop> {
 // The state of a node that stopped: its disk crashed with this junk.
 fn crash<D: Crash + Drop>(mut disk: D, junk: Junk) -> NodeState<D>
     ensures ready { StateIsReady result }
-    ensures crashes { D.is_honest disk → HasCrashed D.state D.failures junk disk result }
+    ensures crashes { D.is_honest disk →
+        HasCrashed D.state D.failures (calls_of D.Disk) junk disk result }
     ensures refines { (x : ℕ) (n : Machine) (a : Answer BatchContent) →
         D.is_honest disk → StopRefines (D.state disk) x n a →
         StateRefines D.is_honest D.state result x (stopped n)
@@ -38,17 +42,47 @@ fn crash<D: Crash + Drop>(mut disk: D, junk: Junk) -> NodeState<D>
     NodeState::Down(disk)
 }
 
-// A node that was down starts.
-fn start<D: Crash + Drop>(alloc: Global, disk: D, limits: &Limits) -> (NodeState<D>, StepOutcome)
+// The state and the outcome of a node that stopped by itself and left this disk. Where the fault
+// stopped its machine, the disk crashes with the fault's junk, and no cause is told.
+fn stop_by_itself<D: Crash + Drop>(disk: D, stop: Stop, fault: Fault) -> (NodeState<D>, StepOutcome)
+    ensures ready { StateIsReady result.0 }
+    ensures told { (struck : Bool) → (IsTrue struck ↔ HasStruck D.fault_at D.past disk) →
+        result.1 ≡ StepOutcome.Stopped (told_cause fault struck stop) }
+    ensures crashes { (struck : Bool) → (IsTrue struck ↔ HasStruck D.fault_at D.past disk) →
+        D.is_honest disk → HasCrashed D.state D.failures (calls_of D.Disk)
+        (junk_at_end fault struck) disk result.0 }
+    ensures refines { (x : ℕ) (n : Machine) (a : Answer BatchContent) →
+        D.is_honest disk → StopRefines (D.state disk) x n a →
+        StateRefines D.is_honest D.state result.0 x (stopped n)
+        ⊎ StateRefines D.is_honest D.state result.0 x (stopped a.node) }
+{
+    let (junk, cause) = match fault {
+        Fault::Stop(_, junk) if disk.has_struck() => (junk, None),
+        _other => (Junk::Old, Some(stop)),
+    };
+    (crash(disk, junk), StepOutcome::Stopped(cause))
+}
+
+// A node that was down starts, on a disk with this fault.
+fn start<D: Crash + Drop>(
+    alloc: Global,
+    mut disk: D,
+    fault: Fault,
+    limits: &Limits,
+) -> (NodeState<D>, StepOutcome)
     ensures ready { StateIsReady result.0 }
     ensures refines { (x : ℕ) (n : Machine) →
         StateRefines D.is_honest D.state (NodeState.Down disk) x n →
-        HasStarted D.is_honest D.state x n result.0 result.1 }
+        HasStarted D.is_honest D.state fault
+        (has_struck_in (calls_of D.Disk) fault disk result.0) x n result.0 result.1 }
     ensures disk { D.is_honest disk →
-        DiskFits D.state D.failures None result.1 disk result.0 }
+        DiskFits D.state D.failures (calls_of D.Disk) None fault
+        (has_struck_in (calls_of D.Disk) fault disk result.0) result.1 disk result.0 }
 {
+    disk.arm(&fault);
     match Node::start(alloc, disk, limits) {
-        Ok(node) => {
+        Ok(mut node) => {
+            node.arm(&Fault::None);
             let outcome = StepOutcome::Started {
                 epoch: node.epoch(),
                 count: node.count(),
@@ -56,36 +90,62 @@ fn start<D: Crash + Drop>(alloc: Global, disk: D, limits: &Limits) -> (NodeState
             };
             (NodeState::Up(node), outcome)
         }
-        Err((stop, disk)) => (crash(disk, Junk::Old), StepOutcome::Stopped(Some(stop))),
+        Err((stop, disk)) => stop_by_itself(disk, stop, fault),
+    }
+}
+
+// A node that is up takes a step, on a disk with this fault.
+fn step<D: Crash + Drop>(
+    alloc: Global,
+    mut node: Node<D>,
+    input: Input,
+    fault: Fault,
+) -> (NodeState<D>, StepOutcome)
+    requires { IsReady node }
+    ensures ready { StateIsReady result.0 }
+    ensures refines { (x : ℕ) (n : Machine) → NodeRefines D.is_honest D.state node x n →
+        HasHandled D.is_honest D.state fault
+        (has_struck_in (calls_of D.Disk) fault (disk_of node) result.0) x n input result.0
+        result.1 }
+    ensures disk { D.is_honest (disk_of node) →
+        DiskFits D.state D.failures (calls_of D.Disk) None fault
+        (has_struck_in (calls_of D.Disk) fault (disk_of node) result.0) result.1 (disk_of node)
+        result.0 }
+{
+    node.arm(&fault);
+    match node.step(alloc, input) {
+        Ok(output) => {
+            node.arm(&Fault::None);
+            (NodeState::Up(node), StepOutcome::Answered(output))
+        }
+        Err(stop) => stop_by_itself(node.into_disk(), stop, fault),
     }
 }
 
 impl<D: Crash + Drop> NodeState<D> {
-    /// Dispatches an input to the node: the state that it leaves, and the outcome.
+    /// Dispatches an input to the node, whose disk has the fault meanwhile: the state that it
+    /// leaves, and the outcome.
     pub fn dispatch(
         self,
         alloc: Global,
         input: NodeInput,
+        fault: Fault,
         limits: &Limits,
     ) -> Result<(NodeState<D>, StepOutcome), AllocError>
         requires { StateIsReady self }
         ensures ready { IfOk result (λ it. StateIsReady it.0) }
         ensures refines { (x : ℕ) (n : Machine) → StateRefines D.is_honest D.state self x n →
-            IfOk result (λ it. OutcomeRefines D.is_honest D.state x n input it.0 it.1) }
+            IfOk result (λ it. OutcomeRefines D.is_honest D.state fault
+            (has_struck_in (calls_of D.Disk) fault (disk_in self) it.0) x n input it.0 it.1) }
         ensures disk { D.is_honest (disk_in self) → IfOk result (λ it.
-            DiskFits D.state D.failures (input_junk input) it.1 (disk_in self) it.0) }
+            DiskFits D.state D.failures (calls_of D.Disk) (input_junk input) fault
+            (has_struck_in (calls_of D.Disk) fault (disk_in self) it.0) it.1 (disk_in self) it.0) }
         ensures follows { IfOk result (λ it.
-            StateFollows D.is_honest D.state D.failures self input it.0) }
+            StateFollows D.is_honest D.state D.failures (calls_of D.Disk) self input it.0) }
     {
         match self {
-            NodeState::Up(mut node) => match input {
-                NodeInput::Step(input) => match node.step(alloc, input) {
-                    Ok(output) => Ok((NodeState::Up(node), StepOutcome::Answered(output))),
-                    Err(stop) => {
-                        let state = crash(node.into_disk(), Junk::Old);
-                        Ok((state, StepOutcome::Stopped(Some(stop))))
-                    }
-                },
+            NodeState::Up(node) => match input {
+                NodeInput::Step(input) => Ok(step(alloc, node, input, fault)),
                 NodeInput::BadFrame(why) => {
                     let output = dropped(alloc, why);
                     Ok((NodeState::Up(node), StepOutcome::Answered(output)))
@@ -104,7 +164,7 @@ impl<D: Crash + Drop> NodeState<D> {
                     let output = output_down(alloc, &input)?;
                     Ok((NodeState::Down(disk), StepOutcome::Answered(output)))
                 }
-                NodeInput::Start => Ok(start(alloc, disk, limits)),
+                NodeInput::Start => Ok(start(alloc, disk, fault, limits)),
                 NodeInput::BadFrame(_) | NodeInput::Stop(_) => {
                     let output = dropped(alloc, DropReason::NotRunning);
                     Ok((NodeState::Down(disk), StepOutcome::Answered(output)))

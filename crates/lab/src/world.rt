@@ -178,9 +178,10 @@ impl World {
             return Ok(());
         };
         keep(&mut self.events, event)?;
+        let fault = event.fault.clone()?;
         let state = NodeState::Down(MemDisk::new(alloc));
         let node = mem::replace(&mut self.nodes[index], SimNode { id: to, state });
-        let (state, outcome) = node.state.dispatch(alloc, input, &self.limits)?;
+        let (state, outcome) = node.state.dispatch(alloc, input, fault, &self.limits)?;
         self.nodes[index] = SimNode { id: to, state };
         let lines = trace_of(alloc, &mut self.frames, to, outcome)?;
         self.steps.push(lines)?;

@@ -1,13 +1,18 @@
-use Rattle.std.proofs.Common.{refl, inl, inr}
+use Rattle.std.proofs.Common.{refl, inl, inr, subst}
 use Rattle.chain_model.specs.{started, stopped, silent}
+use Rattle.disk.specs.{State}
+use Rattle.node.specs.{DiskAlwaysRefines}
 use Rattle.lab.specs.SimNodes.{StateRefines}
 use Rattle.lab.specs.Outcomes.{Starts, Fails}
-use Rattle.lab.proofs.Disks.{ends_by}
+use Rattle.lab.proofs.Faults.{disk_fits, same_state, spent, stopped_so}
 use Rattle.lab.proofs.node_state.start.Goals as goal
 
 pub returns-in-Ok-clause-refines : goal.returns-in-Ok-clause-refines
 returns-in-Ok-clause-refines g c = λ x n r.
-    let runs = c.in-Ok.ensures.started x n r.0 r.1 in
+    let represents = subst (λ (s : State). DiskAlwaysRefines s x n)
+    (same_state (c.arm.ensures.same r.0)) r.1 in
+    let began = c.in-Ok.ensures.started x n (c.arm.ensures.honest.1 r.0) represents in
+    let runs = c.arm-in-Ok.ensures.refines x (started x n) began in
     Starts r.2 runs (rw (
       c.epoch.ensures x (started x n) runs,
       c.count.ensures x (started x n) runs,
@@ -16,19 +21,27 @@ returns-in-Ok-clause-refines g c = λ x n r.
 
 pub returns-in-Err-clause-refines : goal.returns-in-Err-clause-refines
 returns-in-Err-clause-refines g c = λ x n r.
-    let left = c.in-Err.ensures.started x n r.0 r.1 in
-    let honest = c.in-Err.ensures.kept.honest.1 r.0 in
-    let rests = elim (c.crash.ensures.refines x n (silent n) honest
+    let armed = c.arm.ensures in
+    let represents = subst (λ (s : State). DiskAlwaysRefines s x n)
+    (same_state (armed.same r.0)) r.1 in
+    let left = c.in-Err.ensures.started x n (armed.honest.1 r.0) represents in
+    let was = spent g.D.Disk c.args.fault c.args.disk c.arm.new.self c.in-Err.disk _ _ _ armed
+    c.in-Err.ensures.kept r.0 in
+    let rests = elim (c.stop_by_itself.ensures.refines x n (silent n) was.honest
     (λ after now. inl (left.1 after now))) as
-    (λ _. StateRefines g.D.Disk.is_honest g.D.Disk.state c.crash.result x (stopped n)) [
+    (λ _. StateRefines g.D.Disk.is_honest g.D.Disk.state c.stop_by_itself.result.0 x (stopped n)) [
       | inl before ↦ before
       | inr behind ↦ behind
     ] in
-    Fails r.2 c.in-Err.stop left.0 rests refl
+    Fails r.2
+    (stopped_so g.D.Disk c.args.fault c.args.disk c.in-Err.disk c.in-Err.stop
+    c.stop_by_itself.result.0 c.stop_by_itself.result.1 _ was (λ fails. fails) (λ is. is)
+    c.stop_by_itself.ensures.told c.stop_by_itself.ensures.crashes left.0) rests
 
 pub returns-in-Err-clause-disk : goal.returns-in-Err-clause-disk
 returns-in-Err-clause-disk g c = λ honest.
-    let kept = c.in-Err.ensures.kept in
-    ends_by g.D.Disk.state g.D.Disk.failures c.in-Err.stop c.args.disk c.in-Err.disk c.crash.result
-    (c.crash.ensures.crashes (kept.honest.1 honest))
-    (λ is. kept.failed is) (λ other. kept.count other)
+    let was = spent g.D.Disk c.args.fault c.args.disk c.arm.new.self c.in-Err.disk _ _ _
+    c.arm.ensures c.in-Err.ensures.kept honest in
+    disk_fits g.D.Disk c.args.fault c.args.disk c.in-Err.disk c.in-Err.stop
+    c.stop_by_itself.result.0 c.stop_by_itself.result.1 _ was (λ fails. fails) (λ is. is)
+    c.stop_by_itself.ensures.told c.stop_by_itself.ensures.crashes

@@ -73,7 +73,8 @@ returns c = λ cs events steps run.
     c.in-Some-2.is lines c.in_ok-push-2.ensures.items c.in_ok-keep-2.ensures
     (stepped self.nodes.items index it.0 c.replace-node.new.dest c.replace-node.result
     c.index_mut.result.now (record { id = it.0; state = c.in_ok-state.state; ready = _ }) it.1
-    c.in_ok-state.outcome self.frames.items c.trace_of.new.frames.items lines
+    c.in_ok-fault.fault event.fault c.in_ok-state.outcome self.frames.items
+    c.trace_of.new.frames.items lines c.in_ok-fault.ensures
     (subst (λ (l : List SimNode). IsIndexOf l index it.0) c.deref-2.ensures.value
     c.in-Some-index_of.ensures)
     (c.replace-node.ensures.value ∙ c.index_mut.ensures.value) refl c.in_ok-state.ensures.refines

@@ -1,7 +1,7 @@
 use Rattle.std.proofs.Common.{List, subst, sym, ◌∙◌}
 use Rattle.lab.specs.declared.report.Line.{Line}
 use Rattle.lab.specs.declared.sim_node.SimNode.{SimNode}
-use Rattle.lab.specs.SimNodes.{disk_in, state, failures}
+use Rattle.lab.specs.SimNodes.{disk_in, state, failures, calls}
 use Rattle.lab.specs.Traces.{modelled_from, IsTrace}
 use Rattle.lab.specs.Worlds.{HasHistory}
 use Rattle.lab.proofs.Reports.{one_of, disks_so_far}
@@ -26,7 +26,8 @@ returns-clause-history c = λ cs events steps run.
     let es = modelled_from 1 events made.choices in
     subst (λ (l : List (List Line)). HasHistory self cs events l)
     (sym (c.deref.ensures.value ∙ run.kept))
-    (one_of state failures (λ (sim : SimNode). sim.id) (λ (sim : SimNode). disk_in sim.state) cs
+    (one_of state failures calls (λ (sim : SimNode). sim.id) (λ (sim : SimNode). disk_in sim.state)
+    cs
     events made.choices steps self.nodes.items made.trace
     (disks_so_far self.nodes.items self.frames.items cs events steps made
     c.disks_represent.ensures) (c.one_history.ensures cs es made.lawful)

@@ -1,0 +1,185 @@
+-- What a fault makes of the disk that was armed with it, once a step made its calls.
+use Rattle.std.proofs.Common.{◌≡◌, ◌↔◌, ℕ, zero, suc, ◌+◌, Bool, Option, Some, None, length}
+use Rattle.std.proofs.Common.{true, false, refl, sym, ap, subst, ◌∙◌, arith, le-leb, leb-true}
+use Rattle.std.proofs.lemmas.Bool.{false≢true}
+use Rattle.disk.specs.declared.Fault.{Fault}
+use Rattle.disk.specs.declared.Fault.TheVariants as fault
+use Rattle.disk.specs.declared.Junk.{Junk}
+use Rattle.disk.specs.declared.disk.Disk.{Ghosts}
+use Rattle.disk.specs.{HasStruck, HasStruckBy, IsArmed, IsSame, KeepsDisk, RisesByOne, State}
+use Rattle.disk.specs.{armed_after, struck_call}
+use Rattle.node.specs.declared.Stop.{Stop as Cause}
+use Rattle.node.specs.declared.Stop.TheVariants.{Disk, Damaged, Memory, NotCreated}
+use Rattle.lab.specs.declared.input.StepOutcome.{StepOutcome}
+use Rattle.lab.specs.declared.input.StepOutcome.TheVariants as done
+use Rattle.lab.specs.declared.node_state.NodeState.{NodeState}
+use Rattle.lab.specs.declared.node_state.NodeState.TheVariants.{Up, Down}
+use Rattle.node.specs.{IsEnvironmental}
+use Rattle.lab.specs.Disks.{has_reached, junk_at_end}
+use Rattle.lab.specs.Events.{told_cause}
+use Rattle.lab.specs.Outcomes.{DiskEnds, DiskFits, HasCrashed, StopsByItself}
+use Rattle.lab.specs.Outcomes.{has_struck_in}
+use Rattle.lab.specs.SimNodes.{calls_of, disk_in}
+
+-- ---- the call that a fault strikes
+
+-- a call is reached exactly where the fault that strikes it, armed then, has struck
+reached_is : (call : Option ℕ) (before now : ℕ) →
+    (has_reached call before now ≡ true) ↔ HasStruckBy (armed_after before call) now
+reached_is None before now = (λ e. false≢true e, λ has. absurd has)
+reached_is (Some call) before now =
+    (λ e. leb-true (before + call) now e, λ has. le-leb (before + call) now has)
+
+-- no fault has struck that was just armed
+not_yet : (it : Fault) (calls : ℕ) → HasStruckBy (armed_after calls (struck_call it)) calls → ⊥
+not_yet fault.None calls has = has
+not_yet (fault.Fail zero) calls has = has
+not_yet (fault.Fail (suc n)) calls has = omega (arith, has)
+not_yet (fault.Stop zero junk) calls has = has
+not_yet (fault.Stop (suc n) junk) calls has = omega (arith, has)
+
+-- a test fails whose fact does not hold
+not_true : (b : Bool) → (b ≡ true → ⊥) → b ≡ false
+not_true true none = absurd (none refl)
+not_true false none = refl
+
+-- .. and a disk has reached none of its calls
+pub idle : (it : Fault) (calls : ℕ) → has_reached (struck_call it) calls calls ≡ false
+idle it calls = not_true (has_reached (struck_call it) calls calls)
+    (λ e. not_yet it calls ((reached_is (struck_call it) calls calls).0 e))
+
+-- two states with the same slots are the same
+pub same_state : {old new : State} → IsSame old new → old ≡ new
+same_state same = λ i. λ file. (sym (same file)) i
+
+-- ---- the calls of a step
+
+-- what the calls of a step left of a disk that was armed with a fault, which struck or did not
+pub record IsSpent {D : Type 0} (g : Ghosts D) (struck : Bool) (has_failed : Type 0) (old left : D)
+    : Type 0 where
+  pub honest : g.is_honest left
+  pub strikes : (struck ≡ true) ↔ HasStruck g.fault_at g.past left
+  pub spared : (has_failed → ⊥) → struck ≡ false
+  pub failed : has_failed → RisesByOne (g.failures old) (g.failures left)
+  pub count : (has_failed → ⊥) → g.failures left ≡ g.failures old
+
+module _ {D : Type 0} (g : Ghosts D) (it : Fault) (old : D) where
+  -- whether it struck, once the disk is this one
+  abbrev pub struck_at : D → Bool
+  struck_at now = has_reached (struck_call it) (calls_of g old) (calls_of g now)
+
+  pub spent : (armed left : D) (has_failed cause : Type 0) (IsKept : State → State → Type 0) →
+      IsArmed g it old armed → KeepsDisk g armed left has_failed cause IsKept →
+      g.is_honest old → IsSpent g (struck_at left) has_failed old left
+  spent armed left has_failed cause IsKept arms keeps honest = record {
+    honest = keeps.honest.1 (arms.honest.1 honest);
+    strikes = strikes;
+    spared = λ works. not_true (struck_at left)
+        (λ e. keeps.spared fresh works (strikes.0 e));
+    failed = λ fails. subst (λ (n : ℕ). RisesByOne n (g.failures left)) arms.count
+        (keeps.failed fails);
+    count = λ works. keeps.count works ∙ arms.count;
+  }
+    where
+      at : g.fault_at armed ≡ armed_after (calls_of g old) (struck_call it)
+      at = arms.strikes honest
+
+      strikes : (struck_at left ≡ true) ↔ HasStruck g.fault_at g.past left
+      strikes = subst (λ (o : Option ℕ). (struck_at left ≡ true) ↔ HasStruckBy o (calls_of g left))
+          (sym (keeps.fault ∙ at))
+          (reached_is (struck_call it) (calls_of g old) (calls_of g left))
+
+      fresh : HasStruck g.fault_at g.past armed → ⊥
+      fresh has = not_yet it (calls_of g old)
+          (subst (λ (n : ℕ). HasStruckBy (armed_after (calls_of g old) (struck_call it)) n)
+          (ap length arms.past)
+          (subst (λ (o : Option ℕ). HasStruckBy o (calls_of g armed)) at has))
+
+  -- ---- a step that stopped the node
+
+  -- what a crash leaves has had as many calls
+  after_crash : (junk : Junk) (left : D) (new : NodeState D) →
+      HasCrashed g.state g.failures (calls_of g) junk left new →
+      struck_at left ≡ has_struck_in (calls_of g) it old new
+  after_crash junk left (Up node) crashed = absurd crashed
+  after_crash junk left (Down disk) crashed =
+      ap (λ (n : ℕ). has_reached (struck_call it) (calls_of g old) n) (sym crashed.none_made)
+
+  -- a node stopped by itself and left this disk, which then crashed
+  ends_by : (junk : Junk) (cause : Cause) (left : D) (new : NodeState D) →
+      HasCrashed g.state g.failures (calls_of g) junk left new →
+      (cause ≡ Disk → RisesByOne (g.failures old) (g.failures left)) →
+      ((cause ≡ Disk → ⊥) → g.failures left ≡ g.failures old) →
+      DiskEnds g.state g.failures junk cause old (disk_in new)
+  ends_by junk cause left (Up node) crashed failed others = absurd crashed
+  ends_by junk cause left (Down disk) crashed failed others = record {
+    failed = λ is. subst (λ (n : ℕ). RisesByOne (g.failures old) n) (sym crashed.count) (failed is);
+    others = λ other. crashed.count ∙ others other;
+    left = g.state left;
+    crashes = crashed.crashes;
+  }
+
+  -- .. and tells what the fault lets it tell
+  tells : (fault_of : Fault) (struck : Bool) (stop : Cause) (new : NodeState D) →
+      (struck ≡ true → stop ≡ Disk) →
+      DiskEnds g.state g.failures (junk_at_end fault_of struck) stop old (disk_in new) →
+      DiskFits g.state g.failures (calls_of g) None fault_of struck
+      (done.Stopped (told_cause fault_of struck stop)) old new
+  tells fault.None struck stop new device ends = ends
+  tells (fault.Fail call) struck stop new device ends = ends
+  tells (fault.Stop call junk) false stop new device ends = ends
+  tells (fault.Stop call junk) true stop new device ends =
+      subst (λ (c : Cause). DiskEnds g.state g.failures junk c old (disk_in new)) (device refl) ends
+
+  module _ (left : D) (stop : Cause) (new : NodeState D) (did : StepOutcome) (has_failed : Type 0)
+      (was : IsSpent g (struck_at left) has_failed old left) (to : has_failed → stop ≡ Disk)
+      (from : stop ≡ Disk → has_failed)
+      (told : (struck : Bool) → ((struck ≡ true) ↔ HasStruck g.fault_at g.past left) →
+      did ≡ done.Stopped (told_cause it struck stop))
+      (crashes : (struck : Bool) → ((struck ≡ true) ↔ HasStruck g.fault_at g.past left) →
+      g.is_honest left →
+      HasCrashed g.state g.failures (calls_of g) (junk_at_end it struck) left new)
+    where
+      -- whether the fault struck, once all is done
+      abbrev struck : Bool
+      struck = has_struck_in (calls_of g) it old new
+
+      crashed : HasCrashed g.state g.failures (calls_of g) (junk_at_end it (struck_at left)) left
+          new
+      crashed = crashes (struck_at left) was.strikes was.honest
+
+      same : struck_at left ≡ struck
+      same = after_crash (junk_at_end it (struck_at left)) left new crashed
+
+      device : struck ≡ true → stop ≡ Disk
+      device e = is_disk stop
+          (λ other. false≢true (sym (was.spared (λ fails. other (to fails))) ∙ same ∙ e))
+        where
+          is_disk : (cause : Cause) → ((cause ≡ Disk → ⊥) → ⊥) → cause ≡ Disk
+          is_disk Disk none = refl
+          is_disk Damaged none = absurd (none (λ e. cc))
+          is_disk Memory none = absurd (none (λ e. cc))
+          is_disk NotCreated none = absurd (none (λ e. cc))
+
+      says : did ≡ done.Stopped (told_cause it struck stop)
+      says = subst (λ (b : Bool). did ≡ done.Stopped (told_cause it b stop)) same
+          (told (struck_at left) was.strikes)
+
+      pub stopped_so : IsEnvironmental stop → StopsByItself it struck did
+      stopped_so environmental = record {
+        cause = stop;
+        environmental = environmental;
+        device = device;
+        told = says;
+      }
+
+      pub disk_fits : DiskFits g.state g.failures (calls_of g) None it struck did old new
+      disk_fits = subst (λ (d : StepOutcome). DiskFits g.state g.failures (calls_of g) None it
+          struck d
+          old new) (sym says)
+          (tells it struck stop new device
+          (subst (λ (b : Bool). DiskEnds g.state g.failures (junk_at_end it b) stop old
+          (disk_in new))
+          same
+          (ends_by (junk_at_end it (struck_at left)) stop left new crashed
+          (λ is. was.failed (from is)) (λ other. was.count (λ fails. other (to fails))))))

@@ -1,0 +1,62 @@
+use Rattle.std.proofs.Common.{Err, Result, refl, sym, ap, subst}
+use Rattle.chain_core.specs.{answer_to}
+use Rattle.disk.specs.{KeepsDisk}
+use Rattle.node.specs.declared.Output.{Output}
+use Rattle.node.specs.declared.Stop.{Stop as Cause}
+use Rattle.node.specs.{IsDeviceStop, IsNearlyFull, KeepsOthersOf, StopRefines, disk_of, engine_of}
+use Rattle.lab.specs.Outcomes.{Answers, Ends}
+use Rattle.lab.proofs.Faults.{IsSpent, disk_fits, spent, stopped_so, struck_at}
+use Rattle.lab.proofs.node_state.step.Goals as goal
+
+pub returns-in-Ok-clause-refines : goal.returns-in-Ok-clause-refines
+returns-in-Ok-clause-refines g c = λ x n r.
+    let a = (c.in-Ok.ensures.ends x n (c.arm.ensures.refines x n r)).done in
+    Answers r.core.running (c.arm-in-Ok.ensures.refines x _ a.runs) (
+      c.in-Ok.output,
+      refl,
+      record {
+        dropped = a.dropped;
+        frames = a.frames;
+        replied = a.replied;
+      },
+    )
+
+-- what the step left of the disk
+left_of : (g : _) (c : goal.After-stop_by_itself g) → g.D.Disk.is_honest (disk_of c.args.node) →
+    IsSpent g.D.Disk
+    (struck_at g.D.Disk c.args.fault (disk_of c.args.node) c.into_disk.result)
+    (IsDeviceStop {T = Output} (Err c.in-Err.stop)) (disk_of c.args.node) c.into_disk.result
+left_of g c honest =
+    let ended : Result Output Cause = Err c.in-Err.stop in
+    let engine = engine_of c.arm.new.self in
+    let kept = subst
+    (λ d. KeepsDisk g.D.Disk (disk_of c.arm.new.self) d (IsDeviceStop ended) (IsNearlyFull engine)
+    (KeepsOthersOf engine))
+    (sym c.into_disk.ensures.disk) c.in-Err.ensures.kept.disk in
+    spent g.D.Disk c.args.fault (disk_of c.args.node) (disk_of c.arm.new.self) c.into_disk.result
+    (IsDeviceStop ended) (IsNearlyFull engine) (KeepsOthersOf engine) c.arm.ensures.armed kept
+    honest
+
+pub returns-in-Err-clause-refines : goal.returns-in-Err-clause-refines
+returns-in-Err-clause-refines g c = λ x n r.
+    let a = answer_to x n c.args.input in
+    let ended = c.in-Err.ensures.ends x n (c.arm.ensures.refines x n r) in
+    let was = ended.stopped in
+    let same = sym c.into_disk.ensures.disk in
+    let honest = subst g.D.Disk.is_honest same was.0 in
+    let stops = subst (λ d. StopRefines (g.D.Disk.state d) x n a) same was.1 in
+    Ends r.core.running
+    (stopped_so g.D.Disk c.args.fault (disk_of c.args.node) c.into_disk.result c.in-Err.stop
+    c.stop_by_itself.result.0 c.stop_by_itself.result.1
+    (IsDeviceStop {T = Output} (Err c.in-Err.stop))
+    (left_of g c r.honest) (λ fails. cc) (λ is. ap (λ (e : Cause). Err e) is)
+    c.stop_by_itself.ensures.told c.stop_by_itself.ensures.crashes ended.done)
+    (c.stop_by_itself.ensures.refines x n a honest stops)
+
+pub returns-in-Err-clause-disk : goal.returns-in-Err-clause-disk
+returns-in-Err-clause-disk g c = λ honest.
+    disk_fits g.D.Disk c.args.fault (disk_of c.args.node) c.into_disk.result c.in-Err.stop
+    c.stop_by_itself.result.0 c.stop_by_itself.result.1
+    (IsDeviceStop {T = Output} (Err c.in-Err.stop))
+    (left_of g c honest) (λ fails. cc) (λ is. ap (λ (e : Cause). Err e) is)
+    c.stop_by_itself.ensures.told c.stop_by_itself.ensures.crashes
