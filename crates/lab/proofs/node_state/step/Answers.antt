@@ -41,10 +41,9 @@ pub returns-in-Err-clause-refines : goal.returns-in-Err-clause-refines
 returns-in-Err-clause-refines g c = λ x n r.
     let a = answer_to x n c.args.input in
     let ended = c.in-Err.ensures.ends x n (c.arm.ensures.refines x n r) in
-    let was = ended.stopped in
     let same = sym c.into_disk.ensures.disk in
-    let honest = subst g.D.Disk.is_honest same was.0 in
-    let stops = subst (λ d. StopRefines (g.D.Disk.state d) x n a) same was.1 in
+    let honest = subst g.D.Disk.is_honest same ended.honest in
+    let stops = subst (λ d. StopRefines (g.D.Disk.state d) x n a) same ended.any_moment.now in
     Ends r.core.running
     (stopped_so g.D.Disk c.args.fault (disk_of c.args.node) c.into_disk.result c.in-Err.stop
     c.stop_by_itself.result.0 c.stop_by_itself.result.1
