@@ -47,12 +47,12 @@ node_named (name ∷ []) = None
 node_named (name ∷ word ∷ args) =
     if bytes_eq name (codes "deliver") then None else Some (digits_value 10 word)
 
--- the least fault of a statement, by its words and those of its fault
+-- the least fault of a statement, by its own words and by those of the fault that it bears
 abbrev pub spelling_fault : List ℕ → List (List ℕ) → Option ScriptError
 spelling_fault name args =
     option_or (fault_of_words (name ∷ before_fault args)) (fault_word name (from_fault args))
 
--- .. and by its place
+-- the least fault of a statement, by its words, the fault that it bears, its place
 abbrev pub statement_fault : ParserState → List ℕ → List (List ℕ) → Option ScriptError
 statement_fault before name args =
     option_or (spelling_fault name args)

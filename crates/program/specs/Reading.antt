@@ -38,7 +38,7 @@ ReadsCommand words (Ok command) =
     (fault_of_words words ≡ None) × CanBeSaid (what_of command) × IsSpelled (what_of command) words
 ReadsCommand words (Err e) = (e ≢ OutOfMemory) → fault_of_words words ≡ Some e
 
--- .. the fault that is spelled behind a statement of this name
+-- a reader gives the fault that is spelled behind a statement of this name
 pub record ReadsFaultAs (name : List ℕ) (words : List (List ℕ)) (fault : Fault) : Type 0 where
   pub good : fault_word name words ≡ None
   pub said : FaultCanBeSaid fault

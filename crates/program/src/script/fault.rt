@@ -53,6 +53,7 @@ fn call_of(word: &[u8]) -> Option<u64>
     }
 }
 
+/// The fault of two words.
 fn fail_of(name: &[u8], call: &[u8]) -> Option<Fault>
     ensures { MatchOption result (is_fault (name.now ∷ call.now ∷ []) ≡ false) (λ fault.
         (is_fault (name.now ∷ call.now ∷ []) ≡ true) × FaultCanBeSaid fault
@@ -64,6 +65,7 @@ fn fail_of(name: &[u8], call: &[u8]) -> Option<Fault>
     Some(Fault::Fail(call_of(call)?))
 }
 
+/// The fault of three words.
 fn stop_of(
     alloc: Global,
     name: &[u8],

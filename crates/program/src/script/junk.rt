@@ -25,7 +25,7 @@ fn pairs_of(alloc: Global, word: &[u8]) -> Result<Option<Vec<u8>>, AllocError>
     Ok(if rest.is_empty() { Some(bytes) } else { None })
 }
 
-/// What a word says of a crash.
+/// What a crash leaves, by the word for it.
 pub fn junk_of(alloc: Global, word: &[u8]) -> Result<Option<Junk>, AllocError>
     ensures { IfOk result (λ found. MatchOption found (is_junk word.now ≡ false)
         (λ junk. (is_junk word.now ≡ true) × AreBytesOf junk × IsJunk junk word.now)) }
