@@ -20,7 +20,8 @@ use Rattle.program.specs.declared.statement_result.StatementResult.{StatementRes
 use Rattle.program.specs.declared.statement_result.Note.{Note}
 use Rattle.program.specs.declared.statement_result.Note.TheVariants as note
 use Rattle.program.specs.Runs.{HasRunStatements}
-use Rattle.program.specs.ScriptRuns.{places_after, event, deliveries, left_after, left_after_event}
+use Rattle.program.specs.ScriptRuns.{places_after, delivery, deliveries, left_after}
+use Rattle.program.specs.ScriptRuns.{left_after_event}
 use Rattle.program.specs.ScriptRuns.{most, busy, IsResult, IsRising, AreResults}
 use Rattle.program.proofs.Leaving.{left_rises}
 
@@ -70,9 +71,6 @@ added before now left old steps lines was is e =
 -- the frames that are left, with those that were sent in these steps
 abbrev pub all_left : List ℕ → List (List Line) → List (List Line) → List ℕ
 all_left left steps own = left ++ places_after (frames_in_steps steps) (frames_in_steps own)
-
-abbrev delivery : ℕ → lab.Event
-delivery place = event (Deliver place)
 
 -- so many of them were delivered
 pub record Flows (world : World) (cs : Configurations) (events : List lab.Event)
@@ -145,7 +143,7 @@ module _ (cs : Configurations) (events : List lab.Event) (steps : List (List Lin
     pub flows_on : (world after : World) (left rest next : List ℕ) (count p : ℕ)
         (f : Flows world cs events steps old left count) → left ≡ p ∷ rest → suc count ≤ most →
         (lines : List Line) → HasRun after cs
-        ((events ++ map delivery (take count (all_left old steps f.own))) ++ event (Deliver p) ∷ [])
+        ((events ++ map delivery (take count (all_left old steps f.own))) ++ delivery p ∷ [])
         ((steps ++ f.own) ++ lines ∷ []) →
         next ≡ rest ++ places_after (frames_in_steps (steps ++ f.own)) (frames_of_step lines) →
         Flows after cs events steps old next (suc count)
@@ -324,11 +322,11 @@ left_delivered what place left mid new is same cut = cut
     ∙ (ap (λ (l : List ℕ). without place l) same
     ∙ ap (λ (w : EventKind). left_after_event w left) (sym is))
 
-pub result_of_event : (sent : ℕ) (left : List ℕ) (it : Statement) (what : EventKind)
-    (lines : List Line) → it.action ≡ Event what →
+pub result_of_event : (sent : ℕ) (left : List ℕ) (it : Statement) (event : lab.Event)
+    (lines : List Line) → it.action ≡ Event event →
     IsResult sent left it (record { line = it.line; events = 1; note = None })
-    (event what ∷ []) (lines ∷ [])
-result_of_event sent left it what lines is = record {
+    (event ∷ []) (lines ∷ [])
+result_of_event sent left it event lines is = record {
   line = refl;
   count = refl;
   each = refl;

@@ -7,7 +7,7 @@ use Rattle.std.proofs.Common.{arith}
 use Rattle.std.proofs.lemmas.Grind.{common_steps}
 use Rattle.std.specs.Option.{option_map_or}
 use Rattle.lab.specs.Configuration.{Configurations}
-use Rattle.lab.specs.declared.EventKind.{EventKind}
+use Rattle.lab.specs.declared.Event as lab
 use Rattle.lab.specs.{NamesNode}
 use Rattle.program.specs.declared.script.setup.Setup.{Setup}
 use Rattle.program.specs.declared.script.statement.ParserState.{ParserState}
@@ -69,16 +69,16 @@ goes_on before n line lines setup rest item is more =
     go before.configs before.begun n line lines setup rest item is more
 
 -- the statements' events name nodes of the configuration
-has_name : (cs : Configurations) (what : EventKind) (o : Option KvError) → NamesNode cs what
-    → Names cs (option_map_or (λ e. Invalid e) o (Event what))
-has_name cs what None e = e
-has_name cs what (Some x) e = tt
+has_name : (cs : Configurations) (event : lab.Event) (o : Option KvError)
+    → NamesNode cs event.kind → Names cs (option_map_or (λ e. Invalid e) o (Event event))
+has_name cs event None e = e
+has_name cs event (Some x) e = tt
 
 names : (cs : Configurations) (words : List (List ℕ)) (action : Action)
     → IsStatement cs words action → Names cs action
 names cs words action (inl is) = rw is.0 tt
-names cs words action (inr (what, said, spelled, named, same)) =
-    rw same (has_name cs what (error_of what) named)
+names cs words action (inr (event, spells, named, same)) =
+    rw same (has_name cs event (error_of event.kind) named)
 
 abbrev pub AllName : Configurations → List Statement → Type 0
 AllName cs ss = All (λ it. Names cs it.action) ss

@@ -113,7 +113,7 @@ event_rises (Stop node junk) xs low high up = up
 
 rest_rises : (action : Action) (xs : List ℕ) (low high : ℕ) → IsRising low high xs →
     IsRising low high (left_after action xs)
-rest_rises (Event what) xs low high up = event_rises what xs low high up
+rest_rises (Event event) xs low high up = event_rises event.kind xs low high up
 rest_rises (Invalid e) xs low high up = up
 rest_rises Flow xs low high up = drop_rises most xs low high up
 

@@ -16,5 +16,6 @@ pub mod Flowing
 pub mod Wholes
 pub mod OneText
 pub mod ReadBack
+pub mod EventWords
 pub mod ReadScripts
 pub mod Beginnings

@@ -30,11 +30,11 @@ abbrev rest : List ℕ → List ℕ
 rest [] = []
 rest (x ∷ xs) = xs
 
-abbrev first_word : List (List ℕ) → List ℕ
+abbrev pub first_word : List (List ℕ) → List ℕ
 first_word [] = []
 first_word (x ∷ xs) = x
 
-abbrev words_behind : List (List ℕ) → List (List ℕ)
+abbrev pub words_behind : List (List ℕ) → List (List ℕ)
 words_behind [] = []
 words_behind (x ∷ xs) = xs
 
@@ -175,7 +175,7 @@ records_are_unique (c ∷ a) (d ∷ b) la lb e =
           (ap words_behind e),
     ) refl
 
-one_number : (m n : ℕ) → m < 2 ^ 63 → n < 2 ^ 63 → decimal m ≡ decimal n → m ≡ n
+pub one_number : (m n : ℕ) → m < 2 ^ 63 → n < 2 ^ 63 → decimal m ≡ decimal n → m ≡ n
 one_number m n lm ln e = decimal_injective m n (omega arith) (omega arith) e
 
 one_hex : (a b : List ℕ) → AreBytes a → AreBytes b → hex_text a ≡ hex_text b → a ≡ b
@@ -207,7 +207,7 @@ no_letter (b ∷ bs) c xs la le e =
     let at : c ≡ digit_char (b / 16) = ap head e in
     omega (arith, at, low_digit b (All-head (λ x. x < 256) b bs la))
 
-one_junk : (a b : Junk) (word : List ℕ) → AreBytesOf a → AreBytesOf b → IsJunk a word
+pub one_junk : (a b : Junk) (word : List ℕ) → AreBytesOf a → AreBytesOf b → IsJunk a word
     → IsJunk b word → a ≡ b
 one_junk Old Old word la lb p q = refl
 one_junk Old New word la lb p q =
@@ -224,7 +224,7 @@ one_junk (Bytes a) New word la lb p q = absurd (no_letter a 110 _ la (omega arit
 one_junk (Bytes a) (Bytes b) word la lb p q = rw (one_hex a b la lb (sym p.1 ∙ q.1)) refl
 
 -- what begins the spelling of an event
-abbrev name_of : EventKind → List ℕ
+abbrev pub name_of : EventKind → List ℕ
 name_of (Submit node edits) = codes "submit"
 name_of (Get node key at) = codes "get"
 name_of (Deliver place) = codes "deliver"
@@ -232,7 +232,7 @@ name_of (Tick node) = codes "tick"
 name_of (Start node) = codes "start"
 name_of (Stop node junk) = codes "stop"
 
-named : (what : EventKind) (words : List (List ℕ)) → IsSpelled what words
+pub named : (what : EventKind) (words : List (List ℕ)) → IsSpelled what words
     → first_word words ≡ name_of what
 named (Submit node edits) words e = ap first_word e
 named (Get node key None) words e = ap first_word e

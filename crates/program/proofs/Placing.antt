@@ -1,6 +1,7 @@
 -- Where a statement stands, and the node that it names.
-use Rattle.std.proofs.Common.{◌≡◌, ◌<◌, ◌^◌, ℕ, List, [], ◌∷◌, refl, sym, ◌∙◌, codes, Option}
-use Rattle.std.proofs.Common.{is_none, Some, None, Ok, Err, inl, inr, true, false, arith, map}
+use Rattle.std.proofs.Common.{◌≡◌, ◌<◌, ◌^◌, ℕ, List, [], ◌∷◌, refl, ◌∙◌, codes, Option}
+use Rattle.std.proofs.Common.{is_none, Some, None, Ok, Err, inl, inr, true, false, arith, map, ap}
+use Rattle.std.proofs.Common.{subst}
 use Rattle.std.proofs.lemmas.Bool.{cases_Bool}
 use Rattle.std.proofs.lemmas.Grind.{common_steps}
 use Rattle.std.specs.Str.Parse.{digits_value}
@@ -8,20 +9,27 @@ use Rattle.std.specs.Fmt.{decimal}
 use Rattle.std.proofs.lemmas.Fmt.{digits_value-decimal}
 use Rattle.lab.specs.Configuration.{Configurations, has, at_epoch}
 use Rattle.lab.specs.Configs.{IsConfig}
+use Rattle.lab.specs.Fault.{Fault}
+use Rattle.lab.specs.declared.Event as lab
 use Rattle.lab.specs.declared.EventKind.{EventKind}
 use Rattle.lab.specs.declared.EventKind.TheVariants.{Submit, Get, Deliver, Tick, Start, Stop}
 use Rattle.lab.specs.{node_in, NamesNode}
 use Rattle.program.specs.declared.script.error.ScriptError.{ScriptError}
+use Rattle.program.specs.declared.script.error.ScriptError.TheVariants.{OutOfPlace}
 use Rattle.program.specs.declared.script.statement.ParserState.{ParserState}
 use Rattle.program.specs.declared.script.statement.LineItem.TheVariants.{Config}
 use Rattle.program.specs.declared.script.statement.Action.{Action}
 use Rattle.program.specs.declared.script.statement.Action.TheVariants.{Event, Flow}
-use Rattle.program.specs.Words.{has_fault, before_fault}
+use Rattle.program.specs.Words.{before_fault, from_fault}
 use Rattle.program.specs.Statements.{CanBeSaid, IsSpelled, fault_of_words}
 use Rattle.program.specs.Actions.{action_of}
+use Rattle.program.specs.Events.{SpellsEvent, bears_fault, fault_word, takes_fault}
 use Rattle.program.specs.Faults.{node_named, node_fault, statement_fault, config_fault, numbers_of}
-use Rattle.program.specs.Reading.{Places, ReadsWords}
+use Rattle.program.specs.Faults.{spelling_fault}
+use Rattle.program.specs.Reading.{Places, ReadsFaultAs, ReadsWords}
+use Rattle.program.proofs.FaultWords.{split_words}
 use Rattle.program.proofs.Numbers.{own}
+use Rattle.program.proofs.OneText.{name_of, named}
 use Rattle.program.proofs.ReadBack.{event_read}
 
 pub number_back : (n : ℕ) → n < 2 ^ 63 → digits_value 10 (decimal n) ≡ n
@@ -39,14 +47,25 @@ names (Start n) words said e = rw (e, number_back n said) refl
 names (Stop n junk) words said (inl e) = rw (e.1, number_back n said.0) refl
 names (Stop n junk) words said (inr e) = rw (e.2, number_back n said.0) refl
 
--- the fault of a statement that is spelled and bears no fault is that of its place
-pub is_of_place : (before : ParserState) (name : List ℕ) (args cut : List (List ℕ))
-    (what : EventKind)
-    → cut ≡ args → cut ≡ before_fault args → false ≡ has_fault args → CanBeSaid what
-    → fault_of_words (name ∷ cut) ≡ None → IsSpelled what (name ∷ cut)
+bears_by_name : (what : EventKind) → takes_fault (name_of what) ≡ bears_fault what
+bears_by_name (Submit node edits) = refl
+bears_by_name (Get node key at) = refl
+bears_by_name (Deliver place) = refl
+bears_by_name (Tick node) = refl
+bears_by_name (Start node) = refl
+bears_by_name (Stop node junk) = refl
+
+-- a kind bears a fault if its name does
+pub bears : (what : EventKind) (name : List ℕ) (args : List (List ℕ))
+    → IsSpelled what (name ∷ args) → takes_fault name ≡ bears_fault what
+bears what name args e = rw (named what (name ∷ args) e) (bears_by_name what)
+
+-- the fault of a statement that is spelled is that of its place
+pub is_of_place : (before : ParserState) (name : List ℕ) (args : List (List ℕ)) (what : EventKind)
+    → spelling_fault name args ≡ None → CanBeSaid what → IsSpelled what (name ∷ before_fault args)
     → statement_fault before name args ≡ node_fault before.configs (node_in what)
-is_of_place before name args cut what whole before_it none said good spelled =
-    rw (← before_it, good, ← none, names what (name ∷ args) said (rw whole at spelled)) refl
+is_of_place before name args what good said spelled =
+    rw (good, names what (name ∷ before_fault args) said spelled) refl
 
 -- a node that a statement may name is one of a configuration
 pub stands : (configs : Option Configurations) (n : ℕ) → node_fault configs (Some n) ≡ None →
@@ -57,29 +76,57 @@ stands (Some cs) n e = elim (cases_Bool (has (at_epoch cs 0) n)) [
   | inr f ↦ grind (arith, common_steps)
 ]
 
+-- words without a fault, and those of a fault behind them
+pub no_spelling : (name : List ℕ) (args cut behind : List (List ℕ)) → cut ≡ before_fault args
+    → behind ≡ from_fault args → fault_of_words (name ∷ cut) ≡ None
+    → fault_word name behind ≡ None → spelling_fault name args ≡ None
+no_spelling name args cut behind first others good free = rw (← first, good, ← others) free
+
+-- what the reader knows of a statement whose place it looks for
+pub record IsRead (name : List ℕ) (args : List (List ℕ)) (event : lab.Event) : Type 0 where
+  pub good : spelling_fault name args ≡ None
+  pub said : CanBeSaid event.kind
+  pub spelled : IsSpelled event.kind (name ∷ before_fault args)
+  pub spells : SpellsEvent (name ∷ args) event
+
+pub is_read : (name : List ℕ) (args cut behind : List (List ℕ)) (event : lab.Event)
+    → cut ≡ before_fault args → behind ≡ from_fault args → fault_of_words (name ∷ cut) ≡ None
+    → CanBeSaid event.kind → IsSpelled event.kind (name ∷ cut)
+    → ReadsFaultAs name behind event.fault → IsRead name args event
+is_read name args cut behind event first others good said spelled reads = record {
+  good = no_spelling name args cut behind first others good reads.good;
+  said = said;
+  spelled = subst (λ (ws : List (List ℕ)). IsSpelled event.kind (name ∷ ws)) first spelled;
+  spells = record {
+    first = name ∷ cut;
+    behind = behind;
+    parts = rw (first, others) (ap (λ (ws : List (List ℕ)). name ∷ ws) (split_words args));
+    kind_said = said;
+    kind = spelled;
+    fault_said = reads.said;
+    fault = reads.spelled;
+    none = λ no. reads.none (bears event.kind name cut spelled ∙ no);
+  };
+}
+
 -- a statement that stands in its place, and one that does not
-pub is_placed : (before : ParserState) (name : List ℕ) (args cut : List (List ℕ)) (what : EventKind)
-    (action : Action) (node : ℕ) → cut ≡ args → cut ≡ before_fault args
-    → false ≡ has_fault args → fault_of_words (name ∷ cut) ≡ None → CanBeSaid what
-    → IsSpelled what (name ∷ cut) → node_in what ≡ Some node
-    → node_fault before.configs (Some node) ≡ None → action ≡ action_of what
+pub is_placed : (before : ParserState) (name : List ℕ) (args : List (List ℕ)) (event : lab.Event)
+    (action : Action) (node : ℕ) → IsRead name args event → node_in event.kind ≡ Some node
+    → node_fault before.configs (Some node) ≡ None → action ≡ action_of event
     → Places before name args (Ok action)
-is_placed before name args cut what action node whole before_it none good said spelled at free is =
+is_placed before name args event action node r at free is =
     let found = stands before.configs node free in
-    let named : NamesNode found.0 what = rw at found.2 in (
-      is_of_place before name args cut what whole before_it none said good spelled
-          ∙ rw at free,
-      (found.0, found.1, inr (what, said, rw whole at spelled, named, is)),
+    let named : NamesNode found.0 event.kind = rw at found.2 in (
+      is_of_place before name args event.kind r.good r.said r.spelled ∙ rw at free,
+      (found.0, found.1, inr (event, r.spells, named, is)),
     )
 
-pub is_misplaced : (before : ParserState) (name : List ℕ) (args cut : List (List ℕ))
-    (what : EventKind) (node : ℕ) (e : ScriptError) → cut ≡ args → cut ≡ before_fault args
-    → false ≡ has_fault args → CanBeSaid what → fault_of_words (name ∷ cut) ≡ None
-    → IsSpelled what (name ∷ cut) → node_in what ≡ Some node
-    → node_fault before.configs (Some node) ≡ Some e
+pub is_misplaced : (before : ParserState) (name : List ℕ) (args : List (List ℕ))
+    (event : lab.Event) (node : ℕ) (e : ScriptError) → IsRead name args event
+    → node_in event.kind ≡ Some node → node_fault before.configs (Some node) ≡ Some e
     → Places before name args (Err e)
-is_misplaced before name args cut what node e whole before_it none said good spelled at fault =
-    λ _. is_of_place before name args cut what whole before_it none said good spelled ∙ rw at fault
+is_misplaced before name args event node e r at fault =
+    λ _. is_of_place before name args event.kind r.good r.said r.spelled ∙ rw at fault
 
 pub is_config : (before : ParserState) (words args : List (List ℕ)) (ids : List ℕ)
     → words ≡ codes "config" ∷ args → args ≡ map decimal ids → IsConfig ids
@@ -91,30 +138,53 @@ is_config before words args ids e a is numbers free good cs one = (
   rw (e, numbers, one) refl,
 )
 
--- there is a configuration
+-- there is no configuration, or one
+no_config : (configs : Option Configurations) → is_none configs ≡ true →
+    node_fault configs None ≡ Some OutOfPlace
+no_config None e = refl
+no_config (Some cs) e = grind (arith, common_steps)
+
 some_config : (configs : Option Configurations) → is_none configs ≡ false →
     (cs : Configurations) × (configs ≡ Some cs)
 some_config None e = grind (arith, common_steps)
 some_config (Some cs) e = (cs, refl)
 
-pub delivers : (before : ParserState) (args cut : List (List ℕ)) (place : ℕ) → cut ≡ args
-    → cut ≡ before_fault args → false ≡ has_fault args → place < 2 ^ 63
-    → cut ≡ decimal place ∷ [] → is_none before.configs ≡ false
-    → Places before (codes "deliver") args (Ok (Event (Deliver place)))
-delivers before args cut place whole before_it none small is some =
-    let found = some_config before.configs some in
+abbrev delivery : ℕ → Fault → lab.Event
+delivery place fault = record { kind = Deliver place; fault = fault }
+
+pub read_delivery : (args cut behind : List (List ℕ)) (place : ℕ) (fault : Fault)
+    → cut ≡ before_fault args → behind ≡ from_fault args → place < 2 ^ 63
+    → cut ≡ decimal place ∷ [] → ReadsFaultAs (codes "deliver") behind fault
+    → IsRead (codes "deliver") args (delivery place fault)
+read_delivery args cut behind place fault first others small is reads =
     let spelled : IsSpelled (Deliver place) (codes "deliver" ∷ cut) = rw is refl in
-    let good = event_read (Deliver place) (codes "deliver" ∷ cut) small spelled in
+    is_read (codes "deliver") args cut behind (delivery place fault) first others
+    (event_read (Deliver place) (codes "deliver" ∷ cut) small spelled) small spelled reads
+
+pub delivers : (before : ParserState) (args : List (List ℕ)) (place : ℕ) (fault : Fault)
+    → IsRead (codes "deliver") args (delivery place fault) → is_none before.configs ≡ false
+    → Places before (codes "deliver") args (Ok (Event (delivery place fault)))
+delivers before args place fault r some =
+    let found = some_config before.configs some in
     let names_none : node_fault before.configs None ≡ None = rw found.1 refl in (
-      is_of_place before (codes "deliver") args cut (Deliver place) whole before_it none small good
-          spelled ∙ names_none,
-      (found.0, found.1, inr (Deliver place, small, rw whole at spelled, tt, refl)),
+      is_of_place before (codes "deliver") args (Deliver place) r.good r.said r.spelled
+          ∙ names_none,
+      (found.0, found.1, inr (delivery place fault, r.spells, tt, refl)),
     )
 
-pub flows : (before : ParserState) (args cut : List (List ℕ)) → cut ≡ args → cut ≡ before_fault args
-    → false ≡ has_fault args → cut ≡ [] → is_none before.configs ≡ false
+pub undelivered : (before : ParserState) (args : List (List ℕ)) (place : ℕ) (fault : Fault)
+    → IsRead (codes "deliver") args (delivery place fault) → is_none before.configs ≡ true
+    → Places before (codes "deliver") args (Err OutOfPlace)
+undelivered before args place fault r none =
+    let nothing : node_fault before.configs None ≡ Some OutOfPlace =
+    no_config before.configs none in
+    λ _. is_of_place before (codes "deliver") args (Deliver place) r.good r.said r.spelled
+    ∙ nothing
+
+pub flows : (before : ParserState) (args : List (List ℕ)) → [] ≡ before_fault args
+    → [] ≡ from_fault args → is_none before.configs ≡ false
     → Places before (codes "flow") args (Ok Flow)
-flows before args cut whole before_it none is some =
+flows before args first others some =
     let found = some_config before.configs some in
-    let empty : args ≡ [] = sym whole ∙ is in
+    let empty : args ≡ [] = rw (← first, ← others) at (split_words args) in
     (rw (empty, found.1) refl, (found.0, found.1, inl (refl, rw empty refl)))

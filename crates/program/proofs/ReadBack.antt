@@ -170,7 +170,7 @@ some_pairs : (bs : List ℕ) → nat_lt 0 (length bs) ≡ true → nat_lt 0 (len
 some_pairs [] e = e
 some_pairs (b ∷ bs) e = grind (arith, nat_tests)
 
-junk_read : (j : Junk) (word : List ℕ) → AreBytesOf j → IsJunk j word → is_junk word ≡ true
+pub junk_read : (j : Junk) (word : List ℕ) → AreBytesOf j → IsJunk j word → is_junk word ≡ true
 junk_read Old word la e = rw e refl
 junk_read New word la e = rw e refl
 junk_read (Bytes bs) word la e =

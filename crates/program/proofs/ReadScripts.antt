@@ -1,7 +1,7 @@
 -- A script has no fault, where its lines are neither too long nor too many.
-use Rattle.std.proofs.Common.{◌≡◌, ◌+◌, ◌/◌, ◌<◌, ◌≤◌, ℕ, suc, List, [], ◌∷◌, ◌++◌, codes}
+use Rattle.std.proofs.Common.{◌≡◌, ◌+◌, ◌≤◌, ℕ, suc, List, [], ◌∷◌, ◌++◌, codes, subst}
 use Rattle.std.proofs.Common.{refl, sym, ◌∙◌, inl, inr, arith, true, false, Bool, map, length}
-use Rattle.std.proofs.Common.{drop, Option, Some, None, append-nil}
+use Rattle.std.proofs.Common.{Option, Some, None}
 use Rattle.std.specs.Prelude.{All, IfSome, ◌==◌, nat_lt}
 use Rattle.std.specs.Str.{bytes_eq}
 use Rattle.std.specs.Fmt.{decimal}
@@ -9,10 +9,7 @@ use Rattle.std.specs.List.{onto_first}
 use Rattle.std.proofs.lemmas.Bool.{cases_Bool}
 use Rattle.std.proofs.lemmas.Bool.Decides.{nat_tests}
 use Rattle.std.proofs.lemmas.List.Elements.{All-head, All-tail}
-use Rattle.lab.specs.Junk.{Junk}
-use Rattle.lab.specs.Junk.TheVariants.{Old, New, Bytes}
-use Rattle.kv_types.specs.declared.Edit.{Edit}
-use Rattle.kv_types.specs.declared.Edit.TheVariants.{Put, Delete}
+use Rattle.lab.specs.declared.Event as lab
 use Rattle.lab.specs.declared.EventKind.{EventKind}
 use Rattle.lab.specs.declared.EventKind.TheVariants.{Submit, Get, Deliver, Tick, Start, Stop}
 use Rattle.lab.specs.{node_in, NamesNode}
@@ -22,80 +19,16 @@ use Rattle.program.specs.declared.script.statement.Action.{Action}
 use Rattle.program.specs.declared.script.setup.Setup.{Setup}
 use Rattle.program.specs.declared.script.statement.ParserState.{ParserState}
 use Rattle.program.specs.declared.script.statement.Statement.{Statement}
-use Rattle.program.specs.Words.{AreBytes, is_plain, bytes_text}
-use Rattle.program.specs.Words.{begins_fault, has_fault, before_fault}
-use Rattle.program.specs.Statements.{AreBytesIn, AreBytesOf, CanBeSaid, edit_word, hex_text, IsJunk}
-use Rattle.program.specs.Statements.{IsSpelled}
+use Rattle.program.specs.Words.{before_fault}
+use Rattle.program.specs.Events.{SpellsEvent}
 use Rattle.program.specs.Scripts.{words_of, is_skipped, AreStatements, IsStatement, IsScript}
 use Rattle.program.specs.Faults.{statement_fault, words_fault, line_fault, after_words, after_line}
 use Rattle.program.specs.Faults.{script_fault, start, node_fault}
 use Rattle.program.proofs.FaultWords.{all_before}
 use Rattle.program.proofs.Placing.{is_of_place}
-use Rattle.program.proofs.Ids.{number_begins, ids_read, config_is}
-use Rattle.program.proofs.ReadBack.{number_read, event_read}
-
--- ---- no word of an event begins a fault
-
-text_begins : (k xs : List ℕ) → AreBytes k → begins_fault (bytes_text k ++ xs) ≡ false
-text_begins [] xs all = refl
-text_begins (b ∷ k) xs all = elim (cases_Bool (is_plain b)) [
-  | inl t ↦ rw t (grind (arith, nat_tests))
-  | inr f ↦ rw f refl
-]
-
-edit_begins : (e : Edit) → AreBytesIn e → begins_fault (edit_word e) ≡ false
-edit_begins (Put key value) all = text_begins key (61 ∷ bytes_text value) all.0
-edit_begins (Delete key) all = refl
-
-edits_begin : (edits : List Edit) → All AreBytesIn edits → has_fault (map edit_word edits) ≡ false
-edits_begin [] all = refl
-edits_begin (e ∷ edits) all =
-    rw (edit_begins e (All-head AreBytesIn e edits all))
-    (edits_begin edits (All-tail AreBytesIn e edits all))
-
-hex_begins : (bytes : List ℕ) → AreBytes bytes → begins_fault (hex_text bytes) ≡ false
-hex_begins [] all = refl
-hex_begins (b ∷ bytes) all =
-    let small : b < 256 = All-head (λ x. x < 256) b bytes all in
-    let high : b / 16 < 16 = omega arith in
-    grind (arith, nat_tests)
-
-junk_begins : (junk : Junk) (word : List ℕ) → AreBytesOf junk → IsJunk junk word →
-    begins_fault word ≡ false
-junk_begins Old word all is = rw is refl
-junk_begins New word all is = rw is refl
-junk_begins (Bytes bytes) word all is = rw is.1 (hex_begins bytes all)
-
-text_alone : (k : List ℕ) → AreBytes k → begins_fault (bytes_text k) ≡ false
-text_alone k all = rw (append-nil (bytes_text k)) at (text_begins k [] all)
-
-no_fault : (what : EventKind) (words : List (List ℕ)) → CanBeSaid what → IsSpelled what words →
-    has_fault (drop 1 words) ≡ false
-no_fault (Submit node edits) words said e =
-    rw (e, number_begins (decimal node) (number_read node said.0)) (edits_begin edits said.1)
-no_fault (Get node key None) words said e =
-    rw (e, number_begins (decimal node) (number_read node said.0), text_alone key said.1) refl
-no_fault (Get node key (Some at)) words said e =
-    rw (
-      e,
-      number_begins (decimal node) (number_read node said.0),
-      text_alone key said.1,
-      number_begins (decimal at) (number_read at said.2),
-    ) refl
-no_fault (Deliver place) words said e =
-    rw (e, number_begins (decimal place) (number_read place said)) refl
-no_fault (Tick node) words said e =
-    rw (e, number_begins (decimal node) (number_read node said)) refl
-no_fault (Start node) words said e =
-    rw (e, number_begins (decimal node) (number_read node said)) refl
-no_fault (Stop node junk) words said (inl e) =
-    rw (e.1, number_begins (decimal node) (number_read node said.0)) refl
-no_fault (Stop node junk) words said (inr e) =
-    rw (
-      e.2,
-      number_begins (decimal node) (number_read node said.0),
-      junk_begins junk e.0 said.1 e.1,
-    ) refl
+use Rattle.program.proofs.Ids.{ids_read, config_is}
+use Rattle.program.proofs.OneText.{name_of}
+use Rattle.program.proofs.EventWords.{divides, divided_read, opens}
 
 -- ---- a line of words that begin so is not skipped
 
@@ -135,44 +68,52 @@ free : (cs : Configurations) (node : Option ℕ) → IfSome node (λ x. has (at_
 free cs None is = refl
 free cs (Some x) is = rw is refl
 
-good_statement : (cs : Configurations) (begun : Bool) (what : EventKind) (name : List ℕ)
-    (args : List (List ℕ)) → CanBeSaid what → IsSpelled what (name ∷ args) →
-    NamesNode cs what → statement_fault (behind_configs cs begun) name args ≡ None
-good_statement cs begun what name args said spelled named =
-    let none = sym (no_fault what (name ∷ args) said spelled) in
-    is_of_place (behind_configs cs begun) name args args what refl (all_before args none) none
-    said (event_read what (name ∷ args) said spelled) spelled
-    ∙ free cs (node_in what) named
+good_statement : (cs : Configurations) (begun : Bool) (event : lab.Event) (name : List ℕ)
+    (args : List (List ℕ)) → SpellsEvent (name ∷ args) event →
+    NamesNode cs event.kind → statement_fault (behind_configs cs begun) name args ≡ None
+good_statement cs begun event name args spells named =
+    let d = divides event name args spells in
+    is_of_place (behind_configs cs begun) name args event.kind (divided_read event name args d)
+    d.kind_said d.kind
+    ∙ free cs (node_in event.kind) named
 
-passes : (cs : Configurations) (begun : Bool) (what : EventKind) (words : List (List ℕ))
+passes : (cs : Configurations) (begun : Bool) (event : lab.Event) (words : List (List ℕ))
     (name : List ℕ)
     (args : List (List ℕ)) → words ≡ name ∷ args → bytes_eq name (codes "config") ≡ false →
-    97 ≤ first_byte (name ∷ args) → CanBeSaid what → IsSpelled what words →
-    NamesNode cs what → IsPassed cs begun words
-passes cs begun what words name args e other letter said spelled named = record {
-  good = rw (e, other) (good_statement cs begun what name args said (rw e at spelled) named);
+    97 ≤ first_byte (name ∷ args) → SpellsEvent words event →
+    NamesNode cs event.kind → IsPassed cs begun words
+passes cs begun event words name args e other letter spells named = record {
+  good = rw (e, other) (good_statement cs begun event name args
+      (subst (λ (ws : List (List ℕ)). SpellsEvent ws event) e spells) named);
   after = rw (e, other) refl;
   letter = rw e letter;
 }
 
-event_passes : (cs : Configurations) (begun : Bool) (what : EventKind) (words : List (List ℕ)) →
-    CanBeSaid what → IsSpelled what words → NamesNode cs what → IsPassed cs begun words
-event_passes cs begun (Submit n edits) words said e is =
-    passes cs begun (Submit n edits) words _ _ e refl (omega arith) said e is
-event_passes cs begun (Get n key None) words said e is =
-    passes cs begun (Get n key None) words _ _ e refl (omega arith) said e is
-event_passes cs begun (Get n key (Some at)) words said e is =
-    passes cs begun (Get n key (Some at)) words _ _ e refl (omega arith) said e is
-event_passes cs begun (Deliver place) words said e is =
-    passes cs begun (Deliver place) words _ _ e refl (omega arith) said e is
-event_passes cs begun (Tick n) words said e is =
-    passes cs begun (Tick n) words _ _ e refl (omega arith) said e is
-event_passes cs begun (Start n) words said e is =
-    passes cs begun (Start n) words _ _ e refl (omega arith) said e is
-event_passes cs begun (Stop n junk) words said (inl e) is =
-    passes cs begun (Stop n junk) words _ _ e.1 refl (omega arith) said (inl e) is
-event_passes cs begun (Stop n junk) words said (inr e) is =
-    passes cs begun (Stop n junk) words _ _ e.2 refl (omega arith) said (inr e) is
+-- no event's name is that of a configuration, and each begins with a letter
+no_config : (what : EventKind) → bytes_eq (name_of what) (codes "config") ≡ false
+no_config (Submit node edits) = refl
+no_config (Get node key at) = refl
+no_config (Deliver place) = refl
+no_config (Tick node) = refl
+no_config (Start node) = refl
+no_config (Stop node junk) = refl
+
+lettered : (what : EventKind) (args : List (List ℕ)) → 97 ≤ first_byte (name_of what ∷ args)
+lettered (Submit node edits) args = omega arith
+lettered (Get node key at) args = omega arith
+lettered (Deliver place) args = omega arith
+lettered (Tick node) args = omega arith
+lettered (Start node) args = omega arith
+lettered (Stop node junk) args = omega arith
+
+event_passes : (cs : Configurations) (begun : Bool) (event : lab.Event) (words : List (List ℕ)) →
+    SpellsEvent words event → NamesNode cs event.kind → IsPassed cs begun words
+event_passes cs begun event words spells named =
+    let front = opens event.kind spells.first spells.kind in
+    let args = front.0 ++ spells.behind in
+    let is : words ≡ name_of event.kind ∷ args = rw front.1 at spells.parts in
+    passes cs begun event words (name_of event.kind) args is (no_config event.kind)
+    (lettered event.kind args) spells named
 
 statement_passes : (cs : Configurations) (begun : Bool) (words : List (List ℕ))
     (action : Action) → IsStatement cs words action → IsPassed cs begun words
@@ -181,8 +122,8 @@ statement_passes cs begun words action (inl is) = record {
   after = rw is.1 refl;
   letter = rw is.1 (omega arith);
 }
-statement_passes cs begun words action (inr (what, said, spelled, named, same)) =
-    event_passes cs begun what words said spelled named
+statement_passes cs begun words action (inr (event, spells, named, same)) =
+    event_passes cs begun event words spells named
 
 -- ---- line by line
 

@@ -9,6 +9,7 @@ use Rattle.kv_types.specs.declared.KvError.{KvError}
 use Rattle.kv_types.specs.declared.KvError.TheVariants.{KeyTooLong, ValueTooLong, NoEdits}
 use Rattle.kv_types.specs.declared.KvError.TheVariants.{TooManyEdits, BatchTooLong}
 use Rattle.kv_types.specs.{batch_bytes}
+use Rattle.lab.specs.declared.Event as lab
 use Rattle.lab.specs.declared.EventKind.{EventKind}
 use Rattle.lab.specs.declared.EventKind.TheVariants.{Submit, Get, Deliver, Tick, Start, Stop}
 use Rattle.program.specs.declared.script.statement.Action.{Action}
@@ -47,5 +48,5 @@ error_of (Start node) = None
 error_of (Stop node junk) = None
 
 -- a statement with an error is no event
-abbrev pub action_of : EventKind → Action
-action_of what = option_map_or (λ e. Invalid e) (error_of what) (Event what)
+abbrev pub action_of : lab.Event → Action
+action_of event = option_map_or (λ e. Invalid e) (error_of event.kind) (Event event)

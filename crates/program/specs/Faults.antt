@@ -16,19 +16,16 @@ use Rattle.program.specs.declared.script.error.ScriptError.TheVariants.{BadConfi
 use Rattle.program.specs.declared.script.error.ScriptError.TheVariants.{UnknownNode}
 use Rattle.program.specs.declared.script.error.ScriptError.TheVariants.{TooManyLines}
 use Rattle.program.specs.declared.script.statement.ParserState.{ParserState}
-use Rattle.program.specs.Words.{is_number, has_fault, before_fault}
+use Rattle.program.specs.Words.{is_number, has_fault, before_fault, from_fault}
 use Rattle.program.specs.Statements.{fault_of_words}
+use Rattle.program.specs.Events.{fault_word}
 use Rattle.program.specs.Scripts.{is_skipped, words_of}
 
 -- the numbers that words spell
 abbrev pub numbers_of : List (List ℕ) → List ℕ
 numbers_of words = map (λ w. digits_value 10 w) words
 
--- no statement may bear a fault yet
-abbrev pub fault_word : List (List ℕ) → Option ScriptError
-fault_word args = if has_fault args then Some BadFault else None
-
--- there is one configuration, and no statement stands before it
+-- there is one configuration, which bears no fault, and no statement stands before it
 abbrev pub config_fault : ParserState → List (List ℕ) → Option ScriptError
 config_fault before args =
     if not (list_all is_number (before_fault args)) then Some BadNumber else
@@ -50,11 +47,16 @@ node_named (name ∷ []) = None
 node_named (name ∷ word ∷ args) =
     if bytes_eq name (codes "deliver") then None else Some (digits_value 10 word)
 
--- the least fault of a statement, by its words, its fault, its place
+-- the least fault of a statement, by its own words and by those of the fault that it bears
+abbrev pub spelling_fault : List ℕ → List (List ℕ) → Option ScriptError
+spelling_fault name args =
+    option_or (fault_of_words (name ∷ before_fault args)) (fault_word name (from_fault args))
+
+-- the least fault of a statement, by its words, the fault that it bears, its place
 abbrev pub statement_fault : ParserState → List ℕ → List (List ℕ) → Option ScriptError
 statement_fault before name args =
-    option_or (fault_of_words (name ∷ before_fault args))
-    (option_or (fault_word args) (node_fault before.configs (node_named (name ∷ args))))
+    option_or (spelling_fault name args)
+    (node_fault before.configs (node_named (name ∷ before_fault args)))
 
 abbrev pub words_fault : ParserState → List (List ℕ) → Option ScriptError
 words_fault before [] = Some UnknownStatement

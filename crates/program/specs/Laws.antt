@@ -1,13 +1,14 @@
 -- Nothing has two meanings, and what is spelled is read.
-use Rattle.std.specs.Prelude.{◌≡◌, ◌≤◌, ℕ, List, All, length, None}
+use Rattle.std.specs.Prelude.{◌≡◌, ◌≤◌, ℕ, List, ◌∷◌, All, length, None}
 use Rattle.kv_types.specs.declared.Edit.{Edit}
-use Rattle.lab.specs.declared.EventKind.{EventKind}
+use Rattle.lab.specs.declared.Event.{Event}
 use Rattle.program.specs.declared.script.setup.Setup.{Setup}
 use Rattle.program.specs.declared.script.statement.Statement.{Statement}
 use Rattle.program.specs.Words.{AreBytes, bytes_text}
-use Rattle.program.specs.Statements.{AreBytesIn, CanBeSaid, edit_word, IsSpelled, fault_of_words}
+use Rattle.program.specs.Statements.{AreBytesIn, edit_word}
+use Rattle.program.specs.Events.{SpellsEvent}
 use Rattle.program.specs.Scripts.{IsScript}
-use Rattle.program.specs.Faults.{script_fault, start}
+use Rattle.program.specs.Faults.{spelling_fault, script_fault, start}
 
 -- no two byte strings have one spelling
 abbrev pub StringsDiffer : Type 0
@@ -19,13 +20,13 @@ EditsDiffer = (a b : Edit) → AreBytesIn a → AreBytesIn b → edit_word a ≡
 
 -- no two events have one spelling
 abbrev pub EventsDiffer : Type 0
-EventsDiffer = (a b : EventKind) (words : List (List ℕ)) → CanBeSaid a → CanBeSaid b
-    → IsSpelled a words → IsSpelled b words → a ≡ b
+EventsDiffer = (a b : Event) (words : List (List ℕ)) → SpellsEvent words a → SpellsEvent words b
+    → a ≡ b
 
 -- the words that spell an event have no fault of their own
 abbrev pub EventsAreRead : Type 0
-EventsAreRead = (what : EventKind) (words : List (List ℕ)) → CanBeSaid what → IsSpelled what words
-    → fault_of_words words ≡ None
+EventsAreRead = (event : Event) (name : List ℕ) (args : List (List ℕ))
+    → SpellsEvent (name ∷ args) event → spelling_fault name args ≡ None
 
 -- a script has no fault, where its lines are neither too long nor too many
 abbrev pub ScriptsAreRead : Type 0

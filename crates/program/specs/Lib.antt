@@ -1,5 +1,6 @@
 pub mod Words
 pub mod Statements
+pub mod Events
 pub mod Actions
 pub mod Scripts
 pub mod Faults

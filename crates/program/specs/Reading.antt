@@ -1,7 +1,9 @@
 -- What the parts of the script's reader promise.
-use Rattle.std.specs.Prelude.{◌≡◌, ◌≢◌, ◌≤◌, ℕ, true, List, [], ◌∷◌, ◌++◌, map, codes}
+use Rattle.std.specs.Prelude.{◌≡◌, ◌≢◌, ◌≤◌, ℕ, true, false, List, [], ◌∷◌, ◌++◌, map, codes}
 use Rattle.std.specs.Prelude.{Some, None, Result, Ok, Err}
 use Rattle.std.specs.Fmt.{decimal}
+use Rattle.lab.specs.Fault.{Fault}
+use Rattle.lab.specs.Fault.TheVariants as disk
 use Rattle.lab.specs.declared.EventKind.{EventKind}
 use Rattle.lab.specs.declared.EventKind.TheVariants as what
 use Rattle.lab.specs.Configuration.{Configurations}
@@ -17,6 +19,7 @@ use Rattle.program.specs.declared.script.statement.LineItem.TheVariants.{Skipped
 use Rattle.program.specs.declared.script.statement.Action.{Action}
 use Rattle.program.specs.declared.script.statement.Statement.{Statement}
 use Rattle.program.specs.Statements.{CanBeSaid, IsSpelled, fault_of_words}
+use Rattle.program.specs.Events.{FaultCanBeSaid, IsFault, fault_word, takes_fault}
 use Rattle.program.specs.Scripts.{IsStatement, is_skipped, words_of, statement}
 use Rattle.program.specs.Faults.{statement_fault, words_fault, after_words, line_fault}
 use Rattle.program.specs.Faults.{after_line, numbered_fault}
@@ -34,6 +37,17 @@ abbrev pub ReadsCommand : List (List ℕ) → Result Command ScriptError → Typ
 ReadsCommand words (Ok command) =
     (fault_of_words words ≡ None) × CanBeSaid (what_of command) × IsSpelled (what_of command) words
 ReadsCommand words (Err e) = (e ≢ OutOfMemory) → fault_of_words words ≡ Some e
+
+-- a reader gives the fault that is spelled behind a statement of this name
+pub record ReadsFaultAs (name : List ℕ) (words : List (List ℕ)) (fault : Fault) : Type 0 where
+  pub good : fault_word name words ≡ None
+  pub said : FaultCanBeSaid fault
+  pub spelled : IsFault fault words
+  pub none : takes_fault name ≡ false → fault ≡ disk.None
+
+abbrev pub ReadsFault : List ℕ → List (List ℕ) → Result Fault ScriptError → Type 0
+ReadsFault name words (Ok fault) = ReadsFaultAs name words fault
+ReadsFault name words (Err e) = (e ≢ OutOfMemory) → fault_word name words ≡ Some e
 
 -- the words say so, behind such lines
 abbrev pub IsItemOfWords : ParserState → List (List ℕ) → LineItem → Type 0

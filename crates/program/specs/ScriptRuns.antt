@@ -30,13 +30,14 @@ abbrev pub IsRising : ℕ → ℕ → List ℕ → Type 0
 IsRising low high [] = low ≤ high
 IsRising low high (place ∷ places) = (low < place) × IsRising place high places
 
-abbrev pub event : EventKind → lab.Event
-event what = record { kind = what; fault = fault.None }
+-- a frame is delivered, without a fault of the disk
+abbrev pub delivery : ℕ → lab.Event
+delivery place = record { kind = Deliver place; fault = fault.None }
 
 -- the events of a flow, where these frames had not been delivered by another statement before it
 -- ended: it delivers them in order of place, up to its bound
 abbrev pub deliveries : List ℕ → List lab.Event
-deliveries left = map (λ place. event (Deliver place)) (take most left)
+deliveries left = map delivery (take most left)
 
 abbrev pub left_after_event : EventKind → List ℕ → List ℕ
 left_after_event (Deliver place) left = without place left
@@ -48,7 +49,7 @@ left_after_event (Stop node junk) left = left
 
 -- the frames of these that a statement does not deliver
 abbrev pub left_after : Action → List ℕ → List ℕ
-left_after (Event what) left = left_after_event what left
+left_after (Event event) left = left_after_event event.kind left
 left_after (Invalid e) left = left
 left_after Flow left = drop most left
 
@@ -61,7 +62,7 @@ busy (place ∷ places) = Some note.Busy
 -- the lines of its steps, its events, and what is said besides
 abbrev pub IsResultOfAction : Action → List ℕ → List (List Line) → List lab.Event → Option Note
     → Type 0
-IsResultOfAction (Event what) left steps events said = (events ≡ event what ∷ []) × (said ≡ None)
+IsResultOfAction (Event event) left steps events said = (events ≡ event ∷ []) × (said ≡ None)
 IsResultOfAction (Invalid e) left steps events said =
     (events ≡ []) × (said ≡ Some (note.Invalid e))
 IsResultOfAction Flow left steps events said =

@@ -5,14 +5,14 @@ use Rattle.std.specs.Fmt.{decimal}
 use Rattle.std.specs.List.{slice_split, onto_first}
 use Rattle.lab.specs.Configuration.{Configurations}
 use Rattle.kv_types.specs.declared.Limits.{Limits}
-use Rattle.lab.specs.declared.EventKind.{EventKind}
+use Rattle.lab.specs.declared.Event as lab
 use Rattle.lab.specs.Configs.{IsConfig}
 use Rattle.lab.specs.{NamesNode}
 use Rattle.program.specs.declared.script.setup.Setup.{Setup}
 use Rattle.program.specs.declared.script.statement.Statement.{Statement}
 use Rattle.program.specs.declared.script.statement.Action.{Action}
 use Rattle.program.specs.declared.script.statement.Action.TheVariants.{Event, Invalid, Flow}
-use Rattle.program.specs.Statements.{CanBeSaid, IsSpelled}
+use Rattle.program.specs.Events.{SpellsEvent}
 use Rattle.program.specs.Actions.{action_of}
 
 -- the lines of a text, each ended by a line feed, which the last may lack
@@ -36,8 +36,8 @@ statement n action = record { line = n; action = action }
 abbrev pub IsStatement : Configurations → List (List ℕ) → Action → Type 0
 IsStatement cs words action =
     ((action ≡ Flow) × (words ≡ codes "flow" ∷ []))
-    ⊎ ((what : EventKind) × CanBeSaid what × IsSpelled what words × NamesNode cs what
-    × (action ≡ action_of what))
+    ⊎ ((event : lab.Event) × SpellsEvent words event × NamesNode cs event.kind
+    × (action ≡ action_of event))
 
 -- lines behind the configurations, the first with number n: each is skipped, or is a statement
 abbrev pub AreStatements : Configurations → ℕ → List (List ℕ) → List Statement → Type 0
@@ -69,6 +69,6 @@ IsScript n (line ∷ lines) setup statements =
 
 -- an event names a node of the first configuration, if it names one
 abbrev pub Names : Configurations → Action → Type 0
-Names cs (Event what) = NamesNode cs what
+Names cs (Event event) = NamesNode cs event.kind
 Names cs (Invalid e) = Unit {0}
 Names cs Flow = Unit {0}

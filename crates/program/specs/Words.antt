@@ -81,3 +81,8 @@ has_fault words = list_any begins_fault words
 abbrev pub before_fault : List (List ℕ) → List (List ℕ)
 before_fault [] = []
 before_fault (w ∷ ws) = if begins_fault w then [] else w ∷ before_fault ws
+
+-- the words from the first on that begins a fault
+abbrev pub from_fault : List (List ℕ) → List (List ℕ)
+from_fault [] = []
+from_fault (w ∷ ws) = if begins_fault w then w ∷ ws else from_fault ws

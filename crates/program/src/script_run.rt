@@ -6,7 +6,7 @@ ghost use Rattle.lab.specs.Machine.{without};
 ghost use Rattle.lab.specs.declared.Event.{Event as LabEvent};
 ghost use Rattle.lab.specs.declared.Line.{Line};
 ghost use Rattle.lab.specs.{NamesNode, HasRun, frames_in_steps, frames_of_step};
-ghost use Rattle.program.specs.ScriptRuns.{event, deliveries, left_after, left_after_event};
+ghost use Rattle.program.specs.ScriptRuns.{deliveries, left_after, left_after_event};
 ghost use Rattle.program.specs.ScriptRuns.{IsResult, IsRising, places_after, most};
 ghost use Rattle.program.specs.Scripts.{Names};
 
@@ -61,34 +61,33 @@ impl ScriptRun {
     }
 
     // An event happens, and the frames that it sends are left to be delivered.
-    fn step(&mut self, alloc: Global, kind: EventKind) -> Result<(), LabError>
+    fn step(&mut self, alloc: Global, event: &Event) -> Result<(), LabError>
         ensures { (cs : Configurations) (events : List LabEvent) (steps : List (List Line)) →
-            HasRun self.old.world cs events steps → NamesNode cs kind →
+            HasRun self.old.world cs events steps → NamesNode cs event.now.kind →
             OnOk result ((lines : List Line)
-            × HasRun self.new.world cs (events ++ event kind ∷ []) (steps ++ lines ∷ [])
+            × HasRun self.new.world cs (events ++ event.now ∷ []) (steps ++ lines ∷ [])
             × (self.new.left.items ≡ self.old.left.items
             ++ places_after (frames_in_steps steps) (frames_of_step lines))) }
     {
         let before = self.world.sent();
-        let fault = Fault::None;
-        self.world.step(alloc, &Event { kind, fault })?;
+        self.world.step(alloc, event)?;
         add_places(&mut self.left, before, self.world.sent())?;
         Ok(())
     }
 
     // A statement's event happens. A frame that it delivers is no longer left.
-    fn event(&mut self, alloc: Global, kind: &EventKind) -> Result<(), LabError>
+    fn event(&mut self, alloc: Global, event: &Event) -> Result<(), LabError>
         ensures { (cs : Configurations) (events : List LabEvent) (steps : List (List Line)) →
-            HasRun self.old.world cs events steps → NamesNode cs kind.now →
+            HasRun self.old.world cs events steps → NamesNode cs event.now.kind →
             IsRising 0 (frames_in_steps steps) self.old.left.items →
             OnOk result ((lines : List Line)
-            × HasRun self.new.world cs (events ++ event kind.now ∷ []) (steps ++ lines ∷ [])
-            × (self.new.left.items ≡ left_after_event kind.now (self.old.left.items
+            × HasRun self.new.world cs (events ++ event.now ∷ []) (steps ++ lines ∷ [])
+            × (self.new.left.items ≡ left_after_event event.now.kind (self.old.left.items
             ++ places_after (frames_in_steps steps) (frames_of_step lines)))) }
     {
-        self.step(alloc, kind.clone()?)?;
-        if let EventKind::Deliver { place } = kind {
-            remove_place(&mut self.left, *place);
+        self.step(alloc, event)?;
+        if let EventKind::Deliver { place } = event.kind {
+            remove_place(&mut self.left, place);
         }
         Ok(())
     }
@@ -110,7 +109,9 @@ impl ScriptRun {
             let Some(place) = self.left.pop_front() else {
                 return Ok(count);
             };
-            self.step(alloc, EventKind::Deliver { place })?;
+            let kind = EventKind::Deliver { place };
+            let fault = Fault::None;
+            self.step(alloc, &Event { kind, fault })?;
             count += 1;
         }
         Ok(count)
@@ -129,8 +130,8 @@ impl ScriptRun {
     {
         let line = statement.line;
         match &statement.action {
-            Action::Event(kind) => {
-                self.event(alloc, kind)?;
+            Action::Event(event) => {
+                self.event(alloc, event)?;
                 Ok(StatementResult {
                     line,
                     events: 1,

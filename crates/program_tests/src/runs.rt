@@ -49,7 +49,24 @@ const RUNS: &[(&str, &str)] = &[
         "config 1\nsubmit 1\nsubmit 1 a=1\nget 1 a\n",
         "2: invalid 3 NoEdits\n3: committed 1\n4: value 1 at 1\n",
     ),
+    // Nor does it use its fault.
+    (
+        "config 1\nsubmit 1 !fail 1\nget 1 a\n",
+        "2: invalid 3 NoEdits\n3: none at 0\n",
+    ),
     ("config 1", ""),
+    // A step that makes fewer calls is as one without a fault.
+    (
+        "config 1\nsubmit 1 a=1 !stop 9223372036854775807 new\nstop 1\n\
+         start 1 !fail 9223372036854775807\nget 1 a 1 !stop 9223372036854775807 0f\n",
+        "2: committed 1\n3: node 1 stopped\n4: node 1 started epoch 0 count 1 committed 1\n\
+         5: value 1 at 1\n",
+    ),
+    (
+        "config 1 2\nsubmit 1 a=1\ntick 1 !fail 9223372036854775807\n\
+         deliver 1 !stop 9223372036854775807 old\ndeliver 3 !fail 9223372036854775807\n",
+        "2: #1 1>2 forward 0 1\n3: #2 1>2 forward 0 1\n4: #3 2>1 ack 0 1 1\n2: committed 1\n",
+    ),
     // Down the chain and back, with a frame that comes twice.
     (
         "config 1 2 3\nsubmit 1 a=1\ndeliver 1\ndeliver 1\ndeliver 2\ndeliver 4\ndeliver 5\n",

@@ -10,7 +10,7 @@ ghost use Rattle.program.specs.Reading.{what_of};
 use super::command::{Bytes, Command, RawEdit, RawEdits};
 use super::statement::Action;
 use kv_types::{Batch, Edit, Key, KvError, Value};
-use lab::{EventKind, NodeId};
+use lab::{Event, EventKind, Fault, NodeId};
 use std::alloc::{AllocError, Global};
 
 fn key_of(bytes: Bytes) -> Result<Key, KvError>
@@ -68,32 +68,48 @@ fn batch(edits: Vec<Edit>) -> Result<Batch, KvError>
     Batch::new(edits)
 }
 
-fn submit(alloc: Global, node: NodeId, changes: RawEdits) -> Result<Action, AllocError>
-    ensures { IfOk result (λ action. action ≡ action_of (EventKind.Submit node changes)) }
+fn submit(
+    alloc: Global,
+    node: NodeId,
+    changes: RawEdits,
+    fault: Fault,
+) -> Result<Action, AllocError>
+    ensures { IfOk result (λ action. action ≡ action_of
+        (record { kind = EventKind.Submit node changes; fault = fault })) }
 {
     let edits = match edits(alloc, changes)? {
         Ok(edits) => edits,
         Err(e) => return Ok(Action::Invalid(e)),
     };
     match batch(edits) {
-        Ok(batch) => Ok(Action::Event(EventKind::Submit { node, batch })),
+        Ok(batch) => {
+            let kind = EventKind::Submit { node, batch };
+            Ok(Action::Event(Event { kind, fault }))
+        }
         Err(e) => Ok(Action::Invalid(e)),
     }
 }
 
 /// What comes of a statement that names this node.
-pub fn action(alloc: Global, node: NodeId, command: Command) -> Result<Action, AllocError>
+pub fn action(
+    alloc: Global,
+    node: NodeId,
+    command: Command,
+    fault: Fault,
+) -> Result<Action, AllocError>
     requires { node_in (what_of command) ≡ Some node }
-    ensures { IfOk result (λ action. action ≡ action_of (what_of command)) }
+    ensures { IfOk result (λ action. action ≡ action_of
+        (record { kind = what_of command; fault = fault })) }
 {
-    match command {
-        Command::Submit(_, changes) => submit(alloc, node, changes),
+    let kind = match command {
+        Command::Submit(_, changes) => return submit(alloc, node, changes, fault),
         Command::Get(_, key, at) => match key_of(key) {
-            Ok(key) => Ok(Action::Event(EventKind::Get { node, key, at })),
-            Err(e) => Ok(Action::Invalid(e)),
+            Ok(key) => EventKind::Get { node, key, at },
+            Err(e) => return Ok(Action::Invalid(e)),
         },
-        Command::Tick(_) => Ok(Action::Event(EventKind::Tick { node })),
-        Command::Stop(_, junk) => Ok(Action::Event(EventKind::Stop { node, junk })),
-        Command::Start(_) => Ok(Action::Event(EventKind::Start { node })),
-    }
+        Command::Tick(_) => EventKind::Tick { node },
+        Command::Stop(_, junk) => EventKind::Stop { node, junk },
+        Command::Start(_) => EventKind::Start { node },
+    };
+    Ok(Action::Event(Event { kind, fault }))
 }

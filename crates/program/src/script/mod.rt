@@ -6,6 +6,7 @@ mod edit;
 mod error;
 mod extent;
 mod fault;
+mod junk;
 pub mod laws;
 mod lines;
 mod reader;

@@ -14,14 +14,14 @@ ghost use Rattle.program.specs.Reading.{ReadsLine, ReadsWords, Places, ReadsNext
 
 use super::action::action;
 use super::error::ScriptError;
-use super::fault::split_fault;
+use super::fault::{fault_behind, split_fault};
 use super::lines::{ScriptLines, words};
 use super::setup::Setup;
 use super::statement::{Action, LineItem, ParserState, Statement};
 use super::statements::command_of;
 use super::word::number;
 use kv_types::Limits;
-use lab::{Config, ConfigError, Configs, EventKind};
+use lab::{Config, ConfigError, Configs, Event, EventKind};
 use std::alloc::{AllocError, Global};
 
 /// The most bytes of a line, without its line feed.
@@ -120,11 +120,11 @@ fn config(alloc: Global, before: &ParserState, args: &[&[u8]]) -> Result<Config,
         (λ e. e ≢ OutOfMemory →
         config_fault before.now (map (λ w. w.now) args.now) ≡ Some e) }
 {
-    let (words, has_fault) = split_fault(args);
+    let (words, behind) = split_fault(args);
     let Some(numbers) = numbers(alloc, words)? else {
         return Err(ScriptError::BadNumber);
     };
-    if has_fault {
+    if !behind.is_empty() {
         return Err(ScriptError::BadFault);
     }
     if before.begun {
@@ -137,34 +137,33 @@ fn config(alloc: Global, before: &ParserState, args: &[&[u8]]) -> Result<Config,
 }
 
 // A frame's delivery, if it may stand here.
-fn deliver(before: &ParserState, args: &[&[u8]]) -> Result<Action, ScriptError>
+fn deliver(alloc: Global, before: &ParserState, args: &[&[u8]]) -> Result<Action, ScriptError>
     ensures { Places before.now (codes "deliver") (map (λ w. w.now) args.now) result }
 {
-    let (words, has_fault) = split_fault(args);
+    let (words, behind) = split_fault(args);
     let [word] = words else {
         return Err(ScriptError::WrongNumberOfWords);
     };
     let Some(place) = number(word) else {
         return Err(ScriptError::BadNumber);
     };
-    if has_fault {
-        return Err(ScriptError::BadFault);
-    }
+    let fault = fault_behind(alloc, b"deliver", behind)?;
     if before.configs.is_none() {
         return Err(ScriptError::OutOfPlace);
     }
-    Ok(Action::Event(EventKind::Deliver { place }))
+    let kind = EventKind::Deliver { place };
+    Ok(Action::Event(Event { kind, fault }))
 }
 
 // A flow, if it may stand here.
 fn flow(before: &ParserState, args: &[&[u8]]) -> Result<Action, ScriptError>
     ensures { Places before.now (codes "flow") (map (λ w. w.now) args.now) result }
 {
-    let (words, has_fault) = split_fault(args);
+    let (words, behind) = split_fault(args);
     if !words.is_empty() {
         return Err(ScriptError::WrongNumberOfWords);
     }
-    if has_fault {
+    if !behind.is_empty() {
         return Err(ScriptError::BadFault);
     }
     if before.configs.is_none() {
@@ -184,13 +183,11 @@ fn placed(
     requires flow { bytes_eq name.now (codes "flow") ≡ false }
     ensures { Places before.now name.now (map (λ w. w.now) args.now) result }
 {
-    let (words, has_fault) = split_fault(args);
+    let (words, behind) = split_fault(args);
     let command = command_of(alloc, name, words)?;
-    if has_fault {
-        return Err(ScriptError::BadFault);
-    }
+    let fault = fault_behind(alloc, name, behind)?;
     let node = before.place(command.node())?;
-    Ok(action(alloc, node, command)?)
+    Ok(action(alloc, node, command, fault)?)
 }
 
 /// What a statement comes to, if it may stand here.
@@ -203,7 +200,7 @@ fn statement(
     ensures { Places before.now name.now (map (λ w. w.now) args.now) result }
 {
     if name == b"deliver".as_slice() {
-        deliver(before, args)
+        deliver(alloc, before, args)
     } else if name == b"flow".as_slice() {
         flow(before, args)
     } else {

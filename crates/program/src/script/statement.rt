@@ -7,14 +7,14 @@ ghost use Rattle.program.specs.Reading.{after_item, statements_of};
 
 use super::error::ScriptError;
 use kv_types::KvError;
-use lab::{Configs, EventKind, NodeId};
+use lab::{Configs, Event, NodeId};
 use std::alloc::AllocError;
 
 /// What a statement comes to.
 #[derive(Drop)]
 pub enum Action {
     /// Something that happens at a node.
-    Event(EventKind),
+    Event(Event),
     /// A key, value or batch that there can't be.
     Invalid(KvError),
     /// Every frame that no statement has delivered yet is delivered.

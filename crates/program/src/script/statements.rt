@@ -1,17 +1,15 @@
 //! Each statement, read from its words.
-ghost use Rattle.std.specs.Prelude.{◌≡◌, ◌∷◌, ◌<◌, nat_lt, length, true, false, map, codes};
-ghost use Rattle.std.specs.Prelude.{MatchOption, IfOk};
+ghost use Rattle.std.specs.Prelude.{◌≡◌, ◌∷◌, false, map, codes};
 ghost use Rattle.std.specs.Str.{bytes_eq};
-ghost use Rattle.program.specs.Statements.{are_pairs, hex_text, is_junk, AreBytesOf, IsJunk};
-ghost use Rattle.program.specs.Words.{AreBytes};
 ghost use Rattle.program.specs.Reading.{ReadsCommand};
 
 use super::command::{Bytes, Command};
 use super::edit::raw_edits_of;
 use super::error::ScriptError;
-use super::word::{batch_number, byte_of, bytes_of, number};
-use lab::{Junk, JunkBytes};
-use std::alloc::{AllocError, Global};
+use super::junk::junk_of;
+use super::word::{batch_number, bytes_of, number};
+use lab::Junk;
+use std::alloc::Global;
 
 fn get(alloc: Global, args: &[&[u8]]) -> Result<Command, ScriptError>
     ensures { ReadsCommand (codes "get" ∷ map (λ w. w.now) args.now) result }
@@ -73,39 +71,6 @@ fn submit(alloc: Global, args: &[&[u8]]) -> Result<Command, ScriptError>
     match raw_edits_of(alloc, edits)? {
         None => Err(ScriptError::BadBytes),
         Some(changes) => Ok(Command::Submit(node, changes)),
-    }
-}
-
-/// The bytes that pairs of hex digits spell.
-fn pairs_of(alloc: Global, word: &[u8]) -> Result<Option<Vec<u8>>, AllocError>
-    ensures { IfOk result (λ found. MatchOption found (are_pairs word.now ≡ false)
-        (λ bytes. (are_pairs word.now ≡ true) × AreBytes bytes.items
-        × (word.now ≡ hex_text bytes.items))) }
-{
-    let mut bytes = Vec::new(alloc);
-    let mut rest = word;
-    while let [high, low, after @ ..] = rest {
-        let Some(byte) = byte_of(*high, *low) else {
-            return Ok(None);
-        };
-        bytes.push(byte)?;
-        rest = after;
-    }
-    Ok(if rest.is_empty() { Some(bytes) } else { None })
-}
-
-fn junk_of(alloc: Global, word: &[u8]) -> Result<Option<Junk>, AllocError>
-    ensures { IfOk result (λ found. MatchOption found (is_junk word.now ≡ false)
-        (λ junk. (is_junk word.now ≡ true) × AreBytesOf junk × IsJunk junk word.now)) }
-{
-    match word {
-        b"old" => Ok(Some(Junk::Old)),
-        b"new" => Ok(Some(Junk::New)),
-        b"" => Ok(None),
-        _ => match pairs_of(alloc, word)? {
-            None => Ok(None),
-            Some(bytes) => Ok(Some(Junk::Bytes(JunkBytes::new(bytes)))),
-        },
     }
 }
 

@@ -1,4 +1,5 @@
-use Rattle.program.proofs.OneText.{one_text, one_edit, one_event}
+use Rattle.program.proofs.OneText.{one_text, one_edit}
+use Rattle.program.proofs.EventWords.{one_whole}
 use Rattle.program.proofs.script.laws.spellings_differ.Goals as goal
 
 pub returns-clause-strings : goal.returns-clause-strings
@@ -8,4 +9,4 @@ pub returns-clause-edits : goal.returns-clause-edits
 returns-clause-edits c = one_edit
 
 pub returns-clause-events : goal.returns-clause-events
-returns-clause-events c = one_event
+returns-clause-events c = one_whole

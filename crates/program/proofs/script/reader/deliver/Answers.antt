@@ -1,14 +1,26 @@
-use Rattle.std.proofs.Common.{map, sym, refl, ◌∙◌, arith}
+use Rattle.std.proofs.Common.{map, refl, arith}
 use Rattle.program.proofs.Places.{only_word}
-use Rattle.program.proofs.Placing.{delivers}
+use Rattle.program.proofs.Placing.{read_delivery, delivers, undelivered}
 use Rattle.program.proofs.script.reader.deliver.Goals as goal
+
+pub returns-then-is_none : goal.returns-then-is_none
+returns-then-is_none c =
+    let cut = c.split_fault.ensures in
+    let word = c.in-Some.ensures in
+    let args = map (λ w. w.now) c.args.args.now in
+    undelivered c.args.before.now args c.in-Some.place c.in_ok-fault.fault
+    (read_delivery args _ _ c.in-Some.place c.in_ok-fault.fault cut.before cut.behind word.1
+    (only_word c.split_fault.result.0.now _ _
+    (omega (arith, c.in-len1.len_at_least, c.in-len1.len_below)) word.2) c.in_ok-fault.ensures)
+    (rw c.if-is_none.ensures refl)
 
 pub returns : goal.returns
 returns c =
-    let cut = c.split_fault-has_fault.ensures in
+    let cut = c.split_fault.ensures in
     let word = c.in-Some.ensures in
-    delivers c.args.before.now (map (λ w. w.now) c.args.args.now) _ c.in-Some.place
-    (cut.whole c.if-has_fault.false) cut.before (sym c.if-has_fault.false ∙ cut.has) word.1
-    (only_word c.split_fault-has_fault.result.0.now _ _
-    (omega (arith, c.in-len1.len_at_least, c.in-len1.len_below)) word.2)
+    let args = map (λ w. w.now) c.args.args.now in
+    delivers c.args.before.now args c.in-Some.place c.in_ok-fault.fault
+    (read_delivery args _ _ c.in-Some.place c.in_ok-fault.fault cut.before cut.behind word.1
+    (only_word c.split_fault.result.0.now _ _
+    (omega (arith, c.in-len1.len_at_least, c.in-len1.len_below)) word.2) c.in_ok-fault.ensures)
     (rw c.if-is_none.ensures refl)

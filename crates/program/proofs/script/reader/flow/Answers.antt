@@ -6,9 +6,10 @@ use Rattle.program.proofs.script.reader.flow.Goals as goal
 
 pub returns : goal.returns
 returns c =
-    let cut = c.split_fault-has_fault.ensures in
+    let cut = c.split_fault.ensures in
     let empty = c.if-not-is_empty.ensures in
-    flows c.args.before.now (map (λ w. w.now) c.args.args.now) _
-    (cut.whole c.if-has_fault.false) cut.before (sym c.if-has_fault.false ∙ cut.has)
-    (no_word c.split_fault-has_fault.result.0.now (grind (arith, nat_tests, empty)))
+    let bare = c.if-not-is_empty-2.ensures in
+    flows c.args.before.now (map (λ w. w.now) c.args.args.now)
+    (sym (no_word c.split_fault.result.0.now (grind (arith, nat_tests, empty))) ∙ cut.before)
+    (sym (no_word c.split_fault.result.1.now (grind (arith, nat_tests, bare))) ∙ cut.behind)
     (rw c.if-is_none.ensures refl)

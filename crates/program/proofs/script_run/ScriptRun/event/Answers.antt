@@ -7,11 +7,10 @@ use Rattle.program.proofs.script_run.ScriptRun.event.Goals as goal
 
 pub returns-in-Deliver : goal.returns-in-Deliver
 returns-in-Deliver c = λ cs events steps run named up.
-    let gave = rw c.in_ok-clone.ensures at c.in_ok-step.ensures in
-    let went = gave cs events steps run named in (
+    let went = c.in_ok-step.ensures cs events steps run named in (
       went.0,
       went.1,
-      left_delivered c.args.kind.now c.in-Deliver.place (c.args.self.now.left.items
+      left_delivered c.args.event.now.kind c.in-Deliver.place (c.args.self.now.left.items
           ++ places_after (frames_in_steps steps) (frames_of_step went.0))
           c.step.new.self.left.items _
           c.in-Deliver.is went.2 (c.remove_place.ensures 0
@@ -21,11 +20,10 @@ returns-in-Deliver c = λ cs events steps run named up.
 
 pub returns-in_default : goal.returns-in_default
 returns-in_default c = λ cs events steps run named up.
-    let gave = rw c.in_ok-clone.ensures at c.in_ok-step.ensures in
-    let went = gave cs events steps run named in (
+    let went = c.in_ok-step.ensures cs events steps run named in (
       went.0,
       went.1,
-      left_as c.args.kind.now (c.args.self.now.left.items
+      left_as c.args.event.now.kind (c.args.self.now.left.items
           ++ places_after (frames_in_steps steps) (frames_of_step went.0))
           c.step.new.self.left.items
           c.in_default.not-Deliver went.2,

@@ -2,7 +2,7 @@ use Rattle.std.proofs.Common.{◌≡◌, ◌+◌, ℕ, [], ◌∷◌, ◌++◌, 
 use Rattle.std.proofs.Common.{arith, append-nil, drop}
 use Rattle.std.proofs.lemmas.Bool.Decides.{nat_tests}
 use Rattle.lab.specs.{frames_in_steps, frames_of_step}
-use Rattle.program.specs.ScriptRuns.{event, deliveries, left_after_event, places_after, busy, most}
+use Rattle.program.specs.ScriptRuns.{deliveries, left_after_event, places_after, busy, most}
 use Rattle.program.specs.declared.statement_result.Note.TheVariants as note
 use Rattle.program.proofs.Flowing.{result_of_event, result_of_error, result_of_flow}
 use Rattle.program.proofs.Flowing.{none_left, some_left}
@@ -10,17 +10,17 @@ use Rattle.program.proofs.script_run.ScriptRun.run.Goals as goal
 
 pub returns-in_ok-event-in-Event : goal.returns-in_ok-event-in-Event
 returns-in_ok-event-in-Event c = λ cs events steps run named up.
-    let what = c.in-Event.kind in
+    let what = c.in-Event.event in
     let it = c.args.statement.now in
     let went = c.in_ok-event-in-Event.ensures cs events steps run
     (rw c.in-Event.is at named) up in
     let one : frames_of_step went.0 ≡ frames_of_step went.0 + 0 = omega arith in (
-      event what ∷ [],
+      what ∷ [],
       went.0 ∷ [],
       result_of_event (frames_in_steps steps) c.args.self.now.left.items it what went.0
           c.in-Event.is,
       went.1,
-      rw c.in-Event.is (subst (λ (k : ℕ). c.event.new.self.left.items ≡ left_after_event what
+      rw c.in-Event.is (subst (λ (k : ℕ). c.event.new.self.left.items ≡ left_after_event what.kind
           (c.args.self.now.left.items ++ places_after (frames_in_steps steps) k)) one went.2),
     )
 

@@ -1,7 +1,7 @@
 use Rattle.std.proofs.Common.{◌≡◌, ◌++◌, length}
 use Rattle.program.specs.Words.{AreBytes}
 use Rattle.program.specs.Statements.{are_pairs, hex_text}
-use Rattle.program.proofs.script.statements.pairs_of.Given as goal
+use Rattle.program.proofs.script.junk.pairs_of.Given as goal
 
 abbrev pub invariant-loop-rest : goal.invariant-loop-rest
 invariant-loop-rest l = record {

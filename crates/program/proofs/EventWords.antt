@@ -1,0 +1,231 @@
+-- The words of an event: where those of its kind end, and what they and those of its fault say.
+use Rattle.std.proofs.Common.{◌≡◌, ◌/◌, ◌<◌, ◌^◌, ℕ, List, [], ◌∷◌, ◌++◌, Some, None}
+use Rattle.std.proofs.Common.{refl, sym, ap, ap₂, subst, ◌∙◌, inl, inr, arith, true, false}
+use Rattle.std.proofs.Common.{map, drop, length, append-nil}
+use Rattle.std.specs.Prelude.{All, nat_lt}
+use Rattle.std.specs.Fmt.{decimal}
+use Rattle.std.proofs.lemmas.Bool.{cases_Bool}
+use Rattle.std.proofs.lemmas.Bool.Decides.{nat_tests}
+use Rattle.std.proofs.lemmas.List.Elements.{All-head, All-tail}
+use Rattle.lab.specs.Fault.{Fault}
+use Rattle.lab.specs.Fault.TheVariants as disk
+use Rattle.lab.specs.Junk.{Junk}
+use Rattle.lab.specs.Junk.TheVariants.{Old, New, Bytes}
+use Rattle.kv_types.specs.declared.Edit.{Edit}
+use Rattle.kv_types.specs.declared.Edit.TheVariants.{Put, Delete}
+use Rattle.lab.specs.declared.Event.{Event}
+use Rattle.lab.specs.declared.EventKind.{EventKind}
+use Rattle.lab.specs.declared.EventKind.TheVariants.{Submit, Get, Deliver, Tick, Start, Stop}
+use Rattle.program.specs.Words.{AreBytes, is_plain, bytes_text}
+use Rattle.program.specs.Words.{begins_fault, has_fault, before_fault, from_fault}
+use Rattle.program.specs.Statements.{AreBytesIn, AreBytesOf, CanBeSaid, edit_word, hex_text, IsJunk}
+use Rattle.program.specs.Statements.{IsSpelled}
+use Rattle.program.specs.Events.{FaultCanBeSaid, IsFault, SpellsEvent, is_call}
+use Rattle.program.specs.Events.{fault_word, takes_fault}
+use Rattle.program.specs.Faults.{spelling_fault}
+use Rattle.program.proofs.FaultWords.{AreOfFault, joined}
+use Rattle.program.proofs.Ids.{number_begins}
+use Rattle.program.proofs.Placing.{bears, number_back}
+use Rattle.program.proofs.ReadBack.{number_read, junk_read, event_read}
+use Rattle.program.proofs.OneText.{name_of, one_event, one_junk, one_number, first_word}
+use Rattle.program.proofs.OneText.{words_behind}
+
+-- ---- no word of an event begins a fault
+
+text_begins : (k xs : List ℕ) → AreBytes k → begins_fault (bytes_text k ++ xs) ≡ false
+text_begins [] xs all = refl
+text_begins (b ∷ k) xs all = elim (cases_Bool (is_plain b)) [
+  | inl t ↦ rw t (grind (arith, nat_tests))
+  | inr f ↦ rw f refl
+]
+
+edit_begins : (e : Edit) → AreBytesIn e → begins_fault (edit_word e) ≡ false
+edit_begins (Put key value) all = text_begins key (61 ∷ bytes_text value) all.0
+edit_begins (Delete key) all = refl
+
+edits_begin : (edits : List Edit) → All AreBytesIn edits → has_fault (map edit_word edits) ≡ false
+edits_begin [] all = refl
+edits_begin (e ∷ edits) all =
+    rw (edit_begins e (All-head AreBytesIn e edits all))
+    (edits_begin edits (All-tail AreBytesIn e edits all))
+
+hex_begins : (bytes : List ℕ) → AreBytes bytes → begins_fault (hex_text bytes) ≡ false
+hex_begins [] all = refl
+hex_begins (b ∷ bytes) all =
+    let small : b < 256 = All-head (λ x. x < 256) b bytes all in
+    let high : b / 16 < 16 = omega arith in
+    grind (arith, nat_tests)
+
+junk_begins : (junk : Junk) (word : List ℕ) → AreBytesOf junk → IsJunk junk word →
+    begins_fault word ≡ false
+junk_begins Old word all is = rw is refl
+junk_begins New word all is = rw is refl
+junk_begins (Bytes bytes) word all is = rw is.1 (hex_begins bytes all)
+
+text_alone : (k : List ℕ) → AreBytes k → begins_fault (bytes_text k) ≡ false
+text_alone k all = rw (append-nil (bytes_text k)) at (text_begins k [] all)
+
+no_fault : (what : EventKind) (words : List (List ℕ)) → CanBeSaid what → IsSpelled what words →
+    has_fault (drop 1 words) ≡ false
+no_fault (Submit node edits) words said e =
+    rw (e, number_begins (decimal node) (number_read node said.0)) (edits_begin edits said.1)
+no_fault (Get node key None) words said e =
+    rw (e, number_begins (decimal node) (number_read node said.0), text_alone key said.1) refl
+no_fault (Get node key (Some at)) words said e =
+    rw (
+      e,
+      number_begins (decimal node) (number_read node said.0),
+      text_alone key said.1,
+      number_begins (decimal at) (number_read at said.2),
+    ) refl
+no_fault (Deliver place) words said e =
+    rw (e, number_begins (decimal place) (number_read place said)) refl
+no_fault (Tick node) words said e =
+    rw (e, number_begins (decimal node) (number_read node said)) refl
+no_fault (Start node) words said e =
+    rw (e, number_begins (decimal node) (number_read node said)) refl
+no_fault (Stop node junk) words said (inl e) =
+    rw (e.1, number_begins (decimal node) (number_read node said.0)) refl
+no_fault (Stop node junk) words said (inr e) =
+    rw (
+      e.2,
+      number_begins (decimal node) (number_read node said.0),
+      junk_begins junk e.0 said.1 e.1,
+    ) refl
+
+-- ---- the words of a fault
+
+fault_begins : (f : Fault) (words : List (List ℕ)) → IsFault f words → AreOfFault words
+fault_begins disk.None words is = rw is tt
+fault_begins (disk.Fail call) words is = rw is refl
+fault_begins (disk.Stop call junk) words is = rw is.2 refl
+
+call_read : (call : ℕ) → 0 < call → call < 2 ^ 63 → is_call (decimal call) ≡ true
+call_read call some small =
+    let above : nat_lt 0 call ≡ true = grind (arith, nat_tests) in
+    rw (number_read call small, number_back call small, above) refl
+
+fault_read : (f : Fault) (name : List ℕ) (words : List (List ℕ)) → FaultCanBeSaid f
+    → IsFault f words → (takes_fault name ≡ false → f ≡ disk.None) → fault_word name words ≡ None
+fault_read disk.None name words said is none = rw is refl
+fault_read (disk.Fail call) name words said is none = elim (cases_Bool (takes_fault name)) [
+  | inl t ↦ rw (is, t, call_read call said.0 said.1) refl
+  | inr f ↦ absurd (cc (none f))
+]
+fault_read (disk.Stop call junk) name words said is none = elim (cases_Bool (takes_fault name)) [
+  | inl t ↦ rw (
+    is.2,
+    t,
+    call_read call said.0.0 said.0.1,
+    junk_read junk is.0 said.1 is.1,
+  ) refl
+  | inr f ↦ absurd (cc (none f))
+]
+
+one_fault : (f g : Fault) (words : List (List ℕ)) → FaultCanBeSaid f → FaultCanBeSaid g
+    → IsFault f words → IsFault g words → f ≡ g
+one_fault disk.None disk.None words sf sg p q = refl
+one_fault disk.None (disk.Fail call) words sf sg p q =
+    let size : 0 ≡ 2 = ap length (sym p ∙ q) in
+    absurd (omega (arith, size))
+one_fault disk.None (disk.Stop call junk) words sf sg p q =
+    let size : 0 ≡ 3 = ap length (sym p ∙ q.2) in
+    absurd (omega (arith, size))
+one_fault (disk.Fail call) disk.None words sf sg p q =
+    let size : 2 ≡ 0 = ap length (sym p ∙ q) in
+    absurd (omega (arith, size))
+one_fault (disk.Fail m) (disk.Fail n) words sf sg p q =
+    rw (one_number m n sf.1 sg.1 (ap (λ w. first_word (words_behind w)) (sym p ∙ q))) refl
+one_fault (disk.Fail m) (disk.Stop call junk) words sf sg p q =
+    let size : 2 ≡ 3 = ap length (sym p ∙ q.2) in
+    absurd (omega (arith, size))
+one_fault (disk.Stop call junk) disk.None words sf sg p q =
+    let size : 3 ≡ 0 = ap length (sym p.2 ∙ q) in
+    absurd (omega (arith, size))
+one_fault (disk.Stop call junk) (disk.Fail n) words sf sg p q =
+    let size : 3 ≡ 2 = ap length (sym p.2 ∙ q) in
+    absurd (omega (arith, size))
+one_fault (disk.Stop m j) (disk.Stop n k) words sf sg p q =
+    let both = sym p.2 ∙ q.2 in
+    let same = ap (λ w. first_word (words_behind (words_behind w))) both in
+    rw (
+      one_number m n sf.0.1 sg.0.1 (ap (λ w. first_word (words_behind w)) both),
+      one_junk j k q.0 sf.1 sg.1 (rw same at p.1) q.1,
+    ) refl
+
+-- ---- the words of an event
+
+-- the words of a kind begin with its name
+pub opens : (what : EventKind) (words : List (List ℕ)) → IsSpelled what words
+    → (args : List (List ℕ)) × (words ≡ name_of what ∷ args)
+opens (Submit node edits) words e = (_, e)
+opens (Get node key None) words e = (_, e)
+opens (Get node key (Some at)) words e = (_, e)
+opens (Deliver place) words e = (_, e)
+opens (Tick node) words e = (_, e)
+opens (Start node) words e = (_, e)
+opens (Stop node junk) words (inl p) = (_, p.1)
+opens (Stop node junk) words (inr p) = (_, p.2)
+
+-- an event's words, divided where its fault begins
+pub record Divides (event : Event) (name : List ℕ) (args : List (List ℕ)) : Type 0 where
+  pub kind_said : CanBeSaid event.kind
+  pub kind : IsSpelled event.kind (name ∷ before_fault args)
+  pub fault_said : FaultCanBeSaid event.fault
+  pub fault : IsFault event.fault (from_fault args)
+  pub none : takes_fault name ≡ false → event.fault ≡ disk.None
+
+pub divides : (event : Event) (name : List ℕ) (args : List (List ℕ))
+    → SpellsEvent (name ∷ args) event → Divides event name args
+divides event name args s =
+    let front = opens event.kind s.first s.kind in
+    let own : IsSpelled event.kind (name_of event.kind ∷ front.0) =
+    subst (λ (ws : List (List ℕ)). IsSpelled event.kind ws) front.1 s.kind in
+    let all : name ∷ args ≡ name_of event.kind ∷ (front.0 ++ s.behind) = rw front.1 at s.parts in
+    let same : name ≡ name_of event.kind = ap first_word all in
+    let rest : args ≡ front.0 ++ s.behind = ap words_behind all in
+    let cut = joined front.0 s.behind
+    (no_fault event.kind (name_of event.kind ∷ front.0) s.kind_said own)
+    (fault_begins event.fault s.behind s.fault) in
+    let first : name_of event.kind ∷ front.0 ≡ name ∷ before_fault args =
+    ap₂ (λ (n : List ℕ) (ws : List (List ℕ)). n ∷ ws) (sym same)
+    (sym cut.0 ∙ ap before_fault (sym rest)) in
+    let behind : s.behind ≡ from_fault args = sym cut.1 ∙ ap from_fault (sym rest) in
+    let kind = subst (λ (ws : List (List ℕ)). IsSpelled event.kind ws) first own in
+    record {
+      kind_said = s.kind_said;
+      kind = kind;
+      fault_said = s.fault_said;
+      fault = subst (λ (ws : List (List ℕ)). IsFault event.fault ws) behind s.fault;
+      none = λ no. s.none (sym (bears event.kind name (before_fault args) kind) ∙ no);
+    }
+
+pub divided_read : (event : Event) (name : List ℕ) (args : List (List ℕ))
+    → Divides event name args → spelling_fault name args ≡ None
+divided_read event name args d =
+    rw (event_read event.kind (name ∷ before_fault args) d.kind_said d.kind)
+    (fault_read event.fault name (from_fault args) d.fault_said d.fault d.none)
+
+pub whole_read : (event : Event) (name : List ℕ) (args : List (List ℕ))
+    → SpellsEvent (name ∷ args) event → spelling_fault name args ≡ None
+whole_read event name args s = divided_read event name args (divides event name args s)
+
+no_words : (event : Event) → SpellsEvent [] event → ⊥
+no_words event s =
+    let front = opens event.kind s.first s.kind in
+    let all : [] ≡ name_of event.kind ∷ (front.0 ++ s.behind) = rw front.1 at s.parts in
+    absurd (omega (arith, ap length all))
+
+same_event : (k l : EventKind) (f g : Fault) → k ≡ l → f ≡ g
+    → ◌≡◌ {A = Event} (record { kind = k; fault = f }) (record { kind = l; fault = g })
+same_event k l f g kinds faults = rw (kinds, faults) refl
+
+pub one_whole : (a b : Event) (words : List (List ℕ)) → SpellsEvent words a
+    → SpellsEvent words b → a ≡ b
+one_whole a b [] p q = absurd (no_words a p)
+one_whole a b (name ∷ args) p q =
+    let d = divides a name args p in
+    let e = divides b name args q in
+    same_event a.kind b.kind a.fault b.fault
+    (one_event a.kind b.kind (name ∷ before_fault args) d.kind_said e.kind_said d.kind e.kind)
+    (one_fault a.fault b.fault (from_fault args) d.fault_said e.fault_said d.fault e.fault)
