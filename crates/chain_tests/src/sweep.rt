@@ -319,6 +319,6 @@ fn every_run_with_a_fault_has_one_list(rt: HostRuntime) -> Result<(), Fail> {
             }
         }
     }
-    assert!(rt; runs == 0, "{runs} runs");
+    assert!(rt; runs == 666, "{runs} runs");
     Ok(())
 }

@@ -135,6 +135,44 @@ const RUNS: &[(&str, &str)] = &[
         "config 1 2 3 4 5 6 7 8 9 10 11 12 13 14 15 16\nget 16 a\n",
         "2: none at 0\n",
     ),
+    // The machine stops in the first sync of an append: its batch is gone.
+    (
+        "config 1\nsubmit 1 a=1\nsubmit 1 a=2 !stop 2 01\nstart 1\nget 1 a\n",
+        "2: committed 1\n3: node 1 stopped\n4: node 1 started epoch 0 count 1 committed 1\n\
+         5: value 1 at 1\n",
+    ),
+    // It stops in the last sync: with the open gate the batch is there, without it is not.
+    (
+        "config 1\nsubmit 1 a=1\nsubmit 1 a=2 !stop 4 01\nstart 1\nget 1 a\n",
+        "2: committed 1\n3: node 1 stopped\n4: node 1 started epoch 0 count 2 committed 2\n\
+         5: value 2 at 2\n",
+    ),
+    (
+        "config 1\nsubmit 1 a=1\nsubmit 1 a=2 !stop 4 00\nstart 1\nget 1 a\n",
+        "2: committed 1\n3: node 1 stopped\n4: node 1 started epoch 0 count 1 committed 1\n\
+         5: value 1 at 1\n",
+    ),
+    // It stops in a start.
+    (
+        "config 1\nsubmit 1 a=1\nstop 1\nstart 1 !stop 1 01\nstart 1\nget 1 a\n",
+        "2: committed 1\n3: node 1 stopped\n4: node 1 stopped\n\
+         5: node 1 started epoch 0 count 1 committed 1\n6: value 1 at 1\n",
+    ),
+    // The first call, the last and the one behind it fail.
+    (
+        "config 1\nsubmit 1 a=1 !fail 1\nget 1 a\nstart 1\n",
+        "2: node 1 stopped: disk\n3: refused 1 NotRunning\n\
+         4: node 1 started epoch 0 count 0 committed 0\n",
+    ),
+    (
+        "config 1\nsubmit 1 a=1\nsubmit 1 a=2 !fail 4\nstart 1\nget 1 a\n",
+        "2: committed 1\n3: node 1 stopped: disk\n\
+         4: node 1 started epoch 0 count 1 committed 1\n5: value 1 at 1\n",
+    ),
+    (
+        "config 1\nsubmit 1 a=1\nsubmit 1 a=2 !fail 5\nstart 1\nget 1 a\n",
+        "2: committed 1\n3: committed 2\n4: dropped Running\n5: value 2 at 2\n",
+    ),
     // The example of docs/SCRIPT.md.
     (
         "config 1\n# One batch: the last edit of a key wins.\nsubmit 1 a=1 b=%20x%20 -b\nget 1 a\n\
