@@ -253,7 +253,7 @@ fn returns_after(alloc: Global) -> Result<(bool, bool, bool), DiskError> {
     let is_made = has_files(&mut disk, &[2, 5, 9])?;
     attempt(&mut disk, Try::Remove(5))?;
     let is_removed = has_files(&mut disk, &[2, 9])?;
-    disk.arm(Fault::None);
+    disk.arm(&Fault::None);
     crash(alloc, &mut disk, Loose::Old)?;
     Ok((is_made, is_removed, has_files(&mut disk, &[5])?))
 }
