@@ -5,16 +5,16 @@ use std::test::Fail;
 
 // A write, cut, sync or removal of a file.
 #[derive(Clone, Copy, Debug, Drop)]
-enum Act {
+pub enum Act {
     Write(u64, &'static [u8]),
     Cut(u64),
     Sync,
     Remove,
 }
 
-const FILE: u64 = 7;
+pub const FILE: u64 = 7;
 
-fn perform(disk: &mut MemDisk, act: Act) -> Result<(), DiskError> {
+pub fn perform(disk: &mut MemDisk, act: Act) -> Result<(), DiskError> {
     match act {
         Act::Write(at, bytes) => disk.write_at(FILE, at, bytes),
         Act::Cut(len) => disk.cut(FILE, len),
@@ -24,7 +24,7 @@ fn perform(disk: &mut MemDisk, act: Act) -> Result<(), DiskError> {
 }
 
 // A want of memory changes nothing, so the call can be repeated.
-fn run(disk: &mut MemDisk, acts: &[Act]) -> Result<(), DiskError> {
+pub fn run(disk: &mut MemDisk, acts: &[Act]) -> Result<(), DiskError> {
     for one in acts {
         if let Err(e) = perform(disk, *one) {
             if e != DiskError::Memory {
@@ -37,7 +37,7 @@ fn run(disk: &mut MemDisk, acts: &[Act]) -> Result<(), DiskError> {
 }
 
 // Whether this is the file's content, or there is no such file.
-fn is_content(
+pub fn is_content(
     alloc: Global,
     disk: &mut MemDisk,
     file: u64,
@@ -57,13 +57,13 @@ fn is_content(
 
 // The crash outcomes of the unsynced places.
 #[derive(Clone, Copy, Debug, Drop)]
-enum Loose {
+pub enum Loose {
     Old,
     New,
     Bytes(&'static [u8]),
 }
 
-fn crash(alloc: Global, disk: &mut MemDisk, loose: Loose) -> Result<(), AllocError> {
+pub fn crash(alloc: Global, disk: &mut MemDisk, loose: Loose) -> Result<(), AllocError> {
     disk.crash(match loose {
         Loose::Old => Junk::Old,
         Loose::New => Junk::New,
@@ -83,7 +83,7 @@ fn leaves(alloc: Global, acts: &[Act], loose: Loose, want: Option<&[u8]>) -> Res
     Ok(is_content(alloc, &mut disk, FILE, want)?)
 }
 
-const ABC: Act = Act::Write(0, b"abc");
+pub const ABC: Act = Act::Write(0, b"abc");
 
 const DE: Act = Act::Write(0, b"de");
 
