@@ -21,8 +21,8 @@ pub trait Disk {
     /// The number of failures of the device so far.
     ghost failures: { Self → ℕ };
 
-    /// A call with valid arguments fails only where an armed fault has struck: the count of failures
-    /// is below its last value. A disk of which nothing is known is never reliable.
+    /// A call with valid arguments fails only where an armed fault has struck: the count of
+    /// failures is below its last value. A disk of which nothing is known is never reliable.
     ghost is_reliable: { Self → Type 0 };
 
     /// The states that calls have left so far, the latest first. A moment is this list as it was

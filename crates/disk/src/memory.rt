@@ -4,8 +4,8 @@ ghost use Rattle.std.specs.Prelude.{◌↔◌, IfOk, OnOk, OnErr, Err, Some, Non
 ghost use Rattle.std.specs.BTreeMap.{insert_entry};
 ghost use Rattle.std.specs.Ordering.{nat_cmp};
 ghost use Rattle.disk.specs.States.{IsSame, Absent, seen};
-ghost use Rattle.disk.specs.Calls.{CutOutcome, EndsOutOfRange, LengthAnswer, ListsFiles, ReadAnswer};
-ghost use Rattle.disk.specs.Calls.{RemoveOutcome, SyncOutcome, WriteOutcome};
+ghost use Rattle.disk.specs.Calls.{CutOutcome, EndsOutOfRange, LengthAnswer, ListsFiles};
+ghost use Rattle.disk.specs.Calls.{ReadAnswer, RemoveOutcome, SyncOutcome, WriteOutcome};
 ghost use Rattle.disk.specs.Faults.{WasMade};
 ghost use Rattle.disk.specs.Crashes.{CrashOutcome};
 ghost use Rattle.disk.specs.Memory.{state_of, past_states, IsReliable};

@@ -12,7 +12,8 @@ use contract.Monad.{Fun}
 use contract.Running.{tables, tables_of}
 use sound.WpLaws.{WpFn-mono}
 use types.Logic.{Logic}
-use types.Kit.{‵, raw, ◌⊛◌, prop, ◌$◌, ◌∵◌, !, qed, move, keep, drop, split, fsplit, fjoin, feq_l, regoal, suffices, done}
+use types.Kit.{‵, raw, ◌⊛◌, prop, ◌$◌, ◌∵◌, !, qed, move, keep, drop, split, fsplit, fjoin}
+use types.Kit.{feq_l, regoal, suffices, done}
 use types.Part.{agg}
 use types.Run.{enter, returns, and_then, no_more}
 use types.ByLocal.{alloc_all, pass_all, free_all, look_at, get, sets}
@@ -48,7 +49,11 @@ module _ (A : RattleType) where
   ended = F.ended A
 
   abbrev stayed : Stays ended.signature.params ended.kept
-  stayed = (stay_dropped (RefOf (0 ∷ []) tt (plain (λ _. History.the_row (param 0 A))) (λ _. tt)) yes, tt)
+  stayed = (
+    stay_dropped (RefOf (0 ∷ []) tt (plain (λ _. History.the_row (param 0 A)))
+        (λ _. tt)) yes,
+    tt,
+  )
 
   module _ {M : Type 1} {𝓤 : Ura M} (𝓛 : Logic 𝓤) (at_mem : Memory → SProp 𝓤)
       (run : Routine → Fun 𝓤)
@@ -70,7 +75,8 @@ module _ (A : RattleType) where
         walks =
             let a = z.0.3 in
             let vss = z.0.4 in
-            let it : (History.the_row (param 0 A)).Denot = record { of = record {}; past = a.0.now.past } in
+            let it : (History.the_row (param 0 A)).Denot =
+            record { of = record {}; past = a.0.now.past } in
             qed 𝓛 ((raw toks ⊛ ‵ (owns (types_at ended.signature.params z.0.0) a vss))
             ∷ raw ((held z.0.0 a).requires z.1) ∷ []) ∵
             keep ! (0 ∷ []) $ split ! $ move ! (1 ∷ [])
@@ -89,7 +95,12 @@ module _ (A : RattleType) where
 
       meets : (𝓣 : Tables 𝓤 H) → Meets 𝓛 ended.signature (WpFn 𝓤 H 𝓣.C 𝓣.Λ function)
           (closing 𝓛 ended held)
-      meets 𝓣 = walk_Meets 𝓛 ended stayed (Goes-dropped 𝓛 2 (RefOf (0 ∷ []) tt (plain (λ _. History.the_row (param 0 A))) (λ _. tt)) yes (λ κs x f. refl), tt) held (WpFn 𝓤 H 𝓣.C 𝓣.Λ function)
+      meets 𝓣 = walk_Meets 𝓛 ended stayed (
+        Goes-dropped 𝓛 2 (RefOf (0 ∷ []) tt (plain (λ _. History.the_row (param 0 A)))
+            (λ _. tt)) yes (λ κs x f. refl),
+        tt,
+      )
+          held (WpFn 𝓤 H 𝓣.C 𝓣.Λ function)
           (WpFn-mono 𝓤 H 𝓛.laws 𝓣 function) (walks 𝓣.C 𝓣.Λ)
 
 pub copy_spec : {M : Type 1} → stated.statement M

@@ -12,7 +12,8 @@ use contract.Monad.{Fun}
 use contract.Running.{tables, tables_of}
 use sound.WpLaws.{WpFn-mono}
 use types.Logic.{Logic}
-use types.Kit.{‵, raw, ◌⊛◌, prop, ◌$◌, ◌∵◌, !, qed, move, keep, drop, split, fsplit, fjoin, feq_l, regoal, suffices, done}
+use types.Kit.{‵, raw, ◌⊛◌, prop, ◌$◌, ◌∵◌, !, qed, move, keep, drop, split, fsplit, fjoin}
+use types.Kit.{feq_l, regoal, suffices, done}
 use types.Part.{agg}
 use types.Run.{enter, returns, and_then, no_more}
 use types.ByLocal.{alloc_all, pass_all, free_all, look_at, get, sets}
@@ -48,7 +49,10 @@ module _ (A : RattleType) where
   ended = F.ended A
 
   abbrev stayed : Stays ended.signature.params ended.kept
-  stayed = (stay_dropped (RefOf (0 ∷ []) tt (plain (λ _. History.the_row (param 0 A))) (λ _. tt)) yes, (stay_dropped (RefOf (1 ∷ []) tt (plain (λ _. param 0 A)) (λ _. tt)) yes, tt))
+  stayed = (
+    stay_dropped (RefOf (0 ∷ []) tt (plain (λ _. History.the_row (param 0 A))) (λ _. tt)) yes,
+    (stay_dropped (RefOf (1 ∷ []) tt (plain (λ _. param 0 A)) (λ _. tt)) yes, tt),
+  )
 
   module _ {M : Type 1} {𝓤 : Ura M} (𝓛 : Logic 𝓤) (at_mem : Memory → SProp 𝓤)
       (run : Routine → Fun 𝓤)
@@ -70,30 +74,45 @@ module _ (A : RattleType) where
         walks =
             let a = z.0.3 in
             let vss = z.0.4 in
-            let it : (History.the_row (param 0 A)).Denot = record { of = record {}; past = a.1.0.now ∷ a.0.now.past } in
+            let it : (History.the_row (param 0 A)).Denot =
+            record { of = record {}; past = a.1.0.now ∷ a.0.now.past } in
             qed 𝓛 ((raw toks ⊛ ‵ (owns (types_at ended.signature.params z.0.0) a vss))
             ∷ raw ((held z.0.0 a).requires z.1) ∷ []) ∵
             keep ! (0 ∷ []) $ split ! $ move ! (1 ∷ [])
-            $ fsplit ! $ fsplit ! $ feq_l ! (λ is₀. drop ! $ fsplit ! $ fsplit ! $ feq_l ! (λ is₁. drop ! $ drop !
+            $ fsplit ! $ fsplit ! $ feq_l ! (λ is₀. drop !
+            $ fsplit ! $ fsplit ! $ feq_l ! (λ is₁. drop ! $ drop !
             $ let p = vptr a.0.ref_ptr.0 a.0.ref_ptr.1 in
             let q = vptr a.1.0.ref_ptr.0 a.1.0.ref_ptr.1 in
             regoal ! (λ (us : List Val). prop (WpFn 𝓤 H C Λ function (us ++ (vss.1.0 ++ [])) Post))
             is₀ refl
             $ regoal ! (λ (us : List Val). prop (WpFn 𝓤 H C Λ function ((p ∷ []) ++ (us ++ []))
             Post)) is₁ refl
-            $ enter ! C Λ function (p ∷ q ∷ []) Post $ alloc_all ! (λ l. pass_all ! refl ((tt, tt), ((tt, tt), tt))
+            $ enter ! C Λ function (p ∷ q ∷ []) Post
+            $ alloc_all ! (λ l. pass_all ! refl ((tt, tt), ((tt, tt), tt))
             $ sets ! (agg ! (no_more !)) refl (tt, tt)
             $ sets ! (agg ! (and_then ! (get ! refl) (no_more !))) refl (tt, (tt, tt))
             $ nothing ! $ owned ! (Mark.the_row (param 0 A)) (Is (Mark.the_row (param 0 A)))
             (makes (Mark.the_type (param 0 A)) tt 𝓛) (record {}) (no_field ∷ []) (tt, (refl, tt))
             $ made ! (Mark.the_row (param 0 A)) (record {}) no_field $ fjoin !
             $ returns ! (look_at ! 0 refl) $ free_all ! refl
-            $ suffices ! _ (ends_at 𝓛 ended stayed held z (one_field no_field) it (tt, (tt, tt)) (tt, (tt, tt)))
-            $ says ! refl $ nothing ! $ nothing ! $ fjoin ! $ nothing ! $ fjoin ! $ move ! (2 ∷ 0 ∷ 1 ∷ []) $ done !)))
+            $ suffices ! _
+            (ends_at 𝓛 ended stayed held z (one_field no_field) it (tt, (tt, tt)) (tt, (tt, tt)))
+            $ says ! refl $ nothing ! $ nothing ! $ fjoin ! $ nothing ! $ fjoin !
+            $ move ! (2 ∷ 0 ∷ 1 ∷ []) $ done !)))
 
       meets : (𝓣 : Tables 𝓤 H) → Meets 𝓛 ended.signature (WpFn 𝓤 H 𝓣.C 𝓣.Λ function)
           (closing 𝓛 ended held)
-      meets 𝓣 = walk_Meets 𝓛 ended stayed (Goes-dropped 𝓛 3 (RefOf (0 ∷ []) tt (plain (λ _. History.the_row (param 0 A))) (λ _. tt)) yes (λ κs x f. refl), (Goes-dropped 𝓛 3 (RefOf (1 ∷ []) tt (plain (λ _. param 0 A)) (λ _. tt)) yes (λ κs x f. refl), tt)) held (WpFn 𝓤 H 𝓣.C 𝓣.Λ function)
+      meets 𝓣 = walk_Meets 𝓛 ended stayed (
+        Goes-dropped 𝓛 3
+            (RefOf (0 ∷ []) tt (plain (λ _. History.the_row (param 0 A))) (λ _. tt)) yes
+            (λ κs x f. refl),
+        (
+          Goes-dropped 𝓛 3 (RefOf (1 ∷ []) tt (plain (λ _. param 0 A)) (λ _. tt)) yes
+              (λ κs x f. refl),
+          tt,
+        ),
+      )
+          held (WpFn 𝓤 H 𝓣.C 𝓣.Λ function)
           (WpFn-mono 𝓤 H 𝓛.laws 𝓣 function) (walks 𝓣.C 𝓣.Λ)
 
 pub with_spec : {M : Type 1} → stated.statement M
