@@ -1,5 +1,5 @@
 // A disk that is armed with a fault.
-use crate::crashes::{ABC, Act, FILE, Loose, crash, is_content, perform, run};
+use crate::crashes::{ABC, Act, Choice, FILE, crash, is_content, perform, run};
 use disk::{Crash, Disk, DiskError, Fault, Junk, MemDisk};
 use std::alloc::Global;
 use std::test::Fail;
@@ -63,7 +63,7 @@ fn all_fail(disk: &mut MemDisk, call: Call) -> bool {
 #[derive(Clone, Copy, Debug, Drop)]
 enum Again {
     Disarmed,
-    Crashed(Loose),
+    Crashed(Choice),
 }
 
 // Whether a struck call and all later ones fail, the fault has struck, and the disk works again and
@@ -82,7 +82,7 @@ fn is_struck(
     let has_struck = disk.has_struck();
     match again {
         Again::Disarmed => arm(&mut disk, &Fault::None),
-        Again::Crashed(loose) => crash(alloc, &mut disk, loose)?,
+        Again::Crashed(choice) => crash(alloc, &mut disk, choice)?,
     }
     let has_file = is_content(alloc, &mut disk, FILE, want)?;
     Ok((all, has_struck && !disk.has_struck(), has_file))
@@ -200,9 +200,9 @@ fn what_a_struck_call_leaves(rt: HostRuntime) -> Result<(), Fail> {
     for (before, call, old, new, torn) in &STRUCK {
         for (again, want) in [
             (Again::Disarmed, *new),
-            (Again::Crashed(Loose::Old), *old),
-            (Again::Crashed(Loose::New), *new),
-            (Again::Crashed(Loose::Bytes(&[1, 2, 3])), *torn),
+            (Again::Crashed(Choice::Old), *old),
+            (Again::Crashed(Choice::New), *new),
+            (Again::Crashed(Choice::Bytes(&[1, 2, 3])), *torn),
         ] {
             let found = is_struck(rt.alloc(), *before, *call, again, want)?;
             assert!(rt;
