@@ -16,33 +16,33 @@ use Rattle.disk.specs.Memory.{KeptAgrees, AllKeptAgree}
 use Rattle.disk.proofs.Places.{get-take, overwritten_before, overwritten_after}
 
 -- an unsynced place stays unsynced under one more pending write
-pub loose_still : (end : ℕ) (touches : List PendingWrite) (one : PendingWrite) (place : ℕ)
+pub unsynced_still : (end : ℕ) (touches : List PendingWrite) (one : PendingWrite) (place : ℕ)
     → IsUnsynced end touches place → IsUnsynced end (touches ++ one ∷ []) place
-loose_still end [] one place loose = absurd loose
-loose_still end (first ∷ touches) one place (inl here) = inl here
-loose_still end (first ∷ touches) one place (inr later) =
-    inr (loose_still end touches one place later)
+unsynced_still end [] one place unsynced = absurd unsynced
+unsynced_still end (first ∷ touches) one place (inl here) = inl here
+unsynced_still end (first ∷ touches) one place (inr later) =
+    inr (unsynced_still end touches one place later)
 
 -- a pending write makes its own places unsynced
-pub loose_now : (end : ℕ) (touches : List PendingWrite) (one : PendingWrite) (place : ℕ)
+pub unsynced_now : (end : ℕ) (touches : List PendingWrite) (one : PendingWrite) (place : ℕ)
     → MakesUnsynced one end place → IsUnsynced end (touches ++ one ∷ []) place
-loose_now end [] one place here = inl here
-loose_now end (first ∷ touches) one place here = inr (loose_now end touches one place here)
+unsynced_now end [] one place here = inl here
+unsynced_now end (first ∷ touches) one place here = inr (unsynced_now end touches one place here)
 
 -- it agrees after a write
 agrees_written : (at : ℕ) (bytes : List ℕ) (slot : Slot) → CanBegin (seen slot) at → KeptAgrees slot
     → KeptAgrees (written at bytes slot)
 agrees_written at bytes (Absent back) begins agrees = tt
 agrees_written at bytes (Fresh old back) begins agrees = tt
-agrees_written at bytes (Kept old kept touches) begins agrees = λ place tight.
+agrees_written at bytes (Kept old kept touches) begins agrees = λ place stays.
     let one = Wrote at (length bytes) in
     let end = length kept in
     let before : slice_get kept place ≡ slice_get old place =
-    agrees place (λ loose. tight (loose_still end touches one place loose)) in
+    agrees place (λ unsynced. stays (unsynced_still end touches one place unsynced)) in
     elim (cases_lt place at) [
       | inl lt ↦ before ∙ sym (overwritten_before old at bytes place begins lt)
       | inr ge ↦ elim (cases_lt place (at + length bytes)) [
-        | inl inside ↦ absurd (tight (loose_now end touches one place (inl (ge, inside))))
+        | inl inside ↦ absurd (stays (unsynced_now end touches one place (inl (ge, inside))))
         | inr past ↦ before ∙ sym (overwritten_after old at bytes place begins past)
       ]
     ]
@@ -51,12 +51,13 @@ agrees_written at bytes (Kept old kept touches) begins agrees = λ place tight.
 agrees_cut : (len : ℕ) (slot : Slot) → KeptAgrees slot → KeptAgrees (cut_to len slot)
 agrees_cut len (Absent back) agrees = tt
 agrees_cut len (Fresh old back) agrees = tt
-agrees_cut len (Kept old kept touches) agrees = λ place tight.
+agrees_cut len (Kept old kept touches) agrees = λ place stays.
     let before : slice_get kept place ≡ slice_get old place =
-    agrees place (λ loose. tight (loose_still (length kept) touches (Cut len) place loose)) in
+    agrees place
+    (λ unsynced. stays (unsynced_still (length kept) touches (Cut len) place unsynced)) in
     elim (cases_lt place len) [
       | inl lt ↦ before ∙ sym (get-take len old place lt)
-      | inr past ↦ absurd (tight (loose_now (length kept) touches (Cut len) place past))
+      | inr past ↦ absurd (stays (unsynced_now (length kept) touches (Cut len) place past))
     ]
 
 -- an unchanged slot agrees

@@ -37,13 +37,13 @@ module _ (Names : Contents → ℕ → Type 0) (P : Contents → Type 0) (looks 
   spared old new file spares unnamed only left now =
       let was = exchanged left file (seen (old file)) in
       let may : IsCrashOutcome old was = λ other. elim (cases_eq other file) [
-        | inl here ↦ subst (IsFileOutcome (old other)) (sym (exchanged_here left file (seen (old
-        file))
-            other here ∙ ap (λ (f : ℕ). seen (old f)) (sym here))) (read_is_outcome (old other))
+        | inl here ↦ subst (IsFileOutcome (old other))
+            (sym (exchanged_here left file (seen (old file)) other here
+            ∙ ap (λ (f : ℕ). seen (old f)) (sym here))) (read_is_outcome (old other))
         | inr apart ↦ subst (IsFileOutcome (old other))
             (sym (exchanged_there left file (seen (old file)) other apart))
-            (subst (λ (slot : Slot). IsFileOutcome slot (left other)) (spares other apart) (now
-            other))
+            (subst (λ (slot : Slot). IsFileOutcome slot (left other)) (spares other apart)
+            (now other))
       ] in
       looks was left (λ other named. elim (cases_eq other file) [
         | inl here ↦ absurd (unnamed was may (subst (Names was) here named))
@@ -61,9 +61,8 @@ module _ (Names : Contents → ℕ → Type 0) (P : Contents → Type 0) (looks 
 -- ---- one file
 
 -- two calls that keep all files but one keep them
-pub same_but_join : (file : ℕ) (old mid new : State) → IsSameBut file old mid → IsSameBut file mid
-    new
-    → IsSameBut file old new
+pub same_but_join : (file : ℕ) (old mid new : State) → IsSameBut file old mid
+    → IsSameBut file mid new → IsSameBut file old new
 same_but_join file old mid new first next other apart = next other apart ∙ first other apart
 
 -- the outcomes of one file have Q, and the other files are as they were

@@ -12,14 +12,14 @@ use Rattle.std.proofs.lemmas.Bool.{cases_eq}
 -- a state that leaves nothing new, file by file
 abbrev pub Narrows : State → State → Type 0
 Narrows old new =
-    (file : ℕ) (left : Option (List ℕ)) → IsFileOutcome (new file) left → IsFileOutcome (old file)
-    left
+    (file : ℕ) (left : Option (List ℕ)) → IsFileOutcome (new file) left
+    → IsFileOutcome (old file) left
 
 -- where nothing new is left, P stays
 pub narrowed : (P : Contents → Type 0) (old new : State) → Narrows old new → OnlyLeaves P old
     → OnlyLeaves P new
-narrowed P old new narrows only = λ left now. only left (λ file. narrows file (left file) (now
-    file))
+narrowed P old new narrows only = λ left now.
+    only left (λ file. narrows file (left file) (now file))
 
 -- the same state leaves the same
 pub same_narrows : (old new : State) → IsSame old new → Narrows old new
@@ -33,13 +33,12 @@ sync_narrows result old new file w other left now = elim (cases_eq other file) [
   | inl here ↦ subst (λ (f : ℕ). IsFileOutcome (old f) left) (sym here)
       (syncs_only (λ l. IsFileOutcome (old file) l) result old new file w (λ l at. at) left
       (subst (λ (f : ℕ). IsFileOutcome (new f) left) here now))
-  | inr apart ↦ subst (λ (slot : Slot). IsFileOutcome slot left) (syncs_others result w other
-  apart) now
+  | inr apart ↦ subst (λ (slot : Slot). IsFileOutcome slot left)
+      (syncs_others result w other apart) now
 ]
   where
-    fails_others : (e : DiskError) → FailureLeaves e old file (old file) new → (other : ℕ) → other
-        ≢ file
-        → new other ≡ old other
+    fails_others : (e : DiskError) → FailureLeaves e old file (old file) new → (other : ℕ)
+        → other ≢ file → new other ≡ old other
     fails_others Failed f other apart = f.others other apart
     fails_others NoFile f other apart = f other
     fails_others Short f other apart = f other

@@ -38,25 +38,25 @@ both_are true y is = (refl, is)
 both_are false y is = absurd cc
 
 -- a write or cut that passes the test makes the place unsynced
-loosens_is : (touch : PendingWrite) (end place : ℕ) → makes_unsynced touch end place ≡ true
+makes_unsynced_is : (touch : PendingWrite) (end place : ℕ) → makes_unsynced touch end place ≡ true
     → MakesUnsynced touch end place
-loosens_is (Wrote at len) end place is =
+makes_unsynced_is (Wrote at len) end place is =
     elim (or_cases (nat_le at place && nat_lt place (at + len)) (nat_le end place) is) [
       | inl both ↦ let parts = both_are (nat_le at place) (nat_lt place (at + len)) both in
           inl (le_is at place parts.0, lt_is place (at + len) parts.1)
       | inr past ↦ inr (le_is end place past)
     ]
-loosens_is (Cut len) end place is = le_is len place is
+makes_unsynced_is (Cut len) end place is = le_is len place is
 
 -- a place that passes the test is unsynced
-pub is_loose_is : (end : ℕ) (touches : List PendingWrite) (place : ℕ) → is_unsynced end touches
+pub is_unsynced_is : (end : ℕ) (touches : List PendingWrite) (place : ℕ) → is_unsynced end touches
     place ≡ true
     → IsUnsynced end touches place
-is_loose_is end [] place is = absurd cc
-is_loose_is end (touch ∷ touches) place is =
+is_unsynced_is end [] place is = absurd cc
+is_unsynced_is end (touch ∷ touches) place is =
     elim (or_cases (makes_unsynced touch end place) (is_unsynced end touches place) is) [
-      | inl here ↦ inl (loosens_is touch end place here)
-      | inr later ↦ inr (is_loose_is end touches place later)
+      | inl here ↦ inl (makes_unsynced_is touch end place here)
+      | inr later ↦ inr (is_unsynced_is end touches place later)
     ]
 
 -- two numbers that pass a test
@@ -68,38 +68,39 @@ is_lt : (a b : ℕ) → a < b → nat_lt a b ≡ true
 is_lt a b lt = grind (arith, nat_tests)
 
 -- a write or cut that makes the place unsynced passes the test
-is_loosens : (touch : PendingWrite) (end place : ℕ) → MakesUnsynced touch end place
+is_makes_unsynced : (touch : PendingWrite) (end place : ℕ) → MakesUnsynced touch end place
     → makes_unsynced touch end place ≡ true
-is_loosens (Wrote at len) end place (inl inside) =
+is_makes_unsynced (Wrote at len) end place (inl inside) =
     rw (is_le at place inside.0, is_lt place (at + len) inside.1) refl
-is_loosens (Wrote at len) end place (inr past) =
+is_makes_unsynced (Wrote at len) end place (inr past) =
     rw (is_le end place past) (or-true (nat_le at place && nat_lt place (at + len)))
-is_loosens (Cut len) end place past = is_le len place past
+is_makes_unsynced (Cut len) end place past = is_le len place past
 
 -- an unsynced place passes the test
-pub is_is_loose : (end : ℕ) (touches : List PendingWrite) (place : ℕ) → IsUnsynced end touches place
-    → is_unsynced end touches place ≡ true
-is_is_loose end [] place loose = absurd loose
-is_is_loose end (touch ∷ touches) place (inl here) = rw (is_loosens touch end place here) refl
-is_is_loose end (touch ∷ touches) place (inr later) =
-    rw (is_is_loose end touches place later) (or-true (makes_unsynced touch end place))
+pub is_is_unsynced : (end : ℕ) (touches : List PendingWrite) (place : ℕ)
+    → IsUnsynced end touches place → is_unsynced end touches place ≡ true
+is_is_unsynced end [] place unsynced = absurd unsynced
+is_is_unsynced end (touch ∷ touches) place (inl here) =
+    rw (is_makes_unsynced touch end place here) refl
+is_is_unsynced end (touch ∷ touches) place (inr later) =
+    rw (is_is_unsynced end touches place later) (or-true (makes_unsynced touch end place))
 
 -- a synced place does not pass the test
-tight_is : (b : Bool) (end : ℕ) (touches : List PendingWrite) (place : ℕ) → is_unsynced end touches
+synced_is : (b : Bool) (end : ℕ) (touches : List PendingWrite) (place : ℕ) → is_unsynced end touches
     place ≡ b
     → (IsUnsynced end touches place → ⊥) → b ≡ false
-tight_is true end touches place is tight = absurd (tight (is_loose_is end touches place is))
-tight_is false end touches place is tight = refl
+synced_is true end touches place is stays = absurd (stays (is_unsynced_is end touches place is))
+synced_is false end touches place is stays = refl
 
 -- ---- a torn file keeps its synced places
 
 -- junk changes no synced place
 torn_agrees : (end : ℕ) (touches : List PendingWrite) (junk bytes : List ℕ)
     → AgreesOutside end touches (torn end touches junk bytes) bytes
-torn_agrees end touches [] bytes = λ place tight. refl
-torn_agrees end touches (first ∷ junk) bytes = λ place tight.
+torn_agrees end touches [] bytes = λ place stays. refl
+torn_agrees end touches (first ∷ junk) bytes = λ place stays.
     let is : is_unsynced end touches place ≡ false =
-    tight_is (is_unsynced end touches place) end touches place refl tight in
+    synced_is (is_unsynced end touches place) end touches place refl stays in
     get-torn end touches (first ∷ junk) bytes place (omega arith)
     ∙ kept_byte end touches (first ∷ junk) place (slice_get bytes place) is
   where
@@ -120,7 +121,7 @@ left_allowed Old (Fresh bytes back) agrees = tt
 left_allowed Old (Kept bytes kept touches) agrees = agrees
 left_allowed New (Absent back) agrees = inl refl
 left_allowed New (Fresh bytes back) agrees = tt
-left_allowed New (Kept bytes kept touches) agrees = λ place tight. refl
+left_allowed New (Kept bytes kept touches) agrees = λ place stays. refl
 left_allowed (Bytes junk) (Absent back) agrees = inl refl
 left_allowed (Bytes junk) (Fresh bytes back) agrees = tt
 left_allowed (Bytes junk) (Kept bytes kept touches) agrees =

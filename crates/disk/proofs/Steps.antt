@@ -41,7 +41,7 @@ synced_only : (P : Option (List ℕ) → Type 0) (slot : Slot) → Only P slot �
 synced_only P (Absent back) before left now = before left now
 synced_only P (Fresh bytes back) before left now = before left tt
 synced_only P (Kept bytes kept touches) before (Some c) now =
-    before (Some c) (λ place tight. now place (λ no_touch. no_touch))
+    before (Some c) (λ place stays. now place (λ no_touch. no_touch))
 synced_only P (Kept bytes kept touches) before None now = absurd now
 
 -- the outcomes after a sync, whatever it answers
@@ -70,8 +70,8 @@ sure_left (Absent back) left sure (inr is) = is ∙ sure
 sure_left (Fresh bytes back) left sure now = absurd sure
 sure_left (Kept bytes kept touches) None sure now = absurd now
 sure_left (Kept bytes kept touches) (Some c) sure now =
-    ap Some (same_bytes c bytes (λ place. now place (λ loose.
-    subst (λ (t : List PendingWrite). IsUnsynced (length kept) t place) sure.1 loose)))
+    ap Some (same_bytes c bytes (λ place. now place (λ unsynced.
+    subst (λ (t : List PendingWrite). IsUnsynced (length kept) t place) sure.1 unsynced)))
 
 -- the content that a read returns is an outcome
 pub read_is_outcome : (slot : Slot) → IsFileOutcome slot (seen slot)

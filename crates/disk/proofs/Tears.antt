@@ -55,20 +55,20 @@ mod_more n m =
     ∙ add-mul-mod_self_left (n % m + 1) m (n / m))
 
 -- the next place has one more unsynced place before it, or as many
-loose_before_loose : (end : ℕ) (touches : List PendingWrite) (place : ℕ)
+unsynced_before_unsynced : (end : ℕ) (touches : List PendingWrite) (place : ℕ)
     → is_unsynced end touches place ≡ true
     → unsynced_before end touches (place + 1) ≡ unsynced_before end touches place + 1
-loose_before_loose end touches place loose =
+unsynced_before_unsynced end touches place unsynced =
     ap (unsynced_before end touches) (add-one place)
-    ∙ ap (λ (b : Bool). unsynced_before end touches place + (if b then 1 else 0)) loose
+    ∙ ap (λ (b : Bool). unsynced_before end touches place + (if b then 1 else 0)) unsynced
 
 -- a synced place adds none
-loose_before_tight : (end : ℕ) (touches : List PendingWrite) (place : ℕ)
+unsynced_before_synced : (end : ℕ) (touches : List PendingWrite) (place : ℕ)
     → is_unsynced end touches place ≡ false
     → unsynced_before end touches (place + 1) ≡ unsynced_before end touches place
-loose_before_tight end touches place tight =
+unsynced_before_synced end touches place stays =
     ap (unsynced_before end touches) (add-one place)
-    ∙ ap (λ (b : Bool). unsynced_before end touches place + (if b then 1 else 0)) tight
+    ∙ ap (λ (b : Bool). unsynced_before end touches place + (if b then 1 else 0)) stays
     ∙ omega arith
 
 -- the file is torn up to this place, and is as it was behind it
@@ -115,14 +115,15 @@ module _ (end : ℕ) (touches : List PendingWrite) (junk old : List ℕ) (some :
     old_part = λ k le. refl;
   }
 
-  pub torn_loose : (bytes : List ℕ) (place next : ℕ) → place < length old
+  pub torn_unsynced : (bytes : List ℕ) (place next : ℕ) → place < length old
       → is_unsynced end touches place ≡ true → IsTornTo end touches junk old bytes place next
       → IsTornTo end touches junk old (slice_set bytes place (slice_index junk next)) (place + 1)
       ((next + 1) % length junk)
-  torn_loose bytes place next within loose so_far = record {
+  torn_unsynced bytes place next within unsynced so_far = record {
     junk_part = ap (λ (n : ℕ). (n + 1) % length junk) so_far.junk_part
         ∙ mod_more (unsynced_before end touches place) (length junk)
-        ∙ ap (λ (n : ℕ). n % length junk) (sym (loose_before_loose end touches place loose));
+        ∙ ap (λ (n : ℕ). n % length junk)
+        (sym (unsynced_before_unsynced end touches place unsynced));
     size = length-set bytes place (slice_index junk next) ∙ so_far.size;
     torn_part = λ k lt. elim (cases_lt k place) [
       | inl below ↦ get-set_other bytes place (slice_index junk next) k
@@ -134,26 +135,26 @@ module _ (end : ℕ) (touches : List PendingWrite) (junk old : List ℕ) (some :
           (omega (arith, lt, above))
           (get-set_here bytes place (slice_index junk next) (omega (arith, within, so_far.size))
           ∙ ap (λ (n : ℕ). Some (slice_index junk n)) so_far.junk_part
-          ∙ sym (torn_at true end touches junk old place some within loose))
+          ∙ sym (torn_at true end touches junk old place some within unsynced))
     ];
     old_part = λ k le. get-set_other bytes place (slice_index junk next) k
         (λ e. omega (arith, e, le))
         ∙ so_far.old_part k (omega (arith, le));
   }
 
-  pub torn_tight : (bytes : List ℕ) (place next : ℕ) → place < length old
+  pub torn_synced : (bytes : List ℕ) (place next : ℕ) → place < length old
       → is_unsynced end touches place ≡ false → IsTornTo end touches junk old bytes place next
       → IsTornTo end touches junk old bytes (place + 1) next
-  torn_tight bytes place next within tight so_far = record {
+  torn_synced bytes place next within stays so_far = record {
     junk_part = so_far.junk_part
-        ∙ ap (λ (n : ℕ). n % length junk) (sym (loose_before_tight end touches place tight));
+        ∙ ap (λ (n : ℕ). n % length junk) (sym (unsynced_before_synced end touches place stays));
     size = so_far.size;
     torn_part = λ k lt. elim (cases_lt k place) [
       | inl below ↦ so_far.torn_part k below
       | inr above ↦ subst (λ (n : ℕ). slice_get bytes n ≡ slice_get (torn end touches junk old) n)
           (omega (arith, lt, above)) (so_far.old_part place (omega arith)
           ∙ slice_get-get_or old place 0 within
-          ∙ sym (torn_at false end touches junk old place some within tight))
+          ∙ sym (torn_at false end touches junk old place some within stays))
     ];
     old_part = λ k le. so_far.old_part k (omega (arith, le));
   }

@@ -9,13 +9,13 @@ use Rattle.disk.specs.declared.junk.Junk.{Junk}
 use Rattle.disk.specs.declared.junk.Junk.TheVariants.{Old, New, Bytes}
 use Rattle.disk.specs.States.{Slot, Absent, Fresh, Kept, State, IsDurable, seen}
 
--- the decision procedure of `Loosens`
+-- the decision procedure of `MakesUnsynced`
 abbrev pub makes_unsynced : PendingWrite → ℕ → ℕ → Bool
 makes_unsynced (Wrote at len) end place =
     (nat_le at place && nat_lt place (at + len)) || nat_le end place
 makes_unsynced (Cut len) end place = nat_le len place
 
--- the decision procedure of `IsLoose`
+-- the decision procedure of `IsUnsynced`
 abbrev pub is_unsynced : ℕ → List PendingWrite → ℕ → Bool
 is_unsynced end touches place = list_any (λ touch. makes_unsynced touch end place) touches
 

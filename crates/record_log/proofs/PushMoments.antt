@@ -22,8 +22,8 @@ module _ {D : Type 0} (state : D → State) (past : D → List State) (bytes : L
       (passes1 : Passes (past d0) (state d0) (past d1) (state d1)) where
     pub after_write : Leaves d1
     after_write =
-        at_more (OnTheWay bytes gate behind) file (state d0) (state d0) (state d1) (past d0) (past
-        d0) (past d1)
+        at_more (OnTheWay bytes gate behind) file
+        (state d0) (state d0) (state d1) (past d0) (past d0) (past d1)
         (at_start (OnTheWay bytes gate behind) file (state d0) (past d0)
         (durable_start bytes gate behind within (state d0) file sure)) passes1 others1
         (first_write bytes gate behind within file wrote (state d0) (state d1) sure w1)
@@ -33,8 +33,8 @@ module _ {D : Type 0} (state : D → State) (past : D → List State) (bytes : L
         (passes2 : Passes (past d1) (state d1) (past d2) (state d2)) where
       pub after_sync : Leaves d2
       after_sync =
-          at_sync (OnTheWay bytes gate behind) file synced1 (state d0) (state d1) (state d2) (past
-          d0) (past d1) (past d2)
+          at_sync (OnTheWay bytes gate behind) file synced1
+          (state d0) (state d1) (state d2) (past d0) (past d1) (past d2)
           after_write passes2 w2
 
       module _ (some : 0 < length behind)
@@ -47,8 +47,8 @@ module _ {D : Type 0} (state : D → State) (past : D → List State) (bytes : L
           (passes3 : Passes (past d2) (state d2) (past d3) (state d3)) where
         pub after_gate : Leaves d3
         after_gate =
-            at_more (OnTheWay bytes gate behind) file (state d0) (state d2) (state d3) (past d0)
-            (past d2) (past d3)
+            at_more (OnTheWay bytes gate behind) file
+            (state d0) (state d2) (state d3) (past d0) (past d2) (past d3)
             after_sync passes3
             (same_but_join file (state d0) (state d2) (state d3)
             (same_but_join file (state d0) (state d1) (state d2) others1 others2) others3)
@@ -59,6 +59,6 @@ module _ {D : Type 0} (state : D → State) (past : D → List State) (bytes : L
             SyncOutcome (state d3) file synced2 (state d4) →
             Passes (past d3) (state d3) (past d4) (state d4) → Leaves d4
         after_last d4 synced2 w4 passes4 =
-            at_sync (OnTheWay bytes gate behind) file synced2 (state d0) (state d3) (state d4)
-            (past d0) (past d3) (past d4)
+            at_sync (OnTheWay bytes gate behind) file synced2
+            (state d0) (state d3) (state d4) (past d0) (past d3) (past d4)
             after_gate passes4 w4

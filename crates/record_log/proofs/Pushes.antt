@@ -17,9 +17,9 @@ abbrev pub OnTheWay : List ℕ → ℕ → List ℕ → Option (List ℕ) → Ty
 OnTheWay bytes gate behind left = IsSomeAnd left (IsPartlyPushed bytes gate behind)
 
 -- one write makes its places unsynced, and those past the synced end
-tight : (end at len place : ℕ) → place < end → (at ≤ place → place < at + len → ⊥)
+stays_synced : (end at len place : ℕ) → place < end → (at ≤ place → place < at + len → ⊥)
     → IsUnsynced end (Wrote at len ∷ []) place → ⊥
-tight end at len place inside apart loose = elim loose [
+stays_synced end at len place inside apart unsynced = elim unsynced [
   | inl wrote ↦ elim wrote [
     | inl range ↦ apart range.0 range.1
     | inr past ↦ omega (arith, past, inside)
@@ -88,8 +88,8 @@ module _ (bytes : List ℕ) (gate : ℕ) (behind : List ℕ) (within : gate < le
   behind_only (Some c) now =
       let same : take (gate + 1) c ≡ take (gate + 1) first =
       take_same (gate + 1) c first
-      (λ place lt. now place (tight (length bytes) (gate + 1) (length behind) place (omega arith)
-      (λ from to. omega (arith, from, lt)))) in
+      (λ place lt. now place (stays_synced (length bytes) (gate + 1) (length behind) place
+      (omega arith) (λ from to. omega (arith, from, lt)))) in
       inl (same ∙ up_to_gate)
 
   -- after the first sync it leaves what was written
@@ -112,7 +112,7 @@ module _ (bytes : List ℕ) (gate : ℕ) (behind : List ℕ) (within : gate < le
       ) in
       let apart : (place : ℕ) → place < gate + 1 + n → (place ≡ gate → ⊥)
       → IsUnsynced (length first) (Wrote gate 1 ∷ []) place → ⊥ =
-      λ place lt other. tight (length first) gate 1 place (omega (arith, lt, size))
+      λ place lt other. stays_synced (length first) gate 1 place (omega (arith, lt, size))
       (λ from to. other (omega (arith, from, to))) in
       let before : take gate c ≡ take gate bytes =
       take_same gate c second

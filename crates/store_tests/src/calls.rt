@@ -1,6 +1,6 @@
 // The device calls of a log, in their order.
 ghost use Rattle.std.specs.Prelude.{None};
-ghost use Rattle.disk.specs.{Absent, IsReliable};
+ghost use Rattle.disk.specs.{Absent, IsReliable, past_states};
 
 use disk::{Disk, DiskError, MemDisk};
 use record_log::{Log, LogError};
@@ -55,6 +55,10 @@ impl Disk for NotingDisk {
     ghost failures = { λ disk. disk.disk.failures };
 
     ghost is_reliable = { λ disk. IsReliable disk.disk };
+
+    ghost past = { λ disk. past_states disk.disk };
+
+    ghost fault_at = { λ disk. disk.disk.fault_at };
 
     ghost allocates = { ⊥ };
 

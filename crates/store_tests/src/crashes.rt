@@ -5,16 +5,16 @@ use std::test::Fail;
 
 // A write, cut, sync or removal of a file.
 #[derive(Clone, Copy, Debug, Drop)]
-enum Act {
+pub enum Act {
     Write(u64, &'static [u8]),
     Cut(u64),
     Sync,
     Remove,
 }
 
-const FILE: u64 = 7;
+pub const FILE: u64 = 7;
 
-fn perform(disk: &mut MemDisk, act: Act) -> Result<(), DiskError> {
+pub fn perform(disk: &mut MemDisk, act: Act) -> Result<(), DiskError> {
     match act {
         Act::Write(at, bytes) => disk.write_at(FILE, at, bytes),
         Act::Cut(len) => disk.cut(FILE, len),
@@ -24,7 +24,7 @@ fn perform(disk: &mut MemDisk, act: Act) -> Result<(), DiskError> {
 }
 
 // A want of memory changes nothing, so the call can be repeated.
-fn run(disk: &mut MemDisk, acts: &[Act]) -> Result<(), DiskError> {
+pub fn run(disk: &mut MemDisk, acts: &[Act]) -> Result<(), DiskError> {
     for one in acts {
         if let Err(e) = perform(disk, *one) {
             if e != DiskError::Memory {
@@ -37,7 +37,7 @@ fn run(disk: &mut MemDisk, acts: &[Act]) -> Result<(), DiskError> {
 }
 
 // Whether this is the file's content, or there is no such file.
-fn is_content(
+pub fn is_content(
     alloc: Global,
     disk: &mut MemDisk,
     file: u64,
@@ -55,35 +55,35 @@ fn is_content(
     })
 }
 
-// The crash outcomes of the unsynced places.
+// The choice among the outcomes of a crash.
 #[derive(Clone, Copy, Debug, Drop)]
-enum Loose {
+pub enum Choice {
     Old,
     New,
     Bytes(&'static [u8]),
 }
 
-fn crash(alloc: Global, disk: &mut MemDisk, loose: Loose) -> Result<(), AllocError> {
-    disk.crash(match loose {
-        Loose::Old => Junk::Old,
-        Loose::New => Junk::New,
-        Loose::Bytes(bytes) => Junk::Bytes(JunkBytes::new(bytes.to_vec(alloc)?)),
+pub fn crash(alloc: Global, disk: &mut MemDisk, choice: Choice) -> Result<(), AllocError> {
+    disk.crash(match choice {
+        Choice::Old => Junk::Old,
+        Choice::New => Junk::New,
+        Choice::Bytes(bytes) => Junk::Bytes(JunkBytes::new(bytes.to_vec(alloc)?)),
     });
     Ok(())
 }
 
 // Whether this is the content after these acts, a crash, and more crashes, which find every place
 // synced.
-fn leaves(alloc: Global, acts: &[Act], loose: Loose, want: Option<&[u8]>) -> Result<bool, Fail> {
+fn leaves(alloc: Global, acts: &[Act], choice: Choice, want: Option<&[u8]>) -> Result<bool, Fail> {
     let mut disk = MemDisk::new(alloc);
     run(&mut disk, acts)?;
-    for junk in [loose, Loose::Bytes(&[0x55]), Loose::Old] {
+    for junk in [choice, Choice::Bytes(&[0x55]), Choice::Old] {
         crash(alloc, &mut disk, junk)?;
     }
     Ok(is_content(alloc, &mut disk, FILE, want)?)
 }
 
-const ABC: Act = Act::Write(0, b"abc");
+pub const ABC: Act = Act::Write(0, b"abc");
 
 const DE: Act = Act::Write(0, b"de");
 
@@ -176,14 +176,14 @@ static ROWS: [Row; 14] = [
 #[test]
 fn outcomes_of_a_crash(rt: HostRuntime) -> Result<(), Fail> {
     for (acts, old, new, torn) in &ROWS {
-        for (loose, want) in [
-            (Loose::Old, *old),
-            (Loose::New, *new),
-            (Loose::Bytes(&[]), *new),
-            (Loose::Bytes(&[1, 2, 3]), *torn),
+        for (choice, want) in [
+            (Choice::Old, *old),
+            (Choice::New, *new),
+            (Choice::Bytes(&[]), *new),
+            (Choice::Bytes(&[1, 2, 3]), *torn),
         ] {
-            let is_left = leaves(rt.alloc(), *acts, loose, want)?;
-            assert!(rt; is_left, "{loose:?} after {acts:?}");
+            let is_left = leaves(rt.alloc(), *acts, choice, want)?;
+            assert!(rt; is_left, "{choice:?} after {acts:?}");
         }
     }
     Ok(())
@@ -208,7 +208,7 @@ const STOPPED: &[u8] = &[
 #[test]
 fn a_log_that_stops_in_an_append(rt: HostRuntime) -> Result<(), Fail> {
     let acts = [Act::Write(0, LOG), Act::Sync, Act::Write(23, NEXT)];
-    let is_left = leaves(rt.alloc(), &acts, Loose::Bytes(&[1]), Some(STOPPED))?;
+    let is_left = leaves(rt.alloc(), &acts, Choice::Bytes(&[1]), Some(STOPPED))?;
     assert!(rt; is_left);
     Ok(())
 }
@@ -234,7 +234,7 @@ static BEGUN: [(u64, &[u8]); 3] = [(2, &[6, 7, 6]), (5, b"five"), (9, &[6, 7, 6,
 // Whether the file has this content after the crash.
 fn begins(alloc: Global, file: u64, want: &[u8]) -> Result<bool, DiskError> {
     let mut disk = three_files(alloc)?;
-    crash(alloc, &mut disk, Loose::Bytes(&[6, 7]))?;
+    crash(alloc, &mut disk, Choice::Bytes(&[6, 7]))?;
     is_content(alloc, &mut disk, file, Some(want))
 }
 
@@ -253,8 +253,8 @@ fn returns_after(alloc: Global) -> Result<(bool, bool, bool), DiskError> {
     let is_made = has_files(&mut disk, &[2, 5, 9])?;
     attempt(&mut disk, Try::Remove(5))?;
     let is_removed = has_files(&mut disk, &[2, 9])?;
-    disk.arm(Fault::None);
-    crash(alloc, &mut disk, Loose::Old)?;
+    disk.arm(&Fault::None);
+    crash(alloc, &mut disk, Choice::Old)?;
     Ok((is_made, is_removed, has_files(&mut disk, &[5])?))
 }
 
@@ -271,8 +271,8 @@ fn left_of_both(alloc: Global) -> Result<(bool, bool), DiskError> {
     let mut disk = three_files(alloc)?;
     disk.write_at(5, 1, b"XYZW")?;
     let mut copy = disk.clone()?;
-    crash(alloc, &mut disk, Loose::New)?;
-    crash(alloc, &mut copy, Loose::Old)?;
+    crash(alloc, &mut disk, Choice::New)?;
+    crash(alloc, &mut copy, Choice::Old)?;
     let is_written = is_content(alloc, &mut disk, 5, Some(b"fXYZW"))?;
     Ok((is_written, is_content(alloc, &mut copy, 5, Some(b"five"))?))
 }

@@ -1,5 +1,5 @@
 use Rattle.std.proofs.Common.{◌≡◌, ◌<◌, ℕ, length, sym, subst, ◌∙◌, arith, rules}
-use Rattle.disk.proofs.Tears.{IsTornTo, torn_loose, torn_tight, torn_all}
+use Rattle.disk.proofs.Tears.{IsTornTo, torn_unsynced, torn_synced, torn_all}
 use Rattle.disk.proofs.tear.tear.Goals.{then-is_unsynced, else-is_unsynced}
 use Rattle.disk.proofs.tear.tear.Goals as goal
 
@@ -15,10 +15,10 @@ loop-place-preserved c =
     let test = sym c.is_unsynced.ensures in
     elim c.if-is_unsynced.branch [
       | then-is_unsynced w ↦ rw (w.bytes-is, w.next-is)
-          (torn_loose c.args.end touches junk old some at.bytes at.place at.next within
+          (torn_unsynced c.args.end touches junk old some at.bytes at.place at.next within
           (test ∙ w.if-is_unsynced.true) at.invariant)
       | else-is_unsynced w ↦ rw (w.bytes-is, w.next-is)
-          (torn_tight c.args.end touches junk old some at.bytes at.place at.next within
+          (torn_synced c.args.end touches junk old some at.bytes at.place at.next within
           (test ∙ w.if-is_unsynced.false) at.invariant)
     ]
 

@@ -49,8 +49,11 @@ module _ (A : RattleType) where
   ended = F.ended A
 
   abbrev stayed : Stays ended.signature.params ended.kept
-  stayed =
-      (stay_dropped (RefOf (0 ∷ []) tt (plain (λ _. History.the_row (param 0 A))) (λ _. tt)) yes, tt)
+  stayed = (
+    stay_dropped (RefOf (0 ∷ []) tt (plain (λ _. History.the_row (param 0 A)))
+        (λ _. tt)) yes,
+    tt,
+  )
 
   module _ {M : Type 1} {𝓤 : Ura M} (𝓛 : Logic 𝓤) (at_mem : Memory → SProp 𝓤)
       (run : Routine → Fun 𝓤)
@@ -92,12 +95,12 @@ module _ (A : RattleType) where
 
       meets : (𝓣 : Tables 𝓤 H) → Meets 𝓛 ended.signature (WpFn 𝓤 H 𝓣.C 𝓣.Λ function)
           (closing 𝓛 ended held)
-      meets 𝓣 =
-          walk_Meets 𝓛 ended stayed (
-            Goes-dropped 𝓛 2 (RefOf (0 ∷ []) tt (plain (λ _. History.the_row (param 0 A))) (λ _. tt)) yes
-                (λ κs x f. refl),
-            tt,
-          ) held (WpFn 𝓤 H 𝓣.C 𝓣.Λ function)
+      meets 𝓣 = walk_Meets 𝓛 ended stayed (
+        Goes-dropped 𝓛 2 (RefOf (0 ∷ []) tt (plain (λ _. History.the_row (param 0 A)))
+            (λ _. tt)) yes (λ κs x f. refl),
+        tt,
+      )
+          held (WpFn 𝓤 H 𝓣.C 𝓣.Λ function)
           (WpFn-mono 𝓤 H 𝓛.laws 𝓣 function) (walks 𝓣.C 𝓣.Λ)
 
 pub copy_spec : {M : Type 1} → stated.statement M

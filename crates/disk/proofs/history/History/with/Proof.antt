@@ -102,15 +102,17 @@ module _ (A : RattleType) where
 
       meets : (𝓣 : Tables 𝓤 H) → Meets 𝓛 ended.signature (WpFn 𝓤 H 𝓣.C 𝓣.Λ function)
           (closing 𝓛 ended held)
-      meets 𝓣 =
-          walk_Meets 𝓛 ended stayed (
-            Goes-dropped 𝓛 3 (RefOf (0 ∷ []) tt (plain (λ _. History.the_row (param 0 A))) (λ _. tt)) yes
-                (λ κs x f. refl),
-            (
-              Goes-dropped 𝓛 3 (RefOf (1 ∷ []) tt (plain (λ _. param 0 A)) (λ _. tt)) yes (λ κs x f. refl),
-              tt,
-            ),
-          ) held (WpFn 𝓤 H 𝓣.C 𝓣.Λ function)
+      meets 𝓣 = walk_Meets 𝓛 ended stayed (
+        Goes-dropped 𝓛 3
+            (RefOf (0 ∷ []) tt (plain (λ _. History.the_row (param 0 A))) (λ _. tt)) yes
+            (λ κs x f. refl),
+        (
+          Goes-dropped 𝓛 3 (RefOf (1 ∷ []) tt (plain (λ _. param 0 A)) (λ _. tt)) yes
+              (λ κs x f. refl),
+          tt,
+        ),
+      )
+          held (WpFn 𝓤 H 𝓣.C 𝓣.Λ function)
           (WpFn-mono 𝓤 H 𝓛.laws 𝓣 function) (walks 𝓣.C 𝓣.Λ)
 
 pub with_spec : {M : Type 1} → stated.statement M
