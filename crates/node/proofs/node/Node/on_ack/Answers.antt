@@ -56,7 +56,9 @@ returns-clause-ends g c = λ x n input r.
     c.gt-grows.ensures ∙ greater c.args.committed c.committed.result
     ∙ ap (λ k. nat_lt k c.args.committed) (c.committed.ensures.same ∙ sym r.core.committed) in
     ends_rule g.D.Disk old node x n input [] d a due c.deref.result.now sent c.output_of.result
-    (at_rest g.D.Disk c.durable_is_left.ensures old x n a.node r) leaves (record { runs = runs;
-    replied = follows.replied })
+    (at_rest g.D.Disk c.durable_is_left.ensures old x n a.node r) leaves (record {
+      runs = runs;
+      replied = follows.replied;
+    })
     c.deref.ensures.value (ap told grows)
     (c.output_of.ensures.says a.node [] runs.core none) c.output_of.ensures.memory
