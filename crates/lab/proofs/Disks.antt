@@ -24,7 +24,7 @@ use Rattle.lab.specs.Disks.{junk_of, IsCrashOf, IsEndOf, IsStopOf, DiskFollows, 
 use Rattle.lab.specs.Disks.{has_reached, junk_at_end}
 use Rattle.lab.specs.Events.{reported_cause, told_cause}
 use Rattle.lab.specs.SimNodes.{Choice, StateRefines, IsDown, disk_in, is_honest, state, failures}
-use Rattle.lab.specs.SimNodes.{calls}
+use Rattle.lab.specs.SimNodes.{IsUnarmed, calls}
 use Rattle.lab.proofs.Outcomes.{StopsSo}
 
 -- a count of failures that may rise
@@ -200,6 +200,12 @@ none_follow event choice o disks none = record {
       absurd (cc);
   others = λ x other. refl;
 }
+
+-- no disk has a fault, if this one has none
+pub none_armed : (disks : ℕ → Slots) (x : ℕ) (own : Slots) → ((y : ℕ) → IsUnarmed (disks y)) →
+    IsUnarmed own → (y : ℕ) → IsUnarmed (with_disk disks x own y)
+none_armed disks x own others is y =
+    cond_both (y == x) own (disks y) IsUnarmed (λ same. is) (λ other. others y)
 
 -- no disk failed more often than there are events
 pub few_more : (disks : ℕ → Slots) (x : ℕ) (own : Slots) (k m : ℕ) → m ≡ k + 1 →

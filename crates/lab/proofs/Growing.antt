@@ -15,7 +15,7 @@ use Rattle.lab.specs.declared.report.Line.{Line}
 use Rattle.lab.specs.declared.sim_node.SimNode.{SimNode}
 use Rattle.lab.specs.Disks.{DisksFollow, AllFollow}
 use Rattle.lab.specs.Events.{modelled, lines_of_event, ChoiceFits}
-use Rattle.lab.specs.SimNodes.{Choice, state, failures, calls}
+use Rattle.lab.specs.SimNodes.{Choice, IsUnarmed, state, failures, calls}
 use Rattle.lab.specs.Traces.{modelled_from, lines_from, AllFit}
 use Rattle.lab.specs.Worlds.{PostedRefines, SimNodeRefines, RunRefines, frames_in_steps}
 use Rattle.lab.specs.Worlds.{frames_of_step}
@@ -121,6 +121,7 @@ pub record Next (cs : Configurations) (w : SystemState BatchContent) (old : ℕ 
   pub follow : DisksFollow state failures calls event choice
       (outcome w cs (modelled i event.kind choice)) old disks
   pub few : (x : ℕ) → failures (disks x) ≤ i
+  pub unarmed : (x : ℕ) → IsUnarmed (disks x)
   pub each : All (SimNodeRefines (state_after cs w (modelled i event.kind choice)).nodes disks) sims
 
 module _ (cs : Configurations) (events : List Event) (steps : List (List Line))
@@ -185,6 +186,7 @@ module _ (cs : Configurations) (events : List Event) (steps : List (List Line))
                 next.follow;
           };
           few = λ x. omega (arith, next.few x, at, length-append events (event ∷ []));
+          unarmed = next.unarmed;
           each = subst (λ (v : SystemState BatchContent). All (SimNodeRefines v.nodes next.disks)
               now)
               (sym here)

@@ -11,7 +11,7 @@ use Rattle.chain_model.specs.{Configurations, Lawful, AllDifferent, has, at_epoc
 use Rattle.chain_core.specs.{Machine}
 use Rattle.lab.specs.declared.report.NodeReport.{NodeReport}
 use Rattle.lab.specs.declared.sim_node.SimNode.{SimNode}
-use Rattle.lab.specs.SimNodes.{StateRefines, disk_in, is_honest, state, failures}
+use Rattle.lab.specs.SimNodes.{IsUnarmed, StateRefines, disk_in, is_honest, state, failures}
 use Rattle.lab.specs.Worlds.{SimNodeRefines, IsCreated, AreCreated, IsLeft, AreLeft, RunRefines}
 use Rattle.lab.proofs.Disks.{with_disk, disk_here, disk_elsewhere}
 use Rattle.lab.proofs.SimNodes.{ids_of}
@@ -82,6 +82,14 @@ none_failed config (s ∷ sims) all x =
     (λ (d : Slots). failures d ≡ 0) (λ same. all.0.count)
     (λ other. none_failed config sims all.1 x)
 
+-- .. and none has a fault
+none_armed : (config : List ℕ) (sims : List SimNode) → AllByRecursion (IsCreated config) sims →
+    (x : ℕ) → IsUnarmed (disks_of sims x)
+none_armed config [] all x = refl
+none_armed config (s ∷ sims) all x =
+    cond_both (x == s.id) (disk_in s.state) (disks_of sims x) IsUnarmed
+    (λ same. all.0.unarmed) (λ other. none_armed config sims all.1 x)
+
 -- nodes with other ids keep theirs
 keep_apart : (machines : ℕ → Machine) (disks : ℕ → Slots) (x : ℕ) (own : Slots)
     (sims : List SimNode) → has (ids_of sims) x ≡ false →
@@ -130,6 +138,7 @@ begun cs sims lawful are =
       disks = disks_of sims;
       after = record { first = disks_of sims; begun = none; follow = refl };
       few = λ x. omega (arith, none x);
+      unarmed = none_armed (at_epoch cs 0) sims all;
       each = All-from_recursion (SimNodeRefines (λ x. created (at_epoch cs 0)) (disks_of sims)) sims
           (all_have (at_epoch cs 0) sims
           (subst (λ (c : List ℕ). AllDifferent c) (sym are.nodes) lawful.different) all);

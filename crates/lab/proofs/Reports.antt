@@ -21,7 +21,8 @@ use Rattle.lab.specs.declared.report.Report.{Report}
 use Rattle.lab.specs.declared.sim_node.SimNode.{SimNode}
 use Rattle.lab.specs.Disks.{HaveDisks, IsDiskOf}
 use Rattle.lab.specs.History.{Placed, IsHistory, StepSpeaksOf, HasAll}
-use Rattle.lab.specs.SimNodes.{Choice, StateRefines, disk_in, is_honest, state, failures, calls}
+use Rattle.lab.specs.SimNodes.{Choice, IsUnarmed, StateRefines, disk_in, is_honest, state}
+use Rattle.lab.specs.SimNodes.{failures, calls}
 use Rattle.lab.specs.Runs.{IsRun, RunningRefines}
 use Rattle.lab.specs.Traces.{modelled_from, IsTrace}
 use Rattle.lab.specs.Worlds.{SimNodeRefines, IsLeft, AreLeft, RunRefines}
@@ -92,10 +93,21 @@ module _ (sims : List SimNode) (posted : List Posted) (cs : Configurations) (eve
               (λ n. IsDiskOf state n.id (machines n.id) n.disk (made.disks n.id))
               (λ n left. left.disk) nodes each;
         };
+        unarmed = All-weaker Left (λ n. IsUnarmed n.disk)
+            (λ n left. subst (λ (d : Slots). IsUnarmed d) (sym left.disk.same)
+            (made.unarmed n.id)) nodes each;
         numbers = All-weaker Left (λ n. RunningRefines n.running (machines n.id))
             (λ n left. left.numbers)
             nodes each;
       }
+
+  -- no disk of its nodes has a fault
+  pub unarmed_so_far : All (λ (sim : SimNode). IsUnarmed (disk_in sim.state)) sims
+  unarmed_so_far =
+      All-weaker (SimNodeRefines (node_of cs (modelled_from 1 events made.choices)) made.disks)
+      (λ sim. IsUnarmed (disk_in sim.state))
+      (λ sim refined_at. subst (λ (d : Slots). IsUnarmed d) (sym refined_at.disk)
+      (made.unarmed sim.id)) sims made.each
 
   -- and the disks of its nodes are those that its run left so far
   pub disks_so_far : ((node : Node Slots) (x : ℕ) (n : Machine) → NodeRefines is_honest state node x

@@ -38,6 +38,7 @@ use Rattle.lab.specs.declared.sim_node.SimNode.{SimNode}
 use Rattle.lab.specs.declared.world.World.{World as LabWorld}
 use Rattle.lab.specs.Events.{modelled, lines_of_event, NamesNode}
 use Rattle.lab.specs.SimNodes.{StateRefines, Choice, disk_in, is_honest, state, failures, calls}
+use Rattle.lab.specs.SimNodes.{IsUnarmed}
 use Rattle.lab.specs.Deliveries.{IsDeliveryOf, HasNoDelivery}
 use Rattle.lab.specs.Outcomes.{DiskFits, HasCrashed, OutcomeRefines, StateFollows}
 use Rattle.lab.specs.Outcomes.{has_struck_in, input_junk, outcome_lines, sent_by}
@@ -50,7 +51,7 @@ use Rattle.lab.specs.Worlds.{frames_of_step}
 use Rattle.lab.proofs.Posting.{zip_both}
 use Rattle.lab.proofs.Deliveries.{refined, nothing_done, junk_same}
 use Rattle.lab.proofs.Disks.{MayRise, with_disk, all_follow, none_follow, follows, few_more}
-use Rattle.lab.proofs.Disks.{at_most_one, stops_so}
+use Rattle.lab.proofs.Disks.{at_most_one, none_armed, stops_so}
 use Rattle.lab.proofs.SimNodes.{ids_of, has_at, has_one, refined_at}
 use Rattle.lab.proofs.Growing.{length-steps, grown, run-push}
 use Rattle.lab.proofs.Addressees.{IsNumbered, addressed, all_numbered, back, kept_all}
@@ -108,10 +109,11 @@ pub stepped : (old : List SimNode) (i x : ℕ) (between was was' now : SimNode)
     DiskFits state failures calls (input_junk node_input) it (struck_by it was now) did
     (disk_in was.state) now.state →
     StateFollows is_honest state failures calls was.state node_input now.state →
+    (IsUnarmed (disk_in was.state) → IsUnarmed (disk_in now.state)) →
     HasPosted posted (sent_by did) more → lines ≡ outcome_lines x (length posted) did →
     HasStepped old posted x node_input given lines (slice_set (slice_set old i between) i now) more
 stepped old i x between was was' now node_input it given did posted more lines same at out id
-    refines disk follows sent traced =
+    refines disk follows forgets sent traced =
     let is : was ≡ get_or old i now = out ∙ get_or_default old i was' now at.within in
     subst (λ (f : Fault). HasStepped old posted x node_input f lines
     (slice_set (slice_set old i between) i now) more) same
@@ -130,6 +132,8 @@ stepped old i x between was was' now node_input it given did posted more lines s
           (struck_by it s now) did (disk_in s.state) now.state) is disk;
       follows = subst (λ (s : SimNode). StateFollows is_honest state failures calls s.state
           node_input now.state) is follows;
+      forgets = subst (λ (s : SimNode). IsUnarmed (disk_in s.state) →
+          IsUnarmed (disk_in now.state)) is forgets;
       sent = sent;
       traced = traced;
     })
@@ -242,6 +246,8 @@ module _ (in_order : AlwaysInOrder) (cs : Configurations) (events : List Event)
         few = few_more made.disks x own (length events) i next.at made.few
             (at_most_one (junk_of event.kind) event.fault out.choice.struck t.did (made.disks x)
             sim.state left may);
+        unarmed = none_armed made.disks x own made.unarmed
+            (t.forgets (subst (λ (d : Slots). IsUnarmed d) (sym slots) (made.unarmed x)));
         each = subst (λ (l : List SimNode). All (SimNodeRefines (state_after cs w
             (modelled i event.kind out.choice)).nodes (with_disk made.disks x own)) l)
             (sym t.others)
@@ -322,6 +328,7 @@ module _ (in_order : AlwaysInOrder) (cs : Configurations) (events : List Event)
         follow = none_follow event choice (outcome w cs (modelled i event.kind choice)) made.disks
             (ap (λ (o : Outcome BatchContent). o.acted_on) none);
         few = λ x. omega (arith, made.few x, next.at);
+        unarmed = made.unarmed;
         each = subst (λ (v : SystemState BatchContent). All (SimNodeRefines v.nodes made.disks)
             sims) same
             made.each;

@@ -101,7 +101,8 @@ pub record AreDisksAfter {D : Type 0} (state : D → State) (failures calls : D 
   where
     pub first : ℕ → D
     pub begun : (x : ℕ) → failures (first x) ≡ 0
-    pub follow : AllFollow state failures calls cs 1 events choices (model.first_state cs) first disks
+    pub follow : AllFollow state failures calls cs 1 events choices (model.first_state cs) first
+        disks
 
 -- the node's disk is this one, and represents its machine's whole list, as it reads and whatever a
 -- crash leaves

@@ -9,7 +9,7 @@ use Rattle.lab.specs.declared.report.Numbers.{Numbers}
 use Rattle.lab.specs.declared.report.NodeReport.{NodeReport}
 use Rattle.lab.specs.declared.report.Report.{Report}
 use Rattle.lab.specs.Disks.{HaveDisks}
-use Rattle.lab.specs.SimNodes.{Choice, state, failures, calls}
+use Rattle.lab.specs.SimNodes.{Choice, IsUnarmed, state, failures, calls}
 use Rattle.lab.specs.Traces.{modelled_from, IsTrace}
 
 -- the numbers are the machine's; it has no tables yet
@@ -28,11 +28,12 @@ RunningRefines (Some numbers) n = (n.running ≡ true) × NumbersRefine n number
 
 -- The report is a run of the model over exactly these events: how each step went was chosen, and
 -- then each event has the lines of its outcome, and each node is the one behind the run. Its disk
--- is the one that the events left, and represents its machine's whole list.
+-- is the one that the events left, represents its machine's whole list, and has no fault.
 pub record IsRun (cs : Configurations) (events : List Event) (report : Report) : Type 0 where
   pub choices : List Choice
   pub trace : IsTrace cs events choices report.steps.items
   pub disks : HaveDisks state failures calls (λ (node : NodeReport). node.id)
       (λ (node : NodeReport). node.disk) cs events choices report.nodes.items
+  pub unarmed : All (λ node. IsUnarmed node.disk) report.nodes.items
   pub numbers : All (λ node. RunningRefines node.running
       (model.node_of cs (modelled_from 1 events choices) node.id)) report.nodes.items

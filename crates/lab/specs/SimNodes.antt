@@ -1,5 +1,5 @@
 -- Simulated nodes: what a running or stopped one refines, and what the code may choose in a step.
-use Rattle.std.specs.Prelude.{◌≡◌, ℕ, Bool, false, length}
+use Rattle.std.specs.Prelude.{◌≡◌, ℕ, Bool, None, false, length}
 use Rattle.disk.specs.{State, Slots, past_states, state_of}
 use Rattle.disk.specs.declared.disk.Disk.{Ghosts}
 use Rattle.chain_model.specs as model
@@ -59,3 +59,7 @@ failures disk = disk.failures
 -- .. and how many calls it ever had
 abbrev pub calls : Slots → ℕ
 calls disk = length (past_states disk)
+
+-- it is armed with no fault
+abbrev pub IsUnarmed : Slots → Type 0
+IsUnarmed disk = disk.fault_at ≡ None

@@ -28,6 +28,7 @@ use Rattle.lab.specs.declared.report.NodeReport.{NodeReport}
 use Rattle.lab.specs.declared.sim_node.SimNode.{SimNode}
 use Rattle.lab.specs.declared.world.World.{World}
 use Rattle.lab.specs.SimNodes.{Choice, StateRefines, disk_in, is_honest, state, failures, calls}
+use Rattle.lab.specs.SimNodes.{IsUnarmed}
 use Rattle.lab.specs.Events.{NamesNode}
 use Rattle.lab.specs.Outcomes.{OutcomeRefines, DiskFits, StateFollows, input_junk, sent_by}
 use Rattle.lab.specs.Outcomes.{has_struck_in, outcome_lines}
@@ -88,10 +89,12 @@ pub record SimNodeRefines (nodes : ℕ → Machine) (disks : ℕ → Slots) (sim
   pub is : StateRefines is_honest state sim.state sim.id (nodes sim.id)
   pub disk : disk_in sim.state ≡ disks sim.id
 
--- a node that was just created with this configuration: no call of its disk failed
+-- a node that was just created with this configuration: no call of its disk failed, and it has no
+-- fault
 pub record IsCreated (config : List ℕ) (sim : SimNode) : Type 0 where
   pub is : StateRefines is_honest state sim.state sim.id (created config)
   pub count : failures (disk_in sim.state) ≡ 0
+  pub unarmed : IsUnarmed (disk_in sim.state)
 
 -- these nodes were just created with this configuration, in this order
 pub record AreCreated (config ids : List ℕ) (sims : List SimNode) : Type 0 where
@@ -131,6 +134,8 @@ pub record HasStepped (sims : List SimNode) (posted : List Posted) (x : ℕ) (no
       (disk_in (get_or sims index sim).state) sim.state
   pub follows : StateFollows is_honest state failures calls (get_or sims index sim).state node_input
       sim.state
+  -- the fault is forgotten
+  pub forgets : IsUnarmed (disk_in (get_or sims index sim).state) → IsUnarmed (disk_in sim.state)
   pub sent : HasPosted posted (sent_by did) more
   pub traced : lines ≡ outcome_lines x (length posted) did
 
@@ -168,6 +173,7 @@ pub record RunRefines (sims : List SimNode) (posted : List Posted) (cs : Configu
   pub after : AreDisksAfter state failures calls cs events choices disks
   -- no disk failed more often than there are events
   pub few : (x : ℕ) → failures (disks x) ≤ length events
+  pub unarmed : (x : ℕ) → IsUnarmed (disks x)
   pub each : All (SimNodeRefines (model_frame.node_of cs (modelled_from 1 events choices)) disks)
       sims
 
@@ -198,13 +204,14 @@ abbrev pub HasEnded : World → Type 0
 HasEnded world = world.ended ≡ true
 
 -- the lines so far are those of a run of the model over these events, and each node has the disk
--- that they left, which represents its machine's whole list
+-- that they left, which represents its machine's whole list, and which has no fault
 pub record IsRunSoFar (world : World) (cs : Configurations) (events : List Event)
     (steps : List (List Line)) : Type 0 where
   pub choices : List Choice
   pub trace : IsTrace cs events choices steps
   pub disks : HaveDisks state failures calls (λ (sim : SimNode). sim.id)
       (λ (sim : SimNode). disk_in sim.state) cs events choices world.nodes.items
+  pub unarmed : All (λ sim. IsUnarmed (disk_in sim.state)) world.nodes.items
 
 -- .. and there is one history of them
 abbrev pub HasHistory : World → Configurations → List Event → List (List Line) → Type 0

@@ -1,5 +1,5 @@
 // The state of a simulated node, up or down, and how it takes an input.
-ghost use Rattle.std.specs.Prelude.{◌≡◌, ◌↔◌, ◌⊎◌, ℕ, Bool, IfOk, IsTrue};
+ghost use Rattle.std.specs.Prelude.{◌≡◌, ◌↔◌, ◌⊎◌, ℕ, Bool, IfOk, IsTrue, None};
 ghost use Rattle.kv_types.specs.{BatchContent};
 ghost use Rattle.chain_model.specs.{Answer, stopped};
 ghost use Rattle.disk.specs.{HasStruck};
@@ -34,6 +34,7 @@ fn crash<D: Crash + Drop>(mut disk: D, junk: Junk) -> NodeState<D>
         D.is_honest disk → StopRefines (D.state disk) x n a →
         StateRefines D.is_honest D.state result x (stopped n)
         ⊎ StateRefines D.is_honest D.state result x (stopped a.node) }
+    ensures forgets { D.fault_at (disk_in result) ≡ None }
 {
     // laws: what a crash leaves is sure, and a crash leaves it again
     durable_is_left(); // law: a crash leaves what is durable
@@ -55,6 +56,7 @@ fn stop_by_itself<D: Crash + Drop>(disk: D, stop: Stop, fault: Fault) -> (NodeSt
         D.is_honest disk → StopRefines (D.state disk) x n a →
         StateRefines D.is_honest D.state result.0 x (stopped n)
         ⊎ StateRefines D.is_honest D.state result.0 x (stopped a.node) }
+    ensures forgets { D.fault_at (disk_in result.0) ≡ None }
 {
     let (junk, cause) = match fault {
         Fault::Stop(_, junk) if disk.has_struck() => (junk, None),
@@ -78,6 +80,7 @@ fn start<D: Crash + Drop>(
     ensures disk { D.is_honest disk →
         DiskFits D.state D.failures (calls_of D.Disk) None fault
         (has_struck_in (calls_of D.Disk) fault disk result.0) result.1 disk result.0 }
+    ensures forgets { D.is_honest disk → D.fault_at (disk_in result.0) ≡ None }
 {
     disk.arm(&fault);
     match Node::start(alloc, disk, limits) {
@@ -111,6 +114,7 @@ fn step<D: Crash + Drop>(
         DiskFits D.state D.failures (calls_of D.Disk) None fault
         (has_struck_in (calls_of D.Disk) fault (disk_of node) result.0) result.1 (disk_of node)
         result.0 }
+    ensures forgets { D.is_honest (disk_of node) → D.fault_at (disk_in result.0) ≡ None }
 {
     node.arm(&fault);
     match node.step(alloc, input) {
@@ -142,6 +146,8 @@ impl<D: Crash + Drop> NodeState<D> {
             (has_struck_in (calls_of D.Disk) fault (disk_in self) it.0) it.1 (disk_in self) it.0) }
         ensures follows { IfOk result (λ it.
             StateFollows D.is_honest D.state D.failures (calls_of D.Disk) self input it.0) }
+        ensures forgets { D.is_honest (disk_in self) → D.fault_at (disk_in self) ≡ None →
+            IfOk result (λ it. D.fault_at (disk_in it.0) ≡ None) }
     {
         match self {
             NodeState::Up(node) => match input {

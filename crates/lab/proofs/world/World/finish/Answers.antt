@@ -20,6 +20,5 @@ returns-clause-history c = λ cs events steps run.
     run.kept c.in_ok-nodes.ensures in
     let es = modelled_from 1 events is.choices in
     one_of state failures calls (λ (node : NodeReport). node.id) (λ (node : NodeReport). node.disk)
-    cs
-    events is.choices report.steps.items report.nodes.items is.trace is.disks
+    cs events is.choices report.steps.items report.nodes.items is.trace is.disks
     (c.one_history.ensures cs es run.made.lawful) (c.run_is_outcomes.ensures cs es)

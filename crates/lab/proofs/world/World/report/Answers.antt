@@ -4,7 +4,7 @@ use Rattle.lab.specs.declared.sim_node.SimNode.{SimNode}
 use Rattle.lab.specs.SimNodes.{disk_in, state, failures, calls}
 use Rattle.lab.specs.Traces.{modelled_from, IsTrace}
 use Rattle.lab.specs.Worlds.{HasHistory}
-use Rattle.lab.proofs.Reports.{one_of, disks_so_far}
+use Rattle.lab.proofs.Reports.{one_of, disks_so_far, unarmed_so_far}
 use Rattle.lab.proofs.world.World.report.Goals as goal
 
 pub returns-clause-run : goal.returns-clause-run
@@ -17,6 +17,7 @@ returns-clause-run c = λ cs events steps run.
           (sym (c.deref.ensures.value ∙ run.kept)) made.trace;
       disks = disks_so_far self.nodes.items self.frames.items cs events steps made
           c.disks_represent.ensures;
+      unarmed = unarmed_so_far self.nodes.items self.frames.items cs events steps made;
     }
 
 pub returns-clause-history : goal.returns-clause-history
@@ -27,8 +28,7 @@ returns-clause-history c = λ cs events steps run.
     subst (λ (l : List (List Line)). HasHistory self cs events l)
     (sym (c.deref.ensures.value ∙ run.kept))
     (one_of state failures calls (λ (sim : SimNode). sim.id) (λ (sim : SimNode). disk_in sim.state)
-    cs
-    events made.choices steps self.nodes.items made.trace
+    cs events made.choices steps self.nodes.items made.trace
     (disks_so_far self.nodes.items self.frames.items cs events steps made
     c.disks_represent.ensures) (c.one_history.ensures cs es made.lawful)
     (c.run_is_outcomes.ensures cs es))
