@@ -1,6 +1,6 @@
 -- The disk behind an outcome of its node.
 use Rattle.std.proofs.Common.{◌≡◌, ℕ, ◌+◌, ◌^◌, ◌-◌, ◌<◌, ◌≤◌, Bool, Option, Some, None}
-use Rattle.std.proofs.Common.{true, false}
+use Rattle.std.proofs.Common.{true, false, ap, inl, ◌⊎◌}
 use Rattle.std.proofs.Common.{cond, ◌==◌, refl, sym, subst, ◌∙◌, eq-eqb, eqb-true, arith}
 use Rattle.std.proofs.lemmas.Bool.{cond_both, cond-true, cond-false, false≢true}
 use Rattle.kv_types.specs.{BatchContent}
@@ -12,6 +12,7 @@ use Rattle.chain_model.specs.{Outcome}
 use Rattle.chain_core.specs.{Machine}
 use Rattle.node.specs.declared.Stop.{Stop as Cause}
 use Rattle.node.specs.declared.Stop.TheVariants.{Disk, Damaged, Memory, NotCreated}
+use Rattle.node.specs.{HasLongFile}
 use Rattle.lab.specs.declared.input.StepOutcome.{StepOutcome}
 use Rattle.lab.specs.declared.input.StepOutcome.TheVariants as done
 use Rattle.lab.specs.declared.event.Event.{Event}
@@ -19,7 +20,7 @@ use Rattle.lab.specs.declared.event.EventKind.{EventKind}
 use Rattle.lab.specs.declared.event.EventKind.TheVariants.{Submit, Get, Deliver, Tick, Start, Stop}
 use Rattle.lab.specs.declared.node_state.NodeState.{NodeState}
 use Rattle.lab.specs.declared.node_state.NodeState.TheVariants.{Up, Down}
-use Rattle.lab.specs.Outcomes.{HasCrashed, DiskEnds, DiskFits}
+use Rattle.lab.specs.Outcomes.{HasCrashed, DiskEnds, DiskFits, IsExplained}
 use Rattle.lab.specs.Disks.{junk_of, IsCrashOf, IsEndOf, IsStopOf, DiskFollows, DisksFollow}
 use Rattle.lab.specs.Disks.{has_reached, junk_at_end}
 use Rattle.lab.specs.Events.{reported_cause, told_cause}
@@ -39,12 +40,18 @@ crash_of : (junk : Junk) (old : Slots) (new : NodeState Slots) →
 crash_of junk old (Up node) crashed = absurd crashed
 crash_of junk old (Down disk) crashed = crashed
 
-end_of : (junk : Junk) (cause : Cause) (old new : Slots) →
-    DiskEnds state failures junk cause old new → MayRise old →
-    IsEndOf state failures junk cause old new
-end_of junk cause old new ends may = record {
+-- a disk failed only as the fault struck, or as a file of it was long
+abbrev FailsOnly : Slots → Choice → Type 0
+FailsOnly old choice = choice.cause ≡ Disk → (choice.struck ≡ true) ⊎ HasLongFile (state old)
+
+-- a node that stopped by itself left such an end of its disk
+end_of : (junk : Junk) (choice : Choice) (old new : Slots) →
+    DiskEnds state failures junk choice.cause old new → MayRise old → FailsOnly old choice →
+    IsEndOf state failures junk choice old new
+end_of junk choice old new ends may only = record {
   failed = λ is. (ends.failed is).below may;
   others = ends.others;
+  only = only;
   left = ends.left;
   crashes = ends.crashes;
 }
@@ -73,16 +80,34 @@ at_most_one junk it struck (done.Stopped (Some cause)) old new left may =
 
 module _ (old : Slots) (new : NodeState Slots) (may : MayRise old) where
   -- a node stopped by itself for the cause that was chosen, whatever of it was told
-  ended_by : (it : Fault) (struck : Bool) (cause : Cause) (traced : Option Cause) →
-      told_cause it struck cause ≡ traced → (struck ≡ true → cause ≡ Disk) →
-      DiskFits state failures calls None it struck (done.Stopped traced) old new →
-      IsEndOf state failures (junk_at_end it struck) cause old (disk_in new)
-  ended_by it struck cause traced is device left =
-      end_of (junk_at_end it struck) cause old (disk_in new)
-      (ends it struck device
-      (subst (λ (c : Option Cause). DiskFits state failures calls None it struck (done.Stopped c)
-      old new) (sym is) left)) may
+  ended_by : (it : Fault) (choice : Choice) (traced : Option Cause) →
+      told_cause it choice.struck choice.cause ≡ traced →
+      (choice.struck ≡ true → choice.cause ≡ Disk) →
+      DiskFits state failures calls None it choice.struck (done.Stopped traced) old new →
+      IsExplained (state old) choice.struck (done.Stopped traced) →
+      IsEndOf state failures (junk_at_end it choice.struck) choice old (disk_in new)
+  ended_by it choice traced is device left why =
+      end_of (junk_at_end it choice.struck) choice old (disk_in new)
+      (ends it choice.struck device
+      (subst (λ (c : Option Cause). DiskFits state failures calls None it choice.struck
+      (done.Stopped c) old new) (sym is) left)) may
+      (λ fails. only it choice.struck fails
+      (subst (λ (c : Option Cause). IsExplained (state old) choice.struck (done.Stopped c)) (sym is)
+      why))
     where
+      cause : Cause
+      cause = choice.cause
+
+      only : (it : Fault) (struck : Bool) → cause ≡ Disk →
+          IsExplained (state old) struck (done.Stopped (told_cause it struck cause)) →
+          (struck ≡ true) ⊎ HasLongFile (state old)
+      only fault.None struck fails why = why (ap (λ (c : Cause). done.Stopped (Some c)) fails)
+      only (fault.Fail call) struck fails why =
+          why (ap (λ (c : Cause). done.Stopped (Some c)) fails)
+      only (fault.Stop call junk) false fails why =
+          why (ap (λ (c : Cause). done.Stopped (Some c)) fails)
+      only (fault.Stop call junk) true fails why = inl refl
+
       ends : (it : Fault) (struck : Bool) → (struck ≡ true → cause ≡ Disk) →
           DiskFits state failures calls None it struck
           (done.Stopped (told_cause it struck cause)) old new →
@@ -98,20 +123,21 @@ module _ (old : Slots) (new : NodeState Slots) (may : MayRise old) where
   stop_of : (kind : EventKind) (it : Fault) (choice : Choice) (traced : Option Cause) →
       reported_cause kind it choice ≡ traced → (choice.struck ≡ true → choice.cause ≡ Disk) →
       DiskFits state failures calls (junk_of kind) it choice.struck (done.Stopped traced) old new →
+      IsExplained (state old) choice.struck (done.Stopped traced) →
       IsStopOf state failures calls (junk_of kind) it choice old (disk_in new)
-  stop_of (Stop x junk) it choice traced is device left = crash_of junk old new
+  stop_of (Stop x junk) it choice traced is device left why = crash_of junk old new
       (subst (λ (c : Option Cause). DiskFits state failures calls (Some junk) it choice.struck
       (done.Stopped c) old new) (sym is) left)
-  stop_of (Submit x batch) it choice traced is device left =
-      ended_by it choice.struck choice.cause traced is device left
-  stop_of (Get x key at) it choice traced is device left =
-      ended_by it choice.struck choice.cause traced is device left
-  stop_of (Deliver p) it choice traced is device left =
-      ended_by it choice.struck choice.cause traced is device left
-  stop_of (Tick x) it choice traced is device left =
-      ended_by it choice.struck choice.cause traced is device left
-  stop_of (Start x) it choice traced is device left =
-      ended_by it choice.struck choice.cause traced is device left
+  stop_of (Submit x batch) it choice traced is device left why =
+      ended_by it choice traced is device left why
+  stop_of (Get x key at) it choice traced is device left why =
+      ended_by it choice traced is device left why
+  stop_of (Deliver p) it choice traced is device left why =
+      ended_by it choice traced is device left why
+  stop_of (Tick x) it choice traced is device left why =
+      ended_by it choice traced is device left why
+  stop_of (Start x) it choice traced is device left why =
+      ended_by it choice traced is device left why
 
   -- a state that refines a machine which does not run is down
   rests_so : (m : NodeState Slots) (x : ℕ) (n : Machine) → StateRefines is_honest state m x n →
@@ -138,22 +164,23 @@ module _ (old : Slots) (new : NodeState Slots) (may : MayRise old) where
     pub follows : (did : StepOutcome) → StateRefines is_honest state new x n → StruckSo →
         StopsSo event choice did o.stopped →
         DiskFits state failures calls (junk_of event.kind) event.fault choice.struck did old new →
+        IsExplained (state old) choice.struck did →
         DiskFollows state failures calls event choice o n old (disk_in new)
-    follows (done.Answered output) is struck ends left = record {
+    follows (done.Answered output) is struck ends left why = record {
       fault = struck;
       stops = λ stops. absurd (false≢true (sym ends ∙ stops));
       count = λ _. left.count;
       rests = λ _. λ off. left.same (rests_so new x n is off);
     }
-    follows (done.Started epoch count committed) is struck ends left = record {
+    follows (done.Started epoch count committed) is struck ends left why = record {
       fault = struck;
       stops = λ stops. absurd (false≢true (sym ends ∙ stops));
       count = λ _. left.count;
       rests = λ _. λ off. left.same (rests_so new x n is off);
     }
-    follows (done.Stopped traced) is struck ends left = record {
+    follows (done.Stopped traced) is struck ends left why = record {
       fault = struck;
-      stops = λ _. stop_of event.kind event.fault choice traced ends.1 ends.2 left;
+      stops = λ _. stop_of event.kind event.fault choice traced ends.1 ends.2 left why;
       count = λ goes. absurd (false≢true (sym goes ∙ ends.0));
       rests = λ goes. absurd (false≢true (sym goes ∙ ends.0));
     }

@@ -1,6 +1,7 @@
 -- What a fault makes of the disk that was armed with it, once a step made its calls.
 use Rattle.std.proofs.Common.{◌≡◌, ◌↔◌, ℕ, zero, suc, ◌+◌, Bool, Option, Some, None, length}
 use Rattle.std.proofs.Common.{true, false, refl, sym, ap, subst, ◌∙◌, arith, le-leb, leb-true}
+use Rattle.std.proofs.Common.{◌⊎◌, inl, inr}
 use Rattle.std.proofs.lemmas.Bool.{false≢true}
 use Rattle.disk.specs.declared.Fault.{Fault}
 use Rattle.disk.specs.declared.Fault.TheVariants as fault
@@ -14,10 +15,10 @@ use Rattle.lab.specs.declared.input.StepOutcome.{StepOutcome}
 use Rattle.lab.specs.declared.input.StepOutcome.TheVariants as done
 use Rattle.lab.specs.declared.node_state.NodeState.{NodeState}
 use Rattle.lab.specs.declared.node_state.NodeState.TheVariants.{Up, Down}
-use Rattle.node.specs.{IsEnvironmental}
+use Rattle.node.specs.{HasLongFile, IsEnvironmental}
 use Rattle.lab.specs.Disks.{has_reached, junk_at_end}
 use Rattle.lab.specs.Events.{told_cause}
-use Rattle.lab.specs.Outcomes.{DiskEnds, DiskFits, HasCrashed, StopsByItself}
+use Rattle.lab.specs.Outcomes.{DiskEnds, DiskFits, HasCrashed, IsExplained, StopsByItself}
 use Rattle.lab.specs.Outcomes.{has_struck_in}
 use Rattle.lab.specs.SimNodes.{calls_of, disk_in}
 
@@ -48,6 +49,11 @@ pub idle : (it : Fault) (calls : ℕ) → has_reached (struck_call it) calls cal
 idle it calls = not_true (has_reached (struck_call it) calls calls)
     (λ e. not_yet it calls ((reached_is (struck_call it) calls calls).0 e))
 
+-- a test holds, or else what follows where it fails
+true_or : (b : Bool) {P : Type 0} → (b ≡ false → P) → (b ≡ true) ⊎ P
+true_or true fails = inl refl
+true_or false fails = inr (fails refl)
+
 -- two states with the same slots are the same
 pub same_state : {old new : State} → IsSame old new → old ≡ new
 same_state same = λ i. λ file. (sym (same file)) i
@@ -55,13 +61,14 @@ same_state same = λ i. λ file. (sym (same file)) i
 -- ---- the calls of a step
 
 -- what the calls of a step left of a disk that was armed with a fault, which struck or did not
-pub record IsSpent {D : Type 0} (g : Ghosts D) (struck : Bool) (has_failed : Type 0) (old left : D)
-    : Type 0 where
+pub record IsSpent {D : Type 0} (g : Ghosts D) (struck : Bool) (has_failed cause : Type 0)
+    (old left : D) : Type 0 where
   pub honest : g.is_honest left
   pub strikes : (struck ≡ true) ↔ HasStruck g.fault_at g.past left
   pub spared : (has_failed → ⊥) → struck ≡ false
   pub failed : has_failed → RisesByOne (g.failures old) (g.failures left)
   pub count : (has_failed → ⊥) → g.failures left ≡ g.failures old
+  pub only : g.is_reliable old → has_failed → (struck ≡ true) ⊎ cause
 
 module _ {D : Type 0} (g : Ghosts D) (it : Fault) (old : D) where
   -- whether it struck, once the disk is this one
@@ -70,7 +77,7 @@ module _ {D : Type 0} (g : Ghosts D) (it : Fault) (old : D) where
 
   pub spent : (armed left : D) (has_failed cause : Type 0) (IsKept : State → State → Type 0) →
       IsArmed g it old armed → KeepsDisk g armed left has_failed cause IsKept →
-      g.is_honest old → IsSpent g (struck_at left) has_failed old left
+      g.is_honest old → IsSpent g (struck_at left) has_failed cause old left
   spent armed left has_failed cause IsKept arms keeps honest = record {
     honest = keeps.honest.1 (arms.honest.1 honest);
     strikes = strikes;
@@ -79,6 +86,9 @@ module _ {D : Type 0} (g : Ghosts D) (it : Fault) (old : D) where
     failed = λ fails. subst (λ (n : ℕ). RisesByOne n (g.failures left)) arms.count
         (keeps.failed fails);
     count = λ works. keeps.count works ∙ arms.count;
+    only = λ reliable. λ fails. true_or (struck_at left)
+        (λ missed. keeps.only (arms.reliable reliable)
+        (λ has. false≢true (sym missed ∙ strikes.1 has)) fails);
   }
     where
       at : g.fault_at armed ≡ armed_after (calls_of g old) (struck_call it)
@@ -131,8 +141,17 @@ module _ {D : Type 0} (g : Ghosts D) (it : Fault) (old : D) where
   tells (fault.Stop call junk) true stop new device ends =
       subst (λ (c : Cause). DiskEnds g.state g.failures junk c old (disk_in new)) (device refl) ends
 
-  module _ (left : D) (stop : Cause) (new : NodeState D) (did : StepOutcome) (has_failed : Type 0)
-      (was : IsSpent g (struck_at left) has_failed old left) (to : has_failed → stop ≡ Disk)
+  -- a cause that is reported is that of the stop
+  same_cause : (fault_of : Fault) (struck : Bool) (stop cause : Cause) →
+      told_cause fault_of struck stop ≡ Some cause → stop ≡ cause
+  same_cause fault.None struck stop cause is = cc
+  same_cause (fault.Fail call) struck stop cause is = cc
+  same_cause (fault.Stop call junk) false stop cause is = cc
+  same_cause (fault.Stop call junk) true stop cause is = absurd (cc)
+
+  module _ (left : D) (stop : Cause) (new : NodeState D) (did : StepOutcome)
+      (has_failed cause : Type 0)
+      (was : IsSpent g (struck_at left) has_failed cause old left) (to : has_failed → stop ≡ Disk)
       (from : stop ≡ Disk → has_failed)
       (told : (struck : Bool) → ((struck ≡ true) ↔ HasStruck g.fault_at g.past left) →
       did ≡ done.Stopped (told_cause it struck stop))
@@ -183,3 +202,16 @@ module _ {D : Type 0} (g : Ghosts D) (it : Fault) (old : D) where
           same
           (ends_by (junk_at_end it (struck_at left)) stop left new crashed
           (λ is. was.failed (from is)) (λ other. was.count (λ fails. other (to fails))))))
+
+      -- it stopped for its disk as the fault struck, or as a file was long
+      pub explained : g.is_reliable old → (cause → HasLongFile (g.state old)) →
+          IsExplained (g.state old) struck did
+      explained reliable long is =
+          let all : done.Stopped (told_cause it struck stop) ≡ done.Stopped (Some Disk) =
+          sym says ∙ is in
+          let told_so : told_cause it struck stop ≡ Some Disk = cc in
+          elim (was.only reliable (from (same_cause it struck stop Disk told_so))) as
+          (λ _. (struck ≡ true) ⊎ HasLongFile (g.state old)) [
+            | inl e ↦ inl (sym same ∙ e)
+            | inr why ↦ inr (long why)
+          ]

@@ -14,7 +14,7 @@ use Rattle.kv_types.specs.declared.bounds.TheConstants.{MAX_NUMBER}
 use Rattle.kv_types.specs.{BatchContent}
 use Rattle.disk.specs.declared.Fault.{Fault}
 use Rattle.disk.specs.declared.Junk.{Junk}
-use Rattle.disk.specs.{Slots, struck_call}
+use Rattle.disk.specs.{IsReliable, Slots, struck_call}
 use Rattle.chain_model.specs.{Configurations, Lawful, AllDifferent, has, at_epoch}
 use Rattle.chain_model.specs.{Message as ModelFrame, InOrder, SystemEvent as ModelEvent}
 use Rattle.chain_model.specs.{SystemState, Outcome, Answered, reached, first_state, outcome}
@@ -40,7 +40,7 @@ use Rattle.lab.specs.Events.{modelled, lines_of_event, NamesNode}
 use Rattle.lab.specs.SimNodes.{StateRefines, Choice, disk_in, is_honest, state, failures, calls}
 use Rattle.lab.specs.SimNodes.{IsUnarmed}
 use Rattle.lab.specs.Deliveries.{IsDeliveryOf, HasNoDelivery}
-use Rattle.lab.specs.Outcomes.{DiskFits, HasCrashed, OutcomeRefines, StateFollows}
+use Rattle.lab.specs.Outcomes.{DiskFits, HasCrashed, IsExplained, OutcomeRefines, StateFollows}
 use Rattle.lab.specs.Outcomes.{has_struck_in, input_junk, outcome_lines, sent_by}
 use Rattle.lab.specs.Disks.{has_reached, junk_of, IsCrashOf}
 use Rattle.lab.specs.Traces.{modelled_from}
@@ -108,12 +108,15 @@ pub stepped : (old : List SimNode) (i x : ℕ) (between was was' now : SimNode)
     OutcomeRefines is_honest state it (struck_by it was now) y n node_input now.state did) →
     DiskFits state failures calls (input_junk node_input) it (struck_by it was now) did
     (disk_in was.state) now.state →
+    ((y : ℕ) (n : Machine) → StateRefines is_honest state was.state y n →
+    IsReliable (disk_in was.state) →
+    IsExplained (state (disk_in was.state)) (struck_by it was now) did) →
     StateFollows is_honest state failures calls was.state node_input now.state →
     (IsUnarmed (disk_in was.state) → IsUnarmed (disk_in now.state)) →
     HasPosted posted (sent_by did) more → lines ≡ outcome_lines x (length posted) did →
     HasStepped old posted x node_input given lines (slice_set (slice_set old i between) i now) more
 stepped old i x between was was' now node_input it given did posted more lines same at out id
-    refines disk follows forgets sent traced =
+    refines disk only follows forgets sent traced =
     let is : was ≡ get_or old i now = out ∙ get_or_default old i was' now at.within in
     subst (λ (f : Fault). HasStepped old posted x node_input f lines
     (slice_set (slice_set old i between) i now) more) same
@@ -130,6 +133,9 @@ stepped old i x between was was' now node_input it given did posted more lines s
           refines;
       disk = subst (λ (s : SimNode). DiskFits state failures calls (input_junk node_input) it
           (struck_by it s now) did (disk_in s.state) now.state) is disk;
+      only = subst (λ (s : SimNode). (y : ℕ) (n : Machine) →
+          StateRefines is_honest state s.state y n → IsReliable (disk_in s.state) →
+          IsExplained (state (disk_in s.state)) (struck_by it s now) did) is only;
       follows = subst (λ (s : SimNode). StateFollows is_honest state failures calls s.state
           node_input now.state) is follows;
       forgets = subst (λ (s : SimNode). IsUnarmed (disk_in s.state) →
@@ -219,6 +225,11 @@ module _ (in_order : AlwaysInOrder) (cs : Configurations) (events : List Event)
       (junk_same w.frames i x event.kind node_input brings) t.disk)) in
       let few = made.few x in
       let may : MayRise (made.disks x) = omega (arith, few, next.at, next.fits) in
+      let reliable = subst IsReliable (sym slots) may in
+      let why : IsExplained (state (made.disks x)) out.choice.struck t.did =
+      subst (λ (b : Bool). IsExplained (state (made.disks x)) b t.did) (sym out.chose)
+      (subst (λ (d : Slots). IsExplained (state d) struck t.did) slots
+      (t.only x (w.nodes x) before reliable)) in
       let o = outcome w cs (modelled i event.kind out.choice) in
       let id : sim.id ≡ x = t.id in
       let long = AllZip-long PostedRefines posted w.frames made.frames in
@@ -242,7 +253,7 @@ module _ (in_order : AlwaysInOrder) (cs : Configurations) (events : List Event)
         disks = with_disk made.disks x own;
         follow = all_follow event out.choice o x out.node made.disks own out.came
             (follows (made.disks x) sim.state may event out.choice o x out.node t.did out.is so
-            out.ends left);
+            out.ends left why);
         few = few_more made.disks x own (length events) i next.at made.few
             (at_most_one (junk_of event.kind) event.fault out.choice.struck t.did (made.disks x)
             sim.state left may);

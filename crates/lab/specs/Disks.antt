@@ -1,7 +1,6 @@
 -- What a run leaves of its nodes' disks, event by event.
 use Rattle.std.specs.Prelude.{◌≡◌, ℕ, suc, ◌+◌, nat_le, List, [], ◌∷◌, map, Option, Some, None}
-use Rattle.std.specs.Prelude.{Bool, true, false}
-use Rattle.std.specs.Prelude.{All}
+use Rattle.std.specs.Prelude.{◌⊎◌, All, Bool, true, false}
 use Rattle.kv_types.specs.{BatchContent}
 use Rattle.disk.specs.declared.Fault.{Fault}
 use Rattle.disk.specs.declared.Fault.TheVariants as fault
@@ -11,9 +10,8 @@ use Rattle.disk.specs.{CrashOutcome, State, struck_call}
 use Rattle.chain_model.specs.{Configurations, at_epoch}
 use Rattle.chain_model.specs as model
 use Rattle.chain_core.specs.{Machine}
-use Rattle.node.specs.declared.Stop.{Stop as Cause}
 use Rattle.node.specs.declared.Stop.TheVariants.{Disk}
-use Rattle.node.specs.{DiskAlwaysRefines}
+use Rattle.node.specs.{DiskAlwaysRefines, HasLongFile}
 use Rattle.lab.specs.declared.event.Event.{Event}
 use Rattle.lab.specs.declared.event.EventKind.{EventKind}
 use Rattle.lab.specs.declared.event.EventKind.TheVariants.{Submit, Get, Deliver, Tick, Start, Stop}
@@ -51,10 +49,12 @@ junk_at_end fault.None struck = Old
 
 -- A node stopped by itself. If it stopped for the disk, one call of that failed, else none; and
 -- what the step left crashed with this junk.
-pub record IsEndOf {D : Type 0} (state : D → State) (failures : D → ℕ) (junk : Junk) (cause : Cause)
-    (old new : D) : Type 0 where
-  pub failed : cause ≡ Disk → failures new ≡ failures old + 1
-  pub others : (cause ≡ Disk → ⊥) → failures new ≡ failures old
+pub record IsEndOf {D : Type 0} (state : D → State) (failures : D → ℕ) (junk : Junk)
+    (choice : Choice) (old new : D) : Type 0 where
+  pub failed : choice.cause ≡ Disk → failures new ≡ failures old + 1
+  pub others : (choice.cause ≡ Disk → ⊥) → failures new ≡ failures old
+  -- a call fails only where the fault struck, or where a file was nearly as long as one can be
+  pub only : choice.cause ≡ Disk → (choice.struck ≡ true) ⊎ HasLongFile (state old)
   pub left : State
   pub crashes : CrashOutcome junk left (state new)
 
@@ -64,7 +64,7 @@ abbrev pub IsStopOf : {D : Type 0} → (D → State) → (D → ℕ) → (D → 
 IsStopOf state failures calls (Some junk) fault choice old new =
     IsCrashOf state failures calls junk old new
 IsStopOf state failures calls None fault choice old new =
-    IsEndOf state failures (junk_at_end fault choice.struck) choice.cause old new
+    IsEndOf state failures (junk_at_end fault choice.struck) choice old new
 
 -- what an event leaves of the disk of the node that it was for, which is n after it
 pub record DiskFollows {D : Type 0} (state : D → State) (failures calls : D → ℕ) (event : Event)

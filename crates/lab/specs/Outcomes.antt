@@ -19,7 +19,7 @@ use Rattle.node.specs.declared.Output.{Output}
 use Rattle.node.specs.declared.Reply.TheVariants as reply
 use Rattle.node.specs.declared.Stop.{Stop as Cause}
 use Rattle.node.specs.declared.Stop.TheVariants.{Disk}
-use Rattle.node.specs.{replies_of, disk_of, IsEnvironmental}
+use Rattle.node.specs.{replies_of, disk_of, HasLongFile, IsEnvironmental}
 use Rattle.lab.specs.declared.input.NodeInput.{NodeInput}
 use Rattle.lab.specs.declared.input.NodeInput.TheVariants as to_node
 use Rattle.lab.specs.declared.input.StepOutcome.{StepOutcome}
@@ -77,6 +77,11 @@ pub record StopsByItself (fault : Fault) (struck : Bool) (did : StepOutcome) : T
   pub environmental : IsEnvironmental cause
   pub device : struck ≡ true → cause ≡ Disk
   pub told : did ≡ done.Stopped (told_cause fault struck cause)
+
+-- a node that reports that it stopped for this disk did so as the fault struck, or as a file of the
+-- disk was nearly as long as one can be
+abbrev pub IsExplained : State → Bool → StepOutcome → Type 0
+IsExplained disk struck did = did ≡ done.Stopped (Some Disk) → (struck ≡ true) ⊎ HasLongFile disk
 
 -- ---- outcomes of node x, which was machine n, and the state that each leaves
 

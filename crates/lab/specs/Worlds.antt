@@ -7,7 +7,7 @@ use Rattle.chain_model.specs.{Configurations, Lawful, at_epoch, created}
 use Rattle.chain_model.specs as model_frame
 use Rattle.disk.specs.declared.Fault.{Fault}
 use Rattle.disk.specs.declared.Junk.{Junk}
-use Rattle.disk.specs.{Slots}
+use Rattle.disk.specs.{IsReliable, Slots}
 use Rattle.node.specs.declared.Node.{Node}
 use Rattle.node.specs.{disk_of}
 use Rattle.link_messages.specs.declared.Frame.{Frame}
@@ -31,7 +31,7 @@ use Rattle.lab.specs.SimNodes.{Choice, StateRefines, disk_in, is_honest, state, 
 use Rattle.lab.specs.SimNodes.{IsUnarmed}
 use Rattle.lab.specs.Events.{NamesNode}
 use Rattle.lab.specs.Outcomes.{OutcomeRefines, DiskFits, StateFollows, input_junk, sent_by}
-use Rattle.lab.specs.Outcomes.{has_struck_in, outcome_lines}
+use Rattle.lab.specs.Outcomes.{IsExplained, has_struck_in, outcome_lines}
 use Rattle.lab.specs.Disks.{AreDisksAfter, HaveDisks, IsDiskOf, IsCrashOf}
 use Rattle.lab.specs.History.{IsHistory}
 use Rattle.lab.specs.Runs.{RunningRefines}
@@ -132,6 +132,11 @@ pub record HasStepped (sims : List SimNode) (posted : List Posted) (x : ℕ) (no
   pub disk : DiskFits state failures calls (input_junk node_input) fault
       (has_struck_in calls fault (disk_in (get_or sims index sim).state) sim.state) did
       (disk_in (get_or sims index sim).state) sim.state
+  pub only : (y : ℕ) (n : Machine) →
+      StateRefines is_honest state (get_or sims index sim).state y n →
+      IsReliable (disk_in (get_or sims index sim).state) →
+      IsExplained (state (disk_in (get_or sims index sim).state))
+      (has_struck_in calls fault (disk_in (get_or sims index sim).state) sim.state) did
   pub follows : StateFollows is_honest state failures calls (get_or sims index sim).state node_input
       sim.state
   -- the fault is forgotten

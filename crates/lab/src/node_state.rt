@@ -8,13 +8,14 @@ ghost use Rattle.node.specs.{DiskAlwaysRefines, IsReady, NodeRefines, StopRefine
 ghost use Rattle.lab.specs.Disks.{junk_at_end};
 ghost use Rattle.lab.specs.Events.{told_cause};
 ghost use Rattle.lab.specs.SimNodes.{StateRefines, StateIsReady, calls_of, disk_in};
-ghost use Rattle.lab.specs.Outcomes.{DiskFits, HasCrashed, HasHandled, HasStarted, OutcomeRefines};
-ghost use Rattle.lab.specs.Outcomes.{StateFollows, has_struck_in, input_junk};
+ghost use Rattle.lab.specs.Outcomes.{DiskFits, HasCrashed, HasHandled, HasStarted, IsExplained};
+ghost use Rattle.lab.specs.Outcomes.{OutcomeRefines, StateFollows, has_struck_in, input_junk};
 
 use crate::input::{NodeInput, StepOutcome, dropped, output_down};
 use disk::laws::{crashed_is_durable, durable_is_left};
 use disk::{Crash, Disk, Fault, Junk};
 use kv_types::Limits;
+use node::laws::full_logs_are_long;
 use node::{DropReason, Input, Node, Stop};
 use std::alloc::{AllocError, Global};
 
@@ -80,6 +81,8 @@ fn start<D: Crash + Drop>(
     ensures disk { D.is_honest disk →
         DiskFits D.state D.failures (calls_of D.Disk) None fault
         (has_struck_in (calls_of D.Disk) fault disk result.0) result.1 disk result.0 }
+    ensures only { D.is_honest disk → D.is_reliable disk → IsExplained (D.state disk)
+        (has_struck_in (calls_of D.Disk) fault disk result.0) result.1 }
     ensures forgets { D.is_honest disk → D.fault_at (disk_in result.0) ≡ None }
 {
     disk.arm(&fault);
@@ -114,8 +117,12 @@ fn step<D: Crash + Drop>(
         DiskFits D.state D.failures (calls_of D.Disk) None fault
         (has_struck_in (calls_of D.Disk) fault (disk_of node) result.0) result.1 (disk_of node)
         result.0 }
+    ensures only { (x : ℕ) (n : Machine) → NodeRefines D.is_honest D.state node x n →
+        D.is_reliable (disk_of node) → IsExplained (D.state (disk_of node))
+        (has_struck_in (calls_of D.Disk) fault (disk_of node) result.0) result.1 }
     ensures forgets { D.is_honest (disk_of node) → D.fault_at (disk_in result.0) ≡ None }
 {
+    full_logs_are_long::<D>(); // law: where a log is nearly full, a file is long
     node.arm(&fault);
     match node.step(alloc, input) {
         Ok(output) => {
@@ -144,6 +151,10 @@ impl<D: Crash + Drop> NodeState<D> {
         ensures disk { D.is_honest (disk_in self) → IfOk result (λ it.
             DiskFits D.state D.failures (calls_of D.Disk) (input_junk input) fault
             (has_struck_in (calls_of D.Disk) fault (disk_in self) it.0) it.1 (disk_in self) it.0) }
+        ensures only { (x : ℕ) (n : Machine) → StateRefines D.is_honest D.state self x n →
+            D.is_reliable (disk_in self) → IfOk result (λ it.
+            IsExplained (D.state (disk_in self))
+            (has_struck_in (calls_of D.Disk) fault (disk_in self) it.0) it.1) }
         ensures follows { IfOk result (λ it.
             StateFollows D.is_honest D.state D.failures (calls_of D.Disk) self input it.0) }
         ensures forgets { D.is_honest (disk_in self) → D.fault_at (disk_in self) ≡ None →

@@ -4,7 +4,7 @@ use Rattle.disk.specs.{State}
 use Rattle.node.specs.{DiskAlwaysRefines}
 use Rattle.lab.specs.SimNodes.{StateRefines}
 use Rattle.lab.specs.Outcomes.{Starts, Fails}
-use Rattle.lab.proofs.Faults.{disk_fits, same_state, spent, stopped_so}
+use Rattle.lab.proofs.Faults.{disk_fits, explained, same_state, spent, stopped_so}
 use Rattle.lab.proofs.node_state.start.Goals as goal
 
 pub returns-in-Ok-clause-refines : goal.returns-in-Ok-clause-refines
@@ -35,7 +35,7 @@ returns-in-Err-clause-refines g c = λ x n r.
     ] in
     Fails r.2
     (stopped_so g.D.Disk c.args.fault c.args.disk c.in-Err.disk c.in-Err.stop
-    c.stop_by_itself.result.0 c.stop_by_itself.result.1 _ was (λ fails. fails) (λ is. is)
+    c.stop_by_itself.result.0 c.stop_by_itself.result.1 _ _ was (λ fails. fails) (λ is. is)
     c.stop_by_itself.ensures.told c.stop_by_itself.ensures.crashes left.0) rests
 
 pub returns-in-Err-clause-disk : goal.returns-in-Err-clause-disk
@@ -43,5 +43,13 @@ returns-in-Err-clause-disk g c = λ honest.
     let was = spent g.D.Disk c.args.fault c.args.disk c.arm.new.self c.in-Err.disk _ _ _
     c.arm.ensures c.in-Err.ensures.kept honest in
     disk_fits g.D.Disk c.args.fault c.args.disk c.in-Err.disk c.in-Err.stop
-    c.stop_by_itself.result.0 c.stop_by_itself.result.1 _ was (λ fails. fails) (λ is. is)
+    c.stop_by_itself.result.0 c.stop_by_itself.result.1 _ _ was (λ fails. fails) (λ is. is)
     c.stop_by_itself.ensures.told c.stop_by_itself.ensures.crashes
+
+pub returns-in-Err-clause-only : goal.returns-in-Err-clause-only
+returns-in-Err-clause-only g c = λ honest reliable.
+    let was = spent g.D.Disk c.args.fault c.args.disk c.arm.new.self c.in-Err.disk _ _ _
+    c.arm.ensures c.in-Err.ensures.kept honest in
+    explained g.D.Disk c.args.fault c.args.disk c.in-Err.disk c.in-Err.stop
+    c.stop_by_itself.result.0 c.stop_by_itself.result.1 _ _ was (λ fails. fails) (λ is. is)
+    c.stop_by_itself.ensures.told c.stop_by_itself.ensures.crashes reliable (λ none. absurd none)

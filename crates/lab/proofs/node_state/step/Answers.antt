@@ -1,11 +1,13 @@
 use Rattle.std.proofs.Common.{Err, Result, refl, sym, ap, subst}
 use Rattle.chain_core.specs.{answer_to}
-use Rattle.disk.specs.{KeepsDisk}
+use Rattle.disk.specs.{KeepsDisk, State}
 use Rattle.node.specs.declared.Output.{Output}
 use Rattle.node.specs.declared.Stop.{Stop as Cause}
-use Rattle.node.specs.{IsDeviceStop, IsNearlyFull, KeepsOthersOf, StopRefines, disk_of, engine_of}
+use Rattle.node.specs.{HasLongFile, IsDeviceStop, IsNearlyFull, KeepsOthersOf, StopRefines}
+use Rattle.node.specs.{disk_of, engine_of}
 use Rattle.lab.specs.Outcomes.{Answers, Ends}
-use Rattle.lab.proofs.Faults.{IsSpent, disk_fits, spent, stopped_so, struck_at}
+use Rattle.lab.proofs.Faults.{IsSpent, disk_fits, explained, same_state, spent, stopped_so}
+use Rattle.lab.proofs.Faults.{struck_at}
 use Rattle.lab.proofs.node_state.step.Goals as goal
 
 pub returns-in-Ok-clause-refines : goal.returns-in-Ok-clause-refines
@@ -25,7 +27,8 @@ returns-in-Ok-clause-refines g c = λ x n r.
 left_of : (g : _) (c : goal.After-stop_by_itself g) → g.D.Disk.is_honest (disk_of c.args.node) →
     IsSpent g.D.Disk
     (struck_at g.D.Disk c.args.fault (disk_of c.args.node) c.into_disk.result)
-    (IsDeviceStop {T = Output} (Err c.in-Err.stop)) (disk_of c.args.node) c.into_disk.result
+    (IsDeviceStop {T = Output} (Err c.in-Err.stop)) (IsNearlyFull (engine_of c.arm.new.self))
+    (disk_of c.args.node) c.into_disk.result
 left_of g c honest =
     let ended : Result Output Cause = Err c.in-Err.stop in
     let engine = engine_of c.arm.new.self in
@@ -47,7 +50,7 @@ returns-in-Err-clause-refines g c = λ x n r.
     Ends r.core.running
     (stopped_so g.D.Disk c.args.fault (disk_of c.args.node) c.into_disk.result c.in-Err.stop
     c.stop_by_itself.result.0 c.stop_by_itself.result.1
-    (IsDeviceStop {T = Output} (Err c.in-Err.stop))
+    (IsDeviceStop {T = Output} (Err c.in-Err.stop)) (IsNearlyFull (engine_of c.arm.new.self))
     (left_of g c r.honest) (λ fails. cc) (λ is. ap (λ (e : Cause). Err e) is)
     c.stop_by_itself.ensures.told c.stop_by_itself.ensures.crashes ended.done)
     (c.stop_by_itself.ensures.refines x n a honest stops)
@@ -56,6 +59,17 @@ pub returns-in-Err-clause-disk : goal.returns-in-Err-clause-disk
 returns-in-Err-clause-disk g c = λ honest.
     disk_fits g.D.Disk c.args.fault (disk_of c.args.node) c.into_disk.result c.in-Err.stop
     c.stop_by_itself.result.0 c.stop_by_itself.result.1
-    (IsDeviceStop {T = Output} (Err c.in-Err.stop))
+    (IsDeviceStop {T = Output} (Err c.in-Err.stop)) (IsNearlyFull (engine_of c.arm.new.self))
     (left_of g c honest) (λ fails. cc) (λ is. ap (λ (e : Cause). Err e) is)
     c.stop_by_itself.ensures.told c.stop_by_itself.ensures.crashes
+
+pub returns-in-Err-clause-only : goal.returns-in-Err-clause-only
+returns-in-Err-clause-only g c = λ x n r reliable.
+    let armed = c.arm.ensures.armed in
+    explained g.D.Disk c.args.fault (disk_of c.args.node) c.into_disk.result c.in-Err.stop
+    c.stop_by_itself.result.0 c.stop_by_itself.result.1
+    (IsDeviceStop {T = Output} (Err c.in-Err.stop)) (IsNearlyFull (engine_of c.arm.new.self))
+    (left_of g c r.honest) (λ fails. cc) (λ is. ap (λ (e : Cause). Err e) is)
+    c.stop_by_itself.ensures.told c.stop_by_itself.ensures.crashes reliable
+    (λ full. subst (λ (s : State). HasLongFile s) (sym (same_state (armed.same r.honest)))
+    (c.full_logs_are_long.ensures c.arm.new.self x n (c.arm.ensures.refines x n r) full))

@@ -10,7 +10,7 @@ use Rattle.lab.specs.declared.input.StepOutcome.TheVariants as done
 use Rattle.lab.specs.declared.node_state.NodeState.{NodeState}
 use Rattle.lab.specs.declared.node_state.NodeState.TheVariants.{Up, Down}
 use Rattle.lab.specs.SimNodes.{StateRefines, calls_of, disk_in}
-use Rattle.lab.specs.Outcomes.{OutcomeRefines, Rests, Drops, has_struck_in}
+use Rattle.lab.specs.Outcomes.{IsExplained, OutcomeRefines, Rests, Drops, has_struck_in}
 use Rattle.lab.specs.Outcomes.{DropsResting, RunsOn, RestsOn, Stops}
 use Rattle.lab.proofs.node_state.NodeState.dispatch.Goals as goal
 
@@ -82,3 +82,11 @@ returns-clause-refines g c = λ x n is.
           (Down c.in-Down.disk) (done.Answered output.result)) (sym stops.1) (RestsOn r.2 r
           (output.result, refl, output.ensures))
     ]
+
+pub returns-in-Step-clause-only : goal.returns-in-Step-clause-only
+returns-in-Step-clause-only g c =
+    subst (λ (m : NodeState _). (x : ℕ) (n : Machine) →
+    StateRefines g.D.Disk.is_honest g.D.Disk.state m x n → g.D.Disk.is_reliable (disk_in m) →
+    IsExplained (g.D.Disk.state (disk_in m))
+    (has_struck_in (calls_of g.D.Disk) c.args.fault (disk_in m) c.step.result.0) c.step.result.1)
+    (sym c.in-Up.is) c.step.ensures.only

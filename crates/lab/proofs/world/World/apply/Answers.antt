@@ -78,5 +78,5 @@ returns c = λ cs events steps run.
     (subst (λ (l : List SimNode). IsIndexOf l index it.0) c.deref-2.ensures.value
     c.in-Some-index_of.ensures)
     (c.replace-node.ensures.value ∙ c.index_mut.ensures.value) refl c.in_ok-state.ensures.refines
-    (c.in_ok-state.ensures.disk tt) c.in_ok-state.ensures.follows
+    (c.in_ok-state.ensures.disk tt) c.in_ok-state.ensures.only c.in_ok-state.ensures.follows
     (c.in_ok-state.ensures.forgets tt) c.in_ok-lines.ensures.posted c.in_ok-lines.ensures.lines)
