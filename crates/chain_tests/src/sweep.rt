@@ -197,17 +197,14 @@ fn are_same(alloc: Global, a: &Batch, b: &Batch) -> Result<bool, Fail> {
     Ok(a.to_bytes(alloc)? == b.to_bytes(alloc)?)
 }
 
-// Leaves of a list what it has in common with another, from the first batch on.
-fn keep_common(alloc: Global, list: &mut Vec<Batch>, other: &[Batch]) -> Result<(), Fail> {
-    let mut common = 0;
-    while common < list.len() && common < other.len() {
-        if !are_same(alloc, &list[common], &other[common])? {
-            break;
+// How many first batches two lists have in common.
+fn common_len(alloc: Global, list: &[Batch], other: &[Batch]) -> Result<usize, Fail> {
+    for (index, (a, b)) in list.iter().zip(other).enumerate() {
+        if !are_same(alloc, a, b)? {
+            return Ok(index);
         }
-        common += 1;
     }
-    list.truncate(common);
-    Ok(())
+    Ok(list.len().min(other.len()))
 }
 
 // The one list: what the disks of all nodes have in common.
@@ -217,7 +214,7 @@ fn one_list(alloc: Global, disks: Vec<MemDisk>) -> Result<Vec<Batch>, Fail> {
         let batches = batches_on(alloc, disk)?;
         match &mut list {
             None => list = Some(batches),
-            Some(list) => keep_common(alloc, list, &batches)?,
+            Some(list) => list.truncate(common_len(alloc, list, &batches)?),
         }
     }
     Ok(list.ok_or("no node")?)
@@ -234,6 +231,11 @@ fn is_taken(alloc: Global, list: &[Batch], submitted: &[Option<Batch>]) -> Resul
     Ok(passed == list.len())
 }
 
+// What stands at a number, the first being 1.
+fn at<T>(list: &[T], number: u64) -> Option<&T> {
+    list.get((number as usize).checked_sub(1)?)
+}
+
 // Whether a reply speaks of the list.
 fn speaks(
     alloc: Global,
@@ -244,9 +246,9 @@ fn speaks(
     match reply {
         Reply::Refused { .. } => Ok(true),
         Reply::Committed { request, number } => {
-            let event = submitted.get(request.get() as usize - 1).ok_or("no event")?;
+            let event = at(submitted, request.get()).ok_or("no event")?;
             let batch = event.as_ref().ok_or("no batch")?;
-            match list.get(number.get() as usize - 1) {
+            match at(list, number.get()) {
                 Some(there) => are_same(alloc, batch, there),
                 None => Ok(false),
             }
@@ -294,28 +296,28 @@ fn sweep(
     index: usize,
     way: Way,
 ) -> Result<u64, Fail> {
-    let mut call = 0;
-    loop {
-        call += 1;
+    for call in 1..100 {
         let fault = fault_at(alloc, way, call)?;
         let (course, struck) = course_of(alloc, nodes, steps, index, fault)?;
         check(alloc, course)?;
-        if !struck || call == 100 {
+        if !struck {
             return Ok(call);
         }
     }
+    Err("a step of 99 calls".into())
 }
 
 #[test]
 fn every_run_with_a_fault_has_one_list(rt: HostRuntime) -> Result<(), Fail> {
-    let mut runs = 0;
+    let mut runs: u64 = 0;
     for (nodes, steps) in &RUNS {
         for (index, step) in steps.iter().enumerate() {
             if let Step::Stop(_, _) = step {
                 continue;
             }
             for way in &ALL_WAYS {
-                runs += sweep(rt.alloc(), *nodes, *steps, index, *way)?;
+                let more = sweep(rt.alloc(), *nodes, *steps, index, *way)?;
+                runs = runs.saturating_add(more);
             }
         }
     }
