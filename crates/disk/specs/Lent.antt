@@ -8,8 +8,8 @@ use Rattle.disk.specs.Calls.{KeepsBy}
 use Rattle.disk.specs.Faults.{armed_after, struck_call}
 
 -- The disk is honest exactly if it was, and its count of failures rises exactly where `has_failed`.
--- A reliable disk fails only for this cause, and otherwise stays reliable. The last
--- argument relates the files of an honest disk before and after the call.
+-- A reliable disk whose fault has not struck fails only for this cause, and otherwise stays
+-- reliable. The last argument relates the files of an honest disk before and after the call.
 abbrev pub KeepsDisk : {D : Type 0} → Ghosts D → (old new : D) → (has_failed cause : Type 0) →
     (State → State → Type 0) → Type 0
 KeepsDisk g = KeepsBy g.is_honest g.state g.failures g.is_reliable g.past g.fault_at

@@ -78,7 +78,7 @@ abbrev pub DurableIsLeft : Type 0
 DurableIsLeft = (disk : State) (left : Contents) (file : ℕ) → IsDurable (disk file) →
     IsCrashOutcome disk left → left file ≡ seen (disk file)
 
--- .. and of each durable file exactly its content, whatever it leaves of the others
+-- a crash leaves of each durable file exactly its content, whatever it leaves of the others
 abbrev pub DurableFileIsLeft : Type 0
 DurableFileIsLeft = (slot : Slot) (left : Option (List ℕ)) → IsDurable slot →
     IsFileOutcome slot left → left ≡ seen slot

@@ -37,8 +37,8 @@ fn crash<D: Crash + Drop>(mut disk: D, junk: Junk) -> NodeState<D>
         ⊎ StateRefines D.is_honest D.state result x (stopped a.node) }
     ensures forgets { D.fault_at (disk_in result) ≡ None }
 {
-    // laws: what a crash leaves is sure, and a crash leaves it again
-    durable_is_left(); // law: a crash leaves what is durable
+    // laws: what a crash leaves is durable, and a crash leaves it again
+    durable_is_left();
     crashed_is_durable();
     disk.crash(junk);
     NodeState::Down(disk)

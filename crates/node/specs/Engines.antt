@@ -38,7 +38,8 @@ pub record IsUsable (engine : Engine) : Type 0 where
 abbrev pub IsNearlyFull : Engine → Type 0
 IsNearlyFull engine = EndsOutOfRange (gate_of engine.log) (MAX_RECORD + 6)
 
--- a file of the disk is as long: one more record would end past the greatest place of a file
+-- a file of the disk is so long that one more record of the greatest length behind it would end past
+-- the greatest place of a file
 abbrev pub HasLongFile : State → Type 0
 HasLongFile disk =
     (file : ℕ) × IsSomeAnd (seen (disk file)) (λ it. EndsOutOfRange (length it) (MAX_RECORD + 6))
