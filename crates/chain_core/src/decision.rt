@@ -4,7 +4,7 @@ use kv_types::{Batch, Key, Number};
 use link_messages::Refusal;
 
 /// The action of a node on an input.
-#[derive(Debug, Drop)]
+#[derive(Drop)]
 pub enum Decision {
     /// The head appends and forwards the client's batch, and its acknowledgement is pending.
     Accept {

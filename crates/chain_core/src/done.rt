@@ -3,7 +3,7 @@ use kv_types::Number;
 
 /// The store's part of a decision that changes the state of a node. The store already has the
 /// batch, if there is one.
-#[derive(Clone, Copy, Debug)]
+#[derive(Clone, Copy)]
 pub enum Done {
     /// A batch of this request was appended.
     Accepted { request: Number },

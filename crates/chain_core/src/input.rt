@@ -3,7 +3,7 @@ use configurations::{Epoch, NodeId};
 use kv_types::{Batch, Key, Number};
 
 /// An input of a running node.
-#[derive(Debug, Drop)]
+#[derive(Drop)]
 pub enum Input {
     Submit {
         request: Number,

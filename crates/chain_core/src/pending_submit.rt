@@ -2,7 +2,7 @@
 use kv_types::Number;
 
 /// A pending request, whose batch has this number.
-#[derive(Clone, Copy, Debug, PartialEq, Eq)]
+#[derive(Clone, Copy, PartialEq, Eq)]
 pub struct PendingSubmit {
     pub number: Number,
     pub request: Number,

@@ -5,7 +5,7 @@ use configurations::{Config, Epoch, NodeId};
 use kv_types::Number;
 
 /// The persistent state of a node, besides its batches.
-#[derive(Debug, Drop)]
+#[derive(Drop)]
 pub struct PersistentState {
     pub id: NodeId,
     pub epoch: Epoch,

@@ -15,7 +15,7 @@ use std::ops::Range;
 const MAX_RESENT: u64 = 16;
 
 /// A frame for a node.
-#[derive(Debug, Drop)]
+#[derive(Drop)]
 pub struct Sent {
     pub to: NodeId,
     pub frame: Frame,

@@ -20,7 +20,7 @@ use std::marker::Model;
 
 /// The state of a node besides its batches: its numbers, its configuration, and its pending
 /// requests.
-#[derive(Debug, Drop)]
+#[derive(Drop)]
 pub struct CoreState {
     id: NodeId,
     epoch: Epoch,

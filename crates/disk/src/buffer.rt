@@ -7,7 +7,7 @@ use std::alloc::{AllocError, Global};
 use std::marker::Model;
 
 // Bytes of a buffer that a write has overwritten, and the place where they began.
-#[derive(Debug, Drop)]
+#[derive(Drop)]
 pub struct Covered {
     at: usize,
     bytes: Vec<u8>,

@@ -10,7 +10,7 @@ use std::collections::BTreeMap;
 use std::marker::Model;
 
 /// A fault that the device is armed with.
-#[derive(Clone, Copy, Debug)]
+#[derive(Clone, Copy)]
 pub struct Armed {
     // The call that it strikes, from 1 from the moment that it was armed, and how many calls are
     // left to it, with itself.

@@ -11,7 +11,7 @@ use std::marker::Model;
 
 // The file's bytes are the first `len` of the buffer, which only a sync shortens. Bytes that a
 // write overwrites are saved, so that the synced content can be restored without a copy.
-#[derive(Debug, Drop)]
+#[derive(Drop)]
 pub struct MemFile {
     buffer: Vec<u8>,
     len: usize,

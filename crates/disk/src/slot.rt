@@ -14,12 +14,12 @@ use std::alloc::{AllocError, Global};
 use std::marker::Model;
 use std::mem;
 
-#[derive(Debug, Drop)]
+#[derive(Drop)]
 pub struct MemSlot {
     held: Held,
 }
 
-#[derive(Debug, Drop)]
+#[derive(Drop)]
 pub enum Held {
     Absent(Option<Vec<u8>>),
     Fresh(Vec<u8>, Option<Vec<u8>>),

@@ -30,7 +30,7 @@ impl Event {
 }
 
 /// An event that a world took, in its place of the run.
-#[derive(Debug, Drop)]
+#[derive(Drop)]
 pub struct EventRecord {
     pub event: Event,
 }

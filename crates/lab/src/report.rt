@@ -8,7 +8,7 @@ use node::{DropReason, Reply, Stop};
 use std::marker::Model;
 
 /// One line of the trace of an event.
-#[derive(Debug, Drop)]
+#[derive(Drop)]
 pub enum Line {
     /// No frame has the place.
     Nothing,
@@ -45,7 +45,7 @@ pub enum Line {
 }
 
 /// The lines of one event, in order.
-#[derive(Debug, Drop)]
+#[derive(Drop)]
 pub struct Lines {
     lines: Vec<Line>,
 }
@@ -74,7 +74,7 @@ impl Lines {
 }
 
 /// The numbers of a running node.
-#[derive(Clone, Copy, Debug)]
+#[derive(Clone, Copy)]
 pub struct Numbers {
     pub epoch: Epoch,
     pub count: Number,

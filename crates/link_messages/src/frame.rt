@@ -7,7 +7,7 @@ use kv_types::{Batch, Key, Number, Page, Range, Value};
 pub const MAX_FRAME: usize = 131072;
 
 /// A message from one side of a link to the other.
-#[derive(Debug, Drop)]
+#[derive(Drop)]
 pub enum Frame {
     /// Sends the batch of this number to the sender's successor.
     Forward {

@@ -31,7 +31,7 @@ use record_log::{Log, records_are_unique};
 use std::alloc::Global;
 
 /// The store of a node: its batches in a log, and in memory. Each call borrows the disk.
-#[derive(Debug, Drop)]
+#[derive(Drop)]
 pub struct Engine {
     log: Log,
     batches: Vec<Batch>,

@@ -18,7 +18,7 @@ pub const IDENTITY_FILE: u64 = 1;
 pub const BATCHES_FILE: u64 = 3;
 
 /// The identity of a node: what it keeps besides its batches.
-#[derive(Debug, Drop)]
+#[derive(Drop)]
 pub struct Identity {
     pub id: NodeId,
     pub config: Config,

@@ -32,7 +32,7 @@ use kv_types::{Batch, Key, Limits, Number};
 use std::alloc::Global;
 
 /// A running node of a chain, and its disk.
-#[derive(Debug, Drop)]
+#[derive(Drop)]
 pub struct Node<D: Disk + Drop> {
     disk: D,
     engine: Engine,

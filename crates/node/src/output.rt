@@ -4,7 +4,7 @@ use kv_types::{Number, Value};
 use link_messages::Refusal;
 
 /// A reply to a client's request.
-#[derive(Debug, Drop)]
+#[derive(Drop)]
 pub enum Reply {
     /// The number of the client's batch, which is committed.
     Committed {
@@ -24,7 +24,7 @@ pub enum Reply {
 }
 
 /// The answer of a step.
-#[derive(Debug, Drop)]
+#[derive(Drop)]
 pub struct Output {
     /// Why the input was dropped, if it was.
     pub dropped: Option<DropReason>,

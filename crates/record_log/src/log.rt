@@ -23,7 +23,7 @@ pub const MAX_RECORD: usize = 16_777_216;
 
 /// An append-only log of records in a file, from a place of the file on. It keeps the places where
 /// records end, and none of their bytes. Each call borrows the disk.
-#[derive(Debug, Drop)]
+#[derive(Drop)]
 pub struct Log {
     file: u64,
     start: u64,

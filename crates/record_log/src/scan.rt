@@ -8,7 +8,7 @@ use disk::DiskError;
 use std::alloc::{AllocError, Global};
 
 /// Bytes that represent no records.
-#[derive(Clone, Copy, Debug)]
+#[derive(Clone, Copy)]
 struct Malformed;
 
 /// The record at the front and the bytes behind it, or `None` where the gate is closed.
