@@ -1,0 +1,5 @@
+mod Bools
+mod VersionLists
+mod Puts
+mod Adds
+mod Gets

@@ -1,0 +1,4 @@
+pub mod Versions
+pub mod Maps
+pub mod Sizes
+pub mod Tables
