@@ -1,5 +1,5 @@
 -- The entries of a map with the entries of a batch.
-use Rattle.std.proofs.Common.{◌≡◌, ◌↔◌, ◌⊎◌, inl, inr, ℕ, ◌<◌, ◌≤◌, sym, ap, ◌∙◌, subst, List, [], ◌∷◌, ◌++◌, length, Bool, true, false, cond, Option, Some, None, refl, All}
+use Rattle.std.proofs.Common.{◌≡◌, ◌↔◌, ◌⊎◌, inl, inr, ℕ, ◌<◌, ◌≤◌, sym, ap, ◌∙◌, subst, List, [], ◌∷◌, length, Bool, true, false, cond, Option, Some, None, refl, All}
 use Rattle.std.specs.List.{slice_get}
 use Rattle.std.specs.Option.{option_or}
 use Rattle.std.specs.Str.{bytes_eq}
@@ -14,7 +14,7 @@ use Rattle.kv_types.specs.Spelling.{IsEdit}
 use Rattle.kv_types.specs.{Entry, entries_of}
 use Rattle.memtable.specs.declared.version.Version.{Version}
 use Rattle.memtable.specs.Versions.{IsRisingList}
-use Rattle.memtable.specs.Maps.{VersionMap, versions_at, added, MapHolds, IsRising, HasShortKeys, entry_version}
+use Rattle.memtable.specs.Maps.{VersionMap, versions_at, added, MapHolds, HasRisingNumbers, HasShortKeys, entry_version}
 use Rattle.memtable.proofs.VersionLists.{places, last_at, front_at, rising_more}
 
 there : (old : List Version) (number : ℕ) (x : Option (Option (List ℕ))) (v : Version) (i : ℕ) → slice_get (added old number x) i ≡ Some v → ((i : ℕ) × (slice_get old i ≡ Some v)) ⊎ ((v.number ≡ number) × (x ≡ Some v.value))
@@ -48,9 +48,9 @@ rising_added old number (Some w) rising below = rising_more old (record { number
 
 pub still_rising : (m n : VersionMap) (number : ℕ) (edits : List Edit)
     → ((q : List ℕ) → versions_at n q ≡ added (versions_at m q) number (last_edit edits q))
-    → IsRising m
+    → HasRisingNumbers m
     → ((q : List ℕ) (i : ℕ) (v : Version) → slice_get (versions_at m q) i ≡ Some v → v.number < number)
-    → IsRising n
+    → HasRisingNumbers n
 still_rising m n number edits is rising below q = subst IsRisingList (sym (is q)) (rising_added (versions_at m q) number (last_edit edits q) (rising q) (below q))
 
 short_edit : (edit : Edit) → IsEdit edit → length (key_of edit) ≤ MAX_KEY

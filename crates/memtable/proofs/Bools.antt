@@ -1,5 +1,5 @@
 -- A test that failed.
-use Rattle.std.proofs.Common.{◌≡◌, Bool, true, false, sym, ◌∙◌}
+use Rattle.std.proofs.Common.{◌≡◌, Bool, false, sym, ◌∙◌}
 use Rattle.std.specs.Prelude.{IsTrue}
 use Rattle.std.proofs.lemmas.Bool.{false≢true}
 

@@ -1,5 +1,5 @@
 -- What a key has at a number.
-use Rattle.std.proofs.Common.{◌≡◌, ◌⊎◌, inl, inr, ℕ, ◌<◌, ◌≤◌, sym, ap, ◌∙◌, subst, arith, List, length, Option, Some, None, refl}
+use Rattle.std.proofs.Common.{◌≡◌, ◌⊎◌, inl, inr, ℕ, ◌<◌, ◌≤◌, sym, ap, ◌∙◌, subst, arith, List, Option, Some, None}
 use Rattle.std.specs.List.{slice_get}
 use Rattle.std.specs.BTreeMap.{get}
 use Rattle.std.specs.Ordering.{nat_cmp}
@@ -9,10 +9,10 @@ use Rattle.kv_types.specs.{Entry, IsNewest, IsUnseen}
 use Rattle.memtable.specs.declared.version.Version.{Version}
 use Rattle.memtable.specs.declared.version.Versions.{Versions}
 use Rattle.memtable.specs.Versions.{all_of, IsRisingList, IsLastUpTo}
-use Rattle.memtable.specs.Maps.{VersionMap, MapHolds, found, versions_at, entry_version, IsRising}
+use Rattle.memtable.specs.Maps.{VersionMap, MapHolds, found, versions_at, entry_version, HasRisingNumbers}
 
 -- the versions that were found rise
-pub found_rising : (m : VersionMap) (key : List ℕ) (vs : Versions) → Some vs ≡ get (slice_cmp nat_cmp) m key → IsRising m → IsRisingList (all_of vs)
+pub found_rising : (m : VersionMap) (key : List ℕ) (vs : Versions) → Some vs ≡ get (slice_cmp nat_cmp) m key → HasRisingNumbers m → IsRisingList (all_of vs)
 found_rising m key vs is rising = subst (λ o. IsRisingList (found o)) (sym is) (rising key)
 
 late : (i at : ℕ) → (i < at) ⊎ ((i ≡ at) ⊎ (at < i))
@@ -35,7 +35,7 @@ held m key other has same =
 
 -- the version at the place that was found is the newest entry of its key
 pub newest : (m : VersionMap) (key : List ℕ) (vs : Versions) (at own place : ℕ) (v : Version) (value : Option (List ℕ))
-    → own ≡ at → Some vs ≡ get (slice_cmp nat_cmp) m key → IsRising m
+    → own ≡ at → Some vs ≡ get (slice_cmp nat_cmp) m key → HasRisingNumbers m
     → (IsRisingList (all_of vs) → IsLastUpTo (all_of vs) own (Some place))
     → slice_get (all_of vs) place ≡ Some v → v.value ≡ value
     → (number : ℕ) × IsNewest at (MapHolds m) (record { key = key; number = number; value = value })
@@ -70,7 +70,7 @@ none_there m key at is =
     unseen m key at (λ i v e. absurd (let z : None ≡ Some v = ap (λ o. slice_get (found o) i) is ∙ e in cc))
 
 pub all_newer : (m : VersionMap) (key : List ℕ) (vs : Versions) (at own : ℕ) → own ≡ at
-    → Some vs ≡ get (slice_cmp nat_cmp) m key → IsRising m
+    → Some vs ≡ get (slice_cmp nat_cmp) m key → HasRisingNumbers m
     → (IsRisingList (all_of vs) → IsLastUpTo (all_of vs) own None)
     → IsUnseen at (MapHolds m) key
 all_newer m key vs at own same is rising last =

@@ -3,3 +3,10 @@ mod VersionLists
 mod Puts
 mod Adds
 mod Gets
+mod Ranges
+mod Firsts
+mod Steps
+mod KeySteps
+mod Seeks
+mod Lefts
+mod LongKeys

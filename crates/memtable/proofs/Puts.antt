@@ -1,10 +1,10 @@
 -- A map with one more version of a key.
-use Rattle.std.proofs.Common.{◌≡◌, ℕ, ◌<◌, sym, ap, ap₂, ◌∙◌, subst, List, [], ◌∷◌, ◌++◌, length, ◌+◌, ◌==◌, ◌^◌, ◌-◌, ◌<◌, ◌≤◌, min, Bool, true, false, not, cond, if◌then◌else◌, Option, Some, None, refl, arith}
+use Rattle.std.proofs.Common.{◌≡◌, ℕ, ◌<◌, sym, ap, ap₂, ◌∙◌, subst, List, [], ◌∷◌, length, ◌+◌, ◌==◌, ◌^◌, ◌-◌, ◌<◌, ◌≤◌, min, Bool, true, false, not, cond, Option, Some, None, refl, arith}
 use Rattle.std.specs.List.{slice_get}
 use Rattle.std.specs.Option.{option_or, is_some}
 use Rattle.std.specs.Str.{bytes_eq}
 use Rattle.std.specs.Ordering.{nat_cmp, is_eq}
-use Rattle.std.specs.BTreeMap.{BTreeMap, get}
+use Rattle.std.specs.BTreeMap.{get}
 use Rattle.std.specs.Cmp.Lexicographic.{slice_cmp}
 use Rattle.std.proofs.lemmas.Map.Text.{is_eq-slice_cmp}
 use Rattle.std.proofs.lemmas.Slice.Eq.{bytes_eq-Decides}
@@ -13,7 +13,7 @@ use Rattle.kv_types.specs.Maps.{key_of, value_put, last_edit}
 use Rattle.memtable.specs.declared.version.Version.{Version}
 use Rattle.memtable.specs.declared.version.Versions.{Versions}
 use Rattle.memtable.specs.Versions.{all_of, with_version, lacks}
-use Rattle.memtable.specs.Sizes.{capped_sum, edit_bytes, batch_bytes_of}
+use Rattle.memtable.specs.Sizes.{capped_sum, edit_size, edits_size}
 use Rattle.std.specs.Cmp.{tied_itself}
 use Rattle.std.proofs.Common.{inl, inr, suc, drop, get_or}
 use Rattle.std.proofs.Math.Seq.{drop-cons}
@@ -141,15 +141,15 @@ capped : (a b c : ℕ) → capped_sum (capped_sum a b) c ≡ capped_sum a (b + c
 capped a b c = min_sum (a + b) c (2 ^ 64 - 1) ∙ ap (λ n. min n (2 ^ 64 - 1)) (search arith)
 
 pub counted : (edit : Edit) (rest : List Edit) (key : List ℕ) (bytes sum next : ℕ) (is_added : Bool) → key ≡ key_of edit
-    → is_added ≡ not (is_some (last_edit rest key)) → sum ≡ capped_sum bytes (batch_bytes_of rest)
-    → next ≡ cond is_added (capped_sum sum (edit_bytes edit)) sum
-    → next ≡ capped_sum bytes (batch_bytes_of (edit ∷ rest))
+    → is_added ≡ not (is_some (last_edit rest key)) → sum ≡ capped_sum bytes (edits_size rest)
+    → next ≡ cond is_added (capped_sum sum (edit_size edit)) sum
+    → next ≡ capped_sum bytes (edits_size (edit ∷ rest))
 counted edit rest key bytes sum next is_added is_key has is step =
     let seen = has ∙ ap (λ k. not (is_some (last_edit rest k))) is_key in
-    step ∙ (ap (λ s. cond is_added (capped_sum s (edit_bytes edit)) s) is ∙ by is_added (is_some (last_edit rest (key_of edit))) seen)
+    step ∙ (ap (λ s. cond is_added (capped_sum s (edit_size edit)) s) is ∙ by is_added (is_some (last_edit rest (key_of edit))) seen)
   where
-    by : (b t : Bool) → b ≡ not t → cond b (capped_sum (capped_sum bytes (batch_bytes_of rest)) (edit_bytes edit)) (capped_sum bytes (batch_bytes_of rest)) ≡ capped_sum bytes (batch_bytes_of rest + cond t 0 (edit_bytes edit))
+    by : (b t : Bool) → b ≡ not t → cond b (capped_sum (capped_sum bytes (edits_size rest)) (edit_size edit)) (capped_sum bytes (edits_size rest)) ≡ capped_sum bytes (edits_size rest + cond t 0 (edit_size edit))
     by true true e = absurd (cc)
-    by true false e = capped bytes (batch_bytes_of rest) (edit_bytes edit)
+    by true false e = capped bytes (edits_size rest) (edit_size edit)
     by false true e = ap (λ n. min n (2 ^ 64 - 1)) (search arith)
     by false false e = absurd (cc)

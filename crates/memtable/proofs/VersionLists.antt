@@ -1,6 +1,6 @@
 -- Versions of one key, by their places.
-use Rattle.std.proofs.Common.{◌≡◌, ℕ, suc, zero, ◌⊎◌, inl, inr, ◌<◌, ◌≤◌, ◌+◌, ◌==◌, sym, ap, ◌∙◌, subst, arith, List, [], ◌∷◌, ◌++◌, length, Bool, true, false, not, if◌then◌else◌}
-use Rattle.std.proofs.Common.{Option, Some, None, refl}
+use Rattle.std.proofs.Common.{◌≡◌, ℕ, suc, zero, ◌⊎◌, inl, inr, ◌<◌, ◌≤◌, ◌+◌, ◌==◌, sym, ap, ◌∙◌, subst, arith, List, [], ◌∷◌, ◌++◌, length, true, false, not, if◌then◌else◌}
+use Rattle.std.proofs.Common.{Some, None, refl}
 use Rattle.std.specs.List.{slice_get}
 use Rattle.std.proofs.lemmas.Option.{same_Some}
 use Rattle.memtable.specs.declared.version.Version.{Version}

@@ -1,5 +1,5 @@
 -- The entries of a map from keys to their versions.
-use Rattle.std.specs.Prelude.{◌≡◌, ◌⊎◌, ℕ, ◌<◌, ◌≤◌, List, [], ◌∷◌, ◌++◌, length, slice_get}
+use Rattle.std.specs.Prelude.{◌≡◌, ℕ, ◌≤◌, List, [], ◌∷◌, ◌++◌, length, slice_get}
 use Rattle.std.specs.Prelude.{Option, Some, None}
 use Rattle.std.specs.BTreeMap.{BTreeMap, get}
 use Rattle.std.specs.Ordering.{nat_cmp}
@@ -38,8 +38,8 @@ MapHolds map entry =
     (i : ℕ) × (slice_get (versions_at map entry.key) i ≡ Some (entry_version entry))
 
 -- the numbers of each key rise
-abbrev pub IsRising : VersionMap → Type 0
-IsRising map = (key : List ℕ) → IsRisingList (versions_at map key)
+abbrev pub HasRisingNumbers : VersionMap → Type 0
+HasRisingNumbers map = (key : List ℕ) → IsRisingList (versions_at map key)
 
 -- no key is longer than keys are
 abbrev pub HasShortKeys : VersionMap → Type 0

@@ -12,20 +12,20 @@ abbrev pub capped_sum : ℕ → ℕ → ℕ
 capped_sum a b = min (a + b) (2 ^ 64 - 1)
 
 -- the length of a value; a deletion has none
-abbrev pub value_bytes : Option (List ℕ) → ℕ
-value_bytes None = 0
-value_bytes (Some value) = length value
+abbrev pub value_size : Option (List ℕ) → ℕ
+value_size None = 0
+value_size (Some value) = length value
 
 -- the entry of an edit takes the bytes of its key and its value, and a constant
-abbrev pub edit_bytes : Edit → ℕ
-edit_bytes edit = length (key_of edit) + value_bytes (value_put edit) + ENTRY_BYTES
+abbrev pub edit_size : Edit → ℕ
+edit_size edit = length (key_of edit) + value_size (value_put edit) + ENTRY_BYTES
 
 -- the entries of some edits: an edit that a later one of its key hides has none
-abbrev pub batch_bytes_of : List Edit → ℕ
-batch_bytes_of [] = 0
-batch_bytes_of (edit ∷ edits) =
-    batch_bytes_of edits + (if is_some (last_edit edits (key_of edit)) then 0 else edit_bytes edit)
+abbrev pub edits_size : List Edit → ℕ
+edits_size [] = 0
+edits_size (edit ∷ edits) =
+    edits_size edits + (if is_some (last_edit edits (key_of edit)) then 0 else edit_size edit)
 
 -- the entries of a batch
-abbrev pub entries_bytes : BatchContent → ℕ
-entries_bytes batch = batch_bytes_of (edits_of batch)
+abbrev pub batch_size : BatchContent → ℕ
+batch_size batch = edits_size (edits_of batch)

@@ -1,5 +1,5 @@
 -- What a memtable holds, and what a lookup finds in it.
-use Rattle.std.specs.Prelude.{◌≡◌, ℕ, ◌<◌, List, Some, None, IsTrue}
+use Rattle.std.specs.Prelude.{ℕ, ◌<◌, List, Some, None, IsTrue}
 use Rattle.kv_types.specs.{Entry, IsNewest, IsUnseen}
 use Rattle.memtable.specs.declared.found.Found.{Found}
 use Rattle.memtable.specs.declared.found.Found.TheVariants as lookup
@@ -15,12 +15,12 @@ abbrev pub table_bytes : Memtable → ℕ
 table_bytes table = table.bytes
 
 -- a batch was added in part
-abbrev pub HasFailed : Memtable → Type 0
-HasFailed table = IsTrue table.has_failed
+abbrev pub HasFailedAdd : Memtable → Type 0
+HasFailedAdd table = IsTrue table.has_failed
 
 -- the number is greater than those of all entries, in a memtable that has not failed
 abbrev pub IsNewNumber : Memtable → ℕ → Type 0
-IsNewNumber table number = (HasFailed table → ⊥) → (entry : Entry) → TableHolds table entry →
+IsNewNumber table number = (HasFailedAdd table → ⊥) → (entry : Entry) → TableHolds table entry →
     entry.number < number
 
 -- what a key has at a number: the value of its newest entry, or a deletion, or no entry

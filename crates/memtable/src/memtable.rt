@@ -3,13 +3,16 @@
 ghost use Rattle.std.specs.Prelude.{◌≡◌, ◌↔◌, ◌⊎◌, IsErr, IsErrOf, IfOk, OnOk, OnErr};
 ghost use Rattle.std.specs.Prelude.{IsOkUnless, Err, false};
 ghost use Rattle.kv_types.specs.{Entry, entries_of};
-ghost use Rattle.memtable.specs.Maps.{IsRising, HasShortKeys};
+ghost use Rattle.merge_iter.specs.{IsAlike, Off};
+ghost use Rattle.memtable.specs.Maps.{HasRisingNumbers, HasShortKeys};
 
+use crate::cursor::MemCursor;
 use crate::error::MemtableError;
 use crate::found::Found;
 use crate::put::put_all;
 use crate::version::Versions;
 use kv_types::{Batch, Key, Number};
+use merge_iter::Cursor;
 use std::alloc::Global;
 use std::collections::BTreeMap;
 
@@ -20,19 +23,19 @@ pub struct Memtable {
     map: BTreeMap<Key, Versions>,
     bytes: u64,
     has_failed: bool,
-    ghost rising: { has_failed ≡ false → IsRising map },
+    ghost rising: { has_failed ≡ false → HasRisingNumbers map },
     ghost short: { has_failed ≡ false → HasShortKeys map },
 }
 
 impl Memtable {
-    ghost use Rattle.memtable.specs.Tables.{TableHolds, HasFailed, IsNewNumber, IsFoundAt};
+    ghost use Rattle.memtable.specs.Tables.{TableHolds, HasFailedAdd, IsNewNumber, IsFoundAt};
     ghost use Rattle.memtable.specs.Tables.{table_bytes};
-    ghost use Rattle.memtable.specs.Sizes.{capped_sum, entries_bytes};
+    ghost use Rattle.memtable.specs.Sizes.{capped_sum, batch_size};
 
     pub fn new(alloc: Global) -> Memtable
         ensures empty { (entry : Entry) → TableHolds result entry → ⊥ }
         ensures bytes { table_bytes result ≡ 0 }
-        ensures works { HasFailed result → ⊥ }
+        ensures works { HasFailedAdd result → ⊥ }
     {
         Memtable {
             alloc,
@@ -49,23 +52,17 @@ impl Memtable {
         ensures adds { OnOk result ((entry : Entry) → TableHolds self.new entry
             ↔ (TableHolds self.old entry ⊎ entries_of number batch.now entry)) }
         ensures bytes { OnOk result
-            (table_bytes self.new ≡ capped_sum (table_bytes self.old) (entries_bytes batch.now)) }
+            (table_bytes self.new ≡ capped_sum (table_bytes self.old) (batch_size batch.now)) }
         ensures bytes_stay { OnErr result (table_bytes self.new ≡ table_bytes self.old) }
-        ensures failed { IsErrOf result MemtableError.Failed ↔ HasFailed self.old }
-        ensures fails { HasFailed self.new ↔ IsErr result }
+        ensures failed { IsErrOf result MemtableError.Failed ↔ HasFailedAdd self.old }
+        ensures fails { HasFailedAdd self.new ↔ IsErr result }
     {
         if self.has_failed {
             return Err(MemtableError::Failed);
         }
         self.has_failed = true;
         let edits = batch.edits();
-        self.bytes = put_all(
-            self.alloc,
-            &mut self.map,
-            number.get(),
-            edits,
-            self.bytes,
-        )?;
+        self.bytes = put_all(self.alloc, &mut self.map, number.get(), edits, self.bytes)?;
         self.has_failed = false;
         Ok(())
     }
@@ -80,7 +77,7 @@ impl Memtable {
     /// What the key has at a number.
     pub fn get(&self, key: &Key, at: Number) -> Result<Found, MemtableError>
         ensures found { IfOk result (IsFoundAt self.now key.now at) }
-        ensures failed { IsErrOf result MemtableError.Failed ↔ HasFailed self.now }
+        ensures failed { IsErrOf result MemtableError.Failed ↔ HasFailedAdd self.now }
     {
         if self.has_failed {
             return Err(MemtableError::Failed);
@@ -95,5 +92,20 @@ impl Memtable {
             Some(value) => Ok(Found::Value(value.clone()?)),
             None => Ok(Found::Deleted),
         }
+    }
+
+    /// A cursor over all entries, which stands on none.
+    pub fn cursor<'a>(&'a self) -> Result<MemCursor<'a>, MemtableError>
+        ensures holds { IfOk result (λ cursor.
+            IsAlike (⟦<MemCursor<'a> as Cursor>⟧.holds cursor tt) (TableHolds self.now)) }
+        ensures sound { IfOk result (λ cursor. ⟦<MemCursor<'a> as Cursor>⟧.is_sound cursor tt) }
+        ensures off { IfOk result (λ cursor. ⟦<MemCursor<'a> as Cursor>⟧.position cursor ≡ Off) }
+        ensures failed { (result ≡ Err MemtableError.Failed) ↔ HasFailedAdd self.now }
+        ensures only { IsOkUnless result MemtableError.Failed }
+    {
+        if self.has_failed {
+            return Err(MemtableError::Failed);
+        }
+        Ok(MemCursor::new(self.alloc, &self.map))
     }
 }

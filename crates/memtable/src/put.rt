@@ -6,7 +6,7 @@ ghost use Rattle.kv_types.specs.Maps.{last_edit, value_put};
 ghost use Rattle.memtable.specs.declared.version.Version.{Version};
 ghost use Rattle.memtable.specs.Versions.{lacks, with_version};
 ghost use Rattle.memtable.specs.Maps.{versions_at, added};
-ghost use Rattle.memtable.specs.Sizes.{edit_bytes, batch_bytes_of, capped_sum};
+ghost use Rattle.memtable.specs.Sizes.{edit_size, edits_size, capped_sum};
 
 use crate::bounds::ENTRY_BYTES;
 use crate::version::{Version, Versions};
@@ -26,7 +26,7 @@ fn value_of(edit: &Edit) -> Result<Option<Value>, AllocError>
 
 /// The bytes that an edit's entry takes.
 fn size_of(edit: &Edit) -> u64
-    ensures { result ≡ edit_bytes edit.now }
+    ensures { result ≡ edit_size edit.now }
 {
     let key = edit.key().as_bytes().len() as u64;
     match edit.value() {
@@ -70,7 +70,7 @@ pub(crate) fn put_all(
         slice_get (versions_at map.old q) i ≡ Some v → v.number < number }
     ensures puts { OnOk result ((q : List ℕ) → versions_at map.new q
         ≡ added (versions_at map.old q) number (last_edit edits.now q)) }
-    ensures bytes { IfOk result (λ sum. sum ≡ capped_sum bytes (batch_bytes_of edits.now)) }
+    ensures bytes { IfOk result (λ sum. sum ≡ capped_sum bytes (edits_size edits.now)) }
 {
     let mut bytes = bytes;
     for i in (0..edits.len()).rev() {

@@ -1,4 +1,4 @@
-use Rattle.std.proofs.Common.{◌≡◌, ℕ, List, subst, sym, ap, ◌∙◌, refl}
+use Rattle.std.proofs.Common.{◌≡◌, subst, sym, ap, ◌∙◌, refl}
 use Rattle.std.specs.Option.{IsSome}
 use Rattle.std.proofs.lemmas.Option.{same_Some}
 use Rattle.std.proofs.lemmas.Result.{on_ok_weaker}

@@ -1,9 +1,9 @@
-use Rattle.std.proofs.Common.{◌≡◌, ◌∷◌, ◌-◌, ◌<◌, ◌≤◌, ℕ, List, Bool, drop, length, sym, ap, subst}
-use Rattle.std.proofs.Common.{true, false, ◌∙◌, refl, arith}
+use Rattle.std.proofs.Common.{◌≡◌, ◌∷◌, ◌-◌, ℕ, List, drop, sym, ap, subst}
+use Rattle.std.proofs.Common.{true, false, ◌∙◌, refl}
 use Rattle.kv_types.specs.Maps.{last_edit}
 use Rattle.memtable.specs.Maps.{versions_at, added}
 use Rattle.memtable.specs.Versions.{lacks}
-use Rattle.memtable.specs.Sizes.{batch_bytes_of, capped_sum}
+use Rattle.memtable.specs.Sizes.{edits_size, capped_sum}
 use Rattle.memtable.proofs.Puts.{turned, counted, from_last, lacks_added}
 use Rattle.memtable.proofs.put.put_all.Goals as goal
 
@@ -27,7 +27,7 @@ loop-i-preserved-then-branch c =
           c.args.number c.in_ok-value.value c.key.ensures c.in_ok-value.ensures (c.requires q)
           (at.invariant.puts q) (c.in_ok-put.ensures.puts q));
       bytes = subst
-          (λ es. c.saturating_add-bytes.result ≡ capped_sum c.args.bytes (batch_bytes_of es)) is
+          (λ es. c.saturating_add-bytes.result ≡ capped_sum c.args.bytes (edits_size es)) is
           (counted edit rest key c.args.bytes at.bytes c.saturating_add-bytes.result true
           c.key.ensures seen at.invariant.bytes
           (c.saturating_add-bytes.ensures ∙ ap (capped_sum at.bytes) c.size_of.ensures));
@@ -52,7 +52,7 @@ loop-i-preserved c =
           (turned edit rest q key (old q) (versions_at at.map q) (versions_at c.put.new.map q)
           c.args.number c.in_ok-value.value c.key.ensures c.in_ok-value.ensures (c.requires q)
           (at.invariant.puts q) (c.in_ok-put.ensures.puts q));
-      bytes = subst (λ es. at.bytes ≡ capped_sum c.args.bytes (batch_bytes_of es)) is
+      bytes = subst (λ es. at.bytes ≡ capped_sum c.args.bytes (edits_size es)) is
           (counted edit rest key c.args.bytes at.bytes at.bytes false c.key.ensures seen
           at.invariant.bytes refl);
     }

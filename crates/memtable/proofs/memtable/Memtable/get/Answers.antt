@@ -1,5 +1,5 @@
-use Rattle.std.proofs.Common.{◌≡◌, ◌<◌, ℕ, List, Some, None, sym, ap, ◌∙◌}
-use Rattle.memtable.proofs.Gets.{found_rising, newest, none_there, all_newer}
+use Rattle.std.proofs.Common.{Some, None, sym, ap, ◌∙◌}
+use Rattle.memtable.proofs.Gets.{found_rising, newest}
 use Rattle.memtable.proofs.memtable.Memtable.get.Goals as goal
 
 pub get-requires-3 : goal.get-requires-3

@@ -1,5 +1,4 @@
-use Rattle.std.proofs.Common.{◌≡◌, ◌++◌, ◌∷◌, [], ◌∙◌, sym, ap, arith}
-use Rattle.memtable.specs.declared.version.Version.{Version}
+use Rattle.std.proofs.Common.{◌++◌, ◌∷◌, [], ◌∙◌, sym, ap, arith}
 use Rattle.memtable.specs.Versions.{all_of}
 use Rattle.memtable.proofs.VersionLists.{with_new, without, lacks_other, has_same}
 use Rattle.memtable.proofs.version.Versions.follow.Goals as goal
