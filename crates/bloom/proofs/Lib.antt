@@ -1,3 +1,4 @@
 mod Setting
 mod Covering
 mod Putting
+mod Walking

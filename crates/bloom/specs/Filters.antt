@@ -12,9 +12,16 @@ first_hash key = from_be_bytes w64 (take 8 (sha256 key))
 abbrev pub second_hash : List ℕ → ℕ
 second_hash key = from_be_bytes w64 (take 8 (drop 8 (sha256 key)))
 
+abbrev pub hashes_of : List ℕ → ℕ × ℕ
+hashes_of key = (first_hash key, second_hash key)
+
+-- probe i of a key with these hashes, among this many bits
+abbrev pub probe_of : ℕ → ℕ × ℕ → ℕ → ℕ
+probe_of bits hashes i = (hashes.0 + i * hashes.1) % bits
+
 -- probe i of a key among this many bits
 abbrev pub probe : ℕ → List ℕ → ℕ → ℕ
-probe bits key i = (first_hash key + i * second_hash key) % bits
+probe bits key i = probe_of bits (hashes_of key) i
 
 -- bit p of the bytes is set: bit p mod 8, from the lowest, of byte p / 8
 abbrev pub HasBit : List ℕ → ℕ → Type 0
@@ -40,10 +47,14 @@ pub record IsFilter (keys : List (List ℕ)) (filter : List ℕ) : Type 0 where
   pub exact : (p : ℕ) → p < 8 * length filter →
       HasBit filter p ↔ IsProbe (8 * length filter) keys p
 
--- a filter covers a key: all probes of the key are set, or the filter has no bits
+-- a filter covers a key with these hashes: all probes of the key are set, or the filter has no bits
+abbrev pub CoversHashed : List ℕ → ℕ × ℕ → Type 0
+CoversHashed filter hashes =
+    (filter ≡ []) ⊎ ((i : ℕ) → i < 7 → HasBit filter (probe_of (8 * length filter) hashes i))
+
+-- a filter covers a key
 abbrev pub Covers : List ℕ → List ℕ → Type 0
-Covers filter key =
-    (filter ≡ []) ⊎ ((i : ℕ) → i < 7 → HasBit filter (probe (8 * length filter) key i))
+Covers filter key = CoversHashed filter (hashes_of key)
 
 abbrev pub CoversAll : List ℕ → List (List ℕ) → Type 0
 CoversAll filter keys = All (λ key. Covers filter key) keys

@@ -1,10 +1,11 @@
 // The filter of a list of keys: its construction and its lookup.
 ghost use Rattle.std.specs.Prelude.{◌≡◌, ◌⊎◌, ◌↔◌, ◌*◌, ◌<◌, ◌^◌, ℕ, length, IfOk, IsTrue};
-ghost use Rattle.bloom.specs.Filters.{HasBit, IsProbeOf, IsFilter, Covers, CoversAll, bytes_for};
+ghost use Rattle.bloom.specs.Filters.{HasBit, IsProbeOf, IsFilter, bytes_for};
+ghost use Rattle.bloom.specs.Filters.{Covers, CoversAll, CoversHashed};
 
 use crate::BloomError;
 use crate::bits::{bits_of, has_bit, set_bit};
-use crate::hashes::Hashes;
+use crate::hashes::{KeyHashes, Probes};
 use kv_types::Key;
 use std::alloc::Global;
 
@@ -26,9 +27,10 @@ fn put(filter: &mut [u8], key: &[u8])
     ensures put { (p : ℕ) → p < 8 * length filter.old → HasBit filter.new p ↔
         (HasBit filter.old p ⊎ IsProbeOf (8 * length filter.old) key.now p) }
 {
-    let hashes = Hashes::of(key);
+    let mut probes = Probes::first(KeyHashes::of(key), bits_of(filter));
     for i in 0..PROBES {
-        set_bit(filter, hashes.probe(bits_of(filter), i));
+        set_bit(filter, probes.place);
+        probes.advance();
     }
 }
 
@@ -50,14 +52,22 @@ pub fn build(alloc: Global, keys: &[Key]) -> Result<Vec<u8>, BloomError>
 pub fn may_hold(filter: &[u8], key: &[u8]) -> bool
     ensures { IsTrue result ↔ Covers filter.now key.now }
 {
+    may_hold_hashed(filter, KeyHashes::of(key))
+}
+
+/// `may_hold` of the key that has these hashes.
+pub fn may_hold_hashed(filter: &[u8], hashes: KeyHashes) -> bool
+    ensures { IsTrue result ↔ CoversHashed filter.now hashes }
+{
     if filter.is_empty() {
         return true;
     }
-    let hashes = Hashes::of(key);
+    let mut probes = Probes::first(hashes, bits_of(filter));
     for i in 0..PROBES {
-        if !has_bit(filter, hashes.probe(bits_of(filter), i)) {
+        if !has_bit(filter, probes.place) {
             return false;
         }
+        probes.advance();
     }
     true
 }

@@ -4,6 +4,7 @@ pub mod Shared
 pub mod Spelling
 pub mod Reading
 pub mod Maps
+pub mod Entries
 pub mod Spans
 pub mod Pages
 pub mod Limits
@@ -11,7 +12,9 @@ pub mod Bounds
 pub mod Examples
 -- What crates above name.
 pub use Rattle.kv_types.specs.Content.{BatchContent}
-pub use Rattle.kv_types.specs.Maps.{map_of}
+pub use Rattle.kv_types.specs.Entries.{Entry, IsNewest, IsSeen, IsShown, IsUnseen}
+pub use Rattle.kv_types.specs.Entries.{ViewShows, all_entries, entries_of}
+pub use Rattle.kv_types.specs.Maps.{last_edit, map_of}
 pub use Rattle.kv_types.specs.Pages.{KeepsLimits, row_size}
 pub use Rattle.kv_types.specs.Reading.{◌>>=◌}
 unfoldable pub use Rattle.kv_types.specs.Reading.{batch_at, text_at}

@@ -1,0 +1,12 @@
+mod Bools
+mod VersionLists
+mod Puts
+mod Adds
+mod Gets
+mod Ranges
+mod Firsts
+mod Steps
+mod KeySteps
+mod Seeks
+mod Lefts
+mod LongKeys

@@ -1,0 +1,26 @@
+use Rattle.std.proofs.Common.{Some, None, sym, ap, ◌∙◌}
+use Rattle.memtable.proofs.Gets.{found_rising, newest}
+use Rattle.memtable.proofs.memtable.Memtable.get.Goals as goal
+
+pub get-requires-3 : goal.get-requires-3
+get-requires-3 c =
+    (c.in-Some-last_up_to.ensures (found_rising c.args.self.now.map c.args.key.now
+    c.in-Some.versions.now c.in-Some.ensures.value (c.args.self.now.rising c.if-self.false))).0
+
+-- a value
+pub returns-in_ok-clone-in-Some-value-clause-found :
+    goal.returns-in_ok-clone-in-Some-value-clause-found
+returns-in_ok-clone-in-Some-value-clause-found c =
+    let value = c.in_ok-clone-in-Some-value in
+    newest c.args.self.now.map c.args.key.now c.in-Some.versions.now c.args.at c.get-2.result
+    c.in-Some-last_up_to.place c.get-3.result.now (Some value.field-0) c.get-2.ensures.same
+    c.in-Some.ensures.value (c.args.self.now.rising c.if-self.false) c.in-Some-last_up_to.ensures
+    c.get-3.ensures (c.in-Some-value.is ∙ ap Some (sym value.ensures))
+
+-- a deletion
+pub returns-in-None-clause-found : goal.returns-in-None-clause-found
+returns-in-None-clause-found c =
+    newest c.args.self.now.map c.args.key.now c.in-Some.versions.now c.args.at c.get-2.result
+    c.in-Some-last_up_to.place c.get-3.result.now None c.get-2.ensures.same
+    c.in-Some.ensures.value (c.args.self.now.rising c.if-self.false) c.in-Some-last_up_to.ensures
+    c.get-3.ensures c.in-None.is

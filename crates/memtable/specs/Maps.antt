@@ -1,0 +1,52 @@
+-- The entries of a map from keys to their versions.
+use Rattle.std.specs.Prelude.{◌≡◌, ℕ, ◌≤◌, List, [], ◌∷◌, ◌++◌, length, slice_get}
+use Rattle.std.specs.Prelude.{Option, Some, None}
+use Rattle.std.specs.BTreeMap.{BTreeMap, get}
+use Rattle.std.specs.Ordering.{nat_cmp}
+use Rattle.std.specs.Cmp.Lexicographic.{slice_cmp}
+use Rattle.kv_types.specs.{Entry}
+use Rattle.kv_types.specs.declared.bounds.TheConstants.{MAX_KEY}
+use Rattle.memtable.specs.declared.version.Version.{Version}
+use Rattle.memtable.specs.declared.version.Versions.{Versions}
+use Rattle.memtable.specs.Versions.{all_of, IsRisingList}
+
+-- versions by their keys
+abbrev pub VersionMap : Type 0
+VersionMap = BTreeMap (List ℕ) Versions
+
+-- the versions that were found
+abbrev pub found : Option Versions → List Version
+found None = []
+found (Some versions) = all_of versions
+
+-- the versions of a key
+abbrev pub versions_at : VersionMap → List ℕ → List Version
+versions_at map key = found (get (slice_cmp nat_cmp) map key)
+
+-- the entry of a key's version
+abbrev pub version_entry : List ℕ → Version → Entry
+version_entry key version =
+    record { key = key; number = version.number; value = version.value }
+
+-- the version of an entry
+abbrev pub entry_version : Entry → Version
+entry_version entry = record { number = entry.number; value = entry.value }
+
+-- the map has the entry
+abbrev pub MapHolds : VersionMap → Entry → Type 0
+MapHolds map entry =
+    (i : ℕ) × (slice_get (versions_at map entry.key) i ≡ Some (entry_version entry))
+
+-- the numbers of each key rise
+abbrev pub HasRisingNumbers : VersionMap → Type 0
+HasRisingNumbers map = (key : List ℕ) → IsRisingList (versions_at map key)
+
+-- no key is longer than keys are
+abbrev pub HasShortKeys : VersionMap → Type 0
+HasShortKeys map = (entry : Entry) → MapHolds map entry → length entry.key ≤ MAX_KEY
+
+-- one more version of a key, if there is one
+abbrev pub added : List Version → ℕ → Option (Option (List ℕ)) → List Version
+added versions number None = versions
+added versions number (Some value) =
+    versions ++ record { number = number; value = value } ∷ []

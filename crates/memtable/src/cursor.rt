@@ -1,0 +1,196 @@
+//! A cursor over the entries of a memtable.
+
+ghost use Rattle.std.specs.Prelude.{◌≡◌, ◌≤◌, IfOk, IfErr, IfSome, length, false, None};
+ghost use Rattle.std.specs.Option.{ForSome};
+ghost use Rattle.kv_types.specs.declared.bounds.TheConstants.{MAX_KEY};
+ghost use Rattle.merge_iter.specs.declared.direction.Direction.TheVariants.{Forward};
+ghost use Rattle.merge_iter.specs.{EntryPrecedes, IsFirst, spot};
+ghost use Rattle.memtable.specs.Maps.{MapHolds, HasRisingNumbers, HasShortKeys};
+ghost use Rattle.memtable.specs.Places.{IsVersionPlace, maybe_position, cursor_position};
+ghost use Rattle.memtable.specs.Ranges.{keys_after, keys_before};
+ghost use Rattle.memtable.specs.Left.{map_entries, left_on};
+
+use crate::place::{VersionPlace, back, from, front};
+use crate::version::Versions;
+use kv_types::Key;
+use kv_types::bounds::MAX_KEY;
+use merge_iter::{Cursor, CursorError};
+use std::alloc::Global;
+use std::collections::BTreeMap;
+use std::collections::btree_map::Range;
+use std::ops::Bound;
+
+/// A cursor over the entries of a memtable. It holds the keys that lie ahead of it in the
+/// direction of its last step, so that only a turn and a seek search the map.
+#[derive(Drop)]
+pub struct MemCursor<'a> {
+    alloc: Global,
+    map: &'a BTreeMap<Key, Versions>,
+    place: Option<VersionPlace<'a>>,
+    after: Option<Range<'a, Key, Versions>>,
+    before: Option<Range<'a, Key, Versions>>,
+    has_failed: bool,
+    ghost rising: { HasRisingNumbers map.now },
+    ghost short: { HasShortKeys map.now },
+    ghost placed: { ForSome place (λ it. IsVersionPlace map.now it) },
+    ghost held: { ForSome place (λ it. ForSome after (λ keys.
+        keys ≡ keys_after map.now it.key.now)) },
+    ghost held_before: { ForSome place (λ it. ForSome before (λ keys.
+        keys ≡ keys_before map.now it.key.now)) },
+}
+
+/// A copy of at most as many bytes as a key has.
+fn copied(alloc: Global, bytes: &[u8]) -> Result<Key, CursorError>
+    requires { length bytes.now ≤ MAX_KEY }
+    ensures copy { IfOk result (λ key. key ≡ bytes.now) }
+    ensures memory { IfErr result (λ e. e ≡ CursorError.Memory) }
+{
+    let copy = Vec::from_slice(alloc, bytes)?;
+    match Key::new(copy) {
+        Ok(key) => Ok(key),
+        Err(_) => unreachable!(),
+    }
+}
+
+/// The first version that does not come before this key and number.
+fn sought<'a>(
+    alloc: Global,
+    map: &'a BTreeMap<Key, Versions>,
+    key: &[u8],
+    number: u64,
+) -> Result<Option<VersionPlace<'a>>, CursorError>
+    requires rising { HasRisingNumbers map.now }
+    requires short { HasShortKeys map.now }
+    ensures placed { IfOk result (λ place. IfSome place (IsVersionPlace map.now)) }
+    ensures first { IfOk result (λ place. IsFirst Forward (λ entry. MapHolds map.now entry
+        × (EntryPrecedes Forward entry (spot key.now number) → ⊥)) (maybe_position place)) }
+    ensures memory { IfErr result (λ e. e ≡ CursorError.Memory) }
+{
+    if key.len() > MAX_KEY {
+        let (first, _) = key.split_at(MAX_KEY);
+        let beginning = copied(alloc, first)?;
+        return Ok(front(map, Bound::Excluded(&beginning)));
+    }
+    let key = copied(alloc, key)?;
+    Ok(from(map, &key, number))
+}
+
+impl<'a> MemCursor<'a> {
+    pub(crate) fn new(alloc: Global, map: &'a BTreeMap<Key, Versions>) -> MemCursor<'a>
+        requires rising { HasRisingNumbers map.now }
+        requires short { HasShortKeys map.now }
+        ensures map { result.map.now ≡ map.now }
+        ensures off { (result.place ≡ None) × (result.has_failed ≡ false) }
+    {
+        MemCursor {
+            alloc,
+            map,
+            place: None,
+            after: None,
+            before: None,
+            has_failed: false,
+        }
+    }
+
+    /// Goes to a place that was searched for.
+    fn jump(&mut self, place: Option<VersionPlace<'a>>)
+        requires { IfSome place (IsVersionPlace self.old.map.now) }
+        ensures map { self.new.map.now ≡ self.old.map.now }
+        ensures place { (self.new.place ≡ place.entry) × (self.new.has_failed ≡ false) }
+    {
+        self.after = None;
+        self.before = None;
+        self.place = place;
+        self.has_failed = false;
+    }
+}
+
+impl<'a> Cursor for MemCursor<'a> {
+    ghost use Rattle.memtable.specs.CursorLaws.{cursor_laws};
+
+    type Source = ();
+
+    ghost position = { λ c. cursor_position c.has_failed c.place };
+
+    ghost holds = { λ c _. MapHolds c.map.now };
+
+    ghost is_sound = { λ _ _. Unit {0} };
+
+    ghost keeps = { λ _ _. Unit {0} };
+
+    ghost failures = { λ _. 0 };
+
+    ghost left = { λ c way. left_on (map_entries c.map.now.entries) way (cursor_position c.has_failed c.place) };
+
+    ghost most = { λ c. length (map_entries c.map.now.entries) };
+
+    fn valid(&self) -> bool {
+        self.place.is_some()
+    }
+
+    fn key(&self) -> &[u8] {
+        match self.place {
+            Some(place) => place.key.as_bytes(),
+            None => unreachable!(),
+        }
+    }
+
+    fn number(&self) -> u64 {
+        match self.place {
+            Some(place) => place.versions.get(place.at).number,
+            None => unreachable!(),
+        }
+    }
+
+    fn value(&self) -> Option<&[u8]> {
+        match self.place {
+            Some(place) => match &place.versions.get(place.at).value {
+                Some(value) => Some(value.as_bytes()),
+                None => None,
+            },
+            None => unreachable!(),
+        }
+    }
+
+    fn next(&mut self, _source: &mut ()) -> Result<(), CursorError> {
+        let Some(place) = self.place else {
+            return Err(CursorError::Failed);
+        };
+        let held = self.after.take();
+        self.before = None;
+        (self.place, self.after) = place.next(self.map, held);
+        self.has_failed = false;
+        Ok(())
+    }
+
+    fn prev(&mut self, _source: &mut ()) -> Result<(), CursorError> {
+        let Some(place) = self.place else {
+            return Err(CursorError::Failed);
+        };
+        let held = self.before.take();
+        self.after = None;
+        (self.place, self.before) = place.prev(self.map, held);
+        self.has_failed = false;
+        Ok(())
+    }
+
+    fn seek(&mut self, _source: &mut (), key: &[u8], number: u64) -> Result<(), CursorError> {
+        self.place = None;
+        self.has_failed = true;
+        let place = sought(self.alloc, self.map, key, number)?;
+        self.jump(place);
+        Ok(())
+    }
+
+    fn first(&mut self, _source: &mut ()) -> Result<(), CursorError> {
+        self.jump(front(self.map, Bound::Unbounded));
+        Ok(())
+    }
+
+    fn last(&mut self, _source: &mut ()) -> Result<(), CursorError> {
+        self.jump(back(self.map, Bound::Unbounded));
+        Ok(())
+    }
+
+    ghost laws = { cursor_laws };
+}

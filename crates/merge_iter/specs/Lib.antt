@@ -1,0 +1,22 @@
+pub mod Order
+pub mod Positions
+pub mod Moves
+pub mod EntryOrder
+pub mod EntryParts
+pub mod ListEntries
+pub mod Lists
+pub mod Merging
+pub mod Unions
+pub mod Versions
+pub mod Keeping
+pub mod Searches
+pub mod AtNumbers
+pub mod Shows
+-- What crates above name.
+pub use Rattle.merge_iter.specs.Merging.{AreApart, EachChild, UnionHolds}
+pub use Rattle.merge_iter.specs.Moves.{CanStep, EntriesStay, ErrorCauses, IsLawful, MoveFinds}
+pub use Rattle.merge_iter.specs.Moves.{MoveKeeps}
+pub use Rattle.merge_iter.specs.Order.{EntryPrecedes, IsAlike, IsApart, entry_cmp, spot}
+pub use Rattle.merge_iter.specs.Positions.{After, At, AtEnd, Broken, IfOn, IsBroken, IsFirst}
+pub use Rattle.merge_iter.specs.Positions.{IsOn, Off, On, Position, WalkMeets, WalkStart}
+pub use Rattle.merge_iter.specs.Shows.{IsView}

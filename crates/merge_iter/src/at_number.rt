@@ -1,0 +1,148 @@
+//! The entries that are visible at a number.
+
+ghost use Rattle.std.specs.Prelude.{◌≡◌, ◌+◌};
+ghost use Rattle.merge_iter.specs.Order.{IsAlike};
+ghost use Rattle.merge_iter.specs.Positions.{Off};
+ghost use Rattle.merge_iter.specs.Keeping.{kept_entry};
+ghost use Rattle.kv_types.specs.{IsShown};
+ghost use Rattle.merge_iter.specs.Versions.{IsSettled, view_position, left_in};
+ghost use Rattle.merge_iter.specs.Shows.{IsView};
+ghost use Rattle.merge_iter.specs.AtNumbers.{at_laws};
+
+use crate::cursor::Cursor;
+use crate::error::CursorError;
+use crate::kept::KeptEntry;
+use crate::mode::Mode;
+use crate::turns::{first_shown, last_shown, next_shown, prev_shown, seek_shown};
+use std::alloc::Global;
+
+/// Of each key the entry of the greatest number that is at most `at`, if it is no deletion.
+///
+/// Walking forward it stands on the entry of the cursor below, which lends it. A walk back meets the
+/// newest entry of a key last: the entry is known to be shown once the cursor below has left its key,
+/// so it is kept, and lent from there.
+#[derive(Drop)]
+pub struct AtNumber<C> {
+    inner: C,
+    at: u64,
+    mode: Mode,
+    kept: KeptEntry,
+}
+
+impl<C: Cursor> AtNumber<C> {
+    /// The entries of this cursor that are visible at the number. It stands on none.
+    pub fn new(alloc: Global, inner: C, at: u64) -> Self
+        ensures off { ⟦<AtNumber<C> as Cursor>⟧.position result ≡ Off }
+        ensures sound { (source : C.Source) → C.is_sound inner source → ⟦<AtNumber<C> as Cursor>⟧.is_sound result source }
+        ensures entries { (source : C.Source) → IsAlike (⟦<AtNumber<C> as Cursor>⟧.holds result source) (IsShown at (C.holds inner source)) }
+        ensures view { (source : C.Source) → C.is_sound inner source → IsView at (C.holds inner source) (⟦<AtNumber<C> as Cursor>⟧.holds result source) }
+    {
+        AtNumber {
+            inner,
+            at,
+            mode: Mode::Off,
+            kept: KeptEntry::new(alloc),
+        }
+    }
+}
+
+impl<C: Cursor> Cursor for AtNumber<C> {
+    type Source = C::Source;
+
+    ghost position = { λ a. view_position a.mode (C.position a.inner) (kept_entry a.kept) };
+
+    ghost holds = { λ a source. IsShown a.at (C.holds a.inner source) };
+
+    ghost is_sound = { λ a source. C.is_sound a.inner source × IsSettled a.at (C.holds a.inner source) a.mode (C.position a.inner) (kept_entry a.kept) };
+
+    ghost keeps = { C.keeps };
+
+    ghost failures = { C.failures };
+
+    ghost left = { λ a. left_in (C.left a.inner) (C.most a.inner) a.mode };
+
+    ghost most = { λ a. C.most a.inner + 2 };
+
+    fn valid(&self) -> bool {
+        match self.mode {
+            Mode::Inner => self.inner.valid(),
+            Mode::Kept => true,
+            Mode::Off => false,
+            Mode::Broken => false,
+        }
+    }
+
+    fn key(&self) -> &[u8] {
+        match self.mode {
+            Mode::Inner => self.inner.key(),
+            Mode::Kept => self.kept.key.as_slice(),
+            Mode::Off => &[],
+            Mode::Broken => &[],
+        }
+    }
+
+    fn number(&self) -> u64 {
+        match self.mode {
+            Mode::Inner => self.inner.number(),
+            Mode::Kept => self.kept.number,
+            Mode::Off => 0,
+            Mode::Broken => 0,
+        }
+    }
+
+    fn value(&self) -> Option<&[u8]> {
+        match self.mode {
+            Mode::Inner => self.inner.value(),
+            Mode::Kept => Some(self.kept.value.as_slice()),
+            Mode::Off => None,
+            Mode::Broken => None,
+        }
+    }
+
+    fn next(&mut self, source: &mut C::Source) -> Result<(), CursorError> {
+        if !self.valid() {
+            return Err(CursorError::Failed);
+        }
+        let mode = self.mode;
+        self.mode = Mode::Broken;
+        self.mode = next_shown(&mut self.inner, source, self.at, mode, &mut self.kept)?;
+        Ok(())
+    }
+
+    fn prev(&mut self, source: &mut C::Source) -> Result<(), CursorError> {
+        if !self.valid() {
+            return Err(CursorError::Failed);
+        }
+        let mode = self.mode;
+        self.mode = Mode::Broken;
+        self.mode = prev_shown(&mut self.inner, source, self.at, mode, &mut self.kept)?;
+        Ok(())
+    }
+
+    fn seek(&mut self, source: &mut C::Source, key: &[u8], number: u64) -> Result<(), CursorError> {
+        self.mode = Mode::Broken;
+        self.mode = seek_shown(
+            &mut self.inner,
+            source,
+            self.at,
+            key,
+            number,
+            &mut self.kept,
+        )?;
+        Ok(())
+    }
+
+    fn first(&mut self, source: &mut C::Source) -> Result<(), CursorError> {
+        self.mode = Mode::Broken;
+        self.mode = first_shown(&mut self.inner, source, self.at, &mut self.kept)?;
+        Ok(())
+    }
+
+    fn last(&mut self, source: &mut C::Source) -> Result<(), CursorError> {
+        self.mode = Mode::Broken;
+        self.mode = last_shown(&mut self.inner, source, self.at, &mut self.kept)?;
+        Ok(())
+    }
+
+    ghost laws = { at_laws C.holds C.is_sound C.keeps C.left C.most C.position C.laws (λ a. a.inner) (λ a. a.at) (λ a. a.mode) (λ a. kept_entry a.kept) };
+}

@@ -1,0 +1,193 @@
+//! Several cursors, moved together.
+
+ghost use Rattle.std.specs.Prelude.{◌≡◌, ◌↔◌, ℕ, ◌<◌, ◌≤◌, ◌+◌, IsTrue, OnOk, vec_len, Some};
+ghost use Rattle.std.specs.List.{slice_get, sum_by};
+ghost use Rattle.kv_types.specs.{Entry};
+ghost use Rattle.merge_iter.specs.Order.{spot};
+ghost use Rattle.merge_iter.specs.Positions.{WalkStart, AtEnd, At, After, WalkMeets, On, IsOn, IsFirst, IsBroken};
+ghost use Rattle.merge_iter.specs.Moves.{CanStep, ErrorCauses};
+ghost use Rattle.merge_iter.specs.Merging.{IsNearest, EachChild, ChildrenKeep, ChildrenAreFirst, IsOpposite, AreApart};
+ghost use Rattle.merge_iter.specs.Merging.{UnionHolds, IsPlaced, union_position, left_along, merged_left};
+ghost use Rattle.merge_iter.specs.declared.direction.Direction.{Direction as Way};
+ghost use Rattle.merge_iter.specs.declared.direction.Direction.TheVariants.{Forward};
+
+use crate::child::{precedes, start, step, turn};
+use crate::cursor::Cursor;
+use crate::direction::Direction;
+use crate::error::CursorError;
+use crate::place::Place;
+
+// The nearest of one child more.
+fn nearer<C: Cursor>(
+    children: &Vec<C>,
+    way: Direction,
+    found: Option<usize>,
+    i: usize,
+) -> Option<usize>
+    requires room { i < vec_len children.now }
+    requires so_far { IsNearest C.position way children.now.items i found }
+    ensures { IsNearest C.position way children.now.items (i + 1) result }
+{
+    let child = &children[i];
+    if !child.valid() {
+        return found;
+    }
+    let Some(k) = found else {
+        return Some(i);
+    };
+    let other = &children[k];
+    if precedes(way, child, other) {
+        Some(i)
+    } else {
+        Some(k)
+    }
+}
+
+// The child whose entry a walk in this direction meets first.
+fn nearest<C: Cursor>(children: &Vec<C>, way: Direction) -> Option<usize>
+    ensures { IsNearest C.position way children.now.items (vec_len children.now) result }
+{
+    let mut found = None;
+    for i in 0..children.len() {
+        found = nearer(children, way, found, i);
+    }
+    found
+}
+
+/// Where the union stands, once each child stands on its first entry from the start on.
+pub fn settle<C: Cursor>(children: &Vec<C>, way: Direction) -> Place
+    ensures settles { (start : WalkStart) (source : C.Source) →
+        ChildrenAreFirst (λ c. C.holds c source) C.position way start children.now.items →
+        IsFirst way (λ p. UnionHolds (λ c. C.holds c source) children.now.items p × WalkMeets way start p) (union_position C.position children.now.items result)
+        × IsPlaced (λ c. C.holds c source) C.position children.now.items result }
+    ensures left { merged_left C.left C.most children.now.items result way ≤ sum_by (λ c. C.left c way) children.now.items }
+    ensures unbroken { IsBroken (union_position C.position children.now.items result) → ⊥ }
+{
+    match nearest(children, way) {
+        Some(k) => Place::On(way, k),
+        None => Place::Off,
+    }
+}
+
+/// Puts every cursor at the end where a walk in this direction begins.
+pub fn start_all<C: Cursor>(
+    children: &mut Vec<C>,
+    way: Direction,
+    source: &mut C::Source,
+) -> Result<(), CursorError>
+    ensures moves { ChildrenKeep C.holds C.is_sound C.keeps C.most children.old.items source.old children.new.items source.new }
+    ensures causes { ErrorCauses (EachChild (λ c. C.is_sound c source.old) children.old.items) ⊥
+        (C.failures source.old) (C.failures source.new) result }
+    ensures finds { EachChild (λ c. C.is_sound c source.old) children.old.items →
+        OnOk result (ChildrenAreFirst (λ c. C.holds c source.new) C.position way AtEnd children.new.items) }
+{
+    for i in 0..children.len() {
+        start(&mut children[i], way, source)?;
+    }
+    Ok(())
+}
+
+/// Puts every cursor on its first entry from the spot on.
+pub fn seek_all<C: Cursor>(
+    children: &mut Vec<C>,
+    source: &mut C::Source,
+    key: &[u8],
+    number: u64,
+) -> Result<(), CursorError>
+    ensures moves { ChildrenKeep C.holds C.is_sound C.keeps C.most children.old.items source.old children.new.items source.new }
+    ensures causes { ErrorCauses (EachChild (λ c. C.is_sound c source.old) children.old.items) ⊥
+        (C.failures source.old) (C.failures source.new) result }
+    ensures finds { EachChild (λ c. C.is_sound c source.old) children.old.items →
+        OnOk result (ChildrenAreFirst (λ c. C.holds c source.new) C.position Forward (At (spot key.now number)) children.new.items) }
+{
+    for i in 0..children.len() {
+        children[i].seek(source, key, number)?;
+    }
+    Ok(())
+}
+
+/// Turns every cursor round.
+pub fn turn_all<C: Cursor>(
+    children: &mut Vec<C>,
+    way: Direction,
+    source: &mut C::Source,
+) -> Result<(), CursorError>
+    ensures moves { ChildrenKeep C.holds C.is_sound C.keeps C.most children.old.items source.old children.new.items source.new }
+    ensures causes { ErrorCauses (EachChild (λ c. C.is_sound c source.old) children.old.items) ⊥
+        (C.failures source.old) (C.failures source.new) result }
+    ensures turns { (was : Way) (entry : Entry) → IsOpposite was way →
+        EachChild (λ c. C.is_sound c source.old) children.old.items →
+        ChildrenAreFirst (λ c. C.holds c source.old) C.position was (At entry) children.old.items →
+        OnOk result (ChildrenAreFirst (λ c. C.holds c source.new) C.position way (After entry) children.new.items) }
+{
+    for i in 0..children.len() {
+        turn(&mut children[i], way, source)?;
+    }
+    Ok(())
+}
+
+// Steps the child that the union stands on.
+fn step_at<C: Cursor>(
+    children: &mut Vec<C>,
+    k: usize,
+    way: Direction,
+    source: &mut C::Source,
+) -> Result<(), CursorError>
+    requires room { k < vec_len children.old }
+    requires on { (c : C) → slice_get children.old.items k ≡ Some c → IsOn (C.position c) }
+    ensures moves { ChildrenKeep C.holds C.is_sound C.keeps C.most children.old.items source.old children.new.items source.new }
+    ensures causes { ErrorCauses (EachChild (λ c. C.is_sound c source.old) children.old.items) ⊥
+        (C.failures source.old) (C.failures source.new) result }
+    ensures ends { OnOk result (sum_by (λ c. C.left c way) children.new.items < sum_by (λ c. C.left c way) children.old.items) }
+    ensures ahead { (c : C) (entry : Entry) → slice_get children.old.items k ≡ Some c → C.position c ≡ On entry →
+        AreApart (λ d. C.holds d source.old) children.old.items →
+        EachChild (λ d. C.is_sound d source.old) children.old.items →
+        ChildrenAreFirst (λ d. C.holds d source.old) C.position way (At entry) children.old.items →
+        OnOk result (ChildrenAreFirst (λ d. C.holds d source.new) C.position way (After entry) children.new.items) }
+{
+    step(&mut children[k], way, source)
+}
+
+// Whether two directions are one.
+fn is_same(one: Direction, other: Direction) -> bool
+    ensures same { IsTrue result ↔ one ≡ other }
+    ensures turned { (IsTrue result → ⊥) → IsOpposite one other }
+{
+    match one {
+        Direction::Forward => match other {
+            Direction::Forward => true,
+            Direction::Backward => false,
+        },
+        Direction::Backward => match other {
+            Direction::Forward => false,
+            Direction::Backward => true,
+        },
+    }
+}
+
+/// Brings every cursor past the entry that child `k` stands on.
+pub fn advance<C: Cursor>(
+    children: &mut Vec<C>,
+    was: Direction,
+    k: usize,
+    way: Direction,
+    source: &mut C::Source,
+) -> Result<(), CursorError>
+    requires room { k < vec_len children.old }
+    requires on { (c : C) → slice_get children.old.items k ≡ Some c → IsOn (C.position c) }
+    ensures moves { ChildrenKeep C.holds C.is_sound C.keeps C.most children.old.items source.old children.new.items source.new }
+    ensures causes { ErrorCauses (EachChild (λ c. C.is_sound c source.old) children.old.items) ⊥
+        (C.failures source.old) (C.failures source.new) result }
+    ensures ends { OnOk result (sum_by (λ c. C.left c way) children.new.items < left_along C.left C.most children.old.items was way) }
+    ensures ahead { (c : C) (entry : Entry) → slice_get children.old.items k ≡ Some c → C.position c ≡ On entry →
+        AreApart (λ d. C.holds d source.old) children.old.items →
+        EachChild (λ d. C.is_sound d source.old) children.old.items →
+        ChildrenAreFirst (λ d. C.holds d source.old) C.position was (At entry) children.old.items →
+        OnOk result (ChildrenAreFirst (λ d. C.holds d source.new) C.position way (After entry) children.new.items) }
+{
+    if is_same(was, way) {
+        step_at(children, k, way, source)
+    } else {
+        turn_all(children, way, source)
+    }
+}

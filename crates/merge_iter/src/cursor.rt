@@ -1,0 +1,110 @@
+//! What each cursor does.
+
+ghost use Rattle.std.specs.Prelude.{◌≡◌, ◌↔◌, ◌<◌, ℕ, IsTrue, IsErr, OnOk, option_map};
+ghost use Rattle.kv_types.specs.{Entry};
+ghost use Rattle.merge_iter.specs.Order.{spot};
+ghost use Rattle.merge_iter.specs.Positions.{Position, AtEnd, At, After, IsOn, IfOn, IsBroken};
+ghost use Rattle.merge_iter.specs.Moves.{CanStep, MoveFinds, MoveKeeps, ErrorCauses, IsLawful};
+ghost use Rattle.merge_iter.specs.declared.direction.Direction.{Direction as Way};
+ghost use Rattle.merge_iter.specs.declared.direction.Direction.TheVariants.{Forward, Backward};
+
+use crate::error::CursorError;
+
+/// A place in a sorted set of entries. Keys rise, and in one key numbers fall. The source, which the
+/// entries may be read from, is lent at each move.
+pub trait Cursor {
+    type Source;
+
+    /// Where it stands.
+    ghost position: { Self → Position };
+
+    /// The entries that it goes through, over this source.
+    ghost holds: { Self → Self.Source → Entry → Type 0 };
+
+    /// The source is what the cursor was made for. No clause on entries says anything without it.
+    ghost is_sound: { Self → Self.Source → Type 0 };
+
+    /// The second source is the first after some moves.
+    ghost keeps: { Self.Source → Self.Source → Type 0 };
+
+    /// How often the device behind the source has failed.
+    ghost failures: { Self.Source → ℕ };
+
+    /// How many steps are left in a direction, at most.
+    ghost left: { Self → Way → ℕ };
+
+    /// How many steps there are from one end to the other, at most.
+    ghost most: { Self → ℕ };
+
+    /// Whether it stands on an entry.
+    fn valid(&self) -> bool
+        ensures { IsTrue result ↔ IsOn (position self.now) };
+
+    fn key(&self) -> &[u8]
+        requires { IsOn (position self.now) }
+        ensures { IfOn (position self.now) (λ entry. result.now ≡ entry.key) };
+
+    fn number(&self) -> u64
+        requires { IsOn (position self.now) }
+        ensures { IfOn (position self.now) (λ entry. result ≡ entry.number) };
+
+    /// The value, or none if the entry is a deletion.
+    fn value(&self) -> Option<&[u8]>
+        requires { IsOn (position self.now) }
+        ensures { IfOn (position self.now)
+            (λ entry. option_map (λ value. value.now) result ≡ entry.value) };
+
+    /// To the next entry.
+    fn next(&mut self, source: &mut Self::Source) -> Result<(), CursorError>
+        requires { CanStep (position self.old) }
+        ensures moves { MoveKeeps holds is_sound keeps most self.old source.old self.new source.new }
+        ensures causes { ErrorCauses (is_sound self.old source.old) (IsBroken (position self.old))
+            (failures source.old) (failures source.new) result }
+        ensures broken { IsErr result ↔ IsBroken (position self.new) }
+        ensures ends { OnOk result (left self.new Forward < left self.old Forward) }
+        ensures finds { is_sound self.old source.old → IfOn (position self.old) (λ entry.
+            MoveFinds Forward (After entry) (holds self.old source.old) result (position self.new)) };
+
+    /// To the entry before.
+    fn prev(&mut self, source: &mut Self::Source) -> Result<(), CursorError>
+        requires { CanStep (position self.old) }
+        ensures moves { MoveKeeps holds is_sound keeps most self.old source.old self.new source.new }
+        ensures causes { ErrorCauses (is_sound self.old source.old) (IsBroken (position self.old))
+            (failures source.old) (failures source.new) result }
+        ensures broken { IsErr result ↔ IsBroken (position self.new) }
+        ensures ends { OnOk result (left self.new Backward < left self.old Backward) }
+        ensures finds { is_sound self.old source.old → IfOn (position self.old) (λ entry.
+            MoveFinds Backward (After entry) (holds self.old source.old) result (position self.new)) };
+
+    /// To the first entry that does not come before this key and number.
+    fn seek(
+        &mut self,
+        source: &mut Self::Source,
+        key: &[u8],
+        number: u64,
+    ) -> Result<(), CursorError>
+        ensures moves { MoveKeeps holds is_sound keeps most self.old source.old self.new source.new }
+        ensures causes { ErrorCauses (is_sound self.old source.old) ⊥
+            (failures source.old) (failures source.new) result }
+        ensures broken { IsErr result ↔ IsBroken (position self.new) }
+        ensures finds { is_sound self.old source.old → MoveFinds Forward (At (spot key.now number))
+            (holds self.old source.old) result (position self.new) };
+
+    fn first(&mut self, source: &mut Self::Source) -> Result<(), CursorError>
+        ensures moves { MoveKeeps holds is_sound keeps most self.old source.old self.new source.new }
+        ensures causes { ErrorCauses (is_sound self.old source.old) ⊥
+            (failures source.old) (failures source.new) result }
+        ensures broken { IsErr result ↔ IsBroken (position self.new) }
+        ensures finds { is_sound self.old source.old →
+            MoveFinds Forward AtEnd (holds self.old source.old) result (position self.new) };
+
+    fn last(&mut self, source: &mut Self::Source) -> Result<(), CursorError>
+        ensures moves { MoveKeeps holds is_sound keeps most self.old source.old self.new source.new }
+        ensures causes { ErrorCauses (is_sound self.old source.old) ⊥
+            (failures source.old) (failures source.new) result }
+        ensures broken { IsErr result ↔ IsBroken (position self.new) }
+        ensures finds { is_sound self.old source.old →
+            MoveFinds Backward AtEnd (holds self.old source.old) result (position self.new) };
+
+    ghost laws: { IsLawful holds is_sound keeps left most };
+}

@@ -1,0 +1,56 @@
+//! A entry that is kept while the cursor that it came from goes on.
+
+ghost use Rattle.std.specs.Prelude.{◌≡◌, ◌↔◌, IsTrue, OnOk, IfOk, IsSome};
+ghost use Rattle.merge_iter.specs.Positions.{IsOn, IfOn};
+ghost use Rattle.merge_iter.specs.Keeping.{kept_entry};
+
+use crate::cursor::Cursor;
+use std::alloc::{AllocError, Global};
+
+/// A key with a value, in memory of its own.
+#[derive(Drop)]
+pub struct KeptEntry {
+    pub key: Vec<u8>,
+    pub number: u64,
+    pub value: Vec<u8>,
+}
+
+impl KeptEntry {
+    pub fn new(alloc: Global) -> KeptEntry {
+        KeptEntry {
+            key: Vec::new(alloc),
+            number: 0,
+            value: Vec::new(alloc),
+        }
+    }
+
+    /// Keeps the entry that the cursor stands on, if it is no deletion; answers whether.
+    pub fn take<C: Cursor>(&mut self, cursor: &C) -> Result<bool, AllocError>
+        requires { IsOn (C.position cursor.now) }
+        ensures put { IfOk result (λ taken. IfOn (C.position cursor.now) (λ entry. IsTrue taken ↔ IsSome entry.value)) }
+        ensures taken { IfOk result (λ taken. IfOn (C.position cursor.now) (λ entry. IsTrue taken → kept_entry self.new ≡ entry)) }
+    {
+        let Some(value) = cursor.value() else {
+            return Ok(false);
+        };
+        copy(&mut self.value, value)?;
+        copy(&mut self.key, cursor.key())?;
+        self.number = cursor.number();
+        Ok(true)
+    }
+}
+
+/// Whether two keys are one.
+pub fn is_same_key(one: &[u8], other: &[u8]) -> bool
+    ensures { IsTrue result ↔ (one.now ≡ other.now) }
+{
+    one == other
+}
+
+/// Puts these bytes in place of those that the buffer has.
+pub fn copy(into: &mut Vec<u8>, bytes: &[u8]) -> Result<(), AllocError>
+    ensures { OnOk result (into.new.items ≡ bytes.now) }
+{
+    into.clear();
+    into.extend_from_slice(bytes)
+}

@@ -1,0 +1,27 @@
+//! Cursors over sorted entries: a list in memory, the union of several cursors, and the entries that are
+//! visible at a number.
+#![tactic(auto)]
+
+mod at_number;
+mod child;
+mod children;
+mod cursor;
+mod direction;
+mod error;
+mod kept;
+mod list;
+mod merged;
+mod mode;
+mod order;
+mod owned_entry;
+mod place;
+mod shown;
+mod turns;
+
+pub use at_number::AtNumber;
+pub use cursor::Cursor;
+pub use direction::Direction;
+pub use error::CursorError;
+pub use list::ListCursor;
+pub use merged::Merged;
+pub use owned_entry::OwnedEntry;

@@ -1,0 +1,159 @@
+//! The sorted union of cursors.
+
+ghost use Rattle.std.specs.Prelude.{◌≡◌, ◌↔◌, ◌<◌, IsErr, OnOk};
+ghost use Rattle.merge_iter.specs.Order.{IsAlike};
+ghost use Rattle.merge_iter.specs.Positions.{After, AtEnd, IfOn, IsBroken, Off};
+ghost use Rattle.merge_iter.specs.Moves.{CanStep, MoveFinds, ErrorCauses};
+ghost use Rattle.merge_iter.specs.Merging.{EachChild, AreApart, ChildrenKeep, UnionHolds, IsMerge};
+ghost use Rattle.merge_iter.specs.Merging.{union_position, merged_left, merged_most};
+ghost use Rattle.merge_iter.specs.Unions.{merged_laws};
+
+use crate::children::{advance, seek_all, settle, start_all};
+use crate::cursor::Cursor;
+use crate::direction::Direction;
+use crate::error::CursorError;
+use crate::place::Place;
+
+/// The entries of several cursors, of which no two hold entries of one key and number. What is lent
+/// comes from the child that the union stands on.
+#[derive(Drop)]
+pub struct Merged<C> {
+    children: Vec<C>,
+    place: Place,
+}
+
+impl<C: Cursor> Merged<C> {
+    /// The union of these. It stands on none.
+    pub fn new(children: Vec<C>) -> Self
+        ensures off { ⟦<Merged<C> as Cursor>⟧.position result ≡ Off }
+        ensures sound { (source : C.Source) → EachChild (λ c. C.is_sound c source) children.items →
+            AreApart (λ c. C.holds c source) children.items → ⟦<Merged<C> as Cursor>⟧.is_sound result source }
+        ensures entries { (source : C.Source) →
+            IsAlike (⟦<Merged<C> as Cursor>⟧.holds result source) (UnionHolds (λ c. C.holds c source) children.items) }
+    {
+        Merged {
+            children,
+            place: Place::Off,
+        }
+    }
+
+    // To the next entry in this direction.
+    fn walk(&mut self, way: Direction, source: &mut C::Source) -> Result<(), CursorError>
+        requires { CanStep (union_position C.position self.old.children.items self.old.place) }
+        ensures moves { ChildrenKeep C.holds C.is_sound C.keeps C.most self.old.children.items source.old self.new.children.items source.new }
+        ensures sound { IsMerge (λ c. C.holds c source.old) C.position (λ c. C.is_sound c source.old) self.old.children.items self.old.place →
+            IsMerge (λ c. C.holds c source.new) C.position (λ c. C.is_sound c source.new) self.new.children.items self.new.place }
+        ensures causes { ErrorCauses (IsMerge (λ c. C.holds c source.old) C.position (λ c. C.is_sound c source.old) self.old.children.items self.old.place)
+            (IsBroken (union_position C.position self.old.children.items self.old.place)) (C.failures source.old) (C.failures source.new) result }
+        ensures broken { IsErr result ↔ IsBroken (union_position C.position self.new.children.items self.new.place) }
+        ensures ends { OnOk result (merged_left C.left C.most self.new.children.items self.new.place way < merged_left C.left C.most self.old.children.items self.old.place way) }
+        ensures finds { IsMerge (λ c. C.holds c source.old) C.position (λ c. C.is_sound c source.old) self.old.children.items self.old.place →
+            IfOn (union_position C.position self.old.children.items self.old.place) (λ entry. MoveFinds way (After entry) (UnionHolds (λ c. C.holds c source.old) self.old.children.items) result (union_position C.position self.new.children.items self.new.place)) }
+    {
+        let Place::On(was, k) = self.place else {
+            return Err(CursorError::Failed);
+        };
+        if !self.children[k].valid() {
+            return Err(CursorError::Failed);
+        }
+        self.place = Place::Broken;
+        advance(&mut self.children, was, k, way, source)?;
+        self.place = settle(&self.children, way);
+        Ok(())
+    }
+
+    // To the end where a walk in this direction begins.
+    fn begin(&mut self, way: Direction, source: &mut C::Source) -> Result<(), CursorError>
+        ensures moves { ChildrenKeep C.holds C.is_sound C.keeps C.most self.old.children.items source.old self.new.children.items source.new }
+        ensures sound { IsMerge (λ c. C.holds c source.old) C.position (λ c. C.is_sound c source.old) self.old.children.items self.old.place →
+            IsMerge (λ c. C.holds c source.new) C.position (λ c. C.is_sound c source.new) self.new.children.items self.new.place }
+        ensures causes { ErrorCauses (IsMerge (λ c. C.holds c source.old) C.position (λ c. C.is_sound c source.old) self.old.children.items self.old.place)
+            ⊥ (C.failures source.old) (C.failures source.new) result }
+        ensures broken { IsErr result ↔ IsBroken (union_position C.position self.new.children.items self.new.place) }
+        ensures finds { IsMerge (λ c. C.holds c source.old) C.position (λ c. C.is_sound c source.old) self.old.children.items self.old.place →
+            MoveFinds way AtEnd (UnionHolds (λ c. C.holds c source.old) self.old.children.items) result (union_position C.position self.new.children.items self.new.place) }
+    {
+        self.place = Place::Broken;
+        start_all(&mut self.children, way, source)?;
+        self.place = settle(&self.children, way);
+        Ok(())
+    }
+}
+
+impl<C: Cursor> Cursor for Merged<C> {
+    type Source = C::Source;
+
+    ghost position = { λ m. union_position C.position m.children.items m.place };
+
+    ghost holds = { λ m source. UnionHolds (λ c. C.holds c source) m.children.items };
+
+    ghost is_sound = { λ m source. IsMerge (λ c. C.holds c source) C.position (λ c. C.is_sound c source) m.children.items m.place };
+
+    ghost keeps = { C.keeps };
+
+    ghost failures = { C.failures };
+
+    ghost left = { λ m. merged_left C.left C.most m.children.items m.place };
+
+    ghost most = { λ m. merged_most C.most m.children.items };
+
+    fn valid(&self) -> bool {
+        match self.place {
+            Place::On(_, k) => match self.children.get(k) {
+                Some(child) => child.valid(),
+                None => false,
+            },
+            Place::Off => false,
+            Place::Broken => false,
+        }
+    }
+
+    fn key(&self) -> &[u8] {
+        match self.place {
+            Place::On(_, k) => self.children[k].key(),
+            Place::Off => &[],
+            Place::Broken => &[],
+        }
+    }
+
+    fn number(&self) -> u64 {
+        match self.place {
+            Place::On(_, k) => self.children[k].number(),
+            Place::Off => 0,
+            Place::Broken => 0,
+        }
+    }
+
+    fn value(&self) -> Option<&[u8]> {
+        match self.place {
+            Place::On(_, k) => self.children[k].value(),
+            Place::Off => None,
+            Place::Broken => None,
+        }
+    }
+
+    fn next(&mut self, source: &mut C::Source) -> Result<(), CursorError> {
+        self.walk(Direction::Forward, source)
+    }
+
+    fn prev(&mut self, source: &mut C::Source) -> Result<(), CursorError> {
+        self.walk(Direction::Backward, source)
+    }
+
+    fn seek(&mut self, source: &mut C::Source, key: &[u8], number: u64) -> Result<(), CursorError> {
+        self.place = Place::Broken;
+        seek_all(&mut self.children, source, key, number)?;
+        self.place = settle(&self.children, Direction::Forward);
+        Ok(())
+    }
+
+    fn first(&mut self, source: &mut C::Source) -> Result<(), CursorError> {
+        self.begin(Direction::Forward, source)
+    }
+
+    fn last(&mut self, source: &mut C::Source) -> Result<(), CursorError> {
+        self.begin(Direction::Backward, source)
+    }
+
+    ghost laws = { merged_laws C.holds C.is_sound C.keeps C.most C.left C.position C.laws (λ m. m.children.items) (λ m. m.place) };
+}

@@ -1,0 +1,116 @@
+//! The search for the next entry that is shown at a number.
+
+ghost use Rattle.std.specs.Prelude.{◌≤◌, IfOk};
+ghost use Rattle.kv_types.specs.{Entry};
+ghost use Rattle.merge_iter.specs.Positions.{WalkStart, IsOn, IfOn, IsBroken};
+ghost use Rattle.merge_iter.specs.Moves.{MoveKeeps, ErrorCauses};
+ghost use Rattle.merge_iter.specs.Keeping.{kept_entry};
+ghost use Rattle.merge_iter.specs.Versions.{IsHidden, IsJudged, IsJudgedBack, IsAhead, IsBefore, IsFound, IsForward};
+ghost use Rattle.merge_iter.specs.Versions.{view_position, left_in};
+ghost use Rattle.merge_iter.specs.declared.direction.Direction.TheVariants.{Forward, Backward};
+
+use crate::cursor::Cursor;
+use crate::error::CursorError;
+use crate::kept::{KeptEntry, copy, is_same_key};
+use crate::mode::Mode;
+use std::alloc::AllocError;
+
+// Whether the entry is shown. The key of a deletion that is seen is hidden from here on.
+fn is_shown<C: Cursor>(
+    inner: &C,
+    at: u64,
+    hides: &mut bool,
+    hidden: &mut Vec<u8>,
+) -> Result<bool, AllocError>
+    requires { IsOn (C.position inner.now) }
+    ensures { IfOk result (λ shown. IfOn (C.position inner.now) (λ entry.
+        IsJudged at hides.old hidden.old.items entry hides.new hidden.new.items shown)) }
+{
+    if inner.number() > at {
+        return Ok(false);
+    }
+    if *hides && is_same_key(hidden.as_slice(), inner.key()) {
+        return Ok(false);
+    }
+    if inner.value().is_some() {
+        return Ok(true);
+    }
+    copy(hidden, inner.key())?;
+    *hides = true;
+    Ok(false)
+}
+
+/// On to the next entry that is shown. A walk forward meets the newest entry of a key first.
+pub fn find_forward<C: Cursor>(
+    inner: &mut C,
+    source: &mut C::Source,
+    at: u64,
+    hides: bool,
+    hidden: &mut Vec<u8>,
+) -> Result<Mode, CursorError>
+    ensures moves { MoveKeeps C.holds C.is_sound C.keeps C.most inner.old source.old inner.new source.new }
+    ensures causes { ErrorCauses (C.is_sound inner.old source.old) ⊥ (C.failures source.old) (C.failures source.new) result }
+    ensures unbroken { (kept : Entry) → IfOk result (λ mode. IsBroken (view_position mode (C.position inner.new) kept) → ⊥) }
+    ensures forward { IfOk result IsForward }
+    ensures left { IfOk result (λ mode. left_in (C.left inner.new) (C.most inner.new) mode Forward ≤ C.left inner.old Forward) }
+    ensures finds { (start : WalkStart) (kept : Entry) → C.is_sound inner.old source.old →
+        IsAhead at (C.holds inner.old source.old) start (IsHidden hides hidden.old.items) (C.position inner.old) →
+        IsFound Forward at (C.holds inner.old source.old) start result (C.position inner.new) kept }
+{
+    let mut hiding = hides;
+    while inner.valid() {
+        if is_shown(inner, at, &mut hiding, hidden)? {
+            return Ok(Mode::Inner);
+        }
+        inner.next(source)?;
+    }
+    Ok(Mode::Off)
+}
+
+// Whether the walk has left the key of the entry that is kept. Else the entry, if it is seen, takes
+// the place of what was kept of its key.
+fn is_left<C: Cursor>(
+    inner: &C,
+    at: u64,
+    found: &mut bool,
+    kept: &mut KeptEntry,
+) -> Result<bool, AllocError>
+    requires { IsOn (C.position inner.now) }
+    ensures { IfOk result (λ left. IfOn (C.position inner.now) (λ entry.
+        IsJudgedBack at found.old (kept_entry kept.old) entry found.new (kept_entry kept.new) left)) }
+{
+    if inner.number() > at {
+        return Ok(false);
+    }
+    if *found && !is_same_key(kept.key.as_slice(), inner.key()) {
+        return Ok(true);
+    }
+    *found = kept.take(inner)?;
+    Ok(false)
+}
+
+/// Back to the entry before that is shown, which is kept. A walk back meets the newest entry of a key
+/// last, so the cursor goes on behind it.
+pub fn find_back<C: Cursor>(
+    inner: &mut C,
+    source: &mut C::Source,
+    at: u64,
+    kept: &mut KeptEntry,
+) -> Result<Mode, CursorError>
+    ensures moves { MoveKeeps C.holds C.is_sound C.keeps C.most inner.old source.old inner.new source.new }
+    ensures causes { ErrorCauses (C.is_sound inner.old source.old) ⊥ (C.failures source.old) (C.failures source.new) result }
+    ensures unbroken { IfOk result (λ mode. IsBroken (view_position mode (C.position inner.new) (kept_entry kept.new)) → ⊥) }
+    ensures left { IfOk result (λ mode. left_in (C.left inner.new) (C.most inner.new) mode Backward ≤ C.left inner.old Backward) }
+    ensures finds { (start : WalkStart) → C.is_sound inner.old source.old →
+        IsBefore Backward at (C.holds inner.old source.old) start (C.position inner.old) →
+        IsFound Backward at (C.holds inner.old source.old) start result (C.position inner.new) (kept_entry kept.new) }
+{
+    let mut found = false;
+    while inner.valid() {
+        if is_left(inner, at, &mut found, kept)? {
+            return Ok(Mode::Kept);
+        }
+        inner.prev(source)?;
+    }
+    Ok(if found { Mode::Kept } else { Mode::Off })
+}
