@@ -34,8 +34,8 @@ abbrev pub row : List ℕ → List ℕ → Row
 row key value = record { key = key; value = value }
 
 -- the entry of a key at a number, with this value or as a deletion
-abbrev pub entry : List ℕ → ℕ → Option (List ℕ) → Entry
-entry key number value = record { key = key; number = number; value = value }
+abbrev pub entry_at : List ℕ → ℕ → Option (List ℕ) → Entry
+entry_at key number value = record { key = key; number = number; value = value }
 
 -- two batches: a=1 a=2, then -a
 abbrev pub changes : List BatchContent
@@ -46,17 +46,17 @@ changes =
 
 -- of two edits of a key in one batch, the last is its entry, and the only one
 pub record EntryExamples : Type 0 where
-  pub last : all_entries changes (entry (codes "a") 1 (Some (codes "2")))
-  pub not_the_first : all_entries changes (entry (codes "a") 1 (Some (codes "1"))) → ⊥
-  pub deletion : all_entries changes (entry (codes "a") 2 None)
+  pub last : all_entries changes (entry_at (codes "a") 1 (Some (codes "2")))
+  pub not_the_first : all_entries changes (entry_at (codes "a") 1 (Some (codes "1"))) → ⊥
+  pub deletion : all_entries changes (entry_at (codes "a") 2 None)
   pub other_key : (number : ℕ) (value : Option (List ℕ)) →
-      all_entries changes (entry (codes "b") number value) → ⊥
+      all_entries changes (entry_at (codes "b") number value) → ⊥
   pub before : ViewShows 0 (all_entries changes) (codes "a") None
   pub first : ViewShows 1 (all_entries changes) (codes "a") (Some (codes "2"))
   pub second : ViewShows 2 (all_entries changes) (codes "a") None
-  pub shown : IsShown 1 (all_entries changes) (entry (codes "a") 1 (Some (codes "2")))
-  pub deleted : IsShown 2 (all_entries changes) (entry (codes "a") 2 None) → ⊥
-  pub hidden : IsShown 2 (all_entries changes) (entry (codes "a") 1 (Some (codes "2"))) → ⊥
+  pub shown : IsShown 1 (all_entries changes) (entry_at (codes "a") 1 (Some (codes "2")))
+  pub deleted : IsShown 2 (all_entries changes) (entry_at (codes "a") 2 None) → ⊥
+  pub hidden : IsShown 2 (all_entries changes) (entry_at (codes "a") 1 (Some (codes "2"))) → ⊥
 
 pub record BatchExamples : Type 0 where
   pub spelled : batch_bytes (Put (codes "a") (codes "1") ∷ [])
