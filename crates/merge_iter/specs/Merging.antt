@@ -50,9 +50,11 @@ module _ {C : Type 0} where
   IsNearest position way children n (Some k) = IsBest position way children n k
 
   -- each child stands on the first of its entries that a walk from there meets
-  abbrev pub ChildrenAreFirst : (C → Entry → Type 0) → (C → Position) → Direction → WalkStart → List C → Type 0
+  abbrev pub ChildrenAreFirst : (C → Entry → Type 0) → (C → Position) → Direction → WalkStart
+      → List C → Type 0
   ChildrenAreFirst holds position way start children =
-      EachChild (λ c. IsFirst way (λ entry. holds c entry × WalkMeets way start entry) (position c)) children
+      EachChild (λ c. IsFirst way (λ entry. holds c entry × WalkMeets way start entry) (position c))
+      children
 
   -- where this child stands, if there is one
   abbrev pub child_position : (C → Position) → Option C → Position

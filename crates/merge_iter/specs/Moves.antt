@@ -15,7 +15,8 @@ CanStep Off = ⊥
 CanStep Broken = Unit {0}
 
 -- after Ok the cursor stands on the first entry that a walk from there meets
-abbrev pub MoveFinds : {R : Type 0} → Direction → WalkStart → (Entry → Type 0) → Result R CursorError → Position
+abbrev pub MoveFinds : {R : Type 0} → Direction → WalkStart → (Entry → Type 0)
+    → Result R CursorError → Position
     → Type 0
 MoveFinds way start entries result new =
     OnOk result (IsFirst way (λ entry. entries entry × WalkMeets way start entry) new)

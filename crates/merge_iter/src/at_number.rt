@@ -34,8 +34,10 @@ impl<C: Cursor> AtNumber<C> {
     pub fn new(alloc: Global, inner: C, at: u64) -> Self
         ensures off { ⟦<AtNumber<C> as Cursor>⟧.position result ≡ Off }
         ensures sound { (source : C.Source) → C.is_sound inner source → ⟦<AtNumber<C> as Cursor>⟧.is_sound result source }
-        ensures entries { (source : C.Source) → IsAlike (⟦<AtNumber<C> as Cursor>⟧.holds result source) (IsShown at (C.holds inner source)) }
-        ensures view { (source : C.Source) → C.is_sound inner source → IsView at (C.holds inner source) (⟦<AtNumber<C> as Cursor>⟧.holds result source) }
+        ensures entries { (source : C.Source) → IsAlike (⟦<AtNumber<C> as Cursor>⟧.holds result
+            source) (IsShown at (C.holds inner source)) }
+        ensures view { (source : C.Source) → C.is_sound inner source → IsView at
+            (C.holds inner source) (⟦<AtNumber<C> as Cursor>⟧.holds result source) }
     {
         AtNumber {
             inner,
@@ -53,7 +55,8 @@ impl<C: Cursor> Cursor for AtNumber<C> {
 
     ghost holds = { λ a source. IsShown a.at (C.holds a.inner source) };
 
-    ghost is_sound = { λ a source. C.is_sound a.inner source × IsSettled a.at (C.holds a.inner source) a.mode (C.position a.inner) (kept_entry a.kept) };
+    ghost is_sound = { λ a source. C.is_sound a.inner source × IsSettled a.at
+        (C.holds a.inner source) a.mode (C.position a.inner) (kept_entry a.kept) };
 
     ghost keeps = { C.keeps };
 
@@ -144,5 +147,6 @@ impl<C: Cursor> Cursor for AtNumber<C> {
         Ok(())
     }
 
-    ghost laws = { at_laws C.holds C.is_sound C.keeps C.left C.most C.position C.laws (λ a. a.inner) (λ a. a.at) (λ a. a.mode) (λ a. kept_entry a.kept) };
+    ghost laws = { at_laws C.holds C.is_sound C.keeps C.left C.most C.position C.laws (λ a. a.inner)
+        (λ a. a.at) (λ a. a.mode) (λ a. kept_entry a.kept) };
 }

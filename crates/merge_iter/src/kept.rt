@@ -27,8 +27,10 @@ impl KeptEntry {
     /// Keeps the entry that the cursor stands on, if it is no deletion; answers whether.
     pub fn take<C: Cursor>(&mut self, cursor: &C) -> Result<bool, AllocError>
         requires { IsOn (C.position cursor.now) }
-        ensures put { IfOk result (λ taken. IfOn (C.position cursor.now) (λ entry. IsTrue taken ↔ IsSome entry.value)) }
-        ensures taken { IfOk result (λ taken. IfOn (C.position cursor.now) (λ entry. IsTrue taken → kept_entry self.new ≡ entry)) }
+        ensures put { IfOk result (λ taken. IfOn (C.position cursor.now) (λ entry. IsTrue taken
+            ↔ IsSome entry.value)) }
+        ensures taken { IfOk result (λ taken. IfOn (C.position cursor.now) (λ entry. IsTrue taken
+            → kept_entry self.new ≡ entry)) }
     {
         let Some(value) = cursor.value() else {
             return Ok(false);

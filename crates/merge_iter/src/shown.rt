@@ -3,11 +3,12 @@
 ghost use Rattle.std.specs.Prelude.{◌≤◌, IfOk};
 ghost use Rattle.kv_types.specs.{Entry};
 ghost use Rattle.merge_iter.specs.Positions.{WalkStart, IsOn, IfOn, IsBroken};
-ghost use Rattle.merge_iter.specs.Moves.{MoveKeeps, ErrorCauses};
 ghost use Rattle.merge_iter.specs.Keeping.{kept_entry};
-ghost use Rattle.merge_iter.specs.Versions.{IsHidden, IsJudged, IsJudgedBack, IsAhead, IsBefore, IsFound, IsForward};
+ghost use Rattle.merge_iter.specs.Versions.{IsHidden, IsJudged, IsJudgedBack, IsAhead, IsBefore};
+ghost use Rattle.merge_iter.specs.Versions.{IsFound, IsForward};
 ghost use Rattle.merge_iter.specs.Versions.{view_position, left_in};
 ghost use Rattle.merge_iter.specs.declared.direction.Direction.TheVariants.{Forward, Backward};
+ghost use Rattle.merge_iter.specs.LentCursors.{KeepsCursor, RefusesMove};
 
 use crate::cursor::Cursor;
 use crate::error::CursorError;
@@ -48,14 +49,18 @@ pub fn find_forward<C: Cursor>(
     hides: bool,
     hidden: &mut Vec<u8>,
 ) -> Result<Mode, CursorError>
-    ensures moves { MoveKeeps C.holds C.is_sound C.keeps C.most inner.old source.old inner.new source.new }
-    ensures causes { ErrorCauses (C.is_sound inner.old source.old) ⊥ (C.failures source.old) (C.failures source.new) result }
-    ensures unbroken { (kept : Entry) → IfOk result (λ mode. IsBroken (view_position mode (C.position inner.new) kept) → ⊥) }
+    ensures moves { KeepsCursor C.Cursor inner.old source.old inner.new source.new }
+    ensures causes { RefusesMove C.Cursor (C.is_sound inner.old source.old) ⊥ source.old source.new
+        result }
+    ensures unbroken { (kept : Entry) → IfOk result
+        (λ mode. IsBroken (view_position mode (C.position inner.new) kept) → ⊥) }
     ensures forward { IfOk result IsForward }
-    ensures left { IfOk result (λ mode. left_in (C.left inner.new) (C.most inner.new) mode Forward ≤ C.left inner.old Forward) }
-    ensures finds { (start : WalkStart) (kept : Entry) → C.is_sound inner.old source.old →
-        IsAhead at (C.holds inner.old source.old) start (IsHidden hides hidden.old.items) (C.position inner.old) →
-        IsFound Forward at (C.holds inner.old source.old) start result (C.position inner.new) kept }
+    ensures left { IfOk result (λ mode. left_in (C.left inner.new) (C.most inner.new) mode Forward ≤
+        C.left inner.old Forward) }
+    ensures finds { (start : WalkStart) (kept : Entry) → C.is_sound inner.old source.old
+        → IsAhead at (C.holds inner.old source.old) start (IsHidden hides hidden.old.items)
+        (C.position inner.old) → IsFound Forward at (C.holds inner.old source.old) start result
+        (C.position inner.new) kept }
 {
     let mut hiding = hides;
     while inner.valid() {
@@ -97,13 +102,16 @@ pub fn find_back<C: Cursor>(
     at: u64,
     kept: &mut KeptEntry,
 ) -> Result<Mode, CursorError>
-    ensures moves { MoveKeeps C.holds C.is_sound C.keeps C.most inner.old source.old inner.new source.new }
-    ensures causes { ErrorCauses (C.is_sound inner.old source.old) ⊥ (C.failures source.old) (C.failures source.new) result }
-    ensures unbroken { IfOk result (λ mode. IsBroken (view_position mode (C.position inner.new) (kept_entry kept.new)) → ⊥) }
-    ensures left { IfOk result (λ mode. left_in (C.left inner.new) (C.most inner.new) mode Backward ≤ C.left inner.old Backward) }
-    ensures finds { (start : WalkStart) → C.is_sound inner.old source.old →
-        IsBefore Backward at (C.holds inner.old source.old) start (C.position inner.old) →
-        IsFound Backward at (C.holds inner.old source.old) start result (C.position inner.new) (kept_entry kept.new) }
+    ensures moves { KeepsCursor C.Cursor inner.old source.old inner.new source.new }
+    ensures causes { RefusesMove C.Cursor (C.is_sound inner.old source.old) ⊥ source.old source.new
+        result }
+    ensures unbroken { IfOk result
+        (λ mode. IsBroken (view_position mode (C.position inner.new) (kept_entry kept.new)) → ⊥) }
+    ensures left { IfOk result (λ mode. left_in (C.left inner.new) (C.most inner.new) mode Backward
+        ≤ C.left inner.old Backward) }
+    ensures finds { (start : WalkStart) → C.is_sound inner.old source.old → IsBefore Backward at
+        (C.holds inner.old source.old) start (C.position inner.old) → IsFound Backward at
+        (C.holds inner.old source.old) start result (C.position inner.new) (kept_entry kept.new) }
 {
     let mut found = false;
     while inner.valid() {

@@ -3,11 +3,12 @@
 ghost use Rattle.std.specs.Prelude.{◌≡◌, ◌⊎◌, ◌<◌, ◌≤◌, ℕ, IsTrue, OnOk, IfOk};
 ghost use Rattle.kv_types.specs.{Entry};
 ghost use Rattle.merge_iter.specs.Order.{EntryPrecedes, spot};
-ghost use Rattle.merge_iter.specs.Positions.{AtEnd, At, After, On, WalkMeets, IsOn, IfOn, IsBroken, IsFirst};
-ghost use Rattle.merge_iter.specs.Moves.{MoveKeeps, ErrorCauses};
+ghost use Rattle.merge_iter.specs.Positions.{AtEnd, At, After, On, WalkMeets, IsOn, IfOn, IsBroken};
+ghost use Rattle.merge_iter.specs.Positions.{IsFirst};
 ghost use Rattle.merge_iter.specs.Keeping.{kept_entry};
 ghost use Rattle.merge_iter.specs.Versions.{IsBefore, IsFound, IsSettled, view_position, left_in};
 ghost use Rattle.merge_iter.specs.declared.direction.Direction.TheVariants.{Forward, Backward};
+ghost use Rattle.merge_iter.specs.LentCursors.{KeepsCursor, RefusesMove};
 
 use crate::cursor::Cursor;
 use crate::error::CursorError;
@@ -24,14 +25,17 @@ fn return_to<C: Cursor>(
     kept: &KeptEntry,
 ) -> Result<(), CursorError>
     requires { IsOn (view_position mode (C.position inner.old) (kept_entry kept.now)) }
-    ensures moves { MoveKeeps C.holds C.is_sound C.keeps C.most inner.old source.old inner.new source.new }
-    ensures causes { ErrorCauses (C.is_sound inner.old source.old) ⊥ (C.failures source.old) (C.failures source.new) result }
-    ensures left { OnOk result (C.left inner.new Forward ≤ left_in (C.left inner.old) (C.most inner.old) mode Forward) }
+    ensures moves { KeepsCursor C.Cursor inner.old source.old inner.new source.new }
+    ensures causes { RefusesMove C.Cursor (C.is_sound inner.old source.old) ⊥ source.old source.new
+        result }
+    ensures left { OnOk result (C.left inner.new Forward ≤ left_in (C.left inner.old)
+        (C.most inner.old) mode Forward) }
     ensures ready { OnOk result (IsOn (C.position inner.new)
         ⊎ (C.left inner.new Forward < left_in (C.left inner.old) (C.most inner.old) mode Forward)) }
-    ensures returns { (at : ℕ) (entry : Entry) → C.is_sound inner.old source.old →
-        IsSettled at (C.holds inner.old source.old) mode (C.position inner.old) (kept_entry kept.now) →
-        view_position mode (C.position inner.old) (kept_entry kept.now) ≡ On entry → OnOk result (C.position inner.new ≡ On entry) }
+    ensures returns { (at : ℕ) (entry : Entry) → C.is_sound inner.old source.old → IsSettled at
+        (C.holds inner.old source.old) mode (C.position inner.old) (kept_entry kept.now)
+        → view_position mode (C.position inner.old) (kept_entry kept.now) ≡ On entry → OnOk result
+        (C.position inner.new ≡ On entry) }
 {
     match mode {
         Mode::Inner => Ok(()),
@@ -47,13 +51,15 @@ fn leave<C: Cursor>(
     source: &mut C::Source,
     key: &mut Vec<u8>,
 ) -> Result<(), CursorError>
-    ensures moves { MoveKeeps C.holds C.is_sound C.keeps C.most inner.old source.old inner.new source.new }
-    ensures causes { ErrorCauses (C.is_sound inner.old source.old) ⊥ (C.failures source.old) (C.failures source.new) result }
+    ensures moves { KeepsCursor C.Cursor inner.old source.old inner.new source.new }
+    ensures causes { RefusesMove C.Cursor (C.is_sound inner.old source.old) ⊥ source.old source.new
+        result }
     ensures fewer { OnOk result (C.left inner.new Forward ≤ C.left inner.old Forward) }
-    ensures left { IsOn (C.position inner.old) → OnOk result (C.left inner.new Forward < C.left inner.old Forward) }
-    ensures leaves { (entry : Entry) → C.is_sound inner.old source.old → C.position inner.old ≡ On entry →
-        OnOk result (IsFirst Forward (λ p. C.holds inner.old source.old p × WalkMeets Forward (After entry) p) (C.position inner.new)
-        × (key.new.items ≡ entry.key)) }
+    ensures left { IsOn (C.position inner.old) → OnOk result (C.left inner.new Forward < C.left
+        inner.old Forward) }
+    ensures leaves { (entry : Entry) → C.is_sound inner.old source.old → C.position inner.old ≡ On
+        entry → OnOk result (IsFirst Forward (λ p. C.holds inner.old source.old p × WalkMeets
+        Forward (After entry) p) (C.position inner.new) × (key.new.items ≡ entry.key)) }
 {
     if !inner.valid() {
         return Ok(());
@@ -69,11 +75,13 @@ pub fn first_shown<C: Cursor>(
     at: u64,
     kept: &mut KeptEntry,
 ) -> Result<Mode, CursorError>
-    ensures moves { MoveKeeps C.holds C.is_sound C.keeps C.most inner.old source.old inner.new source.new }
-    ensures causes { ErrorCauses (C.is_sound inner.old source.old) ⊥ (C.failures source.old) (C.failures source.new) result }
-    ensures unbroken { IfOk result (λ mode. IsBroken (view_position mode (C.position inner.new) (kept_entry kept.new)) → ⊥) }
-    ensures finds { C.is_sound inner.old source.old →
-        IsFound Forward at (C.holds inner.old source.old) AtEnd result (C.position inner.new) (kept_entry kept.new) }
+    ensures moves { KeepsCursor C.Cursor inner.old source.old inner.new source.new }
+    ensures causes { RefusesMove C.Cursor (C.is_sound inner.old source.old) ⊥ source.old source.new
+        result }
+    ensures unbroken { IfOk result
+        (λ mode. IsBroken (view_position mode (C.position inner.new) (kept_entry kept.new)) → ⊥) }
+    ensures finds { C.is_sound inner.old source.old → IsFound Forward at
+        (C.holds inner.old source.old) AtEnd result (C.position inner.new) (kept_entry kept.new) }
 {
     inner.first(source)?;
     find_forward(inner, source, at, false, &mut kept.key)
@@ -86,11 +94,13 @@ pub fn last_shown<C: Cursor>(
     at: u64,
     kept: &mut KeptEntry,
 ) -> Result<Mode, CursorError>
-    ensures moves { MoveKeeps C.holds C.is_sound C.keeps C.most inner.old source.old inner.new source.new }
-    ensures causes { ErrorCauses (C.is_sound inner.old source.old) ⊥ (C.failures source.old) (C.failures source.new) result }
-    ensures unbroken { IfOk result (λ mode. IsBroken (view_position mode (C.position inner.new) (kept_entry kept.new)) → ⊥) }
-    ensures finds { C.is_sound inner.old source.old →
-        IsFound Backward at (C.holds inner.old source.old) AtEnd result (C.position inner.new) (kept_entry kept.new) }
+    ensures moves { KeepsCursor C.Cursor inner.old source.old inner.new source.new }
+    ensures causes { RefusesMove C.Cursor (C.is_sound inner.old source.old) ⊥ source.old source.new
+        result }
+    ensures unbroken { IfOk result
+        (λ mode. IsBroken (view_position mode (C.position inner.new) (kept_entry kept.new)) → ⊥) }
+    ensures finds { C.is_sound inner.old source.old → IsFound Backward at
+        (C.holds inner.old source.old) AtEnd result (C.position inner.new) (kept_entry kept.new) }
 {
     inner.last(source)?;
     find_back(inner, source, at, kept)
@@ -98,8 +108,10 @@ pub fn last_shown<C: Cursor>(
 
 // Whether the entry that was found comes before this key and number.
 fn is_early<C: Cursor>(inner: &C, mode: Mode, key: &[u8], number: u64) -> bool
-    ensures early { IsTrue result → (mode ≡ Mode.Inner) × IsOn (C.position inner.now) × IfOn (C.position inner.now) (λ entry. EntryPrecedes Forward entry (spot key.now number)) }
-    ensures late { (IsTrue result → ⊥) → mode ≡ Mode.Inner → IfOn (C.position inner.now) (λ entry. EntryPrecedes Forward entry (spot key.now number) → ⊥) }
+    ensures early { IsTrue result → (mode ≡ Mode.Inner) × IsOn (C.position inner.now)
+        × IfOn (C.position inner.now) (λ entry. EntryPrecedes Forward entry (spot key.now number)) }
+    ensures late { (IsTrue result → ⊥) → mode ≡ Mode.Inner → IfOn (C.position inner.now)
+        (λ entry. EntryPrecedes Forward entry (spot key.now number) → ⊥) }
 {
     match mode {
         Mode::Inner => inner.valid() && order(inner.key(), inner.number(), key, number).is_lt(),
@@ -119,11 +131,14 @@ pub fn seek_shown<C: Cursor>(
     number: u64,
     kept: &mut KeptEntry,
 ) -> Result<Mode, CursorError>
-    ensures moves { MoveKeeps C.holds C.is_sound C.keeps C.most inner.old source.old inner.new source.new }
-    ensures causes { ErrorCauses (C.is_sound inner.old source.old) ⊥ (C.failures source.old) (C.failures source.new) result }
-    ensures unbroken { IfOk result (λ mode. IsBroken (view_position mode (C.position inner.new) (kept_entry kept.new)) → ⊥) }
-    ensures finds { C.is_sound inner.old source.old →
-        IsFound Forward at (C.holds inner.old source.old) (At (spot key.now number)) result (C.position inner.new) (kept_entry kept.new) }
+    ensures moves { KeepsCursor C.Cursor inner.old source.old inner.new source.new }
+    ensures causes { RefusesMove C.Cursor (C.is_sound inner.old source.old) ⊥ source.old source.new
+        result }
+    ensures unbroken { IfOk result
+        (λ mode. IsBroken (view_position mode (C.position inner.new) (kept_entry kept.new)) → ⊥) }
+    ensures finds { C.is_sound inner.old source.old → IsFound Forward at
+        (C.holds inner.old source.old) (At (spot key.now number)) result (C.position inner.new)
+        (kept_entry kept.new) }
 {
     inner.seek(source, key, at)?;
     let mode = find_forward(inner, source, at, false, &mut kept.key)?;
@@ -143,14 +158,18 @@ pub fn next_shown<C: Cursor>(
     kept: &mut KeptEntry,
 ) -> Result<Mode, CursorError>
     requires { IsOn (view_position mode (C.position inner.old) (kept_entry kept.old)) }
-    ensures moves { MoveKeeps C.holds C.is_sound C.keeps C.most inner.old source.old inner.new source.new }
-    ensures causes { ErrorCauses (C.is_sound inner.old source.old) ⊥ (C.failures source.old) (C.failures source.new) result }
-    ensures unbroken { IfOk result (λ mode. IsBroken (view_position mode (C.position inner.new) (kept_entry kept.new)) → ⊥) }
-    ensures left { IfOk result (λ new. left_in (C.left inner.new) (C.most inner.new) new Forward < left_in (C.left inner.old) (C.most inner.old) mode Forward) }
-    ensures finds { (entry : Entry) → C.is_sound inner.old source.old →
-        IsSettled at (C.holds inner.old source.old) mode (C.position inner.old) (kept_entry kept.old) →
-        view_position mode (C.position inner.old) (kept_entry kept.old) ≡ On entry →
-        IsFound Forward at (C.holds inner.old source.old) (After entry) result (C.position inner.new) (kept_entry kept.new) }
+    ensures moves { KeepsCursor C.Cursor inner.old source.old inner.new source.new }
+    ensures causes { RefusesMove C.Cursor (C.is_sound inner.old source.old) ⊥ source.old source.new
+        result }
+    ensures unbroken { IfOk result
+        (λ mode. IsBroken (view_position mode (C.position inner.new) (kept_entry kept.new)) → ⊥) }
+    ensures left { IfOk result (λ new. left_in (C.left inner.new) (C.most inner.new) new Forward <
+        left_in (C.left inner.old) (C.most inner.old) mode Forward) }
+    ensures finds { (entry : Entry) → C.is_sound inner.old source.old → IsSettled at
+        (C.holds inner.old source.old) mode (C.position inner.old) (kept_entry kept.old)
+        → view_position mode (C.position inner.old) (kept_entry kept.old) ≡ On entry
+        → IsFound Forward at (C.holds inner.old source.old) (After entry) result
+        (C.position inner.new) (kept_entry kept.new) }
 {
     return_to(inner, source, mode, kept)?;
     leave(inner, source, &mut kept.key)?;
@@ -165,13 +184,15 @@ fn retreat<C: Cursor>(
     kept: &KeptEntry,
 ) -> Result<(), CursorError>
     requires { IsOn (view_position mode (C.position inner.old) (kept_entry kept.now)) }
-    ensures moves { MoveKeeps C.holds C.is_sound C.keeps C.most inner.old source.old inner.new source.new }
-    ensures causes { ErrorCauses (C.is_sound inner.old source.old) ⊥ (C.failures source.old) (C.failures source.new) result }
-    ensures left { OnOk result (C.left inner.new Backward < left_in (C.left inner.old) (C.most inner.old) mode Backward) }
-    ensures retreats { (at : ℕ) (entry : Entry) → C.is_sound inner.old source.old →
-        IsSettled at (C.holds inner.old source.old) mode (C.position inner.old) (kept_entry kept.now) →
-        view_position mode (C.position inner.old) (kept_entry kept.now) ≡ On entry →
-        OnOk result (IsBefore Backward at (C.holds inner.old source.old) (After entry) (C.position inner.new)) }
+    ensures moves { KeepsCursor C.Cursor inner.old source.old inner.new source.new }
+    ensures causes { RefusesMove C.Cursor (C.is_sound inner.old source.old) ⊥ source.old source.new
+        result }
+    ensures left { OnOk result (C.left inner.new Backward < left_in (C.left inner.old)
+        (C.most inner.old) mode Backward) }
+    ensures retreats { (at : ℕ) (entry : Entry) → C.is_sound inner.old source.old → IsSettled at
+        (C.holds inner.old source.old) mode (C.position inner.old) (kept_entry kept.now)
+        → view_position mode (C.position inner.old) (kept_entry kept.now) ≡ On entry → OnOk result
+        (IsBefore Backward at (C.holds inner.old source.old) (After entry) (C.position inner.new)) }
 {
     match mode {
         Mode::Inner => inner.prev(source),
@@ -190,14 +211,18 @@ pub fn prev_shown<C: Cursor>(
     kept: &mut KeptEntry,
 ) -> Result<Mode, CursorError>
     requires { IsOn (view_position mode (C.position inner.old) (kept_entry kept.old)) }
-    ensures moves { MoveKeeps C.holds C.is_sound C.keeps C.most inner.old source.old inner.new source.new }
-    ensures causes { ErrorCauses (C.is_sound inner.old source.old) ⊥ (C.failures source.old) (C.failures source.new) result }
-    ensures unbroken { IfOk result (λ mode. IsBroken (view_position mode (C.position inner.new) (kept_entry kept.new)) → ⊥) }
-    ensures left { IfOk result (λ new. left_in (C.left inner.new) (C.most inner.new) new Backward < left_in (C.left inner.old) (C.most inner.old) mode Backward) }
-    ensures finds { (entry : Entry) → C.is_sound inner.old source.old →
-        IsSettled at (C.holds inner.old source.old) mode (C.position inner.old) (kept_entry kept.old) →
-        view_position mode (C.position inner.old) (kept_entry kept.old) ≡ On entry →
-        IsFound Backward at (C.holds inner.old source.old) (After entry) result (C.position inner.new) (kept_entry kept.new) }
+    ensures moves { KeepsCursor C.Cursor inner.old source.old inner.new source.new }
+    ensures causes { RefusesMove C.Cursor (C.is_sound inner.old source.old) ⊥ source.old source.new
+        result }
+    ensures unbroken { IfOk result
+        (λ mode. IsBroken (view_position mode (C.position inner.new) (kept_entry kept.new)) → ⊥) }
+    ensures left { IfOk result (λ new. left_in (C.left inner.new) (C.most inner.new) new Backward <
+        left_in (C.left inner.old) (C.most inner.old) mode Backward) }
+    ensures finds { (entry : Entry) → C.is_sound inner.old source.old → IsSettled at
+        (C.holds inner.old source.old) mode (C.position inner.old) (kept_entry kept.old)
+        → view_position mode (C.position inner.old) (kept_entry kept.old) ≡ On entry
+        → IsFound Backward at (C.holds inner.old source.old) (After entry) result
+        (C.position inner.new) (kept_entry kept.new) }
 {
     retreat(inner, source, mode, kept)?;
     find_back(inner, source, at, kept)
