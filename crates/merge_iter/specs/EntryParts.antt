@@ -50,8 +50,8 @@ tie a b Less is h = absurd (let k : Less ≡ Equal =
     sym (ap (λ o. ordering_then o (nat_cmp b.number a.number)) is) ∙ h in cc)
 tie a b Equal is h = (
   same_key a.key b.key is,
-  sym
-      (level b.number a.number (sym (ap (λ o. ordering_then o (nat_cmp b.number a.number)) is) ∙ h)),
+  let tied = sym (ap (λ o. ordering_then o (nat_cmp b.number a.number)) is) ∙ h in
+      sym (level b.number a.number tied),
 )
 tie a b Greater is h =
     absurd (let k : Greater ≡ Equal = sym (ap (λ o. ordering_then o (nat_cmp b.number a.number)) is)

@@ -351,9 +351,9 @@ module _ (at : ℕ) (S : Entry → Type 0) where
       behind (On r) c = (
         c.among r refl,
         c.passed,
-        λ p sh m k. equal_apart Backward w p
-            (equal_back p w (c.alone p sh (upward Backward start w p c.from (not_both Backward w p m))
-            k)) m,
+        λ p sh m k.
+            let from = upward Backward start w p c.from (not_both Backward w p m) in
+            equal_apart Backward w p (equal_back p w (c.alone p sh from k)) m,
       )
       behind Off c = λ p sh m. equal_apart Backward w p
           (equal_back p w (c.alone p sh (upward Backward start w p c.from (not_both Backward w p m))

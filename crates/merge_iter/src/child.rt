@@ -1,5 +1,4 @@
 //! One cursor, moved in either direction.
-
 ghost use Rattle.std.specs.Prelude.{◌≡◌, ◌↔◌, ◌<◌, IsTrue, IsErr, OnOk};
 ghost use Rattle.kv_types.specs.{Entry};
 ghost use Rattle.merge_iter.specs.Order.{EntryPrecedes};
@@ -15,7 +14,7 @@ use crate::direction::Direction;
 use crate::error::CursorError;
 use crate::order::order;
 
-/// Whether a walk in this direction meets the entry of the one before the entry of the other.
+/// Whether a walk in this direction meets the entry of `one` before that of `other`.
 pub fn precedes<C: Cursor>(way: Direction, one: &C, other: &C) -> bool
     requires one_on { IsOn (C.position one.now) }
     requires other_on { IsOn (C.position other.now) }
@@ -34,7 +33,7 @@ pub fn precedes<C: Cursor>(way: Direction, one: &C, other: &C) -> bool
     }
 }
 
-/// To the next entry in this direction.
+/// Steps to the next entry in this direction.
 pub fn step<C: Cursor>(
     child: &mut C,
     way: Direction,
@@ -56,7 +55,7 @@ pub fn step<C: Cursor>(
     }
 }
 
-/// To the end where a walk in this direction begins.
+/// Moves to the first entry of a walk in this direction.
 pub fn start<C: Cursor>(
     child: &mut C,
     way: Direction,
@@ -75,8 +74,8 @@ pub fn start<C: Cursor>(
     }
 }
 
-/// Turns a cursor round: one that stood on its first entry from an entry on in one direction stands on
-/// its first behind that entry in the other.
+/// Turns a cursor round: from its first entry at or ahead of an entry in one direction to its first
+/// one ahead of that entry in the other.
 pub fn turn<C: Cursor>(
     child: &mut C,
     way: Direction,

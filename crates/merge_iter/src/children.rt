@@ -1,5 +1,4 @@
 //! Several cursors, moved together.
-
 ghost use Rattle.std.specs.Prelude.{◌≡◌, ◌↔◌, ℕ, ◌<◌, ◌≤◌, ◌+◌, IsTrue, OnOk, vec_len, Some};
 ghost use Rattle.std.specs.List.{slice_get, sum_by};
 ghost use Rattle.kv_types.specs.{Entry};
@@ -19,7 +18,7 @@ use crate::direction::Direction;
 use crate::error::CursorError;
 use crate::place::Place;
 
-// The nearest of one child more.
+// The nearest of the first children, with child `i` as one more of them.
 fn nearer<C: Cursor>(
     children: &Vec<C>,
     way: Direction,
@@ -72,7 +71,7 @@ pub fn settle<C: Cursor>(children: &Vec<C>, way: Direction) -> Place
     }
 }
 
-/// Puts every cursor at the end where a walk in this direction begins.
+/// Moves each child to the first entry of a walk in this direction.
 pub fn start_all<C: Cursor>(
     children: &mut Vec<C>,
     way: Direction,
@@ -91,7 +90,7 @@ pub fn start_all<C: Cursor>(
     Ok(())
 }
 
-/// Puts every cursor on its first entry from the spot on.
+/// Moves each child to its first entry from this key and number on.
 pub fn seek_all<C: Cursor>(
     children: &mut Vec<C>,
     source: &mut C::Source,
@@ -111,7 +110,8 @@ pub fn seek_all<C: Cursor>(
     Ok(())
 }
 
-/// Turns every cursor round.
+/// Turns each child round: from its first entry at or ahead of an entry in one direction to its
+/// first one ahead of that entry in the other.
 pub fn turn_all<C: Cursor>(
     children: &mut Vec<C>,
     way: Direction,
@@ -122,8 +122,8 @@ pub fn turn_all<C: Cursor>(
     ensures causes { RefusesMove C.Cursor (AreSound C.Cursor children.old.items source.old) ⊥
         source.old source.new result }
     ensures turns { (was : Way) (entry : Entry) → IsOpposite was way → AreSound C.Cursor
-        children.old.items source.old → AreFirst C.Cursor was (At entry) children.old.items
-        source.old → OnOk result (AreFirst C.Cursor way (After entry) children.new.items source.new) }
+        children.old.items source.old → AreFirst C.Cursor was (At entry) children.old.items source.old
+        → OnOk result (AreFirst C.Cursor way (After entry) children.new.items source.new) }
 {
     for i in 0..children.len() {
         turn(&mut children[i], way, source)?;
@@ -154,7 +154,7 @@ fn step_at<C: Cursor>(
     step(&mut children[k], way, source)
 }
 
-// Whether two directions are one.
+// Whether two directions are equal.
 fn is_same(one: Direction, other: Direction) -> bool
     ensures same { IsTrue result ↔ one ≡ other }
     ensures turned { (IsTrue result → ⊥) → IsOpposite one other }
@@ -171,7 +171,7 @@ fn is_same(one: Direction, other: Direction) -> bool
     }
 }
 
-/// Brings every cursor past the entry that child `k` stands on.
+/// Moves each child to its first entry ahead of the one that child `k` stands on.
 pub fn advance<C: Cursor>(
     children: &mut Vec<C>,
     was: Direction,
@@ -189,8 +189,8 @@ pub fn advance<C: Cursor>(
         C.most children.old.items was way) }
     ensures ahead { (c : C) (entry : Entry) → slice_get children.old.items k ≡ Some c → C.position c
         ≡ On entry → AreDisjoint C.Cursor children.old.items source.old → AreSound C.Cursor
-        children.old.items source.old → AreFirst C.Cursor was (At entry) children.old.items
-        source.old → OnOk result (AreFirst C.Cursor way (After entry) children.new.items source.new) }
+        children.old.items source.old → AreFirst C.Cursor was (At entry) children.old.items source.old
+        → OnOk result (AreFirst C.Cursor way (After entry) children.new.items source.new) }
 {
     if is_same(was, way) {
         step_at(children, k, way, source)

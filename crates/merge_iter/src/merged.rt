@@ -1,5 +1,4 @@
 //! The sorted union of cursors.
-
 ghost use Rattle.std.specs.Prelude.{◌≡◌, ◌↔◌, ◌<◌, IsErr, OnOk};
 ghost use Rattle.merge_iter.specs.Order.{IsAlike};
 ghost use Rattle.merge_iter.specs.Positions.{After, AtEnd, IfOn, IsBroken, Off};
@@ -15,8 +14,8 @@ use crate::direction::Direction;
 use crate::error::CursorError;
 use crate::place::Place;
 
-/// The entries of several cursors, of which no two hold entries of one key and number. What is lent
-/// comes from the child that the union stands on.
+/// The sorted union of several cursors, of which no two hold entries of one key and number. What it
+/// lends is lent by the child that it stands on.
 #[derive(Drop)]
 pub struct Merged<C> {
     children: Vec<C>,
@@ -24,7 +23,7 @@ pub struct Merged<C> {
 }
 
 impl<C: Cursor> Merged<C> {
-    /// The union of these. It stands on none.
+    /// The union of these cursors. It stands on none.
     pub fn new(children: Vec<C>) -> Self
         ensures off { ⟦<Merged<C> as Cursor>⟧.position result ≡ Off }
         ensures sound { (source : C.Source) → AreSound C.Cursor children.items source → AreDisjoint
@@ -39,7 +38,7 @@ impl<C: Cursor> Merged<C> {
         }
     }
 
-    // To the next entry in this direction.
+    // Steps to the next entry in this direction.
     fn walk(&mut self, way: Direction, source: &mut C::Source) -> Result<(), CursorError>
         requires { CanStep (union_position C.position self.old.children.items self.old.place) }
         ensures moves { KeepsChildren C.Cursor self.old.children.items source.old
@@ -71,7 +70,7 @@ impl<C: Cursor> Merged<C> {
         Ok(())
     }
 
-    // To the end where a walk in this direction begins.
+    // Moves to the first entry of a walk in this direction.
     fn begin(&mut self, way: Direction, source: &mut C::Source) -> Result<(), CursorError>
         ensures moves { KeepsChildren C.Cursor self.old.children.items source.old
             self.new.children.items source.new }

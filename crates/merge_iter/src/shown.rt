@@ -1,5 +1,4 @@
 //! The search for the next entry that is shown at a number.
-
 ghost use Rattle.std.specs.Prelude.{◌≤◌, IfOk};
 ghost use Rattle.kv_types.specs.{Entry};
 ghost use Rattle.merge_iter.specs.Positions.{WalkStart, IsOn, IfOn, IsBroken};
@@ -16,7 +15,7 @@ use crate::kept::{KeptEntry, copy, is_same_key};
 use crate::mode::Mode;
 use std::alloc::AllocError;
 
-// Whether the entry is shown. The key of a deletion that is seen is hidden from here on.
+// Whether the entry is shown. A deletion that is seen hides its key from here on.
 fn is_shown<C: Cursor>(
     inner: &C,
     at: u64,
@@ -41,7 +40,8 @@ fn is_shown<C: Cursor>(
     Ok(false)
 }
 
-/// On to the next entry that is shown. A walk forward meets the newest entry of a key first.
+/// Walks on to the next entry that is shown, from where the cursor stands. The newest entry of a
+/// key comes first.
 pub fn find_forward<C: Cursor>(
     inner: &mut C,
     source: &mut C::Source,
@@ -72,8 +72,8 @@ pub fn find_forward<C: Cursor>(
     Ok(Mode::Off)
 }
 
-// Whether the walk has left the key of the entry that is kept. Else the entry, if it is seen, takes
-// the place of what was kept of its key.
+// Whether the walk has left the key of the kept entry. If not, and the cursor's entry is seen, that
+// one replaces what was kept of its key.
 fn is_left<C: Cursor>(
     inner: &C,
     at: u64,
@@ -82,20 +82,21 @@ fn is_left<C: Cursor>(
 ) -> Result<bool, AllocError>
     requires { IsOn (C.position inner.now) }
     ensures { IfOk result (λ left. IfOn (C.position inner.now) (λ entry.
-        IsJudgedBack at found.old (kept_entry kept.old) entry found.new (kept_entry kept.new) left)) }
+        IsJudgedBack at found.old (kept_entry kept.old) entry found.new (kept_entry kept.new)
+        left)) }
 {
-    if inner.number() > at {
+    if at < inner.number() {
         return Ok(false);
     }
     if *found && !is_same_key(kept.key.as_slice(), inner.key()) {
         return Ok(true);
     }
-    *found = kept.take(inner)?;
+    *found = kept.keep(inner)?;
     Ok(false)
 }
 
-/// Back to the entry before that is shown, which is kept. A walk back meets the newest entry of a key
-/// last, so the cursor goes on behind it.
+/// Walks back to the entry before that is shown, and keeps it. The newest entry of a key comes last,
+/// so the cursor ends behind it.
 pub fn find_back<C: Cursor>(
     inner: &mut C,
     source: &mut C::Source,

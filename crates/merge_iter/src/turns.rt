@@ -1,5 +1,4 @@
-//! The moves of the entries that are shown at a number, over the cursor below.
-
+//! The moves of a cursor over the entries shown at a number, by moves of the cursor below.
 ghost use Rattle.std.specs.Prelude.{◌≡◌, ◌⊎◌, ◌<◌, ◌≤◌, ℕ, IsTrue, OnOk, IfOk};
 ghost use Rattle.kv_types.specs.{Entry};
 ghost use Rattle.merge_iter.specs.Order.{EntryPrecedes, spot};
@@ -17,7 +16,7 @@ use crate::mode::Mode;
 use crate::order::order;
 use crate::shown::{find_back, find_forward};
 
-// On to the entry that is shown, where the cursor has gone on behind it.
+// Moves back onto the entry that is shown, where the cursor has gone on behind it.
 fn return_to<C: Cursor>(
     inner: &mut C,
     source: &mut C::Source,
@@ -45,7 +44,7 @@ fn return_to<C: Cursor>(
     }
 }
 
-// Off the entry that the cursor stands on, whose key is kept.
+// Steps off the entry that the cursor stands on, and copies its key.
 fn leave<C: Cursor>(
     inner: &mut C,
     source: &mut C::Source,
@@ -68,7 +67,7 @@ fn leave<C: Cursor>(
     inner.next(source)
 }
 
-/// To the first entry that is shown.
+/// Moves to the first entry that is shown.
 pub fn first_shown<C: Cursor>(
     inner: &mut C,
     source: &mut C::Source,
@@ -87,7 +86,7 @@ pub fn first_shown<C: Cursor>(
     find_forward(inner, source, at, false, &mut kept.key)
 }
 
-/// To the last entry that is shown.
+/// Moves to the last entry that is shown.
 pub fn last_shown<C: Cursor>(
     inner: &mut C,
     source: &mut C::Source,
@@ -149,7 +148,7 @@ pub fn seek_shown<C: Cursor>(
     Ok(mode)
 }
 
-/// To the next entry that is shown.
+/// Steps to the next entry that is shown.
 pub fn next_shown<C: Cursor>(
     inner: &mut C,
     source: &mut C::Source,
@@ -176,7 +175,7 @@ pub fn next_shown<C: Cursor>(
     find_forward(inner, source, at, true, &mut kept.key)
 }
 
-// Back from the entry that is shown, where the cursor has not gone on behind it yet.
+// Steps back from the entry that is shown, where the cursor stands on it.
 fn retreat<C: Cursor>(
     inner: &mut C,
     source: &mut C::Source,
@@ -202,7 +201,7 @@ fn retreat<C: Cursor>(
     }
 }
 
-/// To the entry before that is shown.
+/// Steps to the entry before that is shown.
 pub fn prev_shown<C: Cursor>(
     inner: &mut C,
     source: &mut C::Source,

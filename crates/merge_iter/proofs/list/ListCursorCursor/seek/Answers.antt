@@ -13,7 +13,7 @@ returns-clause-finds c rising =
     let sorted = subst IsSortedList (sym same) rising in
     let n = c.partition_point-self.result in
     let point = IsPartitionPoint-from_clause (is_early place) xs n
-        c.partition_point-self.ensures.partitioned (partitioned xs place sorted)
-        (λ a r f' k. search rules) in
+    c.partition_point-self.ensures.partitioned (partitioned xs place sorted)
+    (λ a r f' k. search rules) in
     subst (λ zs. IsSought zs place n) same
     (sought xs place n sorted c.partition_point-self.ensures.bound point)
