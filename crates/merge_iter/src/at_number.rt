@@ -35,10 +35,11 @@ impl<C: Cursor> AtNumber<C> {
         ensures off { ⟦<AtNumber<C> as Cursor>⟧.position result ≡ Off }
         ensures sound { (source : C.Source) → C.is_sound inner source →
             ⟦<AtNumber<C> as Cursor>⟧.is_sound result source }
-        ensures entries { (source : C.Source) → IsAlike (⟦<AtNumber<C> as Cursor>⟧.holds result
-            source) (IsShown at (C.holds inner source)) }
-        ensures view { (source : C.Source) → C.is_sound inner source → IsView at
-            (C.holds inner source) (⟦<AtNumber<C> as Cursor>⟧.holds result source) }
+        ensures entries { (source : C.Source) →
+            IsAlike (⟦<AtNumber<C> as Cursor>⟧.holds result source)
+            (IsShown at (C.holds inner source)) }
+        ensures view { (source : C.Source) → C.is_sound inner source →
+            IsView at (C.holds inner source) (⟦<AtNumber<C> as Cursor>⟧.holds result source) }
     {
         AtNumber {
             inner,

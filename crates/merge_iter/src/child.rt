@@ -18,8 +18,8 @@ use crate::order::order;
 pub fn precedes<C: Cursor>(way: Direction, one: &C, other: &C) -> bool
     requires one_on { IsOn (C.position one.now) }
     requires other_on { IsOn (C.position other.now) }
-    ensures { IfOn (C.position one.now)
-        (λ a. IfOn (C.position other.now) (λ b. IsTrue result ↔ EntryPrecedes way a b)) }
+    ensures { IfOn (C.position one.now) (λ a. IfOn (C.position other.now)
+        (λ b. IsTrue result ↔ EntryPrecedes way a b)) }
 {
     match way {
         Direction::Forward => {
@@ -45,7 +45,8 @@ pub fn step<C: Cursor>(
         (IsBroken (C.position child.old)) source.old source.new result }
     ensures broken { IsErr result ↔ IsBroken (C.position child.new) }
     ensures ends { OnOk result (C.left child.new way < C.left child.old way) }
-    ensures finds { C.is_sound child.old source.old → IfOn (C.position child.old)
+    ensures finds { C.is_sound child.old source.old →
+        IfOn (C.position child.old)
         (λ entry. MoveFinds way (After entry) (C.holds child.old source.old) result
         (C.position child.new)) }
 {
@@ -65,8 +66,8 @@ pub fn start<C: Cursor>(
     ensures causes { RefusesMove C.Cursor (C.is_sound child.old source.old) ⊥ source.old source.new
         result }
     ensures broken { IsErr result ↔ IsBroken (C.position child.new) }
-    ensures finds { C.is_sound child.old source.old → MoveFinds way AtEnd
-        (C.holds child.old source.old) result (C.position child.new) }
+    ensures finds { C.is_sound child.old source.old →
+        MoveFinds way AtEnd (C.holds child.old source.old) result (C.position child.new) }
 {
     match way {
         Direction::Forward => child.first(source),
@@ -84,10 +85,11 @@ pub fn turn<C: Cursor>(
     ensures moves { KeepsCursor C.Cursor child.old source.old child.new source.new }
     ensures causes { RefusesMove C.Cursor (C.is_sound child.old source.old) ⊥ source.old source.new
         result }
-    ensures turns { (was : Way) (entry : Entry) → IsOpposite was way → C.is_sound child.old
-        source.old → IsFirst was (λ p. C.holds child.old source.old p × WalkMeets was (At entry) p)
-        (C.position child.old) → MoveFinds way (After entry) (C.holds child.old source.old) result
-        (C.position child.new) }
+    ensures turns { (was : Way) (entry : Entry) → IsOpposite was way →
+        C.is_sound child.old source.old →
+        IsFirst was (λ p. C.holds child.old source.old p × WalkMeets was (At entry) p)
+        (C.position child.old) →
+        MoveFinds way (After entry) (C.holds child.old source.old) result (C.position child.new) }
 {
     if child.valid() {
         step(child, way, source)

@@ -57,12 +57,13 @@ fn nearest<C: Cursor>(children: &Vec<C>, way: Direction) -> Option<usize>
 
 /// Where the union stands, once each child stands on its first entry from the start on.
 pub fn settle<C: Cursor>(children: &Vec<C>, way: Direction) -> Place
-    ensures settles { (start : WalkStart) (source : C.Source) → AreFirst C.Cursor way start
-        children.now.items source → IsFirst way (λ p. union_of C.Cursor children.now.items source p
-        × WalkMeets way start p) (union_position C.position children.now.items result)
+    ensures settles { (start : WalkStart) (source : C.Source) →
+        AreFirst C.Cursor way start children.now.items source →
+        IsFirst way (λ p. union_of C.Cursor children.now.items source p × WalkMeets way start p)
+        (union_position C.position children.now.items result)
         × IsPlaced (λ c. C.holds c source) C.position children.now.items result }
-    ensures left { merged_left C.left C.most children.now.items result way ≤ sum_by
-        (λ c. C.left c way) children.now.items }
+    ensures left { merged_left C.left C.most children.now.items result way
+        ≤ sum_by (λ c. C.left c way) children.now.items }
     ensures unbroken { IsBroken (union_position C.position children.now.items result) → ⊥ }
 {
     match nearest(children, way) {
@@ -81,8 +82,8 @@ pub fn start_all<C: Cursor>(
         source.new }
     ensures causes { RefusesMove C.Cursor (AreSound C.Cursor children.old.items source.old) ⊥
         source.old source.new result }
-    ensures finds { AreSound C.Cursor children.old.items source.old → OnOk result
-        (AreFirst C.Cursor way AtEnd children.new.items source.new) }
+    ensures finds { AreSound C.Cursor children.old.items source.old →
+        OnOk result (AreFirst C.Cursor way AtEnd children.new.items source.new) }
 {
     for i in 0..children.len() {
         start(&mut children[i], way, source)?;
@@ -101,8 +102,9 @@ pub fn seek_all<C: Cursor>(
         source.new }
     ensures causes { RefusesMove C.Cursor (AreSound C.Cursor children.old.items source.old) ⊥
         source.old source.new result }
-    ensures finds { AreSound C.Cursor children.old.items source.old → OnOk result
-        (AreFirst C.Cursor Forward (At (spot key.now number)) children.new.items source.new) }
+    ensures finds { AreSound C.Cursor children.old.items source.old →
+        OnOk result (AreFirst C.Cursor Forward (At (spot key.now number)) children.new.items
+        source.new) }
 {
     for i in 0..children.len() {
         children[i].seek(source, key, number)?;
@@ -121,9 +123,10 @@ pub fn turn_all<C: Cursor>(
         source.new }
     ensures causes { RefusesMove C.Cursor (AreSound C.Cursor children.old.items source.old) ⊥
         source.old source.new result }
-    ensures turns { (was : Way) (entry : Entry) → IsOpposite was way → AreSound C.Cursor
-        children.old.items source.old → AreFirst C.Cursor was (At entry) children.old.items source.old
-        → OnOk result (AreFirst C.Cursor way (After entry) children.new.items source.new) }
+    ensures turns { (was : Way) (entry : Entry) → IsOpposite was way →
+        AreSound C.Cursor children.old.items source.old →
+        AreFirst C.Cursor was (At entry) children.old.items source.old →
+        OnOk result (AreFirst C.Cursor way (After entry) children.new.items source.new) }
 {
     for i in 0..children.len() {
         turn(&mut children[i], way, source)?;
@@ -144,12 +147,13 @@ fn step_at<C: Cursor>(
         source.new }
     ensures causes { RefusesMove C.Cursor (AreSound C.Cursor children.old.items source.old) ⊥
         source.old source.new result }
-    ensures ends { OnOk result (sum_by (λ c. C.left c way) children.new.items < sum_by
-        (λ c. C.left c way) children.old.items) }
-    ensures ahead { (c : C) (entry : Entry) → slice_get children.old.items k ≡ Some c → C.position c
-        ≡ On entry → AreDisjoint C.Cursor children.old.items source.old → AreSound C.Cursor
-        children.old.items source.old → AreFirst C.Cursor way (At entry) children.old.items
-        source.old → OnOk result (AreFirst C.Cursor way (After entry) children.new.items source.new) }
+    ensures ends { OnOk result (sum_by (λ c. C.left c way) children.new.items
+        < sum_by (λ c. C.left c way) children.old.items) }
+    ensures ahead { (c : C) (entry : Entry) → slice_get children.old.items k ≡ Some c →
+        C.position c ≡ On entry → AreDisjoint C.Cursor children.old.items source.old →
+        AreSound C.Cursor children.old.items source.old →
+        AreFirst C.Cursor way (At entry) children.old.items source.old →
+        OnOk result (AreFirst C.Cursor way (After entry) children.new.items source.new) }
 {
     step(&mut children[k], way, source)
 }
@@ -185,12 +189,13 @@ pub fn advance<C: Cursor>(
         source.new }
     ensures causes { RefusesMove C.Cursor (AreSound C.Cursor children.old.items source.old) ⊥
         source.old source.new result }
-    ensures ends { OnOk result (sum_by (λ c. C.left c way) children.new.items < left_along C.left
-        C.most children.old.items was way) }
-    ensures ahead { (c : C) (entry : Entry) → slice_get children.old.items k ≡ Some c → C.position c
-        ≡ On entry → AreDisjoint C.Cursor children.old.items source.old → AreSound C.Cursor
-        children.old.items source.old → AreFirst C.Cursor was (At entry) children.old.items source.old
-        → OnOk result (AreFirst C.Cursor way (After entry) children.new.items source.new) }
+    ensures ends { OnOk result (sum_by (λ c. C.left c way) children.new.items
+        < left_along C.left C.most children.old.items was way) }
+    ensures ahead { (c : C) (entry : Entry) → slice_get children.old.items k ≡ Some c →
+        C.position c ≡ On entry → AreDisjoint C.Cursor children.old.items source.old →
+        AreSound C.Cursor children.old.items source.old →
+        AreFirst C.Cursor was (At entry) children.old.items source.old →
+        OnOk result (AreFirst C.Cursor way (After entry) children.new.items source.new) }
 {
     if is_same(was, way) {
         step_at(children, k, way, source)

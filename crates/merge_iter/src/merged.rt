@@ -26,8 +26,9 @@ impl<C: Cursor> Merged<C> {
     /// The union of these cursors. It stands on none.
     pub fn new(children: Vec<C>) -> Self
         ensures off { ⟦<Merged<C> as Cursor>⟧.position result ≡ Off }
-        ensures sound { (source : C.Source) → AreSound C.Cursor children.items source → AreDisjoint
-            C.Cursor children.items source → ⟦<Merged<C> as Cursor>⟧.is_sound result source }
+        ensures sound { (source : C.Source) → AreSound C.Cursor children.items source →
+            AreDisjoint C.Cursor children.items source →
+            ⟦<Merged<C> as Cursor>⟧.is_sound result source }
         ensures entries { (source : C.Source) →
             IsAlike (⟦<Merged<C> as Cursor>⟧.holds result source)
             (union_of C.Cursor children.items source) }
@@ -43,20 +44,22 @@ impl<C: Cursor> Merged<C> {
         requires { CanStep (union_position C.position self.old.children.items self.old.place) }
         ensures moves { KeepsChildren C.Cursor self.old.children.items source.old
             self.new.children.items source.new }
-        ensures sound { IsUnion C.Cursor self.old.children.items self.old.place source.old
-            → IsUnion C.Cursor self.new.children.items self.new.place source.new }
-        ensures causes { RefusesMove C.Cursor (IsUnion C.Cursor self.old.children.items
-            self.old.place source.old)
+        ensures sound { IsUnion C.Cursor self.old.children.items self.old.place source.old →
+            IsUnion C.Cursor self.new.children.items self.new.place source.new }
+        ensures causes { RefusesMove C.Cursor
+            (IsUnion C.Cursor self.old.children.items self.old.place source.old)
             (IsBroken (union_position C.position self.old.children.items self.old.place)) source.old
             source.new result }
-        ensures broken { IsErr result ↔ IsBroken (union_position C.position self.new.children.items
-            self.new.place) }
-        ensures ends { OnOk result (merged_left C.left C.most self.new.children.items self.new.place
-            way < merged_left C.left C.most self.old.children.items self.old.place way) }
-        ensures finds { IsUnion C.Cursor self.old.children.items self.old.place source.old
-            → IfOn (union_position C.position self.old.children.items self.old.place)
-            (λ entry. MoveFinds way (After entry) (union_of C.Cursor self.old.children.items
-            source.old) result (union_position C.position self.new.children.items self.new.place)) }
+        ensures broken { IsErr result
+            ↔ IsBroken (union_position C.position self.new.children.items self.new.place) }
+        ensures ends { OnOk result
+            (merged_left C.left C.most self.new.children.items self.new.place way
+            < merged_left C.left C.most self.old.children.items self.old.place way) }
+        ensures finds { IsUnion C.Cursor self.old.children.items self.old.place source.old →
+            IfOn (union_position C.position self.old.children.items self.old.place)
+            (λ entry. MoveFinds way (After entry)
+            (union_of C.Cursor self.old.children.items source.old) result
+            (union_position C.position self.new.children.items self.new.place)) }
     {
         let Place::On(was, k) = self.place else {
             return Err(CursorError::Failed);
@@ -74,14 +77,15 @@ impl<C: Cursor> Merged<C> {
     fn begin(&mut self, way: Direction, source: &mut C::Source) -> Result<(), CursorError>
         ensures moves { KeepsChildren C.Cursor self.old.children.items source.old
             self.new.children.items source.new }
-        ensures sound { IsUnion C.Cursor self.old.children.items self.old.place source.old
-            → IsUnion C.Cursor self.new.children.items self.new.place source.new }
-        ensures causes { RefusesMove C.Cursor (IsUnion C.Cursor self.old.children.items
-            self.old.place source.old) ⊥ source.old source.new result }
-        ensures broken { IsErr result ↔ IsBroken (union_position C.position self.new.children.items
-            self.new.place) }
-        ensures finds { IsUnion C.Cursor self.old.children.items self.old.place source.old
-            → MoveFinds way AtEnd (union_of C.Cursor self.old.children.items source.old) result
+        ensures sound { IsUnion C.Cursor self.old.children.items self.old.place source.old →
+            IsUnion C.Cursor self.new.children.items self.new.place source.new }
+        ensures causes { RefusesMove C.Cursor
+            (IsUnion C.Cursor self.old.children.items self.old.place source.old) ⊥ source.old
+            source.new result }
+        ensures broken { IsErr result
+            ↔ IsBroken (union_position C.position self.new.children.items self.new.place) }
+        ensures finds { IsUnion C.Cursor self.old.children.items self.old.place source.old →
+            MoveFinds way AtEnd (union_of C.Cursor self.old.children.items source.old) result
             (union_position C.position self.new.children.items self.new.place) }
     {
         self.place = Place::Broken;

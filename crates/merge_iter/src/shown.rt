@@ -23,8 +23,9 @@ fn is_shown<C: Cursor>(
     hidden: &mut Vec<u8>,
 ) -> Result<bool, AllocError>
     requires { IsOn (C.position inner.now) }
-    ensures { IfOk result (λ shown. IfOn (C.position inner.now) (λ entry.
-        IsJudged at hides.old hidden.old.items entry hides.new hidden.new.items shown)) }
+    ensures { IfOk result
+        (λ shown. IfOn (C.position inner.now)
+        (λ entry. IsJudged at hides.old hidden.old.items entry hides.new hidden.new.items shown)) }
 {
     if inner.number() > at {
         return Ok(false);
@@ -52,13 +53,13 @@ pub fn find_forward<C: Cursor>(
     ensures moves { KeepsCursor C.Cursor inner.old source.old inner.new source.new }
     ensures causes { RefusesMove C.Cursor (C.is_sound inner.old source.old) ⊥ source.old source.new
         result }
-    ensures unbroken { (kept : Entry) → IfOk result
-        (λ mode. IsBroken (view_position mode (C.position inner.new) kept) → ⊥) }
+    ensures unbroken { (kept : Entry) →
+        IfOk result (λ mode. IsBroken (view_position mode (C.position inner.new) kept) → ⊥) }
     ensures forward { IfOk result IsForward }
-    ensures left { IfOk result (λ mode. left_in (C.left inner.new) (C.most inner.new) mode Forward ≤
-        C.left inner.old Forward) }
-    ensures finds { (start : WalkStart) (kept : Entry) → C.is_sound inner.old source.old
-        → IsAhead at (C.holds inner.old source.old) start (IsHidden hides hidden.old.items)
+    ensures left { IfOk result (λ mode. left_in (C.left inner.new) (C.most inner.new) mode Forward
+        ≤ C.left inner.old Forward) }
+    ensures finds { (start : WalkStart) (kept : Entry) → C.is_sound inner.old source.old →
+        IsAhead at (C.holds inner.old source.old) start (IsHidden hides hidden.old.items)
         (C.position inner.old) → IsFound Forward at (C.holds inner.old source.old) start result
         (C.position inner.new) kept }
 {
@@ -81,9 +82,10 @@ fn is_left<C: Cursor>(
     kept: &mut KeptEntry,
 ) -> Result<bool, AllocError>
     requires { IsOn (C.position inner.now) }
-    ensures { IfOk result (λ left. IfOn (C.position inner.now) (λ entry.
-        IsJudgedBack at found.old (kept_entry kept.old) entry found.new (kept_entry kept.new)
-        left)) }
+    ensures { IfOk result
+        (λ left. IfOn (C.position inner.now)
+        (λ entry. IsJudgedBack at found.old (kept_entry kept.old) entry found.new
+        (kept_entry kept.new) left)) }
 {
     if at < inner.number() {
         return Ok(false);
@@ -95,8 +97,8 @@ fn is_left<C: Cursor>(
     Ok(false)
 }
 
-/// Walks back to the entry before that is shown, and keeps it. The newest entry of a key comes last,
-/// so the cursor ends behind it.
+/// Walks back to the entry before that is shown, and keeps it. The newest entry of a key comes
+/// last, so the cursor ends behind it.
 pub fn find_back<C: Cursor>(
     inner: &mut C,
     source: &mut C::Source,
@@ -110,9 +112,10 @@ pub fn find_back<C: Cursor>(
         (λ mode. IsBroken (view_position mode (C.position inner.new) (kept_entry kept.new)) → ⊥) }
     ensures left { IfOk result (λ mode. left_in (C.left inner.new) (C.most inner.new) mode Backward
         ≤ C.left inner.old Backward) }
-    ensures finds { (start : WalkStart) → C.is_sound inner.old source.old → IsBefore Backward at
-        (C.holds inner.old source.old) start (C.position inner.old) → IsFound Backward at
-        (C.holds inner.old source.old) start result (C.position inner.new) (kept_entry kept.new) }
+    ensures finds { (start : WalkStart) → C.is_sound inner.old source.old →
+        IsBefore Backward at (C.holds inner.old source.old) start (C.position inner.old) →
+        IsFound Backward at (C.holds inner.old source.old) start result (C.position inner.new)
+        (kept_entry kept.new) }
 {
     let mut found = false;
     while inner.valid() {

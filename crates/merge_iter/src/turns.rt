@@ -31,10 +31,11 @@ fn return_to<C: Cursor>(
         (C.most inner.old) mode Forward) }
     ensures ready { OnOk result (IsOn (C.position inner.new)
         ⊎ (C.left inner.new Forward < left_in (C.left inner.old) (C.most inner.old) mode Forward)) }
-    ensures returns { (at : ℕ) (entry : Entry) → C.is_sound inner.old source.old → IsSettled at
-        (C.holds inner.old source.old) mode (C.position inner.old) (kept_entry kept.now)
-        → view_position mode (C.position inner.old) (kept_entry kept.now) ≡ On entry → OnOk result
-        (C.position inner.new ≡ On entry) }
+    ensures returns { (at : ℕ) (entry : Entry) → C.is_sound inner.old source.old →
+        IsSettled at (C.holds inner.old source.old) mode (C.position inner.old)
+        (kept_entry kept.now) →
+        view_position mode (C.position inner.old) (kept_entry kept.now) ≡ On entry →
+        OnOk result (C.position inner.new ≡ On entry) }
 {
     match mode {
         Mode::Inner => Ok(()),
@@ -54,11 +55,12 @@ fn leave<C: Cursor>(
     ensures causes { RefusesMove C.Cursor (C.is_sound inner.old source.old) ⊥ source.old source.new
         result }
     ensures fewer { OnOk result (C.left inner.new Forward ≤ C.left inner.old Forward) }
-    ensures left { IsOn (C.position inner.old) → OnOk result (C.left inner.new Forward < C.left
-        inner.old Forward) }
-    ensures leaves { (entry : Entry) → C.is_sound inner.old source.old → C.position inner.old ≡ On
-        entry → OnOk result (IsFirst Forward (λ p. C.holds inner.old source.old p × WalkMeets
-        Forward (After entry) p) (C.position inner.new) × (key.new.items ≡ entry.key)) }
+    ensures left { IsOn (C.position inner.old) →
+        OnOk result (C.left inner.new Forward < C.left inner.old Forward) }
+    ensures leaves { (entry : Entry) → C.is_sound inner.old source.old →
+        C.position inner.old ≡ On entry →
+        OnOk result (IsFirst Forward (λ p. C.holds inner.old source.old p
+        × WalkMeets Forward (After entry) p) (C.position inner.new) × (key.new.items ≡ entry.key)) }
 {
     if !inner.valid() {
         return Ok(());
@@ -79,8 +81,9 @@ pub fn first_shown<C: Cursor>(
         result }
     ensures unbroken { IfOk result
         (λ mode. IsBroken (view_position mode (C.position inner.new) (kept_entry kept.new)) → ⊥) }
-    ensures finds { C.is_sound inner.old source.old → IsFound Forward at
-        (C.holds inner.old source.old) AtEnd result (C.position inner.new) (kept_entry kept.new) }
+    ensures finds { C.is_sound inner.old source.old →
+        IsFound Forward at (C.holds inner.old source.old) AtEnd result (C.position inner.new)
+        (kept_entry kept.new) }
 {
     inner.first(source)?;
     find_forward(inner, source, at, false, &mut kept.key)
@@ -98,8 +101,9 @@ pub fn last_shown<C: Cursor>(
         result }
     ensures unbroken { IfOk result
         (λ mode. IsBroken (view_position mode (C.position inner.new) (kept_entry kept.new)) → ⊥) }
-    ensures finds { C.is_sound inner.old source.old → IsFound Backward at
-        (C.holds inner.old source.old) AtEnd result (C.position inner.new) (kept_entry kept.new) }
+    ensures finds { C.is_sound inner.old source.old →
+        IsFound Backward at (C.holds inner.old source.old) AtEnd result (C.position inner.new)
+        (kept_entry kept.new) }
 {
     inner.last(source)?;
     find_back(inner, source, at, kept)
@@ -109,7 +113,8 @@ pub fn last_shown<C: Cursor>(
 fn is_early<C: Cursor>(inner: &C, mode: Mode, key: &[u8], number: u64) -> bool
     ensures early { IsTrue result → (mode ≡ Mode.Inner) × IsOn (C.position inner.now)
         × IfOn (C.position inner.now) (λ entry. EntryPrecedes Forward entry (spot key.now number)) }
-    ensures late { (IsTrue result → ⊥) → mode ≡ Mode.Inner → IfOn (C.position inner.now)
+    ensures late { (IsTrue result → ⊥) → mode ≡ Mode.Inner →
+        IfOn (C.position inner.now)
         (λ entry. EntryPrecedes Forward entry (spot key.now number) → ⊥) }
 {
     match mode {
@@ -135,9 +140,9 @@ pub fn seek_shown<C: Cursor>(
         result }
     ensures unbroken { IfOk result
         (λ mode. IsBroken (view_position mode (C.position inner.new) (kept_entry kept.new)) → ⊥) }
-    ensures finds { C.is_sound inner.old source.old → IsFound Forward at
-        (C.holds inner.old source.old) (At (spot key.now number)) result (C.position inner.new)
-        (kept_entry kept.new) }
+    ensures finds { C.is_sound inner.old source.old →
+        IsFound Forward at (C.holds inner.old source.old) (At (spot key.now number)) result
+        (C.position inner.new) (kept_entry kept.new) }
 {
     inner.seek(source, key, at)?;
     let mode = find_forward(inner, source, at, false, &mut kept.key)?;
@@ -162,12 +167,13 @@ pub fn next_shown<C: Cursor>(
         result }
     ensures unbroken { IfOk result
         (λ mode. IsBroken (view_position mode (C.position inner.new) (kept_entry kept.new)) → ⊥) }
-    ensures left { IfOk result (λ new. left_in (C.left inner.new) (C.most inner.new) new Forward <
-        left_in (C.left inner.old) (C.most inner.old) mode Forward) }
-    ensures finds { (entry : Entry) → C.is_sound inner.old source.old → IsSettled at
-        (C.holds inner.old source.old) mode (C.position inner.old) (kept_entry kept.old)
-        → view_position mode (C.position inner.old) (kept_entry kept.old) ≡ On entry
-        → IsFound Forward at (C.holds inner.old source.old) (After entry) result
+    ensures left { IfOk result (λ new. left_in (C.left inner.new) (C.most inner.new) new Forward
+        < left_in (C.left inner.old) (C.most inner.old) mode Forward) }
+    ensures finds { (entry : Entry) → C.is_sound inner.old source.old →
+        IsSettled at (C.holds inner.old source.old) mode (C.position inner.old)
+        (kept_entry kept.old) →
+        view_position mode (C.position inner.old) (kept_entry kept.old) ≡ On entry →
+        IsFound Forward at (C.holds inner.old source.old) (After entry) result
         (C.position inner.new) (kept_entry kept.new) }
 {
     return_to(inner, source, mode, kept)?;
@@ -188,10 +194,12 @@ fn retreat<C: Cursor>(
         result }
     ensures left { OnOk result (C.left inner.new Backward < left_in (C.left inner.old)
         (C.most inner.old) mode Backward) }
-    ensures retreats { (at : ℕ) (entry : Entry) → C.is_sound inner.old source.old → IsSettled at
-        (C.holds inner.old source.old) mode (C.position inner.old) (kept_entry kept.now)
-        → view_position mode (C.position inner.old) (kept_entry kept.now) ≡ On entry → OnOk result
-        (IsBefore Backward at (C.holds inner.old source.old) (After entry) (C.position inner.new)) }
+    ensures retreats { (at : ℕ) (entry : Entry) → C.is_sound inner.old source.old →
+        IsSettled at (C.holds inner.old source.old) mode (C.position inner.old)
+        (kept_entry kept.now) →
+        view_position mode (C.position inner.old) (kept_entry kept.now) ≡ On entry →
+        OnOk result (IsBefore Backward at (C.holds inner.old source.old) (After entry)
+        (C.position inner.new)) }
 {
     match mode {
         Mode::Inner => inner.prev(source),
@@ -215,12 +223,13 @@ pub fn prev_shown<C: Cursor>(
         result }
     ensures unbroken { IfOk result
         (λ mode. IsBroken (view_position mode (C.position inner.new) (kept_entry kept.new)) → ⊥) }
-    ensures left { IfOk result (λ new. left_in (C.left inner.new) (C.most inner.new) new Backward <
-        left_in (C.left inner.old) (C.most inner.old) mode Backward) }
-    ensures finds { (entry : Entry) → C.is_sound inner.old source.old → IsSettled at
-        (C.holds inner.old source.old) mode (C.position inner.old) (kept_entry kept.old)
-        → view_position mode (C.position inner.old) (kept_entry kept.old) ≡ On entry
-        → IsFound Backward at (C.holds inner.old source.old) (After entry) result
+    ensures left { IfOk result (λ new. left_in (C.left inner.new) (C.most inner.new) new Backward
+        < left_in (C.left inner.old) (C.most inner.old) mode Backward) }
+    ensures finds { (entry : Entry) → C.is_sound inner.old source.old →
+        IsSettled at (C.holds inner.old source.old) mode (C.position inner.old)
+        (kept_entry kept.old) →
+        view_position mode (C.position inner.old) (kept_entry kept.old) ≡ On entry →
+        IsFound Backward at (C.holds inner.old source.old) (After entry) result
         (C.position inner.new) (kept_entry kept.new) }
 {
     retreat(inner, source, mode, kept)?;
