@@ -14,6 +14,8 @@ pub mod Searches
 pub mod AtNumbers
 pub mod Shows
 -- What crates above name.
+pub use Rattle.merge_iter.specs.EntryOrder.{chain, entry_total, never}
+pub use Rattle.merge_iter.specs.EntryParts.{equal_parts, numbers_fall}
 pub use Rattle.merge_iter.specs.LentCursors.{AreDisjoint, AreSound, KeepsCursor, RefusesMove}
 pub use Rattle.merge_iter.specs.LentCursors.{union_of}
 pub use Rattle.merge_iter.specs.Merging.{AreApart, EachChild, UnionHolds}
