@@ -1,5 +1,7 @@
 pub mod ByteOrder
 pub mod MapLaws
+pub mod ViewLaws
+pub mod EntryCases
 pub mod Ordered
 pub mod Walks
 pub mod PageLaws

@@ -1,7 +1,7 @@
 -- Entries: the versions of keys, and what a set of them shows at a number.
-use Rattle.std.specs.Prelude.{◌≡◌, ◌⊎◌, ℕ, suc, ◌≤◌, List, slice_get, Option, Some, None, IsSome}
+use Rattle.std.specs.Prelude.{◌≡◌, ◌⊎◌, ◌↔◌, ℕ, suc, ◌≤◌, List, take, slice_get, Option, Some, None, IsSome}
 use Rattle.kv_types.specs.Content.{BatchContent, edits_of}
-use Rattle.kv_types.specs.Maps.{last_edit}
+use Rattle.kv_types.specs.Maps.{last_edit, map_of}
 
 -- a version of a key: the value that a batch left, or none where the batch deleted the key
 pub record Entry : Type 0 where
@@ -48,3 +48,9 @@ ViewShows at entries key value =
 pub record IsShown (at : ℕ) (entries : Entry → Type 0) (entry : Entry) : Type 0 where
   pub newest : IsNewest at entries entry
   pub put : IsSome entry.value
+
+-- the view at a number of the entries of all batches is the map of so many first batches
+abbrev pub ViewsAreMaps : Type 0
+ViewsAreMaps =
+    (batches : List BatchContent) (at : ℕ) (key : List ℕ) (value : Option (List ℕ)) →
+    ViewShows at (all_entries batches) key value ↔ (map_of (take at batches) key ≡ value)

@@ -1,11 +1,12 @@
 -- Small batches, maps and pages, worked out.
-use Rattle.std.specs.Prelude.{◌≡◌, ℕ, List, [], ◌∷◌, ◌++◌, take, true, false, Some, None, codes}
+use Rattle.std.specs.Prelude.{◌≡◌, ℕ, List, [], ◌∷◌, ◌++◌, take, true, false, Option, Some, None, codes}
 use Rattle.kv_types.specs.declared.edit.Edit.TheVariants.{Put, Delete}
 use Rattle.kv_types.specs.declared.row.Row.{Row}
 use Rattle.kv_types.specs.Content.{BatchContent}
 use Rattle.kv_types.specs.Order.{IsBelow}
 use Rattle.kv_types.specs.Spelling.{batch_bytes}
 use Rattle.kv_types.specs.Maps.{map_of}
+use Rattle.kv_types.specs.Entries.{Entry, IsShown, ViewShows, all_entries}
 use Rattle.kv_types.specs.Spans.{Span}
 use Rattle.kv_types.specs.Pages.{page_of}
 
@@ -31,6 +32,31 @@ ten = record { from = []; to = None; backward = false; limit = 10 }
 
 abbrev pub row : List ℕ → List ℕ → Row
 row key value = record { key = key; value = value }
+
+-- the entry of a key at a number, with this value or as a deletion
+abbrev pub entry_at : List ℕ → ℕ → Option (List ℕ) → Entry
+entry_at key number value = record { key = key; number = number; value = value }
+
+-- two batches: a=1 a=2, then -a
+abbrev pub changes : List BatchContent
+changes =
+    (Put (codes "a") (codes "1") ∷ Put (codes "a") (codes "2") ∷ [])
+    ∷ (Delete (codes "a") ∷ [])
+    ∷ []
+
+-- of two edits of a key in one batch, the last is its entry, and the only one
+pub record EntryExamples : Type 0 where
+  pub last : all_entries changes (entry_at (codes "a") 1 (Some (codes "2")))
+  pub not_the_first : all_entries changes (entry_at (codes "a") 1 (Some (codes "1"))) → ⊥
+  pub deletion : all_entries changes (entry_at (codes "a") 2 None)
+  pub other_key : (number : ℕ) (value : Option (List ℕ)) →
+      all_entries changes (entry_at (codes "b") number value) → ⊥
+  pub before : ViewShows 0 (all_entries changes) (codes "a") None
+  pub first : ViewShows 1 (all_entries changes) (codes "a") (Some (codes "2"))
+  pub second : ViewShows 2 (all_entries changes) (codes "a") None
+  pub shown : IsShown 1 (all_entries changes) (entry_at (codes "a") 1 (Some (codes "2")))
+  pub deleted : IsShown 2 (all_entries changes) (entry_at (codes "a") 2 None) → ⊥
+  pub hidden : IsShown 2 (all_entries changes) (entry_at (codes "a") 1 (Some (codes "2"))) → ⊥
 
 pub record BatchExamples : Type 0 where
   pub spelled : batch_bytes (Put (codes "a") (codes "1") ∷ [])

@@ -4,9 +4,10 @@ ghost use Rattle.std.specs.Prelude.{◌≡◌};
 ghost use Rattle.kv_types.specs.Order.{IsBelow, IsStrictOrder, LessIsBelow};
 ghost use Rattle.kv_types.specs.Spelling.{SpellingsDiffer};
 ghost use Rattle.kv_types.specs.Maps.{MapsAgree};
+ghost use Rattle.kv_types.specs.Entries.{ViewsAreMaps};
 ghost use Rattle.kv_types.specs.Pages.{OnePage, PagesAgree};
 ghost use Rattle.kv_types.specs.Bounds.{BoundsAre};
-ghost use Rattle.kv_types.specs.Examples.{BatchExamples};
+ghost use Rattle.kv_types.specs.Examples.{BatchExamples, EntryExamples};
 
 use crate::Number;
 
@@ -24,6 +25,12 @@ pub fn spellings_differ()
 /// The map as a function has exactly the values that the last edits put.
 pub fn maps_agree()
     ensures { MapsAgree }
+{}
+
+/// The view at a number of the entries of a list of batches shows of each key exactly what the map
+/// of so many first batches has.
+pub fn views_are_maps()
+    ensures { ViewsAreMaps }
 {}
 
 /// A map has exactly one page in a range, and the page as a function is that one.
@@ -46,7 +53,8 @@ pub fn least_number() -> Number
     Number::ZERO
 }
 
-/// Small batches, maps and pages, worked out.
+/// Small batches, maps, pages and views, worked out.
 pub fn examples()
-    ensures { BatchExamples }
+    ensures batches { BatchExamples }
+    ensures entries { EntryExamples }
 {}

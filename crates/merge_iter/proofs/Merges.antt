@@ -1,28 +1,47 @@
 -- From where the children stand to where their union stands.
-use Rattle.std.proofs.Common.{◌≡◌, ◌↔◌, ◌<◌, ◌≤◌, ◌+◌, ℕ, ◌⊎◌, inl, inr, refl, sym, ◌∙◌, ap, subst, List, [], ◌∷◌, zero, suc, slice_set, length, Some, None, arith, get_or, Result, Ok, Err}
+use Rattle.std.proofs.Common.{◌≡◌, ◌↔◌, ◌<◌, ◌≤◌, ◌+◌, ℕ, ◌⊎◌, inl, inr, refl, sym, ◌∙◌, ap, subst}
+use Rattle.std.proofs.Common.{List, [], ◌∷◌, zero, suc, slice_set, length, Some, None, arith}
+use Rattle.std.proofs.Common.{get_or, Result, Ok, Err}
 use Rattle.std.specs.List.{slice_get}
 use Rattle.std.proofs.lemmas.Option.{slice_get_within, slice_get_read}
 use Rattle.std.specs.declared.cmp.Ordering.TheVariants.{Equal}
 use Rattle.merge_iter.specs.declared.direction.Direction.{Direction}
 use Rattle.kv_types.specs.{Entry}
 use Rattle.merge_iter.specs.Order.{entry_cmp, EntryPrecedes}
-use Rattle.merge_iter.specs.Positions.{Position, On, Off, Broken, IsFirst, IsOn, IfOn, WalkStart, AtEnd, At, After, WalkMeets}
+use Rattle.merge_iter.specs.Positions.{Position, On, Off, Broken, IsFirst, IsOn, IfOn, WalkStart}
+use Rattle.merge_iter.specs.Positions.{AtEnd, At, After, WalkMeets}
 use Rattle.merge_iter.specs.Merging.{UnionHolds, IsBest, IsNearest, ChildrenAreFirst, IsOpposite}
 use Rattle.merge_iter.specs.Moves.{MoveFinds}
 use Rattle.merge_iter.specs.Unions.{same_first}
 use Rattle.merge_iter.specs.declared.error.CursorError.{CursorError}
-use Rattle.merge_iter.specs.EntryOrder.{IsUpward, upward, entry_total, never, not_both, chain, cases, same_right, equal_back, equal_apart}
+use Rattle.merge_iter.specs.EntryOrder.{IsUpward, upward, entry_total, never, not_both, chain}
+use Rattle.merge_iter.specs.EntryOrder.{cases, same_right, equal_back, equal_apart}
 
 -- a child that is not on the entry steps past it by standing still
-pub past_others : (way : Direction) (H : Entry → Type 0) (entry : Entry) (s : Position) → ((p : Entry) → H p → entry_cmp p entry ≡ Equal → ⊥)
-    → IsFirst way (λ p. H p × (EntryPrecedes way p entry → ⊥)) s → IsFirst way (λ p. H p × EntryPrecedes way entry p) s
+pub past_others : (way : Direction) (H : Entry → Type 0) (entry : Entry) (s : Position)
+    → ((p : Entry) → H p → entry_cmp p entry ≡ Equal → ⊥)
+    → IsFirst way (λ p. H p × (EntryPrecedes way p entry → ⊥)) s → IsFirst way
+    (λ p. H p × EntryPrecedes way entry p) s
 past_others way H entry s other =
-    same_first way (λ p. H p × (EntryPrecedes way p entry → ⊥)) (λ p. H p × EntryPrecedes way entry p) s
-    (λ p. ((λ h. (h.0, elim (cases way p entry) [ inl k ↦ absurd (h.1 k) | inr m ↦ elim m [ inl e ↦ absurd (other p h.0 e) | inr l ↦ l ] ])), (λ h. (h.0, λ k. not_both way p entry k h.1))))
+    same_first way (λ p. H p × (EntryPrecedes way p entry → ⊥)) (λ p. H p × EntryPrecedes way entry
+    p) s
+    (λ p. (
+      (λ h. (
+        h.0,
+        elim (cases way p entry) [
+          | inl k ↦ absurd (h.1 k)
+          | inr m ↦ elim m
+              [ inl e ↦ absurd (other p h.0 e) | inr l ↦ l ]
+        ],
+      )),
+      (λ h. (h.0, λ k. not_both way p entry k h.1)),
+    ))
 
 -- a child that was ahead the other way and is stepped once, or started where it stood on none
-pub turned_on : (old way : Direction) (H : Entry → Type 0) (entry q : Entry) (s : Position) → ((a b : Entry) → EntryPrecedes old a b ↔ EntryPrecedes way b a)
-    → IsFirst old (λ p. H p × (EntryPrecedes old p entry → ⊥)) (On q) → IsFirst way (λ p. H p × EntryPrecedes way q p) s → IsFirst way (λ p. H p × EntryPrecedes way entry p) s
+pub turned_on : (old way : Direction) (H : Entry → Type 0) (entry q : Entry) (s : Position)
+    → ((a b : Entry) → EntryPrecedes old a b ↔ EntryPrecedes way b a)
+    → IsFirst old (λ p. H p × (EntryPrecedes old p entry → ⊥)) (On q) → IsFirst way
+    (λ p. H p × EntryPrecedes way q p) s → IsFirst way (λ p. H p × EntryPrecedes way entry p) s
 turned_on old way H entry q s flip was =
     same_first way (λ p. H p × EntryPrecedes way q p) (λ p. H p × EntryPrecedes way entry p) s
     (λ p. (
@@ -30,20 +49,33 @@ turned_on old way H entry q s flip was =
         h.0,
         elim (cases way entry p) [
           | inl k ↦ k
-          | inr m ↦ absurd (was.1 p (h.0, λ k. elim m [ inl e ↦ equal_apart way entry p e ((flip p entry).0 k) | inr l ↦ not_both way p entry l ((flip p entry).0 k) ]) ((flip p q).1 h.1))
+          | inr m ↦ absurd (was.1 p (
+            h.0,
+            λ k. elim m [
+              | inl e ↦ equal_apart way entry p e ((flip p entry).0 k)
+              | inr l ↦
+                  not_both way p entry l ((flip p entry).0 k)
+            ],
+          ) ((flip p q).1 h.1))
         ],
       )),
       (λ h. (
         h.0,
         elim (cases way q p) [
           | inl k ↦ k
-          | inr m ↦ absurd (was.0.1 ((flip q entry).1 (elim m [ inl e ↦ same_right way entry p q (equal_back q p e) h.1 | inr l ↦ chain way entry p q h.1 l ])))
+          | inr m ↦ absurd (was.0.1
+              ((flip q entry).1 (elim m [
+                | inl e ↦ same_right way entry p q (equal_back q p e) h.1
+                | inr l ↦ chain way entry p q h.1 l
+              ])))
         ],
       )),
     ))
 
-pub turned_off : (old way : Direction) (H : Entry → Type 0) (entry : Entry) (s : Position) → ((a b : Entry) → EntryPrecedes old a b ↔ EntryPrecedes way b a)
-    → IsFirst old (λ p. H p × (EntryPrecedes old p entry → ⊥)) Off → IsFirst way H s → IsFirst way (λ p. H p × EntryPrecedes way entry p) s
+pub turned_off : (old way : Direction) (H : Entry → Type 0) (entry : Entry) (s : Position)
+    → ((a b : Entry) → EntryPrecedes old a b ↔ EntryPrecedes way b a)
+    → IsFirst old (λ p. H p × (EntryPrecedes old p entry → ⊥)) Off → IsFirst way H s → IsFirst way
+    (λ p. H p × EntryPrecedes way entry p) s
 turned_off old way H entry s flip was =
     same_first way H (λ p. H p × EntryPrecedes way entry p) s
     (λ p. (
@@ -51,58 +83,94 @@ turned_off old way H entry s flip was =
         h,
         elim (cases way entry p) [
           | inl k ↦ k
-          | inr m ↦ absurd (was p (h, λ k. elim m [ inl e ↦ equal_apart way entry p e ((flip p entry).0 k) | inr l ↦ not_both way p entry l ((flip p entry).0 k) ]))
+          | inr m ↦ absurd (was p (
+            h,
+            λ k. elim m [
+              | inl e ↦ equal_apart way entry p e ((flip p entry).0 k)
+              | inr l ↦
+                  not_both way p entry l ((flip p entry).0 k)
+            ],
+          ))
         ],
       )),
       (λ h. h.0),
     ))
 
 -- the child is ahead of the entry that the union stands on
-pub settled_child : (way : Direction) (H P : Entry → Type 0) (entry : Entry) (s : Position) → IsUpward way P → P entry → ((q : Entry) → s ≡ On q → EntryPrecedes way q entry → ⊥)
+pub settled_child : (way : Direction) (H P : Entry → Type 0) (entry : Entry) (s : Position)
+    → IsUpward way P → P entry → ((q : Entry) → s ≡ On q → EntryPrecedes way q entry → ⊥)
     → IsFirst way (λ p. H p × P p) s → IsFirst way (λ p. H p × (EntryPrecedes way p entry → ⊥)) s
-settled_child way H P entry (On q) up here late f = ((f.0.0, late q refl), λ other h c. f.1 other (h.0, up entry other here h.1) c)
+settled_child way H P entry (On q) up here late f =
+    ((f.0.0, late q refl), λ other h c. f.1 other (h.0, up entry other here h.1) c)
 settled_child way H P entry Off up here late f = λ other h. f other (h.0, up entry other here h.1)
 settled_child way H P entry Broken up here late f = f
 
-ahead : (way : Direction) (H P : Entry → Type 0) (entry p : Entry) (s : Position) → IsFirst way (λ p. H p × P p) s → ((q : Entry) → s ≡ On q → EntryPrecedes way q entry → ⊥) → H p → P p → EntryPrecedes way p entry → ⊥
+ahead : (way : Direction) (H P : Entry → Type 0) (entry p : Entry) (s : Position) → IsFirst way
+    (λ p. H p × P p) s → ((q : Entry) → s ≡ On q → EntryPrecedes way q entry → ⊥) → H p → P p
+    → EntryPrecedes way p entry → ⊥
 ahead way H P entry p (On q) f late h k c =
     elim (cases way q p) [
       | inl l ↦ late q refl (chain way q p entry l c)
-      | inr m ↦ elim m [ inl e ↦ late q refl (elim (cases way q entry) [ inl g ↦ g | inr g ↦ elim g [ inl e2 ↦ absurd (equal_apart way p entry (peq way q p entry e e2) c) | inr l ↦ absurd (not_both way p entry c (same_right way entry q p e l)) ] ]) | inr l ↦ f.1 p (h, k) l ]
+      | inr m ↦ elim m [
+        | inl e ↦ late q refl
+            (elim (cases way q entry) [
+              | inl g ↦ g
+              | inr g ↦ elim g [
+                | inl e2 ↦ absurd (equal_apart way p entry (peq way q p entry e e2) c)
+                | inr l ↦ absurd
+                    (not_both way p entry c (same_right way entry q p e l))
+              ]
+            ])
+        | inr l ↦ f.1 p (h, k) l
+      ]
     ]
   where
-    peq : (way : Direction) (q p entry : Entry) → entry_cmp q p ≡ Equal → entry_cmp q entry ≡ Equal → entry_cmp p entry ≡ Equal
+    peq : (way : Direction) (q p entry : Entry) → entry_cmp q p ≡ Equal → entry_cmp q entry ≡ Equal
+        → entry_cmp p entry ≡ Equal
     peq way q p entry e e2 = sym (entry_total.congr q p entry e) ∙ e2
 ahead way H P entry p Off f late h k c = f p (h, k)
 ahead way H P entry p Broken f late h k c = f
 
 module _ {C : Type 0} (holds : C → Entry → Type 0) (position : C → Position) where
-  pub settled : (way : Direction) (start : WalkStart) (children : List C) (k n : ℕ) → length children ≤ n
-      → ChildrenAreFirst holds position way start children → (best : IsBest position way children n k)
-      → IsFirst way (λ p. UnionHolds holds children p × WalkMeets way start p) (On best.entry) × ChildrenAreFirst holds position way (At best.entry) children
+  pub settled : (way : Direction) (start : WalkStart) (children : List C) (k n : ℕ)
+      → length children ≤ n
+      → ChildrenAreFirst holds position way start children
+      → (best : IsBest position way children n k)
+      → IsFirst way (λ p. UnionHolds holds children p × WalkMeets way start p) (On best.entry)
+      × ChildrenAreFirst holds position way (At best.entry) children
   settled way start children k n all first best =
       let P : Entry → Type 0 = WalkMeets way start in
       let up = upward way start in
-      let here : IsFirst way (λ p. holds best.child p × P p) (On best.entry) = subst (λ s. IsFirst way (λ p. holds best.child p × P p) s) best.on (first k best.child best.found) in
-      let late : (j : ℕ) (d : C) → slice_get children j ≡ Some d → (q : Entry) → position d ≡ On q → EntryPrecedes way q best.entry → ⊥ =
-      λ j d is q on. let w : j < length children = slice_get_within children j d is in best.best j d q (omega arith) is on in (
+      let here : IsFirst way (λ p. holds best.child p × P p) (On best.entry) =
+      subst (λ s. IsFirst way (λ p. holds best.child p × P p) s) best.on
+      (first k best.child best.found) in
+      let late : (j : ℕ) (d : C) → slice_get children j ≡ Some d → (q : Entry) → position d ≡ On q
+      → EntryPrecedes way q best.entry → ⊥ =
+      λ j d is q on. let w : j < length children = slice_get_within children j d is in
+      best.best j d q (omega arith) is on in (
         (
           ((k, best.child, best.found, here.0.0), here.0.1),
-          λ other h c. ahead way (holds h.0.1) P best.entry other (position h.0.1) (first h.0.0 h.0.1 h.0.2) (late h.0.0 h.0.1 h.0.2) h.0.3 h.1 c,
+          λ other h c. ahead way (holds h.0.1) P best.entry other (position h.0.1)
+              (first h.0.0 h.0.1 h.0.2) (late h.0.0 h.0.1 h.0.2) h.0.3 h.1 c,
         ),
-        λ j d is. settled_child way (holds d) P best.entry (position d) up here.0.1 (late j d is) (first j d is),
+        λ j d is. settled_child way (holds d) P best.entry (position d) up here.0.1 (late j d is)
+            (first j d is),
       )
 
-  none_on : (way : Direction) (P : Entry → Type 0) (s : Position) → IsFirst way P s → (IsOn s → ⊥) → (p : Entry) → P p → ⊥
+  none_on : (way : Direction) (P : Entry → Type 0) (s : Position) → IsFirst way P s → (IsOn s → ⊥)
+      → (p : Entry) → P p → ⊥
   none_on way P (On q) f none = absurd (none tt)
   none_on way P Off f none = f
   none_on way P Broken f none = absurd f
 
-  pub settled_off : (way : Direction) (start : WalkStart) (children : List C) (n : ℕ) → length children ≤ n
-      → ChildrenAreFirst holds position way start children → IsNearest position way children n None → IsFirst way (λ p. UnionHolds holds children p × WalkMeets way start p) Off
+  pub settled_off : (way : Direction) (start : WalkStart) (children : List C) (n : ℕ)
+      → length children ≤ n
+      → ChildrenAreFirst holds position way start children → IsNearest position way children n None
+      → IsFirst way (λ p. UnionHolds holds children p × WalkMeets way start p) Off
   settled_off way start children n all first none =
       λ other h. let w : h.0.0 < length children = slice_get_within children h.0.0 h.0.1 h.0.2 in
-      none_on way (λ p. holds h.0.1 p × WalkMeets way start p) (position h.0.1) (first h.0.0 h.0.1 h.0.2) (none h.0.0 h.0.1 (omega arith) h.0.2) other (h.0.3, h.1)
+      none_on way (λ p. holds h.0.1 p × WalkMeets way start p) (position h.0.1)
+      (first h.0.0 h.0.1 h.0.2) (none h.0.0 h.0.1 (omega arith) h.0.2) other (h.0.3, h.1)
 
 up_to : (j i : ℕ) → j < i + 1 → (j < i) ⊎ (j ≡ i)
 up_to j i l = grind arith
@@ -113,12 +181,15 @@ on_row Off h = absurd h
 on_row Broken h = absurd h
 
 module _ {C : Type 0} (position : C → Position) where
-  at_one : (xs : List C) (i j : ℕ) (c d : C) → slice_get xs i ≡ Some c → slice_get xs j ≡ Some d → j ≡ i → d ≡ c
+  at_one : (xs : List C) (i j : ℕ) (c d : C) → slice_get xs i ≡ Some c → slice_get xs j ≡ Some d
+      → j ≡ i → d ≡ c
   at_one xs i j c d p q e = let h : Some d ≡ Some c = sym q ∙ (ap (slice_get xs) e ∙ p) in cc
 
   -- child i is the best of i + 1 children, where no earlier one comes before it
-  pub takes : (way : Direction) (children : List C) (i : ℕ) (c : C) → slice_get children i ≡ Some c → IsOn (position c)
-      → ((entry : Entry) → position c ≡ On entry → (j : ℕ) (d : C) (q : Entry) → j < i → slice_get children j ≡ Some d → position d ≡ On q → EntryPrecedes way q entry → ⊥)
+  pub takes : (way : Direction) (children : List C) (i : ℕ) (c : C) → slice_get children i ≡ Some c
+      → IsOn (position c)
+      → ((entry : Entry) → position c ≡ On entry → (j : ℕ) (d : C) (q : Entry) → j < i → slice_get
+      children j ≡ Some d → position d ≡ On q → EntryPrecedes way q entry → ⊥)
       → IsBest position way children (i + 1) i
   takes way children i c at on earlier =
       let r = on_row (position c) on in
@@ -131,17 +202,23 @@ module _ {C : Type 0} (position : C → Position) where
         best = λ j d q l is stood precedes. elim (up_to j i l) [
           | inl k ↦ earlier r.0 r.1 j d q k is stood precedes
           | inr e ↦
-              let same : On q ≡ On r.0 = sym stood ∙ (ap position (at_one children i j c d at is e) ∙ r.1) in
+              let same : On q ≡ On r.0 = sym stood ∙ (ap position (at_one children i j c d at is e)
+              ∙ r.1) in
               let entries : q ≡ r.0 = cc in
               never way r.0 (subst (λ x. EntryPrecedes way x r.0) entries precedes)
         ];
       }
 
-  pub takes_first : (way : Direction) (children : List C) (i : ℕ) (c : C) → slice_get children i ≡ Some c → IsOn (position c) → IsNearest position way children i None → IsBest position way children (i + 1) i
-  takes_first way children i c at on none = takes way children i c at on (λ entry is j d q l found stood precedes. none j d l found (subst IsOn (sym stood) tt))
+  pub takes_first : (way : Direction) (children : List C) (i : ℕ) (c : C) → slice_get children i ≡
+      Some c → IsOn (position c) → IsNearest position way children i None → IsBest position way
+      children (i + 1) i
+  takes_first way children i c at on none = takes way children i c at on
+      (λ entry is j d q l found stood precedes. none j d l found (subst IsOn (sym stood) tt))
 
   -- the best stays
-  pub keeps : (way : Direction) (children : List C) (i k : ℕ) (c : C) → slice_get children i ≡ Some c → (b : IsBest position way children i k) → ((q : Entry) → position c ≡ On q → EntryPrecedes way q b.entry → ⊥) → IsBest position way children (i + 1) k
+  pub keeps : (way : Direction) (children : List C) (i k : ℕ) (c : C) → slice_get children i ≡ Some
+      c → (b : IsBest position way children i k) → ((q : Entry) → position c ≡ On q → EntryPrecedes
+      way q b.entry → ⊥) → IsBest position way children (i + 1) k
   keeps way children i k c at b late = record {
     within = b.within;
     child = b.child;
@@ -150,39 +227,57 @@ module _ {C : Type 0} (position : C → Position) where
     on = b.on;
     best = λ j d q l is stood precedes. elim (up_to j i l) [
       | inl m ↦ b.best j d q m is stood precedes
-      | inr e ↦ late q (subst (λ x. position x ≡ On q) (at_one children i j c d at is e) stood) precedes
+      | inr e ↦ late q (subst (λ x. position x ≡ On q) (at_one children i j c d at is e) stood)
+          precedes
     ];
   }
 
-  pub takes_over : (way : Direction) (children : List C) (i k : ℕ) (c : C) → slice_get children i ≡ Some c → IsOn (position c) → (b : IsBest position way children i k) → ((q : Entry) → position c ≡ On q → EntryPrecedes way q b.entry) → IsBest position way children (i + 1) i
-  takes_over way children i k c at on b sooner = takes way children i c at on (λ entry is j d q l found stood precedes. b.best j d q l found stood (chain way q entry b.entry precedes (sooner entry is)))
+  pub takes_over : (way : Direction) (children : List C) (i k : ℕ) (c : C) → slice_get children i ≡
+      Some c → IsOn (position c) → (b : IsBest position way children i k)
+      → ((q : Entry) → position c ≡ On q → EntryPrecedes way q b.entry) → IsBest position way
+      children (i + 1) i
+  takes_over way children i k c at on b sooner = takes way children i c at on
+      (λ entry is j d q l found stood precedes. b.best j d q l found stood
+      (chain way q entry b.entry precedes (sooner entry is)))
 
-pub get_set : {C : Type 0} (xs : List C) (i : ℕ) (v : C) (j : ℕ) (c : C) → slice_get (slice_set xs i v) j ≡ Some c → ((j ≡ i) × (c ≡ v)) ⊎ ((j ≡ i → ⊥) × (slice_get xs j ≡ Some c))
+pub get_set : {C : Type 0} (xs : List C) (i : ℕ) (v : C) (j : ℕ) (c : C) → slice_get
+    (slice_set xs i v) j ≡ Some c → ((j ≡ i) × (c ≡ v)) ⊎ ((j ≡ i → ⊥) × (slice_get xs j ≡ Some c))
 get_set [] i v j c e = absurd (let h : None ≡ Some c = e in cc)
 get_set (x ∷ xs) zero v zero c e = inl (refl, cc)
 get_set (x ∷ xs) zero v (suc j) c e = inr ((λ z. omega arith), e)
 get_set (x ∷ xs) (suc i) v zero c e = inr ((λ z. omega arith), e)
-get_set (x ∷ xs) (suc i) v (suc j) c e = elim (get_set xs i v j c e) [ inl p ↦ inl (ap suc p.0, p.1) | inr q ↦ inr ((λ z. q.0 (omega arith)), q.1) ]
+get_set (x ∷ xs) (suc i) v (suc j) c e = elim (get_set xs i v j c e)
+    [ inl p ↦ inl (ap suc p.0, p.1) | inr q ↦ inr ((λ z. q.0 (omega arith)), q.1) ]
 
-pub if_on : (s s' : Position) (P : Entry → Entry → Type 0) (a b : Entry) → s ≡ On a → s' ≡ On b → IfOn s (λ x. IfOn s' (λ y. P x y)) → P a b
-if_on s s' P a b e e2 h = subst (λ v. IfOn v (λ y. P a y)) e2 (subst (λ v. IfOn v (λ x. IfOn s' (λ y. P x y))) e h)
+pub if_on : (s s' : Position) (P : Entry → Entry → Type 0) (a b : Entry) → s ≡ On a → s' ≡ On b
+    → IfOn s (λ x. IfOn s' (λ y. P x y)) → P a b
+if_on s s' P a b e e2 h = subst (λ v. IfOn v (λ y. P a y)) e2
+    (subst (λ v. IfOn v (λ x. IfOn s' (λ y. P x y))) e h)
 
-pub best_child : {C : Type 0} (position : C → Position) (way : Direction) (xs : List C) (n k : ℕ) (b : IsBest position way xs n k) (d : C) → d ≡ get_or xs k d → position d ≡ On b.entry
+pub best_child : {C : Type 0} (position : C → Position) (way : Direction) (xs : List C) (n k : ℕ)
+    (b : IsBest position way xs n k) (d : C) → d ≡ get_or xs k d → position d ≡ On b.entry
 best_child position way xs n k b d e =
-    let same : Some d ≡ Some b.child = sym (slice_get_read xs (length xs) k d refl b.within e) ∙ b.found in
+    let same : Some d ≡ Some b.child = sym (slice_get_read xs (length xs) k d refl b.within e)
+    ∙ b.found in
     let alike : d ≡ b.child = cc in
     ap position alike ∙ b.on
 
-pub turn_step : (was way : Direction) (H : Entry → Type 0) (entry : Entry) (s s' : Position) (r : Result (Unit {0}) CursorError) → IsOn s → IsOpposite was way
-    → IsFirst was (λ p. H p × WalkMeets was (At entry) p) s → IfOn s (λ q. MoveFinds way (After q) H r s') → MoveFinds way (After entry) H r s'
-turn_step was way H entry (On q) s' (Ok u) on flip first step = turned_on was way H entry q s' flip first step
+pub turn_step : (was way : Direction) (H : Entry → Type 0) (entry : Entry) (s s' : Position)
+    (r : Result (Unit {0}) CursorError) → IsOn s → IsOpposite was way
+    → IsFirst was (λ p. H p × WalkMeets was (At entry) p) s
+    → IfOn s (λ q. MoveFinds way (After q) H r s') → MoveFinds way (After entry) H r s'
+turn_step was way H entry (On q) s' (Ok u) on flip first step = turned_on was way H entry q s' flip
+    first step
 turn_step was way H entry (On q) s' (Err e) on flip first step = tt
 turn_step was way H entry Off s' r on flip first step = absurd on
 turn_step was way H entry Broken s' r on flip first step = absurd on
 
-pub turn_start : (was way : Direction) (H : Entry → Type 0) (entry : Entry) (s s' : Position) (r : Result (Unit {0}) CursorError) → (IsOn s → ⊥) → IsOpposite was way
-    → IsFirst was (λ p. H p × WalkMeets was (At entry) p) s → MoveFinds way AtEnd H r s' → MoveFinds way (After entry) H r s'
+pub turn_start : (was way : Direction) (H : Entry → Type 0) (entry : Entry) (s s' : Position)
+    (r : Result (Unit {0}) CursorError) → (IsOn s → ⊥) → IsOpposite was way
+    → IsFirst was (λ p. H p × WalkMeets was (At entry) p) s → MoveFinds way AtEnd H r s' → MoveFinds
+    way (After entry) H r s'
 turn_start was way H entry (On q) s' r off flip first find = absurd (off tt)
-turn_start was way H entry Off s' (Ok u) off flip first find = turned_off was way H entry s' flip first (same_first way (λ p. H p × Unit {0}) H s' (λ p. ((λ h. h.0), (λ h. (h, tt)))) find)
+turn_start was way H entry Off s' (Ok u) off flip first find = turned_off was way H entry s' flip
+    first (same_first way (λ p. H p × Unit {0}) H s' (λ p. ((λ h. h.0), (λ h. (h, tt)))) find)
 turn_start was way H entry Off s' (Err e) off flip first find = tt
 turn_start was way H entry Broken s' r off flip first find = absurd first

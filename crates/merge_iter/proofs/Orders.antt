@@ -4,11 +4,10 @@ use Rattle.std.specs.Cmp.Lexicographic.{slice_cmp}
 use Rattle.std.specs.declared.cmp.Ordering.{Ordering}
 use Rattle.std.specs.declared.cmp.Ordering.TheVariants.{Less, Equal, Greater}
 use Rattle.std.specs.Ordering.{is_lt, ordering_then, nat_cmp}
-use Rattle.merge_iter.specs.declared.direction.Direction.TheVariants.{Forward}
 use Rattle.merge_iter.specs.declared.owned_entry.OwnedEntry.{OwnedEntry}
 use Rattle.merge_iter.specs.ListEntries.{entry_of}
 use Rattle.kv_types.specs.{Entry}
-use Rattle.merge_iter.specs.Order.{entry_cmp, EntryPrecedes}
+use Rattle.merge_iter.specs.Order.{entry_cmp}
 use Rattle.merge_iter.specs.Positions.{Position, On, Off, Broken, IfOn}
 
 pub less_iff : (r : Ordering) → IsTrue (is_lt r) ↔ (r ≡ Less)
@@ -16,24 +15,38 @@ less_iff Less = (λ h. refl, λ e. refl)
 less_iff Equal = (λ h. cc, λ e. cc)
 less_iff Greater = (λ h. cc, λ e. cc)
 
-pub before_by : (key : List ℕ) (e : OwnedEntry) (spot : Entry) (r : Ordering) (b : Bool) → key ≡ e.key.items → r ≡ ordering_then (slice_cmp nat_cmp key spot.key) (nat_cmp spot.number e.number) → b ≡ is_lt r → IsTrue b ↔ EntryPrecedes Forward (entry_of e) spot
+-- the order by a key that was read of the entry
+pub before_by : (key : List ℕ) (e : OwnedEntry) (spot : Entry) (r : Ordering) (b : Bool)
+    → key ≡ e.key.items → r ≡ ordering_then (slice_cmp nat_cmp key spot.key)
+    (nat_cmp spot.number e.number) → b ≡ is_lt r → b ≡ is_lt (entry_cmp (entry_of e) spot)
 before_by key e spot r b k o t =
-    let same : r ≡ entry_cmp (entry_of e) spot = o ∙ ap (λ x. ordering_then (slice_cmp nat_cmp x spot.key) (nat_cmp spot.number e.number)) k in
-    subst (λ x. IsTrue x ↔ (entry_cmp (entry_of e) spot ≡ Less)) (sym (t ∙ ap is_lt same)) (less_iff (entry_cmp (entry_of e) spot))
+    let same : r ≡ entry_cmp (entry_of e) spot =
+    o ∙ ap (λ x. ordering_then (slice_cmp nat_cmp x spot.key) (nat_cmp spot.number e.number)) k
+    in
+    t ∙ ap is_lt same
 
-pub both : (k l : List ℕ) (m n : ℕ) (a b : Entry) (r : Ordering) (t : Bool) → k ≡ a.key → m ≡ a.number → l ≡ b.key → n ≡ b.number → r ≡ ordering_then (slice_cmp nat_cmp k l) (nat_cmp n m) → t ≡ is_lt r → IsTrue t ↔ (entry_cmp a b ≡ Less)
+pub both : (k l : List ℕ) (m n : ℕ) (a b : Entry) (r : Ordering) (t : Bool) → k ≡ a.key
+    → m ≡ a.number → l ≡ b.key → n ≡ b.number → r ≡ ordering_then (slice_cmp nat_cmp k l)
+    (nat_cmp n m) → t ≡ is_lt r → IsTrue t ↔ (entry_cmp a b ≡ Less)
 both k l m n a b r t ka ma lb nb o is =
     let same : r ≡ entry_cmp a b = cc in
-    subst (λ x. IsTrue x ↔ (entry_cmp a b ≡ Less)) (sym (is ∙ ap is_lt same)) (less_iff (entry_cmp a b))
+    subst (λ x. IsTrue x ↔ (entry_cmp a b ≡ Less)) (sym (is ∙ ap is_lt same))
+    (less_iff (entry_cmp a b))
 
-pub comes_ahead : (s s' : Position) (k l : List ℕ) (m n : ℕ) (r : Ordering) (t : Bool) → IfOn s (λ a. k ≡ a.key) → IfOn s (λ a. m ≡ a.number) → IfOn s' (λ b. l ≡ b.key) → IfOn s' (λ b. n ≡ b.number) → r ≡ ordering_then (slice_cmp nat_cmp k l) (nat_cmp n m) → t ≡ is_lt r → IfOn s (λ a. IfOn s' (λ b. IsTrue t ↔ (entry_cmp a b ≡ Less)))
+pub comes_ahead : (s s' : Position) (k l : List ℕ) (m n : ℕ) (r : Ordering) (t : Bool)
+    → IfOn s (λ a. k ≡ a.key) → IfOn s (λ a. m ≡ a.number) → IfOn s' (λ b. l ≡ b.key)
+    → IfOn s' (λ b. n ≡ b.number) → r ≡ ordering_then (slice_cmp nat_cmp k l) (nat_cmp n m)
+    → t ≡ is_lt r → IfOn s (λ a. IfOn s' (λ b. IsTrue t ↔ (entry_cmp a b ≡ Less)))
 comes_ahead (On a) (On b) k l m n r t ka ma lb nb o is = both k l m n a b r t ka ma lb nb o is
 comes_ahead (On a) Off k l m n r t ka ma lb nb o is = tt
 comes_ahead (On a) Broken k l m n r t ka ma lb nb o is = tt
 comes_ahead Off s' k l m n r t ka ma lb nb o is = tt
 comes_ahead Broken s' k l m n r t ka ma lb nb o is = tt
 
-pub comes_behind : (s s' : Position) (k l : List ℕ) (m n : ℕ) (r : Ordering) (t : Bool) → IfOn s (λ a. k ≡ a.key) → IfOn s (λ a. m ≡ a.number) → IfOn s' (λ b. l ≡ b.key) → IfOn s' (λ b. n ≡ b.number) → r ≡ ordering_then (slice_cmp nat_cmp k l) (nat_cmp n m) → t ≡ is_lt r → IfOn s' (λ b. IfOn s (λ a. IsTrue t ↔ (entry_cmp a b ≡ Less)))
+pub comes_behind : (s s' : Position) (k l : List ℕ) (m n : ℕ) (r : Ordering) (t : Bool)
+    → IfOn s (λ a. k ≡ a.key) → IfOn s (λ a. m ≡ a.number) → IfOn s' (λ b. l ≡ b.key)
+    → IfOn s' (λ b. n ≡ b.number) → r ≡ ordering_then (slice_cmp nat_cmp k l) (nat_cmp n m)
+    → t ≡ is_lt r → IfOn s' (λ b. IfOn s (λ a. IsTrue t ↔ (entry_cmp a b ≡ Less)))
 comes_behind (On a) (On b) k l m n r t ka ma lb nb o is = both k l m n a b r t ka ma lb nb o is
 comes_behind Off (On b) k l m n r t ka ma lb nb o is = tt
 comes_behind Broken (On b) k l m n r t ka ma lb nb o is = tt

@@ -11,7 +11,9 @@ use Rattle.kv_types.specs.{IsShown}
 use Rattle.merge_iter.specs.Versions.{IsSettled, left_in}
 use Rattle.merge_iter.specs.Searches.{all_shown_alike, settled_alike}
 
-module _ {C S : Type 0} (holds : C → S → Entry → Type 0) (sound : C → S → Type 0) (keeps : S → S → Type 0) (left : C → Direction → ℕ) (most : C → ℕ) (position : C → Position) (laws : IsLawful holds sound keeps left most) where
+module _ {C S : Type 0} (holds : C → S → Entry → Type 0) (sound : C → S → Type 0)
+    (keeps : S → S → Type 0) (left : C → Direction → ℕ) (most : C → ℕ) (position : C → Position)
+    (laws : IsLawful holds sound keeps left most) where
   within : (c : C) (m : Mode) (way : Direction) → left_in (left c) (most c) m way ≤ most c + 2
   within c mode.Inner Forward = let h = laws.within c Forward in omega (arith, h)
   within c mode.Inner Backward = omega arith
@@ -21,13 +23,19 @@ module _ {C S : Type 0} (holds : C → S → Entry → Type 0) (sound : C → S 
   within c mode.Broken way = omega arith
 
   pub at_laws : {M : Type 0} (inner : M → C) (at : M → ℕ) (m : M → Mode) (kept : M → Entry)
-      → IsLawful {C = M} (λ a s. IsShown (at a) (holds (inner a) s)) (λ a s. sound (inner a) s × IsSettled (at a) (holds (inner a) s) (m a) (position (inner a)) (kept a)) keeps (λ a. left_in (left (inner a)) (most (inner a)) (m a)) (λ a. most (inner a) + 2)
+      → IsLawful {C = M} (λ a s. IsShown (at a) (holds (inner a) s)) (λ a s. sound (inner a) s
+      × IsSettled (at a) (holds (inner a) s) (m a) (position (inner a)) (kept a)) keeps
+      (λ a. left_in (left (inner a)) (most (inner a)) (m a)) (λ a. most (inner a) + 2)
   at_laws inner at m kept = record {
     itself = laws.itself;
     through = laws.through;
     stays = λ a s t k h.
         let z = laws.stays (inner a) s t k h.0 in (
-          (z.0, settled_alike (at a) (holds (inner a) s) (holds (inner a) t) z.1 (m a) (position (inner a)) (kept a) h.1),
+          (
+            z.0,
+            settled_alike (at a) (holds (inner a) s) (holds (inner a) t) z.1 (m a)
+                (position (inner a)) (kept a) h.1,
+          ),
           all_shown_alike (at a) (holds (inner a) s) (holds (inner a) t) z.1,
         );
     apart = λ a s h p q hp hq e. laws.apart (inner a) s h.0 p q hp.newest.seen.0 hq.newest.seen.0 e;

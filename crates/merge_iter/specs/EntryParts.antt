@@ -14,29 +14,48 @@ use Rattle.merge_iter.specs.Order.{entry_cmp}
 below : (x y : ℕ) → nat_cmp x y ≡ Less → x < y
 below x y e =
     by_ranked (x < y) (x ≡ y) (y < x) (nat_cmp x y) (ranked x y (nat_cmp x y) refl)
-    (λ is h. h) (λ is h. absurd (let k : Equal ≡ Less = sym is ∙ e in cc)) (λ is h. absurd (let k : Greater ≡ Less = sym is ∙ e in cc))
+    (λ is h. h) (λ is h. absurd (let k : Equal ≡ Less = sym is ∙ e in cc))
+    (λ is h. absurd (let k : Greater ≡ Less = sym is ∙ e in cc))
 
 level : (x y : ℕ) → nat_cmp x y ≡ Equal → x ≡ y
 level x y e =
     by_ranked (x < y) (x ≡ y) (y < x) (nat_cmp x y) (ranked x y (nat_cmp x y) refl)
-    (λ is h. absurd (let k : Less ≡ Equal = sym is ∙ e in cc)) (λ is h. h) (λ is h. absurd (let k : Greater ≡ Equal = sym is ∙ e in cc))
+    (λ is h. absurd (let k : Less ≡ Equal = sym is ∙ e in cc)) (λ is h. h)
+    (λ is h. absurd (let k : Greater ≡ Equal = sym is ∙ e in cc))
 
 same_key : (k l : List ℕ) → slice_cmp nat_cmp k l ≡ Equal → k ≡ l
 same_key k l e = (bytes_eq-Decides k l).0 (sym (is_eq-slice_cmp k l) ∙ ap is_eq e)
 
-split : (a b : Entry) (o : Ordering) → slice_cmp nat_cmp a.key b.key ≡ o → entry_cmp a b ≡ Less → (slice_cmp nat_cmp a.key b.key ≡ Less) ⊎ ((a.key ≡ b.key) × (b.number < a.number))
+split : (a b : Entry) (o : Ordering) → slice_cmp nat_cmp a.key b.key ≡ o → entry_cmp a b ≡ Less
+    → (slice_cmp nat_cmp a.key b.key ≡ Less) ⊎ ((a.key ≡ b.key) × (b.number < a.number))
 split a b Less is h = inl is
-split a b Equal is h = inr (same_key a.key b.key is, below b.number a.number (sym (ap (λ o. ordering_then o (nat_cmp b.number a.number)) is) ∙ h))
-split a b Greater is h = absurd (let k : Greater ≡ Less = sym (ap (λ o. ordering_then o (nat_cmp b.number a.number)) is) ∙ h in cc)
+split a b Equal is h =
+    inr (
+      same_key a.key b.key is,
+      below b.number a.number
+          (sym (ap (λ o. ordering_then o (nat_cmp b.number a.number)) is) ∙ h),
+    )
+split a b Greater is h =
+    absurd (let k : Greater ≡ Less = sym (ap (λ o. ordering_then o (nat_cmp b.number a.number)) is)
+    ∙ h in cc)
 
 -- a lesser key, or in one key a greater number
-less_parts : (a b : Entry) → entry_cmp a b ≡ Less → (slice_cmp nat_cmp a.key b.key ≡ Less) ⊎ ((a.key ≡ b.key) × (b.number < a.number))
+less_parts : (a b : Entry) → entry_cmp a b ≡ Less → (slice_cmp nat_cmp a.key b.key ≡ Less)
+    ⊎ ((a.key ≡ b.key) × (b.number < a.number))
 less_parts a b h = split a b (slice_cmp nat_cmp a.key b.key) refl h
 
-tie : (a b : Entry) (o : Ordering) → slice_cmp nat_cmp a.key b.key ≡ o → entry_cmp a b ≡ Equal → (a.key ≡ b.key) × (a.number ≡ b.number)
-tie a b Less is h = absurd (let k : Less ≡ Equal = sym (ap (λ o. ordering_then o (nat_cmp b.number a.number)) is) ∙ h in cc)
-tie a b Equal is h = (same_key a.key b.key is, sym (level b.number a.number (sym (ap (λ o. ordering_then o (nat_cmp b.number a.number)) is) ∙ h)))
-tie a b Greater is h = absurd (let k : Greater ≡ Equal = sym (ap (λ o. ordering_then o (nat_cmp b.number a.number)) is) ∙ h in cc)
+tie : (a b : Entry) (o : Ordering) → slice_cmp nat_cmp a.key b.key ≡ o → entry_cmp a b ≡ Equal
+    → (a.key ≡ b.key) × (a.number ≡ b.number)
+tie a b Less is h = absurd (let k : Less ≡ Equal =
+    sym (ap (λ o. ordering_then o (nat_cmp b.number a.number)) is) ∙ h in cc)
+tie a b Equal is h = (
+  same_key a.key b.key is,
+  let tied = sym (ap (λ o. ordering_then o (nat_cmp b.number a.number)) is) ∙ h in
+      sym (level b.number a.number tied),
+)
+tie a b Greater is h =
+    absurd (let k : Greater ≡ Equal = sym (ap (λ o. ordering_then o (nat_cmp b.number a.number)) is)
+    ∙ h in cc)
 
 -- one key and one number
 pub equal_parts : (a b : Entry) → entry_cmp a b ≡ Equal → (a.key ≡ b.key) × (a.number ≡ b.number)
@@ -55,7 +74,8 @@ numbers_fall a b h e = elim (less_parts a b h) [
 ]
 
 -- the entries of a key stand side by side
-pub between : (a b c : Entry) → entry_cmp a b ≡ Less → entry_cmp b c ≡ Less → a.key ≡ c.key → b.key ≡ c.key
+pub between : (a b c : Entry) → entry_cmp a b ≡ Less → entry_cmp b c ≡ Less → a.key ≡ c.key
+    → b.key ≡ c.key
 between a b c h k e = elim (less_parts b c k) [
   | inr n ↦ n.0
   | inl n ↦ elim (less_parts a b h) [

@@ -6,6 +6,7 @@ pub mod EntryParts
 pub mod ListEntries
 pub mod Lists
 pub mod Merging
+pub mod LentCursors
 pub mod Unions
 pub mod Versions
 pub mod Keeping
@@ -13,6 +14,10 @@ pub mod Searches
 pub mod AtNumbers
 pub mod Shows
 -- What crates above name.
+pub use Rattle.merge_iter.specs.EntryOrder.{chain, entry_total, never}
+pub use Rattle.merge_iter.specs.EntryParts.{equal_parts, numbers_fall}
+pub use Rattle.merge_iter.specs.LentCursors.{AreDisjoint, AreSound, KeepsCursor, RefusesMove}
+pub use Rattle.merge_iter.specs.LentCursors.{union_of}
 pub use Rattle.merge_iter.specs.Merging.{AreApart, EachChild, UnionHolds}
 pub use Rattle.merge_iter.specs.Moves.{CanStep, EntriesStay, ErrorCauses, IsLawful, MoveFinds}
 pub use Rattle.merge_iter.specs.Moves.{MoveKeeps}

@@ -1,5 +1,6 @@
 -- A list in memory keeps what every cursor keeps.
-use Rattle.std.proofs.Common.{◌≡◌, ℕ, ◌⊎◌, inl, inr, ◌<◌, ◌≤◌, ◌+◌, sym, ap, ◌∙◌, arith, List, length, Bool, true, false, nat_lt, if◌then◌else◌}
+use Rattle.std.proofs.Common.{◌≡◌, ℕ, ◌⊎◌, inl, inr, ◌<◌, ◌≤◌, ◌+◌, sym, ap, ◌∙◌, arith, List}
+use Rattle.std.proofs.Common.{length, Bool, true, false, nat_lt, if◌then◌else◌}
 use Rattle.std.proofs.Common.{refl}
 use Rattle.std.specs.declared.cmp.Ordering.TheVariants.{Less, Equal}
 use Rattle.merge_iter.specs.declared.direction.Direction.{Direction}
@@ -22,7 +23,8 @@ one_place xs rising a b p q e = elim (places p.0 q.0) [
   | inl l ↦ let h : Less ≡ Equal = sym (rising p.0 q.0 a b l p.1 q.1) ∙ e in cc
   | inr m ↦ elim m [
     | inl s ↦ let h : On a ≡ On b = sym p.1 ∙ (ap (position_at xs) s ∙ q.1) in cc
-    | inr l ↦ absurd (never Backward a (same_right Backward a b a (equal_back a b e) (rising q.0 p.0 b a l q.1 p.1)))
+    | inr l ↦ absurd (never Backward a (same_right Backward a b a (equal_back a b e)
+        (rising q.0 p.0 b a l q.1 p.1)))
   ]
 ]
 
@@ -33,11 +35,14 @@ behind_if at len false e = omega arith
 behind : (at len : ℕ) → (if nat_lt at len then at + 1 else 0) ≤ len
 behind at len = behind_if at len (nat_lt at len) refl
 
-pub left_within : (xs : List OwnedEntry) (at : ℕ) (way : Direction) → entries_left xs at way ≤ length xs
+pub left_within : (xs : List OwnedEntry) (at : ℕ) (way : Direction) → entries_left xs at way ≤
+    length xs
 left_within xs at Forward = omega arith
 left_within xs at Backward = behind at (length xs)
 
-pub list_laws : IsLawful {C = ListCursor} {S = Unit {0}} (λ c _. ListHolds c.entries.items) (λ c _. IsSortedList c.entries.items) (λ _ _. Unit {0}) (λ c. entries_left c.entries.items c.at) (λ c. length c.entries.items)
+pub list_laws : IsLawful {C = ListCursor} {S = Unit {0}} (λ c _. ListHolds c.entries.items)
+    (λ c _. IsSortedList c.entries.items) (λ _ _. Unit {0}) (λ c. entries_left c.entries.items c.at)
+    (λ c. length c.entries.items)
 list_laws = record {
   itself = λ a. tt;
   through = λ a b c h k. tt;

@@ -50,9 +50,11 @@ module _ {C : Type 0} where
   IsNearest position way children n (Some k) = IsBest position way children n k
 
   -- each child stands on the first of its entries that a walk from there meets
-  abbrev pub ChildrenAreFirst : (C → Entry → Type 0) → (C → Position) → Direction → WalkStart → List C → Type 0
+  abbrev pub ChildrenAreFirst : (C → Entry → Type 0) → (C → Position) → Direction → WalkStart
+      → List C → Type 0
   ChildrenAreFirst holds position way start children =
-      EachChild (λ c. IsFirst way (λ entry. holds c entry × WalkMeets way start entry) (position c)) children
+      EachChild (λ c. IsFirst way (λ entry. holds c entry × WalkMeets way start entry) (position c))
+      children
 
   -- where this child stands, if there is one
   abbrev pub child_position : (C → Position) → Option C → Position
@@ -73,6 +75,7 @@ module _ {C : Type 0} where
   IsPlaced holds position children place.Off = Unit {0}
   IsPlaced holds position children place.Broken = Unit {0}
 
+  -- the children are sound, no two share key and number, and the union's place is so
   pub record IsMerge (holds : C → Entry → Type 0) (position : C → Position) (sound : C → Type 0)
       (children : List C) (at : Place) : Type 0 where
     pub each : EachChild sound children
@@ -83,19 +86,20 @@ module _ {C : Type 0} where
   abbrev pub merged_most : (C → ℕ) → List C → ℕ
   merged_most most children = sum_by most children + 1
 
-  -- the steps left in a direction: the children's, if they stand ahead in it
+  -- the steps left in a direction: the children's, if they stand ahead in it, and else all
   abbrev pub left_along : (C → Direction → ℕ) → (C → ℕ) → List C → Direction → Direction → ℕ
   left_along left most children Forward Forward = sum_by (λ c. left c Forward) children
   left_along left most children Forward Backward = merged_most most children
   left_along left most children Backward Forward = merged_most most children
   left_along left most children Backward Backward = sum_by (λ c. left c Backward) children
 
+  -- the steps that a union has left, by its place
   abbrev pub merged_left : (C → Direction → ℕ) → (C → ℕ) → List C → Place → Direction → ℕ
   merged_left left most children (place.On was k) way = left_along left most children was way
   merged_left left most children place.Off way = 0
   merged_left left most children place.Broken way = 0
 
--- what a move of several children keeps
+-- the effect of a move of several children
 pub record ChildrenKeep {C S : Type 0} (holds : C → S → Entry → Type 0) (is_sound : C → S → Type 0)
     (keeps : S → S → Type 0) (most : C → ℕ) (old : List C) (before : S) (new : List C) (now : S)
     : Type 0 where

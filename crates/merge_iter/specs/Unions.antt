@@ -11,76 +11,110 @@ use Rattle.merge_iter.specs.declared.place.Place.TheVariants as place
 use Rattle.kv_types.specs.{Entry}
 use Rattle.merge_iter.specs.Order.{IsAlike, IsApart}
 use Rattle.merge_iter.specs.Positions.{Position, On, Off, Broken, IsFirst, WalkStart, At, WalkMeets}
-use Rattle.merge_iter.specs.Merging.{EachChild, ChildrenKeep, AreApart, UnionHolds, IsPlaced, IsMerge, merged_left, merged_most}
+use Rattle.merge_iter.specs.Merging.{EachChild, ChildrenKeep, AreApart, UnionHolds, IsPlaced}
+use Rattle.merge_iter.specs.Merging.{IsMerge, merged_left, merged_most}
 use Rattle.merge_iter.specs.Moves.{EntriesStay, IsLawful}
 
 -- the same entries have the same first one
-pub same_first : (way : Direction) (P Q : Entry → Type 0) (s : Position) → ((p : Entry) → P p ↔ Q p) → IsFirst way P s → IsFirst way Q s
+pub same_first : (way : Direction) (P Q : Entry → Type 0) (s : Position) → ((p : Entry) → P p ↔ Q p)
+    → IsFirst way P s → IsFirst way Q s
 same_first way P Q (On q) same f = ((same q).0 f.0, λ other k c. f.1 other ((same other).1 k) c)
 same_first way P Q Off same f = λ other k. f other ((same other).1 k)
 same_first way P Q Broken same f = f
 
-pub first_kept : (way : Direction) (start : WalkStart) (s : Position) (P Q : Entry → Type 0) → IsAlike Q P → IsFirst way (λ p. P p × WalkMeets way start p) s → IsFirst way (λ p. Q p × WalkMeets way start p) s
-first_kept way start s P Q same = same_first way (λ p. P p × WalkMeets way start p) (λ p. Q p × WalkMeets way start p) s (λ p. ((λ h. ((same p).1 h.0, h.1)), (λ h. ((same p).0 h.0, h.1))))
+pub first_kept : (way : Direction) (start : WalkStart) (s : Position) (P Q : Entry → Type 0)
+    → IsAlike Q P → IsFirst way (λ p. P p × WalkMeets way start p) s → IsFirst way
+    (λ p. Q p × WalkMeets way start p) s
+first_kept way start s P Q same = same_first way (λ p. P p × WalkMeets way start p)
+    (λ p. Q p × WalkMeets way start p) s
+    (λ p. ((λ h. ((same p).1 h.0, h.1)), (λ h. ((same p).0 h.0, h.1))))
 
 -- a list of the same length has an element there too
-pub there : {C : Type 0} (xs ys : List C) (i : ℕ) (d : C) → length ys ≡ length xs → slice_get ys i ≡ Some d → (c : C) × (slice_get xs i ≡ Some c)
+pub there : {C : Type 0} (xs ys : List C) (i : ℕ) (d : C) → length ys ≡ length xs → slice_get ys i ≡
+    Some d → (c : C) × (slice_get xs i ≡ Some c)
 there xs ys i d len e = elim (slice_get_cases xs i).1 [
   | inl (x, w, is, at) ↦ (x, is)
   | inr (past, is) ↦ absurd (let w : i < length ys = slice_get_within ys i d e in omega arith)
 ]
 
 -- one place of a list has one element
-pub one : {C : Type 0} (xs : List C) (i : ℕ) (c d : C) → slice_get xs i ≡ Some c → slice_get xs i ≡ Some d → d ≡ c
+pub one : {C : Type 0} (xs : List C) (i : ℕ) (c d : C) → slice_get xs i ≡ Some c → slice_get xs i ≡
+    Some d → d ≡ c
 one xs i c d p q = let h : Some d ≡ Some c = sym q ∙ p in cc
 
 module _ {C S : Type 0} (holds : C → S → Entry → Type 0) (sound : C → S → Type 0) where
   pub stays_same : (c : C) (s : S) → EntriesStay holds sound c s c s
   stays_same c s h = (h, λ entry. ((λ x. x), (λ x. x)))
 
-  pub stays_through : (a b d : C) (s t u : S) → EntriesStay holds sound a s b t → EntriesStay holds sound b t d u → EntriesStay holds sound a s d u
+  pub stays_through : (a b d : C) (s t u : S) → EntriesStay holds sound a s b t → EntriesStay holds
+      sound b t d u → EntriesStay holds sound a s d u
   stays_through a b d s t u f g h =
       let k = f h in
-      let m = g k.0 in
-      (m.0, λ entry. ((λ x. (k.1 entry).0 ((m.1 entry).0 x)), (λ x. (m.1 entry).1 ((k.1 entry).1 x))))
+      let m = g k.0 in (
+        m.0,
+        λ entry. (
+          (λ x. (k.1 entry).0 ((m.1 entry).0 x)),
+          (λ x. (m.1 entry).1 ((k.1 entry).1 x)),
+        ),
+      )
 
-module _ {C S : Type 0} (holds : C → S → Entry → Type 0) (sound : C → S → Type 0) (keeps : S → S → Type 0) (most : C → ℕ) where
+module _ {C S : Type 0} (holds : C → S → Entry → Type 0) (sound : C → S → Type 0)
+    (keeps : S → S → Type 0) (most : C → ℕ) where
   -- all are sound where they were before
-  pub all_sound : (old new : List C) (before now : S) → ChildrenKeep holds sound keeps most old before new now → EachChild (λ c. sound c before) old → EachChild (λ c. sound c now) new
+  pub all_sound : (old new : List C) (before now : S) → ChildrenKeep holds sound keeps most old
+      before new now → EachChild (λ c. sound c before) old → EachChild (λ c. sound c now) new
   all_sound old new before now m each j c e =
       let o = there old new j c m.len e in
       (m.each j o.0 c o.1 e (each j o.0 o.1)).0
 
   -- together they hold the same entries
-  pub any_alike : (old new : List C) (before now : S) → ChildrenKeep holds sound keeps most old before new now → EachChild (λ c. sound c before) old → IsAlike (UnionHolds (λ c. holds c now) new) (UnionHolds (λ c. holds c before) old)
+  pub any_alike : (old new : List C) (before now : S) → ChildrenKeep holds sound keeps most old
+      before new now → EachChild (λ c. sound c before) old
+      → IsAlike (UnionHolds (λ c. holds c now) new) (UnionHolds (λ c. holds c before) old)
   any_alike old new before now m each entry = (
-    (λ h. let o = there old new h.0 h.1 m.len h.2 in (h.0, o.0, o.1, ((m.each h.0 o.0 h.1 o.1 h.2 (each h.0 o.0 o.1)).1 entry).0 h.3)),
-    (λ h. let o = there new old h.0 h.1 (sym m.len) h.2 in (h.0, o.0, o.1, ((m.each h.0 h.1 o.0 h.2 o.1 (each h.0 h.1 h.2)).1 entry).1 h.3)),
+    (λ h. let o = there old new h.0 h.1 m.len h.2 in
+        (h.0, o.0, o.1, ((m.each h.0 o.0 h.1 o.1 h.2 (each h.0 o.0 o.1)).1 entry).0 h.3)),
+    (λ h. let o = there new old h.0 h.1 (sym m.len) h.2 in
+        (h.0, o.0, o.1, ((m.each h.0 h.1 o.0 h.2 o.1 (each h.0 h.1 h.2)).1 entry).1 h.3)),
   )
 
-  pub all_apart : (old new : List C) (before now : S) → ChildrenKeep holds sound keeps most old before new now → EachChild (λ c. sound c before) old → AreApart (λ c. holds c before) old → AreApart (λ c. holds c now) new
+  pub all_apart : (old new : List C) (before now : S) → ChildrenKeep holds sound keeps most old
+      before new now → EachChild (λ c. sound c before) old → AreApart (λ c. holds c before) old
+      → AreApart (λ c. holds c now) new
   all_apart old new before now m each apart i j c d a b p q ha hb e =
       let o = there old new i c m.len p in
       let r = there old new j d m.len q in
-      apart i j o.0 r.0 a b o.1 r.1 (((m.each i o.0 c o.1 p (each i o.0 o.1)).1 a).0 ha) (((m.each j r.0 d r.1 q (each j r.0 r.1)).1 b).0 hb) e
+      apart i j o.0 r.0 a b o.1 r.1 (((m.each i o.0 c o.1 p (each i o.0 o.1)).1 a).0 ha)
+      (((m.each j r.0 d r.1 q (each j r.0 r.1)).1 b).0 hb) e
 
-  module _ (left : C → Direction → ℕ) (position : C → Position) (laws : IsLawful holds sound keeps left most) where
+  module _ (left : C → Direction → ℕ) (position : C → Position) (laws : IsLawful holds sound keeps
+      left most) where
     none_moved : (xs : List C) (a b : S) → keeps a b → ChildrenKeep holds sound keeps most xs a xs b
     none_moved xs a b k = record {
       source = k;
       len = refl;
       size = refl;
-      each = λ i c d p q. subst (λ x. EntriesStay holds sound c a x b) (sym (one xs i c d p q)) (laws.stays c a b k);
+      each = λ i c d p q. subst (λ x. EntriesStay holds sound c a x b) (sym (one xs i c d p q))
+          (laws.stays c a b k);
     }
 
-    placed_on : (xs : List C) (a b : S) → keeps a b → EachChild (λ c. sound c a) xs → (at : Place) → IsPlaced (λ c. holds c a) position xs at → IsPlaced (λ c. holds c b) position xs at
-    placed_on xs a b k each (place.On way n) p =
-        (p.0, p.1, p.2, p.3, λ i c e. first_kept way (At p.1) (position c) (holds c a) (holds c b) (laws.stays c a b k (each i c e)).1 (p.4 i c e))
+    placed_on : (xs : List C) (a b : S) → keeps a b → EachChild (λ c. sound c a) xs → (at : Place)
+        → IsPlaced (λ c. holds c a) position xs at → IsPlaced (λ c. holds c b) position xs at
+    placed_on xs a b k each (place.On way n) p = (
+      p.0,
+      p.1,
+      p.2,
+      p.3,
+      λ i c e. first_kept way (At p.1) (position c) (holds c a) (holds c b)
+          (laws.stays c a b k (each i c e)).1 (p.4 i c e),
+    )
     placed_on xs a b k each place.Off p = tt
     placed_on xs a b k each place.Broken p = tt
 
-    merged_stays : (xs : List C) (at : Place) (a b : S) → keeps a b → IsMerge (λ c. holds c a) position (λ c. sound c a) xs at
-        → IsMerge (λ c. holds c b) position (λ c. sound c b) xs at × IsAlike (UnionHolds (λ c. holds c b) xs) (UnionHolds (λ c. holds c a) xs)
+    merged_stays : (xs : List C) (at : Place) (a b : S) → keeps a b → IsMerge (λ c. holds c a)
+        position (λ c. sound c a) xs at
+        → IsMerge (λ c. holds c b) position (λ c. sound c b) xs at
+        × IsAlike (UnionHolds (λ c. holds c b) xs) (UnionHolds (λ c. holds c a) xs)
     merged_stays xs at a b k m =
         let moved = none_moved xs a b k in (
           record {
@@ -91,25 +125,31 @@ module _ {C S : Type 0} (holds : C → S → Entry → Type 0) (sound : C → S 
           any_alike xs xs a b moved m.each,
         )
 
-    merged_apart : (xs : List C) (at : Place) (a : S) → IsMerge (λ c. holds c a) position (λ c. sound c a) xs at → IsApart (UnionHolds (λ c. holds c a) xs)
+    merged_apart : (xs : List C) (at : Place) (a : S) → IsMerge (λ c. holds c a) position
+        (λ c. sound c a) xs at → IsApart (UnionHolds (λ c. holds c a) xs)
     merged_apart xs at a m p q hp hq e =
         let i : hp.0 ≡ hq.0 = m.apart hp.0 hq.0 hp.1 hq.1 p q hp.2 hq.2 hp.3 hq.3 e in
-        let c : hp.1 ≡ hq.1 = one xs hq.0 hq.1 hp.1 hq.2 (subst (λ n. slice_get xs n ≡ Some hp.1) i hp.2) in
+        let c : hp.1 ≡ hq.1 = one xs hq.0 hq.1 hp.1 hq.2 (subst (λ n. slice_get xs n ≡ Some hp.1) i
+        hp.2) in
         laws.apart hq.1 a (m.each hq.0 hq.1 hq.2) p q (subst (λ d. holds d a p) c hp.3) hq.3 e
 
     left_all : (way : Direction) (xs : List C) → sum_by (λ c. left c way) xs ≤ sum_by most xs
     left_all way xs = sum_by-le-sum_by (λ c. left c way) most xs (λ c. laws.within c way)
 
-    merged_within : (xs : List C) (at : Place) (way : Direction) → merged_left left most xs at way ≤ merged_most most xs
+    merged_within : (xs : List C) (at : Place) (way : Direction) → merged_left left most xs at way ≤
+        merged_most most xs
     merged_within xs (place.On Forward k) Forward = let h = left_all Forward xs in omega (arith, h)
     merged_within xs (place.On Forward k) Backward = omega arith
     merged_within xs (place.On Backward k) Forward = omega arith
-    merged_within xs (place.On Backward k) Backward = let h = left_all Backward xs in omega (arith, h)
+    merged_within xs (place.On Backward k) Backward = let h = left_all Backward xs in
+        omega (arith, h)
     merged_within xs place.Off way = omega arith
     merged_within xs place.Broken way = omega arith
 
     pub merged_laws : {M : Type 0} (children : M → List C) (at : M → Place)
-        → IsLawful {C = M} (λ m s. UnionHolds (λ c. holds c s) (children m)) (λ m s. IsMerge (λ c. holds c s) position (λ c. sound c s) (children m) (at m)) keeps (λ m. merged_left left most (children m) (at m)) (λ m. merged_most most (children m))
+        → IsLawful {C = M} (λ m s. UnionHolds (λ c. holds c s) (children m))
+        (λ m s. IsMerge (λ c. holds c s) position (λ c. sound c s) (children m) (at m)) keeps
+        (λ m. merged_left left most (children m) (at m)) (λ m. merged_most most (children m))
     merged_laws children at = record {
       itself = laws.itself;
       through = laws.through;

@@ -1,5 +1,6 @@
 -- Of the entries of a set, those that are shown at a number.
-use Rattle.std.specs.Prelude.{◌≡◌, ◌⊎◌, ℕ, ◌+◌, ◌<◌, ◌≤◌, List, None, IsSome, Result, IfOk, Bool, true, false, IsTrue}
+use Rattle.std.specs.Prelude.{◌≡◌, ◌⊎◌, ℕ, ◌+◌, ◌<◌, ◌≤◌, List, None, IsSome, Result, IfOk, Bool}
+use Rattle.std.specs.Prelude.{true, false, IsTrue}
 use Rattle.std.specs.declared.cmp.Ordering.TheVariants.{Equal}
 use Rattle.merge_iter.specs.declared.direction.Direction.{Direction}
 use Rattle.merge_iter.specs.declared.direction.Direction.TheVariants.{Forward, Backward}
@@ -8,7 +9,8 @@ use Rattle.merge_iter.specs.declared.mode.Mode.{Mode}
 use Rattle.merge_iter.specs.declared.mode.Mode.TheVariants as mode
 use Rattle.kv_types.specs.{Entry, IsSeen, IsShown}
 use Rattle.merge_iter.specs.Order.{entry_cmp, EntryPrecedes}
-use Rattle.merge_iter.specs.Positions.{Position, On, Off, Broken, WalkStart, After, WalkMeets, IsFirst}
+use Rattle.merge_iter.specs.Positions.{Position, On, Off, Broken, WalkStart, After, WalkMeets}
+use Rattle.merge_iter.specs.Positions.{IsFirst}
 
 -- ---- on the way of a walk
 
@@ -25,11 +27,11 @@ abbrev pub IsHidden : Bool → List ℕ → List ℕ → Type 0
 IsHidden hides hidden key = IsTrue hides × (hidden ≡ key)
 
 -- a walk forward meets the newest entry of a key first: where it was passed, the key is hidden
-pub record IsAhead (at : ℕ) (entries : Entry → Type 0) (start : WalkStart) (hidden : List ℕ → Type 0)
-    (s : Position) : Type 0 where
+pub record IsAhead (at : ℕ) (entries : Entry → Type 0) (start : WalkStart)
+    (hidden : List ℕ → Type 0) (s : Position) : Type 0 where
   pub before : IsBefore Forward at entries start s
-  pub passed : (entry q : Entry) → s ≡ On entry → IsSeen at entries q → EntryPrecedes Forward q entry →
-      q.key ≡ entry.key → hidden entry.key
+  pub passed : (entry q : Entry) → s ≡ On entry → IsSeen at entries q →
+      EntryPrecedes Forward q entry → q.key ≡ entry.key → hidden entry.key
   pub none : (key : List ℕ) (p : Entry) → hidden key → IsShown at entries p →
       WalkMeets Forward start p → p.key ≡ key → ⊥
 
@@ -41,14 +43,15 @@ IsPassed q Broken = ⊥
 
 -- a walk back meets the newest entry of a key last: this one is the newest of its key that was
 -- passed, and no other entry that was passed is shown
-pub record IsCandidate (at : ℕ) (entries : Entry → Type 0) (start : WalkStart) (it : Entry) (s : Position)
-    : Type 0 where
+pub record IsCandidate (at : ℕ) (entries : Entry → Type 0) (start : WalkStart) (it : Entry)
+    (s : Position) : Type 0 where
   pub seen : IsSeen at entries it
   pub put : IsSome it.value
   pub from : WalkMeets Backward start it
   pub passed : IsPassed it s
   pub among : (entry : Entry) → s ≡ On entry → entries entry
-  pub newest : (q : Entry) → IsSeen at entries q → q.key ≡ it.key → IsPassed q s → q.number ≤ it.number
+  pub newest : (q : Entry) → IsSeen at entries q → q.key ≡ it.key → IsPassed q s →
+      q.number ≤ it.number
   pub alone : (p : Entry) → IsShown at entries p → WalkMeets Backward start p → IsPassed p s →
       entry_cmp p it ≡ Equal
 
@@ -65,15 +68,17 @@ view_position mode.Kept inner kept = On kept
 abbrev pub IsSettled : ℕ → (Entry → Type 0) → Mode → Position → Entry → Type 0
 IsSettled at entries mode.Off inner kept = Unit {0}
 IsSettled at entries mode.Broken inner kept = Unit {0}
-IsSettled at entries mode.Inner inner kept = (entry : Entry) × (inner ≡ On entry) × IsShown at entries entry
+IsSettled at entries mode.Inner inner kept =
+    (entry : Entry) × (inner ≡ On entry) × IsShown at entries entry
 IsSettled at entries mode.Kept inner kept =
     IsShown at entries kept × IsBefore Backward at entries (After kept) inner
 
 -- a search ends on the first entry from the start on that is shown
-abbrev pub IsFound : Direction → ℕ → (Entry → Type 0) → WalkStart → Result Mode CursorError → Position →
-    Entry → Type 0
+abbrev pub IsFound : Direction → ℕ → (Entry → Type 0) → WalkStart → Result Mode CursorError →
+    Position → Entry → Type 0
 IsFound way at entries start result inner kept = IfOk result (λ mode.
-    IsFirst way (λ entry. IsShown at entries entry × WalkMeets way start entry) (view_position mode inner kept)
+    IsFirst way (λ entry. IsShown at entries entry × WalkMeets way start entry)
+    (view_position mode inner kept)
     × IsSettled at entries mode inner kept)
 
 -- the steps left in a direction, of those that the inner cursor has
@@ -92,7 +97,7 @@ IsForward mode.Kept = ⊥
 IsForward mode.Off = Unit {0}
 IsForward mode.Broken = ⊥
 
--- ---- what one look at an entry makes of it
+-- ---- the outcome of a look at one entry
 
 -- Forward, the entry is shown; or it is too new, or of a key that is hidden; or it is a deletion,
 -- whose key is hidden from here on.
@@ -100,7 +105,8 @@ abbrev pub IsJudged : ℕ → Bool → List ℕ → Entry → Bool → List ℕ 
 IsJudged at hides hidden entry hides' hidden' true =
     (entry.number ≤ at) × (IsHidden hides hidden entry.key → ⊥) × IsSome entry.value
 IsJudged at hides hidden entry hides' hidden' false =
-    (((at < entry.number) ⊎ IsHidden hides hidden entry.key) × (hides' ≡ hides) × (hidden' ≡ hidden))
+    (((at < entry.number) ⊎ IsHidden hides hidden entry.key) × (hides' ≡ hides)
+    × (hidden' ≡ hidden))
     ⊎ ((entry.number ≤ at) × (IsHidden hides hidden entry.key → ⊥) × (entry.value ≡ None)
     × IsTrue hides' × (hidden' ≡ entry.key))
 
@@ -108,13 +114,15 @@ IsJudged at hides hidden entry hides' hidden' false =
 -- what was kept of its key, as a value or as a deletion.
 abbrev pub IsJudgedBack : ℕ → Bool → Entry → Entry → Bool → Entry → Bool → Type 0
 IsJudgedBack at found kept entry found' kept' true =
-    (entry.number ≤ at) × IsTrue found × (kept.key ≡ entry.key → ⊥) × (found' ≡ found) × (kept' ≡ kept)
+    (entry.number ≤ at) × IsTrue found × (kept.key ≡ entry.key → ⊥) × (found' ≡ found)
+    × (kept' ≡ kept)
 IsJudgedBack at found kept entry found' kept' false =
     ((at < entry.number) × (found' ≡ found) × (kept' ≡ kept))
     ⊎ ((entry.number ≤ at) × (IsTrue found → kept.key ≡ entry.key)
-    × (((entry.value ≡ None) × (found' ≡ false)) ⊎ (IsSome entry.value × (found' ≡ true) × (kept' ≡ entry))))
+    × (((entry.value ≡ None) × (found' ≡ false)) ⊎ (IsSome entry.value × (found' ≡ true)
+    × (kept' ≡ entry))))
 
--- how far a walk back has come, with an entry kept or not
+-- the state of a walk back, with an entry kept or not
 abbrev pub IsOnTheWay : Bool → ℕ → (Entry → Type 0) → WalkStart → Entry → Position → Type 0
 IsOnTheWay true at entries start kept s = IsCandidate at entries start kept s
 IsOnTheWay false at entries start kept s = IsBefore Backward at entries start s

@@ -1,5 +1,4 @@
-//! The entries that are visible at a number.
-
+//! The entries that the view at a number shows.
 ghost use Rattle.std.specs.Prelude.{◌≡◌, ◌+◌};
 ghost use Rattle.merge_iter.specs.Order.{IsAlike};
 ghost use Rattle.merge_iter.specs.Positions.{Off};
@@ -16,11 +15,12 @@ use crate::mode::Mode;
 use crate::turns::{first_shown, last_shown, next_shown, prev_shown, seek_shown};
 use std::alloc::Global;
 
-/// Of each key the entry of the greatest number that is at most `at`, if it is no deletion.
+/// The entries of a cursor that the view at a number shows: of each key the newest with at most
+/// that number, if it is no deletion.
 ///
-/// Walking forward it stands on the entry of the cursor below, which lends it. A walk back meets the
-/// newest entry of a key last: the entry is known to be shown once the cursor below has left its key,
-/// so it is kept, and lent from there.
+/// Walking forward it stands on the entry of the cursor below, which lends it. A walk back meets
+/// the newest entry of a key last: only behind the key is it known which entry is shown. So that
+/// entry is kept in memory of this cursor, and lent from there.
 #[derive(Drop)]
 pub struct AtNumber<C> {
     inner: C,
@@ -30,12 +30,16 @@ pub struct AtNumber<C> {
 }
 
 impl<C: Cursor> AtNumber<C> {
-    /// The entries of this cursor that are visible at the number. It stands on none.
+    /// The entries of this cursor that the view at the number shows. It stands on none.
     pub fn new(alloc: Global, inner: C, at: u64) -> Self
         ensures off { ⟦<AtNumber<C> as Cursor>⟧.position result ≡ Off }
-        ensures sound { (source : C.Source) → C.is_sound inner source → ⟦<AtNumber<C> as Cursor>⟧.is_sound result source }
-        ensures entries { (source : C.Source) → IsAlike (⟦<AtNumber<C> as Cursor>⟧.holds result source) (IsShown at (C.holds inner source)) }
-        ensures view { (source : C.Source) → C.is_sound inner source → IsView at (C.holds inner source) (⟦<AtNumber<C> as Cursor>⟧.holds result source) }
+        ensures sound { (source : C.Source) → C.is_sound inner source →
+            ⟦<AtNumber<C> as Cursor>⟧.is_sound result source }
+        ensures entries { (source : C.Source) →
+            IsAlike (⟦<AtNumber<C> as Cursor>⟧.holds result source)
+            (IsShown at (C.holds inner source)) }
+        ensures view { (source : C.Source) → C.is_sound inner source →
+            IsView at (C.holds inner source) (⟦<AtNumber<C> as Cursor>⟧.holds result source) }
     {
         AtNumber {
             inner,
@@ -53,7 +57,8 @@ impl<C: Cursor> Cursor for AtNumber<C> {
 
     ghost holds = { λ a source. IsShown a.at (C.holds a.inner source) };
 
-    ghost is_sound = { λ a source. C.is_sound a.inner source × IsSettled a.at (C.holds a.inner source) a.mode (C.position a.inner) (kept_entry a.kept) };
+    ghost is_sound = { λ a source. C.is_sound a.inner source × IsSettled a.at
+        (C.holds a.inner source) a.mode (C.position a.inner) (kept_entry a.kept) };
 
     ghost keeps = { C.keeps };
 
@@ -144,5 +149,6 @@ impl<C: Cursor> Cursor for AtNumber<C> {
         Ok(())
     }
 
-    ghost laws = { at_laws C.holds C.is_sound C.keeps C.left C.most C.position C.laws (λ a. a.inner) (λ a. a.at) (λ a. a.mode) (λ a. kept_entry a.kept) };
+    ghost laws = { at_laws C.holds C.is_sound C.keeps C.left C.most C.position C.laws (λ a. a.inner)
+        (λ a. a.at) (λ a. a.mode) (λ a. kept_entry a.kept) };
 }

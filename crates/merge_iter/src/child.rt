@@ -1,23 +1,25 @@
 //! One cursor, moved in either direction.
-
 ghost use Rattle.std.specs.Prelude.{◌≡◌, ◌↔◌, ◌<◌, IsTrue, IsErr, OnOk};
 ghost use Rattle.kv_types.specs.{Entry};
 ghost use Rattle.merge_iter.specs.Order.{EntryPrecedes};
-ghost use Rattle.merge_iter.specs.Positions.{AtEnd, At, After, WalkMeets, IsOn, IfOn, IsBroken, IsFirst};
-ghost use Rattle.merge_iter.specs.Moves.{CanStep, MoveFinds, MoveKeeps, ErrorCauses};
+ghost use Rattle.merge_iter.specs.Positions.{AtEnd, At, After, WalkMeets, IsOn, IfOn, IsBroken};
+ghost use Rattle.merge_iter.specs.Positions.{IsFirst};
+ghost use Rattle.merge_iter.specs.Moves.{CanStep, MoveFinds};
 ghost use Rattle.merge_iter.specs.Merging.{IsOpposite};
 ghost use Rattle.merge_iter.specs.declared.direction.Direction.{Direction as Way};
+ghost use Rattle.merge_iter.specs.LentCursors.{KeepsCursor, RefusesMove};
 
 use crate::cursor::Cursor;
 use crate::direction::Direction;
 use crate::error::CursorError;
 use crate::order::order;
 
-/// Whether a walk in this direction meets the entry of the one before the entry of the other.
+/// Whether a walk in this direction meets the entry of `one` before that of `other`.
 pub fn precedes<C: Cursor>(way: Direction, one: &C, other: &C) -> bool
     requires one_on { IsOn (C.position one.now) }
     requires other_on { IsOn (C.position other.now) }
-    ensures { IfOn (C.position one.now) (λ a. IfOn (C.position other.now) (λ b. IsTrue result ↔ EntryPrecedes way a b)) }
+    ensures { IfOn (C.position one.now) (λ a. IfOn (C.position other.now)
+        (λ b. IsTrue result ↔ EntryPrecedes way a b)) }
 {
     match way {
         Direction::Forward => {
@@ -31,20 +33,22 @@ pub fn precedes<C: Cursor>(way: Direction, one: &C, other: &C) -> bool
     }
 }
 
-/// To the next entry in this direction.
+/// Steps to the next entry in this direction.
 pub fn step<C: Cursor>(
     child: &mut C,
     way: Direction,
     source: &mut C::Source,
 ) -> Result<(), CursorError>
     requires { CanStep (C.position child.old) }
-    ensures moves { MoveKeeps C.holds C.is_sound C.keeps C.most child.old source.old child.new source.new }
-    ensures causes { ErrorCauses (C.is_sound child.old source.old) (IsBroken (C.position child.old))
-        (C.failures source.old) (C.failures source.new) result }
+    ensures moves { KeepsCursor C.Cursor child.old source.old child.new source.new }
+    ensures causes { RefusesMove C.Cursor (C.is_sound child.old source.old)
+        (IsBroken (C.position child.old)) source.old source.new result }
     ensures broken { IsErr result ↔ IsBroken (C.position child.new) }
     ensures ends { OnOk result (C.left child.new way < C.left child.old way) }
-    ensures finds { C.is_sound child.old source.old → IfOn (C.position child.old) (λ entry.
-        MoveFinds way (After entry) (C.holds child.old source.old) result (C.position child.new)) }
+    ensures finds { C.is_sound child.old source.old →
+        IfOn (C.position child.old)
+        (λ entry. MoveFinds way (After entry) (C.holds child.old source.old) result
+        (C.position child.new)) }
 {
     match way {
         Direction::Forward => child.next(source),
@@ -52,15 +56,15 @@ pub fn step<C: Cursor>(
     }
 }
 
-/// To the end where a walk in this direction begins.
+/// Moves to the first entry of a walk in this direction.
 pub fn start<C: Cursor>(
     child: &mut C,
     way: Direction,
     source: &mut C::Source,
 ) -> Result<(), CursorError>
-    ensures moves { MoveKeeps C.holds C.is_sound C.keeps C.most child.old source.old child.new source.new }
-    ensures causes { ErrorCauses (C.is_sound child.old source.old) ⊥
-        (C.failures source.old) (C.failures source.new) result }
+    ensures moves { KeepsCursor C.Cursor child.old source.old child.new source.new }
+    ensures causes { RefusesMove C.Cursor (C.is_sound child.old source.old) ⊥ source.old source.new
+        result }
     ensures broken { IsErr result ↔ IsBroken (C.position child.new) }
     ensures finds { C.is_sound child.old source.old →
         MoveFinds way AtEnd (C.holds child.old source.old) result (C.position child.new) }
@@ -71,18 +75,20 @@ pub fn start<C: Cursor>(
     }
 }
 
-/// Turns a cursor round: one that stood on its first entry from an entry on in one direction stands on
-/// its first behind that entry in the other.
+/// Turns a cursor round: from its first entry at or ahead of an entry in one direction to its first
+/// one ahead of that entry in the other.
 pub fn turn<C: Cursor>(
     child: &mut C,
     way: Direction,
     source: &mut C::Source,
 ) -> Result<(), CursorError>
-    ensures moves { MoveKeeps C.holds C.is_sound C.keeps C.most child.old source.old child.new source.new }
-    ensures causes { ErrorCauses (C.is_sound child.old source.old) ⊥
-        (C.failures source.old) (C.failures source.new) result }
-    ensures turns { (was : Way) (entry : Entry) → IsOpposite was way → C.is_sound child.old source.old →
-        IsFirst was (λ p. C.holds child.old source.old p × WalkMeets was (At entry) p) (C.position child.old) →
+    ensures moves { KeepsCursor C.Cursor child.old source.old child.new source.new }
+    ensures causes { RefusesMove C.Cursor (C.is_sound child.old source.old) ⊥ source.old source.new
+        result }
+    ensures turns { (was : Way) (entry : Entry) → IsOpposite was way →
+        C.is_sound child.old source.old →
+        IsFirst was (λ p. C.holds child.old source.old p × WalkMeets was (At entry) p)
+        (C.position child.old) →
         MoveFinds way (After entry) (C.holds child.old source.old) result (C.position child.new) }
 {
     if child.valid() {

@@ -1,15 +1,16 @@
 //! Several cursors, moved together.
-
 ghost use Rattle.std.specs.Prelude.{◌≡◌, ◌↔◌, ℕ, ◌<◌, ◌≤◌, ◌+◌, IsTrue, OnOk, vec_len, Some};
 ghost use Rattle.std.specs.List.{slice_get, sum_by};
 ghost use Rattle.kv_types.specs.{Entry};
 ghost use Rattle.merge_iter.specs.Order.{spot};
-ghost use Rattle.merge_iter.specs.Positions.{WalkStart, AtEnd, At, After, WalkMeets, On, IsOn, IsFirst, IsBroken};
-ghost use Rattle.merge_iter.specs.Moves.{CanStep, ErrorCauses};
-ghost use Rattle.merge_iter.specs.Merging.{IsNearest, EachChild, ChildrenKeep, ChildrenAreFirst, IsOpposite, AreApart};
-ghost use Rattle.merge_iter.specs.Merging.{UnionHolds, IsPlaced, union_position, left_along, merged_left};
+ghost use Rattle.merge_iter.specs.Positions.{WalkStart, AtEnd, At, After, WalkMeets, On, IsOn};
+ghost use Rattle.merge_iter.specs.Positions.{IsFirst, IsBroken};
+ghost use Rattle.merge_iter.specs.Merging.{IsNearest, IsOpposite};
+ghost use Rattle.merge_iter.specs.Merging.{IsPlaced, union_position, left_along, merged_left};
 ghost use Rattle.merge_iter.specs.declared.direction.Direction.{Direction as Way};
 ghost use Rattle.merge_iter.specs.declared.direction.Direction.TheVariants.{Forward};
+ghost use Rattle.merge_iter.specs.LentCursors.{AreDisjoint, AreFirst, AreSound, KeepsChildren};
+ghost use Rattle.merge_iter.specs.LentCursors.{RefusesMove, union_of};
 
 use crate::child::{precedes, start, step, turn};
 use crate::cursor::Cursor;
@@ -17,7 +18,7 @@ use crate::direction::Direction;
 use crate::error::CursorError;
 use crate::place::Place;
 
-// The nearest of one child more.
+// The nearest of the first children, with child `i` as one more of them.
 fn nearer<C: Cursor>(
     children: &Vec<C>,
     way: Direction,
@@ -57,10 +58,12 @@ fn nearest<C: Cursor>(children: &Vec<C>, way: Direction) -> Option<usize>
 /// Where the union stands, once each child stands on its first entry from the start on.
 pub fn settle<C: Cursor>(children: &Vec<C>, way: Direction) -> Place
     ensures settles { (start : WalkStart) (source : C.Source) →
-        ChildrenAreFirst (λ c. C.holds c source) C.position way start children.now.items →
-        IsFirst way (λ p. UnionHolds (λ c. C.holds c source) children.now.items p × WalkMeets way start p) (union_position C.position children.now.items result)
+        AreFirst C.Cursor way start children.now.items source →
+        IsFirst way (λ p. union_of C.Cursor children.now.items source p × WalkMeets way start p)
+        (union_position C.position children.now.items result)
         × IsPlaced (λ c. C.holds c source) C.position children.now.items result }
-    ensures left { merged_left C.left C.most children.now.items result way ≤ sum_by (λ c. C.left c way) children.now.items }
+    ensures left { merged_left C.left C.most children.now.items result way
+        ≤ sum_by (λ c. C.left c way) children.now.items }
     ensures unbroken { IsBroken (union_position C.position children.now.items result) → ⊥ }
 {
     match nearest(children, way) {
@@ -69,17 +72,18 @@ pub fn settle<C: Cursor>(children: &Vec<C>, way: Direction) -> Place
     }
 }
 
-/// Puts every cursor at the end where a walk in this direction begins.
+/// Moves each child to the first entry of a walk in this direction.
 pub fn start_all<C: Cursor>(
     children: &mut Vec<C>,
     way: Direction,
     source: &mut C::Source,
 ) -> Result<(), CursorError>
-    ensures moves { ChildrenKeep C.holds C.is_sound C.keeps C.most children.old.items source.old children.new.items source.new }
-    ensures causes { ErrorCauses (EachChild (λ c. C.is_sound c source.old) children.old.items) ⊥
-        (C.failures source.old) (C.failures source.new) result }
-    ensures finds { EachChild (λ c. C.is_sound c source.old) children.old.items →
-        OnOk result (ChildrenAreFirst (λ c. C.holds c source.new) C.position way AtEnd children.new.items) }
+    ensures moves { KeepsChildren C.Cursor children.old.items source.old children.new.items
+        source.new }
+    ensures causes { RefusesMove C.Cursor (AreSound C.Cursor children.old.items source.old) ⊥
+        source.old source.new result }
+    ensures finds { AreSound C.Cursor children.old.items source.old →
+        OnOk result (AreFirst C.Cursor way AtEnd children.new.items source.new) }
 {
     for i in 0..children.len() {
         start(&mut children[i], way, source)?;
@@ -87,18 +91,20 @@ pub fn start_all<C: Cursor>(
     Ok(())
 }
 
-/// Puts every cursor on its first entry from the spot on.
+/// Moves each child to its first entry from this key and number on.
 pub fn seek_all<C: Cursor>(
     children: &mut Vec<C>,
     source: &mut C::Source,
     key: &[u8],
     number: u64,
 ) -> Result<(), CursorError>
-    ensures moves { ChildrenKeep C.holds C.is_sound C.keeps C.most children.old.items source.old children.new.items source.new }
-    ensures causes { ErrorCauses (EachChild (λ c. C.is_sound c source.old) children.old.items) ⊥
-        (C.failures source.old) (C.failures source.new) result }
-    ensures finds { EachChild (λ c. C.is_sound c source.old) children.old.items →
-        OnOk result (ChildrenAreFirst (λ c. C.holds c source.new) C.position Forward (At (spot key.now number)) children.new.items) }
+    ensures moves { KeepsChildren C.Cursor children.old.items source.old children.new.items
+        source.new }
+    ensures causes { RefusesMove C.Cursor (AreSound C.Cursor children.old.items source.old) ⊥
+        source.old source.new result }
+    ensures finds { AreSound C.Cursor children.old.items source.old →
+        OnOk result (AreFirst C.Cursor Forward (At (spot key.now number)) children.new.items
+        source.new) }
 {
     for i in 0..children.len() {
         children[i].seek(source, key, number)?;
@@ -106,19 +112,21 @@ pub fn seek_all<C: Cursor>(
     Ok(())
 }
 
-/// Turns every cursor round.
+/// Turns each child round: from its first entry at or ahead of an entry in one direction to its
+/// first one ahead of that entry in the other.
 pub fn turn_all<C: Cursor>(
     children: &mut Vec<C>,
     way: Direction,
     source: &mut C::Source,
 ) -> Result<(), CursorError>
-    ensures moves { ChildrenKeep C.holds C.is_sound C.keeps C.most children.old.items source.old children.new.items source.new }
-    ensures causes { ErrorCauses (EachChild (λ c. C.is_sound c source.old) children.old.items) ⊥
-        (C.failures source.old) (C.failures source.new) result }
+    ensures moves { KeepsChildren C.Cursor children.old.items source.old children.new.items
+        source.new }
+    ensures causes { RefusesMove C.Cursor (AreSound C.Cursor children.old.items source.old) ⊥
+        source.old source.new result }
     ensures turns { (was : Way) (entry : Entry) → IsOpposite was way →
-        EachChild (λ c. C.is_sound c source.old) children.old.items →
-        ChildrenAreFirst (λ c. C.holds c source.old) C.position was (At entry) children.old.items →
-        OnOk result (ChildrenAreFirst (λ c. C.holds c source.new) C.position way (After entry) children.new.items) }
+        AreSound C.Cursor children.old.items source.old →
+        AreFirst C.Cursor was (At entry) children.old.items source.old →
+        OnOk result (AreFirst C.Cursor way (After entry) children.new.items source.new) }
 {
     for i in 0..children.len() {
         turn(&mut children[i], way, source)?;
@@ -135,20 +143,22 @@ fn step_at<C: Cursor>(
 ) -> Result<(), CursorError>
     requires room { k < vec_len children.old }
     requires on { (c : C) → slice_get children.old.items k ≡ Some c → IsOn (C.position c) }
-    ensures moves { ChildrenKeep C.holds C.is_sound C.keeps C.most children.old.items source.old children.new.items source.new }
-    ensures causes { ErrorCauses (EachChild (λ c. C.is_sound c source.old) children.old.items) ⊥
-        (C.failures source.old) (C.failures source.new) result }
-    ensures ends { OnOk result (sum_by (λ c. C.left c way) children.new.items < sum_by (λ c. C.left c way) children.old.items) }
-    ensures ahead { (c : C) (entry : Entry) → slice_get children.old.items k ≡ Some c → C.position c ≡ On entry →
-        AreApart (λ d. C.holds d source.old) children.old.items →
-        EachChild (λ d. C.is_sound d source.old) children.old.items →
-        ChildrenAreFirst (λ d. C.holds d source.old) C.position way (At entry) children.old.items →
-        OnOk result (ChildrenAreFirst (λ d. C.holds d source.new) C.position way (After entry) children.new.items) }
+    ensures moves { KeepsChildren C.Cursor children.old.items source.old children.new.items
+        source.new }
+    ensures causes { RefusesMove C.Cursor (AreSound C.Cursor children.old.items source.old) ⊥
+        source.old source.new result }
+    ensures ends { OnOk result (sum_by (λ c. C.left c way) children.new.items
+        < sum_by (λ c. C.left c way) children.old.items) }
+    ensures ahead { (c : C) (entry : Entry) → slice_get children.old.items k ≡ Some c →
+        C.position c ≡ On entry → AreDisjoint C.Cursor children.old.items source.old →
+        AreSound C.Cursor children.old.items source.old →
+        AreFirst C.Cursor way (At entry) children.old.items source.old →
+        OnOk result (AreFirst C.Cursor way (After entry) children.new.items source.new) }
 {
     step(&mut children[k], way, source)
 }
 
-// Whether two directions are one.
+// Whether two directions are equal.
 fn is_same(one: Direction, other: Direction) -> bool
     ensures same { IsTrue result ↔ one ≡ other }
     ensures turned { (IsTrue result → ⊥) → IsOpposite one other }
@@ -165,7 +175,7 @@ fn is_same(one: Direction, other: Direction) -> bool
     }
 }
 
-/// Brings every cursor past the entry that child `k` stands on.
+/// Moves each child to its first entry ahead of the one that child `k` stands on.
 pub fn advance<C: Cursor>(
     children: &mut Vec<C>,
     was: Direction,
@@ -175,15 +185,17 @@ pub fn advance<C: Cursor>(
 ) -> Result<(), CursorError>
     requires room { k < vec_len children.old }
     requires on { (c : C) → slice_get children.old.items k ≡ Some c → IsOn (C.position c) }
-    ensures moves { ChildrenKeep C.holds C.is_sound C.keeps C.most children.old.items source.old children.new.items source.new }
-    ensures causes { ErrorCauses (EachChild (λ c. C.is_sound c source.old) children.old.items) ⊥
-        (C.failures source.old) (C.failures source.new) result }
-    ensures ends { OnOk result (sum_by (λ c. C.left c way) children.new.items < left_along C.left C.most children.old.items was way) }
-    ensures ahead { (c : C) (entry : Entry) → slice_get children.old.items k ≡ Some c → C.position c ≡ On entry →
-        AreApart (λ d. C.holds d source.old) children.old.items →
-        EachChild (λ d. C.is_sound d source.old) children.old.items →
-        ChildrenAreFirst (λ d. C.holds d source.old) C.position was (At entry) children.old.items →
-        OnOk result (ChildrenAreFirst (λ d. C.holds d source.new) C.position way (After entry) children.new.items) }
+    ensures moves { KeepsChildren C.Cursor children.old.items source.old children.new.items
+        source.new }
+    ensures causes { RefusesMove C.Cursor (AreSound C.Cursor children.old.items source.old) ⊥
+        source.old source.new result }
+    ensures ends { OnOk result (sum_by (λ c. C.left c way) children.new.items
+        < left_along C.left C.most children.old.items was way) }
+    ensures ahead { (c : C) (entry : Entry) → slice_get children.old.items k ≡ Some c →
+        C.position c ≡ On entry → AreDisjoint C.Cursor children.old.items source.old →
+        AreSound C.Cursor children.old.items source.old →
+        AreFirst C.Cursor was (At entry) children.old.items source.old →
+        OnOk result (AreFirst C.Cursor way (After entry) children.new.items source.new) }
 {
     if is_same(was, way) {
         step_at(children, k, way, source)

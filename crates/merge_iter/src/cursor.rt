@@ -1,5 +1,4 @@
 //! What each cursor does.
-
 ghost use Rattle.std.specs.Prelude.{◌≡◌, ◌↔◌, ◌<◌, ℕ, IsTrue, IsErr, OnOk, option_map};
 ghost use Rattle.kv_types.specs.{Entry};
 ghost use Rattle.merge_iter.specs.Order.{spot};
@@ -10,21 +9,27 @@ ghost use Rattle.merge_iter.specs.declared.direction.Direction.TheVariants.{Forw
 
 use crate::error::CursorError;
 
-/// A place in a sorted set of entries. Keys rise, and in one key numbers fall. The source, which the
-/// entries may be read from, is lent at each move.
+/// A place in a sorted set of entries: keys rise, and the numbers of one key fall.
+///
+/// A cursor stands on an entry, on none, or on none since a refusal. Each move is lent the source
+/// that the entries are read from. An error of a move says why: `Disk` only where the device behind
+/// the source failed in this call, `Damaged` only where the source is not what the cursor was made
+/// for, `Failed` exactly where `next` or `prev` is called behind a refusal. Any move may answer
+/// `Memory`. After an error the cursor stands on no entry.
 pub trait Cursor {
+    /// What the entries are read from; `()` where they are in memory.
     type Source;
 
-    /// Where it stands.
+    /// Where the cursor stands.
     ghost position: { Self → Position };
 
     /// The entries that it goes through, over this source.
     ghost holds: { Self → Self.Source → Entry → Type 0 };
 
-    /// The source is what the cursor was made for. No clause on entries says anything without it.
+    /// The source is what the cursor was made for. Each clause on entries has this as its premise.
     ghost is_sound: { Self → Self.Source → Type 0 };
 
-    /// The second source is the first after some moves.
+    /// The second source is what moves of any cursors may make of the first.
     ghost keeps: { Self.Source → Self.Source → Type 0 };
 
     /// How often the device behind the source has failed.
@@ -36,75 +41,88 @@ pub trait Cursor {
     /// How many steps there are from one end to the other, at most.
     ghost most: { Self → ℕ };
 
-    /// Whether it stands on an entry.
+    /// Whether the cursor stands on an entry.
     fn valid(&self) -> bool
         ensures { IsTrue result ↔ IsOn (position self.now) };
 
+    /// The key of the entry.
     fn key(&self) -> &[u8]
         requires { IsOn (position self.now) }
         ensures { IfOn (position self.now) (λ entry. result.now ≡ entry.key) };
 
+    /// The number of the entry.
     fn number(&self) -> u64
         requires { IsOn (position self.now) }
         ensures { IfOn (position self.now) (λ entry. result ≡ entry.number) };
 
-    /// The value, or none if the entry is a deletion.
+    /// The value of the entry, or `None` if it is a deletion.
     fn value(&self) -> Option<&[u8]>
         requires { IsOn (position self.now) }
         ensures { IfOn (position self.now)
             (λ entry. option_map (λ value. value.now) result ≡ entry.value) };
 
-    /// To the next entry.
+    /// Steps to the next entry, or off the end.
     fn next(&mut self, source: &mut Self::Source) -> Result<(), CursorError>
         requires { CanStep (position self.old) }
-        ensures moves { MoveKeeps holds is_sound keeps most self.old source.old self.new source.new }
+        ensures moves { MoveKeeps holds is_sound keeps most
+            self.old source.old self.new source.new }
         ensures causes { ErrorCauses (is_sound self.old source.old) (IsBroken (position self.old))
             (failures source.old) (failures source.new) result }
         ensures broken { IsErr result ↔ IsBroken (position self.new) }
         ensures ends { OnOk result (left self.new Forward < left self.old Forward) }
-        ensures finds { is_sound self.old source.old → IfOn (position self.old) (λ entry.
-            MoveFinds Forward (After entry) (holds self.old source.old) result (position self.new)) };
+        ensures finds { is_sound self.old source.old → IfOn (position self.old)
+            (λ entry. MoveFinds Forward (After entry) (holds self.old source.old)
+            result (position self.new)) };
 
-    /// To the entry before.
+    /// Steps to the entry before, or off the end.
     fn prev(&mut self, source: &mut Self::Source) -> Result<(), CursorError>
         requires { CanStep (position self.old) }
-        ensures moves { MoveKeeps holds is_sound keeps most self.old source.old self.new source.new }
+        ensures moves { MoveKeeps holds is_sound keeps most
+            self.old source.old self.new source.new }
         ensures causes { ErrorCauses (is_sound self.old source.old) (IsBroken (position self.old))
             (failures source.old) (failures source.new) result }
         ensures broken { IsErr result ↔ IsBroken (position self.new) }
         ensures ends { OnOk result (left self.new Backward < left self.old Backward) }
-        ensures finds { is_sound self.old source.old → IfOn (position self.old) (λ entry.
-            MoveFinds Backward (After entry) (holds self.old source.old) result (position self.new)) };
+        ensures finds { is_sound self.old source.old → IfOn (position self.old)
+            (λ entry. MoveFinds Backward (After entry) (holds self.old source.old)
+            result (position self.new)) };
 
-    /// To the first entry that does not come before this key and number.
+    /// Moves to the first entry that does not come before this key and number.
     fn seek(
         &mut self,
         source: &mut Self::Source,
         key: &[u8],
         number: u64,
     ) -> Result<(), CursorError>
-        ensures moves { MoveKeeps holds is_sound keeps most self.old source.old self.new source.new }
+        ensures moves { MoveKeeps holds is_sound keeps most
+            self.old source.old self.new source.new }
         ensures causes { ErrorCauses (is_sound self.old source.old) ⊥
             (failures source.old) (failures source.new) result }
         ensures broken { IsErr result ↔ IsBroken (position self.new) }
         ensures finds { is_sound self.old source.old → MoveFinds Forward (At (spot key.now number))
             (holds self.old source.old) result (position self.new) };
 
+    /// Moves to the first entry.
     fn first(&mut self, source: &mut Self::Source) -> Result<(), CursorError>
-        ensures moves { MoveKeeps holds is_sound keeps most self.old source.old self.new source.new }
+        ensures moves { MoveKeeps holds is_sound keeps most
+            self.old source.old self.new source.new }
         ensures causes { ErrorCauses (is_sound self.old source.old) ⊥
             (failures source.old) (failures source.new) result }
         ensures broken { IsErr result ↔ IsBroken (position self.new) }
         ensures finds { is_sound self.old source.old →
             MoveFinds Forward AtEnd (holds self.old source.old) result (position self.new) };
 
+    /// Moves to the last entry.
     fn last(&mut self, source: &mut Self::Source) -> Result<(), CursorError>
-        ensures moves { MoveKeeps holds is_sound keeps most self.old source.old self.new source.new }
+        ensures moves { MoveKeeps holds is_sound keeps most
+            self.old source.old self.new source.new }
         ensures causes { ErrorCauses (is_sound self.old source.old) ⊥
             (failures source.old) (failures source.new) result }
         ensures broken { IsErr result ↔ IsBroken (position self.new) }
         ensures finds { is_sound self.old source.old →
             MoveFinds Backward AtEnd (holds self.old source.old) result (position self.new) };
 
+    /// What all cursors of a kind have in common: a move of one leaves the others sound, no two
+    /// entries share key and number, and `left` is at most `most`.
     ghost laws: { IsLawful holds is_sound keeps left most };
 }

@@ -1,5 +1,4 @@
-//! A entry that is kept while the cursor that it came from goes on.
-
+//! An entry that is kept while the cursor that it was read from moves on.
 ghost use Rattle.std.specs.Prelude.{◌≡◌, ◌↔◌, IsTrue, OnOk, IfOk, IsSome};
 ghost use Rattle.merge_iter.specs.Positions.{IsOn, IfOn};
 ghost use Rattle.merge_iter.specs.Keeping.{kept_entry};
@@ -7,7 +6,7 @@ ghost use Rattle.merge_iter.specs.Keeping.{kept_entry};
 use crate::cursor::Cursor;
 use std::alloc::{AllocError, Global};
 
-/// A key with a value, in memory of its own.
+/// An entry with a value, in memory of its own.
 #[derive(Drop)]
 pub struct KeptEntry {
     pub key: Vec<u8>,
@@ -16,6 +15,7 @@ pub struct KeptEntry {
 }
 
 impl KeptEntry {
+    /// Room for an entry, without memory yet.
     pub fn new(alloc: Global) -> KeptEntry {
         KeptEntry {
             key: Vec::new(alloc),
@@ -25,10 +25,12 @@ impl KeptEntry {
     }
 
     /// Keeps the entry that the cursor stands on, if it is no deletion; answers whether.
-    pub fn take<C: Cursor>(&mut self, cursor: &C) -> Result<bool, AllocError>
+    pub fn keep<C: Cursor>(&mut self, cursor: &C) -> Result<bool, AllocError>
         requires { IsOn (C.position cursor.now) }
-        ensures put { IfOk result (λ taken. IfOn (C.position cursor.now) (λ entry. IsTrue taken ↔ IsSome entry.value)) }
-        ensures taken { IfOk result (λ taken. IfOn (C.position cursor.now) (λ entry. IsTrue taken → kept_entry self.new ≡ entry)) }
+        ensures put { IfOk result (λ kept. IfOn (C.position cursor.now)
+            (λ entry. IsTrue kept ↔ IsSome entry.value)) }
+        ensures kept { IfOk result (λ kept. IfOn (C.position cursor.now)
+            (λ entry. IsTrue kept → kept_entry self.new ≡ entry)) }
     {
         let Some(value) = cursor.value() else {
             return Ok(false);
@@ -40,14 +42,14 @@ impl KeptEntry {
     }
 }
 
-/// Whether two keys are one.
+/// Whether two keys are equal.
 pub fn is_same_key(one: &[u8], other: &[u8]) -> bool
     ensures { IsTrue result ↔ (one.now ≡ other.now) }
 {
     one == other
 }
 
-/// Puts these bytes in place of those that the buffer has.
+/// Replaces the bytes of the buffer by these.
 pub fn copy(into: &mut Vec<u8>, bytes: &[u8]) -> Result<(), AllocError>
     ensures { OnOk result (into.new.items ≡ bytes.now) }
 {

@@ -1,5 +1,5 @@
-//! Cursors over sorted entries: a list in memory, the union of several cursors, and the entries that are
-//! visible at a number.
+//! Cursors over sorted entries: those of a list in memory, the union of several cursors, and the
+//! entries that the view at a number shows.
 #![tactic(auto)]
 
 mod at_number;

@@ -1,24 +1,25 @@
-//! A cursor over a list in memory.
-
-ghost use Rattle.std.specs.Prelude.{◌≡◌, ◌↔◌, IsTrue, length};
-ghost use Rattle.merge_iter.specs.ListEntries.{position_at, entry_of, ListHolds, IsSortedList, entries_left};
+//! A cursor over a sorted list in memory.
+ghost use Rattle.std.specs.Prelude.{◌≡◌, length};
+ghost use Rattle.std.specs.Ordering.{is_lt};
+ghost use Rattle.merge_iter.specs.ListEntries.{position_at, entry_of, ListHolds, IsSortedList};
+ghost use Rattle.merge_iter.specs.ListEntries.{entries_left};
 ghost use Rattle.merge_iter.specs.Lists.{list_laws};
-ghost use Rattle.merge_iter.specs.Order.{EntryPrecedes, spot};
-ghost use Rattle.merge_iter.specs.declared.direction.Direction.TheVariants.{Forward};
+ghost use Rattle.merge_iter.specs.Order.{IsAlike, entry_cmp, spot};
+ghost use Rattle.merge_iter.specs.Positions.{Off};
 
 use crate::cursor::Cursor;
 use crate::error::CursorError;
 use crate::order::order;
 use crate::owned_entry::OwnedEntry;
 
-/// Whether the entry comes before that key and number.
+// Whether the entry comes before that key and number.
 fn is_before(entry: &OwnedEntry, key: &[u8], number: u64) -> bool
-    ensures { IsTrue result ↔ EntryPrecedes Forward (entry_of entry.now) (spot key.now number) }
+    ensures { result ≡ is_lt (entry_cmp (entry_of entry.now) (spot key.now number)) }
 {
     order(entry.key.as_slice(), entry.number, key, number).is_lt()
 }
 
-/// A place in a rising list. At the list's length the cursor stands on none.
+/// A cursor over a sorted list in memory. It needs no source, and its moves refuse nothing.
 #[derive(Drop)]
 pub struct ListCursor {
     entries: Vec<OwnedEntry>,
@@ -26,9 +27,12 @@ pub struct ListCursor {
 }
 
 impl ListCursor {
+    /// A cursor over these entries, which are to be in order. It stands on none.
     pub fn new(entries: Vec<OwnedEntry>) -> Self
-        ensures list { result.entries ≡ entries }
-        ensures place { result.at ≡ length entries.items }
+        ensures off { ⟦<ListCursor as Cursor>⟧.position result ≡ Off }
+        ensures sound { IsSortedList entries.items → ⟦<ListCursor as Cursor>⟧.is_sound result tt }
+        ensures entries { IsAlike (⟦<ListCursor as Cursor>⟧.holds result tt)
+            (ListHolds entries.items) }
     {
         let at = entries.len();
         ListCursor { entries, at }
@@ -86,15 +90,9 @@ impl Cursor for ListCursor {
     }
 
     fn seek(&mut self, _source: &mut (), key: &[u8], number: u64) -> Result<(), CursorError> {
-        let mut at = self.entries.len();
-        for i in 0..self.entries.len() {
-            let entry = &self.entries[i];
-            if !is_before(entry, key, number) {
-                at = i;
-                break;
-            }
-        }
-        self.at = at;
+        self.at = self
+            .entries
+            .partition_point(|entry| is_before(entry, key, number));
         Ok(())
     }
 

@@ -1,12 +1,12 @@
 //! The sorted union of cursors.
-
 ghost use Rattle.std.specs.Prelude.{◌≡◌, ◌↔◌, ◌<◌, IsErr, OnOk};
 ghost use Rattle.merge_iter.specs.Order.{IsAlike};
 ghost use Rattle.merge_iter.specs.Positions.{After, AtEnd, IfOn, IsBroken, Off};
-ghost use Rattle.merge_iter.specs.Moves.{CanStep, MoveFinds, ErrorCauses};
-ghost use Rattle.merge_iter.specs.Merging.{EachChild, AreApart, ChildrenKeep, UnionHolds, IsMerge};
+ghost use Rattle.merge_iter.specs.Moves.{CanStep, MoveFinds};
 ghost use Rattle.merge_iter.specs.Merging.{union_position, merged_left, merged_most};
 ghost use Rattle.merge_iter.specs.Unions.{merged_laws};
+ghost use Rattle.merge_iter.specs.LentCursors.{AreDisjoint, AreSound, IsUnion, KeepsChildren};
+ghost use Rattle.merge_iter.specs.LentCursors.{RefusesMove, union_of};
 
 use crate::children::{advance, seek_all, settle, start_all};
 use crate::cursor::Cursor;
@@ -14,8 +14,8 @@ use crate::direction::Direction;
 use crate::error::CursorError;
 use crate::place::Place;
 
-/// The entries of several cursors, of which no two hold entries of one key and number. What is lent
-/// comes from the child that the union stands on.
+/// The sorted union of several cursors, of which no two hold entries of one key and number. What it
+/// lends is lent by the child that it stands on.
 #[derive(Drop)]
 pub struct Merged<C> {
     children: Vec<C>,
@@ -23,13 +23,15 @@ pub struct Merged<C> {
 }
 
 impl<C: Cursor> Merged<C> {
-    /// The union of these. It stands on none.
+    /// The union of these cursors. It stands on none.
     pub fn new(children: Vec<C>) -> Self
         ensures off { ⟦<Merged<C> as Cursor>⟧.position result ≡ Off }
-        ensures sound { (source : C.Source) → EachChild (λ c. C.is_sound c source) children.items →
-            AreApart (λ c. C.holds c source) children.items → ⟦<Merged<C> as Cursor>⟧.is_sound result source }
+        ensures sound { (source : C.Source) → AreSound C.Cursor children.items source →
+            AreDisjoint C.Cursor children.items source →
+            ⟦<Merged<C> as Cursor>⟧.is_sound result source }
         ensures entries { (source : C.Source) →
-            IsAlike (⟦<Merged<C> as Cursor>⟧.holds result source) (UnionHolds (λ c. C.holds c source) children.items) }
+            IsAlike (⟦<Merged<C> as Cursor>⟧.holds result source)
+            (union_of C.Cursor children.items source) }
     {
         Merged {
             children,
@@ -37,18 +39,27 @@ impl<C: Cursor> Merged<C> {
         }
     }
 
-    // To the next entry in this direction.
+    // Steps to the next entry in this direction.
     fn walk(&mut self, way: Direction, source: &mut C::Source) -> Result<(), CursorError>
         requires { CanStep (union_position C.position self.old.children.items self.old.place) }
-        ensures moves { ChildrenKeep C.holds C.is_sound C.keeps C.most self.old.children.items source.old self.new.children.items source.new }
-        ensures sound { IsMerge (λ c. C.holds c source.old) C.position (λ c. C.is_sound c source.old) self.old.children.items self.old.place →
-            IsMerge (λ c. C.holds c source.new) C.position (λ c. C.is_sound c source.new) self.new.children.items self.new.place }
-        ensures causes { ErrorCauses (IsMerge (λ c. C.holds c source.old) C.position (λ c. C.is_sound c source.old) self.old.children.items self.old.place)
-            (IsBroken (union_position C.position self.old.children.items self.old.place)) (C.failures source.old) (C.failures source.new) result }
-        ensures broken { IsErr result ↔ IsBroken (union_position C.position self.new.children.items self.new.place) }
-        ensures ends { OnOk result (merged_left C.left C.most self.new.children.items self.new.place way < merged_left C.left C.most self.old.children.items self.old.place way) }
-        ensures finds { IsMerge (λ c. C.holds c source.old) C.position (λ c. C.is_sound c source.old) self.old.children.items self.old.place →
-            IfOn (union_position C.position self.old.children.items self.old.place) (λ entry. MoveFinds way (After entry) (UnionHolds (λ c. C.holds c source.old) self.old.children.items) result (union_position C.position self.new.children.items self.new.place)) }
+        ensures moves { KeepsChildren C.Cursor self.old.children.items source.old
+            self.new.children.items source.new }
+        ensures sound { IsUnion C.Cursor self.old.children.items self.old.place source.old →
+            IsUnion C.Cursor self.new.children.items self.new.place source.new }
+        ensures causes { RefusesMove C.Cursor
+            (IsUnion C.Cursor self.old.children.items self.old.place source.old)
+            (IsBroken (union_position C.position self.old.children.items self.old.place)) source.old
+            source.new result }
+        ensures broken { IsErr result
+            ↔ IsBroken (union_position C.position self.new.children.items self.new.place) }
+        ensures ends { OnOk result
+            (merged_left C.left C.most self.new.children.items self.new.place way
+            < merged_left C.left C.most self.old.children.items self.old.place way) }
+        ensures finds { IsUnion C.Cursor self.old.children.items self.old.place source.old →
+            IfOn (union_position C.position self.old.children.items self.old.place)
+            (λ entry. MoveFinds way (After entry)
+            (union_of C.Cursor self.old.children.items source.old) result
+            (union_position C.position self.new.children.items self.new.place)) }
     {
         let Place::On(was, k) = self.place else {
             return Err(CursorError::Failed);
@@ -62,16 +73,20 @@ impl<C: Cursor> Merged<C> {
         Ok(())
     }
 
-    // To the end where a walk in this direction begins.
+    // Moves to the first entry of a walk in this direction.
     fn begin(&mut self, way: Direction, source: &mut C::Source) -> Result<(), CursorError>
-        ensures moves { ChildrenKeep C.holds C.is_sound C.keeps C.most self.old.children.items source.old self.new.children.items source.new }
-        ensures sound { IsMerge (λ c. C.holds c source.old) C.position (λ c. C.is_sound c source.old) self.old.children.items self.old.place →
-            IsMerge (λ c. C.holds c source.new) C.position (λ c. C.is_sound c source.new) self.new.children.items self.new.place }
-        ensures causes { ErrorCauses (IsMerge (λ c. C.holds c source.old) C.position (λ c. C.is_sound c source.old) self.old.children.items self.old.place)
-            ⊥ (C.failures source.old) (C.failures source.new) result }
-        ensures broken { IsErr result ↔ IsBroken (union_position C.position self.new.children.items self.new.place) }
-        ensures finds { IsMerge (λ c. C.holds c source.old) C.position (λ c. C.is_sound c source.old) self.old.children.items self.old.place →
-            MoveFinds way AtEnd (UnionHolds (λ c. C.holds c source.old) self.old.children.items) result (union_position C.position self.new.children.items self.new.place) }
+        ensures moves { KeepsChildren C.Cursor self.old.children.items source.old
+            self.new.children.items source.new }
+        ensures sound { IsUnion C.Cursor self.old.children.items self.old.place source.old →
+            IsUnion C.Cursor self.new.children.items self.new.place source.new }
+        ensures causes { RefusesMove C.Cursor
+            (IsUnion C.Cursor self.old.children.items self.old.place source.old) ⊥ source.old
+            source.new result }
+        ensures broken { IsErr result
+            ↔ IsBroken (union_position C.position self.new.children.items self.new.place) }
+        ensures finds { IsUnion C.Cursor self.old.children.items self.old.place source.old →
+            MoveFinds way AtEnd (union_of C.Cursor self.old.children.items source.old) result
+            (union_position C.position self.new.children.items self.new.place) }
     {
         self.place = Place::Broken;
         start_all(&mut self.children, way, source)?;
@@ -85,9 +100,9 @@ impl<C: Cursor> Cursor for Merged<C> {
 
     ghost position = { λ m. union_position C.position m.children.items m.place };
 
-    ghost holds = { λ m source. UnionHolds (λ c. C.holds c source) m.children.items };
+    ghost holds = { λ m source. union_of C.Cursor m.children.items source };
 
-    ghost is_sound = { λ m source. IsMerge (λ c. C.holds c source) C.position (λ c. C.is_sound c source) m.children.items m.place };
+    ghost is_sound = { λ m source. IsUnion C.Cursor m.children.items m.place source };
 
     ghost keeps = { C.keeps };
 
@@ -155,5 +170,6 @@ impl<C: Cursor> Cursor for Merged<C> {
         self.begin(Direction::Backward, source)
     }
 
-    ghost laws = { merged_laws C.holds C.is_sound C.keeps C.most C.left C.position C.laws (λ m. m.children.items) (λ m. m.place) };
+    ghost laws = { merged_laws C.holds C.is_sound C.keeps C.most C.left C.position C.laws
+        (λ m. m.children.items) (λ m. m.place) };
 }

@@ -1,10 +1,14 @@
 //! Where a cursor over the entries shown at a number stands.
 
-/// On the entry of the cursor below, on the entry that was kept, on none, or on none since a refusal.
+/// Which entry the cursor stands on.
 #[derive(Clone, Copy, Drop)]
 pub enum Mode {
+    /// The one of the cursor below.
     Inner,
+    /// The one that was kept.
     Kept,
+    /// None.
     Off,
+    /// None since a refusal.
     Broken,
 }

@@ -1,6 +1,6 @@
-//! The declared entries of a list in memory.
+//! An entry with memory of its own.
 
-/// A entry in memory.
+/// A version of a key: its value at a number, or `None` if the key was deleted there.
 #[derive(Drop)]
 pub struct OwnedEntry {
     pub key: Vec<u8>,

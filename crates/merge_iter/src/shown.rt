@@ -1,13 +1,13 @@
 //! The search for the next entry that is shown at a number.
-
 ghost use Rattle.std.specs.Prelude.{◌≤◌, IfOk};
 ghost use Rattle.kv_types.specs.{Entry};
 ghost use Rattle.merge_iter.specs.Positions.{WalkStart, IsOn, IfOn, IsBroken};
-ghost use Rattle.merge_iter.specs.Moves.{MoveKeeps, ErrorCauses};
 ghost use Rattle.merge_iter.specs.Keeping.{kept_entry};
-ghost use Rattle.merge_iter.specs.Versions.{IsHidden, IsJudged, IsJudgedBack, IsAhead, IsBefore, IsFound, IsForward};
+ghost use Rattle.merge_iter.specs.Versions.{IsHidden, IsJudged, IsJudgedBack, IsAhead, IsBefore};
+ghost use Rattle.merge_iter.specs.Versions.{IsFound, IsForward};
 ghost use Rattle.merge_iter.specs.Versions.{view_position, left_in};
 ghost use Rattle.merge_iter.specs.declared.direction.Direction.TheVariants.{Forward, Backward};
+ghost use Rattle.merge_iter.specs.LentCursors.{KeepsCursor, RefusesMove};
 
 use crate::cursor::Cursor;
 use crate::error::CursorError;
@@ -15,7 +15,7 @@ use crate::kept::{KeptEntry, copy, is_same_key};
 use crate::mode::Mode;
 use std::alloc::AllocError;
 
-// Whether the entry is shown. The key of a deletion that is seen is hidden from here on.
+// Whether the entry is shown. A deletion that is seen hides its key from here on.
 fn is_shown<C: Cursor>(
     inner: &C,
     at: u64,
@@ -23,8 +23,9 @@ fn is_shown<C: Cursor>(
     hidden: &mut Vec<u8>,
 ) -> Result<bool, AllocError>
     requires { IsOn (C.position inner.now) }
-    ensures { IfOk result (λ shown. IfOn (C.position inner.now) (λ entry.
-        IsJudged at hides.old hidden.old.items entry hides.new hidden.new.items shown)) }
+    ensures { IfOk result
+        (λ shown. IfOn (C.position inner.now)
+        (λ entry. IsJudged at hides.old hidden.old.items entry hides.new hidden.new.items shown)) }
 {
     if inner.number() > at {
         return Ok(false);
@@ -40,7 +41,8 @@ fn is_shown<C: Cursor>(
     Ok(false)
 }
 
-/// On to the next entry that is shown. A walk forward meets the newest entry of a key first.
+/// Walks on to the next entry that is shown, from where the cursor stands. The newest entry of a
+/// key comes first.
 pub fn find_forward<C: Cursor>(
     inner: &mut C,
     source: &mut C::Source,
@@ -48,14 +50,18 @@ pub fn find_forward<C: Cursor>(
     hides: bool,
     hidden: &mut Vec<u8>,
 ) -> Result<Mode, CursorError>
-    ensures moves { MoveKeeps C.holds C.is_sound C.keeps C.most inner.old source.old inner.new source.new }
-    ensures causes { ErrorCauses (C.is_sound inner.old source.old) ⊥ (C.failures source.old) (C.failures source.new) result }
-    ensures unbroken { (kept : Entry) → IfOk result (λ mode. IsBroken (view_position mode (C.position inner.new) kept) → ⊥) }
+    ensures moves { KeepsCursor C.Cursor inner.old source.old inner.new source.new }
+    ensures causes { RefusesMove C.Cursor (C.is_sound inner.old source.old) ⊥ source.old source.new
+        result }
+    ensures unbroken { (kept : Entry) →
+        IfOk result (λ mode. IsBroken (view_position mode (C.position inner.new) kept) → ⊥) }
     ensures forward { IfOk result IsForward }
-    ensures left { IfOk result (λ mode. left_in (C.left inner.new) (C.most inner.new) mode Forward ≤ C.left inner.old Forward) }
+    ensures left { IfOk result (λ mode. left_in (C.left inner.new) (C.most inner.new) mode Forward
+        ≤ C.left inner.old Forward) }
     ensures finds { (start : WalkStart) (kept : Entry) → C.is_sound inner.old source.old →
-        IsAhead at (C.holds inner.old source.old) start (IsHidden hides hidden.old.items) (C.position inner.old) →
-        IsFound Forward at (C.holds inner.old source.old) start result (C.position inner.new) kept }
+        IsAhead at (C.holds inner.old source.old) start (IsHidden hides hidden.old.items)
+        (C.position inner.old) → IsFound Forward at (C.holds inner.old source.old) start result
+        (C.position inner.new) kept }
 {
     let mut hiding = hides;
     while inner.valid() {
@@ -67,8 +73,8 @@ pub fn find_forward<C: Cursor>(
     Ok(Mode::Off)
 }
 
-// Whether the walk has left the key of the entry that is kept. Else the entry, if it is seen, takes
-// the place of what was kept of its key.
+// Whether the walk has left the key of the kept entry. If not, and the cursor's entry is seen, that
+// one replaces what was kept of its key.
 fn is_left<C: Cursor>(
     inner: &C,
     at: u64,
@@ -76,34 +82,40 @@ fn is_left<C: Cursor>(
     kept: &mut KeptEntry,
 ) -> Result<bool, AllocError>
     requires { IsOn (C.position inner.now) }
-    ensures { IfOk result (λ left. IfOn (C.position inner.now) (λ entry.
-        IsJudgedBack at found.old (kept_entry kept.old) entry found.new (kept_entry kept.new) left)) }
+    ensures { IfOk result
+        (λ left. IfOn (C.position inner.now)
+        (λ entry. IsJudgedBack at found.old (kept_entry kept.old) entry found.new
+        (kept_entry kept.new) left)) }
 {
-    if inner.number() > at {
+    if at < inner.number() {
         return Ok(false);
     }
     if *found && !is_same_key(kept.key.as_slice(), inner.key()) {
         return Ok(true);
     }
-    *found = kept.take(inner)?;
+    *found = kept.keep(inner)?;
     Ok(false)
 }
 
-/// Back to the entry before that is shown, which is kept. A walk back meets the newest entry of a key
-/// last, so the cursor goes on behind it.
+/// Walks back to the entry before that is shown, and keeps it. The newest entry of a key comes
+/// last, so the cursor ends behind it.
 pub fn find_back<C: Cursor>(
     inner: &mut C,
     source: &mut C::Source,
     at: u64,
     kept: &mut KeptEntry,
 ) -> Result<Mode, CursorError>
-    ensures moves { MoveKeeps C.holds C.is_sound C.keeps C.most inner.old source.old inner.new source.new }
-    ensures causes { ErrorCauses (C.is_sound inner.old source.old) ⊥ (C.failures source.old) (C.failures source.new) result }
-    ensures unbroken { IfOk result (λ mode. IsBroken (view_position mode (C.position inner.new) (kept_entry kept.new)) → ⊥) }
-    ensures left { IfOk result (λ mode. left_in (C.left inner.new) (C.most inner.new) mode Backward ≤ C.left inner.old Backward) }
+    ensures moves { KeepsCursor C.Cursor inner.old source.old inner.new source.new }
+    ensures causes { RefusesMove C.Cursor (C.is_sound inner.old source.old) ⊥ source.old source.new
+        result }
+    ensures unbroken { IfOk result
+        (λ mode. IsBroken (view_position mode (C.position inner.new) (kept_entry kept.new)) → ⊥) }
+    ensures left { IfOk result (λ mode. left_in (C.left inner.new) (C.most inner.new) mode Backward
+        ≤ C.left inner.old Backward) }
     ensures finds { (start : WalkStart) → C.is_sound inner.old source.old →
         IsBefore Backward at (C.holds inner.old source.old) start (C.position inner.old) →
-        IsFound Backward at (C.holds inner.old source.old) start result (C.position inner.new) (kept_entry kept.new) }
+        IsFound Backward at (C.holds inner.old source.old) start result (C.position inner.new)
+        (kept_entry kept.new) }
 {
     let mut found = false;
     while inner.valid() {

@@ -1,13 +1,13 @@
-//! The moves of the entries that are shown at a number, over the cursor below.
-
+//! The moves of a cursor over the entries shown at a number, by moves of the cursor below.
 ghost use Rattle.std.specs.Prelude.{◌≡◌, ◌⊎◌, ◌<◌, ◌≤◌, ℕ, IsTrue, OnOk, IfOk};
 ghost use Rattle.kv_types.specs.{Entry};
 ghost use Rattle.merge_iter.specs.Order.{EntryPrecedes, spot};
-ghost use Rattle.merge_iter.specs.Positions.{AtEnd, At, After, On, WalkMeets, IsOn, IfOn, IsBroken, IsFirst};
-ghost use Rattle.merge_iter.specs.Moves.{MoveKeeps, ErrorCauses};
+ghost use Rattle.merge_iter.specs.Positions.{AtEnd, At, After, On, WalkMeets, IsOn, IfOn, IsBroken};
+ghost use Rattle.merge_iter.specs.Positions.{IsFirst};
 ghost use Rattle.merge_iter.specs.Keeping.{kept_entry};
 ghost use Rattle.merge_iter.specs.Versions.{IsBefore, IsFound, IsSettled, view_position, left_in};
 ghost use Rattle.merge_iter.specs.declared.direction.Direction.TheVariants.{Forward, Backward};
+ghost use Rattle.merge_iter.specs.LentCursors.{KeepsCursor, RefusesMove};
 
 use crate::cursor::Cursor;
 use crate::error::CursorError;
@@ -16,7 +16,7 @@ use crate::mode::Mode;
 use crate::order::order;
 use crate::shown::{find_back, find_forward};
 
-// On to the entry that is shown, where the cursor has gone on behind it.
+// Moves back onto the entry that is shown, where the cursor has gone on behind it.
 fn return_to<C: Cursor>(
     inner: &mut C,
     source: &mut C::Source,
@@ -24,14 +24,18 @@ fn return_to<C: Cursor>(
     kept: &KeptEntry,
 ) -> Result<(), CursorError>
     requires { IsOn (view_position mode (C.position inner.old) (kept_entry kept.now)) }
-    ensures moves { MoveKeeps C.holds C.is_sound C.keeps C.most inner.old source.old inner.new source.new }
-    ensures causes { ErrorCauses (C.is_sound inner.old source.old) ⊥ (C.failures source.old) (C.failures source.new) result }
-    ensures left { OnOk result (C.left inner.new Forward ≤ left_in (C.left inner.old) (C.most inner.old) mode Forward) }
+    ensures moves { KeepsCursor C.Cursor inner.old source.old inner.new source.new }
+    ensures causes { RefusesMove C.Cursor (C.is_sound inner.old source.old) ⊥ source.old source.new
+        result }
+    ensures left { OnOk result (C.left inner.new Forward ≤ left_in (C.left inner.old)
+        (C.most inner.old) mode Forward) }
     ensures ready { OnOk result (IsOn (C.position inner.new)
         ⊎ (C.left inner.new Forward < left_in (C.left inner.old) (C.most inner.old) mode Forward)) }
     ensures returns { (at : ℕ) (entry : Entry) → C.is_sound inner.old source.old →
-        IsSettled at (C.holds inner.old source.old) mode (C.position inner.old) (kept_entry kept.now) →
-        view_position mode (C.position inner.old) (kept_entry kept.now) ≡ On entry → OnOk result (C.position inner.new ≡ On entry) }
+        IsSettled at (C.holds inner.old source.old) mode (C.position inner.old)
+        (kept_entry kept.now) →
+        view_position mode (C.position inner.old) (kept_entry kept.now) ≡ On entry →
+        OnOk result (C.position inner.new ≡ On entry) }
 {
     match mode {
         Mode::Inner => Ok(()),
@@ -41,19 +45,22 @@ fn return_to<C: Cursor>(
     }
 }
 
-// Off the entry that the cursor stands on, whose key is kept.
+// Steps off the entry that the cursor stands on, and copies its key.
 fn leave<C: Cursor>(
     inner: &mut C,
     source: &mut C::Source,
     key: &mut Vec<u8>,
 ) -> Result<(), CursorError>
-    ensures moves { MoveKeeps C.holds C.is_sound C.keeps C.most inner.old source.old inner.new source.new }
-    ensures causes { ErrorCauses (C.is_sound inner.old source.old) ⊥ (C.failures source.old) (C.failures source.new) result }
+    ensures moves { KeepsCursor C.Cursor inner.old source.old inner.new source.new }
+    ensures causes { RefusesMove C.Cursor (C.is_sound inner.old source.old) ⊥ source.old source.new
+        result }
     ensures fewer { OnOk result (C.left inner.new Forward ≤ C.left inner.old Forward) }
-    ensures left { IsOn (C.position inner.old) → OnOk result (C.left inner.new Forward < C.left inner.old Forward) }
-    ensures leaves { (entry : Entry) → C.is_sound inner.old source.old → C.position inner.old ≡ On entry →
-        OnOk result (IsFirst Forward (λ p. C.holds inner.old source.old p × WalkMeets Forward (After entry) p) (C.position inner.new)
-        × (key.new.items ≡ entry.key)) }
+    ensures left { IsOn (C.position inner.old) →
+        OnOk result (C.left inner.new Forward < C.left inner.old Forward) }
+    ensures leaves { (entry : Entry) → C.is_sound inner.old source.old →
+        C.position inner.old ≡ On entry →
+        OnOk result (IsFirst Forward (λ p. C.holds inner.old source.old p
+        × WalkMeets Forward (After entry) p) (C.position inner.new) × (key.new.items ≡ entry.key)) }
 {
     if !inner.valid() {
         return Ok(());
@@ -62,35 +69,41 @@ fn leave<C: Cursor>(
     inner.next(source)
 }
 
-/// To the first entry that is shown.
+/// Moves to the first entry that is shown.
 pub fn first_shown<C: Cursor>(
     inner: &mut C,
     source: &mut C::Source,
     at: u64,
     kept: &mut KeptEntry,
 ) -> Result<Mode, CursorError>
-    ensures moves { MoveKeeps C.holds C.is_sound C.keeps C.most inner.old source.old inner.new source.new }
-    ensures causes { ErrorCauses (C.is_sound inner.old source.old) ⊥ (C.failures source.old) (C.failures source.new) result }
-    ensures unbroken { IfOk result (λ mode. IsBroken (view_position mode (C.position inner.new) (kept_entry kept.new)) → ⊥) }
+    ensures moves { KeepsCursor C.Cursor inner.old source.old inner.new source.new }
+    ensures causes { RefusesMove C.Cursor (C.is_sound inner.old source.old) ⊥ source.old source.new
+        result }
+    ensures unbroken { IfOk result
+        (λ mode. IsBroken (view_position mode (C.position inner.new) (kept_entry kept.new)) → ⊥) }
     ensures finds { C.is_sound inner.old source.old →
-        IsFound Forward at (C.holds inner.old source.old) AtEnd result (C.position inner.new) (kept_entry kept.new) }
+        IsFound Forward at (C.holds inner.old source.old) AtEnd result (C.position inner.new)
+        (kept_entry kept.new) }
 {
     inner.first(source)?;
     find_forward(inner, source, at, false, &mut kept.key)
 }
 
-/// To the last entry that is shown.
+/// Moves to the last entry that is shown.
 pub fn last_shown<C: Cursor>(
     inner: &mut C,
     source: &mut C::Source,
     at: u64,
     kept: &mut KeptEntry,
 ) -> Result<Mode, CursorError>
-    ensures moves { MoveKeeps C.holds C.is_sound C.keeps C.most inner.old source.old inner.new source.new }
-    ensures causes { ErrorCauses (C.is_sound inner.old source.old) ⊥ (C.failures source.old) (C.failures source.new) result }
-    ensures unbroken { IfOk result (λ mode. IsBroken (view_position mode (C.position inner.new) (kept_entry kept.new)) → ⊥) }
+    ensures moves { KeepsCursor C.Cursor inner.old source.old inner.new source.new }
+    ensures causes { RefusesMove C.Cursor (C.is_sound inner.old source.old) ⊥ source.old source.new
+        result }
+    ensures unbroken { IfOk result
+        (λ mode. IsBroken (view_position mode (C.position inner.new) (kept_entry kept.new)) → ⊥) }
     ensures finds { C.is_sound inner.old source.old →
-        IsFound Backward at (C.holds inner.old source.old) AtEnd result (C.position inner.new) (kept_entry kept.new) }
+        IsFound Backward at (C.holds inner.old source.old) AtEnd result (C.position inner.new)
+        (kept_entry kept.new) }
 {
     inner.last(source)?;
     find_back(inner, source, at, kept)
@@ -98,8 +111,11 @@ pub fn last_shown<C: Cursor>(
 
 // Whether the entry that was found comes before this key and number.
 fn is_early<C: Cursor>(inner: &C, mode: Mode, key: &[u8], number: u64) -> bool
-    ensures early { IsTrue result → (mode ≡ Mode.Inner) × IsOn (C.position inner.now) × IfOn (C.position inner.now) (λ entry. EntryPrecedes Forward entry (spot key.now number)) }
-    ensures late { (IsTrue result → ⊥) → mode ≡ Mode.Inner → IfOn (C.position inner.now) (λ entry. EntryPrecedes Forward entry (spot key.now number) → ⊥) }
+    ensures early { IsTrue result → (mode ≡ Mode.Inner) × IsOn (C.position inner.now)
+        × IfOn (C.position inner.now) (λ entry. EntryPrecedes Forward entry (spot key.now number)) }
+    ensures late { (IsTrue result → ⊥) → mode ≡ Mode.Inner →
+        IfOn (C.position inner.now)
+        (λ entry. EntryPrecedes Forward entry (spot key.now number) → ⊥) }
 {
     match mode {
         Mode::Inner => inner.valid() && order(inner.key(), inner.number(), key, number).is_lt(),
@@ -119,11 +135,14 @@ pub fn seek_shown<C: Cursor>(
     number: u64,
     kept: &mut KeptEntry,
 ) -> Result<Mode, CursorError>
-    ensures moves { MoveKeeps C.holds C.is_sound C.keeps C.most inner.old source.old inner.new source.new }
-    ensures causes { ErrorCauses (C.is_sound inner.old source.old) ⊥ (C.failures source.old) (C.failures source.new) result }
-    ensures unbroken { IfOk result (λ mode. IsBroken (view_position mode (C.position inner.new) (kept_entry kept.new)) → ⊥) }
+    ensures moves { KeepsCursor C.Cursor inner.old source.old inner.new source.new }
+    ensures causes { RefusesMove C.Cursor (C.is_sound inner.old source.old) ⊥ source.old source.new
+        result }
+    ensures unbroken { IfOk result
+        (λ mode. IsBroken (view_position mode (C.position inner.new) (kept_entry kept.new)) → ⊥) }
     ensures finds { C.is_sound inner.old source.old →
-        IsFound Forward at (C.holds inner.old source.old) (At (spot key.now number)) result (C.position inner.new) (kept_entry kept.new) }
+        IsFound Forward at (C.holds inner.old source.old) (At (spot key.now number)) result
+        (C.position inner.new) (kept_entry kept.new) }
 {
     inner.seek(source, key, at)?;
     let mode = find_forward(inner, source, at, false, &mut kept.key)?;
@@ -134,7 +153,7 @@ pub fn seek_shown<C: Cursor>(
     Ok(mode)
 }
 
-/// To the next entry that is shown.
+/// Steps to the next entry that is shown.
 pub fn next_shown<C: Cursor>(
     inner: &mut C,
     source: &mut C::Source,
@@ -143,21 +162,26 @@ pub fn next_shown<C: Cursor>(
     kept: &mut KeptEntry,
 ) -> Result<Mode, CursorError>
     requires { IsOn (view_position mode (C.position inner.old) (kept_entry kept.old)) }
-    ensures moves { MoveKeeps C.holds C.is_sound C.keeps C.most inner.old source.old inner.new source.new }
-    ensures causes { ErrorCauses (C.is_sound inner.old source.old) ⊥ (C.failures source.old) (C.failures source.new) result }
-    ensures unbroken { IfOk result (λ mode. IsBroken (view_position mode (C.position inner.new) (kept_entry kept.new)) → ⊥) }
-    ensures left { IfOk result (λ new. left_in (C.left inner.new) (C.most inner.new) new Forward < left_in (C.left inner.old) (C.most inner.old) mode Forward) }
+    ensures moves { KeepsCursor C.Cursor inner.old source.old inner.new source.new }
+    ensures causes { RefusesMove C.Cursor (C.is_sound inner.old source.old) ⊥ source.old source.new
+        result }
+    ensures unbroken { IfOk result
+        (λ mode. IsBroken (view_position mode (C.position inner.new) (kept_entry kept.new)) → ⊥) }
+    ensures left { IfOk result (λ new. left_in (C.left inner.new) (C.most inner.new) new Forward
+        < left_in (C.left inner.old) (C.most inner.old) mode Forward) }
     ensures finds { (entry : Entry) → C.is_sound inner.old source.old →
-        IsSettled at (C.holds inner.old source.old) mode (C.position inner.old) (kept_entry kept.old) →
+        IsSettled at (C.holds inner.old source.old) mode (C.position inner.old)
+        (kept_entry kept.old) →
         view_position mode (C.position inner.old) (kept_entry kept.old) ≡ On entry →
-        IsFound Forward at (C.holds inner.old source.old) (After entry) result (C.position inner.new) (kept_entry kept.new) }
+        IsFound Forward at (C.holds inner.old source.old) (After entry) result
+        (C.position inner.new) (kept_entry kept.new) }
 {
     return_to(inner, source, mode, kept)?;
     leave(inner, source, &mut kept.key)?;
     find_forward(inner, source, at, true, &mut kept.key)
 }
 
-// Back from the entry that is shown, where the cursor has not gone on behind it yet.
+// Steps back from the entry that is shown, where the cursor stands on it.
 fn retreat<C: Cursor>(
     inner: &mut C,
     source: &mut C::Source,
@@ -165,13 +189,17 @@ fn retreat<C: Cursor>(
     kept: &KeptEntry,
 ) -> Result<(), CursorError>
     requires { IsOn (view_position mode (C.position inner.old) (kept_entry kept.now)) }
-    ensures moves { MoveKeeps C.holds C.is_sound C.keeps C.most inner.old source.old inner.new source.new }
-    ensures causes { ErrorCauses (C.is_sound inner.old source.old) ⊥ (C.failures source.old) (C.failures source.new) result }
-    ensures left { OnOk result (C.left inner.new Backward < left_in (C.left inner.old) (C.most inner.old) mode Backward) }
+    ensures moves { KeepsCursor C.Cursor inner.old source.old inner.new source.new }
+    ensures causes { RefusesMove C.Cursor (C.is_sound inner.old source.old) ⊥ source.old source.new
+        result }
+    ensures left { OnOk result (C.left inner.new Backward < left_in (C.left inner.old)
+        (C.most inner.old) mode Backward) }
     ensures retreats { (at : ℕ) (entry : Entry) → C.is_sound inner.old source.old →
-        IsSettled at (C.holds inner.old source.old) mode (C.position inner.old) (kept_entry kept.now) →
+        IsSettled at (C.holds inner.old source.old) mode (C.position inner.old)
+        (kept_entry kept.now) →
         view_position mode (C.position inner.old) (kept_entry kept.now) ≡ On entry →
-        OnOk result (IsBefore Backward at (C.holds inner.old source.old) (After entry) (C.position inner.new)) }
+        OnOk result (IsBefore Backward at (C.holds inner.old source.old) (After entry)
+        (C.position inner.new)) }
 {
     match mode {
         Mode::Inner => inner.prev(source),
@@ -181,7 +209,7 @@ fn retreat<C: Cursor>(
     }
 }
 
-/// To the entry before that is shown.
+/// Steps to the entry before that is shown.
 pub fn prev_shown<C: Cursor>(
     inner: &mut C,
     source: &mut C::Source,
@@ -190,14 +218,19 @@ pub fn prev_shown<C: Cursor>(
     kept: &mut KeptEntry,
 ) -> Result<Mode, CursorError>
     requires { IsOn (view_position mode (C.position inner.old) (kept_entry kept.old)) }
-    ensures moves { MoveKeeps C.holds C.is_sound C.keeps C.most inner.old source.old inner.new source.new }
-    ensures causes { ErrorCauses (C.is_sound inner.old source.old) ⊥ (C.failures source.old) (C.failures source.new) result }
-    ensures unbroken { IfOk result (λ mode. IsBroken (view_position mode (C.position inner.new) (kept_entry kept.new)) → ⊥) }
-    ensures left { IfOk result (λ new. left_in (C.left inner.new) (C.most inner.new) new Backward < left_in (C.left inner.old) (C.most inner.old) mode Backward) }
+    ensures moves { KeepsCursor C.Cursor inner.old source.old inner.new source.new }
+    ensures causes { RefusesMove C.Cursor (C.is_sound inner.old source.old) ⊥ source.old source.new
+        result }
+    ensures unbroken { IfOk result
+        (λ mode. IsBroken (view_position mode (C.position inner.new) (kept_entry kept.new)) → ⊥) }
+    ensures left { IfOk result (λ new. left_in (C.left inner.new) (C.most inner.new) new Backward
+        < left_in (C.left inner.old) (C.most inner.old) mode Backward) }
     ensures finds { (entry : Entry) → C.is_sound inner.old source.old →
-        IsSettled at (C.holds inner.old source.old) mode (C.position inner.old) (kept_entry kept.old) →
+        IsSettled at (C.holds inner.old source.old) mode (C.position inner.old)
+        (kept_entry kept.old) →
         view_position mode (C.position inner.old) (kept_entry kept.old) ≡ On entry →
-        IsFound Backward at (C.holds inner.old source.old) (After entry) result (C.position inner.new) (kept_entry kept.new) }
+        IsFound Backward at (C.holds inner.old source.old) (After entry) result
+        (C.position inner.new) (kept_entry kept.new) }
 {
     retreat(inner, source, mode, kept)?;
     find_back(inner, source, at, kept)

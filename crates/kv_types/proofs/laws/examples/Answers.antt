@@ -1,8 +1,9 @@
 use Rattle.std.proofs.Common.{refl, inl, inr, arith}
+use Rattle.kv_types.proofs.EntryCases.{entry_examples}
 use Rattle.kv_types.proofs.laws.examples.Goals as goal
 
-pub returns : goal.returns
-returns c = record {
+pub returns-clause-batches : goal.returns-clause-batches
+returns-clause-batches c = record {
   spelled = refl;
   deletion = refl;
   beginning = inr (refl, tt);
@@ -16,3 +17,6 @@ returns c = record {
   forward = refl;
   empty = refl;
 }
+
+pub returns-clause-entries : goal.returns-clause-entries
+returns-clause-entries c = entry_examples

@@ -7,20 +7,31 @@ use Rattle.merge_iter.proofs.children.advance.Goals as goal
 
 pub returns-then-is_same-clause-ends : goal.returns-then-is_same-clause-ends
 returns-then-is_same-clause-ends g c =
-    subst (λ n. OnOk c.step_at.result (sum_by (λ d. g.C.Cursor.left d c.args.way) c.step_at.new.children.items < n)) (sym (along g.C.Cursor.left g.C.Cursor.most c.args.was c.args.way c.args.children.now.items (c.is_same.ensures.same.0 c.if-is_same.true))) c.step_at.ensures.ends
+    subst (λ n. OnOk c.step_at.result (sum_by (λ d. g.C.Cursor.left d c.args.way)
+    c.step_at.new.children.items < n))
+    (sym (along g.C.Cursor.left g.C.Cursor.most c.args.was c.args.way c.args.children.now.items
+    (c.is_same.ensures.same.0 c.if-is_same.true))) c.step_at.ensures.ends
 
 pub returns-else-is_same-clause-ends : goal.returns-else-is_same-clause-ends
 returns-else-is_same-clause-ends g c =
-    let e = across g.C.Cursor.left g.C.Cursor.most c.args.was c.args.way c.args.children.now.items (λ h. let f = c.if-is_same.false in let t : IsTrue c.is_same.result = c.is_same.ensures.same.1 h in cc) in
-    let l = left_most g.C.Cursor.holds g.C.Cursor.is_sound g.C.Cursor.keeps g.C.Cursor.left g.C.Cursor.most g.met.C.Cursor.laws c.args.way c.turn_all.new.children.items in
+    let e = across g.C.Cursor.left g.C.Cursor.most c.args.was c.args.way c.args.children.now.items
+    (λ h. let f = c.if-is_same.false in let t : IsTrue c.is_same.result =
+    c.is_same.ensures.same.1 h in cc) in
+    let l = left_most g.C.Cursor.holds g.C.Cursor.is_sound g.C.Cursor.keeps g.C.Cursor.left
+    g.C.Cursor.most g.met.C.Cursor.laws c.args.way c.turn_all.new.children.items in
     let z = c.turn_all.ensures.moves.size in
-    always_ok c.turn_all.result (subst (λ n. sum_by (λ d. g.C.Cursor.left d c.args.way) c.turn_all.new.children.items < n) (sym e) (omega (arith, l, z)))
+    always_ok c.turn_all.result
+    (subst (λ n. sum_by (λ d. g.C.Cursor.left d c.args.way) c.turn_all.new.children.items < n)
+    (sym e) (omega (arith, l, z)))
 
 pub returns-then-is_same-clause-ahead : goal.returns-then-is_same-clause-ahead
 returns-then-is_same-clause-ahead g c x entry at on apart all first =
     c.step_at.ensures.ahead x entry at on apart all
-    (subst (λ w. ChildrenAreFirst (λ d. g.C.Cursor.holds d c.args.source.now) g.C.Cursor.position w (At entry) c.args.children.now.items) (c.is_same.ensures.same.0 c.if-is_same.true) first)
+    (subst (λ w. ChildrenAreFirst (λ d. g.C.Cursor.holds d c.args.source.now) g.C.Cursor.position w
+    (At entry) c.args.children.now.items) (c.is_same.ensures.same.0 c.if-is_same.true) first)
 
 pub returns-else-is_same-clause-ahead : goal.returns-else-is_same-clause-ahead
 returns-else-is_same-clause-ahead g c x entry at on apart all first =
-    c.turn_all.ensures.turns c.args.was entry (c.is_same.ensures.turned (λ h. let f = c.if-is_same.false in let t : IsTrue c.is_same.result = h in cc)) all first
+    c.turn_all.ensures.turns c.args.was entry
+    (c.is_same.ensures.turned (λ h. let f = c.if-is_same.false in
+    let t : IsTrue c.is_same.result = h in cc)) all first

@@ -10,7 +10,8 @@ use Rattle.merge_iter.proofs.children.start_all.Goals as goal
 
 pub loop-i-init : goal.loop-i-init
 loop-i-init g c = record {
-  passed = begins g.C.Cursor.holds g.C.Cursor.is_sound g.C.Cursor.keeps g.C.Cursor.left g.C.Cursor.most g.met.C.Cursor.laws _ _;
+  passed = begins g.C.Cursor.holds g.C.Cursor.is_sound g.C.Cursor.keeps g.C.Cursor.left
+      g.C.Cursor.most g.met.C.Cursor.laws _ _;
   count = refl;
   brought = λ all j d l e. absurd (omega arith);
 }
@@ -18,33 +19,65 @@ loop-i-init g c = record {
 pub loop-i-preserved : goal.loop-i-preserved
 loop-i-preserved g c =
     let i = c.loop-i.invariant in
-    let w : c.loop-i.i < length c.args.children.now.items = search (arith, c.loop-i-test.true, c.len-i-end.ensures) in
-    let at = slice_get_read c.loop-i.children.items (length c.args.children.now.items) c.loop-i.i c.index_mut.result.now (search (arith, i.passed.moved.len)) w c.index_mut.ensures.value in
+    let w : c.loop-i.i < length c.args.children.now.items =
+    search (arith, c.loop-i-test.true, c.len-i-end.ensures) in
+    let at = slice_get_read c.loop-i.children.items (length c.args.children.now.items) c.loop-i.i
+    c.index_mut.result.now (search (arith, i.passed.moved.len)) w c.index_mut.ensures.value in
     record {
-      passed = passes g.C.Cursor.holds g.C.Cursor.is_sound g.C.Cursor.keeps g.C.Cursor.left g.C.Cursor.most g.met.C.Cursor.laws c.args.children.now.items c.loop-i.children.items c.args.source.now c.loop-i.source c.start.new.source c.loop-i.i c.index_mut.result.now c.start.new.child at i.passed c.start.ensures.moves;
+      passed = passes g.C.Cursor.holds g.C.Cursor.is_sound g.C.Cursor.keeps g.C.Cursor.left
+          g.C.Cursor.most g.met.C.Cursor.laws c.args.children.now.items c.loop-i.children.items
+          c.args.source.now c.loop-i.source c.start.new.source c.loop-i.i c.index_mut.result.now
+          c.start.new.child at i.passed c.start.ensures.moves;
       count = c.start.ensures.causes.others (λ e. let h = c.in_ok-start.was in cc) ∙ i.count;
-      brought = λ given. brings g.C.Cursor.holds g.C.Cursor.is_sound g.C.Cursor.keeps g.C.Cursor.left g.C.Cursor.most g.C.Cursor.position g.met.C.Cursor.laws c.args.way AtEnd (EachChild (λ d. g.C.Cursor.is_sound d c.args.source.now) c.args.children.now.items) c.args.children.now.items c.loop-i.children.items c.args.source.now c.loop-i.source c.start.new.source c.loop-i.i c.index_mut.result.now c.start.new.child c.start.result at i.passed.moved c.start.ensures.moves c.in_ok-start.was (λ all. all) (λ all s. c.start.ensures.finds s) (i.brought) given;
+      brought = λ given. brings g.C.Cursor.holds g.C.Cursor.is_sound g.C.Cursor.keeps
+          g.C.Cursor.left g.C.Cursor.most g.C.Cursor.position g.met.C.Cursor.laws c.args.way AtEnd
+          (EachChild (λ d. g.C.Cursor.is_sound d c.args.source.now) c.args.children.now.items)
+          c.args.children.now.items c.loop-i.children.items c.args.source.now c.loop-i.source
+          c.start.new.source c.loop-i.i c.index_mut.result.now c.start.new.child c.start.result at
+          i.passed.moved c.start.ensures.moves c.in_ok-start.was (λ all. all)
+          (λ all s. c.start.ensures.finds s) (i.brought) given;
     }
 
 pub returns-in_err-start-clause-moves : goal.returns-in_err-start-clause-moves
 returns-in_err-start-clause-moves g c =
     let i = c.loop-i.invariant in
-    let w : c.loop-i.i < length c.args.children.now.items = search (arith, c.loop-i-test.true, c.len-i-end.ensures) in
-    let at = slice_get_read c.loop-i.children.items (length c.args.children.now.items) c.loop-i.i c.index_mut.result.now (search (arith, i.passed.moved.len)) w c.index_mut.ensures.value in
-    move_one g.C.Cursor.holds g.C.Cursor.is_sound g.C.Cursor.keeps g.C.Cursor.left g.C.Cursor.most g.met.C.Cursor.laws c.args.children.now.items c.loop-i.children.items c.args.source.now c.loop-i.source c.start.new.source c.loop-i.i c.index_mut.result.now c.start.new.child at i.passed.moved c.start.ensures.moves
+    let w : c.loop-i.i < length c.args.children.now.items =
+    search (arith, c.loop-i-test.true, c.len-i-end.ensures) in
+    let at = slice_get_read c.loop-i.children.items (length c.args.children.now.items) c.loop-i.i
+    c.index_mut.result.now (search (arith, i.passed.moved.len)) w c.index_mut.ensures.value in
+    move_one g.C.Cursor.holds g.C.Cursor.is_sound g.C.Cursor.keeps g.C.Cursor.left g.C.Cursor.most
+    g.met.C.Cursor.laws c.args.children.now.items c.loop-i.children.items c.args.source.now
+    c.loop-i.source c.start.new.source c.loop-i.i c.index_mut.result.now c.start.new.child at
+    i.passed.moved c.start.ensures.moves
 
 pub returns-in_err-start-clause-causes : goal.returns-in_err-start-clause-causes
 returns-in_err-start-clause-causes g c =
     let i = c.loop-i.invariant in
-    let w : c.loop-i.i < length c.args.children.now.items = search (arith, c.loop-i-test.true, c.len-i-end.ensures) in
-    let at = slice_get_read c.loop-i.children.items (length c.args.children.now.items) c.loop-i.i c.index_mut.result.now (search (arith, i.passed.moved.len)) w c.index_mut.ensures.value in
+    let w : c.loop-i.i < length c.args.children.now.items =
+    search (arith, c.loop-i-test.true, c.len-i-end.ensures) in
+    let at = slice_get_read c.loop-i.children.items (length c.args.children.now.items) c.loop-i.i
+    c.index_mut.result.now (search (arith, i.passed.moved.len)) w c.index_mut.ensures.value in
     let p = err_from_is_err_and c.from_residual.result c.from_residual.ensures.1 in
     let was : c.start.result ≡ Err c.in_err-start.field-0.0 = c.in_err-start.was in
     let told : c.start.result ≡ c.from_residual.result = cc (p.1, p.2) in
-    subst (λ r. ErrorCauses (EachChild (λ d. g.C.Cursor.is_sound d c.args.source.now) c.args.children.now.items) ⊥ (g.C.Cursor.failures c.args.source.now) (g.C.Cursor.failures c.start.new.source) r) told (tells_from (g.C.Cursor.is_sound c.index_mut.result.now c.loop-i.source) (EachChild (λ d. g.C.Cursor.is_sound d c.args.source.now) c.args.children.now.items) _ _ _ _ i.count
-    (λ all. all_sound g.C.Cursor.holds g.C.Cursor.is_sound g.C.Cursor.keeps g.C.Cursor.most c.args.children.now.items c.loop-i.children.items c.args.source.now c.loop-i.source i.passed.moved all c.loop-i.i c.index_mut.result.now at) c.start.ensures.causes)
+    subst (λ r. ErrorCauses (EachChild (λ d. g.C.Cursor.is_sound d c.args.source.now)
+    c.args.children.now.items) ⊥ (g.C.Cursor.failures c.args.source.now)
+    (g.C.Cursor.failures c.start.new.source) r) told
+    (tells_from (g.C.Cursor.is_sound c.index_mut.result.now c.loop-i.source)
+    (EachChild (λ d. g.C.Cursor.is_sound d c.args.source.now) c.args.children.now.items) _ _ _ _
+    i.count
+    (λ all. all_sound g.C.Cursor.holds g.C.Cursor.is_sound g.C.Cursor.keeps g.C.Cursor.most
+    c.args.children.now.items c.loop-i.children.items c.args.source.now c.loop-i.source
+    i.passed.moved all c.loop-i.i c.index_mut.result.now at) c.start.ensures.causes)
 
 pub returns-clause-finds : goal.returns-clause-finds
 returns-clause-finds g c all j d e =
     let w : j < length c.loop-i.children.items = slice_get_within c.loop-i.children.items j d e in
-    c.loop-i.invariant.brought all j d (search (arith, w, c.loop-i.invariant.passed.moved.len, c.len-i-end.ensures, c.loop-i-test.false)) e
+    c.loop-i.invariant.brought all j d
+    (search (
+      arith,
+      w,
+      c.loop-i.invariant.passed.moved.len,
+      c.len-i-end.ensures,
+      c.loop-i-test.false,
+    )) e

@@ -8,7 +8,12 @@ use Rattle.merge_iter.proofs.children.turn_all.Given as goal
 
 abbrev pub invariant-loop-i : goal.invariant-loop-i
 invariant-loop-i g l = record {
-  passed : Passed g.C.Cursor.holds g.C.Cursor.is_sound g.C.Cursor.keeps g.C.Cursor.left g.C.Cursor.most l.i l.initial.children.items l.initial.source l.children.items l.source;
+  passed : Passed g.C.Cursor.holds g.C.Cursor.is_sound g.C.Cursor.keeps g.C.Cursor.left
+      g.C.Cursor.most l.i l.initial.children.items l.initial.source l.children.items l.source;
   count : g.C.Cursor.failures l.source ≡ g.C.Cursor.failures l.initial.source;
-  brought : (was : Direction) (entry : Entry) → Brought g.C.Cursor.holds g.C.Cursor.is_sound g.C.Cursor.keeps g.C.Cursor.left g.C.Cursor.most g.C.Cursor.position l.way (After entry) (IsOpposite was l.way × (EachChild (λ c. g.C.Cursor.is_sound c l.initial.source) l.initial.children.items × ChildrenAreFirst (λ c. g.C.Cursor.holds c l.initial.source) g.C.Cursor.position was (At entry) l.initial.children.items)) l.i l.children.items l.source;
+  brought : (was : Direction) (entry : Entry) → Brought g.C.Cursor.holds g.C.Cursor.is_sound
+      g.C.Cursor.keeps g.C.Cursor.left g.C.Cursor.most g.C.Cursor.position l.way (After entry)
+      (IsOpposite was l.way × (EachChild (λ c. g.C.Cursor.is_sound c l.initial.source)
+      l.initial.children.items × ChildrenAreFirst (λ c. g.C.Cursor.holds c l.initial.source)
+      g.C.Cursor.position was (At entry) l.initial.children.items)) l.i l.children.items l.source;
 }

@@ -7,7 +7,8 @@ use Rattle.merge_iter.proofs.shown.find_back.Goals as goal
 
 pub loop-inner-init : goal.loop-inner-init
 loop-inner-init g c = record {
-  moved = moves_itself g.C.Cursor.holds g.C.Cursor.is_sound g.C.Cursor.keeps g.C.Cursor.left g.C.Cursor.most g.met.C.Cursor.laws _ _;
+  moved = moves_itself g.C.Cursor.holds g.C.Cursor.is_sound g.C.Cursor.keeps g.C.Cursor.left
+      g.C.Cursor.most g.met.C.Cursor.laws _ _;
   count = refl;
   left = omega arith;
   less = λ e. let z : false ≡ true = e in cc;
@@ -17,33 +18,57 @@ loop-inner-init g c = record {
 pub loop-inner-preserved : goal.loop-inner-preserved
 loop-inner-preserved g c =
     let i = c.loop-inner.invariant in
-    let on : IsOn (g.C.Cursor.position c.loop-inner.inner) = c.valid.ensures.0 c.loop-inner-test.true in
+    let on : IsOn (g.C.Cursor.position c.loop-inner.inner) =
+    c.valid.ensures.0 c.loop-inner-test.true in
     let was : c.prev.result ≡ Ok tt = c.in_ok-prev.was in
     let less = c.in_ok-prev.ensures.ends in
     let fewer = i.left in
     record {
-      moved = moves_through g.C.Cursor.holds g.C.Cursor.is_sound g.C.Cursor.keeps g.C.Cursor.left g.C.Cursor.most g.met.C.Cursor.laws _ _ _ _ _ _ i.moved c.prev.ensures.moves;
+      moved = moves_through g.C.Cursor.holds g.C.Cursor.is_sound g.C.Cursor.keeps g.C.Cursor.left
+          g.C.Cursor.most g.met.C.Cursor.laws _ _ _ _ _ _ i.moved c.prev.ensures.moves;
       count = c.prev.ensures.causes.others (λ e. cc) ∙ i.count;
       left = omega (arith, less, fewer);
       less = λ e. omega (arith, less, fewer);
-      way = λ start s a. back_on c.args.at (g.C.Cursor.holds c.args.inner.now c.args.source.now) (g.C.Cursor.holds c.loop-inner.inner c.loop-inner.source) (i.moved.stays s).1 (g.met.C.Cursor.laws.apart c.args.inner.now c.args.source.now s) start c.loop-inner.found c.is_left.new.found (kept_entry c.loop-inner.kept) (kept_entry c.is_left.new.kept) (g.C.Cursor.position c.loop-inner.inner) (g.C.Cursor.position c.prev.new.self) c.prev.result on
-          (subst (λ b. IfOn (g.C.Cursor.position c.loop-inner.inner) (λ entry. IsJudgedBack c.args.at c.loop-inner.found (kept_entry c.loop-inner.kept) entry c.is_left.new.found (kept_entry c.is_left.new.kept) b)) c.if-branch.false c.in_ok-is_left.ensures)
+      way = λ start s a. back_on c.args.at (g.C.Cursor.holds c.args.inner.now c.args.source.now)
+          (g.C.Cursor.holds c.loop-inner.inner c.loop-inner.source) (i.moved.stays s).1
+          (g.met.C.Cursor.laws.apart c.args.inner.now c.args.source.now s) start c.loop-inner.found
+          c.is_left.new.found (kept_entry c.loop-inner.kept) (kept_entry c.is_left.new.kept)
+          (g.C.Cursor.position c.loop-inner.inner) (g.C.Cursor.position c.prev.new.self)
+          c.prev.result on
+          (subst (λ b. IfOn (g.C.Cursor.position c.loop-inner.inner)
+          (λ entry. IsJudgedBack c.args.at c.loop-inner.found (kept_entry c.loop-inner.kept)
+          entry c.is_left.new.found (kept_entry c.is_left.new.kept) b)) c.if-branch.false
+          c.in_ok-is_left.ensures)
           c.in_ok-prev.was (c.prev.ensures.finds (i.moved.stays s).0) (i.way start s a);
     }
 
 pub returns-then-branch-clause-finds : goal.returns-then-branch-clause-finds
 returns-then-branch-clause-finds g c start s a =
     let i = c.loop-inner.invariant in
-    let on : IsOn (g.C.Cursor.position c.loop-inner.inner) = c.valid.ensures.0 c.loop-inner-test.true in
-    left_on c.args.at (g.C.Cursor.holds c.args.inner.now c.args.source.now) start c.loop-inner.found c.is_left.new.found (kept_entry c.loop-inner.kept) (kept_entry c.is_left.new.kept) (g.C.Cursor.position c.loop-inner.inner) on
-    (subst (λ b. IfOn (g.C.Cursor.position c.loop-inner.inner) (λ entry. IsJudgedBack c.args.at c.loop-inner.found (kept_entry c.loop-inner.kept) entry c.is_left.new.found (kept_entry c.is_left.new.kept) b)) c.if-branch.true c.in_ok-is_left.ensures) (i.way start s a)
+    let on : IsOn (g.C.Cursor.position c.loop-inner.inner) =
+    c.valid.ensures.0 c.loop-inner-test.true in
+    left_on c.args.at (g.C.Cursor.holds c.args.inner.now c.args.source.now) start c.loop-inner.found
+    c.is_left.new.found (kept_entry c.loop-inner.kept) (kept_entry c.is_left.new.kept)
+    (g.C.Cursor.position c.loop-inner.inner) on
+    (subst (λ b. IfOn (g.C.Cursor.position c.loop-inner.inner)
+    (λ entry. IsJudgedBack c.args.at c.loop-inner.found (kept_entry c.loop-inner.kept) entry
+    c.is_left.new.found (kept_entry c.is_left.new.kept) b)) c.if-branch.true
+    c.in_ok-is_left.ensures) (i.way start s a)
 
 pub returns-then-found-clause-finds : goal.returns-then-found-clause-finds
 returns-then-found-clause-finds g c start s a =
-    let off : IsOn (g.C.Cursor.position c.loop-inner.inner) → ⊥ = λ on. let z = c.valid.ensures.1 on in let f = c.loop-inner-test.false in cc in
-    (back_end c.args.at (g.C.Cursor.holds c.args.inner.now c.args.source.now) start c.loop-inner.found (kept_entry c.loop-inner.kept) (g.C.Cursor.position c.loop-inner.inner) off (c.loop-inner.invariant.way start s a)).0 c.if-found.true
+    let off : IsOn (g.C.Cursor.position c.loop-inner.inner) → ⊥ = λ on. let z =
+    c.valid.ensures.1 on in let f = c.loop-inner-test.false in cc in
+    (back_end c.args.at (g.C.Cursor.holds c.args.inner.now c.args.source.now) start
+    c.loop-inner.found (kept_entry c.loop-inner.kept) (g.C.Cursor.position c.loop-inner.inner)
+    off (c.loop-inner.invariant.way start s a)).0 c.if-found.true
 
 pub returns-else-found-clause-finds : goal.returns-else-found-clause-finds
 returns-else-found-clause-finds g c start s a =
-    let off : IsOn (g.C.Cursor.position c.loop-inner.inner) → ⊥ = λ on. let z = c.valid.ensures.1 on in let f = c.loop-inner-test.false in cc in
-    ((back_end c.args.at (g.C.Cursor.holds c.args.inner.now c.args.source.now) start c.loop-inner.found (kept_entry c.loop-inner.kept) (g.C.Cursor.position c.loop-inner.inner) off (c.loop-inner.invariant.way start s a)).1 c.if-found.false, tt)
+    let off : IsOn (g.C.Cursor.position c.loop-inner.inner) → ⊥ = λ on. let z =
+    c.valid.ensures.1 on in let f = c.loop-inner-test.false in cc in (
+      (back_end c.args.at (g.C.Cursor.holds c.args.inner.now c.args.source.now) start
+          c.loop-inner.found (kept_entry c.loop-inner.kept) (g.C.Cursor.position c.loop-inner.inner)
+          off (c.loop-inner.invariant.way start s a)).1 c.if-found.false,
+      tt,
+    )

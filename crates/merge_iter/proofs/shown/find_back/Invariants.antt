@@ -9,13 +9,17 @@ use Rattle.merge_iter.proofs.shown.find_back.Given as goal
 -- of the entries passed, the one kept is the only one that may be shown
 abbrev pub invariant-loop-inner : goal.invariant-loop-inner
 invariant-loop-inner g l = record {
-  moved : MoveKeeps g.C.Cursor.holds g.C.Cursor.is_sound g.C.Cursor.keeps g.C.Cursor.most l.initial.inner l.initial.source l.inner l.source;
+  moved : MoveKeeps g.C.Cursor.holds g.C.Cursor.is_sound g.C.Cursor.keeps g.C.Cursor.most
+      l.initial.inner l.initial.source l.inner l.source;
   count : g.C.Cursor.failures l.source ≡ g.C.Cursor.failures l.initial.source;
   left : g.C.Cursor.left l.inner Backward ≤ g.C.Cursor.left l.initial.inner Backward;
-  less : IsTrue l.found → g.C.Cursor.left l.inner Backward < g.C.Cursor.left l.initial.inner Backward;
+  less : IsTrue l.found → g.C.Cursor.left l.inner Backward < g.C.Cursor.left l.initial.inner
+      Backward;
   way : (start : WalkStart) → g.C.Cursor.is_sound l.initial.inner l.initial.source
-      → IsBefore Backward l.at (g.C.Cursor.holds l.initial.inner l.initial.source) start (g.C.Cursor.position l.initial.inner)
-      → IsOnTheWay l.found l.at (g.C.Cursor.holds l.initial.inner l.initial.source) start (kept_entry l.kept) (g.C.Cursor.position l.inner);
+      → IsBefore Backward l.at (g.C.Cursor.holds l.initial.inner l.initial.source) start
+      (g.C.Cursor.position l.initial.inner)
+      → IsOnTheWay l.found l.at (g.C.Cursor.holds l.initial.inner l.initial.source) start
+      (kept_entry l.kept) (g.C.Cursor.position l.inner);
 }
 
 abbrev pub decreases-loop-inner : goal.decreases-loop-inner

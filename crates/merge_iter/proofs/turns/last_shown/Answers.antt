@@ -8,6 +8,13 @@ use Rattle.merge_iter.proofs.turns.last_shown.Goals as goal
 pub returns-clause-finds : goal.returns-clause-finds
 returns-clause-finds g c s =
     let m = c.last.ensures.moves.stays s in
-    let f = first_kept Backward AtEnd (g.C.Cursor.position c.last.new.self) (g.C.Cursor.holds c.args.inner.now c.args.source.now) (g.C.Cursor.holds c.last.new.self c.last.new.source) m.1 (c.in_ok-last.ensures.finds s) in
-    found_alike c.args.at (g.C.Cursor.holds c.last.new.self c.last.new.source) (g.C.Cursor.holds c.args.inner.now c.args.source.now) (flip (g.C.Cursor.holds c.last.new.self c.last.new.source) (g.C.Cursor.holds c.args.inner.now c.args.source.now) m.1) Backward AtEnd _ _ _
-    (c.find_back.ensures.finds AtEnd m.0 (before_of c.args.at (g.C.Cursor.holds c.last.new.self c.last.new.source) Backward AtEnd (g.C.Cursor.position c.last.new.self) f))
+    let f = first_kept Backward AtEnd (g.C.Cursor.position c.last.new.self)
+    (g.C.Cursor.holds c.args.inner.now c.args.source.now)
+    (g.C.Cursor.holds c.last.new.self c.last.new.source) m.1 (c.in_ok-last.ensures.finds s) in
+    found_alike c.args.at (g.C.Cursor.holds c.last.new.self c.last.new.source)
+    (g.C.Cursor.holds c.args.inner.now c.args.source.now)
+    (flip (g.C.Cursor.holds c.last.new.self c.last.new.source)
+    (g.C.Cursor.holds c.args.inner.now c.args.source.now) m.1) Backward AtEnd _ _ _
+    (c.find_back.ensures.finds AtEnd m.0
+    (before_of c.args.at (g.C.Cursor.holds c.last.new.self c.last.new.source) Backward AtEnd
+    (g.C.Cursor.position c.last.new.self) f))

@@ -14,19 +14,37 @@ returns-clause-finds g c entry s settled on =
     let n = c.leave.ensures.moves.stays m.0 in
     let here = c.in_ok-return_to.ensures.returns c.args.at entry s settled on in
     let gone = c.in_ok-leave.ensures.leaves entry m.0 here in
-    let shown = shown_alike c.args.at (g.C.Cursor.holds c.return_to.new.inner c.return_to.new.source) (g.C.Cursor.holds c.leave.new.inner c.leave.new.source) n.1 entry (shown_alike c.args.at (g.C.Cursor.holds c.args.inner.now c.args.source.now) (g.C.Cursor.holds c.return_to.new.inner c.return_to.new.source) m.1 entry (shown_of c.args.at (g.C.Cursor.holds c.args.inner.now c.args.source.now) c.args.mode (g.C.Cursor.position c.args.inner.now) (kept_entry c.args.kept.now) entry settled on)) in
-    let f = first_kept Forward (After entry) (g.C.Cursor.position c.leave.new.inner) (g.C.Cursor.holds c.return_to.new.inner c.return_to.new.source) (g.C.Cursor.holds c.leave.new.inner c.leave.new.source) n.1 gone.0 in
-    let found = c.find_forward.ensures.finds (After entry) _ n.0 (ahead_after c.args.at (g.C.Cursor.holds c.leave.new.inner c.leave.new.source) entry _ (g.C.Cursor.position c.leave.new.inner) shown gone.1 f) in
-    found_alike c.args.at (g.C.Cursor.holds c.return_to.new.inner c.return_to.new.source) (g.C.Cursor.holds c.args.inner.now c.args.source.now) (flip (g.C.Cursor.holds c.return_to.new.inner c.return_to.new.source) (g.C.Cursor.holds c.args.inner.now c.args.source.now) m.1) Forward (After entry) _ _ _
-    (found_alike c.args.at (g.C.Cursor.holds c.leave.new.inner c.leave.new.source) (g.C.Cursor.holds c.return_to.new.inner c.return_to.new.source) (flip (g.C.Cursor.holds c.leave.new.inner c.leave.new.source) (g.C.Cursor.holds c.return_to.new.inner c.return_to.new.source) n.1) Forward (After entry) _ _ _ found)
+    let shown = shown_alike c.args.at (g.C.Cursor.holds c.return_to.new.inner
+    c.return_to.new.source) (g.C.Cursor.holds c.leave.new.inner c.leave.new.source) n.1 entry
+    (shown_alike c.args.at (g.C.Cursor.holds c.args.inner.now c.args.source.now)
+    (g.C.Cursor.holds c.return_to.new.inner c.return_to.new.source) m.1 entry
+    (shown_of c.args.at (g.C.Cursor.holds c.args.inner.now c.args.source.now) c.args.mode
+    (g.C.Cursor.position c.args.inner.now) (kept_entry c.args.kept.now) entry settled on)) in
+    let f = first_kept Forward (After entry) (g.C.Cursor.position c.leave.new.inner)
+    (g.C.Cursor.holds c.return_to.new.inner c.return_to.new.source)
+    (g.C.Cursor.holds c.leave.new.inner c.leave.new.source) n.1 gone.0 in
+    let found = c.find_forward.ensures.finds (After entry) _ n.0
+    (ahead_after c.args.at (g.C.Cursor.holds c.leave.new.inner c.leave.new.source) entry _
+    (g.C.Cursor.position c.leave.new.inner) shown gone.1 f) in
+    found_alike c.args.at (g.C.Cursor.holds c.return_to.new.inner c.return_to.new.source)
+    (g.C.Cursor.holds c.args.inner.now c.args.source.now)
+    (flip (g.C.Cursor.holds c.return_to.new.inner c.return_to.new.source)
+    (g.C.Cursor.holds c.args.inner.now c.args.source.now) m.1) Forward (After entry) _ _ _
+    (found_alike c.args.at (g.C.Cursor.holds c.leave.new.inner c.leave.new.source)
+    (g.C.Cursor.holds c.return_to.new.inner c.return_to.new.source)
+    (flip (g.C.Cursor.holds c.leave.new.inner c.leave.new.source)
+    (g.C.Cursor.holds c.return_to.new.inner c.return_to.new.source) n.1) Forward (After entry) _
+    _ _ found)
 
 pub returns-clause-left : goal.returns-clause-left
 returns-clause-left g c =
     let fewer = c.in_ok-leave.ensures.fewer in
     let most = c.in_ok-return_to.ensures.left in
-    let less : g.C.Cursor.left c.leave.new.inner Forward < left_in (g.C.Cursor.left c.args.inner.now) (g.C.Cursor.most c.args.inner.now) c.args.mode Forward =
+    let less : g.C.Cursor.left c.leave.new.inner Forward < left_in
+    (g.C.Cursor.left c.args.inner.now) (g.C.Cursor.most c.args.inner.now) c.args.mode Forward =
     elim c.in_ok-return_to.ensures.ready [
       | inl on ↦ let l = c.in_ok-leave.ensures.left on in omega (arith, l, most)
       | inr l ↦ omega (arith, l, fewer)
     ] in
-    below c.find_forward.result (λ m. left_in (g.C.Cursor.left c.find_forward.new.inner) (g.C.Cursor.most c.find_forward.new.inner) m Forward) _ _ c.find_forward.ensures.left less
+    below c.find_forward.result (λ m. left_in (g.C.Cursor.left c.find_forward.new.inner)
+    (g.C.Cursor.most c.find_forward.new.inner) m Forward) _ _ c.find_forward.ensures.left less

@@ -7,5 +7,12 @@ use Rattle.merge_iter.proofs.turns.prev_shown.Goals as goal
 pub returns-clause-finds : goal.returns-clause-finds
 returns-clause-finds g c entry s settled on =
     let m = c.retreat.ensures.moves.stays s in
-    let b = before_alike c.args.at (g.C.Cursor.holds c.args.inner.now c.args.source.now) (g.C.Cursor.holds c.retreat.new.inner c.retreat.new.source) m.1 Backward (After entry) (g.C.Cursor.position c.retreat.new.inner) (c.in_ok-retreat.ensures.retreats c.args.at entry s settled on) in
-    found_alike c.args.at (g.C.Cursor.holds c.retreat.new.inner c.retreat.new.source) (g.C.Cursor.holds c.args.inner.now c.args.source.now) (flip (g.C.Cursor.holds c.retreat.new.inner c.retreat.new.source) (g.C.Cursor.holds c.args.inner.now c.args.source.now) m.1) Backward (After entry) _ _ _ (c.find_back.ensures.finds (After entry) m.0 b)
+    let b = before_alike c.args.at (g.C.Cursor.holds c.args.inner.now c.args.source.now)
+    (g.C.Cursor.holds c.retreat.new.inner c.retreat.new.source) m.1 Backward (After entry)
+    (g.C.Cursor.position c.retreat.new.inner) (c.in_ok-retreat.ensures.retreats c.args.at entry
+    s settled on) in
+    found_alike c.args.at (g.C.Cursor.holds c.retreat.new.inner c.retreat.new.source)
+    (g.C.Cursor.holds c.args.inner.now c.args.source.now)
+    (flip (g.C.Cursor.holds c.retreat.new.inner c.retreat.new.source)
+    (g.C.Cursor.holds c.args.inner.now c.args.source.now) m.1) Backward (After entry) _ _ _
+    (c.find_back.ensures.finds (After entry) m.0 b)

@@ -6,14 +6,25 @@ use Rattle.merge_iter.proofs.merged.Merged.begin.Goals as goal
 
 pub returns-in_err-start_all-clause-sound : goal.returns-in_err-start_all-clause-sound
 returns-in_err-start_all-clause-sound g c m =
-    merge_after g.C.Cursor.holds g.C.Cursor.is_sound g.C.Cursor.keeps g.C.Cursor.most g.C.Cursor.position c.args.self.now.children.items c.start_all.new.children.items c.args.source.now c.start_all.new.source c.args.self.now.place place.Broken c.start_all.ensures.moves tt m
+    merge_after g.C.Cursor.holds g.C.Cursor.is_sound g.C.Cursor.keeps g.C.Cursor.most
+    g.C.Cursor.position c.args.self.now.children.items c.start_all.new.children.items
+    c.args.source.now c.start_all.new.source c.args.self.now.place place.Broken
+    c.start_all.ensures.moves tt m
 
 pub returns-clause-sound : goal.returns-clause-sound
 returns-clause-sound g c m =
-    merge_after g.C.Cursor.holds g.C.Cursor.is_sound g.C.Cursor.keeps g.C.Cursor.most g.C.Cursor.position c.args.self.now.children.items c.start_all.new.children.items c.args.source.now c.start_all.new.source c.args.self.now.place c.settle-self.result c.start_all.ensures.moves
-    (c.settle-self.ensures.settles AtEnd c.start_all.new.source (c.in_ok-start_all.ensures.finds m.each)).1 m
+    merge_after g.C.Cursor.holds g.C.Cursor.is_sound g.C.Cursor.keeps g.C.Cursor.most
+    g.C.Cursor.position c.args.self.now.children.items c.start_all.new.children.items
+    c.args.source.now c.start_all.new.source c.args.self.now.place c.settle-self.result
+    c.start_all.ensures.moves
+    (c.settle-self.ensures.settles AtEnd c.start_all.new.source
+    (c.in_ok-start_all.ensures.finds m.each)).1 m
 
 pub returns-clause-finds : goal.returns-clause-finds
 returns-clause-finds g c m =
-    finds_after g.C.Cursor.holds g.C.Cursor.is_sound g.C.Cursor.keeps g.C.Cursor.most g.C.Cursor.position c.args.self.now.children.items c.start_all.new.children.items c.args.source.now c.start_all.new.source c.start_all.ensures.moves m.each c.args.way AtEnd
-    (union_position g.C.Cursor.position c.start_all.new.children.items c.settle-self.result) (c.settle-self.ensures.settles AtEnd c.start_all.new.source (c.in_ok-start_all.ensures.finds m.each)).0
+    finds_after g.C.Cursor.holds g.C.Cursor.is_sound g.C.Cursor.keeps g.C.Cursor.most
+    g.C.Cursor.position c.args.self.now.children.items c.start_all.new.children.items
+    c.args.source.now c.start_all.new.source c.start_all.ensures.moves m.each c.args.way AtEnd
+    (union_position g.C.Cursor.position c.start_all.new.children.items c.settle-self.result)
+    (c.settle-self.ensures.settles AtEnd c.start_all.new.source
+    (c.in_ok-start_all.ensures.finds m.each)).0

@@ -8,16 +8,32 @@ use Rattle.merge_iter.proofs.merged.MergedCursor.seek.Goals as goal
 
 pub returns-in_err-seek_all-clause-moves : goal.returns-in_err-seek_all-clause-moves
 returns-in_err-seek_all-clause-moves g c =
-    union_moves g.C.Cursor.holds g.C.Cursor.is_sound g.C.Cursor.keeps g.C.Cursor.most g.C.Cursor.position (λ m. m.children.items) (λ m. m.place) _ _ c.args.source.now c.seek_all.new.source c.seek_all.ensures.moves
-    (λ m. merge_after g.C.Cursor.holds g.C.Cursor.is_sound g.C.Cursor.keeps g.C.Cursor.most g.C.Cursor.position c.args.self.now.children.items c.seek_all.new.children.items c.args.source.now c.seek_all.new.source c.args.self.now.place place.Broken c.seek_all.ensures.moves tt m)
+    union_moves g.C.Cursor.holds g.C.Cursor.is_sound g.C.Cursor.keeps g.C.Cursor.most
+    g.C.Cursor.position (λ m. m.children.items) (λ m. m.place) _ _ c.args.source.now
+    c.seek_all.new.source c.seek_all.ensures.moves
+    (λ m. merge_after g.C.Cursor.holds g.C.Cursor.is_sound g.C.Cursor.keeps g.C.Cursor.most
+    g.C.Cursor.position c.args.self.now.children.items c.seek_all.new.children.items
+    c.args.source.now c.seek_all.new.source c.args.self.now.place place.Broken
+    c.seek_all.ensures.moves tt m)
 
 pub returns-clause-moves : goal.returns-clause-moves
 returns-clause-moves g c =
-    union_moves g.C.Cursor.holds g.C.Cursor.is_sound g.C.Cursor.keeps g.C.Cursor.most g.C.Cursor.position (λ m. m.children.items) (λ m. m.place) _ _ c.args.source.now c.seek_all.new.source c.seek_all.ensures.moves
-    (λ m. merge_after g.C.Cursor.holds g.C.Cursor.is_sound g.C.Cursor.keeps g.C.Cursor.most g.C.Cursor.position c.args.self.now.children.items c.seek_all.new.children.items c.args.source.now c.seek_all.new.source c.args.self.now.place c.settle-self.result c.seek_all.ensures.moves
-    (c.settle-self.ensures.settles (At (spot c.args.key.now c.args.number)) c.seek_all.new.source (c.in_ok-seek_all.ensures.finds m.each)).1 m)
+    union_moves g.C.Cursor.holds g.C.Cursor.is_sound g.C.Cursor.keeps g.C.Cursor.most
+    g.C.Cursor.position (λ m. m.children.items) (λ m. m.place) _ _ c.args.source.now
+    c.seek_all.new.source c.seek_all.ensures.moves
+    (λ m. merge_after g.C.Cursor.holds g.C.Cursor.is_sound g.C.Cursor.keeps g.C.Cursor.most
+    g.C.Cursor.position c.args.self.now.children.items c.seek_all.new.children.items
+    c.args.source.now c.seek_all.new.source c.args.self.now.place c.settle-self.result
+    c.seek_all.ensures.moves
+    (c.settle-self.ensures.settles (At (spot c.args.key.now c.args.number)) c.seek_all.new.source
+    (c.in_ok-seek_all.ensures.finds m.each)).1 m)
 
 pub returns-clause-finds : goal.returns-clause-finds
 returns-clause-finds g c m =
-    finds_after g.C.Cursor.holds g.C.Cursor.is_sound g.C.Cursor.keeps g.C.Cursor.most g.C.Cursor.position c.args.self.now.children.items c.seek_all.new.children.items c.args.source.now c.seek_all.new.source c.seek_all.ensures.moves m.each Forward (At (spot c.args.key.now c.args.number))
-    (union_position g.C.Cursor.position c.seek_all.new.children.items c.settle-self.result) (c.settle-self.ensures.settles (At (spot c.args.key.now c.args.number)) c.seek_all.new.source (c.in_ok-seek_all.ensures.finds m.each)).0
+    finds_after g.C.Cursor.holds g.C.Cursor.is_sound g.C.Cursor.keeps g.C.Cursor.most
+    g.C.Cursor.position c.args.self.now.children.items c.seek_all.new.children.items
+    c.args.source.now c.seek_all.new.source c.seek_all.ensures.moves m.each Forward
+    (At (spot c.args.key.now c.args.number))
+    (union_position g.C.Cursor.position c.seek_all.new.children.items c.settle-self.result)
+    (c.settle-self.ensures.settles (At (spot c.args.key.now c.args.number))
+    c.seek_all.new.source (c.in_ok-seek_all.ensures.finds m.each)).0
