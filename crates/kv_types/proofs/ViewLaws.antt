@@ -1,14 +1,13 @@
 -- The view of all entries of a list of batches is the map of its beginnings.
-use Rattle.std.proofs.Common.{◌≡◌, ◌⊎◌, ◌↔◌, inl, inr, ⊎_elim, ℕ, zero, suc, ◌<◌, ◌≤◌}
+use Rattle.std.proofs.Common.{◌≡◌, ◌⊎◌, inl, inr, ⊎_elim, ℕ, zero, suc, ◌<◌, ◌≤◌}
 use Rattle.std.proofs.Common.{List, [], ◌∷◌, ◌++◌, take, slice_get, Option, Some, None}
 use Rattle.std.proofs.Common.{sym, refl, ◌∙◌, ap, subst, arith, append-nil}
 use Rattle.std.specs.Option.{option_or, option_flatten}
 use Rattle.std.proofs.lemmas.Bool.{cases_lt}
 use Rattle.std.proofs.lemmas.Grind.{flat_map-append}
-use Rattle.kv_types.specs.declared.edit.Edit.{Edit}
 use Rattle.kv_types.specs.Content.{BatchContent, edits_of}
 use Rattle.kv_types.specs.Maps.{joined, last_edit, map_of}
-use Rattle.kv_types.specs.Entries.{Entry, IsNewest, IsSeen, IsUnseen, ViewShows, ViewsAreMaps, all_entries}
+use Rattle.kv_types.specs.Entries.{Entry, IsSeen, ViewShows, ViewsAreMaps, all_entries}
 use Rattle.kv_types.proofs.MapLaws.{last_edit-append}
 
 -- ---- beginnings of a list

@@ -1,5 +1,6 @@
 -- The entries of a map with the entries of a batch.
-use Rattle.std.proofs.Common.{◌≡◌, ◌↔◌, ◌⊎◌, inl, inr, ℕ, ◌<◌, ◌≤◌, sym, ap, ◌∙◌, subst, List, [], ◌∷◌, length, Bool, true, false, cond, Option, Some, None, refl, All}
+use Rattle.std.proofs.Common.{◌≡◌, ◌↔◌, ◌⊎◌, inl, inr, ℕ, ◌<◌, ◌≤◌, sym, ap, ◌∙◌, subst, List, []}
+use Rattle.std.proofs.Common.{◌∷◌, length, Bool, true, false, cond, Option, Some, None, refl, All}
 use Rattle.std.specs.List.{slice_get}
 use Rattle.std.specs.Option.{option_or}
 use Rattle.std.specs.Str.{bytes_eq}
@@ -14,63 +15,96 @@ use Rattle.kv_types.specs.Spelling.{IsEdit}
 use Rattle.kv_types.specs.{Entry, entries_of}
 use Rattle.memtable.specs.declared.version.Version.{Version}
 use Rattle.memtable.specs.Versions.{IsRisingList}
-use Rattle.memtable.specs.Maps.{VersionMap, versions_at, added, MapHolds, HasRisingNumbers, HasShortKeys, entry_version}
+use Rattle.memtable.specs.Maps.{VersionMap, versions_at, added, MapHolds, HasRisingNumbers}
+use Rattle.memtable.specs.Maps.{HasShortKeys, entry_version}
 use Rattle.memtable.proofs.VersionLists.{places, last_at, front_at, rising_more}
 
-there : (old : List Version) (number : ℕ) (x : Option (Option (List ℕ))) (v : Version) (i : ℕ) → slice_get (added old number x) i ≡ Some v → ((i : ℕ) × (slice_get old i ≡ Some v)) ⊎ ((v.number ≡ number) × (x ≡ Some v.value))
+there : (old : List Version) (number : ℕ) (x : Option (Option (List ℕ))) (v : Version) (i : ℕ)
+    → slice_get (added old number x) i ≡ Some v → ((i : ℕ) × (slice_get old i ≡ Some v))
+    ⊎ ((v.number ≡ number) × (x ≡ Some v.value))
 there old number None v i e = inl (i, e)
 there old number (Some w) v i e = elim (places old (record { number = number; value = w }) i v e) [
   | inl h ↦ inl (i, h.0)
   | inr h ↦ inr (ap (λ (y : Version). y.number) h.1, ap (λ (y : Version). Some y.value) (sym h.1))
 ]
 
-back : (old : List Version) (number : ℕ) (x : Option (Option (List ℕ))) (v : Version) → ((i : ℕ) × (slice_get old i ≡ Some v)) ⊎ ((v.number ≡ number) × (x ≡ Some v.value)) → (i : ℕ) × (slice_get (added old number x) i ≡ Some v)
+back : (old : List Version) (number : ℕ) (x : Option (Option (List ℕ))) (v : Version)
+    → ((i : ℕ) × (slice_get old i ≡ Some v)) ⊎ ((v.number ≡ number) × (x ≡ Some v.value)) → (i : ℕ)
+    × (slice_get (added old number x) i ≡ Some v)
 back old number None v (inl h) = h
 back old number None v (inr h) = absurd (let e = h.1 in cc)
-back old number (Some w) v (inl h) = (h.0, front_at old (record { number = number; value = w } ∷ []) h.0 (slice_get_within old h.0 v h.1) ∙ h.1)
+back old number (Some w) v (inl h) = (
+  h.0,
+  front_at old (record { number = number; value = w } ∷ [])
+      h.0 (slice_get_within old h.0 v h.1) ∙ h.1,
+)
 back old number (Some w) v (inr h) =
     let e = same_Some w v.value h.1 in
-    let is : Some (record { number = number; value = w }) ≡ Some v = ap (λ x. Some (record { number = number; value = x })) e ∙ ap (λ n. Some (record { number = n; value = v.value })) (sym h.0) in
+    let is : Some (record { number = number; value = w }) ≡ Some v =
+    ap (λ x. Some (record { number = number; value = x })) e
+    ∙ ap (λ n. Some (record { number = n; value = v.value })) (sym h.0) in
     (length old, last_at old (record { number = number; value = w }) ∙ is)
 
-pub adds : (m n : VersionMap) (number own : ℕ) (edits given : List Edit) → own ≡ number → given ≡ edits
+pub adds : (m n : VersionMap) (number own : ℕ) (edits given : List Edit) → own ≡ number
+    → given ≡ edits
     → ((q : List ℕ) → versions_at n q ≡ added (versions_at m q) own (last_edit given q))
     → (entry : Entry) → MapHolds n entry ↔ (MapHolds m entry ⊎ entries_of number edits entry)
 adds m n number own edits given e f is entry =
-    let at = subst (λ x. versions_at n entry.key ≡ added (versions_at m entry.key) x (last_edit edits entry.key)) e (subst (λ l. versions_at n entry.key ≡ added (versions_at m entry.key) own (last_edit l entry.key)) f (is entry.key)) in (
-      (λ h. there (versions_at m entry.key) number (last_edit edits entry.key) (entry_version entry) h.0 (ap (λ xs. slice_get xs h.0) (sym at) ∙ h.1)),
-      (λ h. let r = back (versions_at m entry.key) number (last_edit edits entry.key) (entry_version entry) h in (r.0, ap (λ xs. slice_get xs r.0) at ∙ r.1)),
+    let at = subst (λ x. versions_at n entry.key ≡ added (versions_at m entry.key) x
+    (last_edit edits entry.key)) e
+    (subst (λ l. versions_at n entry.key ≡ added (versions_at m entry.key) own
+    (last_edit l entry.key)) f (is entry.key)) in (
+      (λ h. there (versions_at m entry.key) number (last_edit edits entry.key) (entry_version entry)
+          h.0 (ap (λ xs. slice_get xs h.0) (sym at) ∙ h.1)),
+      (λ h. let r = back (versions_at m entry.key) number (last_edit edits entry.key)
+          (entry_version entry) h in (r.0, ap (λ xs. slice_get xs r.0) at ∙ r.1)),
     )
 
-rising_added : (old : List Version) (number : ℕ) (x : Option (Option (List ℕ))) → IsRisingList old → ((i : ℕ) (v : Version) → slice_get old i ≡ Some v → v.number < number) → IsRisingList (added old number x)
+rising_added : (old : List Version) (number : ℕ) (x : Option (Option (List ℕ))) → IsRisingList old
+    → ((i : ℕ) (v : Version) → slice_get old i ≡ Some v → v.number < number) → IsRisingList
+    (added old number x)
 rising_added old number None rising below = rising
-rising_added old number (Some w) rising below = rising_more old (record { number = number; value = w }) rising below
+rising_added old number (Some w) rising below =
+    rising_more old (record { number = number; value = w }) rising below
 
 pub still_rising : (m n : VersionMap) (number : ℕ) (edits : List Edit)
     → ((q : List ℕ) → versions_at n q ≡ added (versions_at m q) number (last_edit edits q))
     → HasRisingNumbers m
-    → ((q : List ℕ) (i : ℕ) (v : Version) → slice_get (versions_at m q) i ≡ Some v → v.number < number)
+    → ((q : List ℕ) (i : ℕ) (v : Version) → slice_get (versions_at m q) i ≡ Some v → v.number <
+    number)
     → HasRisingNumbers n
-still_rising m n number edits is rising below q = subst IsRisingList (sym (is q)) (rising_added (versions_at m q) number (last_edit edits q) (rising q) (below q))
+still_rising m n number edits is rising below q = subst IsRisingList (sym (is q))
+    (rising_added (versions_at m q) number (last_edit edits q) (rising q) (below q))
 
 short_edit : (edit : Edit) → IsEdit edit → length (key_of edit) ≤ MAX_KEY
 short_edit (Put key value) h = h.0
 short_edit (Delete key) h = h
 
-of_edit : (edit : Edit) (key : List ℕ) (left : Option (List ℕ)) (t : Bool) → bytes_eq (key_of edit) key ≡ t → IsEdit edit → cond t (Some (value_put edit)) None ≡ Some left → length key ≤ MAX_KEY
-of_edit edit key left true e h is = subst (λ k. length k ≤ MAX_KEY) ((bytes_eq-Decides (key_of edit) key).0 e) (short_edit edit h)
+of_edit : (edit : Edit) (key : List ℕ) (left : Option (List ℕ)) (t : Bool) → bytes_eq (key_of edit)
+    key ≡ t → IsEdit edit → cond t (Some (value_put edit)) None ≡ Some left → length key ≤ MAX_KEY
+of_edit edit key left true e h is = subst (λ k. length k ≤ MAX_KEY)
+    ((bytes_eq-Decides (key_of edit) key).0 e) (short_edit edit h)
 of_edit edit key left false e h is = absurd (cc)
 
-one_of : (edit : Edit) (edits : List Edit) (key : List ℕ) (left : Option (List ℕ)) (later : Option (Option (List ℕ))) → (later ≡ Some left → length key ≤ MAX_KEY) → IsEdit edit → option_or later (cond (bytes_eq (key_of edit) key) (Some (value_put edit)) None) ≡ Some left → length key ≤ MAX_KEY
+one_of : (edit : Edit) (edits : List Edit) (key : List ℕ) (left : Option (List ℕ))
+    (later : Option (Option (List ℕ))) → (later ≡ Some left → length key ≤ MAX_KEY) → IsEdit edit
+    → option_or later (cond (bytes_eq (key_of edit) key) (Some (value_put edit)) None) ≡ Some left
+    → length key ≤ MAX_KEY
 one_of edit edits key left (Some x) rest h is = rest is
-one_of edit edits key left None rest h is = of_edit edit key left (bytes_eq (key_of edit) key) refl h is
+one_of edit edits key left None rest h is = of_edit edit key left (bytes_eq (key_of edit) key) refl
+    h is
 
-short_of : (edits : List Edit) (key : List ℕ) (left : Option (List ℕ)) → All IsEdit edits → last_edit edits key ≡ Some left → length key ≤ MAX_KEY
+short_of : (edits : List Edit) (key : List ℕ) (left : Option (List ℕ)) → All IsEdit edits
+    → last_edit edits key ≡ Some left → length key ≤ MAX_KEY
 short_of [] key left h is = absurd (cc)
-short_of (edit ∷ edits) key left h is = one_of edit edits key left (last_edit edits key) (λ e. short_of edits key left (All-tail IsEdit edit edits h) e) (All-head IsEdit edit edits h) is
+short_of (edit ∷ edits) key left h is = one_of edit edits key left (last_edit edits key)
+    (λ e. short_of edits key left (All-tail IsEdit edit edits h) e) (All-head IsEdit edit edits h)
+    is
 
-pub still_short : (m n : VersionMap) (number : ℕ) (edits : List Edit) → HasShortKeys m → All IsEdit edits
-    → ((entry : Entry) → MapHolds n entry ↔ (MapHolds m entry ⊎ entries_of number edits entry)) → HasShortKeys n
+pub still_short : (m n : VersionMap) (number : ℕ) (edits : List Edit) → HasShortKeys m → All IsEdit
+    edits
+    → ((entry : Entry) → MapHolds n entry ↔ (MapHolds m entry ⊎ entries_of number edits entry))
+    → HasShortKeys n
 still_short m n number edits short each is entry h = elim ((is entry).0 h) [
   | inl k ↦ short entry k
   | inr k ↦ short_of edits entry.key entry.value each k.1

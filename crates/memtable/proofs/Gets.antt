@@ -1,5 +1,6 @@
 -- What a key has at a number.
-use Rattle.std.proofs.Common.{◌≡◌, ◌⊎◌, inl, inr, ℕ, ◌<◌, ◌≤◌, sym, ap, ◌∙◌, subst, arith, List, Option, Some, None}
+use Rattle.std.proofs.Common.{◌≡◌, ◌⊎◌, inl, inr, ℕ, ◌<◌, ◌≤◌, sym, ap, ◌∙◌, subst, arith, List}
+use Rattle.std.proofs.Common.{Option, Some, None}
 use Rattle.std.specs.List.{slice_get}
 use Rattle.std.specs.BTreeMap.{get}
 use Rattle.std.specs.Ordering.{nat_cmp}
@@ -9,20 +10,25 @@ use Rattle.kv_types.specs.{Entry, IsNewest, IsUnseen}
 use Rattle.memtable.specs.declared.version.Version.{Version}
 use Rattle.memtable.specs.declared.version.Versions.{Versions}
 use Rattle.memtable.specs.Versions.{all_of, IsRisingList, IsLastUpTo}
-use Rattle.memtable.specs.Maps.{VersionMap, MapHolds, found, versions_at, entry_version, HasRisingNumbers}
+use Rattle.memtable.specs.Maps.{VersionMap, MapHolds, found, versions_at, entry_version}
+use Rattle.memtable.specs.Maps.{HasRisingNumbers}
 
 -- the versions that were found rise
-pub found_rising : (m : VersionMap) (key : List ℕ) (vs : Versions) → Some vs ≡ get (slice_cmp nat_cmp) m key → HasRisingNumbers m → IsRisingList (all_of vs)
+pub found_rising : (m : VersionMap) (key : List ℕ) (vs : Versions) → Some vs ≡ get
+    (slice_cmp nat_cmp) m key → HasRisingNumbers m → IsRisingList (all_of vs)
 found_rising m key vs is rising = subst (λ o. IsRisingList (found o)) (sym is) (rising key)
 
 late : (i at : ℕ) → (i < at) ⊎ ((i ≡ at) ⊎ (at < i))
 late i at = grind arith
 
-greatest : (xs : List Version) (at place : ℕ) (v : Version) → IsRisingList xs → IsLastUpTo xs at (Some place) → slice_get xs place ≡ Some v → (i : ℕ) (w : Version) → slice_get xs i ≡ Some w → w.number ≤ at → w.number ≤ v.number
+greatest : (xs : List Version) (at place : ℕ) (v : Version) → IsRisingList xs → IsLastUpTo xs at
+    (Some place) → slice_get xs place ≡ Some v → (i : ℕ) (w : Version) → slice_get xs i ≡ Some w
+    → w.number ≤ at → w.number ≤ v.number
 greatest xs at place v rising last is i w e le = elim (late i place) [
   | inl l ↦ let h = rising i place w v l e is in omega (arith, h)
   | inr k ↦ elim k [
-    | inl s ↦ let h : w ≡ v = same_Some w v (sym e ∙ (ap (slice_get xs) s ∙ is)) in subst (λ y. w.number ≤ y.number) h (omega arith)
+    | inl s ↦ let h : w ≡ v = same_Some w v (sym e ∙ (ap (slice_get xs) s ∙ is)) in
+        subst (λ y. w.number ≤ y.number) h (omega arith)
     | inr l ↦ let h = last.2 i w l e in absurd (omega (arith, h, le))
   ]
 ]
@@ -34,24 +40,31 @@ held m key other has same =
     (has.0, subst (λ k. slice_get (versions_at m k) has.0 ≡ Some (entry_version other)) same has.1)
 
 -- the version at the place that was found is the newest entry of its key
-pub newest : (m : VersionMap) (key : List ℕ) (vs : Versions) (at own place : ℕ) (v : Version) (value : Option (List ℕ))
+pub newest : (m : VersionMap) (key : List ℕ) (vs : Versions) (at own place : ℕ) (v : Version)
+    (value : Option (List ℕ))
     → own ≡ at → Some vs ≡ get (slice_cmp nat_cmp) m key → HasRisingNumbers m
     → (IsRisingList (all_of vs) → IsLastUpTo (all_of vs) own (Some place))
     → slice_get (all_of vs) place ≡ Some v → v.value ≡ value
     → (number : ℕ) × IsNewest at (MapHolds m) (record { key = key; number = number; value = value })
 newest m key vs at own place v value same is rising last there left =
     let up = found_rising m key vs is rising in
-    let to : IsLastUpTo (all_of vs) at (Some place) = subst (λ x. IsLastUpTo (all_of vs) x (Some place)) same (last up) in
+    let to : IsLastUpTo (all_of vs) at (Some place) =
+    subst (λ x. IsLastUpTo (all_of vs) x (Some place)) same (last up) in
     let here : versions_at m key ≡ all_of vs = ap found (sym is) in (
       v.number,
       record {
         seen = (
-          (place, ap (λ xs. slice_get xs place) here ∙ (there ∙ ap (λ x. Some (record { number = v.number; value = x })) left)),
+          (
+            place,
+            ap (λ xs. slice_get xs place) here
+                ∙ (there ∙ ap (λ x. Some (record { number = v.number; value = x })) left),
+          ),
           to.1 place v (omega arith) there,
         );
         newest = λ other seen key_is.
             let has = held m key other seen.0 key_is in
-            greatest (all_of vs) at place v up to there has.0 (entry_version other) (ap (λ xs. slice_get xs has.0) (sym here) ∙ has.1) seen.1;
+            greatest (all_of vs) at place v up to there has.0 (entry_version other)
+            (ap (λ xs. slice_get xs has.0) (sym here) ∙ has.1) seen.1;
       },
     )
 
@@ -67,7 +80,8 @@ unseen m key at late_ other seen same =
 pub none_there : (m : VersionMap) (key : List ℕ) (at : ℕ) → None ≡ get (slice_cmp nat_cmp) m key
     → IsUnseen at (MapHolds m) key
 none_there m key at is =
-    unseen m key at (λ i v e. absurd (let z : None ≡ Some v = ap (λ o. slice_get (found o) i) is ∙ e in cc))
+    unseen m key at (λ i v e. absurd (let z : None ≡ Some v = ap (λ o. slice_get (found o) i) is
+    ∙ e in cc))
 
 pub all_newer : (m : VersionMap) (key : List ℕ) (vs : Versions) (at own : ℕ) → own ≡ at
     → Some vs ≡ get (slice_cmp nat_cmp) m key → HasRisingNumbers m

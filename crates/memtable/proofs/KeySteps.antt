@@ -1,5 +1,6 @@
 -- Steps from one key of a map to the next, or to the one before.
-use Rattle.std.proofs.Common.{◌≡◌, ℕ, ◌+◌, sym, ◌∙◌, subst, List, [], ◌∷◌, ◌++◌, length, Option, Some, None, refl, arith}
+use Rattle.std.proofs.Common.{◌≡◌, ℕ, ◌+◌, sym, ◌∙◌, subst, List, [], ◌∷◌, ◌++◌, length, Option}
+use Rattle.std.proofs.Common.{Some, None, refl, arith}
 use Rattle.std.specs.Option.{IfSome, ForSome}
 use Rattle.std.specs.BTreeMap.{IsOrdered}
 use Rattle.std.specs.Cmp.Lexicographic.{slice_cmp}
@@ -14,7 +15,8 @@ use Rattle.memtable.specs.Maps.{VersionMap, MapHolds, HasRisingNumbers}
 use Rattle.memtable.specs.Places.{IsVersionPlace, maybe_position}
 use Rattle.memtable.specs.Ranges.{KeyList, keys_after, keys_before, IsPopped, IsPoppedBack}
 use Rattle.memtable.proofs.Firsts.{KeyPrecedes}
-use Rattle.memtable.proofs.Ranges.{after_first, before_last, next_key, key_before, none_after, none_before}
+use Rattle.memtable.proofs.Ranges.{after_first, before_last, next_key, key_before, none_after}
+use Rattle.memtable.proofs.Ranges.{none_before}
 use Rattle.memtable.proofs.Steps.{none_met, newest_met, oldest_met}
 
 one_more : (xs : List Version) (y : Version) → length (xs ++ y ∷ []) ≡ length xs + 1
@@ -22,12 +24,15 @@ one_more [] y = refl
 one_more (x ∷ xs) y = let h = one_more xs y in omega (arith, h)
 
 -- what a step to the next key gives, with the keys that are left behind it
-pub record IsKeyStep (m : VersionMap) (k : List ℕ) (rest : KeyList) (next : Option VersionPlace) : Type 0 where
+pub record IsKeyStep (m : VersionMap) (k : List ℕ) (rest : KeyList) (next : Option VersionPlace) :
+    Type 0 where
   pub placed : IfSome next (IsVersionPlace m)
-  pub first : HasRisingNumbers m → IsFirst Forward (λ entry. MapHolds m entry × KeyPrecedes Forward k entry.key) (maybe_position next)
+  pub first : HasRisingNumbers m → IsFirst Forward (λ entry. MapHolds m entry × KeyPrecedes Forward
+      k entry.key) (maybe_position next)
   pub held : ForSome next (λ place. rest ≡ keys_after m place.key.now)
 
-pub step_after : (m : VersionMap) (k : List ℕ) (keys rest : KeyList) (next : Option VersionPlace) → IsOrdered (slice_cmp nat_cmp) m
+pub step_after : (m : VersionMap) (k : List ℕ) (keys rest : KeyList) (next : Option VersionPlace)
+    → IsOrdered (slice_cmp nat_cmp) m
     → keys ≡ keys_after m k → IsPopped keys rest next → IsKeyStep m k rest next
 step_after m k keys rest None sorted is none = record {
   placed = tt;
@@ -41,17 +46,22 @@ step_after m k keys rest (Some place) sorted is popped =
     let end = popped.1 in
     let len = one_more place.versions.now.older.items place.versions.now.newest in record {
       placed = record { found = key.got; within = omega (arith, end, len) };
-      first = λ rising. newest_met m (KeyPrecedes Forward k) place.key.now place.versions.now place.at rising key.got key.behind key.least end;
-      held = λ other e. subst (λ (p : VersionPlace). rest ≡ keys_after m p.key.now) (same_Some place other e) (sym (after_first m.entries k entry rest sorted own));
+      first = λ rising. newest_met m (KeyPrecedes Forward k) place.key.now place.versions.now
+          place.at rising key.got key.behind key.least end;
+      held = λ other e. subst (λ (p : VersionPlace). rest ≡ keys_after m p.key.now)
+          (same_Some place other e) (sym (after_first m.entries k entry rest sorted own));
     }
 
 -- the same of a step to the key before
-pub record IsKeyStepBack (m : VersionMap) (k : List ℕ) (rest : KeyList) (next : Option VersionPlace) : Type 0 where
+pub record IsKeyStepBack (m : VersionMap) (k : List ℕ) (rest : KeyList) (next : Option VersionPlace)
+    : Type 0 where
   pub placed : IfSome next (IsVersionPlace m)
-  pub first : HasRisingNumbers m → IsFirst Backward (λ entry. MapHolds m entry × KeyPrecedes Backward k entry.key) (maybe_position next)
+  pub first : HasRisingNumbers m → IsFirst Backward (λ entry. MapHolds m entry × KeyPrecedes
+      Backward k entry.key) (maybe_position next)
   pub held : ForSome next (λ place. rest ≡ keys_before m place.key.now)
 
-pub step_before : (m : VersionMap) (k : List ℕ) (keys rest : KeyList) (next : Option VersionPlace) → IsOrdered (slice_cmp nat_cmp) m
+pub step_before : (m : VersionMap) (k : List ℕ) (keys rest : KeyList) (next : Option VersionPlace)
+    → IsOrdered (slice_cmp nat_cmp) m
     → keys ≡ keys_before m k → IsPoppedBack keys rest next → IsKeyStepBack m k rest next
 step_before m k keys rest None sorted is none = record {
   placed = tt;
@@ -65,6 +75,8 @@ step_before m k keys rest (Some place) sorted is popped =
     let start = popped.1 in
     let len = one_more place.versions.now.older.items place.versions.now.newest in record {
       placed = record { found = key.got; within = omega (arith, start, len) };
-      first = λ rising. oldest_met m (KeyPrecedes Backward k) place.key.now place.versions.now place.at rising key.got key.before key.greatest start;
-      held = λ other e. subst (λ (p : VersionPlace). rest ≡ keys_before m p.key.now) (same_Some place other e) (sym (before_last m.entries k entry rest sorted own));
+      first = λ rising. oldest_met m (KeyPrecedes Backward k) place.key.now place.versions.now
+          place.at rising key.got key.before key.greatest start;
+      held = λ other e. subst (λ (p : VersionPlace). rest ≡ keys_before m p.key.now)
+          (same_Some place other e) (sym (before_last m.entries k entry rest sorted own));
     }

@@ -1,5 +1,7 @@
 -- A map with one more version of a key.
-use Rattle.std.proofs.Common.{◌≡◌, ℕ, ◌<◌, sym, ap, ap₂, ◌∙◌, subst, List, [], ◌∷◌, length, ◌+◌, ◌==◌, ◌^◌, ◌-◌, ◌<◌, ◌≤◌, min, Bool, true, false, not, cond, Option, Some, None, refl, arith}
+use Rattle.std.proofs.Common.{◌≡◌, ℕ, ◌<◌, sym, ap, ap₂, ◌∙◌, subst, List, [], ◌∷◌, length, ◌+◌}
+use Rattle.std.proofs.Common.{◌==◌, ◌^◌, ◌-◌, ◌<◌, ◌≤◌, min, Bool, true, false, not, cond, Option}
+use Rattle.std.proofs.Common.{Some, None, refl, arith}
 use Rattle.std.specs.List.{slice_get}
 use Rattle.std.specs.Option.{option_or, is_some}
 use Rattle.std.specs.Str.{bytes_eq}
@@ -23,34 +25,47 @@ use Rattle.std.specs.Cmp.Lexicographic.{nat_list_cmp_total}
 use Rattle.memtable.specs.Maps.{VersionMap, found, versions_at, added}
 use Rattle.memtable.proofs.VersionLists.{lacks_last, lacks_greater, with_new, without}
 
-updated_by : (m n : VersionMap) (key q : List ℕ) (w : Versions) (v : Version) (t : Bool) → bytes_eq key q ≡ t
-    → get (slice_cmp nat_cmp) n q ≡ cond (is_eq (slice_cmp nat_cmp key q)) (Some w) (get (slice_cmp nat_cmp) m q)
+updated_by : (m n : VersionMap) (key q : List ℕ) (w : Versions) (v : Version) (t : Bool)
+    → bytes_eq key q ≡ t
+    → get (slice_cmp nat_cmp) n q ≡ cond (is_eq (slice_cmp nat_cmp key q)) (Some w)
+    (get (slice_cmp nat_cmp) m q)
     → all_of w ≡ with_version (versions_at m key) v
     → versions_at n q ≡ cond t (with_version (versions_at m q) v) (versions_at m q)
 updated_by m n key q w v true e gets is =
     let s : key ≡ q = (bytes_eq-Decides key q).0 e in
-    let g = gets ∙ ap (λ b. cond b (Some w) (get (slice_cmp nat_cmp) m q)) (is_eq-slice_cmp key q ∙ e) in
+    let g = gets ∙ ap (λ b. cond b (Some w) (get (slice_cmp nat_cmp) m q)) (is_eq-slice_cmp key q
+    ∙ e) in
     ap found g ∙ (is ∙ ap (λ k. with_version (versions_at m k) v) s)
 updated_by m n key q w v false e gets is =
-    ap found (gets ∙ ap (λ b. cond b (Some w) (get (slice_cmp nat_cmp) m q)) (is_eq-slice_cmp key q ∙ e))
+    ap found (gets ∙ ap (λ b. cond b (Some w) (get (slice_cmp nat_cmp) m q)) (is_eq-slice_cmp key q
+    ∙ e))
 
 pub updated : (m n : VersionMap) (key : List ℕ) (w : Versions) (v : Version)
-    → ((q : List ℕ) → get (slice_cmp nat_cmp) n q ≡ cond (is_eq (slice_cmp nat_cmp key q)) (Some w) (get (slice_cmp nat_cmp) m q))
+    → ((q : List ℕ) → get (slice_cmp nat_cmp) n q ≡ cond (is_eq (slice_cmp nat_cmp key q)) (Some w)
+    (get (slice_cmp nat_cmp) m q))
     → all_of w ≡ with_version (versions_at m key) v
-    → (q : List ℕ) → versions_at n q ≡ cond (bytes_eq key q) (with_version (versions_at m q) v) (versions_at m q)
+    → (q : List ℕ) → versions_at n q ≡ cond (bytes_eq key q) (with_version (versions_at m q) v)
+    (versions_at m q)
 updated m n key w v gets is q = updated_by m n key q w v (bytes_eq key q) refl (gets q) is
 
 -- the key had versions, and what the borrow wrote stands at it
-pub followed : (m inserted n : VersionMap) (key own : List ℕ) (before fresh w : Versions) (v : Version)
+pub followed : (m inserted n : VersionMap) (key own : List ℕ) (before fresh w : Versions)
+    (v : Version)
     → own ≡ key → Some before ≡ get (slice_cmp nat_cmp) m own
-    → ((q : List ℕ) → get (slice_cmp nat_cmp) inserted q ≡ cond (is_eq (slice_cmp nat_cmp own q)) (Some fresh) (get (slice_cmp nat_cmp) m q))
-    → ((q : List ℕ) → get (slice_cmp nat_cmp) n q ≡ cond (is_eq (slice_cmp nat_cmp key q)) (Some w) (get (slice_cmp nat_cmp) inserted q))
+    → ((q : List ℕ) → get (slice_cmp nat_cmp) inserted q ≡ cond (is_eq (slice_cmp nat_cmp own q))
+    (Some fresh) (get (slice_cmp nat_cmp) m q))
+    → ((q : List ℕ) → get (slice_cmp nat_cmp) n q ≡ cond (is_eq (slice_cmp nat_cmp key q)) (Some w)
+    (get (slice_cmp nat_cmp) inserted q))
     → all_of w ≡ with_version (all_of before) v
-    → (q : List ℕ) → versions_at n q ≡ cond (bytes_eq key q) (with_version (versions_at m q) v) (versions_at m q)
+    → (q : List ℕ) → versions_at n q ≡ cond (bytes_eq key q) (with_version (versions_at m q) v)
+    (versions_at m q)
 followed m inserted n key own before fresh w v e had puts writes is =
-    let at : Some before ≡ get (slice_cmp nat_cmp) m key = subst (λ k. Some before ≡ get (slice_cmp nat_cmp) m k) e had in
+    let at : Some before ≡ get (slice_cmp nat_cmp) m key =
+    subst (λ k. Some before ≡ get (slice_cmp nat_cmp) m k) e had in
     updated m n key w v
-    (λ q. writes q ∙ (ap (cond (is_eq (slice_cmp nat_cmp key q)) (Some w)) (puts q ∙ ap (λ k. cond (is_eq (slice_cmp nat_cmp k q)) (Some fresh) (get (slice_cmp nat_cmp) m q)) e)
+    (λ q. writes q ∙ (ap (cond (is_eq (slice_cmp nat_cmp key q)) (Some w))
+    (puts q ∙ ap (λ k. cond (is_eq (slice_cmp nat_cmp k q)) (Some fresh)
+    (get (slice_cmp nat_cmp) m q)) e)
     ∙ twice (is_eq (slice_cmp nat_cmp key q)) (Some w) (Some fresh) (get (slice_cmp nat_cmp) m q)))
     (is ∙ ap (λ o. with_version (found o) v) at)
   where
@@ -60,23 +75,34 @@ followed m inserted n key own before fresh w v e had puts writes is =
 
 -- what was inserted is found
 pub found_there : (m n : VersionMap) (key own : List ℕ) (fresh : Versions) → own ≡ key
-    → ((q : List ℕ) → get (slice_cmp nat_cmp) n q ≡ cond (is_eq (slice_cmp nat_cmp own q)) (Some fresh) (get (slice_cmp nat_cmp) m q))
+    → ((q : List ℕ) → get (slice_cmp nat_cmp) n q ≡ cond (is_eq (slice_cmp nat_cmp own q))
+    (Some fresh) (get (slice_cmp nat_cmp) m q))
     → get (slice_cmp nat_cmp) n key ≡ Some fresh
 found_there m n key own fresh e puts =
-    puts key ∙ (ap (λ k. cond (is_eq (slice_cmp nat_cmp k key)) (Some fresh) (get (slice_cmp nat_cmp) m key)) e
-    ∙ ap (λ b. cond b (Some fresh) (get (slice_cmp nat_cmp) m key)) (ap is_eq (tied_itself nat_list_cmp_total key)))
+    puts key ∙ (ap (λ k. cond (is_eq (slice_cmp nat_cmp k key)) (Some fresh)
+    (get (slice_cmp nat_cmp) m key)) e
+    ∙ ap (λ b. cond b (Some fresh) (get (slice_cmp nat_cmp) m key))
+    (ap is_eq (tied_itself nat_list_cmp_total key)))
 
 -- the key had none
-pub begun : (m n : VersionMap) (key own : List ℕ) (w : Versions) (v : Version) → own ≡ key → None ≡ get (slice_cmp nat_cmp) m own
-    → ((q : List ℕ) → get (slice_cmp nat_cmp) n q ≡ cond (is_eq (slice_cmp nat_cmp own q)) (Some w) (get (slice_cmp nat_cmp) m q))
+pub begun : (m n : VersionMap) (key own : List ℕ) (w : Versions) (v : Version) → own ≡ key
+    → None ≡ get (slice_cmp nat_cmp) m own
+    → ((q : List ℕ) → get (slice_cmp nat_cmp) n q ≡ cond (is_eq (slice_cmp nat_cmp own q)) (Some w)
+    (get (slice_cmp nat_cmp) m q))
     → all_of w ≡ v ∷ []
-    → (q : List ℕ) → versions_at n q ≡ cond (bytes_eq key q) (with_version (versions_at m q) v) (versions_at m q)
+    → (q : List ℕ) → versions_at n q ≡ cond (bytes_eq key q) (with_version (versions_at m q) v)
+    (versions_at m q)
 begun m n key own w v e had gets is =
-    let by_key = subst (λ k. (q : List ℕ) → get (slice_cmp nat_cmp) n q ≡ cond (is_eq (slice_cmp nat_cmp k q)) (Some w) (get (slice_cmp nat_cmp) m q)) e gets in
-    updated m n key w v by_key (is ∙ ap (λ o. with_version (found o) v) (had ∙ ap (get (slice_cmp nat_cmp) m) e))
+    let by_key = subst (λ k. (q : List ℕ) → get (slice_cmp nat_cmp) n q ≡ cond
+    (is_eq (slice_cmp nat_cmp k q)) (Some w) (get (slice_cmp nat_cmp) m q)) e gets in
+    updated m n key w v by_key (is ∙ ap (λ o. with_version (found o) v)
+    (had ∙ ap (get (slice_cmp nat_cmp) m) e))
 
-pub lacks_in : (m : VersionMap) (key own : List ℕ) (number : ℕ) (o : Option Versions) (added : Bool) → own ≡ key → o ≡ get (slice_cmp nat_cmp) m own → added ≡ lacks (found o) number → added ≡ lacks (versions_at m key) number
-lacks_in m key own number o added e is a = a ∙ (ap (λ x. lacks (found x) number) is ∙ ap (λ k. lacks (versions_at m k) number) e)
+pub lacks_in : (m : VersionMap) (key own : List ℕ) (number : ℕ) (o : Option Versions) (added : Bool)
+    → own ≡ key → o ≡ get (slice_cmp nat_cmp) m own → added ≡ lacks (found o) number → added ≡ lacks
+    (versions_at m key) number
+lacks_in m key own number o added e is a =
+    a ∙ (ap (λ x. lacks (found x) number) is ∙ ap (λ k. lacks (versions_at m k) number) e)
 
 -- ---- edit by edit, from the last on
 
@@ -85,29 +111,36 @@ pub lacks_added : (old : List Version) (number : ℕ) (x : Option (Option (List 
     → ((i : ℕ) (v : Version) → slice_get old i ≡ Some v → v.number < number)
     → lacks (added old number x) number ≡ not (is_some x)
 lacks_added old number None below = lacks_greater old number below
-lacks_added old number (Some value) below = lacks_last old (record { number = number; value = value }) number ∙ ap not (same number)
+lacks_added old number (Some value) below =
+    lacks_last old (record { number = number; value = value }) number ∙ ap not (same number)
   where
     same : (n : ℕ) → (n == n) ≡ true
     same n = grind arith
 
 put_on : (old : List Version) (number : ℕ) (x : Option (Option (List ℕ))) (left : Option (List ℕ))
     → ((i : ℕ) (v : Version) → slice_get old i ≡ Some v → v.number < number)
-    → with_version (added old number x) (record { number = number; value = left }) ≡ added old number (option_or x (Some left))
-put_on old number None left below = with_new old (record { number = number; value = left }) (lacks_greater old number below)
-put_on old number (Some value) left below = without (added old number (Some value)) (record { number = number; value = left }) (lacks_added old number (Some value) below)
+    → with_version (added old number x) (record { number = number; value = left }) ≡ added old
+    number (option_or x (Some left))
+put_on old number None left below = with_new old (record { number = number; value = left })
+    (lacks_greater old number below)
+put_on old number (Some value) left below = without (added old number (Some value))
+    (record { number = number; value = left }) (lacks_added old number (Some value) below)
 
 or_none : {X : Type 0} (x : Option X) → option_or x None ≡ x
 or_none None = refl
 or_none (Some x) = refl
 
-one_edit : (t : Bool) (old : List Version) (number : ℕ) (x : Option (Option (List ℕ))) (left : Option (List ℕ))
+one_edit : (t : Bool) (old : List Version) (number : ℕ) (x : Option (Option (List ℕ)))
+    (left : Option (List ℕ))
     → ((i : ℕ) (v : Version) → slice_get old i ≡ Some v → v.number < number)
-    → cond t (with_version (added old number x) (record { number = number; value = left })) (added old number x) ≡ added old number (option_or x (cond t (Some left) None))
+    → cond t (with_version (added old number x) (record { number = number; value = left }))
+    (added old number x) ≡ added old number (option_or x (cond t (Some left) None))
 one_edit true old number x left below = put_on old number x left below
 one_edit false old number x left below = ap (added old number) (sym (or_none x))
 
 -- the versions of a key with what the edits from this one on left
-pub turned : (edit : Edit) (rest : List Edit) (q key : List ℕ) (old now next : List Version) (number : ℕ) (left : Option (List ℕ))
+pub turned : (edit : Edit) (rest : List Edit) (q key : List ℕ) (old now next : List Version)
+    (number : ℕ) (left : Option (List ℕ))
     → key ≡ key_of edit → left ≡ value_put edit
     → ((i : ℕ) (v : Version) → slice_get old i ≡ Some v → v.number < number)
     → now ≡ added old number (last_edit rest q)
@@ -115,9 +148,11 @@ pub turned : (edit : Edit) (rest : List Edit) (q key : List ℕ) (old now next :
     → next ≡ added old number (last_edit (edit ∷ rest) q)
 turned edit rest q key old now next number left is_key is_left below is step =
     step
-    ∙ (ap (λ xs. cond (bytes_eq key q) (with_version xs (record { number = number; value = left })) xs) is
+    ∙ (ap (λ xs. cond (bytes_eq key q) (with_version xs (record { number = number; value = left }))
+    xs) is
     ∙ (one_edit (bytes_eq key q) old number (last_edit rest q) left below
-    ∙ ap₂ (λ k l. added old number (option_or (last_edit rest q) (cond (bytes_eq k q) (Some l) None))) is_key is_left))
+    ∙ ap₂ (λ k l. added old number
+    (option_or (last_edit rest q) (cond (bytes_eq k q) (Some l) None))) is_key is_left))
 
 -- the edits from one place before
 pub from_last : (edits : List Edit) (i : ℕ) (edit : Edit) → 0 < i → i ≤ length edits →
@@ -140,15 +175,19 @@ min_sum a c m = elim (cases_lt a m) [
 capped : (a b c : ℕ) → capped_sum (capped_sum a b) c ≡ capped_sum a (b + c)
 capped a b c = min_sum (a + b) c (2 ^ 64 - 1) ∙ ap (λ n. min n (2 ^ 64 - 1)) (search arith)
 
-pub counted : (edit : Edit) (rest : List Edit) (key : List ℕ) (bytes sum next : ℕ) (is_added : Bool) → key ≡ key_of edit
+pub counted : (edit : Edit) (rest : List Edit) (key : List ℕ) (bytes sum next : ℕ) (is_added : Bool)
+    → key ≡ key_of edit
     → is_added ≡ not (is_some (last_edit rest key)) → sum ≡ capped_sum bytes (edits_size rest)
     → next ≡ cond is_added (capped_sum sum (edit_size edit)) sum
     → next ≡ capped_sum bytes (edits_size (edit ∷ rest))
 counted edit rest key bytes sum next is_added is_key has is step =
     let seen = has ∙ ap (λ k. not (is_some (last_edit rest k))) is_key in
-    step ∙ (ap (λ s. cond is_added (capped_sum s (edit_size edit)) s) is ∙ by is_added (is_some (last_edit rest (key_of edit))) seen)
+    step ∙ (ap (λ s. cond is_added (capped_sum s (edit_size edit)) s) is ∙ by is_added
+    (is_some (last_edit rest (key_of edit))) seen)
   where
-    by : (b t : Bool) → b ≡ not t → cond b (capped_sum (capped_sum bytes (edits_size rest)) (edit_size edit)) (capped_sum bytes (edits_size rest)) ≡ capped_sum bytes (edits_size rest + cond t 0 (edit_size edit))
+    by : (b t : Bool) → b ≡ not t → cond b (capped_sum (capped_sum bytes (edits_size rest))
+        (edit_size edit)) (capped_sum bytes (edits_size rest)) ≡ capped_sum bytes
+        (edits_size rest + cond t 0 (edit_size edit))
     by true true e = absurd (cc)
     by true false e = capped bytes (edits_size rest) (edit_size edit)
     by false true e = ap (λ n. min n (2 ^ 64 - 1)) (search arith)

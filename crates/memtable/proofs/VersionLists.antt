@@ -1,5 +1,7 @@
 -- Versions of one key, by their places.
-use Rattle.std.proofs.Common.{◌≡◌, ℕ, suc, zero, ◌⊎◌, inl, inr, ◌<◌, ◌≤◌, ◌+◌, ◌==◌, sym, ap, ◌∙◌, subst, arith, List, [], ◌∷◌, ◌++◌, length, true, false, not, if◌then◌else◌}
+use Rattle.std.proofs.Common.{◌≡◌, ℕ, suc, zero, ◌⊎◌, inl, inr, ◌<◌, ◌≤◌, ◌+◌, ◌==◌, sym, ap, ◌∙◌}
+use Rattle.std.proofs.Common.{subst, arith, List, [], ◌∷◌, ◌++◌, length, true, false, not}
+use Rattle.std.proofs.Common.{if◌then◌else◌}
 use Rattle.std.proofs.Common.{Some, None, refl}
 use Rattle.std.specs.List.{slice_get}
 use Rattle.std.proofs.lemmas.Option.{same_Some}
@@ -56,13 +58,16 @@ pub last_at : (xs : List Version) (y : Version) → slice_get (xs ++ y ∷ []) (
 last_at [] y = refl
 last_at (x ∷ xs) y = last_at xs y
 
-pub front_at : (xs ys : List Version) (i : ℕ) → i < length xs → slice_get (xs ++ ys) i ≡ slice_get xs i
+pub front_at : (xs ys : List Version) (i : ℕ) → i < length xs → slice_get (xs ++ ys) i ≡ slice_get
+    xs i
 front_at [] ys i l = absurd (omega (arith, l))
 front_at (x ∷ xs) ys zero l = refl
-front_at (x ∷ xs) ys (suc i) l = front_at xs ys i (let h : suc i < suc (length xs) = l in omega arith)
+front_at (x ∷ xs) ys (suc i) l = front_at xs ys i (let h : suc i < suc (length xs) = l in
+    omega arith)
 
 -- in the list, or the last
-pub places : (xs : List Version) (y : Version) (i : ℕ) (v : Version) → slice_get (xs ++ y ∷ []) i ≡ Some v → (slice_get xs i ≡ Some v) × (i < length xs) ⊎ ((i ≡ length xs) × (v ≡ y))
+pub places : (xs : List Version) (y : Version) (i : ℕ) (v : Version) → slice_get (xs ++ y ∷ []) i ≡
+    Some v → (slice_get xs i ≡ Some v) × (i < length xs) ⊎ ((i ≡ length xs) × (v ≡ y))
 places [] y zero v e = inr (refl, sym (same_Some y v e))
 places [] y (suc i) v e = absurd (let h : None ≡ Some v = e in cc)
 places (x ∷ xs) y zero v e = inl (e, (let h : 0 < suc (length xs) = omega arith in h))
@@ -74,26 +79,34 @@ places (x ∷ xs) y (suc i) v e = elim (places xs y i v e) [
 apart : (i j : ℕ) → (i < j) ⊎ ((i ≡ j) ⊎ (j < i))
 apart i j = grind arith
 
-pub up_to : (xs : List Version) (number m : ℕ) (x : Version) → IsRisingList xs → slice_get xs m ≡ Some x → x.number ≤ number → (i : ℕ) (v : Version) → i < m + 1 → slice_get xs i ≡ Some v → v.number ≤ number
+pub up_to : (xs : List Version) (number m : ℕ) (x : Version) → IsRisingList xs → slice_get xs m ≡
+    Some x → x.number ≤ number → (i : ℕ) (v : Version) → i < m + 1 → slice_get xs i ≡ Some v
+    → v.number ≤ number
 up_to xs number m x rising at le i v l e = elim (apart i m) [
   | inl k ↦ let h = rising i m v x k e at in omega (arith, h, le)
   | inr k ↦ elim k [
-    | inl s ↦ let h : v ≡ x = same_Some v x (sym e ∙ (ap (slice_get xs) s ∙ at)) in subst (λ y. y.number ≤ number) (sym h) le
+    | inl s ↦ let h : v ≡ x = same_Some v x (sym e ∙ (ap (slice_get xs) s ∙ at)) in
+        subst (λ y. y.number ≤ number) (sym h) le
     | inr s ↦ absurd (omega (arith, s, l))
   ]
 ]
 
-pub above : (xs : List Version) (number m : ℕ) (x : Version) → IsRisingList xs → slice_get xs m ≡ Some x → number < x.number → (i : ℕ) (v : Version) → m ≤ i → slice_get xs i ≡ Some v → number < v.number
+pub above : (xs : List Version) (number m : ℕ) (x : Version) → IsRisingList xs → slice_get xs m ≡
+    Some x → number < x.number → (i : ℕ) (v : Version) → m ≤ i → slice_get xs i ≡ Some v
+    → number < v.number
 above xs number m x rising at lt i v l e = elim (apart i m) [
   | inl k ↦ absurd (omega (arith, k, l))
   | inr k ↦ elim k [
-    | inl s ↦ let h : v ≡ x = same_Some v x (sym e ∙ (ap (slice_get xs) s ∙ at)) in subst (λ y. number < y.number) (sym h) lt
+    | inl s ↦ let h : v ≡ x = same_Some v x (sym e ∙ (ap (slice_get xs) s ∙ at)) in
+        subst (λ y. number < y.number) (sym h) lt
     | inr s ↦ let h = rising m i x v s at e in omega (arith, h, lt)
   ]
 ]
 
 -- one more with a greater number
-pub rising_more : (xs : List Version) (y : Version) → IsRisingList xs → ((i : ℕ) (v : Version) → slice_get xs i ≡ Some v → v.number < y.number) → IsRisingList (xs ++ y ∷ [])
+pub rising_more : (xs : List Version) (y : Version) → IsRisingList xs
+    → ((i : ℕ) (v : Version) → slice_get xs i ≡ Some v → v.number < y.number) → IsRisingList
+    (xs ++ y ∷ [])
 rising_more xs y rising below i j a b l p q = elim (places xs y j b q) [
   | inl h ↦ elim (places xs y i a p) [
     | inl k ↦ rising i j a b l k.0 h.0

@@ -1,5 +1,6 @@
 -- A cursor over a memtable keeps what every cursor keeps.
-use Rattle.std.proofs.Common.{◌≡◌, ℕ, suc, ◌⊎◌, inl, inr, ◌<◌, ◌≤◌, sym, ap, ◌∙◌, subst, arith, List, [], ◌∷◌, length, Bool, true, false, cond, Some}
+use Rattle.std.proofs.Common.{◌≡◌, ℕ, suc, ◌⊎◌, inl, inr, ◌<◌, ◌≤◌, sym, ap, ◌∙◌, subst, arith}
+use Rattle.std.proofs.Common.{List, [], ◌∷◌, length, Bool, true, false, cond, Some}
 use Rattle.std.specs.List.{slice_get}
 use Rattle.std.proofs.lemmas.Option.{same_Some}
 use Rattle.merge_iter.specs.declared.direction.Direction.{Direction}
@@ -8,7 +9,8 @@ use Rattle.merge_iter.specs.{Position, On, Off, Broken, IsApart}
 use Rattle.merge_iter.specs.EntryParts.{equal_parts}
 use Rattle.merge_iter.specs.{IsLawful}
 use Rattle.memtable.specs.declared.cursor.MemCursor.{MemCursor}
-use Rattle.memtable.specs.Maps.{VersionMap, MapHolds, HasRisingNumbers, versions_at, entry_version, version_entry}
+use Rattle.memtable.specs.Maps.{VersionMap, MapHolds, HasRisingNumbers, versions_at, entry_version}
+use Rattle.memtable.specs.Maps.{version_entry}
 use Rattle.memtable.specs.Places.{cursor_position}
 use Rattle.memtable.specs.Left.{map_entries, count, left_on}
 
@@ -20,7 +22,8 @@ count_within : (p : Entry → Bool) (xs : List Entry) → count p xs ≤ length 
 count_within p [] = omega arith
 count_within p (x ∷ xs) = one (p x) (count p xs) (length xs) (count_within p xs)
 
-left_within : (entries : List Entry) (way : Direction) (s : Position) → left_on entries way s ≤ length entries
+left_within : (entries : List Entry) (way : Direction) (s : Position) → left_on entries way s ≤
+    length entries
 left_within entries way (On here) = count_within _ entries
 left_within entries way Off = omega arith
 left_within entries way Broken = omega arith
@@ -33,20 +36,26 @@ apart m rising a b p q e =
     let parts = equal_parts a b e in
     let there = subst (λ k. slice_get (versions_at m k) p.0 ≡ Some (entry_version a)) parts.0 p.1 in
     elim (sides p.0 q.0) [
-      | inl l ↦ absurd (let n = rising b.key p.0 q.0 (entry_version a) (entry_version b) l there q.1 in let s = parts.1 in omega (arith, n, s))
+      | inl l ↦ absurd (let n = rising b.key p.0 q.0 (entry_version a) (entry_version b) l there q.1
+          in let s = parts.1 in omega (arith, n, s))
       | inr h ↦ elim h [
         | inl s ↦
-            let v : entry_version a ≡ entry_version b = same_Some (entry_version a) (entry_version b) (sym there ∙ (ap (slice_get (versions_at m b.key)) s ∙ q.1)) in
+            let v : entry_version a ≡ entry_version b = same_Some (entry_version a)
+            (entry_version b) (sym there ∙ (ap (slice_get (versions_at m b.key)) s ∙ q.1)) in
             ap (λ k. version_entry k (entry_version a)) parts.0 ∙ ap (version_entry b.key) v
-        | inr l ↦ absurd (let n = rising b.key q.0 p.0 (entry_version b) (entry_version a) l q.1 there in let s = parts.1 in omega (arith, n, s))
+        | inr l ↦ absurd (let n = rising b.key q.0 p.0 (entry_version b) (entry_version a) l q.1
+            there in let s = parts.1 in omega (arith, n, s))
       ]
     ]
 
-pub cursor_laws : IsLawful {C = MemCursor} {S = Unit {0}} (λ c _. MapHolds c.map.now) (λ _ _. Unit {0}) (λ _ _. Unit {0}) (λ c way. left_on (map_entries c.map.now.entries) way (cursor_position c.has_failed c.place)) (λ c. length (map_entries c.map.now.entries))
+pub cursor_laws : IsLawful {C = MemCursor} {S = Unit {0}} (λ c _. MapHolds c.map.now)
+    (λ _ _. Unit {0}) (λ _ _. Unit {0}) (λ c way. left_on (map_entries c.map.now.entries) way
+    (cursor_position c.has_failed c.place)) (λ c. length (map_entries c.map.now.entries))
 cursor_laws = record {
   itself = λ a. tt;
   through = λ a b c h k. tt;
   stays = λ c a b h s. (tt, λ entry. ((λ x. x), (λ x. x)));
   apart = λ c a s. apart c.map.now c.rising;
-  within = λ c way. left_within (map_entries c.map.now.entries) way (cursor_position c.has_failed c.place);
+  within = λ c way. left_within (map_entries c.map.now.entries) way
+      (cursor_position c.has_failed c.place);
 }

@@ -7,7 +7,7 @@ use Rattle.memtable.specs.declared.memtable.Memtable.{Memtable}
 use Rattle.memtable.specs.Maps.{MapHolds}
 
 -- the entries of a memtable
-abbrev pub TableHolds : Memtable → Entry → Type 0
+unfoldable pub TableHolds : Memtable → Entry → Type 0
 TableHolds table = MapHolds table.map
 
 -- the bytes that they count

@@ -120,7 +120,8 @@ impl<'a> Cursor for MemCursor<'a> {
 
     ghost failures = { λ _. 0 };
 
-    ghost left = { λ c way. left_on (map_entries c.map.now.entries) way (cursor_position c.has_failed c.place) };
+    ghost left = { λ c way. left_on (map_entries c.map.now.entries) way
+        (cursor_position c.has_failed c.place) };
 
     ghost most = { λ c. length (map_entries c.map.now.entries) };
 

@@ -33,7 +33,8 @@ pub(crate) fn front<'a>(
 ) -> Option<VersionPlace<'a>>
     ensures placed { IfSome result (IsVersionPlace map.now) }
     ensures first { HasRisingNumbers map.now → IsFirst Forward (λ entry. MapHolds map.now entry
-        × IsFromStart (slice_cmp nat_cmp) (bound_map (λ x. x.now) start.entry) entry.key) (maybe_position result) }
+        × IsFromStart (slice_cmp nat_cmp) (bound_map (λ x. x.now) start.entry) entry.key)
+        (maybe_position result) }
 {
     let (key, versions) = map.range((start, Bound::Unbounded)).next()?;
     let at = versions.older.len();
@@ -47,7 +48,8 @@ pub(crate) fn back<'a>(
 ) -> Option<VersionPlace<'a>>
     ensures placed { IfSome result (IsVersionPlace map.now) }
     ensures first { HasRisingNumbers map.now → IsFirst Backward (λ entry. MapHolds map.now entry
-        × IsUpToEnd (slice_cmp nat_cmp) (bound_map (λ x. x.now) end.entry) entry.key) (maybe_position result) }
+        × IsUpToEnd (slice_cmp nat_cmp) (bound_map (λ x. x.now) end.entry) entry.key)
+        (maybe_position result) }
 {
     let (key, versions) = map.range((Bound::Unbounded, end)).next_back()?;
     Some(VersionPlace {
@@ -118,7 +120,8 @@ impl<'a> VersionPlace<'a> {
         requires placed { IsVersionPlace map.now self }
         requires held { ForSome held (λ keys. keys ≡ keys_after map.now self.key.now) }
         ensures placed { IfSome result.0 (IsVersionPlace map.now) }
-        ensures first { HasRisingNumbers map.now → IfOn (place_position self.entry) (λ here. IsFirst Forward
+        ensures first { HasRisingNumbers map.now → IfOn (place_position self.entry)
+            (λ here. IsFirst Forward
             (λ entry. MapHolds map.now entry × EntryPrecedes Forward here entry)
             (maybe_position result.0)) }
         ensures held { ForSome result.0 (λ place. ForSome result.1 (λ keys.

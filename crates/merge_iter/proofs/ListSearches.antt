@@ -1,8 +1,7 @@
 -- The place of a key and number in a sorted list.
-use Rattle.std.proofs.Common.{◌≡◌, ◌⊎◌, inl, inr, ◌<◌, ◌≤◌, ℕ, Bool, true, false, refl, sym, ◌∙◌}
+use Rattle.std.proofs.Common.{◌≡◌, inl, inr, ◌<◌, ◌≤◌, ℕ, Bool, true, false, refl, sym, ◌∙◌}
 use Rattle.std.proofs.Common.{ap, subst}
-use Rattle.std.proofs.Common.{List, length, get_or, Some, None, IsTrue, arith}
-use Rattle.std.specs.List.{slice_get}
+use Rattle.std.proofs.Common.{List, length, get_or, IsTrue, arith}
 use Rattle.std.specs.List.Sorted.{IsPartitionedBy, IsPartitionPoint}
 use Rattle.std.specs.Ordering.{is_lt}
 use Rattle.std.specs.declared.cmp.Ordering.TheVariants.{Less}

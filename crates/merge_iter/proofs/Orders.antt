@@ -4,11 +4,10 @@ use Rattle.std.specs.Cmp.Lexicographic.{slice_cmp}
 use Rattle.std.specs.declared.cmp.Ordering.{Ordering}
 use Rattle.std.specs.declared.cmp.Ordering.TheVariants.{Less, Equal, Greater}
 use Rattle.std.specs.Ordering.{is_lt, ordering_then, nat_cmp}
-use Rattle.merge_iter.specs.declared.direction.Direction.TheVariants.{Forward}
 use Rattle.merge_iter.specs.declared.owned_entry.OwnedEntry.{OwnedEntry}
 use Rattle.merge_iter.specs.ListEntries.{entry_of}
 use Rattle.kv_types.specs.{Entry}
-use Rattle.merge_iter.specs.Order.{entry_cmp, EntryPrecedes}
+use Rattle.merge_iter.specs.Order.{entry_cmp}
 use Rattle.merge_iter.specs.Positions.{Position, On, Off, Broken, IfOn}
 
 pub less_iff : (r : Ordering) → IsTrue (is_lt r) ↔ (r ≡ Less)

@@ -1,5 +1,5 @@
 -- What a cursor's moves do.
-use Rattle.std.specs.Prelude.{◌≡◌, ◌↔◌, ℕ, ◌+◌, ◌-◌, ◌^◌, ◌<◌, ◌≤◌, Result, OnOk, IsErrOf}
+use Rattle.std.specs.Prelude.{◌≡◌, ◌↔◌, ℕ, ◌≤◌, Result, OnOk, IsErrOf}
 use Rattle.merge_iter.specs.declared.direction.Direction.{Direction}
 use Rattle.merge_iter.specs.declared.error.CursorError.{CursorError}
 use Rattle.merge_iter.specs.declared.error.CursorError.TheVariants.{Disk, Damaged, Failed}

@@ -12,8 +12,11 @@ use Rattle.memtable.proofs.place.back.Goals as goal
 
 pub returns-in_err-key-clause-first : goal.returns-in_err-key-clause-first
 returns-in_err-key-clause-first c rising =
-    subst (λ o. IsFirst Backward (λ entry. MapHolds c.args.map.now entry × IsUpToEnd (slice_cmp nat_cmp) (bound_map (λ x. x.now) c.args.end) entry.key) (maybe_position o)) (sym c.from_residual.ensures)
+    subst (λ o. IsFirst Backward (λ entry. MapHolds c.args.map.now entry × IsUpToEnd
+    (slice_cmp nat_cmp) (bound_map (λ x. x.now) c.args.end) entry.key) (maybe_position o))
+    (sym c.from_residual.ensures)
     (back_none c.args.map.now _ _ (c.range.ensures.in_range tt) (c.in_err-key.ensures.steps.0))
 
 pub returns-clause-first : goal.returns-clause-first
-returns-clause-first c rising = back_some c.args.map.now _ _ _ c.in_ok-key.key.now c.in_ok-key.versions.now 0 rising (c.range.ensures.in_range tt) c.in_ok-key.ensures.steps refl
+returns-clause-first c rising = back_some c.args.map.now _ _ _ c.in_ok-key.key.now
+    c.in_ok-key.versions.now 0 rising (c.range.ensures.in_range tt) c.in_ok-key.ensures.steps refl

@@ -23,7 +23,8 @@ returns-clause-puts c =
     let lent = c.in-Some-get_mut.versions.now in
     let there = found_there c.args.map.now inserted key own c.new.result c.in_ok-clone.ensures
     c.in_ok-before.ensures.updates.0 in
-    let is : lent ≡ c.new.result = same_Some lent c.new.result (c.in-Some-get_mut.ensures.value ∙ there) in
+    let is : lent ≡ c.new.result = same_Some lent c.new.result (c.in-Some-get_mut.ensures.value
+    ∙ there) in
     let newest = ap (λ (v : Versions). v.newest) is ∙ c.new.ensures.newest in
     let writes = (c.get_mut.follows.holds c.follow.new.self).3
     (subst IsSome c.in-Some-get_mut.ensures.value refl) in

@@ -6,5 +6,6 @@ pub returns-clause-ends : goal.returns-clause-ends
 returns-clause-ends c =
     let cursor = c.args.self.now in
     let place = c.in-Some.place in
-    ends_by Backward cursor.map.now cursor.has_failed cursor.place c.prev.result.0 place c.in-Some.is
+    ends_by Backward cursor.map.now cursor.has_failed cursor.place c.prev.result.0 place
+    c.in-Some.is
     (cursor.placed place c.in-Some.is) (c.prev.ensures.first cursor.rising)

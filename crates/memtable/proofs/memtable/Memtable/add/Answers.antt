@@ -2,16 +2,19 @@ use Rattle.std.proofs.Common.{◌≡◌, ◌<◌, ℕ, List, subst, sym, Some}
 use Rattle.std.specs.List.{slice_get}
 use Rattle.memtable.specs.declared.version.Version.{Version}
 use Rattle.memtable.specs.Maps.{version_entry, versions_at}
+use Rattle.memtable.specs.Tables.{TableHolds}
 use Rattle.memtable.proofs.Adds.{adds, still_rising, still_short}
 use Rattle.memtable.proofs.Bools.{not_true}
 use Rattle.memtable.proofs.memtable.Memtable.add.Goals as goal
 
 pub put_all-requires : goal.put_all-requires
+unfolding TableHolds
 put_all-requires c q i v e =
     subst (λ n. v.number < n) (sym c.get.ensures.same)
     (c.requires (not_true c.if-self.false) (version_entry q v) (i, e))
 
 pub invariant_of-self-2 : goal.invariant_of-self-2
+unfolding TableHolds
 invariant_of-self-2 c =
     let old = c.args.self.now in
     let map = c.put_all.new.map in
@@ -19,14 +22,19 @@ invariant_of-self-2 c =
     let puts = c.in_ok-self.ensures.puts in
     let is_new = c.requires (not_true c.if-self.false) in
     let below = λ (q : List ℕ) (i : ℕ) (v : Version) (e : slice_get (versions_at old.map q) i ≡ Some v).
-    subst (λ n. v.number < n) (sym c.get.ensures.same) (is_new (version_entry q v) (i, e)) in record {
-      rising = λ _. still_rising old.map map c.get.result edits puts (old.rising c.if-self.false) below;
-      short = λ _. still_short old.map map c.args.number c.args.batch.now (old.short c.if-self.false)
+    subst (λ n. v.number < n) (sym c.get.ensures.same) (is_new (version_entry q v) (i, e)) in
+    record {
+      rising = λ _. still_rising old.map map c.get.result edits puts (old.rising c.if-self.false)
+          below;
+      short = λ _. still_short old.map map c.args.number c.args.batch.now
+          (old.short c.if-self.false)
           c.edits-edits.ensures.batch.each (adds old.map map c.args.number c.get.result
           c.args.batch.now edits c.get.ensures.same c.edits-edits.ensures.edits puts);
     }
 
 pub returns-clause-adds : goal.returns-clause-adds
+unfolding TableHolds
 returns-clause-adds c =
     adds c.args.self.now.map c.put_all.new.map c.args.number c.get.result c.args.batch.now
-    c.edits-edits.result.now c.get.ensures.same c.edits-edits.ensures.edits c.in_ok-self.ensures.puts
+    c.edits-edits.result.now c.get.ensures.same c.edits-edits.ensures.edits
+    c.in_ok-self.ensures.puts

@@ -16,7 +16,8 @@ returns-then-self-gt0-clause-first c rising =
 pub returns-clause-placed : goal.returns-clause-placed
 returns-clause-placed c =
     (step_after c.args.map.now c.args.self.key.now c.keys_after-keys.result c.first_of-next.new.keys
-    c.first_of-next.result c.len.ensures.ordered c.keys_after-keys.ensures c.first_of-next.ensures).placed
+    c.first_of-next.result c.len.ensures.ordered c.keys_after-keys.ensures
+    c.first_of-next.ensures).placed
 
 pub returns-clause-first : goal.returns-clause-first
 returns-clause-first c rising =

@@ -15,8 +15,10 @@ returns-then-self-len-clause-first c rising =
 -- out of the key
 pub returns-clause-placed : goal.returns-clause-placed
 returns-clause-placed c =
-    (step_before c.args.map.now c.args.self.key.now c.keys_before-keys.result c.last_of-prev.new.keys
-    c.last_of-prev.result c.len-2.ensures.ordered c.keys_before-keys.ensures c.last_of-prev.ensures).placed
+    (step_before c.args.map.now c.args.self.key.now c.keys_before-keys.result
+    c.last_of-prev.new.keys
+    c.last_of-prev.result c.len-2.ensures.ordered c.keys_before-keys.ensures
+    c.last_of-prev.ensures).placed
 
 pub returns-clause-first : goal.returns-clause-first
 returns-clause-first c rising =

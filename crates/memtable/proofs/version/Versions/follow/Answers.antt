@@ -10,7 +10,8 @@ returns-then-before-self-clause-all c =
 
 pub returns-then-before-self-clause-is_added : goal.returns-then-before-self-clause-is_added
 returns-then-before-self-clause-is_added c =
-    sym (has_same c.args.before c.args.self.now.newest.number (search (arith, c.if-before-self.true)))
+    sym (has_same c.args.before c.args.self.now.newest.number
+    (search (arith, c.if-before-self.true)))
 
 pub returns-clause-all : goal.returns-clause-all
 returns-clause-all c =
