@@ -38,9 +38,12 @@ pub fn add_all(
         let Change { key, value } = *change;
         let entry = PlainEntry { key, number, value };
         let place = place_of(entries, key, number);
-        match entries.get_mut(place) {
-            Some(other) if other.key == key && other.number == number => *other = entry,
-            _ => entries.insert(place, entry)?,
+        if place >= entries.len() {
+            entries.push(entry)?;
+        } else if entries[place].key == key && entries[place].number == number {
+            entries[place] = entry;
+        } else {
+            entries.insert(place, entry)?;
         }
     }
     Ok(())
