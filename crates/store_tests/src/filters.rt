@@ -1,5 +1,5 @@
 // The bytes of complete filters, and the keys that they deny.
-use bloom::{BloomError, build, may_hold};
+use bloom::{BloomError, KeyHashes, build, may_hold, may_hold_hashed};
 use kv_types::{Key, KvError};
 use std::alloc::Global;
 use std::test::Fail;
@@ -60,6 +60,7 @@ fn what_was_put_in_is_not_denied(rt: HostRuntime) {
     let (_, filter) = FILTERS[2];
     for (key, is_held) in &HELD {
         assert!(rt; may_hold(filter, *key) == *is_held, "{key:?}");
+        assert!(rt; may_hold_hashed(filter, KeyHashes::of(*key)) == *is_held, "{key:?}");
     }
     assert!(rt; may_hold(&[], b"h"));
 }

@@ -21,7 +21,8 @@ invariant_of-self-2 c =
     let edits = c.edits-edits.result.now in
     let puts = c.in_ok-self.ensures.puts in
     let is_new = c.requires (not_true c.if-self.false) in
-    let below = λ (q : List ℕ) (i : ℕ) (v : Version) (e : slice_get (versions_at old.map q) i ≡ Some v).
+    let below = λ (q : List ℕ) (i : ℕ) (v : Version)
+    (e : slice_get (versions_at old.map q) i ≡ Some v).
     subst (λ n. v.number < n) (sym c.get.ensures.same) (is_new (version_entry q v) (i, e)) in
     record {
       rising = λ _. still_rising old.map map c.get.result edits puts (old.rising c.if-self.false)
