@@ -1,7 +1,7 @@
 //! An entry that is kept while the cursor that it was read from moves on.
 ghost use Rattle.std.specs.Prelude.{◌≡◌, ◌↔◌, IsTrue, OnOk, IfOk, IsSome};
 ghost use Rattle.merge_iter.specs.Positions.{IsOn, IfOn};
-ghost use Rattle.merge_iter.specs.Keeping.{kept_entry};
+ghost use Rattle.merge_iter.specs.KeptEntries.{kept_entry};
 
 use crate::cursor::Cursor;
 use std::alloc::{AllocError, Global};
