@@ -11,7 +11,8 @@ use Rattle.disk.specs.{DurableFileIsLeft, DurableIsLeft, IsDurable, IsLeftAt, Le
 use Rattle.disk.specs.{seen}
 use Rattle.disk.proofs.Moments.{started, weaker}
 use Rattle.record_log.specs.declared.Log.{Log}
-use Rattle.record_log.specs.{Represents, LogHolds, IsAt, IsOldOrNew, IsOldOrNewFrom, count_of}
+use Rattle.record_log.specs.{HasFailed, Represents, LogHolds, IsAt, IsOldOrNew, IsOldOrNewFrom}
+use Rattle.record_log.specs.{count_of}
 use Rattle.node.specs.declared.engine.Engine.{Engine}
 use Rattle.chain_model.specs.{IsId, place}
 use Rattle.configurations.specs.{IsConfig}
@@ -19,9 +20,26 @@ use Rattle.kv_types.specs.declared.bounds.TheConstants.{MAX_NUMBER}
 use Rattle.node.specs.Layout.{identity_file, identity_records, batches_file}
 use Rattle.node.specs.Layout.{batch_record, records_from}
 use Rattle.node.specs.Files.{IsLog, HasId, DiskRepresents, IsDurableIdOf, IsOneOf}
-use Rattle.node.specs.Engines.{EngineHolds, HasNumbersOf, KeepsStore, engine_count}
+use Rattle.node.specs.Engines.{EngineHolds, HasNumbersOf, IsUsable, KeepsStore, engine_count}
 use Rattle.chain_core.specs.{Machine}
 use Rattle.node.proofs.Records.{records_from-push, length-ends}
+
+-- the two files are different
+pub files_apart : identity_file ≢ batches_file
+files_apart same = absurd (omega (arith, same))
+
+pub batches_apart : batches_file ≢ identity_file
+batches_apart same = absurd (omega (arith, same))
+
+-- an engine without a failed append, whose batches can be numbered, is usable
+pub usable : (engine : Engine) → (HasFailed engine.log → ⊥) → engine_count engine ≤ MAX_NUMBER →
+    IsUsable engine
+usable engine works few = record {
+  works = works;
+  kept = omega arith;
+  floor = omega arith;
+  few = few;
+}
 
 -- two calls in a row keep what each keeps
 pub kept_on : {engine : Engine} {a b c : State} → KeepsStore engine a b → KeepsStore engine b c →
