@@ -7,12 +7,12 @@ use Rattle.std.specs.Prelude.{IsSomeAnd, slice_get, ◌⊎◌, ◌≢◌}
 use Rattle.std.proofs.lemmas.List.Elements.{All-push}
 use Rattle.kv_types.specs.{IsBatch, BatchContent}
 use Rattle.disk.specs.{State, Slot, Absent, Fresh, Kept, Contents, IsFileOutcome, IsCrashOutcome}
-use Rattle.disk.specs.{DurableFileIsLeft, DurableIsLeft, IsDurable, IsLeftAt, LeavesSince, contents}
+use Rattle.disk.specs.{EndsOutOfRange, DurableFileIsLeft, DurableIsLeft, IsDurable, IsLeftAt, LeavesSince, contents}
 use Rattle.disk.specs.{seen}
 use Rattle.disk.proofs.Moments.{started, weaker}
 use Rattle.record_log.specs.declared.Log.{Log}
 use Rattle.record_log.specs.{HasFailed, Represents, LogHolds, IsAt, IsOldOrNew, IsOldOrNewFrom}
-use Rattle.record_log.specs.{count_of}
+use Rattle.record_log.specs.{count_of, gate_of}
 use Rattle.node.specs.declared.engine.Engine.{Engine}
 use Rattle.chain_model.specs.{IsId, place}
 use Rattle.configurations.specs.{IsConfig}
@@ -40,6 +40,22 @@ usable engine works few = record {
   floor = omega arith;
   few = few;
 }
+
+-- no batch can be numbered
+pub none_few : 0 ≤ MAX_NUMBER
+none_few = omega arith
+
+pub usable_empty : (engine : Engine) → (HasFailed engine.log → ⊥) → engine.batches.items ≡ [] →
+    IsUsable engine
+usable_empty engine works none = usable engine works (omega (arith, ap length none))
+
+-- an empty log has room for a short record
+pub has_room : (log : Log) (one bytes : List ℕ) → gate_of log ≡ 0 → one ≡ bytes →
+    length bytes ≤ 35 → EndsOutOfRange (gate_of log) (length one + 6) → ⊥
+has_room log one bytes empty is short out = omega (arith, empty, ap length is, short, out)
+
+pub short_fits : (one bytes : List ℕ) → one ≡ bytes → length bytes ≤ 35 → length one ≤ 16777216
+short_fits one bytes is short = omega (arith, ap length is, short)
 
 -- two calls in a row keep what each keeps
 pub kept_on : {engine : Engine} {a b c : State} → KeepsStore engine a b → KeepsStore engine b c →

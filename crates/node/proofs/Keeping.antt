@@ -1,10 +1,11 @@
 -- What several calls on a disk keep, one behind another, and what a stop says of the call before it.
-use Rattle.std.proofs.Common.{rules, ◌≡◌, ◌↔◌, Result, Ok, Err, ◌∙◌, ap, subst, sym, refl}
+use Rattle.std.proofs.Common.{rules, ◌≡◌, ◌↔◌, ℕ, Result, Ok, Err, ◌∙◌, ap, inl, inr, subst}
 use Rattle.std.specs.Prelude.{IsErrAnd}
 use Rattle.disk.specs.declared.Disk.{Ghosts}
 use Rattle.disk.specs.declared.DiskError.TheVariants as disk
-use Rattle.disk.specs.{AddsNoOutcome, IsFileOutcome, IsSame, KeepsDisk, RisesByOne, State}
-use Rattle.node.specs.Files.{IsRecovered}
+use Rattle.disk.specs.{AddsNoOutcome, IsFileOutcome, IsSame, IsSameBut, KeepsDisk, RisesByOne}
+use Rattle.disk.specs.{State}
+use Rattle.node.specs.Files.{IsRecovered, KeepsOthers}
 use Rattle.node.specs.Layout.{batches_file, identity_file}
 use Rattle.record_log.specs.declared.LogError.{LogError}
 use Rattle.record_log.specs.declared.LogError.TheVariants as log
@@ -12,9 +13,9 @@ use Rattle.node.specs.declared.stop.Stop.{Stop}
 use Rattle.node.specs.declared.stop.Stop.TheVariants as stop
 use Rattle.node.specs.Stops.{IsDeviceStop, log_stop}
 
-module _ {D : Type 0} (g : Ghosts D) {first cause : Type 0} {R Q : State → State → Type 0} where
+module _ {D : Type 0} (g : Ghosts D) {first cause : Type 0} {R : State → State → Type 0} where
   -- a call whose failure is told in other words, and which keeps a weaker relation
-  pub kept_as : {old new : D} {told : Type 0} → (first ↔ told) →
+  pub kept_as : {old new : D} {told : Type 0} {Q : State → State → Type 0} → (first ↔ told) →
       ((a b : State) → R a b → Q a b) → KeepsDisk g old new first cause R → KeepsDisk g old new told cause Q
   kept_as {old = old} {new = new} same weaker kept = record {
     honest = kept.honest;
@@ -27,14 +28,28 @@ module _ {D : Type 0} (g : Ghosts D) {first cause : Type 0} {R Q : State → Sta
     spared = λ spared works. kept.spared spared (λ fails. works (same.0 fails));
   }
 
+  -- a call that cannot fail for its cause
+  pub kept_but : {old new : D} {other : Type 0} → (cause → other) →
+      KeepsDisk g old new first cause R → KeepsDisk g old new first other R
+  kept_but so kept = record {
+    honest = kept.honest;
+    failed = kept.failed;
+    count = kept.count;
+    only = λ reliable spared fails. so (kept.only reliable spared fails);
+    reliable = kept.reliable;
+    files = kept.files;
+    fault = kept.fault;
+    spared = kept.spared;
+  }
+
   -- a call that did not fail, and one behind it
-  pub kept_behind : {old mid new : D} {told : Type 0} {S : State → State → Type 0} →
+  pub kept_behind : {old mid new : D} {told : Type 0} {S Q : State → State → Type 0} →
       ((a b c : State) → R a b → S b c → Q a c) → KeepsDisk g old mid first ⊥ R → (first → ⊥) →
       KeepsDisk g mid new told cause S → KeepsDisk g old new told cause Q
   kept_behind {old = old} {mid = mid} {new = new} both before works kept = record {
     honest = (
       λ honest. before.honest.0 (kept.honest.0 honest),
-      λ honest. kept.honest.1 (before.honest.1 honest)
+      λ honest. kept.honest.1 (before.honest.1 honest),
     );
     failed = λ fails. subst (λ k. RisesByOne k (g.failures new)) (before.count works) (kept.failed fails);
     count = λ end. kept.count end ∙ before.count works;
@@ -101,3 +116,41 @@ synced_and_read old mid new synced same = record {
 -- the identity file was synced
 pub one_synced : (old new : State) → AddsNoOutcome identity_file old new → IsRecovered old new
 one_synced old new synced = record { crash = search rules; others = search rules }
+
+-- files outside the layout are unchanged where none changed, or one of the layout alone
+pub same_others : (old new : State) → IsSame old new → KeepsOthers old new
+same_others old new same other not_own = same other
+
+pub identity_others : (old new : State) → IsSameBut identity_file old new → KeepsOthers old new
+identity_others old new same other not_own = same other (λ e. not_own (inl e))
+
+pub batches_others : (old new : State) → IsSameBut batches_file old new → KeepsOthers old new
+batches_others old new same other not_own = same other (λ e. not_own (inr e))
+
+pub both_others : (old mid new : State) → KeepsOthers old mid → KeepsOthers mid new →
+    KeepsOthers old new
+both_others old mid new before after other not_own =
+    after other not_own ∙ before other not_own
+
+pub same_then_same : (old mid new : State) → IsSame old mid → IsSame mid new → IsSame old new
+same_then_same old mid new before after other = after other ∙ before other
+
+pub same_then_others : (old mid new : State) → IsSame old mid → KeepsOthers mid new →
+    KeepsOthers old new
+same_then_others old mid new before after = both_others old mid new (same_others old mid before)
+    after
+
+pub same_then_batches : (old mid new : State) → IsSame old mid → IsSameBut batches_file mid new →
+    KeepsOthers old new
+same_then_batches old mid new before after =
+    same_then_others old mid new before (batches_others mid new after)
+
+pub then_identity : (old mid new : State) → KeepsOthers old mid → IsSameBut identity_file mid new →
+    KeepsOthers old new
+then_identity old mid new before after =
+    both_others old mid new before (identity_others mid new after)
+
+pub then_file : {file : ℕ} → file ≡ identity_file → (old mid new : State) → KeepsOthers old mid →
+    IsSameBut file mid new → KeepsOthers old new
+then_file is old mid new before after other not_own =
+    after other (λ e. not_own (inl (e ∙ is))) ∙ before other not_own

@@ -144,10 +144,12 @@ returns-clause-found g c = λ honest.
     let read = c.in_ok-batches.ensures.found o.records honest2 o.holds in
     let it = c.in_ok-identity.identity in
     let list = c.in_ok-batches.batches.items in
-    let there = (c.identity_on.ensures.kept.files honest).others batches_file batches_apart in
-    (list, had_batches (g.D.Disk.state c.args.disk.now) (g.D.Disk.state c.identity_on.new.disk)
-    (g.D.Disk.state c.open.new.disk) c.in_ok-log.log it.id it.config list
-    (c.in_ok-identity.ensures.found honest).had there o read.0 read.1 c.in_ok-batches.ensures.few)
+    let there = (c.identity_on.ensures.kept.files honest).others batches_file batches_apart in (
+      list,
+      had_batches (g.D.Disk.state c.args.disk.now) (g.D.Disk.state c.identity_on.new.disk)
+          (g.D.Disk.state c.open.new.disk) c.in_ok-log.log it.id it.config list
+          (c.in_ok-identity.ensures.found honest).had there o read.0 read.1 c.in_ok-batches.ensures.few,
+    )
 
 -- only a disk without the identity of a node is blank
 pub returns-in_err-identity-clause-blank : goal.returns-in_err-identity-clause-blank
