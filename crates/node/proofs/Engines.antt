@@ -58,12 +58,18 @@ pub short_fits : (one bytes : List ℕ) → one ≡ bytes → length bytes ≤ 3
 short_fits one bytes is short = omega (arith, ap length is, short)
 
 -- two calls in a row keep what each keeps
-pub kept_on : {engine : Engine} {a b c : State} → KeepsStore engine a b → KeepsStore engine b c →
+pub kept_on : {engine : Engine} (a b c : State) → KeepsStore engine a b → KeepsStore engine b c →
     KeepsStore engine a c
-kept_on first second = record {
+kept_on a b c first second = record {
   others = λ other not_own. second.others other not_own ∙ first.others other not_own;
   holds = λ x epoch ids list floor kept held.
       second.holds x epoch ids list floor kept (first.holds x epoch ids list floor kept held);
+}
+
+pub same_store : {engine : Engine} (a : State) → KeepsStore engine a a
+same_store a = record {
+  others = λ other not_own. refl;
+  holds = λ x epoch ids list floor kept held. held;
 }
 
 -- a log holds what it held where its file is the same

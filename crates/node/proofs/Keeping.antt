@@ -1,5 +1,5 @@
 -- What several calls on a disk keep, one behind another, and what a stop says of the call before it.
-use Rattle.std.proofs.Common.{rules, ◌≡◌, ◌↔◌, ℕ, Result, Ok, Err, ◌∙◌, ap, inl, inr, subst}
+use Rattle.std.proofs.Common.{rules, ◌≡◌, ◌↔◌, ℕ, Result, Ok, Err, ◌∙◌, ap, inl, inr, refl, subst}
 use Rattle.std.specs.Prelude.{IsErrAnd}
 use Rattle.disk.specs.declared.Disk.{Ghosts}
 use Rattle.disk.specs.declared.DiskError.TheVariants as disk
@@ -60,6 +60,20 @@ module _ {D : Type 0} (g : Ghosts D) {first cause : Type 0} {R : State → State
     fault = kept.fault ∙ before.fault;
     spared = λ spared end. kept.spared (before.spared spared works) end;
   }
+
+-- no call
+pub unchanged : {D : Type 0} (g : Ghosts D) {cause : Type 0} {R : State → State → Type 0} {disk : D}
+    → ((a : State) → R a a) → KeepsDisk g disk disk ⊥ cause R
+unchanged g {disk = disk} same = record {
+  honest = (λ honest. honest, λ honest. honest);
+  failed = λ fails. absurd fails;
+  count = λ works. refl;
+  only = λ reliable spared fails. absurd fails;
+  reliable = λ reliable works. reliable;
+  files = λ honest. same (g.state disk);
+  fault = refl;
+  spared = λ spared works. spared;
+}
 
 -- a result that is an answer reports no failure
 pub answered : {T E : Type 0} (result : Result T E) {x : T} {e : E} → result ≡ Ok x →
@@ -131,6 +145,9 @@ pub both_others : (old mid new : State) → KeepsOthers old mid → KeepsOthers 
     KeepsOthers old new
 both_others old mid new before after other not_own =
     after other not_own ∙ before other not_own
+
+pub same_files : (disk : State) → IsSame disk disk
+same_files disk file = refl
 
 pub same_then_same : (old mid new : State) → IsSame old mid → IsSame mid new → IsSame old new
 same_then_same old mid new before after other = after other ∙ before other
