@@ -1,8 +1,8 @@
 -- Disks on which a node was created, and others.
 use Rattle.std.proofs.Common.{◌≡◌, ℕ, ◌<◌, List, [], ◌∷◌, length, Option, Some, None}
-use Rattle.std.proofs.Common.{Result, Ok, Err, inl, inr, refl, ap, subst, arith}
+use Rattle.std.proofs.Common.{Result, Ok, Err, inl, inr, refl, ap, subst, arith, get_or, sym, ◌∙◌, ◌≢◌}
 use Rattle.std.specs.Prelude.{IfErr, IsSomeAnd, MatchOption}
-use Rattle.disk.specs.{State}
+use Rattle.disk.specs.{Contents, State}
 use Rattle.disk.specs.declared.DiskError.TheVariants as disk
 use Rattle.record_log.specs.declared.LogError.{LogError}
 use Rattle.record_log.specs.declared.LogError.TheVariants as log
@@ -11,7 +11,8 @@ use Rattle.record_log.specs.{Represents, RecordsAreUnique, LogHolds, count_of}
 use Rattle.record_log.specs as log_stands
 use Rattle.node.specs.declared.stop.Stop.{Stop}
 use Rattle.node.specs.declared.stop.Stop.TheVariants as stop
-use Rattle.node.specs.Files.{IsLog, IsBlankFile}
+use Rattle.node.specs.Files.{HasId, IsBlank, IsBlankFile, IsLog}
+use Rattle.node.specs.Layout.{identity_file, identity_records}
 use Rattle.node.specs.Stops.{MatchesBlank, log_stop}
 use Rattle.node.proofs.Records.{length-ends}
 
@@ -75,3 +76,32 @@ blank_declined (Some it) (log.Disk disk.Memory) has declined = absurd declined
 blank_declined (Some it) log.Memory has declined = tt
 blank_declined (Some it) log.TooLong has declined = absurd declined
 blank_declined (Some it) log.Failed has declined = absurd declined
+
+-- a disk that has a node's identity is not blank
+pub not_blank : (left : Contents) (x : ℕ) (ids : List ℕ) → HasId left x ids → IsBlank left → ⊥
+not_blank left x ids had = holds_one (left identity_file) had.identity
+  where
+    holds_one : (bytes : Option (List ℕ)) → IsLog bytes (identity_records x ids) →
+        IsBlankFile bytes → ⊥
+    holds_one None named blank = absurd named
+    holds_one (Some it) named (inl empty) = cc (named.2, empty)
+    holds_one (Some it) named (inr none) =
+        none.2 (ap (λ l. get_or l 0 0) (sym none.3 ∙ named.2))
+
+-- .. whatever a log on it, or the store in the log, reports
+pub blank_by_log : {is_blank : Type 0} (e : LogError) → (is_blank → ⊥) →
+    MatchesBlank (log_stop e) is_blank
+blank_by_log (log.Disk disk.Failed) not = tt
+blank_by_log (log.Disk disk.NoFile) not = not
+blank_by_log (log.Disk disk.Short) not = not
+blank_by_log (log.Disk disk.Memory) not = tt
+blank_by_log log.Memory not = tt
+blank_by_log log.TooLong not = not
+blank_by_log log.Failed not = not
+
+pub blank_by_store : {is_blank : Type 0} (e : Stop) → e ≢ stop.NotCreated → (is_blank → ⊥) →
+    MatchesBlank e is_blank
+blank_by_store stop.Disk created not = tt
+blank_by_store stop.Damaged created not = not
+blank_by_store stop.Memory created not = tt
+blank_by_store stop.NotCreated created not = absurd (created refl)

@@ -7,11 +7,12 @@ use Rattle.std.specs.Prelude.{IsSomeAnd, slice_get, ◌⊎◌, ◌≢◌}
 use Rattle.std.proofs.lemmas.List.Elements.{All-push}
 use Rattle.kv_types.specs.{IsBatch, BatchContent}
 use Rattle.disk.specs.{State, Slot, Absent, Fresh, Kept, Contents, IsFileOutcome, IsCrashOutcome}
-use Rattle.disk.specs.{DurableFileIsLeft, DurableIsLeft, IsDurable, IsLeftAt, LeavesSince, contents}
+use Rattle.disk.specs.{EndsOutOfRange, DurableFileIsLeft, DurableIsLeft, IsDurable, IsLeftAt, LeavesSince, contents}
 use Rattle.disk.specs.{seen}
 use Rattle.disk.proofs.Moments.{started, weaker}
 use Rattle.record_log.specs.declared.Log.{Log}
-use Rattle.record_log.specs.{Represents, LogHolds, IsAt, IsOldOrNew, IsOldOrNewFrom, count_of}
+use Rattle.record_log.specs.{HasFailed, Represents, LogHolds, IsAt, IsOldOrNew, IsOldOrNewFrom}
+use Rattle.record_log.specs.{count_of, gate_of}
 use Rattle.node.specs.declared.engine.Engine.{Engine}
 use Rattle.chain_model.specs.{IsId, place}
 use Rattle.configurations.specs.{IsConfig}
@@ -19,17 +20,56 @@ use Rattle.kv_types.specs.declared.bounds.TheConstants.{MAX_NUMBER}
 use Rattle.node.specs.Layout.{identity_file, identity_records, batches_file}
 use Rattle.node.specs.Layout.{batch_record, records_from}
 use Rattle.node.specs.Files.{IsLog, HasId, DiskRepresents, IsDurableIdOf, IsOneOf}
-use Rattle.node.specs.Engines.{EngineHolds, HasNumbersOf, KeepsStore, engine_count}
+use Rattle.node.specs.Engines.{EngineHolds, HasNumbersOf, IsUsable, KeepsStore, engine_count}
 use Rattle.chain_core.specs.{Machine}
 use Rattle.node.proofs.Records.{records_from-push, length-ends}
 
+-- the two files are different
+pub files_apart : identity_file ≢ batches_file
+files_apart same = absurd (omega (arith, same))
+
+pub batches_apart : batches_file ≢ identity_file
+batches_apart same = absurd (omega (arith, same))
+
+-- an engine without a failed append, whose batches can be numbered, is usable
+pub usable : (engine : Engine) → (HasFailed engine.log → ⊥) → engine_count engine ≤ MAX_NUMBER →
+    IsUsable engine
+usable engine works few = record {
+  works = works;
+  kept = omega arith;
+  floor = omega arith;
+  few = few;
+}
+
+-- no batch can be numbered
+pub none_few : 0 ≤ MAX_NUMBER
+none_few = omega arith
+
+pub usable_empty : (engine : Engine) → (HasFailed engine.log → ⊥) → engine.batches.items ≡ [] →
+    IsUsable engine
+usable_empty engine works none = usable engine works (omega (arith, ap length none))
+
+-- an empty log has room for a short record
+pub has_room : (log : Log) (one bytes : List ℕ) → gate_of log ≡ 0 → one ≡ bytes →
+    length bytes ≤ 35 → EndsOutOfRange (gate_of log) (length one + 6) → ⊥
+has_room log one bytes empty is short out = omega (arith, empty, ap length is, short, out)
+
+pub short_fits : (one bytes : List ℕ) → one ≡ bytes → length bytes ≤ 35 → length one ≤ 16777216
+short_fits one bytes is short = omega (arith, ap length is, short)
+
 -- two calls in a row keep what each keeps
-pub kept_on : {engine : Engine} {a b c : State} → KeepsStore engine a b → KeepsStore engine b c →
+pub kept_on : {engine : Engine} (a b c : State) → KeepsStore engine a b → KeepsStore engine b c →
     KeepsStore engine a c
-kept_on first second = record {
+kept_on a b c first second = record {
   others = λ other not_own. second.others other not_own ∙ first.others other not_own;
   holds = λ x epoch ids list floor kept held.
       second.holds x epoch ids list floor kept (first.holds x epoch ids list floor kept held);
+}
+
+pub same_store : {engine : Engine} (a : State) → KeepsStore engine a a
+same_store a = record {
+  others = λ other not_own. refl;
+  holds = λ x epoch ids list floor kept held. held;
 }
 
 -- a log holds what it held where its file is the same

@@ -1,6 +1,7 @@
 pub mod Identities
 pub mod Records
 pub mod Causes
+pub mod Keeping
 pub mod Engines
 pub mod Opens
 pub mod Blank

@@ -1,5 +1,7 @@
 -- What an opened disk had.
-use Rattle.std.proofs.Common.{◌≡◌, ℕ, suc, List, [], ◌∷◌, ◌++◌, take, drop, Option, Some, None}
+use Rattle.std.proofs.Common.{◌≡◌, ◌≤◌, ℕ, suc, List, [], ◌∷◌, ◌++◌, take, drop, length, Option}
+use Rattle.std.proofs.Common.{Some, None}
+use Rattle.kv_types.specs.declared.bounds.TheConstants.{MAX_NUMBER}
 use Rattle.std.proofs.Common.{Result, Ok, Err, refl, sym, ap, subst, ◌∙◌, arith}
 use Rattle.std.specs.Prelude.{All, IfOk, slice_get}
 use Rattle.std.specs.Int.{w16, to_be_bytes, from_be_bytes}
@@ -7,16 +9,16 @@ use Rattle.std.proofs.lemmas.Nat.{from_be_bytes-to_be_bytes_2}
 use Rattle.std.proofs.lemmas.List.{append-nil}
 use Rattle.std.proofs.lemmas.List.Elements.{All-head, All-tail}
 use Rattle.kv_types.specs.{BatchContent, IsBatch, SpellingsDiffer, batch_bytes}
-use Rattle.disk.specs.{State, Slot, Contents, seen, IsSame}
+use Rattle.disk.specs.{State, Slot, Contents, contents, seen, IsSame}
 use Rattle.record_log.specs.declared.Log.{Log}
 use Rattle.record_log.specs.{LogHolds, HasRecords, IsAt, IsOpenedLog, count_of, RecordsAreUnique}
 use Rattle.node.specs.declared.stop.Stop.{Stop}
 use Rattle.chain_model.specs.{IsId}
 use Rattle.configurations.specs.{IsConfig, config_text, ConfigTextIsUnique}
 use Rattle.node.specs.declared.layout.Identity.{Identity}
-use Rattle.node.specs.Layout.{identity_file, identity_record, identity_records}
+use Rattle.node.specs.Layout.{batches_file, identity_file, identity_record, identity_records}
 use Rattle.node.specs.Layout.{batch_record, records_from}
-use Rattle.node.specs.Files.{IsLog, HasId, HasDurableId}
+use Rattle.node.specs.Files.{DiskRepresents, IsLog, HasId, HasDurableId}
 use Rattle.node.proofs.Engines.{holds_in, sure_of_id, only_one}
 
 -- an unchanged file has the same records
@@ -102,3 +104,22 @@ pub named_by : (disk : State) (log : Log) (records : List (List ℕ)) (one : Lis
 named_by disk log records one (Ok it) h size got is =
     only_one disk log records one h size got ∙ ap (λ (r : List ℕ). r ∷ []) is
 named_by disk log records one (Err e) h size got is = tt
+
+-- the disk had the batches that were read from its log
+pub had_batches : (s0 s1 s2 : State) (log : Log) (x : ℕ) (ids : List ℕ)
+    (list : List BatchContent) → HasId (contents s0) x ids → s1 batches_file ≡ s0 batches_file →
+    (o : IsOpenedLog s1 batches_file 0 s2 log) → o.records ≡ records_from 1 list →
+    All IsBatch list → length list ≤ MAX_NUMBER →
+    DiskRepresents (contents s0) x 0 ids list 0 0
+had_batches s0 s1 s2 log x ids list id same o read each few =
+    let stood : IsLog (seen (s0 batches_file)) o.records =
+    subst (λ (slot : Slot). IsLog (seen slot) o.records) same o.stood in
+    record {
+      batches = record {
+        id = id;
+        batches = subst (IsLog (seen (s0 batches_file))) read stood;
+        each = each;
+        few = few;
+      };
+      numbers = record { first = refl; not_raised = refl; none_dropped = refl };
+    }

@@ -73,6 +73,11 @@ grows records i list new batch size more before got =
     ∙ ap (λ (r : List ℕ). records_from 1 list ++ r ∷ []) number
     ∙ sym (records_from-push 1 list batch) ∙ ap (records_from 1) (sym more)
 
+pub one_longer : {i : ℕ} (list : List BatchContent) (batch : BatchContent)
+    (new : List BatchContent) → new ≡ list ++ batch ∷ [] → length list ≡ i → length new ≡ i + 1
+one_longer list batch new more size =
+    omega (arith, ap length more, length-append list (batch ∷ []), size)
+
 -- a log knows an end for each record
 pub length-ends : (at : ℕ) (records : List (List ℕ)) →
     length (ends_from at records) ≡ length records

@@ -1,7 +1,7 @@
-use Rattle.std.proofs.Common.{◌≡◌, ◌↔◌, ℕ, List, length, take}
+use Rattle.std.proofs.Common.{◌≡◌, ℕ, List, length, take}
 use Rattle.std.specs.Prelude.{All}
 use Rattle.kv_types.specs.{IsBatch}
-use Rattle.disk.specs.{HasStruck, IsSame, IsStill}
+use Rattle.disk.specs.{IsSame, IsStill, KeepsDisk}
 use Rattle.record_log.specs.{LogHolds}
 use Rattle.node.specs.Layout.{records_from}
 use Rattle.node.proofs.engine.batches_in.Given as goal
@@ -9,14 +9,8 @@ use Rattle.node.proofs.engine.batches_in.Given as goal
 -- the batches of the records that the loop has passed
 abbrev pub invariant-loop-index : goal.invariant-loop-index
 invariant-loop-index g l = record {
-  honest : g.D.Disk.is_honest l.disk ↔ g.D.Disk.is_honest l.fn.disk;
   still : IsStill g.D.Disk l.fn.disk l.disk;
-  reliable : g.D.Disk.is_reliable l.fn.disk → g.D.Disk.is_reliable l.disk;
-  count : g.D.Disk.failures l.disk ≡ g.D.Disk.failures l.fn.disk;
-  fault : g.D.Disk.fault_at l.disk ≡ g.D.Disk.fault_at l.fn.disk;
-  spared : (HasStruck g.D.Disk.fault_at g.D.Disk.past l.fn.disk → ⊥) →
-      HasStruck g.D.Disk.fault_at g.D.Disk.past l.disk → ⊥;
-  same : g.D.Disk.is_honest l.fn.disk → IsSame (g.D.Disk.state l.fn.disk) (g.D.Disk.state l.disk);
+  kept : KeepsDisk g.D.Disk l.fn.disk l.disk ⊥ ⊥ IsSame;
   size : length l.batches.items ≡ l.index;
   each : All IsBatch l.batches.items;
   found : (records : List (List ℕ)) → g.D.Disk.is_honest l.fn.disk →

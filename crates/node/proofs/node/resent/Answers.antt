@@ -1,9 +1,12 @@
-use Rattle.std.proofs.Common.{rules, ◌≡◌, ◌+◌, ◌-◌, ◌++◌, suc, ap, ◌∙◌, sym, subst, arith}
+use Rattle.std.proofs.Common.{rules, ◌≡◌, ◌+◌, ◌-◌, ◌++◌, suc, ap, ◌∙◌, sym, subst, arith, inr, refl}
 use Rattle.std.specs.Prelude.{option_to_list}
-use Rattle.std.proofs.lemmas.Result.{err_from_is_err_and}
 use Rattle.chain_model.specs.{forward, forwards}
 use Rattle.chain_core.specs.{AreFrames}
-use Rattle.node.proofs.Engines.{kept_on}
+use Rattle.node.specs.Stops.{IsEnvironmental}
+use Rattle.node.proofs.Causes.{refuses}
+use Rattle.node.proofs.Engines.{kept_on, same_store}
+use Rattle.node.proofs.Keeping.{answered, done, kept_as, kept_behind, memory_told, neither}
+use Rattle.node.proofs.Keeping.{stop_passed, unchanged}
 use Rattle.node.proofs.Outputs.{both_sent, made_of}
 use Rattle.disk.proofs.Still.{still, still_more}
 use Rattle.node.proofs.node.resent.Goals as goal
@@ -12,53 +15,43 @@ use Rattle.node.proofs.node.resent.Goals as goal
 pub returns-in_err-batch-clause-sent : goal.returns-in_err-batch-clause-sent
 returns-in_err-batch-clause-sent g c = λ x n is honest s.
     let was = c.loop-number.invariant in
-    let p = err_from_is_err_and c.from_residual.result c.from_residual.ensures.1 in
-    let found = c.in_err-batch.ensures.found x n.epoch n.ids n.list n.floor n.kept
-    (was.honest.1 honest) ((was.kept honest).holds x n.epoch n.ids n.list n.floor n.kept s) in
-    rw (p.1, p.2) found
+    refuses c.from_residual.result _ IsEnvironmental c.from_residual.ensures.1
+    (c.in_err-batch.ensures.found x n.epoch n.ids n.list n.floor n.kept
+    (was.kept.honest.1 honest) ((was.kept.files honest).holds x n.epoch n.ids n.list n.floor n.kept
+    s))
+
+pub returns-in_err-push_some-clause-sent : goal.returns-in_err-push_some-clause-sent
+returns-in_err-push_some-clause-sent g c = λ x n is honest s.
+    refuses c.from_residual-in_err-push_some.result _ IsEnvironmental
+    c.from_residual-in_err-push_some.ensures.1 (inr refl)
 
 -- the engine holds what it held
 pub returns-in_err-batch-clause-kept : goal.returns-in_err-batch-clause-kept
 returns-in_err-batch-clause-kept g c =
-    let was = c.loop-number.invariant in
-    record {
-      honest = search rules;
-      failed = search rules;
-      count = search rules;
-      only = search rules;
-      reliable = search rules;
-      files = λ honest.
-          kept_on (was.kept honest) (c.batch.ensures.kept.files (was.honest.1 honest));
-      fault = search rules;
-      spared = search rules;
-    }
+    let failed = stop_passed c.batch.result c.in_err-batch.field-0.0 c.from_residual.result
+    c.in_err-batch.was c.from_residual.ensures.1 in
+    kept_behind g.D.Disk kept_on c.loop-number.invariant.kept (λ fails. fails)
+    (kept_as g.D.Disk failed (λ a b kept. kept) c.batch.ensures.kept)
 
 pub returns-in_err-push_some-clause-kept : goal.returns-in_err-push_some-clause-kept
 returns-in_err-push_some-clause-kept g c =
-    let was = c.loop-number.invariant in
-    record {
-      honest = search rules;
-      failed = search rules;
-      count = search rules;
-      only = search rules;
-      reliable = search rules;
-      files = λ honest.
-          kept_on (was.kept honest) (c.batch.ensures.kept.files (was.honest.1 honest));
-      fault = search rules;
-      spared = search rules;
-    }
+    let told = memory_told c.from_residual-in_err-push_some.result
+    c.from_residual-in_err-push_some.ensures.1 in
+    kept_behind g.D.Disk kept_on c.loop-number.invariant.kept (λ fails. fails)
+    (kept_as g.D.Disk (neither (answered c.batch.result c.in_ok-batch.was) told)
+    (λ a b kept. kept) c.batch.ensures.kept)
+
+pub returns-clause-kept : goal.returns-clause-kept
+returns-clause-kept g c =
+    kept_as g.D.Disk (neither (λ fails. fails) done) (λ a b kept. kept)
+    c.loop-number.invariant.kept
 
 -- none was sent
 pub loop-number-init : goal.loop-number-init
 loop-number-init g c = record {
   reached = search rules;
-  honest = search rules;
   still = λ honest. still _ _;
-  reliable = search rules;
-  count = search rules;
-  fault = search rules;
-  spared = search rules;
-  kept = search rules;
+  kept = unchanged g.D.Disk same_store;
   sent = search rules;
 }
 
@@ -77,20 +70,16 @@ loop-number-preserved g c =
     let more : at + 1 - start ≡ suc m = omega (arith, c.loop-number.auto.number) in
     record {
       reached = search rules;
-      honest = search rules;
-      reliable = search rules;
       still = λ honest.
-          still_more (was.still honest) (c.batch.ensures.still (was.honest.1 honest));
-      count = search rules;
-      fault = search rules;
-      spared = search rules;
-      kept = λ honest.
-          kept_on (was.kept honest) (c.batch.ensures.kept.files (was.honest.1 honest));
+          still_more (was.still honest) (c.batch.ensures.still (was.kept.honest.1 honest));
+      kept = kept_behind g.D.Disk kept_on was.kept (λ fails. fails)
+          (kept_as g.D.Disk (neither (answered c.batch.result c.in_ok-batch.was) (λ fails. fails))
+          (λ a b kept. kept) c.batch.ensures.kept);
       sent = λ y n is honest s.
           let made = made_of c.new.result _ at c.unwrap-number.result c.new.ensures
           c.unwrap-number.ensures in
           let there = c.in_ok-batch.ensures.found y n.epoch n.ids n.list n.floor n.kept
-          (was.honest.1 honest) ((was.kept honest).holds y n.epoch n.ids n.list n.floor n.kept s) in
+          (was.kept.honest.1 honest) ((was.kept.files honest).holds y n.epoch n.ids n.list n.floor n.kept s) in
           let frame = option_to_list c.forward.result in
           let one = subst (λ i. AreFrames frame (forward x n i)) made
           (c.forward.ensures n is there) in
@@ -119,12 +108,12 @@ returns-clause-sent g c = λ x n is honest s.
 pub returns-in_err-batch-clause-still : goal.returns-in_err-batch-clause-still
 returns-in_err-batch-clause-still g c = λ honest.
     let was = c.loop-number.invariant in
-    still_more (was.still honest) (c.batch.ensures.still (was.honest.1 honest))
+    still_more (was.still honest) (c.batch.ensures.still (was.kept.honest.1 honest))
 
 pub returns-in_err-push_some-clause-still : goal.returns-in_err-push_some-clause-still
 returns-in_err-push_some-clause-still g c = λ honest.
     let was = c.loop-number.invariant in
-    still_more (was.still honest) (c.batch.ensures.still (was.honest.1 honest))
+    still_more (was.still honest) (c.batch.ensures.still (was.kept.honest.1 honest))
 
 pub returns-clause-still : goal.returns-clause-still
 returns-clause-still g c = λ honest. c.loop-number.invariant.still honest

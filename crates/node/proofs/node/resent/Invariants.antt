@@ -1,5 +1,5 @@
-use Rattle.std.proofs.Common.{◌≡◌, ◌↔◌, ℕ, ◌-◌, ◌≤◌, max}
-use Rattle.disk.specs.{HasStruck, IsStill}
+use Rattle.std.proofs.Common.{ℕ, ◌-◌, ◌≤◌, max}
+use Rattle.disk.specs.{IsStill, KeepsDisk}
 use Rattle.chain_model.specs.{forwards}
 use Rattle.chain_core.specs.{Machine, CoreRefines, AreFrames}
 use Rattle.node.specs.Engines.{EngineHolds, KeepsStore}
@@ -9,15 +9,8 @@ use Rattle.node.proofs.node.resent.Given as goal
 abbrev pub invariant-loop-number : goal.invariant-loop-number
 invariant-loop-number g l = record {
   reached : l.number ≤ max l.initial.number l.number-end;
-  honest : g.D.Disk.is_honest l.disk ↔ g.D.Disk.is_honest l.fn.disk;
   still : IsStill g.D.Disk l.fn.disk l.disk;
-  reliable : g.D.Disk.is_reliable l.fn.disk → g.D.Disk.is_reliable l.disk;
-  count : g.D.Disk.failures l.disk ≡ g.D.Disk.failures l.fn.disk;
-  fault : g.D.Disk.fault_at l.disk ≡ g.D.Disk.fault_at l.fn.disk;
-  spared : (HasStruck g.D.Disk.fault_at g.D.Disk.past l.fn.disk → ⊥) →
-      HasStruck g.D.Disk.fault_at g.D.Disk.past l.disk → ⊥;
-  kept : g.D.Disk.is_honest l.fn.disk →
-      KeepsStore l.engine (g.D.Disk.state l.fn.disk) (g.D.Disk.state l.disk);
+  kept : KeepsDisk g.D.Disk l.fn.disk l.disk ⊥ ⊥ (KeepsStore l.engine);
   sent : (x : ℕ) (n : Machine) → CoreRefines l.core n → g.D.Disk.is_honest l.fn.disk →
       EngineHolds (g.D.Disk.state l.fn.disk) l.engine x n.epoch n.ids n.list n.floor n.kept →
       AreFrames l.sent.items

@@ -1,13 +1,136 @@
-use Rattle.std.proofs.Common.{refl, ◌≡◌, ◌≤◌, [], ◌∷◌, ap, length, subst, ◌∙◌, arith, sym}
-use Rattle.std.proofs.lemmas.Result.{err_from_is_err_and}
+use Rattle.std.proofs.Common.{refl, ◌≡◌, [], ◌∷◌, ap, inr, length, subst, ◌∙◌, sym}
 use Rattle.std.proofs.lemmas.List.Elements.{All-nil}
 use Rattle.kv_types.specs.{IsBatch}
 use Rattle.disk.specs.{Slot, seen}
 use Rattle.record_log.specs.{EndsInRange, LogHolds}
 use Rattle.node.specs.Layout.{identity_file, identity_record, identity_records, batches_file}
-use Rattle.node.proofs.Causes.{met}
-use Rattle.node.proofs.Engines.{holds_in, sure_of_id}
+use Rattle.node.specs.Stops.{IsEnvironmental}
+use Rattle.node.proofs.Causes.{met, of_machine, refuses}
+use Rattle.node.proofs.Engines.{batches_apart, files_apart, has_room, holds_in, none_few}
+use Rattle.node.proofs.Engines.{short_fits, sure_of_id, usable_empty}
+use Rattle.node.proofs.Keeping.{answered, batches_others, both_others, done, identity_others}
+use Rattle.node.proofs.Keeping.{kept_as, kept_behind, kept_but, log_failed, memory_told, neither}
+use Rattle.node.proofs.Keeping.{same_others, same_then_batches, same_then_others, same_then_same}
+use Rattle.node.proofs.Keeping.{stop_passed, then_file, then_identity}
 use Rattle.node.proofs.engine.Engine.create.Goals as goal
+
+-- the files of the layout alone are changed
+pub returns-in_err-length_of-clause-kept : goal.returns-in_err-length_of-clause-kept
+returns-in_err-length_of-clause-kept g c =
+    kept_as g.D.Disk (stop_passed c.length_of.result c.in_err-length_of.field-0.0
+    c.from_residual.result c.in_err-length_of.was c.from_residual.ensures.1)
+    same_others c.length_of.ensures.kept
+
+pub returns-in_err-length_of-2-clause-kept : goal.returns-in_err-length_of-2-clause-kept
+returns-in_err-length_of-2-clause-kept g c =
+    kept_behind g.D.Disk same_then_others c.length_of.ensures.kept
+    (answered c.length_of.result c.in_ok-length_of.was)
+    (kept_as g.D.Disk (stop_passed c.length_of-2.result c.in_err-length_of-2.field-0.0
+    c.from_residual-in_err-length_of-2.result c.in_err-length_of-2.was c.from_residual-in_err-length_of-2.ensures.1)
+    same_others c.length_of-2.ensures.kept)
+
+pub returns-in_err-log-clause-kept : goal.returns-in_err-log-clause-kept
+returns-in_err-log-clause-kept g c =
+    kept_behind g.D.Disk same_then_others (kept_behind g.D.Disk same_then_same c.length_of.ensures.kept
+    (answered c.length_of.result c.in_ok-length_of.was) c.length_of-2.ensures.kept)
+    (answered c.length_of-2.result c.in_ok-length_of-2.was)
+    (kept_as g.D.Disk (log_failed c.create.result c.in_err-log.field-0.0
+    c.from_residual-in_err-log.result c.in_err-log.was c.from_residual-in_err-log.ensures.1)
+    batches_others c.create.ensures.kept)
+
+pub returns-in_err-identity-clause-kept : goal.returns-in_err-identity-clause-kept
+returns-in_err-identity-clause-kept g c =
+    kept_behind g.D.Disk both_others (kept_behind g.D.Disk same_then_batches (kept_behind g.D.Disk same_then_same c.length_of.ensures.kept
+    (answered c.length_of.result c.in_ok-length_of.was) c.length_of-2.ensures.kept)
+    (answered c.length_of-2.result c.in_ok-length_of-2.was) c.create.ensures.kept)
+    (answered c.create.result c.in_ok-log.was)
+    (kept_as g.D.Disk (log_failed c.create-2.result c.in_err-identity.field-0.0
+    c.from_residual-in_err-identity.result c.in_err-identity.was c.from_residual-in_err-identity.ensures.1)
+    identity_others c.create-2.ensures.kept)
+
+pub returns-in_err-record-clause-kept : goal.returns-in_err-record-clause-kept
+returns-in_err-record-clause-kept g c =
+    kept_as g.D.Disk (neither (answered c.create-2.result c.in_ok-identity.was)
+    (memory_told c.from_residual-in_err-record.result c.from_residual-in_err-record.ensures.1))
+    (λ a b kept. kept) (kept_behind g.D.Disk then_identity (kept_behind g.D.Disk same_then_batches (kept_behind g.D.Disk same_then_same c.length_of.ensures.kept
+    (answered c.length_of.result c.in_ok-length_of.was) c.length_of-2.ensures.kept)
+    (answered c.length_of-2.result c.in_ok-length_of-2.was) c.create.ensures.kept)
+    (answered c.create.result c.in_ok-log.was) c.create-2.ensures.kept)
+
+pub returns-in_err-append-clause-kept : goal.returns-in_err-append-clause-kept
+returns-in_err-append-clause-kept g c =
+    let room = has_room c.in_ok-identity.identity c.deref.result.now c.in_ok-record.record.items
+    c.in_ok-identity.ensures.empty.0 c.deref.ensures.value c.in_ok-record.ensures.short in
+    kept_behind g.D.Disk (then_file c.in_ok-identity.ensures.at.in_file) (kept_behind g.D.Disk then_identity (kept_behind g.D.Disk same_then_batches (kept_behind g.D.Disk same_then_same c.length_of.ensures.kept
+    (answered c.length_of.result c.in_ok-length_of.was) c.length_of-2.ensures.kept)
+    (answered c.length_of-2.result c.in_ok-length_of-2.was) c.create.ensures.kept)
+    (answered c.create.result c.in_ok-log.was) c.create-2.ensures.kept)
+    (answered c.create-2.result c.in_ok-identity.was)
+    (kept_as g.D.Disk (log_failed c.append.result c.in_err-append.field-0.0
+    c.from_residual-in_err-append.result c.in_err-append.was c.from_residual-in_err-append.ensures.1)
+    (λ a b same. same) (kept_but g.D.Disk room c.append.ensures.kept))
+
+pub returns-clause-kept : goal.returns-clause-kept
+returns-clause-kept g c =
+    let room = has_room c.in_ok-identity.identity c.deref.result.now c.in_ok-record.record.items
+    c.in_ok-identity.ensures.empty.0 c.deref.ensures.value c.in_ok-record.ensures.short in
+    kept_behind g.D.Disk (then_file c.in_ok-identity.ensures.at.in_file) (kept_behind g.D.Disk then_identity (kept_behind g.D.Disk same_then_batches (kept_behind g.D.Disk same_then_same c.length_of.ensures.kept
+    (answered c.length_of.result c.in_ok-length_of.was) c.length_of-2.ensures.kept)
+    (answered c.length_of-2.result c.in_ok-length_of-2.was) c.create.ensures.kept)
+    (answered c.create.result c.in_ok-log.was) c.create-2.ensures.kept)
+    (answered c.create-2.result c.in_ok-identity.was)
+    (kept_as g.D.Disk (neither (answered c.append.result c.in_ok-append.was) done)
+    (λ a b same. same) (kept_but g.D.Disk room c.append.ensures.kept))
+
+-- it reports environment errors alone
+pub returns-in_err-length_of-clause-created : goal.returns-in_err-length_of-clause-created
+returns-in_err-length_of-clause-created g c = λ honest.
+    refuses c.from_residual.result _ IsEnvironmental c.from_residual.ensures.1
+    (c.in_err-length_of.ensures.length honest)
+
+pub returns-in_err-length_of-2-clause-created : goal.returns-in_err-length_of-2-clause-created
+returns-in_err-length_of-2-clause-created g c = λ honest.
+    refuses c.from_residual-in_err-length_of-2.result _ IsEnvironmental
+    c.from_residual-in_err-length_of-2.ensures.1
+    (c.in_err-length_of-2.ensures.length (c.length_of.ensures.kept.honest.1 honest))
+
+pub returns-in_err-log-clause-created : goal.returns-in_err-log-clause-created
+returns-in_err-log-clause-created g c = λ honest.
+    let honest_a = c.length_of.ensures.kept.honest.1 honest in
+    let honest0 = c.length_of-2.ensures.kept.honest.1 honest_a in
+    let ends = subst (λ (slot : Slot). EndsInRange (seen slot))
+    (sym (c.length_of-2.ensures.kept.files honest_a batches_file
+    ∙ c.length_of.ensures.kept.files honest batches_file))
+    (c.in_ok-length_of.ensures.range honest) in
+    refuses c.from_residual-in_err-log.result _ IsEnvironmental
+    c.from_residual-in_err-log.ensures.1
+    (of_machine c.in_err-log.field-0.0 (c.in_err-log.ensures.created honest0 ends))
+
+pub returns-in_err-identity-clause-created : goal.returns-in_err-identity-clause-created
+returns-in_err-identity-clause-created g c = λ honest.
+    let honest_a = c.length_of.ensures.kept.honest.1 honest in
+    let honest0 = c.length_of-2.ensures.kept.honest.1 honest_a in
+    let honest1 = c.create.ensures.kept.honest.1 honest0 in
+    let ends = subst (λ (slot : Slot). EndsInRange (seen slot))
+    (sym (c.create.ensures.kept.files honest0 identity_file files_apart
+    ∙ c.length_of-2.ensures.kept.files honest_a identity_file))
+    (c.in_ok-length_of-2.ensures.range honest_a) in
+    refuses c.from_residual-in_err-identity.result _ IsEnvironmental
+    c.from_residual-in_err-identity.ensures.1
+    (of_machine c.in_err-identity.field-0.0 (c.in_err-identity.ensures.created honest1 ends))
+
+pub returns-in_err-record-clause-created : goal.returns-in_err-record-clause-created
+returns-in_err-record-clause-created g c = λ honest.
+    refuses c.from_residual-in_err-record.result _ IsEnvironmental
+    c.from_residual-in_err-record.ensures.1 (inr refl)
+
+-- both logs work, and there is no batch
+pub returns-clause-usable : goal.returns-clause-usable
+returns-clause-usable g c =
+    usable_empty _ c.in_ok-log.ensures.at.works c.new-batches.ensures.items
+
+pub returns-clause-none : goal.returns-clause-none
+returns-clause-none g c = (ap length c.new-batches.ensures.items, refl)
 
 -- two new logs, and the node's record in one
 pub returns-clause-created : goal.returns-clause-created
@@ -21,13 +144,12 @@ returns-clause-created g c = λ honest.
     let log = c.in_ok-log.log in
     let is = c.in_ok-identity.ensures.at in
     let in_log = c.in_ok-log.ensures.at.in_file in
-    let apart : identity_file ≡ batches_file → ⊥ = λ e. omega (arith, e) in
     let batches_end = subst (λ (slot : Slot). EndsInRange (seen slot))
     (sym (c.length_of-2.ensures.kept.files honest_a batches_file
     ∙ c.length_of.ensures.kept.files honest batches_file))
     (c.in_ok-length_of.ensures.range honest) in
     let identity_ends = subst (λ (slot : Slot). EndsInRange (seen slot))
-    (sym (c.create.ensures.kept.files honest0 identity_file apart
+    (sym (c.create.ensures.kept.files honest0 identity_file files_apart
     ∙ c.length_of-2.ensures.kept.files honest_a identity_file))
     (c.in_ok-length_of-2.ensures.range honest_a) in
     let new = c.in_ok-identity.ensures.created honest1 identity_ends in
@@ -38,8 +160,8 @@ returns-clause-created g c = λ honest.
     let named : LogHolds s3 c.append.new.self (identity_records c.args.id c.args.config.now) =
     subst (λ r. LogHolds s3 c.append.new.self (r ∷ [])) one held in
     let identity = c.in_ok-identity.identity in
-    let other : log.file ≡ identity.file → ⊥ = λ e. omega (arith, e, in_log, is.in_file) in
-    let back : log.file ≡ identity_file → ⊥ = λ e. omega (arith, e, in_log) in
+    let other : log.file ≡ identity.file → ⊥ = λ e. batches_apart (sym in_log ∙ e ∙ is.in_file) in
+    let back : log.file ≡ identity_file → ⊥ = λ e. batches_apart (sym in_log ∙ e) in
     let kept : s3 log.file ≡ s1 log.file = c.append.ensures.kept.files honest2 log.file other
     ∙ c.create-2.ensures.kept.files honest1 log.file back in
     record {
@@ -50,7 +172,7 @@ returns-clause-created g c = λ honest.
       log = holds_in s1 s3 log [] kept (c.in_ok-log.ensures.created honest0 batches_end);
       batches = c.new-batches.ensures.items;
       each = All-nil IsBatch;
-      few = omega arith;
+      few = none_few;
       numbers = record { first = refl; not_raised = refl; none_dropped = refl };
     }
 
@@ -61,17 +183,15 @@ returns-in_err-append-clause-created g c = λ honest.
     let honest0 = c.length_of-2.ensures.kept.honest.1 honest_a in
     let honest1 = c.create.ensures.kept.honest.1 honest0 in
     let honest2 = c.create-2.ensures.kept.honest.1 honest1 in
-    let result = c.from_residual-in_err-append.result in
-    let p = err_from_is_err_and result c.from_residual-in_err-append.ensures.1 in
-    let apart : identity_file ≡ batches_file → ⊥ = λ e. omega (arith, e) in
     let ends = subst (λ (slot : Slot). EndsInRange (seen slot))
-    (sym (c.create.ensures.kept.files honest0 identity_file apart
+    (sym (c.create.ensures.kept.files honest0 identity_file files_apart
     ∙ c.length_of-2.ensures.kept.files honest_a identity_file))
     (c.in_ok-length_of-2.ensures.range honest_a) in
     let new = c.in_ok-identity.ensures.created honest1 ends in
-    let fits : length c.deref.result.now ≤ 16777216 =
-    omega (arith, ap length c.deref.ensures.value, c.in_ok-record.ensures.short) in
+    let fits = short_fits c.deref.result.now c.in_ok-record.record.items c.deref.ensures.value
+    c.in_ok-record.ensures.short in
     let why = c.in_err-append.ensures.appended [] honest2 new in
-    rw (p.1, p.2) (met 16777216 c.in_err-append.field-0.0 c.in_ok-identity.identity
-    c.append.new.self c.deref.result.now c.in_err-append.ensures.told.1 fits
-    c.in_ok-identity.ensures.at.works why)
+    refuses c.from_residual-in_err-append.result _ IsEnvironmental
+    c.from_residual-in_err-append.ensures.1
+    (met 16777216 c.in_err-append.field-0.0 c.in_ok-identity.identity c.append.new.self
+    c.deref.result.now c.in_err-append.ensures.told.1 fits c.in_ok-identity.ensures.at.works why)
