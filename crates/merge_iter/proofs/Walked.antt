@@ -15,8 +15,8 @@ use Rattle.disk.specs.{RisesByOne}
 use Rattle.merge_iter.specs.Moves.{MoveKeeps, ErrorCauses, MoveFinds, IsLawful}
 use Rattle.merge_iter.specs.Unions.{first_kept, stays_same, stays_through}
 use Rattle.kv_types.specs.{IsShown}
-use Rattle.merge_iter.specs.Versions.{IsBefore, IsHidden, IsAhead, IsJudged, IsJudgedBack}
-use Rattle.merge_iter.specs.Versions.{IsOnTheWay, IsSettled}
+use Rattle.merge_iter.specs.ShownEntries.{IsBefore, IsHidden, IsAhead, IsJudged, IsJudgedBack}
+use Rattle.merge_iter.specs.ShownEntries.{IsOnTheWay, IsSettled}
 use Rattle.std.specs.declared.cmp.Ordering.{Ordering}
 use Rattle.std.specs.Ordering.{is_lt, ordering_then, nat_cmp}
 use Rattle.std.specs.Cmp.Lexicographic.{slice_cmp}

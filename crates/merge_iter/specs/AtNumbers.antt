@@ -8,7 +8,7 @@ use Rattle.kv_types.specs.{Entry}
 use Rattle.merge_iter.specs.Positions.{Position}
 use Rattle.merge_iter.specs.Moves.{IsLawful}
 use Rattle.kv_types.specs.{IsShown}
-use Rattle.merge_iter.specs.Versions.{IsSettled, left_in}
+use Rattle.merge_iter.specs.ShownEntries.{IsSettled, left_in}
 use Rattle.merge_iter.specs.Searches.{all_shown_alike, settled_alike}
 
 module _ {C S : Type 0} (holds : C → S → Entry → Type 0) (sound : C → S → Type 0)

@@ -8,11 +8,11 @@ pub mod Lists
 pub mod Merging
 pub mod LentCursors
 pub mod Unions
-pub mod Versions
-pub mod Keeping
+pub mod ShownEntries
+pub mod KeptEntries
 pub mod Searches
 pub mod AtNumbers
-pub mod Shows
+pub mod Views
 -- What crates above name.
 pub use Rattle.merge_iter.specs.EntryOrder.{chain, entry_total, never}
 pub use Rattle.merge_iter.specs.EntryParts.{equal_parts, numbers_fall}
@@ -24,4 +24,4 @@ pub use Rattle.merge_iter.specs.Moves.{MoveKeeps}
 pub use Rattle.merge_iter.specs.Order.{EntryPrecedes, IsAlike, IsApart, entry_cmp, spot}
 pub use Rattle.merge_iter.specs.Positions.{After, At, AtEnd, Broken, IfOn, IsBroken, IsFirst}
 pub use Rattle.merge_iter.specs.Positions.{IsOn, Off, On, Position, WalkMeets, WalkStart}
-pub use Rattle.merge_iter.specs.Shows.{IsView}
+pub use Rattle.merge_iter.specs.Views.{IsView}

@@ -16,9 +16,10 @@ use Rattle.merge_iter.specs.Unions.{same_first, first_kept}
 use Rattle.merge_iter.specs.declared.error.CursorError.{CursorError}
 use Rattle.merge_iter.specs.EntryParts.{equal_parts, numbers_fall, between}
 use Rattle.kv_types.specs.{IsSeen, IsShown}
-use Rattle.merge_iter.specs.Versions.{IsBefore, IsHidden, IsAhead, IsPassed, IsCandidate, IsJudged}
-use Rattle.merge_iter.specs.Versions.{IsJudgedBack, IsOnTheWay, IsSettled, IsFound, IsForward}
-use Rattle.merge_iter.specs.Versions.{view_position}
+use Rattle.merge_iter.specs.ShownEntries.{IsBefore, IsHidden, IsAhead, IsPassed, IsCandidate}
+use Rattle.merge_iter.specs.ShownEntries.{IsJudged}
+use Rattle.merge_iter.specs.ShownEntries.{IsJudgedBack, IsOnTheWay, IsSettled, IsFound, IsForward}
+use Rattle.merge_iter.specs.ShownEntries.{view_position}
 
 -- an entry that is seen, and the newest of its key
 shown_by : (at : ℕ) (S : Entry → Type 0) (p : Entry) → IsSeen at S p → IsSome p.value

@@ -2,10 +2,10 @@
 ghost use Rattle.std.specs.Prelude.{◌≡◌, ◌+◌};
 ghost use Rattle.merge_iter.specs.Order.{IsAlike};
 ghost use Rattle.merge_iter.specs.Positions.{Off};
-ghost use Rattle.merge_iter.specs.Keeping.{kept_entry};
+ghost use Rattle.merge_iter.specs.KeptEntries.{kept_entry};
 ghost use Rattle.kv_types.specs.{IsShown};
-ghost use Rattle.merge_iter.specs.Versions.{IsSettled, view_position, left_in};
-ghost use Rattle.merge_iter.specs.Shows.{IsView};
+ghost use Rattle.merge_iter.specs.ShownEntries.{IsSettled, view_position, left_in};
+ghost use Rattle.merge_iter.specs.Views.{IsView};
 ghost use Rattle.merge_iter.specs.AtNumbers.{at_laws};
 
 use crate::cursor::Cursor;

@@ -1,5 +1,5 @@
 //! One cursor, moved in either direction.
-ghost use Rattle.std.specs.Prelude.{◌≡◌, ◌↔◌, ◌<◌, IsTrue, IsErr, OnOk};
+ghost use Rattle.std.specs.Prelude.{◌↔◌, ◌<◌, IsTrue, IsErr, OnOk};
 ghost use Rattle.kv_types.specs.{Entry};
 ghost use Rattle.merge_iter.specs.Order.{EntryPrecedes};
 ghost use Rattle.merge_iter.specs.Positions.{AtEnd, At, After, WalkMeets, IsOn, IfOn, IsBroken};

@@ -1,5 +1,5 @@
 //! Several cursors, moved together.
-ghost use Rattle.std.specs.Prelude.{◌≡◌, ◌↔◌, ℕ, ◌<◌, ◌≤◌, ◌+◌, IsTrue, OnOk, vec_len, Some};
+ghost use Rattle.std.specs.Prelude.{◌≡◌, ◌↔◌, ◌<◌, ◌≤◌, ◌+◌, IsTrue, OnOk, vec_len, Some};
 ghost use Rattle.std.specs.List.{slice_get, sum_by};
 ghost use Rattle.kv_types.specs.{Entry};
 ghost use Rattle.merge_iter.specs.Order.{spot};

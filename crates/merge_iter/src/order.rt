@@ -1,5 +1,5 @@
 //! The order of entries.
-ghost use Rattle.std.specs.Prelude.{◌≡◌, ℕ, List, Option};
+ghost use Rattle.std.specs.Prelude.{◌≡◌};
 ghost use Rattle.merge_iter.specs.Order.{entry_cmp, spot};
 
 use std::cmp::Ordering;

@@ -2,10 +2,11 @@
 ghost use Rattle.std.specs.Prelude.{◌≤◌, IfOk};
 ghost use Rattle.kv_types.specs.{Entry};
 ghost use Rattle.merge_iter.specs.Positions.{WalkStart, IsOn, IfOn, IsBroken};
-ghost use Rattle.merge_iter.specs.Keeping.{kept_entry};
-ghost use Rattle.merge_iter.specs.Versions.{IsHidden, IsJudged, IsJudgedBack, IsAhead, IsBefore};
-ghost use Rattle.merge_iter.specs.Versions.{IsFound, IsForward};
-ghost use Rattle.merge_iter.specs.Versions.{view_position, left_in};
+ghost use Rattle.merge_iter.specs.KeptEntries.{kept_entry};
+ghost use Rattle.merge_iter.specs.ShownEntries.{IsHidden, IsJudged, IsJudgedBack, IsAhead};
+ghost use Rattle.merge_iter.specs.ShownEntries.{IsBefore};
+ghost use Rattle.merge_iter.specs.ShownEntries.{IsFound, IsForward};
+ghost use Rattle.merge_iter.specs.ShownEntries.{view_position, left_in};
 ghost use Rattle.merge_iter.specs.declared.direction.Direction.TheVariants.{Forward, Backward};
 ghost use Rattle.merge_iter.specs.LentCursors.{KeepsCursor, RefusesMove};
 

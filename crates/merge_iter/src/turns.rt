@@ -4,8 +4,9 @@ ghost use Rattle.kv_types.specs.{Entry};
 ghost use Rattle.merge_iter.specs.Order.{EntryPrecedes, spot};
 ghost use Rattle.merge_iter.specs.Positions.{AtEnd, At, After, On, WalkMeets, IsOn, IfOn, IsBroken};
 ghost use Rattle.merge_iter.specs.Positions.{IsFirst};
-ghost use Rattle.merge_iter.specs.Keeping.{kept_entry};
-ghost use Rattle.merge_iter.specs.Versions.{IsBefore, IsFound, IsSettled, view_position, left_in};
+ghost use Rattle.merge_iter.specs.KeptEntries.{kept_entry};
+ghost use Rattle.merge_iter.specs.ShownEntries.{IsBefore, IsFound, IsSettled, view_position};
+ghost use Rattle.merge_iter.specs.ShownEntries.{left_in};
 ghost use Rattle.merge_iter.specs.declared.direction.Direction.TheVariants.{Forward, Backward};
 ghost use Rattle.merge_iter.specs.LentCursors.{KeepsCursor, RefusesMove};
 

@@ -1,7 +1,7 @@
 use Rattle.std.proofs.Common.{◌≡◌, refl, ◌∙◌, subst, arith, true, false, Ok}
 use Rattle.merge_iter.specs.Positions.{IsOn, IfOn}
-use Rattle.merge_iter.specs.Versions.{IsJudgedBack}
-use Rattle.merge_iter.specs.Keeping.{kept_entry}
+use Rattle.merge_iter.specs.ShownEntries.{IsJudgedBack}
+use Rattle.merge_iter.specs.KeptEntries.{kept_entry}
 use Rattle.merge_iter.proofs.Walked.{moves_itself, moves_through, back_on, left_on, back_end}
 use Rattle.merge_iter.proofs.shown.find_back.Goals as goal
 

@@ -2,8 +2,8 @@ use Rattle.std.proofs.Common.{◌≡◌, ◌≤◌, ◌<◌, IsTrue}
 use Rattle.merge_iter.specs.declared.direction.Direction.TheVariants.{Backward}
 use Rattle.merge_iter.specs.Positions.{WalkStart}
 use Rattle.merge_iter.specs.Moves.{MoveKeeps}
-use Rattle.merge_iter.specs.Keeping.{kept_entry}
-use Rattle.merge_iter.specs.Versions.{IsBefore, IsOnTheWay}
+use Rattle.merge_iter.specs.KeptEntries.{kept_entry}
+use Rattle.merge_iter.specs.ShownEntries.{IsBefore, IsOnTheWay}
 use Rattle.merge_iter.proofs.shown.find_back.Given as goal
 
 -- of the entries passed, the one kept is the only one that may be shown

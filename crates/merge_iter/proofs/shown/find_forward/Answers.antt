@@ -1,6 +1,6 @@
 use Rattle.std.proofs.Common.{◌≡◌, refl, ◌∙◌, subst, arith, Ok}
 use Rattle.merge_iter.specs.Positions.{IsOn, IfOn}
-use Rattle.merge_iter.specs.Versions.{IsJudged, IsHidden}
+use Rattle.merge_iter.specs.ShownEntries.{IsJudged, IsHidden}
 use Rattle.merge_iter.proofs.Walked.{moves_itself, moves_through, forward_on, shown_on, end_off}
 use Rattle.merge_iter.proofs.shown.find_forward.Goals as goal
 

@@ -2,7 +2,7 @@ use Rattle.std.proofs.Common.{◌≡◌, ◌≤◌}
 use Rattle.merge_iter.specs.declared.direction.Direction.TheVariants.{Forward}
 use Rattle.merge_iter.specs.Positions.{WalkStart}
 use Rattle.merge_iter.specs.Moves.{MoveKeeps}
-use Rattle.merge_iter.specs.Versions.{IsAhead, IsHidden}
+use Rattle.merge_iter.specs.ShownEntries.{IsAhead, IsHidden}
 use Rattle.merge_iter.proofs.shown.find_forward.Given as goal
 
 -- no entry that is shown was passed

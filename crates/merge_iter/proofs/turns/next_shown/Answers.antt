@@ -1,11 +1,11 @@
 use Rattle.std.proofs.Common.{◌<◌, inl, inr, arith}
 use Rattle.merge_iter.specs.declared.direction.Direction.TheVariants.{Forward}
 use Rattle.merge_iter.specs.Positions.{After}
-use Rattle.merge_iter.specs.Keeping.{kept_entry}
+use Rattle.merge_iter.specs.KeptEntries.{kept_entry}
 use Rattle.merge_iter.specs.Unions.{first_kept}
 use Rattle.merge_iter.specs.Searches.{ahead_after, shown_of, shown_alike, found_alike}
 use Rattle.merge_iter.proofs.Walked.{flip, below}
-use Rattle.merge_iter.specs.Versions.{left_in}
+use Rattle.merge_iter.specs.ShownEntries.{left_in}
 use Rattle.merge_iter.proofs.turns.next_shown.Goals as goal
 
 pub returns-clause-finds : goal.returns-clause-finds

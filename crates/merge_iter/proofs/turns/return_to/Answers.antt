@@ -1,8 +1,8 @@
 use Rattle.std.proofs.Common.{◌≡◌, subst}
 use Rattle.merge_iter.specs.Positions.{On}
-use Rattle.merge_iter.specs.Keeping.{kept_entry}
+use Rattle.merge_iter.specs.KeptEntries.{kept_entry}
 use Rattle.merge_iter.proofs.Walked.{returned}
-use Rattle.merge_iter.specs.Versions.{IsSettled, view_position}
+use Rattle.merge_iter.specs.ShownEntries.{IsSettled, view_position}
 use Rattle.merge_iter.proofs.turns.return_to.Goals as goal
 
 pub returns-in-Kept-clause-returns : goal.returns-in-Kept-clause-returns

@@ -2,7 +2,7 @@ use Rattle.std.proofs.Common.{◌≡◌, sym, subst, ◌∙◌, true, false, IsT
 use Rattle.merge_iter.specs.declared.direction.Direction.TheVariants.{Forward}
 use Rattle.merge_iter.specs.Order.{spot}
 use Rattle.merge_iter.specs.Positions.{At, After}
-use Rattle.merge_iter.specs.Keeping.{kept_entry}
+use Rattle.merge_iter.specs.KeptEntries.{kept_entry}
 use Rattle.merge_iter.specs.Unions.{first_kept}
 use Rattle.merge_iter.specs.Searches.{ahead_seek, ahead_after, shown_alike, found_alike, late_found}
 use Rattle.merge_iter.specs.Searches.{early_found}
@@ -10,7 +10,7 @@ use Rattle.merge_iter.proofs.Walked.{flip, on_row}
 use Rattle.merge_iter.specs.Order.{EntryPrecedes}
 use Rattle.merge_iter.specs.Positions.{IsFirst, IfOn, WalkMeets}
 use Rattle.kv_types.specs.{IsShown}
-use Rattle.merge_iter.specs.Versions.{view_position}
+use Rattle.merge_iter.specs.ShownEntries.{view_position}
 use Rattle.merge_iter.proofs.turns.seek_shown.Goals as goal
 
 pub returns-clause-finds : goal.returns-clause-finds
