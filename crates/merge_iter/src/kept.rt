@@ -1,5 +1,5 @@
 //! An entry that is kept while the cursor that it was read from moves on.
-ghost use Rattle.std.specs.Prelude.{◌≡◌, ◌↔◌, IsTrue, OnOk, IfOk, IsSome};
+ghost use Rattle.std.specs.Prelude.{◌≡◌, ◌↔◌, IsTrue, OnOk, IfOk, IsSome, Some, []};
 ghost use Rattle.merge_iter.specs.Positions.{IsOn, IfOn};
 ghost use Rattle.merge_iter.specs.KeptEntries.{kept_entry};
 
@@ -16,7 +16,9 @@ pub struct KeptEntry {
 
 impl KeptEntry {
     /// Room for an entry, without memory yet.
-    pub fn new(alloc: Global) -> KeptEntry {
+    pub fn new(alloc: Global) -> KeptEntry
+        ensures { kept_entry result ≡ record { key = []; number = 0; value = Some [] } }
+    {
         KeptEntry {
             key: Vec::new(alloc),
             number: 0,
