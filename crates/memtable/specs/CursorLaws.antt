@@ -48,14 +48,30 @@ apart m rising a b p q e =
       ]
     ]
 
-pub cursor_laws : IsLawful {C = MemCursor} {S = Unit {0}} (λ c _. MapHolds c.map.now)
-    (λ _ _. Unit {0}) (λ _ _. Unit {0}) (λ c way. left_on (map_entries c.map.now.entries) way
-    (cursor_position c.has_failed c.place)) (λ c. length (map_entries c.map.now.entries))
+-- ---- what the cursor is as one
+
+-- where it stands
+abbrev pub mem_position : MemCursor → Position
+mem_position cursor = cursor_position cursor.has_failed cursor.place
+
+-- the entries that it goes through
+abbrev pub MemCursorHolds : MemCursor → Entry → Type 0
+MemCursorHolds cursor = MapHolds cursor.map.now
+
+-- the steps that are left in a direction
+abbrev pub mem_left : MemCursor → Direction → ℕ
+mem_left cursor way = left_on (map_entries cursor.map.now.entries) way (mem_position cursor)
+
+-- the steps from one end to the other
+abbrev pub mem_most : MemCursor → ℕ
+mem_most cursor = length (map_entries cursor.map.now.entries)
+
+pub cursor_laws : IsLawful {C = MemCursor} {S = Unit {0}} (λ c _. MemCursorHolds c)
+    (λ _ _. Unit {0}) (λ _ _. Unit {0}) mem_left mem_most
 cursor_laws = record {
   itself = λ a. tt;
   through = λ a b c h k. tt;
   stays = λ c a b h s. (tt, λ entry. ((λ x. x), (λ x. x)));
   apart = λ c a s. apart c.map.now c.rising;
-  within = λ c way. left_within (map_entries c.map.now.entries) way
-      (cursor_position c.has_failed c.place);
+  within = λ c way. left_within (map_entries c.map.now.entries) way (mem_position c);
 }

@@ -6,9 +6,8 @@ ghost use Rattle.kv_types.specs.declared.bounds.TheConstants.{MAX_KEY};
 ghost use Rattle.merge_iter.specs.declared.direction.Direction.TheVariants.{Forward};
 ghost use Rattle.merge_iter.specs.{EntryPrecedes, IsFirst, spot};
 ghost use Rattle.memtable.specs.Maps.{MapHolds, HasRisingNumbers, HasShortKeys};
-ghost use Rattle.memtable.specs.Places.{IsVersionPlace, maybe_position, cursor_position};
+ghost use Rattle.memtable.specs.Places.{IsVersionPlace, maybe_position};
 ghost use Rattle.memtable.specs.Ranges.{keys_after, keys_before};
-ghost use Rattle.memtable.specs.Left.{map_entries, left_on};
 
 use crate::place::{VersionPlace, back, from, front};
 use crate::version::Versions;
@@ -106,13 +105,14 @@ impl<'a> MemCursor<'a> {
 }
 
 impl<'a> Cursor for MemCursor<'a> {
-    ghost use Rattle.memtable.specs.CursorLaws.{cursor_laws};
+    ghost use Rattle.memtable.specs.CursorLaws.{cursor_laws, mem_position, MemCursorHolds};
+    ghost use Rattle.memtable.specs.CursorLaws.{mem_left, mem_most};
 
     type Source = ();
 
-    ghost position = { λ c. cursor_position c.has_failed c.place };
+    ghost position = { mem_position };
 
-    ghost holds = { λ c _. MapHolds c.map.now };
+    ghost holds = { λ c _. MemCursorHolds c };
 
     ghost is_sound = { λ _ _. Unit {0} };
 
@@ -120,10 +120,9 @@ impl<'a> Cursor for MemCursor<'a> {
 
     ghost failures = { λ _. 0 };
 
-    ghost left = { λ c way. left_on (map_entries c.map.now.entries) way
-        (cursor_position c.has_failed c.place) };
+    ghost left = { mem_left };
 
-    ghost most = { λ c. length (map_entries c.map.now.entries) };
+    ghost most = { mem_most };
 
     fn valid(&self) -> bool {
         self.place.is_some()
