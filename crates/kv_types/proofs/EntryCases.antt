@@ -28,27 +28,42 @@ entry_examples = record {
 
     first_edit : all_entries changes (entry_at (codes "a") 1 (Some (codes "1"))) → ⊥
     first_edit (zero, batch, is, (same, last)) =
-        let one : true ≡ is_two (last_edit batch (codes "a")) = ap (λ o. is_two (last_edit (unwrap_or o []) (codes "a"))) is in
+        let one : true ≡ is_two (last_edit batch (codes "a")) =
+        ap (λ o. is_two (last_edit (unwrap_or o []) (codes "a"))) is in
         let two : is_two (last_edit batch (codes "a")) ≡ false = ap is_two last in
         absurd (cc (one, two))
     first_edit (suc i, batch, is, (same, last)) = absurd (omega (arith, same))
 
-    no_edit : (batch : BatchContent) (value : Option (List ℕ)) → last_edit batch (codes "b") ≡ None → last_edit batch (codes "b") ≡ Some value → ⊥
+    no_edit : (batch : BatchContent) (value : Option (List ℕ)) → last_edit batch (codes "b") ≡ None
+        → last_edit batch (codes "b") ≡ Some value → ⊥
     no_edit batch value none some = absurd (cc (none, some))
 
-    other_edit : (number : ℕ) (value : Option (List ℕ)) → all_entries changes (entry_at (codes "b") number value) → ⊥
-    other_edit number value (zero, batch, is, (same, last)) = no_edit batch value (sym (ap (λ o. last_edit (unwrap_or o []) (codes "b")) is)) last
-    other_edit number value (suc zero, batch, is, (same, last)) = no_edit batch value (sym (ap (λ o. last_edit (unwrap_or o []) (codes "b")) is)) last
-    other_edit number value (suc (suc i), batch, is, (same, last)) = no_edit batch value (sym (ap (λ o. last_edit (unwrap_or o []) (codes "b")) is)) last
+    other_edit : (number : ℕ) (value : Option (List ℕ)) → all_entries changes
+        (entry_at (codes "b") number value) → ⊥
+    other_edit number value (zero, batch, is, (same, last)) =
+        no_edit batch value (sym (ap (λ o. last_edit (unwrap_or o []) (codes "b")) is)) last
+    other_edit number value (suc zero, batch, is, (same, last)) =
+        no_edit batch value (sym (ap (λ o. last_edit (unwrap_or o []) (codes "b")) is)) last
+    other_edit number value (suc (suc i), batch, is, (same, last)) =
+        no_edit batch value (sym (ap (λ o. last_edit (unwrap_or o []) (codes "b")) is)) last
 
     unseen : (other : Entry) → IsSeen 0 (all_entries changes) other → ⊥
     unseen other ((i, batch, is, (same, last)), le) = absurd (omega (arith, same, le))
 
     newest_first : IsNewest 1 (all_entries changes) (entry_at (codes "a") 1 (Some (codes "2")))
-    newest_first = record { seen = ((0, _, refl, (refl, refl)), omega arith); newest = λ other seen same. seen.1 }
+    newest_first = record {
+      seen = ((0, _, refl, (refl, refl)), omega arith);
+      newest =
+          λ other seen same. seen.1;
+    }
 
     newest_second : IsNewest 2 (all_entries changes) (entry_at (codes "a") 2 None)
-    newest_second = record { seen = ((1, _, refl, (refl, refl)), omega arith); newest = λ other seen same. seen.1 }
+    newest_second = record {
+      seen = ((1, _, refl, (refl, refl)), omega arith);
+      newest =
+          λ other seen same. seen.1;
+    }
 
     passed : IsNewest 2 (all_entries changes) (entry_at (codes "a") 1 (Some (codes "2"))) → ⊥
-    passed h = let le = h.newest (entry_at (codes "a") 2 None) newest_second.seen refl in absurd (omega (arith, le))
+    passed h = let le = h.newest (entry_at (codes "a") 2 None) newest_second.seen refl in
+        absurd (omega (arith, le))

@@ -58,7 +58,8 @@ module _ (S : Entry → Type 0) (at : ℕ) (key : List ℕ) where
       let le = seen.1 in
       let is : other.number ≡ suc at = omega (arith, le, ge) in
       absurd (none other.value (subst (λ n. S (entry_at key n other.value)) is
-      (subst (λ k. S (record { key = k; number = other.number; value = other.value })) same seen.0))))
+      (subst (λ k. S (record { key = k; number = other.number; value = other.value })) same
+      seen.0))))
       (cases_lt other.number (suc at))
 
   shows_skip : (value : Option (List ℕ))
@@ -83,7 +84,8 @@ module _ (S : Entry → Type 0) (at : ℕ) (key : List ℕ) where
 
 module _ (l : List BatchContent) (key : List ℕ) where
   -- the batch that an entry is of
-  batch_of : (number : ℕ) (value : Option (List ℕ)) → all_entries l (entry_at key (suc number) value)
+  batch_of : (number : ℕ) (value : Option (List ℕ)) → all_entries l
+      (entry_at key (suc number) value)
       → (batch : BatchContent) × (slice_get l number ≡ Some batch)
       × (last_edit (edits_of batch) key ≡ Some value)
   batch_of number value (i, batch, is, (same, last)) =
@@ -126,13 +128,15 @@ module _ (l : List BatchContent) (key : List ℕ) where
         let le = seen.1 in
         let is : other.number ≡ 0 = omega (arith, le) in
         none_at_zero other.value (subst (λ n. all_entries l (entry_at key n other.value)) is
-        (subst (λ k. all_entries l (record { key = k; number = other.number; value = other.value })) same seen.0))),
+        (subst (λ k. all_entries l (record { key = k; number = other.number; value = other.value }))
+        same seen.0))),
     refl,
   )
   shown_value (suc at) = ⊎_elim
       (λ (none : slice_get l at ≡ None).
       subst (λ z. ViewShows (suc at) (all_entries l) key (map_of z key)) (sym (take_end l at none))
-      (shows_skip (all_entries l) at key (map_of (take at l) key) (none_at_end at none) (shown_value at)))
+      (shows_skip (all_entries l) at key (map_of (take at l) key) (none_at_end at none)
+      (shown_value at)))
       (λ (it : (batch : BatchContent) × (slice_get l at ≡ Some batch)).
       let last = last_push_at at it.0 it.1 in
       subst (λ z. ViewShows (suc at) (all_entries l) key z) (sym (ap option_flatten last))
@@ -143,7 +147,8 @@ module _ (l : List BatchContent) (key : List ℕ) where
           → last_edit (joined (take (suc at) l)) key
           ≡ option_or (last_edit (edits_of batch) key) (last_edit (joined (take at l)) key)
       last_push_at at batch is =
-          ap (λ z. last_edit (joined z) key) (take_next l at batch is) ∙ last-push (take at l) batch key
+          ap (λ z. last_edit (joined z) key) (take_next l at batch is) ∙ last-push (take at l) batch
+          key
 
   -- a number and a key have one entry
   one_entry : (m n : ℕ) (a b : Option (List ℕ)) → m ≡ n → all_entries l (entry_at key m a)
@@ -153,7 +158,8 @@ module _ (l : List BatchContent) (key : List ℕ) where
       let x = batch_of m a p in
       let y = batch_of m b (subst (λ z. all_entries l (entry_at key z b)) (sym same) q) in
       let one : x.0 ≡ y.0 = let h : Some x.0 ≡ Some y.0 = sym x.1 ∙ y.1 in cc in
-      let z : Some a ≡ Some b = sym (subst (λ c. last_edit (edits_of c) key ≡ Some a) one x.2) ∙ y.2 in
+      let z : Some a ≡ Some b = sym (subst (λ c. last_edit (edits_of c) key ≡ Some a) one x.2)
+      ∙ y.2 in
       cc
 
   one_view : (at : ℕ) (a b : Option (List ℕ)) → ViewShows at (all_entries l) key a

@@ -1,5 +1,6 @@
 -- Entries: the versions of keys, and what a set of them shows at a number.
-use Rattle.std.specs.Prelude.{◌≡◌, ◌⊎◌, ◌↔◌, ℕ, suc, ◌≤◌, List, take, slice_get, Option, Some, None, IsSome}
+use Rattle.std.specs.Prelude.{◌≡◌, ◌⊎◌, ◌↔◌, ℕ, suc, ◌≤◌, List, take, slice_get, Option, Some, None}
+use Rattle.std.specs.Prelude.{IsSome}
 use Rattle.kv_types.specs.Content.{BatchContent, edits_of}
 use Rattle.kv_types.specs.Maps.{last_edit, map_of}
 

@@ -1,5 +1,6 @@
 -- Small batches, maps and pages, worked out.
-use Rattle.std.specs.Prelude.{◌≡◌, ℕ, List, [], ◌∷◌, ◌++◌, take, true, false, Option, Some, None, codes}
+use Rattle.std.specs.Prelude.{◌≡◌, ℕ, List, [], ◌∷◌, ◌++◌, take, true, false, Option, Some, None}
+use Rattle.std.specs.Prelude.{codes}
 use Rattle.kv_types.specs.declared.edit.Edit.TheVariants.{Put, Delete}
 use Rattle.kv_types.specs.declared.row.Row.{Row}
 use Rattle.kv_types.specs.Content.{BatchContent}

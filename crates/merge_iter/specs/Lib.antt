@@ -18,6 +18,7 @@ pub use Rattle.merge_iter.specs.EntryOrder.{chain, entry_total, never}
 pub use Rattle.merge_iter.specs.EntryParts.{equal_parts, numbers_fall}
 pub use Rattle.merge_iter.specs.LentCursors.{AreDisjoint, AreSound, KeepsCursor, RefusesMove}
 pub use Rattle.merge_iter.specs.LentCursors.{union_of}
+pub use Rattle.merge_iter.specs.ListEntries.{IsSortedList, ListHolds}
 pub use Rattle.merge_iter.specs.Merging.{AreApart, EachChild, UnionHolds}
 pub use Rattle.merge_iter.specs.Moves.{CanStep, EntriesStay, ErrorCauses, IsLawful, MoveFinds}
 pub use Rattle.merge_iter.specs.Moves.{MoveKeeps}

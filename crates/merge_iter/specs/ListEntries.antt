@@ -10,21 +10,21 @@ use Rattle.kv_types.specs.{Entry}
 use Rattle.merge_iter.specs.Order.{entry_cmp}
 use Rattle.merge_iter.specs.Positions.{Position, On, Off}
 
--- the entry of an entry
+-- an entry in memory, as a version of a key
 abbrev pub entry_of : OwnedEntry → Entry
 entry_of e =
     record { key = e.key.items; number = e.number; value = option_map (λ v. v.items) e.value }
 
--- on the entry, if there is one
+-- the position on an entry, if there is one
 abbrev pub position_of : Option OwnedEntry → Position
 position_of None = Off
 position_of (Some e) = On (entry_of e)
 
--- at a place of the list
+-- the position at a place of the list
 abbrev pub position_at : List OwnedEntry → ℕ → Position
 position_at entries i = position_of (slice_get entries i)
 
--- the entry stands in the list
+-- the list has the entry
 abbrev pub ListHolds : List OwnedEntry → Entry → Type 0
 ListHolds entries entry = (i : ℕ) × (position_at entries i ≡ On entry)
 
