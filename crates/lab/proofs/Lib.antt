@@ -1,5 +1,6 @@
 mod Rests
 mod Faults
+mod Taking
 mod Disks
 mod Posting
 mod Reading

@@ -41,12 +41,14 @@ use Rattle.lab.specs.SimNodes.{StateRefines, Choice, disk_in, is_honest, state, 
 use Rattle.lab.specs.SimNodes.{IsUnarmed}
 use Rattle.lab.specs.Deliveries.{IsDeliveryOf, HasNoDelivery}
 use Rattle.lab.specs.Outcomes.{DiskFits, HasCrashed, IsExplained, OutcomeRefines, StateFollows}
-use Rattle.lab.specs.Outcomes.{has_struck_in, input_junk, outcome_lines, sent_by}
+use Rattle.lab.specs.Outcomes.{has_struck_in, input_junk, sent_by}
 use Rattle.lab.specs.Disks.{has_reached, junk_of, IsCrashOf}
 use Rattle.lab.specs.Traces.{modelled_from}
-use Rattle.lab.specs.Worlds.{PostedRefines, SimNodeRefines, HasNoNode, HasStepped, RunRefines}
+use Rattle.lab.specs.Worlds.{PostedRefines, SimNodeRefines, HasMoved, HasNoNode, HasStepped}
+use Rattle.lab.specs.Worlds.{RunRefines}
 use Rattle.lab.specs.Worlds.{HasRun}
-use Rattle.lab.specs.Worlds.{HasApplied, HasPosted, IsIndexOf, StopsNode, Takes, events_in}
+use Rattle.lab.specs.Worlds.{HasApplied, HasHanded, HasPassed, Ignores, IsIndexOf, StopsNode}
+use Rattle.lab.specs.Worlds.{Takes}
 use Rattle.lab.specs.Worlds.{frames_of_step}
 use Rattle.lab.proofs.Posting.{zip_both}
 use Rattle.lab.proofs.Deliveries.{refined, nothing_done, junk_same}
@@ -101,9 +103,9 @@ abbrev struck_by : Fault → SimNode → SimNode → Bool
 struck_by it was now = has_struck_in calls it (disk_in was.state) now.state
 
 -- the node at this index was replaced twice, by its new state in the end
-pub stepped : (old : List SimNode) (i x : ℕ) (between was was' now : SimNode)
-    (node_input : NodeInput) (it given : Fault) (did : StepOutcome) (posted more : List Posted)
-    (lines : List Line) → it ≡ given → IsIndexOf old i x → was ≡ get_or old i was' → now.id ≡ x →
+pub moved : (old : List SimNode) (i x : ℕ) (between was was' now : SimNode)
+    (node_input : NodeInput) (it : Fault) (did : StepOutcome) → IsIndexOf old i x →
+    was ≡ get_or old i was' → now.id ≡ x →
     ((y : ℕ) (n : Machine) → StateRefines is_honest state was.state y n →
     OutcomeRefines is_honest state it (struck_by it was now) y n node_input now.state did) →
     DiskFits state failures calls (input_junk node_input) it (struck_by it was now) did
@@ -113,20 +115,15 @@ pub stepped : (old : List SimNode) (i x : ℕ) (between was was' now : SimNode)
     IsExplained (state (disk_in was.state)) (struck_by it was now) did) →
     StateFollows is_honest state failures calls was.state node_input now.state →
     (IsUnarmed (disk_in was.state) → IsUnarmed (disk_in now.state)) →
-    HasPosted posted (sent_by did) more → lines ≡ outcome_lines x (length posted) did →
-    HasStepped old posted x node_input given lines (slice_set (slice_set old i between) i now) more
-stepped old i x between was was' now node_input it given did posted more lines same at out id
-    refines disk only follows forgets sent traced =
+    HasMoved old x node_input it did (slice_set (slice_set old i between) i now)
+moved old i x between was was' now node_input it did at out id refines disk only follows forgets =
     let is : was ≡ get_or old i now = out ∙ get_or_default old i was' now at.within in
-    subst (λ (f : Fault). HasStepped old posted x node_input f lines
-    (slice_set (slice_set old i between) i now) more) same
-    (record {
+    record {
       index = i;
       at = at;
       sim = now;
       others = set-set old i between now;
       id = id;
-      did = did;
       refines = subst (λ (s : SimNode). (y : ℕ) (n : Machine) →
           StateRefines is_honest state s.state y n →
           OutcomeRefines is_honest state it (struck_by it s now) y n node_input now.state did) is
@@ -140,9 +137,7 @@ stepped old i x between was was' now node_input it given did posted more lines s
           node_input now.state) is follows;
       forgets = subst (λ (s : SimNode). IsUnarmed (disk_in s.state) →
           IsUnarmed (disk_in now.state)) is forgets;
-      sent = sent;
-      traced = traced;
-    })
+    }
 
 -- in every run frames are in order
 abbrev pub AlwaysInOrder : Type 0
@@ -198,19 +193,19 @@ module _ (in_order : AlwaysInOrder) (cs : Configurations) (events : List Event)
       HasStepped sims posted x node_input event.fault lines now more →
       RunRefines now more cs (events ++ event ∷ []) (steps ++ lines ∷ [])
   refined_next x node_input lines now more brings t =
-      let sim = t.sim in
+      let sim = t.took.sim in
       let all = recursion_from_All (SimNodeRefines w.nodes made.disks) sims made.each in
-      let old = get_or sims t.index sim in
-      let was : old.id ≡ x = t.at.id sim in
+      let old = get_or sims t.took.index sim in
+      let was : old.id ≡ x = t.took.at.id sim in
       let before : StateRefines is_honest state old.state x (w.nodes x) =
       subst (λ (y : ℕ). StateRefines is_honest state old.state y (w.nodes y)) was
-      (made.each t.index sim t.at.within).is in
+      (made.each t.took.index sim t.took.at.within).is in
       let slots : disk_in old.state ≡ made.disks x =
-      (made.each t.index sim t.at.within).disk ∙ ap made.disks was in
+      (made.each t.took.index sim t.took.at.within).disk ∙ ap made.disks was in
       let own = disk_in sim.state in
       let struck = struck_by event.fault old sim in
       let out = refined cs w i x event.fault struck sim.state t.did event.kind node_input brings
-      (t.refines x (w.nodes x) before) in
+      (t.took.refines x (w.nodes x) before) in
       let so : out.choice.struck
       ≡ has_reached (struck_call event.fault) (calls (made.disks x)) (calls own) = out.chose
       ∙ ap (λ (d : Slots). has_reached (struck_call event.fault) (calls d) (calls own)) slots in
@@ -222,16 +217,16 @@ module _ (in_order : AlwaysInOrder) (cs : Configurations) (events : List Event)
       t.did d sim.state) slots
       (subst (λ (j : Option Junk). DiskFits state failures calls j event.fault struck t.did
       (disk_in old.state) sim.state)
-      (junk_same w.frames i x event.kind node_input brings) t.disk)) in
+      (junk_same w.frames i x event.kind node_input brings) t.took.disk)) in
       let few = made.few x in
       let may : MayRise (made.disks x) = omega (arith, few, next.at, next.fits) in
       let reliable = subst IsReliable (sym slots) may in
       let why : IsExplained (state (made.disks x)) out.choice.struck t.did =
       subst (λ (b : Bool). IsExplained (state (made.disks x)) b t.did) (sym out.chose)
       (subst (λ (d : Slots). IsExplained (state d) struck t.did) slots
-      (t.only x (w.nodes x) before reliable)) in
+      (t.took.only x (w.nodes x) before reliable)) in
       let o = outcome w cs (modelled i event.kind out.choice) in
-      let id : sim.id ≡ x = t.id in
+      let id : sim.id ≡ x = t.took.id in
       let long = AllZip-long PostedRefines posted w.frames made.frames in
       grown cs events steps sims posted made i event out.choice now more lines next.at (record {
         traced = t.traced ∙ out.traced (length posted)
@@ -247,9 +242,9 @@ module _ (in_order : AlwaysInOrder) (cs : Configurations) (events : List Event)
             (zip_both PostedRefines posted t.sent.more w.frames o.frames made.frames
             (kept_all t.sent.more (sent_by t.did) o.frames t.sent.each out.frames
             (sent_numbered out.choice)));
-        nodes = ap ids_of t.others
-            ∙ map-set_same (λ (s : SimNode). s.id) sims t.index sim sim
-            (t.id ∙ sym was) ∙ made.nodes;
+        nodes = ap ids_of t.took.others
+            ∙ map-set_same (λ (s : SimNode). s.id) sims t.took.index sim sim
+            (t.took.id ∙ sym was) ∙ made.nodes;
         disks = with_disk made.disks x own;
         follow = all_follow event out.choice o x out.node made.disks own out.came
             (follows (made.disks x) sim.state may event out.choice o x out.node t.did out.is so
@@ -258,13 +253,13 @@ module _ (in_order : AlwaysInOrder) (cs : Configurations) (events : List Event)
             (at_most_one (junk_of event.kind) event.fault out.choice.struck t.did (made.disks x)
             sim.state left may);
         unarmed = none_armed made.disks x own made.unarmed
-            (t.forgets (subst (λ (d : Slots). IsUnarmed d) (sym slots) (made.unarmed x)));
+            (t.took.forgets (subst (λ (d : Slots). IsUnarmed d) (sym slots) (made.unarmed x)));
         each = subst (λ (l : List SimNode). All (SimNodeRefines (state_after cs w
             (modelled i event.kind out.choice)).nodes (with_disk made.disks x own)) l)
-            (sym t.others)
+            (sym t.took.others)
             (All-from_recursion (SimNodeRefines (after w o).nodes (with_disk made.disks x own))
-            (slice_set sims t.index sim)
-            (refined_at w made.disks o x out.node own out.came sims t.index sim t.at.within
+            (slice_set sims t.took.index sim)
+            (refined_at w made.disks o x out.node own out.came sims t.took.index sim t.took.at.within
             (subst (λ (c : List ℕ). AllDifferent c) (sym made.nodes) made.lawful.different)
             was id out.is refl all));
       })
@@ -277,11 +272,11 @@ module _ (in_order : AlwaysInOrder) (cs : Configurations) (events : List Event)
     where
       has_it : (node : ℕ) → x ≡ node → has (at_epoch cs 0) node ≡ true
       has_it node same =
-          let sim = t.sim in
-          let id = (get_or sims t.index sim).id in
-          subst (λ (y : ℕ). has (at_epoch cs 0) y ≡ true) (t.at.id sim ∙ same)
+          let sim = t.took.sim in
+          let id = (get_or sims t.took.index sim).id in
+          subst (λ (y : ℕ). has (at_epoch cs 0) y ≡ true) (t.took.at.id sim ∙ same)
           (subst (λ (c : List ℕ). has c id ≡ true) made.nodes
-          (has_at sims t.index sim t.at.within))
+          (has_at sims t.took.index sim t.took.at.within))
 
       named : (kind : EventKind) → IsDeliveryOf w.frames i kind x node_input → NamesNode cs kind
       named (Submit node batch) brings = has_it node brings.0
@@ -296,17 +291,17 @@ module _ (in_order : AlwaysInOrder) (cs : Configurations) (events : List Event)
       (now : List SimNode) (more : List Posted) → IsDeliveryOf w.frames i kind x node_input →
       HasStepped sims posted x node_input event.fault lines now more → StopsNode kind sims now
   stopped_next (Stop node junk) x node_input lines now more brings t =
-      let sim = t.sim in
-      let old = get_or sims t.index sim in
+      let sim = t.took.sim in
+      let old = get_or sims t.took.index sim in
       record {
-        index = t.index;
-        at = subst (λ (y : ℕ). IsIndexOf sims t.index y) brings.0 t.at;
+        index = t.took.index;
+        at = subst (λ (y : ℕ). IsIndexOf sims t.took.index y) brings.0 t.took.at;
         sim = sim;
-        others = t.others;
+        others = t.took.others;
         crashes = λ own runs. crash_of junk own old.state sim.state runs
             (subst (λ (k : NodeInput). StateFollows is_honest state failures calls old.state k
             sim.state)
-            brings.1 t.follows);
+            brings.1 t.took.follows);
       }
   stopped_next (Submit node batch) x node_input lines now more brings t = tt
   stopped_next (Get node key at) x node_input lines now more brings t = tt
@@ -393,29 +388,57 @@ module _ (in_order : AlwaysInOrder) (cs : Configurations) (events : List Event)
             RunRefines now more cs (events ++ event ∷ []) (steps ++ lines ∷ [])
         refined_after lines now more t = refined_next it.0 it.1 lines now more brings t
 
--- a step of the node that an event is for applies the event
-pub applied_after : (in_order : AlwaysInOrder) (cs : Configurations) (events : List Event)
+-- The next event of a world, by what it was found to bring.
+module _ (in_order : AlwaysInOrder) (cs : Configurations) (events : List Event)
     (steps : List (List Line)) (old new : LabWorld) (run : HasRun old cs events steps) (i : ℕ)
     (next : IsNext events i) (event : Event) (found : Option (ℕ × NodeInput))
-    (fits : FitsDelivery old.frames.items i event.kind found) (it : ℕ × NodeInput) →
-    found ≡ Some it → (lines : List Line) → new.steps.items ≡ old.steps.items ++ lines ∷ [] →
-    events_in new.events.items ≡ events_in old.events.items ++ event ∷ [] →
-    HasStepped old.nodes.items old.frames.items it.0 it.1 event.fault lines new.nodes.items
-    new.frames.items →
-    HasApplied old new cs events steps event
-applied_after in_order cs events steps old new run i next event found fits it is lines kept taken
-    t =
-    let sims = old.nodes.items in
-    let posted = old.frames.items in
-    let now = new.nodes.items in
-    let more = new.frames.items in
-    Takes (named_after in_order cs events steps sims posted run.made i next event found fits it is
-    lines now more t) lines
-    (record {
-      kept = kept ∙ ap (λ (a : List (List Line)). a ++ lines ∷ []) run.kept;
-      taken = taken ∙ ap (λ (l : List Event). l ++ event ∷ []) run.taken;
-      made = refined_after in_order cs events steps sims posted run.made i next event found fits it
-          is lines now more t;
-    })
-    (stopped_after in_order cs events steps sims posted run.made i next event found fits it is
-    lines now more t)
+    (fits : FitsDelivery old.frames.items i event.kind found) where
+  abbrev sims : List SimNode
+  sims = old.nodes.items
+
+  abbrev posted : List Posted
+  posted = old.frames.items
+
+  -- one that brings nothing is applied where it is kept
+  pub passed_after : found ≡ None → HasPassed old new event →
+      HasApplied old new cs events steps event
+  passed_after none p =
+      let more : List Event = events ++ event ∷ [] in
+      let lines : List (List Line) = steps ++ (Nothing ∷ []) ∷ [] in
+      Takes (nothing_named in_order cs events steps sims posted run.made i next event found fits
+      none) (Nothing ∷ [])
+      (record {
+        kept = p.keeps.kept ∙ ap (λ (a : List (List Line)). a ++ (Nothing ∷ []) ∷ []) run.kept;
+        taken = p.keeps.taken ∙ ap (λ (l : List Event). l ++ event ∷ []) run.taken;
+        made = subst (λ (l : List SimNode). RunRefines l new.frames.items cs more lines)
+            (sym p.nodes)
+            (subst (λ (l : List Posted). RunRefines sims l cs more lines) (sym p.frames)
+            (nothing_after in_order cs events steps sims posted run.made i next event found fits
+            none));
+      })
+      (nothing_stopped in_order cs events steps sims posted run.made i next event found fits none
+      new.nodes.items)
+
+  -- one that is for a node is applied by the node's step
+  pub handed_after : (it : ℕ × NodeInput) → found ≡ Some it →
+      HasHanded old new event it.0 it.1 → HasApplied old new cs events steps event
+  handed_after it is h =
+      let now : List SimNode = new.nodes.items in
+      let more : List Posted = new.frames.items in
+      Takes (named_after in_order cs events steps sims posted run.made i next event found fits it
+      is h.lines now more h.stepped) h.lines
+      (record {
+        kept = h.keeps.kept ∙ ap (λ (a : List (List Line)). a ++ h.lines ∷ []) run.kept;
+        taken = h.keeps.taken ∙ ap (λ (l : List Event). l ++ event ∷ []) run.taken;
+        made = refined_after in_order cs events steps sims posted run.made i next event found fits
+            it is h.lines now more h.stepped;
+      })
+      (stopped_after in_order cs events steps sims posted run.made i next event found fits it is
+      h.lines now more h.stepped)
+
+  -- one that is for a node which the world does not have is not applied
+  pub ignored_after : (it : ℕ × NodeInput) → found ≡ Some it → HasNoNode sims it.0 →
+      HasRun new cs events steps → HasApplied old new cs events steps event
+  ignored_after it is none unchanged =
+      Ignores (λ names. node_after in_order cs events steps sims posted run.made i next event found
+      fits it is names none) unchanged

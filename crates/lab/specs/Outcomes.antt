@@ -2,6 +2,7 @@
 use Rattle.std.specs.Prelude.{◌≡◌, ◌⊎◌, ℕ, List, [], ◌∷◌, ◌++◌, length, map, Option}
 use Rattle.std.specs.Prelude.{Bool, Some, None, suc, true, false}
 use Rattle.kv_types.specs.{BatchContent}
+use Rattle.disk.specs.declared.disk.Disk.{Ghosts}
 use Rattle.disk.specs.declared.Fault.{Fault}
 use Rattle.disk.specs.declared.Junk.{Junk}
 use Rattle.disk.specs.{RisesByOne, CrashOutcome, State, struck_call}
@@ -30,7 +31,7 @@ use Rattle.lab.specs.declared.report.Line.{Line}
 use Rattle.lab.specs.declared.report.Line.TheVariants as line
 use Rattle.lab.specs.Disks.{IsCrashOf, has_reached, junk_at_end}
 use Rattle.lab.specs.Events.{dropped_lines, told_cause}
-use Rattle.lab.specs.SimNodes.{StateRefines, IsDown, disk_in}
+use Rattle.lab.specs.SimNodes.{StateIsReady, StateRefines, IsDown, calls_of, disk_in}
 
 -- ---- what a node answers
 
@@ -212,6 +213,27 @@ StateFollows is_honest state failures calls (Down disk) (to_node.Step inp) new =
 StateFollows is_honest state failures calls (Down disk) (to_node.BadFrame why) new = new ≡ Down disk
 StateFollows is_honest state failures calls (Down disk) to_node.Start new = Unit {0}
 StateFollows is_honest state failures calls (Down disk) (to_node.Stop junk) new = new ≡ Down disk
+
+-- ---- the whole of it
+
+-- a node that had this state took this input, and its disk had this fault meanwhile: such are its
+-- new state and its outcome
+pub record HasTaken {D : Type 0} (g : Ghosts D) (fault : Fault) (node_input : NodeInput)
+    (old new : NodeState D) (did : StepOutcome) : Type 0 where
+  pub ready : StateIsReady new
+  pub refines : (x : ℕ) (n : Machine) → StateRefines g.is_honest g.state old x n →
+      OutcomeRefines g.is_honest g.state fault
+      (has_struck_in (calls_of g) fault (disk_in old) new) x n node_input new did
+  pub disk : g.is_honest (disk_in old) →
+      DiskFits g.state g.failures (calls_of g) (input_junk node_input) fault
+      (has_struck_in (calls_of g) fault (disk_in old) new) did (disk_in old) new
+  pub only : (x : ℕ) (n : Machine) → StateRefines g.is_honest g.state old x n →
+      g.is_reliable (disk_in old) → IsExplained (g.state (disk_in old))
+      (has_struck_in (calls_of g) fault (disk_in old) new) did
+  pub follows : StateFollows g.is_honest g.state g.failures (calls_of g) old node_input new
+  -- the fault is forgotten
+  pub forgets : g.is_honest (disk_in old) → g.fault_at (disk_in old) ≡ None →
+      g.fault_at (disk_in new) ≡ None
 
 -- ---- the lines of an outcome
 

@@ -113,17 +113,15 @@ pub record AreLeft (sims : List SimNode) (nodes : List NodeReport) : Type 0 wher
       (SimNodeRefines machines disks) sims →
       All (λ node. IsLeft (machines node.id) (disks node.id) node) nodes
 
--- Node x took a step by this input with this fault: its outcome and its new state refine every
--- machine that it was, the frames that it sent are posted, and these are its lines. Every other
--- node is as it was.
-pub record HasStepped (sims : List SimNode) (posted : List Posted) (x : ℕ) (node_input : NodeInput)
-    (fault : Fault) (lines : List Line) (now : List SimNode) (more : List Posted) : Type 0 where
+-- Node x took this input with this fault: this outcome and its new state refine every machine that
+-- it was. Every other node is as it was.
+pub record HasMoved (sims : List SimNode) (x : ℕ) (node_input : NodeInput) (fault : Fault)
+    (did : StepOutcome) (now : List SimNode) : Type 0 where
   pub index : ℕ
   pub at : IsIndexOf sims index x
   pub sim : SimNode
   pub others : now ≡ slice_set sims index sim
   pub id : sim.id ≡ x
-  pub did : StepOutcome
   pub refines : (y : ℕ) (n : Machine) →
       StateRefines is_honest state (get_or sims index sim).state y n →
       OutcomeRefines is_honest state fault
@@ -141,6 +139,12 @@ pub record HasStepped (sims : List SimNode) (posted : List Posted) (x : ℕ) (no
       sim.state
   -- the fault is forgotten
   pub forgets : IsUnarmed (disk_in (get_or sims index sim).state) → IsUnarmed (disk_in sim.state)
+
+-- .. the frames that it sent are posted, and these are its lines
+pub record HasStepped (sims : List SimNode) (posted : List Posted) (x : ℕ) (node_input : NodeInput)
+    (fault : Fault) (lines : List Line) (now : List SimNode) (more : List Posted) : Type 0 where
+  pub did : StepOutcome
+  pub took : HasMoved sims x node_input fault did now
   pub sent : HasPosted posted (sent_by did) more
   pub traced : lines ≡ outcome_lines x (length posted) did
 
@@ -192,6 +196,25 @@ pub record HasRun (world : World) (cs : Configurations) (events : List Event)
   pub kept : world.steps.items ≡ steps
   pub taken : events_in world.events.items ≡ events
   pub made : RunRefines world.nodes.items world.frames.items cs events steps
+
+-- the world kept an event with its lines
+pub record HasKept (old new : World) (event : Event) (lines : List Line) : Type 0 where
+  pub taken : events_in new.events.items ≡ events_in old.events.items ++ event ∷ []
+  pub kept : new.steps.items ≡ old.steps.items ++ lines ∷ []
+
+-- .. and is as it was otherwise, as the event brought nothing to any node
+pub record HasPassed (old new : World) (event : Event) : Type 0 where
+  pub keeps : HasKept old new event (line.Nothing ∷ [])
+  pub nodes : new.nodes.items ≡ old.nodes.items
+  pub frames : new.frames.items ≡ old.frames.items
+
+-- .. and node x took the input that the event brought
+pub record HasHanded (old new : World) (event : Event) (x : ℕ) (node_input : NodeInput) : Type 0
+  where
+    pub lines : List Line
+    pub keeps : HasKept old new event lines
+    pub stepped : HasStepped old.nodes.items old.frames.items x node_input event.fault lines
+        new.nodes.items new.frames.items
 
 -- The event names a node of the world, or none, and was applied with its lines. Or it names another
 -- node, and the run is as it was.

@@ -8,8 +8,8 @@ ghost use Rattle.node.specs.{DiskAlwaysRefines, IsReady, NodeRefines, StopRefine
 ghost use Rattle.lab.specs.Disks.{junk_at_end};
 ghost use Rattle.lab.specs.Events.{told_cause};
 ghost use Rattle.lab.specs.SimNodes.{StateRefines, StateIsReady, calls_of, disk_in};
-ghost use Rattle.lab.specs.Outcomes.{DiskFits, HasCrashed, HasHandled, HasStarted, IsExplained};
-ghost use Rattle.lab.specs.Outcomes.{OutcomeRefines, StateFollows, has_struck_in, input_junk};
+ghost use Rattle.lab.specs.Outcomes.{DiskFits, HasCrashed, HasHandled, HasStarted, HasTaken};
+ghost use Rattle.lab.specs.Outcomes.{IsExplained, has_struck_in};
 
 use crate::input::{NodeInput, StepOutcome, dropped, output_down};
 use disk::laws::{crashed_is_durable, durable_is_left};
@@ -133,6 +133,56 @@ fn step<D: Crash + Drop>(
     }
 }
 
+// A node that is up takes an input, on a disk with this fault.
+fn take_up<D: Crash + Drop>(
+    alloc: Global,
+    node: Node<D>,
+    input: NodeInput,
+    fault: Fault,
+) -> (NodeState<D>, StepOutcome)
+    requires { IsReady node }
+    ensures { HasTaken D.Disk fault input (NodeState.Up node) result.0 result.1 }
+{
+    match input {
+        NodeInput::Step(input) => step(alloc, node, input, fault),
+        NodeInput::BadFrame(why) => {
+            let output = dropped(alloc, why);
+            (NodeState::Up(node), StepOutcome::Answered(output))
+        }
+        NodeInput::Start => {
+            let output = dropped(alloc, DropReason::Running);
+            (NodeState::Up(node), StepOutcome::Answered(output))
+        }
+        NodeInput::Stop(junk) => {
+            let state = crash(node.into_disk(), junk);
+            (state, StepOutcome::Stopped(None))
+        }
+    }
+}
+
+// A node that is down takes an input: it can only be started.
+fn take_down<D: Crash + Drop>(
+    alloc: Global,
+    disk: D,
+    input: NodeInput,
+    fault: Fault,
+    limits: &Limits,
+) -> Result<(NodeState<D>, StepOutcome), AllocError>
+    ensures { IfOk result (λ it. HasTaken D.Disk fault input (NodeState.Down disk) it.0 it.1) }
+{
+    match input {
+        NodeInput::Step(input) => {
+            let output = output_down(alloc, &input)?;
+            Ok((NodeState::Down(disk), StepOutcome::Answered(output)))
+        }
+        NodeInput::Start => Ok(start(alloc, disk, fault, limits)),
+        NodeInput::BadFrame(_) | NodeInput::Stop(_) => {
+            let output = dropped(alloc, DropReason::NotRunning);
+            Ok((NodeState::Down(disk), StepOutcome::Answered(output)))
+        }
+    }
+}
+
 impl<D: Crash + Drop> NodeState<D> {
     /// Dispatches an input to the node, whose disk has the fault meanwhile: the state that it
     /// leaves, and the outcome.
@@ -144,49 +194,11 @@ impl<D: Crash + Drop> NodeState<D> {
         limits: &Limits,
     ) -> Result<(NodeState<D>, StepOutcome), AllocError>
         requires { StateIsReady self }
-        ensures ready { IfOk result (λ it. StateIsReady it.0) }
-        ensures refines { (x : ℕ) (n : Machine) → StateRefines D.is_honest D.state self x n →
-            IfOk result (λ it. OutcomeRefines D.is_honest D.state fault
-            (has_struck_in (calls_of D.Disk) fault (disk_in self) it.0) x n input it.0 it.1) }
-        ensures disk { D.is_honest (disk_in self) → IfOk result (λ it.
-            DiskFits D.state D.failures (calls_of D.Disk) (input_junk input) fault
-            (has_struck_in (calls_of D.Disk) fault (disk_in self) it.0) it.1 (disk_in self) it.0) }
-        ensures only { (x : ℕ) (n : Machine) → StateRefines D.is_honest D.state self x n →
-            D.is_reliable (disk_in self) → IfOk result (λ it.
-            IsExplained (D.state (disk_in self))
-            (has_struck_in (calls_of D.Disk) fault (disk_in self) it.0) it.1) }
-        ensures follows { IfOk result (λ it.
-            StateFollows D.is_honest D.state D.failures (calls_of D.Disk) self input it.0) }
-        ensures forgets { D.is_honest (disk_in self) → D.fault_at (disk_in self) ≡ None →
-            IfOk result (λ it. D.fault_at (disk_in it.0) ≡ None) }
+        ensures { IfOk result (λ it. HasTaken D.Disk fault input self it.0 it.1) }
     {
         match self {
-            NodeState::Up(node) => match input {
-                NodeInput::Step(input) => Ok(step(alloc, node, input, fault)),
-                NodeInput::BadFrame(why) => {
-                    let output = dropped(alloc, why);
-                    Ok((NodeState::Up(node), StepOutcome::Answered(output)))
-                }
-                NodeInput::Start => {
-                    let output = dropped(alloc, DropReason::Running);
-                    Ok((NodeState::Up(node), StepOutcome::Answered(output)))
-                }
-                NodeInput::Stop(junk) => {
-                    let state = crash(node.into_disk(), junk);
-                    Ok((state, StepOutcome::Stopped(None)))
-                }
-            },
-            NodeState::Down(disk) => match input {
-                NodeInput::Step(input) => {
-                    let output = output_down(alloc, &input)?;
-                    Ok((NodeState::Down(disk), StepOutcome::Answered(output)))
-                }
-                NodeInput::Start => Ok(start(alloc, disk, fault, limits)),
-                NodeInput::BadFrame(_) | NodeInput::Stop(_) => {
-                    let output = dropped(alloc, DropReason::NotRunning);
-                    Ok((NodeState::Down(disk), StepOutcome::Answered(output)))
-                }
-            },
+            NodeState::Up(node) => Ok(take_up(alloc, node, input, fault)),
+            NodeState::Down(disk) => take_down(alloc, disk, input, fault, limits),
         }
     }
 }

@@ -14,9 +14,11 @@ ghost use Rattle.lab.specs.Runs.{IsRun};
 ghost use Rattle.lab.specs.History.{OneHistory};
 ghost use Rattle.lab.specs.Worlds.{HasRun, HasApplied, HasEnded, AreCreated, AreLeft, IsCreated};
 ghost use Rattle.lab.specs.Worlds.{IsLeft, IsRunSoFar, HasHistory, StopsNode, IsIndexOf, HasNoNode};
+ghost use Rattle.lab.specs.Worlds.{HasHanded, HasMoved, HasPassed};
 ghost use Rattle.lab.specs.Worlds.{events_in, frames_in_steps};
 
 use crate::delivery::{Posted, delivery_of};
+use crate::input::{NodeInput, StepOutcome};
 use crate::node_state::NodeState;
 use crate::report::{Line, Lines, NodeReport, Numbers, Report};
 use crate::sim_node::SimNode;
@@ -24,7 +26,7 @@ use crate::trace::{one_line, trace_of};
 use crate::{Event, EventRecord, LabError};
 use chain_model::{in_order, one_history, run_is_outcomes};
 use configurations::{Config, Configs, NodeId};
-use disk::MemDisk;
+use disk::{Fault, MemDisk};
 use kv_types::{Batch, Limits, Number};
 use node::laws::disks_represent;
 use node::{Node, Stop};
@@ -140,6 +142,28 @@ fn index_of(nodes: &[SimNode], id: NodeId) -> Option<usize>
     nodes.iter().position(|node| node.id == id)
 }
 
+// Hands an input to the node at an index, with this fault on its disk meanwhile. Without memory the
+// node is lost.
+fn step_at(
+    alloc: Global,
+    nodes: &mut [SimNode],
+    index: usize,
+    delivery: (NodeId, NodeInput),
+    fault: Fault,
+    limits: &Limits,
+) -> Result<StepOutcome, AllocError>
+    requires { IsIndexOf nodes.old index delivery.0 }
+    ensures { IfOk result
+        (λ did. HasMoved nodes.old delivery.0 delivery.1 fault did nodes.new) }
+{
+    let (id, input) = delivery;
+    let state = NodeState::Down(MemDisk::new(alloc));
+    let node = mem::replace(&mut nodes[index], SimNode { id, state });
+    let (state, outcome) = node.state.dispatch(alloc, input, fault, limits)?;
+    nodes[index] = SimNode { id, state };
+    Ok(outcome)
+}
+
 impl World {
     /// Creates the nodes of the first configuration.
     pub fn new(alloc: Global, configs: &Configs, limits: &Limits) -> Result<World, LabError>
@@ -156,6 +180,35 @@ impl World {
         })
     }
 
+    // Keeps an event that brings nothing to any node.
+    fn pass_over(&mut self, alloc: Global, event: &Event) -> Result<(), LabError>
+        ensures { OnOk result (HasPassed self.old self.new event.now) }
+    {
+        keep(&mut self.events, event)?;
+        self.steps.push(one_line(alloc, Line::Nothing)?)?;
+        Ok(())
+    }
+
+    // Hands what an event brings to the node at this index, which it is for.
+    fn hand_over(
+        &mut self,
+        alloc: Global,
+        event: &Event,
+        index: usize,
+        delivery: (NodeId, NodeInput),
+    ) -> Result<(), LabError>
+        requires { IsIndexOf self.old.nodes.items index delivery.0 }
+        ensures { OnOk result (HasHanded self.old self.new event.now delivery.0 delivery.1) }
+    {
+        keep(&mut self.events, event)?;
+        let fault = event.fault.clone()?;
+        let to = delivery.0;
+        let outcome = step_at(alloc, &mut self.nodes, index, delivery, fault, &self.limits)?;
+        let lines = trace_of(alloc, &mut self.frames, to, outcome)?;
+        self.steps.push(lines)?;
+        Ok(())
+    }
+
     // Applies an event to the node that it is for, if the world has it.
     fn apply(&mut self, alloc: Global, event: &Event) -> Result<(), LabError>
         ensures { (cs : Configurations) (events : List Event) (steps : List (List Line)) →
@@ -169,23 +222,13 @@ impl World {
         // law: in every run of the model frames are in order
         in_order::<Batch>();
         let Some(delivery) = delivery_of(alloc, &self.frames, request, &event.kind)? else {
-            keep(&mut self.events, event)?;
-            self.steps.push(one_line(alloc, Line::Nothing)?)?;
-            return Ok(());
+            return self.pass_over(alloc, event);
         };
-        let (to, input) = delivery;
+        let to = delivery.0;
         let Some(index) = index_of(&self.nodes, to) else {
             return Ok(());
         };
-        keep(&mut self.events, event)?;
-        let fault = event.fault.clone()?;
-        let state = NodeState::Down(MemDisk::new(alloc));
-        let node = mem::replace(&mut self.nodes[index], SimNode { id: to, state });
-        let (state, outcome) = node.state.dispatch(alloc, input, fault, &self.limits)?;
-        self.nodes[index] = SimNode { id: to, state };
-        let lines = trace_of(alloc, &mut self.frames, to, outcome)?;
-        self.steps.push(lines)?;
-        Ok(())
+        self.hand_over(alloc, event, index, delivery)
     }
 
     /// Applies an event to the node that it is for. One that names a node which the world does not

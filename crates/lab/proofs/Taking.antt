@@ -1,0 +1,45 @@
+-- A node that takes an input, by the state that it had.
+use Rattle.std.proofs.Common.{◌≡◌, ℕ, refl, sym, subst}
+use Rattle.chain_core.specs.{Machine}
+use Rattle.disk.specs.declared.Fault.{Fault}
+use Rattle.disk.specs.declared.disk.Disk.{Ghosts}
+use Rattle.node.specs.declared.Node.{Node}
+use Rattle.node.specs.declared.Output.{Output}
+use Rattle.node.specs.{IsReady}
+use Rattle.lab.specs.declared.input.NodeInput.{NodeInput}
+use Rattle.lab.specs.declared.input.StepOutcome.TheVariants as done
+use Rattle.lab.specs.declared.node_state.NodeState.{NodeState}
+use Rattle.lab.specs.declared.node_state.NodeState.TheVariants.{Up, Down}
+use Rattle.lab.specs.Outcomes.{HasTaken, OutcomeRefines, StateFollows, has_struck_in}
+use Rattle.lab.specs.SimNodes.{StateIsReady, StateRefines, calls_of, disk_in}
+use Rattle.lab.proofs.Faults.{idle}
+
+-- a node that is up is ready where it says so, and one that is down is
+pub ready_up : {D : Type 0} (node : Node D) → IsReady node → StateIsReady (Up node)
+ready_up node ready other same =
+    let is : node ≡ other = cc in
+    subst (λ (it : Node _). IsReady it) is ready
+
+pub ready_down : {D : Type 0} (disk : D) → StateIsReady (Down disk)
+ready_down disk other same = absurd cc
+
+-- a node that answered and did nothing else has taken its input
+pub answered_only : {D : Type 0} (g : Ghosts D) (it : Fault) (node_input : NodeInput)
+    (old : NodeState D) (output : Output) → StateIsReady old →
+    ((x : ℕ) (n : Machine) → StateRefines g.is_honest g.state old x n →
+    OutcomeRefines g.is_honest g.state it (has_struck_in (calls_of g) it (disk_in old) old) x n
+    node_input old (done.Answered output)) →
+    StateFollows g.is_honest g.state g.failures (calls_of g) old node_input old →
+    HasTaken g it node_input old old (done.Answered output)
+answered_only g it node_input old output ready refines follows = record {
+  ready = ready;
+  refines = refines;
+  disk = λ honest. record {
+    spared = idle it (calls_of g (disk_in old));
+    count = refl;
+    same = λ down. refl;
+  };
+  only = λ x n r reliable stops. absurd cc;
+  follows = follows;
+  forgets = λ honest unarmed. unarmed;
+}

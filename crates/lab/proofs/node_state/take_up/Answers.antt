@@ -1,0 +1,69 @@
+use Rattle.std.proofs.Common.{None, refl, sym, subst, inl, inr}
+use Rattle.chain_model.specs.{stopped, silent}
+use Rattle.lab.specs.declared.input.NodeInput.{NodeInput}
+use Rattle.lab.specs.declared.input.NodeInput.TheVariants as to_node
+use Rattle.lab.specs.declared.input.StepOutcome.TheVariants as done
+use Rattle.lab.specs.declared.node_state.NodeState.TheVariants.{Up}
+use Rattle.lab.specs.SimNodes.{StateRefines, calls_of}
+use Rattle.lab.specs.Outcomes.{Drops, HasCrashed, HasTaken, RunsOn, Stops}
+use Rattle.lab.proofs.Taking.{answered_only, ready_up}
+use Rattle.lab.proofs.node_state.take_up.Goals as goal
+
+pub returns-in-Step : goal.returns-in-Step
+returns-in-Step g c =
+    let e = c.step.ensures in
+    subst (λ (k : NodeInput). HasTaken g.D.Disk c.args.fault k (Up c.args.node) c.step.result.0
+    c.step.result.1) (sym c.in-Step.is) (record {
+      ready = e.ready;
+      refines = e.refines;
+      disk = e.disk;
+      only = e.only;
+      follows = tt;
+      forgets = λ honest unarmed. e.forgets honest;
+    })
+
+pub returns-in-BadFrame : goal.returns-in-BadFrame
+returns-in-BadFrame g c =
+    let output = c.dropped-output in
+    subst (λ (k : NodeInput). HasTaken g.D.Disk c.args.fault k (Up c.args.node) (Up c.args.node)
+    (done.Answered output.result)) (sym c.in-BadFrame.is)
+    (answered_only g.D.Disk c.args.fault (to_node.BadFrame c.in-BadFrame.why) (Up c.args.node)
+    output.result (ready_up c.args.node c.requires)
+    (λ x n r. Drops r.core.running r (output.result, refl, output.ensures)) refl)
+
+pub returns-in-Start : goal.returns-in-Start
+returns-in-Start g c =
+    let output = c.dropped-output-in-Start in
+    subst (λ (k : NodeInput). HasTaken g.D.Disk c.args.fault k (Up c.args.node) (Up c.args.node)
+    (done.Answered output.result)) (sym c.in-Start.is)
+    (answered_only g.D.Disk c.args.fault to_node.Start (Up c.args.node) output.result
+    (ready_up c.args.node c.requires)
+    (λ x n r. RunsOn r.core.running r (output.result, refl, output.ensures)) refl)
+
+-- the disk crashed with the junk
+pub returns-in-Stop : goal.returns-in-Stop
+returns-in-Stop g c =
+    let same = sym c.into_disk.ensures.disk in
+    let e = c.crash-state.ensures in
+    let new = c.crash-state.result in
+    let junk = c.in-Stop.junk in
+    let crashed = λ (honest : g.D.Disk.is_honest c.args.node.disk).
+    subst (λ d. HasCrashed g.D.Disk.state g.D.Disk.failures (calls_of g.D.Disk) junk d new)
+    c.into_disk.ensures.disk (e.crashes (subst g.D.Disk.is_honest same honest)) in
+    subst (λ (k : NodeInput). HasTaken g.D.Disk c.args.fault k (Up c.args.node) new
+    (done.Stopped None)) (sym c.in-Stop.is) (record {
+      ready = e.ready;
+      refines = λ x n r.
+          let rests = c.into_disk.ensures.rests x n r in
+          let left = elim (e.refines x n (silent n) (subst g.D.Disk.is_honest same r.honest)
+          (λ after now. inl (rests after now))) as
+          (λ _. StateRefines g.D.Disk.is_honest g.D.Disk.state new x (stopped n)) [
+            | inl before ↦ before
+            | inr behind ↦ behind
+          ] in
+          Stops r.core.running left refl;
+      disk = crashed;
+      only = λ x n r reliable stops. absurd cc;
+      follows = crashed;
+      forgets = λ honest unarmed. e.forgets;
+    })
