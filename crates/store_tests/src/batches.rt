@@ -1,30 +1,9 @@
 // Batches written and read as bytes, and limits at their edges.
-use kv_types::{Batch, Edit, Key, KvError, Limits, Number, Page, Range, Row, Value, value_at};
-use std::alloc::Global;
+use crate::cases::{Case, all_hold, is_so};
+use crate::items::{batch_of, deletions, key_of, long_batch, long_key, long_value, value_of};
+use kv_types::{Batch, Key, KvError, Limits, Number, Page, Range, Row, Value, value_at};
+use std::alloc::{AllocError, Global};
 use std::test::Fail;
-
-fn key_of(alloc: Global, bytes: &[u8]) -> Result<Key, KvError> {
-    Key::new(bytes.to_vec(alloc)?)
-}
-
-/// A put, or a deletion where there is no value.
-fn edit_of(alloc: Global, key: &[u8], value: Option<&[u8]>) -> Result<Edit, KvError> {
-    let key = key_of(alloc, key)?;
-    match value {
-        Some(bytes) => Ok(Edit::Put(key, Value::new(bytes.to_vec(alloc)?)?)),
-        None => Ok(Edit::Delete(key)),
-    }
-}
-
-type Edits<'a> = &'a [(&'a [u8], Option<&'a [u8]>)];
-
-fn batch_of(alloc: Global, edits: Edits) -> Result<Batch, KvError> {
-    let mut list = Vec::new(alloc);
-    for (key, value) in edits {
-        list.push(edit_of(alloc, *key, *value)?)?;
-    }
-    Batch::new(list)
-}
 
 /// Whether this is the value, if there is one.
 fn is_value(found: Option<&Value>, want: Option<&[u8]>) -> bool {
@@ -43,34 +22,42 @@ fn is_edit(batch: &Batch, value: Option<&[u8]>) -> bool {
     }
 }
 
-/// Whether these bytes spell one edit of the key `a`, and it is spelled so.
-fn is_spelled_so(
-    alloc: Global,
-    value: Option<&'static [u8]>,
-    want: &[u8],
-) -> Result<bool, KvError> {
-    let spelled = batch_of(alloc, &[(b"a", value)])?.to_bytes(alloc)?;
-    let is_read = is_edit(&Batch::from_bytes(alloc, want)?, value);
-    Ok(is_read && spelled.as_slice() == want)
+/// Whether the batch is spelled so.
+fn is_spelled_so(alloc: Global, batch: Batch, want: &[u8]) -> Result<bool, KvError> {
+    let bytes = batch.to_bytes(alloc);
+    drop(batch);
+    Ok(bytes?.as_slice() == want)
+}
+
+/// Whether a batch of one edit of the key `a`, with this value, is spelled so.
+fn is_spelled(alloc: Global, value: Option<&'static [u8]>, want: &[u8]) -> Result<bool, KvError> {
+    let batch = batch_of(alloc, &[(b"a", value)])?;
+    is_spelled_so(alloc, batch, want)
 }
 
 /// A value of the key `a`, and how a batch of this edit is spelled.
-static SPELLINGS: [(Option<&[u8]>, &[u8]); 2] = [
-    (Some(b"1"), &[0, 1, 1, 0, 1, 0x61, 0, 1, 0x31]),
-    (None, &[0, 1, 2, 0, 1, 0x61]),
+struct Spelling(Option<&'static [u8]>, &'static [u8]);
+
+impl Case for Spelling {
+    type Error = KvError;
+
+    fn holds(&self, alloc: Global) -> Result<bool, KvError> {
+        let is_read = is_edit(&Batch::from_bytes(alloc, self.1)?, self.0);
+        Ok(is_read && is_spelled(alloc, self.0, self.1)?)
+    }
+}
+
+static SPELLINGS: [Spelling; 2] = [
+    Spelling(Some(b"1"), &[0, 1, 1, 0, 1, 0x61, 0, 1, 0x31]),
+    Spelling(None, &[0, 1, 2, 0, 1, 0x61]),
 ];
 
 #[test]
 fn one_edit_is_spelled_so(rt: HostRuntime) -> Result<(), Fail> {
-    for (value, want) in &SPELLINGS {
-        let is_so = is_spelled_so(rt.alloc(), *value, *want)?;
-        assert!(rt; is_so, "{want:?}");
-    }
-    Ok(())
+    all_hold(rt.alloc(), &SPELLINGS)
 }
 
 /// A value at an edge of the accepted range.
-#[derive(Clone, Copy, Debug, Drop)]
 enum Made {
     /// A key of this length.
     Key(usize),
@@ -86,40 +73,48 @@ enum Made {
     Range(u32),
 }
 
-fn deletions(alloc: Global, count: usize) -> Result<Vec<Edit>, KvError> {
-    let mut edits = Vec::new(alloc);
-    for _ in 0..count {
-        edits.push(Edit::Delete(key_of(alloc, b"a")?))?;
-    }
-    Ok(edits)
+/// The batch that is spelled in 49,178 bytes and this many more.
+fn four_puts(alloc: Global, last: usize) -> Result<Batch, KvError> {
+    long_batch(alloc, &[(1, 16384), (1, 16384), (1, 16384), (1, last)])
 }
 
-fn long_batch(alloc: Global, last: usize) -> Result<Batch, KvError> {
-    let mut edits = Vec::new(alloc);
-    for len in [16384, 16384, 16384, last] {
-        let value = Value::new(vec![in alloc; 118u8; len]?)?;
-        edits.push(Edit::Put(key_of(alloc, b"k")?, value))?;
+/// The range from `b`, to this bound or open.
+fn range_of(
+    alloc: Global,
+    to: Option<&[u8]>,
+    backward: bool,
+    limit: u32,
+) -> Result<Range, KvError> {
+    let from = key_of(alloc, b"b")?;
+    match to {
+        Some(to) => Range::new(from, Some(key_of(alloc, to)?), backward, limit),
+        None => Range::new(from, None, backward, limit),
     }
-    Batch::new(edits)
 }
 
-fn make(alloc: Global, made: Made) -> Result<(), KvError> {
+/// The refusal, if it is refused.
+fn refusal_of(alloc: Global, made: &Made) -> Option<KvError> {
     match made {
-        Made::Key(len) => drop(Key::new(vec![in alloc; 107u8; len]?)?),
-        Made::Value(len) => drop(Value::new(vec![in alloc; 118u8; len]?)?),
-        Made::Deletions(count) => drop(Batch::new(deletions(alloc, count)?)?),
-        Made::LongBatch(last) => drop(long_batch(alloc, last)?),
-        Made::Spelled(bytes) => drop(Batch::from_bytes(alloc, bytes)?),
-        Made::Range(limit) => drop(Range::new(key_of(alloc, b"a")?, None, false, limit)?),
+        Made::Key(len) => long_key(alloc, *len).err(),
+        Made::Value(len) => long_value(alloc, *len).err(),
+        Made::Deletions(count) => deletions(alloc, b"a", *count).err(),
+        Made::LongBatch(last) => four_puts(alloc, *last).err(),
+        Made::Spelled(bytes) => Batch::from_bytes(alloc, *bytes).err(),
+        Made::Range(limit) => range_of(alloc, None, false, *limit).err(),
     }
-    Ok(())
 }
 
-/// The refusal, if it is refused. Want of memory ends the test.
-fn refusal_of(alloc: Global, made: Made) -> Result<Option<KvError>, KvError> {
-    match make(alloc, made) {
-        Err(KvError::Memory) => Err(KvError::Memory),
-        answer => Ok(answer.err()),
+/// What is made, and the refusal.
+struct Edge(Made, Option<KvError>);
+
+impl Case for Edge {
+    type Error = KvError;
+
+    fn holds(&self, alloc: Global) -> Result<bool, KvError> {
+        match refusal_of(alloc, &self.0) {
+            Some(KvError::Memory) => Err(KvError::Memory),
+            found => Ok(found == self.1),
+        }
     }
 }
 
@@ -127,76 +122,73 @@ const BAD_BYTES: Option<KvError> = Some(KvError::BadBytes);
 
 const BAD_LIMIT: Option<KvError> = Some(KvError::BadLimit);
 
-/// What is made, and the refusal.
-static EDGES: [(Made, Option<KvError>); 27] = [
-    (Made::Key(0), None),
-    (Made::Key(1024), None),
-    (Made::Key(1025), Some(KvError::KeyTooLong)),
-    (Made::Value(0), None),
-    (Made::Value(16384), None),
-    (Made::Value(16385), Some(KvError::ValueTooLong)),
-    (Made::Deletions(0), Some(KvError::NoEdits)),
-    (Made::Deletions(1), None),
-    (Made::Deletions(256), None),
-    (Made::Deletions(257), Some(KvError::TooManyEdits)),
-    (Made::LongBatch(16358), None),
-    (Made::LongBatch(16359), Some(KvError::BatchTooLong)),
-    (Made::Range(0), BAD_LIMIT),
-    (Made::Range(1), None),
-    (Made::Range(1024), None),
-    (Made::Range(1025), BAD_LIMIT),
-    (Made::Range(u32::MAX), BAD_LIMIT),
+static EDGES: [Edge; 27] = [
+    Edge(Made::Key(0), None),
+    Edge(Made::Key(1024), None),
+    Edge(Made::Key(1025), Some(KvError::KeyTooLong)),
+    Edge(Made::Value(0), None),
+    Edge(Made::Value(16384), None),
+    Edge(Made::Value(16385), Some(KvError::ValueTooLong)),
+    Edge(Made::Deletions(0), Some(KvError::NoEdits)),
+    Edge(Made::Deletions(1), None),
+    Edge(Made::Deletions(256), None),
+    Edge(Made::Deletions(257), Some(KvError::TooManyEdits)),
+    Edge(Made::LongBatch(16358), None),
+    Edge(Made::LongBatch(16359), Some(KvError::BatchTooLong)),
+    Edge(Made::Range(0), BAD_LIMIT),
+    Edge(Made::Range(1), None),
+    Edge(Made::Range(1024), None),
+    Edge(Made::Range(1025), BAD_LIMIT),
+    Edge(Made::Range(u32::MAX), BAD_LIMIT),
     // What spells no batch.
-    (Made::Spelled(&[]), BAD_BYTES),
-    (Made::Spelled(&[0]), BAD_BYTES),
-    (Made::Spelled(&[0, 0]), BAD_BYTES),
-    (Made::Spelled(&[0, 1]), BAD_BYTES),
-    (Made::Spelled(&[0, 1, 0, 0, 0]), BAD_BYTES),
-    (Made::Spelled(&[0, 1, 3, 0, 0]), BAD_BYTES),
-    (Made::Spelled(&[0, 1, 2, 0, 1]), BAD_BYTES),
-    (Made::Spelled(&[0, 1, 1, 0, 0]), BAD_BYTES),
-    (Made::Spelled(&[0, 2, 2, 0, 0]), BAD_BYTES),
-    (Made::Spelled(&[0, 1, 2, 0, 0, 0]), BAD_BYTES),
+    Edge(Made::Spelled(&[]), BAD_BYTES),
+    Edge(Made::Spelled(&[0]), BAD_BYTES),
+    Edge(Made::Spelled(&[0, 0]), BAD_BYTES),
+    Edge(Made::Spelled(&[0, 1]), BAD_BYTES),
+    Edge(Made::Spelled(&[0, 1, 0, 0, 0]), BAD_BYTES),
+    Edge(Made::Spelled(&[0, 1, 3, 0, 0]), BAD_BYTES),
+    Edge(Made::Spelled(&[0, 1, 2, 0, 1]), BAD_BYTES),
+    Edge(Made::Spelled(&[0, 1, 1, 0, 0]), BAD_BYTES),
+    Edge(Made::Spelled(&[0, 2, 2, 0, 0]), BAD_BYTES),
+    Edge(Made::Spelled(&[0, 1, 2, 0, 0, 0]), BAD_BYTES),
 ];
 
 #[test]
 fn what_is_made_at_the_edges(rt: HostRuntime) -> Result<(), Fail> {
-    for (made, want) in &EDGES {
-        let refusal = refusal_of(rt.alloc(), *made)?;
-        assert!(rt; refusal == *want, "{made:?}: {refusal:?}");
-    }
-    Ok(())
+    all_hold(rt.alloc(), &EDGES)
 }
 
-/// The length of the longest batch's spelling, if the bytes are read again.
-fn longest_len(alloc: Global) -> Result<usize, KvError> {
-    let bytes = long_batch(alloc, 16358)?.to_bytes(alloc)?;
-    Ok(Batch::from_bytes(alloc, &bytes)?.to_bytes(alloc)?.len())
+/// Whether the longest batch has a spelling of 65,536 bytes, and the one read from that another.
+fn is_longest(alloc: Global) -> Result<bool, KvError> {
+    let bytes = four_puts(alloc, 16358)?.to_bytes(alloc)?;
+    Ok(bytes.len() == 65536 && is_spelling(alloc, &bytes)?)
+}
+
+/// Whether the bytes spell a batch.
+fn is_spelling(alloc: Global, bytes: &[u8]) -> Result<bool, KvError> {
+    is_spelled_so(alloc, Batch::from_bytes(alloc, bytes)?, bytes)
 }
 
 #[test]
 fn the_longest_batch_is_read_again(rt: HostRuntime) -> Result<(), Fail> {
-    assert_eq!(rt; longest_len(rt.alloc())?, 65536);
-    Ok(())
+    is_so(is_longest(rt.alloc()))
 }
 
-/// Refusals and their numbers.
-static REFUSALS: [(KvError, u8); 8] = [
-    (KvError::KeyTooLong, 1),
-    (KvError::ValueTooLong, 2),
-    (KvError::NoEdits, 3),
-    (KvError::TooManyEdits, 4),
-    (KvError::BatchTooLong, 5),
-    (KvError::BadBytes, 6),
-    (KvError::Memory, 7),
-    (KvError::BadLimit, 8),
+/// The numbers of the refusals.
+static REFUSALS: [u8; 8] = [
+    KvError::KeyTooLong as u8,
+    KvError::ValueTooLong as u8,
+    KvError::NoEdits as u8,
+    KvError::TooManyEdits as u8,
+    KvError::BatchTooLong as u8,
+    KvError::BadBytes as u8,
+    KvError::Memory as u8,
+    KvError::BadLimit as u8,
 ];
 
 #[test]
 fn refusals_have_their_numbers(rt: HostRuntime) {
-    for (refusal, number) in &REFUSALS {
-        assert!(rt; *refusal as u8 == *number, "{number}");
-    }
+    assert!(rt; REFUSALS == [1, 2, 3, 4, 5, 6, 7, 8]);
 }
 
 const GIB: u64 = 1 << 30;
@@ -204,61 +196,70 @@ const GIB: u64 = 1 << 30;
 const TIB: u64 = 1 << 40;
 
 /// Limits, and whether they are in range.
-static ENDS: [([u64; 5], bool); 11] = [
-    ([16, 0, 64, 64, 1], true),
-    ([GIB, 64, GIB, TIB, 65536], true),
-    ([15, 0, 64, 64, 1], false),
-    ([GIB + 1, 0, 64, 64, 1], false),
-    ([16, 65, 64, 64, 1], false),
-    ([16, 0, 63, 64, 1], false),
-    ([16, 0, GIB + 1, 64, 1], false),
-    ([16, 0, 64, 63, 1], false),
-    ([16, 0, 64, TIB + 1, 1], false),
-    ([16, 0, 64, 64, 0], false),
-    ([16, 0, 64, 64, 65537], false),
+struct Ends([u64; 5], bool);
+
+impl Case for Ends {
+    type Error = AllocError;
+
+    fn holds(&self, _alloc: Global) -> Result<bool, AllocError> {
+        let [log, l0, table, level, cache] = self.0;
+        Ok(Limits::new(log, l0, table, level, cache).is_ok() == self.1)
+    }
+}
+
+static ENDS: [Ends; 11] = [
+    Ends([16, 0, 64, 64, 1], true),
+    Ends([GIB, 64, GIB, TIB, 65536], true),
+    Ends([15, 0, 64, 64, 1], false),
+    Ends([GIB + 1, 0, 64, 64, 1], false),
+    Ends([16, 65, 64, 64, 1], false),
+    Ends([16, 0, 63, 64, 1], false),
+    Ends([16, 0, GIB + 1, 64, 1], false),
+    Ends([16, 0, 64, 63, 1], false),
+    Ends([16, 0, 64, TIB + 1, 1], false),
+    Ends([16, 0, 64, 64, 0], false),
+    Ends([16, 0, 64, 64, 65537], false),
 ];
 
 #[test]
-fn limits_at_their_ends(rt: HostRuntime) {
-    for (ends, is_taken) in &ENDS {
-        let [log, l0, table, level, cache] = *ends;
-        let is_ok = Limits::new(log, l0, table, level, cache).is_ok();
-        assert!(rt; is_ok == *is_taken, "{ends:?}");
-    }
+fn limits_at_their_ends(rt: HostRuntime) -> Result<(), Fail> {
+    all_hold(rt.alloc(), &ENDS)
 }
 
 #[test]
 fn default_limits(rt: HostRuntime) {
     let limits = Limits::default();
-    let files = (limits.log, limits.l0, limits.table);
-    assert!(rt; files == (4194304, 4, 2097152));
-    assert!(rt; (limits.level, limits.cache) == (10485760, 256));
+    let files = [limits.log, limits.l0, limits.table, limits.level];
+    assert!(rt; files == [4194304, 4, 2097152, 10485760] && limits.cache == 256);
+    assert!(rt; Number::ZERO.get() == 0);
 }
 
 const GREATEST: u64 = (1 << 63) - 1;
 
 /// A value, whether it is a number, and whether a next number follows it.
-static NUMBERS: [(u64, bool, bool); 4] = [
-    (0, true, true),
-    (GREATEST - 1, true, true),
-    (GREATEST, true, false),
-    (GREATEST + 1, false, false),
-];
+struct Numeral(u64, bool, bool);
 
-/// Whether it is a number, and whether a number follows it.
-fn about(value: u64) -> (bool, bool) {
-    match Number::new(value) {
-        Some(number) => (true, number.next().is_some()),
-        None => (false, false),
+impl Case for Numeral {
+    type Error = AllocError;
+
+    fn holds(&self, _alloc: Global) -> Result<bool, AllocError> {
+        Ok(match Number::new(self.0) {
+            Some(number) => self.1 && number.next().is_some() == self.2,
+            None => !self.1,
+        })
     }
 }
 
+static NUMBERS: [Numeral; 4] = [
+    Numeral(0, true, true),
+    Numeral(GREATEST - 1, true, true),
+    Numeral(GREATEST, true, false),
+    Numeral(GREATEST + 1, false, false),
+];
+
 #[test]
-fn numbers_up_to_the_greatest(rt: HostRuntime) {
-    for (value, is_taken, has_next) in &NUMBERS {
-        assert!(rt; about(*value) == (*is_taken, *has_next), "{value}");
-    }
-    assert!(rt; Number::ZERO.get() == 0);
+fn numbers_up_to_the_greatest(rt: HostRuntime) -> Result<(), Fail> {
+    all_hold(rt.alloc(), &NUMBERS)
 }
 
 /// The batches `a=1 -a a=2 b=1` and `-b`.
@@ -269,86 +270,88 @@ fn two_batches(alloc: Global) -> Result<[Batch; 2], KvError> {
         (b"a", Some(b"2")),
         (b"b", Some(b"1")),
     ];
-    Ok([batch_of(alloc, &first)?, batch_of(alloc, &[(b"b", None)])?])
-}
-
-/// Whether the batches map the key to this value.
-fn is_found(
-    alloc: Global,
-    batches: &[Batch],
-    key: &[u8],
-    want: Option<&[u8]>,
-) -> Result<bool, KvError> {
-    Ok(is_value(value_at(batches, &key_of(alloc, key)?), want))
+    let first = batch_of(alloc, &first)?;
+    Ok([first, deletions(alloc, b"b", 1)?])
 }
 
 /// A key, and its value after the batches.
-static FOUND: [(&[u8], Option<&[u8]>); 3] = [(b"a", Some(b"2")), (b"b", None), (b"c", None)];
+struct Found(&'static [u8], Option<&'static [u8]>);
+
+impl Case for Found {
+    type Error = KvError;
+
+    fn holds(&self, alloc: Global) -> Result<bool, KvError> {
+        let key = key_of(alloc, self.0)?;
+        Ok(is_value(value_at(&two_batches(alloc)?, &key), self.1))
+    }
+}
+
+static FOUND: [Found; 3] = [
+    Found(b"a", Some(b"2")),
+    Found(b"b", None),
+    Found(b"c", None),
+];
 
 #[test]
 fn the_last_edit_decides(rt: HostRuntime) -> Result<(), Fail> {
-    let batches = two_batches(rt.alloc())?;
-    for (key, want) in &FOUND {
-        let is_so = is_found(rt.alloc(), &batches, *key, *want)?;
-        assert!(rt; is_so, "{key:?}");
+    all_hold(rt.alloc(), &FOUND)
+}
+
+/// Two keys, whether the first is below the second, which is to be less, and whether they are
+/// equal.
+struct Keys(&'static [u8], &'static [u8], bool, bool);
+
+impl Case for Keys {
+    type Error = KvError;
+
+    fn holds(&self, alloc: Global) -> Result<bool, KvError> {
+        let (a, b) = (key_of(alloc, self.0)?, key_of(alloc, self.1)?);
+        Ok(a.is_below(&b) == self.2 && (a < b) == self.2 && (a == b) == self.3)
     }
-    Ok(())
 }
 
-/// Whether the first key is below the second, is less, and is equal.
-fn compared(alloc: Global, a: &[u8], b: &[u8]) -> Result<(bool, bool, bool), KvError> {
-    let (first, second) = (key_of(alloc, a)?, key_of(alloc, b)?);
-    Ok((first.is_below(&second), first < second, first == second))
-}
-
-/// Two keys, whether the first is below the second, and whether they are equal.
-static KEYS: [(&[u8], &[u8], bool, bool); 6] = [
-    (b"", b"", false, true),
-    (b"", b"\x00", true, false),
-    (b"a", b"ab", true, false),
-    (b"ab", b"b", true, false),
-    (b"b", b"ab", false, false),
-    (b"\x7f", b"\x80", true, false),
+static KEYS: [Keys; 6] = [
+    Keys(b"", b"", false, true),
+    Keys(b"", b"\x00", true, false),
+    Keys(b"a", b"ab", true, false),
+    Keys(b"ab", b"b", true, false),
+    Keys(b"b", b"ab", false, false),
+    Keys(b"\x7f", b"\x80", true, false),
 ];
 
 #[test]
 fn keys_compare_by_their_bytes(rt: HostRuntime) -> Result<(), Fail> {
-    for (a, b, is_below, is_equal) in &KEYS {
-        let found = compared(rt.alloc(), *a, *b)?;
-        assert!(rt; found == (*is_below, *is_below, *is_equal), "{a:?} {b:?}");
+    all_hold(rt.alloc(), &KEYS)
+}
+
+/// A key, the end of a range from `b`, and whether the key is in that range.
+struct InRange(&'static [u8], Option<&'static [u8]>, bool);
+
+impl Case for InRange {
+    type Error = KvError;
+
+    fn holds(&self, alloc: Global) -> Result<bool, KvError> {
+        let key = key_of(alloc, self.0)?;
+        Ok(range_of(alloc, self.1, false, 1)?.contains(&key) == self.2)
     }
-    Ok(())
 }
 
-/// The range from `b`, to `d` or open.
-fn range_of(alloc: Global, to: Option<Key>, backward: bool, limit: u32) -> Result<Range, KvError> {
-    Range::new(key_of(alloc, b"b")?, to, backward, limit)
-}
-
-/// Whether the key is in the range to `d`, and in the open one.
-fn in_ranges(alloc: Global, key: &[u8]) -> Result<(bool, bool), KvError> {
-    let (key, to) = (key_of(alloc, key)?, key_of(alloc, b"d")?);
-    let bounded = range_of(alloc, Some(to), false, 1)?;
-    let open = range_of(alloc, None, false, 1)?;
-    Ok((bounded.contains(&key), open.contains(&key)))
-}
-
-/// A key, whether it is in the first range, and in the second.
-static IN_RANGES: [(&[u8], bool, bool); 5] = [
-    (b"a", false, false),
-    (b"b", true, true),
-    (b"cc", true, true),
-    (b"d", false, true),
-    (b"e", false, true),
+static IN_RANGES: [InRange; 10] = [
+    InRange(b"a", Some(b"d"), false),
+    InRange(b"b", Some(b"d"), true),
+    InRange(b"cc", Some(b"d"), true),
+    InRange(b"d", Some(b"d"), false),
+    InRange(b"e", Some(b"d"), false),
+    InRange(b"a", None, false),
+    InRange(b"b", None, true),
+    InRange(b"cc", None, true),
+    InRange(b"d", None, true),
+    InRange(b"e", None, true),
 ];
 
 #[test]
 fn a_range_ends_before_its_bound(rt: HostRuntime) -> Result<(), Fail> {
-    for (bytes, in_bounded, in_open) in &IN_RANGES {
-        let found = in_ranges(rt.alloc(), *bytes)?;
-        assert!(rt; found == (*in_bounded, *in_open), "{bytes:?}");
-    }
-    Ok(())
+    all_hold(rt.alloc(), &IN_RANGES)
 }
 
 /// Whether the range goes backward from `b` to `d`, by two rows.
@@ -361,9 +364,16 @@ fn is_backward(range: &Range) -> bool {
     begins_so && ends_so && range.is_backward() && range.limit() == 2
 }
 
+/// What is copied.
+enum Copied {
+    Range,
+    Batch,
+    Row,
+}
+
 /// Whether a copy of such a range is one.
 fn copies_range(alloc: Global) -> Result<bool, KvError> {
-    let range = range_of(alloc, Some(key_of(alloc, b"d")?), true, 2)?;
+    let range = range_of(alloc, Some(b"d"), true, 2)?;
     Ok(is_backward(&range.clone()?))
 }
 
@@ -374,24 +384,32 @@ fn copies_batch(alloc: Global) -> Result<bool, KvError> {
 }
 
 fn row_of(alloc: Global) -> Result<Row, KvError> {
-    let value = Value::new(b"1".to_vec(alloc)?)?;
     let key = key_of(alloc, b"a")?;
+    let value = value_of(alloc, b"1")?;
     Ok(Row { key, value })
 }
 
-/// A row's size; for a page of its copy the number of rows, and whether the range has more.
-fn copied_row(alloc: Global) -> Result<(usize, usize, bool), KvError> {
+/// Whether a row is of 6 bytes, and a page of its copy has this row alone, and says that there are
+/// more.
+fn copies_row(alloc: Global) -> Result<bool, KvError> {
     let row = row_of(alloc)?;
     let page = Page::new(vec![in alloc; row.clone()?]?, true);
-    Ok((row.size(), page.rows().len(), page.has_more()))
+    Ok(row.size() == 6 && page.rows().len() == 1 && page.has_more())
+}
+
+impl Case for Copied {
+    type Error = KvError;
+
+    fn holds(&self, alloc: Global) -> Result<bool, KvError> {
+        match self {
+            Copied::Range => copies_range(alloc),
+            Copied::Batch => copies_batch(alloc),
+            Copied::Row => copies_row(alloc),
+        }
+    }
 }
 
 #[test]
 fn copies_are_made(rt: HostRuntime) -> Result<(), Fail> {
-    let alloc = rt.alloc();
-    let (range, batch) = (copies_range(alloc)?, copies_batch(alloc)?);
-    assert!(rt; range && batch);
-    let row = copied_row(alloc)?;
-    assert!(rt; row == (6, 1, true));
-    Ok(())
+    all_hold(rt.alloc(), &[Copied::Range, Copied::Batch, Copied::Row])
 }

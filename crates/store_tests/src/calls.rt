@@ -2,6 +2,7 @@
 ghost use Rattle.std.specs.Prelude.{None};
 ghost use Rattle.disk.specs.{Absent, IsReliable, past_states};
 
+use crate::cases::is_so;
 use disk::{Disk, DiskError, MemDisk};
 use record_log::{Log, LogError};
 use std::alloc::Global;
@@ -116,17 +117,24 @@ fn open(alloc: Global, disk: &mut NotingDisk) -> Result<Log, LogError> {
     Log::open(alloc, disk, 3, 0)
 }
 
-// Whether the calls of two appends are these, each time.
+// Whether the calls of an append are these.
 fn appends_so(
     alloc: Global,
     disk: &mut NotingDisk,
     log: &mut Log,
-    want: &[Called],
+    bytes: &[u8],
 ) -> Result<bool, LogError> {
-    append(alloc, disk, log, b"one")?;
-    let is_first = disk.recorded() == want;
-    append(alloc, disk, log, b"")?;
-    Ok(is_first && disk.recorded() == want)
+    append(alloc, disk, log, bytes)?;
+    let want = [Called::Write, Called::Sync, Called::Write, Called::Sync];
+    Ok(disk.recorded() == want.as_slice())
+}
+
+// Whether a log is created and grows by these calls.
+fn writes_so(alloc: Global, disk: &mut NotingDisk) -> Result<bool, LogError> {
+    let mut log = create(alloc, disk)?;
+    let is_created_so = disk.recorded() == [Called::Write, Called::Sync].as_slice();
+    let is_first = appends_so(alloc, disk, &mut log, b"one")?;
+    Ok(appends_so(alloc, disk, &mut log, b"")? && is_first && is_created_so)
 }
 
 // Whether the first call is a sync, and no other is a write.
@@ -137,16 +145,15 @@ fn syncs_and_reads(calls: &[Called]) -> bool {
     }
 }
 
+// Whether a log makes its calls so, and those of its opening.
+fn makes_its_calls(alloc: Global) -> Result<bool, LogError> {
+    let mut disk = NotingDisk::new(alloc);
+    let writes_so = writes_so(alloc, &mut disk)?;
+    let _opened = open(alloc, &mut disk)?;
+    Ok(writes_so && syncs_and_reads(disk.recorded()))
+}
+
 #[test]
 fn a_log_makes_its_calls_in_their_order(rt: HostRuntime) -> Result<(), Fail> {
-    let alloc = rt.alloc();
-    let mut disk = NotingDisk::new(alloc);
-    let mut log = create(alloc, &mut disk)?;
-    assert!(rt; disk.recorded() == [Called::Write, Called::Sync].as_slice());
-    let appended = [Called::Write, Called::Sync, Called::Write, Called::Sync];
-    let is_so = appends_so(alloc, &mut disk, &mut log, &appended)?;
-    assert!(rt; is_so);
-    let _opened = open(alloc, &mut disk)?;
-    assert!(rt; syncs_and_reads(disk.recorded()));
-    Ok(())
+    is_so(makes_its_calls(rt.alloc()))
 }

@@ -1,62 +1,85 @@
 // The outcomes of a crash, and the refusals of a disk.
+use crate::cases::{Case, all_hold, is_so, is_wrong};
 use disk::{Crash, Disk, DiskError, Fault, Junk, JunkBytes, MemDisk};
 use std::alloc::{AllocError, Global};
 use std::test::Fail;
 
-// A write, cut, sync or removal of a file.
-#[derive(Clone, Copy, Debug, Drop)]
+// A call of a disk.
+#[derive(Clone, Copy)]
 pub enum Act {
-    Write(u64, &'static [u8]),
-    Cut(u64),
-    Sync,
-    Remove,
+    Files,
+    Length(u64),
+    // The bytes are so many from a place on.
+    Read(u64, u64, usize),
+    Write(u64, u64, &'static [u8]),
+    Cut(u64, u64),
+    Sync(u64),
+    Remove(u64),
 }
 
 pub const FILE: u64 = 7;
 
-pub fn perform(disk: &mut MemDisk, act: Act) -> Result<(), DiskError> {
+pub const ABC: Act = Act::Write(FILE, 0, b"abc");
+
+const DE: Act = Act::Write(FILE, 0, b"de");
+
+pub const SYNC: Act = Act::Sync(FILE);
+
+pub const REMOVE: Act = Act::Remove(FILE);
+
+fn perform(disk: &mut MemDisk, act: Act) -> Result<(), DiskError> {
     match act {
-        Act::Write(at, bytes) => disk.write_at(FILE, at, bytes),
-        Act::Cut(len) => disk.cut(FILE, len),
-        Act::Sync => disk.sync(FILE),
-        Act::Remove => disk.remove(FILE),
+        Act::Files => disk.files().and(Ok(())),
+        Act::Length(file) => disk.length(file).and(Ok(())),
+        Act::Read(file, at, len) => disk.read(file, at, &mut [0; 8][..len.min(8)]),
+        Act::Write(file, at, bytes) => disk.write_at(file, at, bytes),
+        Act::Cut(file, len) => disk.cut(file, len),
+        Act::Sync(file) => disk.sync(file),
+        Act::Remove(file) => disk.remove(file),
     }
 }
 
-// A want of memory changes nothing, so the call can be repeated.
+// The refusal of a call. One that wants memory changes nothing and is not counted, so it is made
+// again.
+pub fn refusal_of(disk: &mut MemDisk, act: Act) -> Option<DiskError> {
+    match perform(disk, act) {
+        Err(DiskError::Memory) => perform(disk, act).err(),
+        answer => answer.err(),
+    }
+}
+
+// Makes the calls, none of which is to be refused.
 pub fn run(disk: &mut MemDisk, acts: &[Act]) -> Result<(), DiskError> {
-    for one in acts {
-        if let Err(e) = perform(disk, *one) {
-            if e != DiskError::Memory {
-                return Err(e);
-            }
-            perform(disk, *one)?;
+    for act in acts {
+        if let Some(e) = refusal_of(disk, *act) {
+            return Err(e);
         }
     }
     Ok(())
 }
 
-// Whether this is the file's content, or there is no such file.
-pub fn is_content(
-    alloc: Global,
-    disk: &mut MemDisk,
-    file: u64,
-    want: Option<&[u8]>,
-) -> Result<bool, DiskError> {
-    let len = match disk.length(file) {
-        Err(DiskError::NoFile) => return Ok(want.is_none()),
-        other => other?,
+// Whether these bytes stand in the file, which has so many.
+fn has_bytes(disk: &mut MemDisk, file: u64, want: &[u8]) -> Result<bool, DiskError> {
+    let mut bytes = [0; 64];
+    let Some(into) = bytes.get_mut(..want.len()) else {
+        return Ok(false);
     };
-    let mut bytes = vec![in alloc; 0u8; len as usize]?;
-    disk.read(file, 0, bytes.as_mut_slice())?;
-    Ok(match want {
-        Some(want) => bytes.as_slice() == want,
-        None => false,
-    })
+    disk.read(file, 0, into)?;
+    Ok(*into == *want)
+}
+
+// Whether this is the file's content, of at most 64 bytes, or there is no such file.
+pub fn is_content(disk: &mut MemDisk, file: u64, want: Option<&[u8]>) -> Result<bool, DiskError> {
+    match (disk.length(file), want) {
+        (Ok(len), Some(want)) => Ok(len == want.len() as u64 && has_bytes(disk, file, want)?),
+        (Ok(_), None) => Ok(false),
+        (Err(DiskError::NoFile), want) => Ok(want.is_none()),
+        (Err(e), _) => Err(e),
+    }
 }
 
 // The choice among the outcomes of a crash.
-#[derive(Clone, Copy, Debug, Drop)]
+#[derive(Clone, Copy)]
 pub enum Choice {
     Old,
     New,
@@ -72,101 +95,131 @@ pub fn crash(alloc: Global, disk: &mut MemDisk, choice: Choice) -> Result<(), Al
     Ok(())
 }
 
-// Whether this is the content after these acts, a crash, and more crashes, which find every place
-// synced.
-fn leaves(alloc: Global, acts: &[Act], choice: Choice, want: Option<&[u8]>) -> Result<bool, Fail> {
-    let mut disk = MemDisk::new(alloc);
-    run(&mut disk, acts)?;
-    for junk in [choice, Choice::Bytes(&[0x55]), Choice::Old] {
-        crash(alloc, &mut disk, junk)?;
-    }
-    Ok(is_content(alloc, &mut disk, FILE, want)?)
+// Whether this is the file's content after a crash.
+fn leaves(
+    alloc: Global,
+    disk: &mut MemDisk,
+    choice: Choice,
+    file: u64,
+    want: Option<&[u8]>,
+) -> Result<bool, DiskError> {
+    crash(alloc, disk, choice)?;
+    is_content(disk, file, want)
 }
 
-pub const ABC: Act = Act::Write(0, b"abc");
+// Whether this is the content after these acts, a crash, and more crashes, which find every place
+// synced.
+fn leaves_after(
+    alloc: Global,
+    acts: &[Act],
+    choice: Choice,
+    want: Option<&[u8]>,
+) -> Result<bool, DiskError> {
+    let mut disk = MemDisk::new(alloc);
+    run(&mut disk, acts)?;
+    crash(alloc, &mut disk, choice)?;
+    crash(alloc, &mut disk, Choice::Bytes(&[0x55]))?;
+    leaves(alloc, &mut disk, Choice::Old, FILE, want)
+}
 
-const DE: Act = Act::Write(0, b"de");
-
-// The crash outcomes after the acts by `Old`, by `New`, and with the junk 1, 2, 3.
-type Row = (
+// The content after the acts and a crash by `Old`, by `New`, and with the junk 1, 2, 3.
+struct Outcome(
     &'static [Act],
     Option<&'static [u8]>,
     Option<&'static [u8]>,
     Option<&'static [u8]>,
 );
 
-static ROWS: [Row; 14] = [
-    (&[], None, None, None),
+impl Case for Outcome {
+    type Error = DiskError;
+
+    fn holds(&self, alloc: Global) -> Result<bool, DiskError> {
+        for (choice, want) in [
+            (Choice::Old, self.1),
+            (Choice::New, self.2),
+            (Choice::Bytes(&[]), self.2),
+            (Choice::Bytes(&[1, 2, 3]), self.3),
+        ] {
+            if !leaves_after(alloc, self.0, choice, want)? {
+                return Ok(false);
+            }
+        }
+        Ok(true)
+    }
+}
+
+static OUTCOMES: [Outcome; 14] = [
+    Outcome(&[], None, None, None),
     // Durable.
-    (&[ABC, Act::Sync], Some(b"abc"), Some(b"abc"), Some(b"abc")),
+    Outcome(&[ABC, SYNC], Some(b"abc"), Some(b"abc"), Some(b"abc")),
     // Never synced: it may be absent, and all its places are unsynced.
-    (&[ABC], None, Some(b"abc"), Some(&[1, 2, 3])),
-    (
-        &[ABC, Act::Write(3, b"de")],
+    Outcome(&[ABC], None, Some(b"abc"), Some(&[1, 2, 3])),
+    Outcome(
+        &[ABC, Act::Write(FILE, 3, b"de")],
         None,
         Some(b"abcde"),
         Some(&[1, 2, 3, 1, 2]),
     ),
     // The places written are unsynced, and those past the synced end.
-    (
-        &[ABC, Act::Sync, Act::Write(1, b"X")],
+    Outcome(
+        &[ABC, SYNC, Act::Write(FILE, 1, b"X")],
         Some(b"abc"),
         Some(b"aXc"),
         Some(&[b'a', 1, b'c']),
     ),
-    (
-        &[ABC, Act::Sync, Act::Write(3, b"de")],
+    Outcome(
+        &[ABC, SYNC, Act::Write(FILE, 3, b"de")],
         Some(b"abc"),
         Some(b"abcde"),
         Some(&[b'a', b'b', b'c', 1, 2]),
     ),
-    (
+    Outcome(
         &[
-            Act::Write(0, b"abcd"),
-            Act::Sync,
-            Act::Write(0, b"X"),
-            Act::Write(2, b"YZW"),
+            Act::Write(FILE, 0, b"abcd"),
+            SYNC,
+            Act::Write(FILE, 0, b"X"),
+            Act::Write(FILE, 2, b"YZW"),
         ],
         Some(b"abcd"),
         Some(b"XbYZW"),
         Some(&[1, b'b', 2, 3, 1]),
     ),
     // The places past a cut are unsynced.
-    (
-        &[ABC, Act::Sync, Act::Cut(1)],
+    Outcome(
+        &[ABC, SYNC, Act::Cut(FILE, 1)],
         Some(b"abc"),
         Some(b"a"),
         Some(b"a"),
     ),
-    (
-        &[ABC, Act::Sync, Act::Cut(1), Act::Write(1, b"xyz")],
+    Outcome(
+        &[ABC, SYNC, Act::Cut(FILE, 1), Act::Write(FILE, 1, b"xyz")],
         Some(b"abc"),
         Some(b"axyz"),
         Some(&[b'a', 1, 2, 3]),
     ),
-    (
-        &[ABC, Act::Sync, Act::Cut(1), Act::Sync],
+    Outcome(
+        &[ABC, SYNC, Act::Cut(FILE, 1), SYNC],
         Some(b"a"),
         Some(b"a"),
         Some(b"a"),
     ),
     // A removed file may reappear with its synced content.
-    (
-        &[ABC, Act::Sync, Act::Write(0, b"X"), Act::Remove],
+    Outcome(
+        &[ABC, SYNC, Act::Write(FILE, 0, b"X"), REMOVE],
         Some(b"abc"),
         None,
         None,
     ),
-    (&[ABC, Act::Remove], None, None, None),
+    Outcome(&[ABC, REMOVE], None, None, None),
     // A removed file's number is used again.
-    (
-        &[ABC, Act::Sync, Act::Remove, DE],
+    Outcome(
+        &[ABC, SYNC, REMOVE, DE],
         Some(b"abc"),
         Some(b"de"),
         Some(&[1, 2]),
     ),
-    (
-        &[ABC, Act::Sync, Act::Remove, DE, Act::Sync],
+    Outcome(
+        &[ABC, SYNC, REMOVE, DE, SYNC],
         Some(b"de"),
         Some(b"de"),
         Some(b"de"),
@@ -175,18 +228,7 @@ static ROWS: [Row; 14] = [
 
 #[test]
 fn outcomes_of_a_crash(rt: HostRuntime) -> Result<(), Fail> {
-    for (acts, old, new, torn) in &ROWS {
-        for (choice, want) in [
-            (Choice::Old, *old),
-            (Choice::New, *new),
-            (Choice::Bytes(&[]), *new),
-            (Choice::Bytes(&[1, 2, 3]), *torn),
-        ] {
-            let is_left = leaves(rt.alloc(), *acts, choice, want)?;
-            assert!(rt; is_left, "{choice:?} after {acts:?}");
-        }
-    }
-    Ok(())
+    all_hold(rt.alloc(), &OUTCOMES)
 }
 
 // A log of one record, its gate open, and a closed gate: 23 bytes.
@@ -205,21 +247,28 @@ const STOPPED: &[u8] = &[
     1, 1, 1, 1, 1, 1, 1, 1, 1, 1, 1, 1, 1, 1, 1, 1, 1, 1, 1, 1, 1, 1,
 ];
 
+// What such a log is left as by a stop in an append.
+fn leaves_log(alloc: Global) -> Result<bool, DiskError> {
+    let acts = [Act::Write(FILE, 0, LOG), SYNC, Act::Write(FILE, 23, NEXT)];
+    leaves_after(alloc, &acts, Choice::Bytes(&[1]), Some(STOPPED))
+}
+
 #[test]
 fn a_log_that_stops_in_an_append(rt: HostRuntime) -> Result<(), Fail> {
-    let acts = [Act::Write(0, LOG), Act::Sync, Act::Write(23, NEXT)];
-    let is_left = leaves(rt.alloc(), &acts, Choice::Bytes(&[1]), Some(STOPPED))?;
-    assert!(rt; is_left);
-    Ok(())
+    is_so(leaves_log(rt.alloc()))
 }
 
 // Files 2 and 9 were never synced, and file 5 was.
+const THREE_FILES: &[Act] = &[
+    Act::Write(9, 0, b"nine!"),
+    Act::Write(2, 0, b"two"),
+    Act::Write(5, 0, b"five"),
+    Act::Sync(5),
+];
+
 fn three_files(alloc: Global) -> Result<MemDisk, DiskError> {
     let mut disk = MemDisk::new(alloc);
-    disk.write_at(9, 0, b"nine!")?;
-    disk.write_at(2, 0, b"two")?;
-    disk.write_at(5, 0, b"five")?;
-    disk.sync(5)?;
+    run(&mut disk, THREE_FILES)?;
     Ok(disk)
 }
 
@@ -228,91 +277,70 @@ fn has_files(disk: &mut MemDisk, want: &[u64]) -> Result<bool, DiskError> {
     Ok(disk.files()?.as_slice() == want)
 }
 
-// The files and their contents after a crash with the junk 6, 7.
-static BEGUN: [(u64, &[u8]); 3] = [(2, &[6, 7, 6]), (5, b"five"), (9, &[6, 7, 6, 7, 6])];
+// A file, and its content after a crash with the junk 6, 7.
+struct Begun(u64, &'static [u8]);
 
-// Whether the file has this content after the crash.
-fn begins(alloc: Global, file: u64, want: &[u8]) -> Result<bool, DiskError> {
-    let mut disk = three_files(alloc)?;
-    crash(alloc, &mut disk, Choice::Bytes(&[6, 7]))?;
-    is_content(alloc, &mut disk, file, Some(want))
+impl Case for Begun {
+    type Error = DiskError;
+
+    fn holds(&self, alloc: Global) -> Result<bool, DiskError> {
+        let mut disk = three_files(alloc)?;
+        leaves(
+            alloc,
+            &mut disk,
+            Choice::Bytes(&[6, 7]),
+            self.0,
+            Some(self.1),
+        )
+    }
 }
+
+static BEGUN: [Begun; 3] = [
+    Begun(2, &[6, 7, 6]),
+    Begun(5, b"five"),
+    Begun(9, &[6, 7, 6, 7, 6]),
+];
 
 #[test]
 fn each_file_begins_with_the_first_junk(rt: HostRuntime) -> Result<(), Fail> {
-    for (file, want) in &BEGUN {
-        let is_begun = begins(rt.alloc(), *file, *want)?;
-        assert!(rt; is_begun, "{file}");
-    }
-    Ok(())
+    all_hold(rt.alloc(), &BEGUN)
 }
 
 // Whether these are the files as they are made, once the synced one is removed, and after a crash.
-fn returns_after(alloc: Global) -> Result<(bool, bool, bool), DiskError> {
-    let mut disk = three_files(alloc)?;
-    let is_made = has_files(&mut disk, &[2, 5, 9])?;
-    attempt(&mut disk, Try::Remove(5))?;
-    let is_removed = has_files(&mut disk, &[2, 9])?;
+fn returns_after(alloc: Global, disk: &mut MemDisk) -> Result<bool, DiskError> {
+    let is_made = has_files(disk, &[2, 5, 9])?;
+    run(disk, &[Act::Remove(5)])?;
+    let is_removed = has_files(disk, &[2, 9])?;
     disk.arm(&Fault::None);
-    crash(alloc, &mut disk, Choice::Old)?;
-    Ok((is_made, is_removed, has_files(&mut disk, &[5])?))
+    crash(alloc, disk, Choice::Old)?;
+    Ok(is_made && is_removed && has_files(disk, &[5])?)
+}
+
+fn returns(alloc: Global) -> Result<bool, DiskError> {
+    returns_after(alloc, &mut three_files(alloc)?)
 }
 
 #[test]
 fn old_leaves_what_was_synced(rt: HostRuntime) -> Result<(), Fail> {
-    let found = returns_after(rt.alloc())?;
-    assert!(rt; found == (true, true, true), "{found:?}");
-    Ok(())
+    is_so(returns(rt.alloc()))
 }
 
 // Whether a file of a disk is as it was written, and that of its clone, which stopped, as it was
 // synced.
-fn left_of_both(alloc: Global) -> Result<(bool, bool), DiskError> {
-    let mut disk = three_files(alloc)?;
-    disk.write_at(5, 1, b"XYZW")?;
+fn leaves_both(alloc: Global, disk: &mut MemDisk) -> Result<bool, DiskError> {
+    run(disk, &[Act::Write(5, 1, b"XYZW")])?;
     let mut copy = disk.clone()?;
-    crash(alloc, &mut disk, Choice::New)?;
-    crash(alloc, &mut copy, Choice::Old)?;
-    let is_written = is_content(alloc, &mut disk, 5, Some(b"fXYZW"))?;
-    Ok((is_written, is_content(alloc, &mut copy, 5, Some(b"five"))?))
+    let is_written = leaves(alloc, disk, Choice::New, 5, Some(b"fXYZW"))?;
+    Ok(is_written && leaves(alloc, &mut copy, Choice::Old, 5, Some(b"five"))?)
+}
+
+fn clones(alloc: Global) -> Result<bool, DiskError> {
+    leaves_both(alloc, &mut three_files(alloc)?)
 }
 
 #[test]
 fn a_clone_goes_its_own_way(rt: HostRuntime) -> Result<(), Fail> {
-    let found = left_of_both(rt.alloc())?;
-    assert!(rt; found == (true, true), "{found:?}");
-    Ok(())
-}
-
-// A call.
-#[derive(Clone, Copy, Drop)]
-enum Try {
-    Length(u64),
-    Read(u64, u64, usize),
-    Write(u64, u64),
-    Cut(u64, u64),
-    Sync(u64),
-    Remove(u64),
-}
-
-fn attempt(disk: &mut MemDisk, call: Try) -> Result<(), DiskError> {
-    let mut into = [0; 8];
-    match call {
-        Try::Length(file) => disk.length(file).map(|_| ()),
-        Try::Read(file, at, len) => disk.read(file, at, &mut into[..len.min(8)]),
-        Try::Write(file, at) => disk.write_at(file, at, b"!"),
-        Try::Cut(file, len) => disk.cut(file, len),
-        Try::Sync(file) => disk.sync(file),
-        Try::Remove(file) => disk.remove(file),
-    }
-}
-
-// The refusal of a call. A want of memory changes nothing, so the call can be repeated.
-fn refusal_of(disk: &mut MemDisk, call: Try) -> Option<DiskError> {
-    match attempt(disk, call) {
-        Err(DiskError::Memory) => attempt(disk, call).err(),
-        answer => answer.err(),
-    }
+    is_so(clones(rt.alloc()))
 }
 
 const MISSING: Option<DiskError> = Some(DiskError::NoFile);
@@ -322,44 +350,40 @@ const SHORT: Option<DiskError> = Some(DiskError::Short);
 const FAILED: Option<DiskError> = Some(DiskError::Failed);
 
 // Calls, one after another, and the refusal of each.
-static CALLS: [(Try, Option<DiskError>); 20] = [
-    (Try::Length(1), MISSING),
-    (Try::Length(5), None),
-    (Try::Read(1, 0, 0), MISSING),
-    (Try::Read(5, 4, 0), None),
-    (Try::Read(5, 3, 2), SHORT),
-    (Try::Read(5, 5, 0), SHORT),
-    (Try::Write(1, 1), MISSING),
-    (Try::Write(5, 5), SHORT),
-    (Try::Write(5, 4), None),
-    (Try::Write(5, (1 << 63) - 2), SHORT),
-    (Try::Write(5, (1 << 63) - 1), FAILED),
-    (Try::Write(1, u64::MAX), FAILED),
-    (Try::Cut(1, 0), MISSING),
-    (Try::Cut(5, 6), SHORT),
-    (Try::Cut(5, 5), None),
-    (Try::Sync(1), MISSING),
-    (Try::Remove(1), MISSING),
-    (Try::Remove(5), None),
-    (Try::Remove(5), MISSING),
-    (Try::Write(1, 0), None),
+static CALLS: [(Act, Option<DiskError>); 20] = [
+    (Act::Length(1), MISSING),
+    (Act::Length(5), None),
+    (Act::Read(1, 0, 0), MISSING),
+    (Act::Read(5, 4, 0), None),
+    (Act::Read(5, 3, 2), SHORT),
+    (Act::Read(5, 5, 0), SHORT),
+    (Act::Write(1, 1, b"!"), MISSING),
+    (Act::Write(5, 5, b"!"), SHORT),
+    (Act::Write(5, 4, b"!"), None),
+    (Act::Write(5, (1 << 63) - 2, b"!"), SHORT),
+    (Act::Write(5, (1 << 63) - 1, b"!"), FAILED),
+    (Act::Write(1, u64::MAX, b"!"), FAILED),
+    (Act::Cut(1, 0), MISSING),
+    (Act::Cut(5, 6), SHORT),
+    (Act::Cut(5, 5), None),
+    (Act::Sync(1), MISSING),
+    (Act::Remove(1), MISSING),
+    (Act::Remove(5), None),
+    (Act::Remove(5), MISSING),
+    (Act::Write(1, 0, b"!"), None),
 ];
 
-// The first row with another answer.
-fn first_wrong(disk: &mut MemDisk) -> Option<usize> {
-    for (row, (call, want)) in CALLS.iter().enumerate() {
+// Makes the calls, each after those before it, and then has these files.
+fn refuses(disk: &mut MemDisk) -> Result<(), Fail> {
+    for (index, (call, want)) in CALLS.iter().enumerate() {
         if refusal_of(disk, *call) != *want {
-            return Some(row);
+            return Err(is_wrong(index));
         }
     }
-    None
+    is_so(has_files(disk, &[1, 2, 9]))
 }
 
 #[test]
 fn refusals(rt: HostRuntime) -> Result<(), Fail> {
-    let mut disk = three_files(rt.alloc())?;
-    assert_eq!(rt; first_wrong(&mut disk), None);
-    let is_left = has_files(&mut disk, &[1, 2, 9])?;
-    assert!(rt; is_left);
-    Ok(())
+    refuses(&mut three_files(rt.alloc())?)
 }

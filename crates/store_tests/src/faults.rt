@@ -1,34 +1,13 @@
 // A disk that is armed with a fault.
-use crate::crashes::{ABC, Act, Choice, FILE, crash, is_content, perform, run};
-use disk::{Crash, Disk, DiskError, Fault, Junk, MemDisk};
-use std::alloc::Global;
+use crate::cases::{Case, all_hold};
+use crate::crashes::{ABC, Act, Choice, FILE, REMOVE, SYNC, crash, is_content, refusal_of, run};
+use disk::{Crash, DiskError, Fault, Junk, MemDisk};
+use std::alloc::{AllocError, Global};
 use std::test::Fail;
 
-// A call of a disk, on one file.
-#[derive(Clone, Copy, Debug, Drop)]
-enum Call {
-    Of(Act),
-    Read,
-    Length,
-    Files,
-}
+const LENGTH: Act = Act::Length(FILE);
 
-fn make(disk: &mut MemDisk, call: Call) -> Result<(), DiskError> {
-    match call {
-        Call::Of(act) => perform(disk, act),
-        Call::Read => disk.read(FILE, 0, &mut [0; 1]),
-        Call::Length => disk.length(FILE).map(|_length| ()),
-        Call::Files => disk.files().map(|_numbers| ()),
-    }
-}
-
-// The refusal of a call. One that wants memory is not counted, so it is made again.
-fn refusal_of(disk: &mut MemDisk, call: Call) -> Option<DiskError> {
-    match make(disk, call) {
-        Err(DiskError::Memory) => make(disk, call).err(),
-        answer => answer.err(),
-    }
-}
+const READ: Act = Act::Read(FILE, 0, 1);
 
 const MISSING: Option<DiskError> = Some(DiskError::NoFile);
 
@@ -40,18 +19,18 @@ fn arm(disk: &mut MemDisk, fault: &Fault) {
 }
 
 // One call of each kind. Made on a disk that works, each has an effect or an answer.
-static EACH: [Call; 7] = [
-    Call::Files,
-    Call::Length,
-    Call::Read,
-    Call::Of(Act::Write(0, b"ZZZZZZ")),
-    Call::Of(Act::Cut(0)),
-    Call::Of(Act::Sync),
-    Call::Of(Act::Remove),
+static EACH: [Act; 7] = [
+    Act::Files,
+    LENGTH,
+    READ,
+    Act::Write(FILE, 0, b"ZZZZZZ"),
+    Act::Cut(FILE, 0),
+    SYNC,
+    REMOVE,
 ];
 
 // Whether this call and each one after it fail.
-fn all_fail(disk: &mut MemDisk, call: Call) -> bool {
+fn all_fail(disk: &mut MemDisk, call: Act) -> bool {
     let mut all = refusal_of(disk, call) == FAILED;
     for later in &EACH {
         all = refusal_of(disk, *later) == FAILED && all;
@@ -59,136 +38,146 @@ fn all_fail(disk: &mut MemDisk, call: Call) -> bool {
     all
 }
 
-// How a disk comes to work again: it is armed with no fault, or it crashes.
-#[derive(Clone, Copy, Debug, Drop)]
-enum Again {
-    Disarmed,
-    Crashed(Choice),
+// Arms a disk with no fault, or lets it crash, so that it works again.
+fn mend(alloc: Global, disk: &mut MemDisk, choice: Option<Choice>) -> Result<(), AllocError> {
+    match choice {
+        Some(choice) => crash(alloc, disk, choice),
+        None => {
+            arm(disk, &Fault::None);
+            Ok(())
+        }
+    }
 }
 
 // Whether a struck call and all later ones fail, the fault has struck, and the disk works again and
 // has this file.
 fn is_struck(
     alloc: Global,
-    before: &[Act],
-    call: Call,
-    again: Again,
+    row: &Struck,
+    choice: Option<Choice>,
     want: Option<&[u8]>,
-) -> Result<(bool, bool, bool), Fail> {
+) -> Result<bool, DiskError> {
     let mut disk = MemDisk::new(alloc);
-    run(&mut disk, before)?;
+    run(&mut disk, row.0)?;
     arm(&mut disk, &Fault::Fail(1));
-    let all = all_fail(&mut disk, call);
-    let has_struck = disk.has_struck();
-    match again {
-        Again::Disarmed => arm(&mut disk, &Fault::None),
-        Again::Crashed(choice) => crash(alloc, &mut disk, choice)?,
-    }
-    let has_file = is_content(alloc, &mut disk, FILE, want)?;
-    Ok((all, has_struck && !disk.has_struck(), has_file))
+    let is_failing = all_fail(&mut disk, row.1) && disk.has_struck();
+    mend(alloc, &mut disk, choice)?;
+    Ok(is_failing && !disk.has_struck() && is_content(&mut disk, FILE, want)?)
 }
 
 // Acts, and the call after them that a fault strikes. Then what a crash leaves by `Old`, by `New`,
 // which a read also gives, and with the junk 1, 2, 3.
-type Row = (
+struct Struck(
     &'static [Act],
-    Call,
+    Act,
     Option<&'static [u8]>,
     Option<&'static [u8]>,
     Option<&'static [u8]>,
 );
 
-// Synced, and then one byte of it written.
-const TOUCHED: &[Act] = &[ABC, Act::Sync, Act::Write(1, b"X")];
+impl Case for Struck {
+    type Error = DiskError;
 
-static STRUCK: [Row; 20] = [
+    fn holds(&self, alloc: Global) -> Result<bool, DiskError> {
+        for (choice, want) in [
+            (None, self.3),
+            (Some(Choice::Old), self.2),
+            (Some(Choice::New), self.3),
+            (Some(Choice::Bytes(&[1, 2, 3])), self.4),
+        ] {
+            if !is_struck(alloc, self, choice, want)? {
+                return Ok(false);
+            }
+        }
+        Ok(true)
+    }
+}
+
+// Synced, and then one byte of it written.
+const TOUCHED: &[Act] = &[ABC, SYNC, Act::Write(FILE, 1, b"X")];
+
+static STRUCK: [Struck; 20] = [
     // What was written or cut is unsynced.
-    (&[], Call::Of(ABC), None, Some(b"abc"), Some(&[1, 2, 3])),
-    (
-        &[ABC, Act::Sync],
-        Call::Of(Act::Write(1, b"X")),
+    Struck(&[], ABC, None, Some(b"abc"), Some(&[1, 2, 3])),
+    Struck(
+        &[ABC, SYNC],
+        Act::Write(FILE, 1, b"X"),
         Some(b"abc"),
         Some(b"aXc"),
         Some(&[b'a', 1, b'c']),
     ),
-    (
-        &[ABC, Act::Sync],
-        Call::Of(Act::Write(3, b"de")),
+    Struck(
+        &[ABC, SYNC],
+        Act::Write(FILE, 3, b"de"),
         Some(b"abc"),
         Some(b"abcde"),
         Some(&[b'a', b'b', b'c', 1, 2]),
     ),
-    (
-        &[ABC, Act::Sync],
-        Call::Of(Act::Cut(1)),
+    Struck(
+        &[ABC, SYNC],
+        Act::Cut(FILE, 1),
         Some(b"abc"),
         Some(b"a"),
         Some(b"a"),
     ),
     // Nothing was made durable.
-    (
-        &[ABC],
-        Call::Of(Act::Sync),
-        None,
-        Some(b"abc"),
-        Some(&[1, 2, 3]),
-    ),
-    (
+    Struck(&[ABC], SYNC, None, Some(b"abc"), Some(&[1, 2, 3])),
+    Struck(
         TOUCHED,
-        Call::Of(Act::Sync),
+        SYNC,
         Some(b"abc"),
         Some(b"aXc"),
         Some(&[b'a', 1, b'c']),
     ),
     // What was removed may be back.
-    (TOUCHED, Call::Of(Act::Remove), Some(b"abc"), None, None),
-    (&[ABC], Call::Of(Act::Remove), None, None, None),
+    Struck(TOUCHED, REMOVE, Some(b"abc"), None, None),
+    Struck(&[ABC], REMOVE, None, None, None),
     // What reads changes nothing.
-    (
+    Struck(
         TOUCHED,
-        Call::Read,
+        READ,
         Some(b"abc"),
         Some(b"aXc"),
         Some(&[b'a', 1, b'c']),
     ),
-    (
+    Struck(
         TOUCHED,
-        Call::Length,
+        LENGTH,
         Some(b"abc"),
         Some(b"aXc"),
         Some(&[b'a', 1, b'c']),
     ),
-    (
+    Struck(
         TOUCHED,
-        Call::Files,
+        Act::Files,
         Some(b"abc"),
         Some(b"aXc"),
         Some(&[b'a', 1, b'c']),
     ),
     // A call that would have been refused has no effect.
-    (&[], Call::Of(Act::Write(1, b"X")), None, None, None),
-    (&[], Call::Of(Act::Cut(0)), None, None, None),
-    (&[], Call::Of(Act::Sync), None, None, None),
-    (&[], Call::Of(Act::Remove), None, None, None),
-    (&[], Call::Read, None, None, None),
-    (&[], Call::Length, None, None, None),
-    (
-        &[ABC, Act::Sync],
-        Call::Of(Act::Write(4, b"X")),
+    Struck(&[], Act::Write(FILE, 1, b"X"), None, None, None),
+    Struck(&[], Act::Cut(FILE, 0), None, None, None),
+    Struck(&[], SYNC, None, None, None),
+    Struck(&[], REMOVE, None, None, None),
+    Struck(&[], READ, None, None, None),
+    Struck(&[], LENGTH, None, None, None),
+    Struck(
+        &[ABC, SYNC],
+        Act::Write(FILE, 4, b"X"),
         Some(b"abc"),
         Some(b"abc"),
         Some(b"abc"),
     ),
-    (
-        &[ABC, Act::Sync],
-        Call::Of(Act::Cut(4)),
+    Struck(
+        &[ABC, SYNC],
+        Act::Cut(FILE, 4),
         Some(b"abc"),
         Some(b"abc"),
         Some(b"abc"),
     ),
-    (
-        &[ABC, Act::Sync],
-        Call::Of(Act::Write(u64::MAX, b"X")),
+    Struck(
+        &[ABC, SYNC],
+        Act::Write(FILE, u64::MAX, b"X"),
         Some(b"abc"),
         Some(b"abc"),
         Some(b"abc"),
@@ -197,25 +186,11 @@ static STRUCK: [Row; 20] = [
 
 #[test]
 fn what_a_struck_call_leaves(rt: HostRuntime) -> Result<(), Fail> {
-    for (before, call, old, new, torn) in &STRUCK {
-        for (again, want) in [
-            (Again::Disarmed, *new),
-            (Again::Crashed(Choice::Old), *old),
-            (Again::Crashed(Choice::New), *new),
-            (Again::Crashed(Choice::Bytes(&[1, 2, 3])), *torn),
-        ] {
-            let found = is_struck(rt.alloc(), *before, *call, again, want)?;
-            assert!(rt;
-                found == (true, true, true),
-                "{call:?} after {before:?}: {found:?}"
-            );
-        }
-    }
-    Ok(())
+    all_hold(rt.alloc(), &STRUCK)
 }
 
 // A fault of a table.
-#[derive(Clone, Copy, Debug, Drop)]
+#[derive(Clone, Copy)]
 enum Kind {
     None,
     Fail(u64),
@@ -233,40 +208,45 @@ fn fault_of(kind: Kind) -> Fault {
 // The refusals of three calls.
 type Answers = (Option<DiskError>, Option<DiskError>, Option<DiskError>);
 
-// The refusals of a removal that is refused, a write out of range and a write, on a disk that was
-// armed twice, the last time with this fault; and whether it has struck.
-fn answers(alloc: Global, kind: Kind) -> (Answers, bool) {
-    let mut disk = MemDisk::new(alloc);
-    arm(&mut disk, &Fault::Fail(3));
-    let _missing = refusal_of(&mut disk, Call::Read);
-    arm(&mut disk, &fault_of(kind));
-    let found = (
-        refusal_of(&mut disk, Call::Of(Act::Remove)),
-        refusal_of(&mut disk, Call::Of(Act::Write(u64::MAX, b"X"))),
-        refusal_of(&mut disk, Call::Of(ABC)),
-    );
-    (found, disk.has_struck())
+// The refusals of a removal that is refused, a write out of range and a write.
+fn answers(disk: &mut MemDisk) -> Answers {
+    (
+        refusal_of(disk, REMOVE),
+        refusal_of(disk, Act::Write(FILE, u64::MAX, b"X")),
+        refusal_of(disk, ABC),
+    )
 }
 
-// A fault, what the three calls then answer, and whether it has struck. Each call counts, whatever
-// it answers. The write out of range fails with no fault.
-static COUNTED: [(Kind, Answers, bool); 9] = [
-    (Kind::None, (MISSING, FAILED, None), false),
-    (Kind::Fail(0), (MISSING, FAILED, None), false),
-    (Kind::Fail(1), (FAILED, FAILED, FAILED), true),
-    (Kind::Fail(2), (MISSING, FAILED, FAILED), true),
-    (Kind::Fail(3), (MISSING, FAILED, FAILED), true),
-    (Kind::Fail(4), (MISSING, FAILED, None), false),
-    (Kind::Fail(u64::MAX), (MISSING, FAILED, None), false),
-    (Kind::Stop(0), (MISSING, FAILED, None), false),
-    (Kind::Stop(2), (MISSING, FAILED, FAILED), true),
+// A fault, what the three calls then answer on a disk that was armed twice, the last time with this
+// fault, and whether it has struck. Each call counts, whatever it answers. The write out of range
+// fails with no fault.
+struct Counted(Kind, Answers, bool);
+
+impl Case for Counted {
+    type Error = AllocError;
+
+    fn holds(&self, alloc: Global) -> Result<bool, AllocError> {
+        let mut disk = MemDisk::new(alloc);
+        arm(&mut disk, &Fault::Fail(3));
+        let _missing = refusal_of(&mut disk, READ);
+        arm(&mut disk, &fault_of(self.0));
+        Ok(answers(&mut disk) == self.1 && disk.has_struck() == self.2)
+    }
+}
+
+static COUNTED: [Counted; 9] = [
+    Counted(Kind::None, (MISSING, FAILED, None), false),
+    Counted(Kind::Fail(0), (MISSING, FAILED, None), false),
+    Counted(Kind::Fail(1), (FAILED, FAILED, FAILED), true),
+    Counted(Kind::Fail(2), (MISSING, FAILED, FAILED), true),
+    Counted(Kind::Fail(3), (MISSING, FAILED, FAILED), true),
+    Counted(Kind::Fail(4), (MISSING, FAILED, None), false),
+    Counted(Kind::Fail(u64::MAX), (MISSING, FAILED, None), false),
+    Counted(Kind::Stop(0), (MISSING, FAILED, None), false),
+    Counted(Kind::Stop(2), (MISSING, FAILED, FAILED), true),
 ];
 
 #[test]
 fn the_call_that_a_fault_strikes(rt: HostRuntime) -> Result<(), Fail> {
-    for (kind, want, has_struck) in &COUNTED {
-        let found = answers(rt.alloc(), *kind);
-        assert!(rt; found == (*want, *has_struck), "{kind:?}: {found:?}");
-    }
-    Ok(())
+    all_hold(rt.alloc(), &COUNTED)
 }

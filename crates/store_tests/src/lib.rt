@@ -4,12 +4,24 @@
 #[cfg(test)]
 mod batches;
 #[cfg(test)]
+mod bytes;
+#[cfg(test)]
 mod calls;
+#[cfg(test)]
+mod cases;
 #[cfg(test)]
 mod crashes;
 #[cfg(test)]
+mod edges;
+#[cfg(test)]
 mod faults;
 #[cfg(test)]
-mod filters;
+mod items;
+#[cfg(test)]
+mod lists;
 #[cfg(test)]
 mod logs;
+#[cfg(test)]
+mod round_trips;
+#[cfg(test)]
+mod steps;

@@ -1,7 +1,9 @@
-//! Tests of entries in memory and of cursors over them, beyond the contracts: long walks against
-//! plain lists, and calls that succeed.
+//! Tests of entries in memory, of cursors over them and of filters, beyond the contracts: long
+//! walks against plain lists, bytes of filters, and calls that succeed.
 #![tactic(auto)]
 
+#[cfg(test)]
+mod filters;
 #[cfg(test)]
 mod memtables;
 #[cfg(test)]

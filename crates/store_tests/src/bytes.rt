@@ -1,0 +1,237 @@
+//! Frames in bytes, and bytes that are no frame.
+use crate::cases::{Case, all_hold};
+use link_messages::{FrameError, FrameReader, Refusal};
+use std::alloc::Global;
+use std::test::Fail;
+
+/// Whether the reader has a whole frame next.
+fn has_next(reader: &mut FrameReader) -> Result<bool, FrameError> {
+    match reader.next() {
+        Ok(frame) => {
+            let is_whole = frame.is_some();
+            drop(frame);
+            Ok(is_whole)
+        }
+        Err(e) => Err(e),
+    }
+}
+
+/// Whether the reader has a whole frame next, once it has these bytes too.
+fn takes(reader: &mut FrameReader, bytes: &[u8]) -> Result<bool, FrameError> {
+    reader.feed(bytes)?;
+    has_next(reader)
+}
+
+/// The number of frames that are read from pieces of this size, and the error behind them.
+fn read(reader: &mut FrameReader, bytes: &[u8], size: usize) -> (usize, Option<FrameError>) {
+    let mut frames: usize = 0;
+    let mut rest = bytes;
+    for _ in 0..bytes.len() {
+        let (piece, behind) = rest.split_at(size.min(rest.len()));
+        rest = behind;
+        match takes(reader, piece) {
+            Ok(is_frame) => frames = frames.saturating_add(is_frame as usize),
+            Err(e) => return (frames, Some(e)),
+        }
+    }
+    (frames, None)
+}
+
+/// Whether such pieces are read as so many frames, and this error behind them.
+fn is_read(
+    alloc: Global,
+    bytes: &[u8],
+    size: usize,
+    want: (usize, Option<FrameError>),
+) -> Result<bool, FrameError> {
+    match read(&mut FrameReader::new(alloc), bytes, size) {
+        (_, Some(FrameError::Memory)) => Err(FrameError::Memory),
+        found => Ok(found == want),
+    }
+}
+
+/// Whether a frame of this content is read, or else has this error.
+pub fn is_frame(
+    alloc: Global,
+    content: &[u8],
+    want: Option<FrameError>,
+) -> Result<bool, FrameError> {
+    let mut reader = FrameReader::new(alloc);
+    let len = u32::try_from(content.len()).unwrap_or(u32::MAX);
+    reader.feed(&len.to_be_bytes())?;
+    match takes(&mut reader, content) {
+        Err(FrameError::Memory) => Err(FrameError::Memory),
+        Err(e) => Ok(want == Some(e)),
+        Ok(is_whole) => Ok(is_whole && want.is_none()),
+    }
+}
+
+const FORWARD: [u8; 28] = [
+    0, 0, 0, 24, 1, 0, 0, 0, 0, 0, 1, 0, 0, 0, 0, 0, 0, 0, 1, 0, 1, 1, 0, 1, 0x61, 0, 1, 0x31,
+];
+
+const ACK: [u8; 27] = [
+    0, 0, 0, 23, 2, 0, 0, 0, 0, 0, 3, 0, 0, 0, 0, 0, 0, 0, 1, 0, 0, 0, 0, 0, 0, 0, 1,
+];
+
+/// Bytes, the number of their frames, and the error behind them.
+struct Answer(&'static [u8], usize, Option<FrameError>);
+
+impl Case for Answer {
+    type Error = FrameError;
+
+    fn holds(&self, alloc: Global) -> Result<bool, FrameError> {
+        let want = (self.1, self.2);
+        let is_so = is_read(alloc, self.0, self.0.len(), want)?;
+        Ok(is_read(alloc, self.0, 1, want)? && is_so)
+    }
+}
+
+static ANSWERS: [Answer; 15] = [
+    Answer(&FORWARD, 1, None),
+    Answer(&ACK, 1, None),
+    // One byte more, and the length says so.
+    Answer(
+        &[
+            0, 0, 0, 24, 2, 0, 0, 0, 0, 0, 3, 0, 0, 0, 0, 0, 0, 0, 1, 0, 0, 0, 0, 0, 0, 0, 1, 0,
+        ],
+        0,
+        Some(FrameError::Trailing),
+    ),
+    // One byte less, and the length says so.
+    Answer(
+        &[
+            0, 0, 0, 22, 2, 0, 0, 0, 0, 0, 3, 0, 0, 0, 0, 0, 0, 0, 1, 0, 0, 0, 0, 0, 0, 0,
+        ],
+        0,
+        Some(FrameError::BadField),
+    ),
+    // Epoch 16 is out of range.
+    Answer(
+        &[
+            0, 0, 0, 23, 2, 0, 0, 0, 16, 0, 3, 0, 0, 0, 0, 0, 0, 0, 1, 0, 0, 0, 0, 0, 0, 0, 1,
+        ],
+        0,
+        Some(FrameError::BadField),
+    ),
+    Answer(&[0, 2, 0, 1], 0, Some(FrameError::TooLong)),
+    Answer(&[0, 2, 0, 0], 0, None),
+    Answer(&[0, 0, 0, 0], 0, Some(FrameError::BadField)),
+    Answer(&[0, 0, 0, 1, 15], 0, Some(FrameError::BadKind)),
+    Answer(&[0, 0, 0, 1, 0], 0, Some(FrameError::BadKind)),
+    // A known kind that needs fields.
+    Answer(&[0, 0, 0, 1, 14], 0, Some(FrameError::BadField)),
+    // An id occurs twice.
+    Answer(
+        &[0, 0, 0, 10, 3, 0, 0, 0, 1, 2, 0, 2, 0, 2],
+        0,
+        Some(FrameError::BadField),
+    ),
+    // A batch without edits.
+    Answer(
+        &[0, 0, 0, 11, 4, 0, 0, 0, 0, 0, 0, 0, 1, 0, 0],
+        0,
+        Some(FrameError::BadField),
+    ),
+    // An option whose byte is neither 0 nor 1.
+    Answer(
+        &[0, 0, 0, 12, 5, 0, 0, 0, 0, 0, 0, 0, 1, 2, 0, 0],
+        0,
+        Some(FrameError::BadField),
+    ),
+    Answer(
+        &[
+            0, 0, 0, 18, 9, 0, 0, 0, 0, 0, 0, 0, 1, 0, 0, 0, 0, 0, 0, 0, 1, 0,
+        ],
+        0,
+        Some(FrameError::Trailing),
+    ),
+];
+
+#[test]
+fn each_answer_at_once_and_byte_by_byte(rt: HostRuntime) -> Result<(), Fail> {
+    all_hold(rt.alloc(), &ANSWERS)
+}
+
+/// Bytes that are no frame, and their error, which stays: it is answered again, also after more
+/// bytes.
+struct Fault(&'static [u8], FrameError);
+
+impl Case for Fault {
+    type Error = FrameError;
+
+    fn holds(&self, alloc: Global) -> Result<bool, FrameError> {
+        let mut reader = FrameReader::new(alloc);
+        for answer in [
+            takes(&mut reader, self.0),
+            has_next(&mut reader),
+            takes(&mut reader, &ACK),
+        ] {
+            match answer {
+                Err(FrameError::Memory) => return Err(FrameError::Memory),
+                Err(e) if e == self.1 => {}
+                _ => return Ok(false),
+            }
+        }
+        Ok(true)
+    }
+}
+
+static FAULTS: [Fault; 4] = [
+    Fault(&[0, 2, 0, 1], FrameError::TooLong),
+    Fault(&[0, 0, 0, 0], FrameError::BadField),
+    Fault(&[0, 0, 0, 1, 15], FrameError::BadKind),
+    Fault(
+        &[
+            0, 0, 0, 18, 9, 0, 0, 0, 0, 0, 0, 0, 1, 0, 0, 0, 0, 0, 0, 0, 1, 0,
+        ],
+        FrameError::Trailing,
+    ),
+];
+
+#[test]
+fn a_fault_stays(rt: HostRuntime) -> Result<(), Fail> {
+    all_hold(rt.alloc(), &FAULTS)
+}
+
+/// A Forward and an Ack.
+static BOTH: [u8; 55] = [
+    0, 0, 0, 24, 1, 0, 0, 0, 0, 0, 1, 0, 0, 0, 0, 0, 0, 0, 1, 0, 1, 1, 0, 1, 0x61, 0, 1, 0x31, //
+    0, 0, 0, 23, 2, 0, 0, 0, 0, 0, 3, 0, 0, 0, 0, 0, 0, 0, 1, 0, 0, 0, 0, 0, 0, 0, 1,
+];
+
+#[test]
+fn two_frames_in_any_pieces(rt: HostRuntime) -> Result<(), FrameError> {
+    for size in 1..29 {
+        let is_so = is_read(rt.alloc(), &BOTH, size, (2, None))?;
+        assert!(rt; is_so, "{size}");
+    }
+    Ok(())
+}
+
+/// The numbers of the faults.
+static FAULT_NUMBERS: [u8; 5] = [
+    FrameError::TooLong as u8,
+    FrameError::BadKind as u8,
+    FrameError::BadField as u8,
+    FrameError::Trailing as u8,
+    FrameError::Memory as u8,
+];
+
+/// The numbers of the refusals.
+static REFUSAL_NUMBERS: [u8; 8] = [
+    Refusal::NotRunning as u8,
+    Refusal::NotHead as u8,
+    Refusal::TooOld as u8,
+    Refusal::NotCommitted as u8,
+    Refusal::NoSuchSnapshot as u8,
+    Refusal::TooManySnapshots as u8,
+    Refusal::Removed as u8,
+    Refusal::Exhausted as u8,
+];
+
+#[test]
+fn faults_and_refusals_have_their_numbers(rt: HostRuntime) {
+    assert!(rt; FAULT_NUMBERS == [1, 2, 3, 4, 5]);
+    assert!(rt; REFUSAL_NUMBERS == [1, 2, 3, 4, 5, 6, 7, 8]);
+}

@@ -1,0 +1,167 @@
+// Lists that are configurations, lists of configurations, and the errors of other lists.
+use crate::cases::{Case, all_hold, is_so};
+use crate::items::config_of;
+use configurations::{Config, ConfigError, Configs, Epoch, NodeId};
+use std::alloc::Global;
+use std::test::Fail;
+
+const SIXTEEN: &[u16] = &[2, 3, 4, 5, 6, 7, 8, 9, 10, 11, 12, 13, 14, 15, 16, 17];
+
+const SEVENTEEN: &[u16] = &[1, 2, 3, 4, 5, 6, 7, 8, 9, 10, 11, 12, 13, 14, 15, 16, 17];
+
+/// A list of ids, and its error.
+struct IdList(&'static [u16], Option<ConfigError>);
+
+impl Case for IdList {
+    type Error = ConfigError;
+
+    fn holds(&self, alloc: Global) -> Result<bool, ConfigError> {
+        match config_of(alloc, self.0) {
+            Err(ConfigError::Memory) => Err(ConfigError::Memory),
+            config => Ok(config.err() == self.1),
+        }
+    }
+}
+
+static IDS: [IdList; 8] = [
+    IdList(&[1], None),
+    IdList(&[3, 65535, 1], None),
+    IdList(SIXTEEN, None),
+    IdList(&[], Some(ConfigError::Empty)),
+    IdList(&[1, 2, 1], Some(ConfigError::Repeated)),
+    IdList(&[0, 0], Some(ConfigError::Repeated)),
+    IdList(SEVENTEEN, Some(ConfigError::TooMany)),
+    IdList(&[1, 0], Some(ConfigError::BadId)),
+];
+
+#[test]
+fn ids(rt: HostRuntime) -> Result<(), Fail> {
+    all_hold(rt.alloc(), &IDS)
+}
+
+/// A list of configurations, and its error.
+struct ConfigList(&'static [&'static [u16]], Option<ConfigError>);
+
+impl Case for ConfigList {
+    type Error = ConfigError;
+
+    fn holds(&self, alloc: Global) -> Result<bool, ConfigError> {
+        let mut configs = Vec::new(alloc);
+        for ids in self.0 {
+            configs.push(config_of(alloc, *ids)?)?;
+        }
+        Ok(Configs::new(configs).err() == self.1)
+    }
+}
+
+/// Sixteen configurations, each without the first node of the one before.
+const SHRINKING: &[&[u16]] = &[
+    &[2, 3, 4, 5, 6, 7, 8, 9, 10, 11, 12, 13, 14, 15, 16, 17],
+    &[3, 4, 5, 6, 7, 8, 9, 10, 11, 12, 13, 14, 15, 16, 17],
+    &[4, 5, 6, 7, 8, 9, 10, 11, 12, 13, 14, 15, 16, 17],
+    &[5, 6, 7, 8, 9, 10, 11, 12, 13, 14, 15, 16, 17],
+    &[6, 7, 8, 9, 10, 11, 12, 13, 14, 15, 16, 17],
+    &[7, 8, 9, 10, 11, 12, 13, 14, 15, 16, 17],
+    &[8, 9, 10, 11, 12, 13, 14, 15, 16, 17],
+    &[9, 10, 11, 12, 13, 14, 15, 16, 17],
+    &[10, 11, 12, 13, 14, 15, 16, 17],
+    &[11, 12, 13, 14, 15, 16, 17],
+    &[12, 13, 14, 15, 16, 17],
+    &[13, 14, 15, 16, 17],
+    &[14, 15, 16, 17],
+    &[15, 16, 17],
+    &[16, 17],
+    &[17],
+];
+
+static LISTS: [ConfigList; 8] = [
+    ConfigList(&[&[1]], None),
+    ConfigList(&[&[1, 2, 3], &[1, 3], &[3]], None),
+    ConfigList(&[], Some(ConfigError::Empty)),
+    ConfigList(&[&[1, 2], &[1, 2]], Some(ConfigError::NotSmaller)),
+    ConfigList(&[&[1, 2, 3], &[3, 1]], Some(ConfigError::NotInOrder)),
+    ConfigList(&[&[1, 2], &[3]], Some(ConfigError::NotInOrder)),
+    ConfigList(
+        &[&[1, 2, 3], &[3, 1], &[3, 1]],
+        Some(ConfigError::NotSmaller),
+    ),
+    ConfigList(SHRINKING, None),
+];
+
+#[test]
+fn lists(rt: HostRuntime) -> Result<(), Fail> {
+    all_hold(rt.alloc(), &LISTS)
+}
+
+/// The numbers of the faults.
+static NUMBERS: [u8; 7] = [
+    ConfigError::Empty as u8,
+    ConfigError::Repeated as u8,
+    ConfigError::NotSmaller as u8,
+    ConfigError::NotInOrder as u8,
+    ConfigError::TooMany as u8,
+    ConfigError::BadId as u8,
+    ConfigError::Memory as u8,
+];
+
+#[test]
+fn numbers_of_faults(rt: HostRuntime) {
+    assert!(rt; NUMBERS == [1, 2, 3, 4, 5, 6, 7]);
+}
+
+fn plain(id: Option<NodeId>) -> Option<u16> {
+    match id {
+        Some(id) => Some(id.get()),
+        None => None,
+    }
+}
+
+/// A node, its neighbours in the configuration 5, 2, 9, and whether that has it.
+struct Neighbour(u16, Option<u16>, Option<u16>, bool);
+
+impl Neighbour {
+    fn is_in(&self, config: &Config) -> bool {
+        let Some(id) = NodeId::new(self.0) else {
+            return false;
+        };
+        let (before, after) = (plain(config.before(id)), plain(config.after(id)));
+        before == self.1 && after == self.2 && config.has(id) == self.3
+    }
+}
+
+impl Case for Neighbour {
+    type Error = ConfigError;
+
+    fn holds(&self, alloc: Global) -> Result<bool, ConfigError> {
+        Ok(self.is_in(&config_of(alloc, &[5, 2, 9])?))
+    }
+}
+
+static NEIGHBOURS: [Neighbour; 4] = [
+    Neighbour(5, None, Some(2), true),
+    Neighbour(2, Some(5), Some(9), true),
+    Neighbour(9, Some(2), None, true),
+    Neighbour(7, None, None, false),
+];
+
+#[test]
+fn neighbours(rt: HostRuntime) -> Result<(), Fail> {
+    all_hold(rt.alloc(), &NEIGHBOURS)
+}
+
+/// Whether a configuration has its head and its tail, and a copy of it the ids.
+fn has_ends(alloc: Global) -> Result<bool, ConfigError> {
+    let config = config_of(alloc, &[5, 2, 9])?;
+    let len = config.clone()?.ids().len();
+    Ok((config.head().get(), config.tail().get(), len) == (5, 9, 3))
+}
+
+#[test]
+fn head_and_tail(rt: HostRuntime) -> Result<(), Fail> {
+    is_so(has_ends(rt.alloc()))
+}
+
+#[test]
+fn epochs(rt: HostRuntime) {
+    assert!(rt; Epoch::new(15).is_some() && Epoch::new(16).is_none());
+}

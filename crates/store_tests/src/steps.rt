@@ -1,0 +1,238 @@
+// The decisions, replies and frames of a node, by the rules of a step.
+use crate::cases::{Case, all_hold, is_wrong};
+use crate::items::{config_of, deletions, key_of, number, origin};
+use chain_core::{CoreError, CoreState, Decision, Done, DropReason, Input, Sent, decide};
+use configurations::{Epoch, NodeId};
+use kv_types::Batch;
+use link_messages::Refusal;
+use std::alloc::Global;
+use std::test::Fail;
+
+// The inputs of a node.
+#[derive(Clone, Copy)]
+enum Comes {
+    // A client's batch, with this request number.
+    Submit(u64),
+    Get(Option<u64>),
+    // A Forward with this epoch, sender and number.
+    Forward(u32, u16, u64),
+    // An Ack with this epoch, sender, committed number and number of batches.
+    Ack(u32, u16, u64, u64),
+    Tick,
+}
+
+// The decisions on inputs.
+#[derive(Clone, Copy, PartialEq)]
+enum Gives {
+    Accept,
+    Append,
+    TellAgain,
+    PassOn,
+    Show(u64),
+    Resend,
+    Refuse(Refusal),
+    Drop(DropReason),
+}
+
+fn batch(alloc: Global) -> Result<Batch, CoreError> {
+    deletions(alloc, b"a", 1).or(Err(CoreError::Memory))
+}
+
+fn sender(epoch: u32, from: u16) -> Result<(Epoch, NodeId), CoreError> {
+    origin(epoch, from).ok_or(CoreError::Memory)
+}
+
+fn input(alloc: Global, comes: Comes) -> Result<Input, CoreError> {
+    Ok(match comes {
+        Comes::Submit(n) => Input::Submit {
+            request: number(n),
+            batch: batch(alloc)?,
+        },
+        Comes::Get(at) => Input::Get {
+            request: number(9),
+            key: key_of(alloc, b"a").or(Err(CoreError::Memory))?,
+            at: at.map(number),
+        },
+        Comes::Forward(epoch, from, n) => {
+            let (epoch, from) = sender(epoch, from)?;
+            Input::Forward {
+                epoch,
+                from,
+                number: number(n),
+                batch: batch(alloc)?,
+            }
+        }
+        Comes::Ack(epoch, from, committed, have) => {
+            let (epoch, from) = sender(epoch, from)?;
+            Input::Ack {
+                epoch,
+                from,
+                committed: number(committed),
+                have: number(have),
+            }
+        }
+        Comes::Tick => Input::Tick,
+    })
+}
+
+fn given(decision: &Decision) -> Gives {
+    match decision {
+        Decision::Accept { .. } => Gives::Accept,
+        Decision::Append { .. } => Gives::Append,
+        Decision::OnAck { .. } => Gives::PassOn,
+        Decision::AckDuplicate => Gives::TellAgain,
+        Decision::Read { at, .. } => Gives::Show(at.get()),
+        Decision::Resend => Gives::Resend,
+        Decision::Refuse { refusal, .. } => Gives::Refuse(*refusal),
+        Decision::Drop(reason) => Gives::Drop(*reason),
+    }
+}
+
+/// The decision, and the number of requests that are answered once it is done.
+fn step(alloc: Global, state: &mut CoreState, comes: Comes) -> Result<(Gives, usize), CoreError> {
+    let decision = decide(state, input(alloc, comes)?);
+    let done = match &decision {
+        Decision::Accept { request, .. } => Some(Done::Accepted { request: *request }),
+        Decision::Append { .. } => Some(Done::Appended),
+        Decision::OnAck { committed, have } => Some(Done::Acked {
+            committed: *committed,
+            have: *have,
+        }),
+        _ => None,
+    };
+    let gives = given(&decision);
+    drop(decision);
+    match done {
+        Some(done) => Ok((gives, state.after(alloc, done)?.len())),
+        None => Ok((gives, 0)),
+    }
+}
+
+/// A node of the chain 1, 2, 3 at its creation.
+fn created(alloc: Global, id: u16) -> Result<CoreState, CoreError> {
+    let (_, id) = sender(0, id)?;
+    let config = config_of(alloc, &[1, 2, 3]).or(Err(CoreError::Memory))?;
+    Ok(CoreState::created(alloc, id, config))
+}
+
+// The inputs of a head in turn, its decisions, and the numbers of answered requests.
+static HEAD: [(Comes, Gives, usize); 14] = [
+    (Comes::Get(None), Gives::Show(0), 0),
+    (Comes::Submit(1), Gives::Accept, 0),
+    (Comes::Submit(2), Gives::Accept, 0),
+    (Comes::Get(Some(1)), Gives::Refuse(Refusal::NotCommitted), 0),
+    (
+        Comes::Forward(0, 2, 1),
+        Gives::Drop(DropReason::NotPredecessor),
+        0,
+    ),
+    (
+        Comes::Ack(0, 3, 0, 0),
+        Gives::Drop(DropReason::NotSuccessor),
+        0,
+    ),
+    (
+        Comes::Ack(1, 2, 0, 0),
+        Gives::Drop(DropReason::OtherEpoch),
+        0,
+    ),
+    (Comes::Ack(0, 2, 0, 3), Gives::Drop(DropReason::BadAck), 0),
+    (Comes::Ack(0, 2, 2, 1), Gives::Drop(DropReason::BadAck), 0),
+    (Comes::Ack(0, 2, 0, 1), Gives::PassOn, 0),
+    (Comes::Ack(0, 2, 2, 2), Gives::PassOn, 2),
+    (Comes::Ack(0, 2, 1, 1), Gives::PassOn, 0),
+    (Comes::Get(None), Gives::Show(2), 0),
+    (Comes::Tick, Gives::Resend, 0),
+];
+
+// Takes the steps, after which the head has two batches, both committed.
+fn takes_steps(alloc: Global, head: &mut CoreState) -> Result<(), Fail> {
+    for (index, (comes, gives, answered)) in HEAD.iter().enumerate() {
+        if step(alloc, head, *comes)? != (*gives, *answered) {
+            return Err(is_wrong(index));
+        }
+    }
+    if (head.count().get(), head.committed().get()) == (2, 2) {
+        return Ok(());
+    }
+    Err(Fail::new("it has other batches"))
+}
+
+#[test]
+fn a_head(rt: HostRuntime) -> Result<(), Fail> {
+    takes_steps(rt.alloc(), &mut created(rt.alloc(), 1)?)
+}
+
+// A new node, an input, and its decision.
+struct Other(u16, Comes, Gives);
+
+impl Case for Other {
+    type Error = CoreError;
+
+    fn holds(&self, alloc: Global) -> Result<bool, CoreError> {
+        let mut node = created(alloc, self.0)?;
+        Ok(step(alloc, &mut node, self.1)? == (self.2, 0))
+    }
+}
+
+static OTHERS: [Other; 7] = [
+    Other(2, Comes::Submit(1), Gives::Refuse(Refusal::NotHead)),
+    Other(2, Comes::Forward(0, 1, 2), Gives::TellAgain),
+    Other(2, Comes::Forward(0, 1, 1), Gives::Append),
+    Other(3, Comes::Forward(0, 2, 1), Gives::Append),
+    Other(
+        3,
+        Comes::Ack(0, 2, 0, 0),
+        Gives::Drop(DropReason::NotSuccessor),
+    ),
+    Other(4, Comes::Submit(1), Gives::Refuse(Refusal::Removed)),
+    Other(4, Comes::Tick, Gives::Drop(DropReason::Removed)),
+];
+
+#[test]
+fn a_middle_and_a_tail(rt: HostRuntime) -> Result<(), Fail> {
+    all_hold(rt.alloc(), &OTHERS)
+}
+
+/// The addressee of a frame.
+fn to(sent: Option<Sent>) -> Option<u16> {
+    let to = match &sent {
+        Some(sent) => Some(sent.to.get()),
+        None => None,
+    };
+    drop(sent);
+    to
+}
+
+// A new node, and an input. Once this came to it, whom it sends an acknowledgement and the batch,
+// and which numbers it sends again.
+struct Sending(u16, Comes, (Option<u16>, Option<u16>, u64, u64));
+
+impl Sending {
+    fn is_from(&self, node: &CoreState, batch: Batch) -> bool {
+        let (ack, sent) = (to(node.ack()), to(node.forward(number(1), batch)));
+        let again = node.resends();
+        (ack, sent, again.start, again.end) == self.2
+    }
+}
+
+impl Case for Sending {
+    type Error = CoreError;
+
+    fn holds(&self, alloc: Global) -> Result<bool, CoreError> {
+        let mut node = created(alloc, self.0)?;
+        step(alloc, &mut node, self.1)?;
+        Ok(self.is_from(&node, batch(alloc)?))
+    }
+}
+
+static SENDINGS: [Sending; 3] = [
+    Sending(1, Comes::Submit(1), (None, Some(2), 1, 2)),
+    Sending(2, Comes::Forward(0, 1, 1), (Some(1), Some(3), 1, 2)),
+    Sending(3, Comes::Forward(0, 2, 1), (Some(2), None, 1, 1)),
+];
+
+#[test]
+fn frames(rt: HostRuntime) -> Result<(), Fail> {
+    all_hold(rt.alloc(), &SENDINGS)
+}
