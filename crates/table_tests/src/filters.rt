@@ -60,7 +60,10 @@ fn what_was_put_in_is_not_denied(rt: HostRuntime) {
     let (_, filter) = FILTERS[2];
     for (key, is_held) in &HELD {
         assert!(rt; may_hold(filter, *key) == *is_held, "{key:?}");
-        assert!(rt; may_hold_hashed(filter, KeyHashes::of(*key)) == *is_held, "{key:?}");
+        assert!(rt;
+            may_hold_hashed(filter, KeyHashes::of(*key)) == *is_held,
+            "{key:?}"
+        );
     }
     assert!(rt; may_hold(&[], b"h"));
 }
