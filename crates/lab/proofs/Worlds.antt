@@ -259,7 +259,8 @@ module _ (in_order : AlwaysInOrder) (cs : Configurations) (events : List Event)
             (sym t.took.others)
             (All-from_recursion (SimNodeRefines (after w o).nodes (with_disk made.disks x own))
             (slice_set sims t.took.index sim)
-            (refined_at w made.disks o x out.node own out.came sims t.took.index sim t.took.at.within
+            (refined_at w made.disks o x out.node own out.came sims t.took.index sim
+            t.took.at.within
             (subst (λ (c : List ℕ). AllDifferent c) (sym made.nodes) made.lawful.different)
             was id out.is refl all));
       })

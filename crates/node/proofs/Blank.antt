@@ -1,6 +1,7 @@
 -- Disks on which a node was created, and others.
 use Rattle.std.proofs.Common.{◌≡◌, ℕ, ◌<◌, List, [], ◌∷◌, length, Option, Some, None}
-use Rattle.std.proofs.Common.{Result, Ok, Err, inl, inr, refl, ap, subst, arith, get_or, sym, ◌∙◌, ◌≢◌}
+use Rattle.std.proofs.Common.{Result, Ok, Err, inl, inr, refl, ap, subst, arith, get_or, sym}
+use Rattle.std.proofs.Common.{◌∙◌, ◌≢◌}
 use Rattle.std.specs.Prelude.{IfErr, IsSomeAnd, MatchOption}
 use Rattle.disk.specs.{Contents, State}
 use Rattle.disk.specs.declared.DiskError.TheVariants as disk
@@ -11,9 +12,11 @@ use Rattle.record_log.specs.{Represents, RecordsAreUnique, LogHolds, count_of}
 use Rattle.record_log.specs as log_stands
 use Rattle.node.specs.declared.stop.Stop.{Stop}
 use Rattle.node.specs.declared.stop.Stop.TheVariants as stop
-use Rattle.node.specs.Files.{HasId, IsBlank, IsBlankFile, IsLog}
+use Rattle.kv_types.specs.{BatchContent}
+use Rattle.node.specs.Files.{DiskRepresents, HasId, IsBlank, IsBlankFile, IsLog}
+use Rattle.node.specs.Starts.{StartRefusal}
 use Rattle.node.specs.Layout.{identity_file, identity_records}
-use Rattle.node.specs.Stops.{MatchesBlank, log_stop}
+use Rattle.node.specs.Stops.{IsEnvironmental, MatchesBlank, log_stop}
 use Rattle.node.proofs.Records.{length-ends}
 
 -- a log that counts no record holds none
@@ -105,3 +108,19 @@ blank_by_store stop.Disk created not = tt
 blank_by_store stop.Damaged created not = not
 blank_by_store stop.Memory created not = tt
 blank_by_store stop.NotCreated created not = absurd (created refl)
+
+-- why a node was not started, by what opening its store tells
+pub refusal_of : (e : Stop) (left : Contents) → MatchesBlank e (IsBlank left) →
+    ((x epoch : ℕ) (ids : List ℕ) (list : List BatchContent) (floor kept : ℕ) →
+    DiskRepresents left x epoch ids list floor kept → IsEnvironmental e) → StartRefusal e left
+refusal_of stop.Disk left blank opened = tt
+refusal_of stop.Damaged left blank opened = record {
+  created = blank;
+  no_node = λ x epoch ids list floor kept represents.
+      elim (opened x epoch ids list floor kept represents) as (λ _. ⊥) [
+        | inl is ↦ absurd cc
+        | inr is ↦ absurd cc
+      ];
+}
+refusal_of stop.Memory left blank opened = tt
+refusal_of stop.NotCreated left blank opened = blank

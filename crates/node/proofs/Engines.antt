@@ -2,17 +2,19 @@
 use Rattle.std.proofs.Common.{◌≡◌, ℕ, ◌+◌, ◌≤◌, ◌<◌, List, [], ◌∷◌, ◌++◌, length, drop, Option}
 use Rattle.std.proofs.Common.{Some, None}
 use Rattle.std.proofs.Common.{inl, inr, refl, sym, ap, subst, ◌∙◌, arith}
-use Rattle.std.proofs.Common.{zero, suc, ◌-◌, get_or, length-append}
+use Rattle.std.proofs.Common.{zero, suc, ◌-◌, get_or, length-append, min, take}
 use Rattle.std.specs.Prelude.{IsSomeAnd, slice_get, ◌⊎◌, ◌≢◌}
 use Rattle.std.proofs.lemmas.List.Elements.{All-push}
-use Rattle.kv_types.specs.{IsBatch, BatchContent}
+use Rattle.std.proofs.lemmas.List.{take_min}
+use Rattle.kv_types.specs.{IsBatch, BatchContent, map_of}
 use Rattle.disk.specs.{State, Slot, Absent, Fresh, Kept, Contents, IsFileOutcome, IsCrashOutcome}
-use Rattle.disk.specs.{EndsOutOfRange, DurableFileIsLeft, DurableIsLeft, IsDurable, IsLeftAt, LeavesSince, contents}
-use Rattle.disk.specs.{seen}
+use Rattle.disk.specs.{DurableFileIsLeft, DurableIsLeft, EndsOutOfRange, IsDurable, IsLeftAt}
+use Rattle.disk.specs.{LeavesSince, contents}
+use Rattle.disk.specs.{IsSameBut, seen}
 use Rattle.disk.proofs.Moments.{started, weaker}
 use Rattle.record_log.specs.declared.Log.{Log}
 use Rattle.record_log.specs.{HasFailed, Represents, LogHolds, IsAt, IsOldOrNew, IsOldOrNewFrom}
-use Rattle.record_log.specs.{count_of, gate_of}
+use Rattle.record_log.specs.{count_of, file_of, gate_of}
 use Rattle.node.specs.declared.engine.Engine.{Engine}
 use Rattle.chain_model.specs.{IsId, place}
 use Rattle.configurations.specs.{IsConfig}
@@ -20,9 +22,10 @@ use Rattle.kv_types.specs.declared.bounds.TheConstants.{MAX_NUMBER}
 use Rattle.node.specs.Layout.{identity_file, identity_records, batches_file}
 use Rattle.node.specs.Layout.{batch_record, records_from}
 use Rattle.node.specs.Files.{IsLog, HasId, DiskRepresents, IsDurableIdOf, IsOneOf}
-use Rattle.node.specs.Engines.{EngineHolds, HasNumbersOf, IsUsable, KeepsStore, engine_count}
+use Rattle.node.specs.Engines.{EngineHolds, HasNumbersOf, IsNearlyFull, IsUsable, KeepsOthersOf}
+use Rattle.node.specs.Engines.{KeepsStore, engine_count, engine_kept}
 use Rattle.chain_core.specs.{Machine}
-use Rattle.node.proofs.Records.{records_from-push, length-ends}
+use Rattle.node.proofs.Records.{records_from-push, length-ends, spelled_fits}
 
 -- the two files are different
 pub files_apart : identity_file ≢ batches_file
@@ -56,6 +59,33 @@ has_room log one bytes empty is short out = omega (arith, empty, ap length is, s
 
 pub short_fits : (one bytes : List ℕ) → one ≡ bytes → length bytes ≤ 35 → length one ≤ 16777216
 short_fits one bytes is short = omega (arith, ap length is, short)
+
+pub next_place : (engine : Engine) (n : ℕ) → n ≡ engine.batches.len →
+    n + 1 ≡ length engine.batches.items + 1
+next_place engine n is = omega (arith, is, engine.batches.ok.0)
+
+-- where a record of a batch has no room, one of the greatest length has none
+pub nearly_full : (engine : Engine) (bytes : List ℕ) (number : ℕ) (batch : BatchContent) →
+    bytes ≡ batch_record number batch → IsBatch batch →
+    EndsOutOfRange (gate_of engine.log) (length bytes + 6) → IsNearlyFull engine
+nearly_full engine bytes number batch is batch_is out =
+    omega (arith, spelled_fits bytes number batch is batch_is, out)
+
+-- an append of the log that is in its place changes its file alone
+pub own_others : (engine : Engine) (old new : State) → IsSameBut (file_of engine.log) old new →
+    KeepsOthersOf engine old new
+own_others engine old new same in_place other not_own =
+    same other (λ e. not_own (inr (e ∙ in_place)))
+
+-- one batch more, and the engine is usable
+pub one_more_usable : (old new : Engine) (batch : BatchContent) →
+    new.batches.items ≡ old.batches.items ++ batch ∷ [] → engine_count old < MAX_NUMBER →
+    (HasFailed new.log → ⊥) →
+    IsUsable new × (engine_count new ≡ engine_count old + 1) × (engine_kept new ≡ engine_kept old)
+one_more_usable old new batch more room works =
+    let count : engine_count new ≡ engine_count old + 1 =
+    ap length more ∙ length-append old.batches.items (batch ∷ []) in
+    (usable new works (omega (arith, count, room)), count, refl)
 
 -- two calls in a row keep what each keeps
 pub kept_on : {engine : Engine} (a b c : State) → KeepsStore engine a b → KeepsStore engine b c →
@@ -189,6 +219,19 @@ stands_at list batches k batch found some within same got copy =
     let there = at_next batches (k - 1) found (omega (arith, some, within)) in
     ap (λ l. place l k) same ∙ ap (λ i. place batches i) number ∙ there
     ∙ ap (λ b. Some b) (sym got ∙ sym copy)
+
+-- the map of an engine's first batches is that of the list's
+pub first_of : (engine : Engine) (list batches : List BatchContent) (key : List ℕ)
+    (at len upto first : ℕ) → engine.batches.items ≡ list → batches ≡ engine.batches.items →
+    len ≡ engine.batches.len → upto ≡ at → first ≡ min len upto →
+    map_of (take first batches) key ≡ map_of (take at list) key
+first_of engine list batches key at len upto first holds same long is least =
+    let whole : batches ≡ list = same ∙ holds in
+    let size : len ≡ length list = omega (arith, long, engine.batches.ok.0, ap length holds) in
+    let least : first ≡ min at (length list) = omega (arith, least, is, size) in
+    ap (λ (l : List BatchContent). map_of (take first l) key) whole
+    ∙ ap (λ (n : ℕ). map_of (take n list) key) least
+    ∙ ap (λ (l : List BatchContent). map_of l key) (take_min at list)
 
 -- An open engine, and one batch more.
 module _ (law : DurableIsLeft) (old : State) (engine : Engine) (x epoch : ℕ) (ids : List ℕ)

@@ -1,10 +1,12 @@
--- What several calls on a disk keep, one behind another, and what a stop says of the call before it.
+-- What several calls on a disk keep, one behind another, and what a stop says of the call before.
 use Rattle.std.proofs.Common.{rules, ◌≡◌, ◌↔◌, ℕ, Result, Ok, Err, ◌∙◌, ap, inl, inr, refl, subst}
-use Rattle.std.specs.Prelude.{IsErrAnd}
+use Rattle.std.specs.Prelude.{◌⊎◌, IfErr, IsErrAnd}
 use Rattle.disk.specs.declared.Disk.{Ghosts}
 use Rattle.disk.specs.declared.DiskError.TheVariants as disk
 use Rattle.disk.specs.{AddsNoOutcome, IsFileOutcome, IsSame, IsSameBut, KeepsDisk, RisesByOne}
 use Rattle.disk.specs.{State}
+use Rattle.node.specs.declared.engine.Engine.{Engine}
+use Rattle.node.specs.Engines.{KeepsOthersOf}
 use Rattle.node.specs.Files.{IsRecovered, KeepsOthers}
 use Rattle.node.specs.Layout.{batches_file, identity_file}
 use Rattle.record_log.specs.declared.LogError.{LogError}
@@ -16,7 +18,8 @@ use Rattle.node.specs.Stops.{IsDeviceStop, log_stop}
 module _ {D : Type 0} (g : Ghosts D) {first cause : Type 0} {R : State → State → Type 0} where
   -- a call whose failure is told in other words, and which keeps a weaker relation
   pub kept_as : {old new : D} {told : Type 0} {Q : State → State → Type 0} → (first ↔ told) →
-      ((a b : State) → R a b → Q a b) → KeepsDisk g old new first cause R → KeepsDisk g old new told cause Q
+      ((a b : State) → R a b → Q a b) → KeepsDisk g old new first cause R →
+      KeepsDisk g old new told cause Q
   kept_as {old = old} {new = new} same weaker kept = record {
     honest = kept.honest;
     failed = λ fails. kept.failed (same.1 fails);
@@ -51,7 +54,8 @@ module _ {D : Type 0} (g : Ghosts D) {first cause : Type 0} {R : State → State
       λ honest. before.honest.0 (kept.honest.0 honest),
       λ honest. kept.honest.1 (before.honest.1 honest),
     );
-    failed = λ fails. subst (λ k. RisesByOne k (g.failures new)) (before.count works) (kept.failed fails);
+    failed = λ fails. subst (λ k. RisesByOne k (g.failures new)) (before.count works)
+        (kept.failed fails);
     count = λ end. kept.count end ∙ before.count works;
     only = λ reliable spared fails. kept.only (before.reliable reliable works) spared fails;
     reliable = λ reliable end. kept.reliable (before.reliable reliable works) end;
@@ -98,6 +102,23 @@ pub stop_passed : {T U : Type 0} (called : Result T Stop) (e : Stop) (result : R
     called ≡ Err e → IsErrAnd result (λ s. s ≡ e) → IsDeviceStop called ↔ IsDeviceStop result
 stop_passed called e (Ok x) is told = absurd told
 stop_passed called e (Err s) is told = (λ f. cc, λ f. cc)
+
+pub stop_is : {T : Type 0} (called : Result T Stop) (e : Stop) → called ≡ Err e →
+    IsDeviceStop called ↔ (e ≡ stop.Disk)
+stop_is called e is = (λ f. cc, λ f. cc)
+
+-- a result whose refusals are those of a record's bytes alone reports no failure of the device
+pub bytes_only : {T : Type 0} (result : Result T Stop) →
+    IfErr result (λ e. (e ≡ stop.Damaged) ⊎ (e ≡ stop.Memory)) → IsDeviceStop result → ⊥
+bytes_only (Ok x) told fails = cc
+bytes_only (Err e) (inl told) fails = cc
+bytes_only (Err e) (inr told) fails = cc
+
+-- a refusal for another cause is none
+pub refused : {T : Type 0} {e : Stop} → (e ≡ stop.Disk → ⊥) → IsDeviceStop {T = T} (Err e) → ⊥
+refused {e = e} other fails =
+    let is : e ≡ stop.Disk = cc in
+    other is
 
 -- neither of two calls failed
 pub neither : {first told : Type 0} → (first → ⊥) → (told → ⊥) → first ↔ told
@@ -171,3 +192,31 @@ pub then_file : {file : ℕ} → file ≡ identity_file → (old mid new : State
     IsSameBut file mid new → KeepsOthers old new
 then_file is old mid new before after other not_own =
     after other (λ e. not_own (inl (e ∙ is))) ∙ before other not_own
+
+-- no call for an engine
+pub unchanged_store : {D : Type 0} (g : Ghosts D) {cause : Type 0} {disk : D} (engine : Engine) →
+    KeepsDisk g disk disk ⊥ cause (KeepsOthersOf engine)
+unchanged_store g engine = unchanged g (λ disk in_place other not_own. refl)
+
+-- a file that was only read leaves no new outcome, before another call or behind it
+pub same_adds : {file : ℕ} (old new : State) → IsSame old new → AddsNoOutcome file old new
+same_adds {file = file} old new same = record {
+  crash = λ left leaves. subst (λ slot. IsFileOutcome slot left) (same file) leaves;
+  others = λ other apart. same other;
+}
+
+pub same_then_adds : {file : ℕ} (old mid new : State) → IsSame old mid →
+    AddsNoOutcome file mid new → AddsNoOutcome file old new
+same_then_adds {file = file} old mid new same adds = record {
+  crash = λ left leaves. subst (λ slot. IsFileOutcome slot left) (same file)
+      (adds.crash left leaves);
+  others = λ other apart. adds.others other apart ∙ same other;
+}
+
+pub adds_then_same : {file : ℕ} (old mid new : State) → AddsNoOutcome file old mid →
+    IsSame mid new → AddsNoOutcome file old new
+adds_then_same {file = file} old mid new adds same = record {
+  crash = λ left leaves. adds.crash left
+      (subst (λ slot. IsFileOutcome slot left) (same file) leaves);
+  others = λ other apart. same other ∙ adds.others other apart;
+}

@@ -7,3 +7,4 @@ pub mod Opens
 pub mod Blank
 pub mod Outputs
 pub mod Running
+pub mod Steps

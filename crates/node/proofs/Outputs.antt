@@ -1,11 +1,12 @@
 -- What a step sends and replies.
-use Rattle.std.proofs.Common.{◌≡◌, ℕ, ◌≤◌, List, [], ◌∷◌, ◌++◌}
+use Rattle.std.proofs.Common.{◌≡◌, ℕ, ◌+◌, ◌<◌, ◌≤◌, suc, List, [], ◌∷◌, ◌++◌, get_or, length, take}
+use Rattle.std.proofs.Math.Seq.{take-suc}
 use Rattle.std.proofs.Common.{map, Option, Some, None, Result, Ok, Err, refl, sym, ap}
 use Rattle.std.proofs.Common.{subst, ◌∙◌, arith}
 use Rattle.std.specs.Prelude.{SomeIff, IfOk, nat_lt}
 use Rattle.std.specs.Ordering.{is_gt, nat_cmp}
 use Rattle.std.proofs.lemmas.Bool.Decides.{nat_tests}
-use Rattle.std.proofs.lemmas.List.{map-append}
+use Rattle.std.proofs.lemmas.List.{map-append, map_push}
 use Rattle.kv_types.specs.{BatchContent}
 use Rattle.chain_model.specs.{Message, Answer, reply_read}
 use Rattle.chain_core.specs.declared.Done.{Done}
@@ -17,6 +18,7 @@ use Rattle.chain_core.specs.declared.PendingSubmit.{PendingSubmit}
 use Rattle.chain_core.specs.{Machine, AreFrames, IsReadOf, frame_as, StepLeaves, frames_after}
 use Rattle.chain_core.specs as core
 use Rattle.node.specs.declared.output.Output.{Output}
+use Rattle.node.specs.declared.output.Reply.{Reply}
 use Rattle.node.specs.declared.stop.Stop.{Stop}
 use Rattle.node.specs.Outputs.{OutputHas, OutputRefines, committed_reply}
 use Rattle.node.specs.Steps.{replies_of}
@@ -43,6 +45,18 @@ pub replies_due : (input : Input) (due : List PendingSubmit) →
     map committed_reply due ≡ replies_of input (core.committed_responses due)
 replies_due input [] = refl
 replies_due input (it ∷ due) = ap (λ l. committed_reply it ∷ l) (replies_due input due)
+
+pub one_reply_more : (due : List PendingSubmit) (i : ℕ) (it : PendingSubmit)
+    (before new : List Reply) → i < length due → it ≡ get_or due i it →
+    before ≡ map committed_reply (take i due) → new ≡ before ++ committed_reply it ∷ [] →
+    new ≡ map committed_reply (take (i + 1) due)
+one_reply_more due i it before new within is was more =
+    let next : take (suc i) due ≡ take i due ++ it ∷ [] =
+    take-suc due i it within ∙ ap (λ (x : PendingSubmit). take i due ++ x ∷ []) (sym is) in
+    let one : suc i ≡ i + 1 = omega arith in
+    more ∙ ap (λ (l : List Reply). l ++ committed_reply it ∷ []) was
+    ∙ sym (map_push committed_reply (take i due) it) ∙ ap (map committed_reply) (sym next)
+    ∙ ap (λ (n : ℕ). map committed_reply (take n due)) one
 
 -- the output after the store's part is the answer of the rule
 pub tells_rule : (x : ℕ) (n : Machine) (input : Input) (batch : BatchContent) (d : Done)

@@ -99,3 +99,8 @@ pub record_fits : (number : ℕ) (batch : BatchContent) → IsBatch batch →
 record_fits number batch is =
     let short = is.short in
     omega (arith, length-append (to_be_bytes w64 number) (batch_bytes batch), short)
+
+pub spelled_fits : (bytes : List ℕ) (number : ℕ) (batch : BatchContent) →
+    bytes ≡ batch_record number batch → IsBatch batch → length bytes ≤ 16777216
+spelled_fits bytes number batch is batch_is =
+    omega (arith, ap length is, record_fits number batch batch_is)

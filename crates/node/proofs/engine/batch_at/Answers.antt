@@ -4,6 +4,7 @@ use Rattle.std.proofs.lemmas.Result.{err_from_is_err_and}
 use Rattle.node.specs.Layout.{batch_record, records_from}
 use Rattle.node.proofs.Causes.{working_log, undamaged}
 use Rattle.node.proofs.Records.{numbered_at}
+use Rattle.node.proofs.Keeping.{answered, bytes_only, kept_as, log_failed, neither}
 use Rattle.node.proofs.engine.batch_at.Goals as goal
 
 -- the log works, so it reports environment errors alone
@@ -26,3 +27,15 @@ returns-clause-damaged g c = λ list honest h each.
     ∙ ap (λ n. batch_record n at.batch) (omega arith) in
     undamaged c.batch_of.result c.batch_of.ensures.only
     (λ damaged. c.batch_of.ensures.damaged damaged at.batch at.is_batch spelled)
+
+-- the record was read
+pub returns-in_err-record-clause-kept : goal.returns-in_err-record-clause-kept
+returns-in_err-record-clause-kept g c =
+    kept_as g.D.Disk (log_failed c.record.result c.in_err-record.field-0.0 c.from_residual.result
+    c.in_err-record.was c.from_residual.ensures.1) (λ a b same. same) c.record.ensures.kept
+
+pub returns-clause-kept : goal.returns-clause-kept
+returns-clause-kept g c =
+    kept_as g.D.Disk (neither (answered c.record.result c.in_ok-record.was)
+    (bytes_only c.batch_of.result c.batch_of.ensures.only)) (λ a b same. same)
+    c.record.ensures.kept

@@ -7,6 +7,8 @@ use Rattle.node.proofs.Blank.{none_held}
 use Rattle.node.proofs.Causes.{working_log, undamaged}
 use Rattle.node.proofs.Opens.{named_by}
 use Rattle.disk.proofs.Still.{still}
+use Rattle.node.proofs.Keeping.{answered, bytes_only, kept_as, log_failed, neither, refused}
+use Rattle.node.proofs.Keeping.{same_files, unchanged}
 use Rattle.node.proofs.engine.identity_in.Goals as goal
 
 -- there is no record
@@ -50,3 +52,25 @@ returns-then-len-eq0-clause-still g c = λ honest. still _ _
 
 pub returns-then-len-gt1-clause-still : goal.returns-then-len-gt1-clause-still
 returns-then-len-gt1-clause-still g c = λ honest. still _ _
+
+pub returns-then-len-eq0-clause-kept : goal.returns-then-len-eq0-clause-kept
+returns-then-len-eq0-clause-kept g c =
+    kept_as g.D.Disk (neither (λ fails. fails) (refused (λ e. cc))) (λ a b same. same)
+    (unchanged g.D.Disk same_files)
+
+pub returns-then-len-gt1-clause-kept : goal.returns-then-len-gt1-clause-kept
+returns-then-len-gt1-clause-kept g c =
+    kept_as g.D.Disk (neither (λ fails. fails) (refused (λ e. cc))) (λ a b same. same)
+    (unchanged g.D.Disk same_files)
+
+-- its record was read
+pub returns-in_err-record-clause-kept : goal.returns-in_err-record-clause-kept
+returns-in_err-record-clause-kept g c =
+    kept_as g.D.Disk (log_failed c.record.result c.in_err-record.field-0.0 c.from_residual.result
+    c.in_err-record.was c.from_residual.ensures.1) (λ a b same. same) c.record.ensures.kept
+
+pub returns-clause-kept : goal.returns-clause-kept
+returns-clause-kept g c =
+    kept_as g.D.Disk (neither (answered c.record.result c.in_ok-record.was)
+    (bytes_only c.identity_of.result c.identity_of.ensures.only)) (λ a b same. same)
+    c.record.ensures.kept

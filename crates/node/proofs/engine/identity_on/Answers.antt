@@ -9,6 +9,8 @@ use Rattle.node.proofs.Blank.{has_bytes, blank_read, blank_declined}
 use Rattle.node.proofs.Causes.{of_machine}
 use Rattle.node.proofs.Opens.{has_in, found_id}
 use Rattle.disk.proofs.Still.{still_more}
+use Rattle.node.proofs.Keeping.{adds_then_same, answered, kept_as, kept_behind, log_failed}
+use Rattle.node.proofs.Keeping.{neither, refused, same_adds, same_then_adds, stop_passed}
 use Rattle.node.proofs.engine.identity_on.Goals as goal
 
 pub returns-in_err-identity-clause-opened : goal.returns-in_err-identity-clause-opened
@@ -87,3 +89,31 @@ returns-clause-still g c = λ honest.
     let honest' = c.length_of.ensures.kept.honest.1 honest in
     still_more (still_more (c.length_of.ensures.still honest) (c.open.ensures.still honest'))
     (c.identity_in.ensures.still (c.open.ensures.kept.honest.1 honest'))
+
+-- the file was only synced
+pub returns-in_err-length_of-clause-kept : goal.returns-in_err-length_of-clause-kept
+returns-in_err-length_of-clause-kept g c =
+    kept_as g.D.Disk (stop_passed c.length_of.result c.in_err-length_of.field-0.0
+    c.from_residual.result c.in_err-length_of.was c.from_residual.ensures.1) same_adds
+    c.length_of.ensures.kept
+
+pub returns-then-branch-eq0-clause-kept : goal.returns-then-branch-eq0-clause-kept
+returns-then-branch-eq0-clause-kept g c =
+    kept_as g.D.Disk (neither (answered c.length_of.result c.in_ok-length_of.was)
+    (refused (λ e. cc))) same_adds c.length_of.ensures.kept
+
+pub returns-in_err-identity-clause-kept : goal.returns-in_err-identity-clause-kept
+returns-in_err-identity-clause-kept g c =
+    let told = c.from_residual-in_err-identity.ensures.1 in
+    let failed = log_failed c.open.result c.in_err-identity.field-0.0
+    c.from_residual-in_err-identity.result c.in_err-identity.was told in
+    kept_behind g.D.Disk same_then_adds c.length_of.ensures.kept
+    (answered c.length_of.result c.in_ok-length_of.was)
+    (kept_as g.D.Disk failed (λ a b adds. adds) c.open.ensures.kept)
+
+pub returns-clause-kept : goal.returns-clause-kept
+returns-clause-kept g c =
+    kept_behind g.D.Disk adds_then_same
+    (kept_behind g.D.Disk same_then_adds c.length_of.ensures.kept
+    (answered c.length_of.result c.in_ok-length_of.was) c.open.ensures.kept)
+    (answered c.open.result c.in_ok-identity.was) c.identity_in.ensures.kept

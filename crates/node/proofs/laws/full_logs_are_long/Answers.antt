@@ -1,4 +1,4 @@
-use Rattle.std.proofs.Common.{ℕ, ◌<◌, ◌≤◌, ◌+◌, ◌^◌, List, Option, Some, None, length, arith}
+use Rattle.std.proofs.Common.{ℕ, ◌<◌, ◌+◌, List, Option, Some, None, length, arith}
 use Rattle.std.specs.Prelude.{IsSomeAnd}
 use Rattle.disk.specs.{EndsOutOfRange, seen}
 use Rattle.record_log.specs.{file_of, gate_of}

@@ -1,4 +1,5 @@
-use Rattle.std.proofs.Common.{rules, ◌≡◌, ◌+◌, ◌-◌, ◌++◌, suc, ap, ◌∙◌, sym, subst, arith, inr, refl}
+use Rattle.std.proofs.Common.{rules, ◌≡◌, ◌+◌, ◌-◌, ◌++◌, suc, ap, ◌∙◌, sym, subst, arith, inr}
+use Rattle.std.proofs.Common.{refl}
 use Rattle.std.specs.Prelude.{option_to_list}
 use Rattle.chain_model.specs.{forward, forwards}
 use Rattle.chain_core.specs.{AreFrames}
@@ -79,7 +80,8 @@ loop-number-preserved g c =
           let made = made_of c.new.result _ at c.unwrap-number.result c.new.ensures
           c.unwrap-number.ensures in
           let there = c.in_ok-batch.ensures.found y n.epoch n.ids n.list n.floor n.kept
-          (was.kept.honest.1 honest) ((was.kept.files honest).holds y n.epoch n.ids n.list n.floor n.kept s) in
+          (was.kept.honest.1 honest)
+          ((was.kept.files honest).holds y n.epoch n.ids n.list n.floor n.kept s) in
           let frame = option_to_list c.forward.result in
           let one = subst (λ i. AreFrames frame (forward x n i)) made
           (c.forward.ensures n is there) in

@@ -1,5 +1,5 @@
 use Rattle.std.proofs.Common.{List, subst}
-use Rattle.std.proofs.lemmas.Option.{MatchOption-at_none, MatchOption-at_some}
+use Rattle.std.proofs.lemmas.Option.{MatchOption-at_none}
 use Rattle.std.proofs.lemmas.Result.{on_ok_weaker}
 use Rattle.lab.specs.declared.delivery.Posted.{Posted}
 use Rattle.lab.specs.declared.sim_node.SimNode.{SimNode}

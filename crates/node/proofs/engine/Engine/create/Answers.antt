@@ -17,70 +17,91 @@ use Rattle.node.proofs.engine.Engine.create.Goals as goal
 -- the files of the layout alone are changed
 pub returns-in_err-length_of-clause-kept : goal.returns-in_err-length_of-clause-kept
 returns-in_err-length_of-clause-kept g c =
-    kept_as g.D.Disk (stop_passed c.length_of.result c.in_err-length_of.field-0.0
-    c.from_residual.result c.in_err-length_of.was c.from_residual.ensures.1)
-    same_others c.length_of.ensures.kept
+    let failed = stop_passed c.length_of.result c.in_err-length_of.field-0.0 c.from_residual.result
+    c.in_err-length_of.was c.from_residual.ensures.1 in
+    kept_as g.D.Disk failed same_others c.length_of.ensures.kept
 
 pub returns-in_err-length_of-2-clause-kept : goal.returns-in_err-length_of-2-clause-kept
 returns-in_err-length_of-2-clause-kept g c =
-    kept_behind g.D.Disk same_then_others c.length_of.ensures.kept
-    (answered c.length_of.result c.in_ok-length_of.was)
-    (kept_as g.D.Disk (stop_passed c.length_of-2.result c.in_err-length_of-2.field-0.0
-    c.from_residual-in_err-length_of-2.result c.in_err-length_of-2.was c.from_residual-in_err-length_of-2.ensures.1)
-    same_others c.length_of-2.ensures.kept)
+    let works = answered c.length_of.result c.in_ok-length_of.was in
+    let failed = stop_passed c.length_of-2.result c.in_err-length_of-2.field-0.0
+    c.from_residual-in_err-length_of-2.result c.in_err-length_of-2.was c.from_residual-in_err-length_of-2.ensures.1 in
+    kept_behind g.D.Disk same_then_others c.length_of.ensures.kept works
+    (kept_as g.D.Disk failed same_others c.length_of-2.ensures.kept)
 
 pub returns-in_err-log-clause-kept : goal.returns-in_err-log-clause-kept
 returns-in_err-log-clause-kept g c =
-    kept_behind g.D.Disk same_then_others (kept_behind g.D.Disk same_then_same c.length_of.ensures.kept
-    (answered c.length_of.result c.in_ok-length_of.was) c.length_of-2.ensures.kept)
-    (answered c.length_of-2.result c.in_ok-length_of-2.was)
-    (kept_as g.D.Disk (log_failed c.create.result c.in_err-log.field-0.0
-    c.from_residual-in_err-log.result c.in_err-log.was c.from_residual-in_err-log.ensures.1)
-    batches_others c.create.ensures.kept)
+    let works = answered c.length_of.result c.in_ok-length_of.was in
+    let both = kept_behind g.D.Disk same_then_same c.length_of.ensures.kept works
+    c.length_of-2.ensures.kept in
+    let known = answered c.length_of-2.result c.in_ok-length_of-2.was in
+    let failed = log_failed c.create.result c.in_err-log.field-0.0 c.from_residual-in_err-log.result
+    c.in_err-log.was c.from_residual-in_err-log.ensures.1 in
+    kept_behind g.D.Disk same_then_others both known
+    (kept_as g.D.Disk failed batches_others c.create.ensures.kept)
 
 pub returns-in_err-identity-clause-kept : goal.returns-in_err-identity-clause-kept
 returns-in_err-identity-clause-kept g c =
-    kept_behind g.D.Disk both_others (kept_behind g.D.Disk same_then_batches (kept_behind g.D.Disk same_then_same c.length_of.ensures.kept
-    (answered c.length_of.result c.in_ok-length_of.was) c.length_of-2.ensures.kept)
-    (answered c.length_of-2.result c.in_ok-length_of-2.was) c.create.ensures.kept)
-    (answered c.create.result c.in_ok-log.was)
-    (kept_as g.D.Disk (log_failed c.create-2.result c.in_err-identity.field-0.0
-    c.from_residual-in_err-identity.result c.in_err-identity.was c.from_residual-in_err-identity.ensures.1)
-    identity_others c.create-2.ensures.kept)
+    let works = answered c.length_of.result c.in_ok-length_of.was in
+    let both = kept_behind g.D.Disk same_then_same c.length_of.ensures.kept works
+    c.length_of-2.ensures.kept in
+    let known = answered c.length_of-2.result c.in_ok-length_of-2.was in
+    let begun = kept_behind g.D.Disk same_then_batches both known c.create.ensures.kept in
+    let created = answered c.create.result c.in_ok-log.was in
+    let failed = log_failed c.create-2.result c.in_err-identity.field-0.0
+    c.from_residual-in_err-identity.result c.in_err-identity.was c.from_residual-in_err-identity.ensures.1 in
+    kept_behind g.D.Disk both_others begun created
+    (kept_as g.D.Disk failed identity_others c.create-2.ensures.kept)
 
 pub returns-in_err-record-clause-kept : goal.returns-in_err-record-clause-kept
 returns-in_err-record-clause-kept g c =
-    kept_as g.D.Disk (neither (answered c.create-2.result c.in_ok-identity.was)
-    (memory_told c.from_residual-in_err-record.result c.from_residual-in_err-record.ensures.1))
-    (λ a b kept. kept) (kept_behind g.D.Disk then_identity (kept_behind g.D.Disk same_then_batches (kept_behind g.D.Disk same_then_same c.length_of.ensures.kept
-    (answered c.length_of.result c.in_ok-length_of.was) c.length_of-2.ensures.kept)
-    (answered c.length_of-2.result c.in_ok-length_of-2.was) c.create.ensures.kept)
-    (answered c.create.result c.in_ok-log.was) c.create-2.ensures.kept)
+    let works = answered c.length_of.result c.in_ok-length_of.was in
+    let both = kept_behind g.D.Disk same_then_same c.length_of.ensures.kept works
+    c.length_of-2.ensures.kept in
+    let known = answered c.length_of-2.result c.in_ok-length_of-2.was in
+    let begun = kept_behind g.D.Disk same_then_batches both known c.create.ensures.kept in
+    let created = answered c.create.result c.in_ok-log.was in
+    let logs = kept_behind g.D.Disk then_identity begun created c.create-2.ensures.kept in
+    let empty = answered c.create-2.result c.in_ok-identity.was in
+    let wants = memory_told c.from_residual-in_err-record.result
+    c.from_residual-in_err-record.ensures.1 in
+    kept_as g.D.Disk (neither empty wants) (λ a b kept. kept) logs
 
 pub returns-in_err-append-clause-kept : goal.returns-in_err-append-clause-kept
 returns-in_err-append-clause-kept g c =
+    let works = answered c.length_of.result c.in_ok-length_of.was in
+    let both = kept_behind g.D.Disk same_then_same c.length_of.ensures.kept works
+    c.length_of-2.ensures.kept in
+    let known = answered c.length_of-2.result c.in_ok-length_of-2.was in
+    let begun = kept_behind g.D.Disk same_then_batches both known c.create.ensures.kept in
+    let created = answered c.create.result c.in_ok-log.was in
+    let logs = kept_behind g.D.Disk then_identity begun created c.create-2.ensures.kept in
+    let empty = answered c.create-2.result c.in_ok-identity.was in
     let room = has_room c.in_ok-identity.identity c.deref.result.now c.in_ok-record.record.items
     c.in_ok-identity.ensures.empty.0 c.deref.ensures.value c.in_ok-record.ensures.short in
-    kept_behind g.D.Disk (then_file c.in_ok-identity.ensures.at.in_file) (kept_behind g.D.Disk then_identity (kept_behind g.D.Disk same_then_batches (kept_behind g.D.Disk same_then_same c.length_of.ensures.kept
-    (answered c.length_of.result c.in_ok-length_of.was) c.length_of-2.ensures.kept)
-    (answered c.length_of-2.result c.in_ok-length_of-2.was) c.create.ensures.kept)
-    (answered c.create.result c.in_ok-log.was) c.create-2.ensures.kept)
-    (answered c.create-2.result c.in_ok-identity.was)
-    (kept_as g.D.Disk (log_failed c.append.result c.in_err-append.field-0.0
-    c.from_residual-in_err-append.result c.in_err-append.was c.from_residual-in_err-append.ensures.1)
-    (λ a b same. same) (kept_but g.D.Disk room c.append.ensures.kept))
+    let at = c.in_ok-identity.ensures.at in
+    let failed = log_failed c.append.result c.in_err-append.field-0.0
+    c.from_residual-in_err-append.result c.in_err-append.was c.from_residual-in_err-append.ensures.1 in
+    kept_behind g.D.Disk (then_file at.in_file) logs empty
+    (kept_as g.D.Disk failed (λ a b same. same) (kept_but g.D.Disk room c.append.ensures.kept))
 
 pub returns-clause-kept : goal.returns-clause-kept
 returns-clause-kept g c =
+    let works = answered c.length_of.result c.in_ok-length_of.was in
+    let both = kept_behind g.D.Disk same_then_same c.length_of.ensures.kept works
+    c.length_of-2.ensures.kept in
+    let known = answered c.length_of-2.result c.in_ok-length_of-2.was in
+    let begun = kept_behind g.D.Disk same_then_batches both known c.create.ensures.kept in
+    let created = answered c.create.result c.in_ok-log.was in
+    let logs = kept_behind g.D.Disk then_identity begun created c.create-2.ensures.kept in
+    let empty = answered c.create-2.result c.in_ok-identity.was in
     let room = has_room c.in_ok-identity.identity c.deref.result.now c.in_ok-record.record.items
     c.in_ok-identity.ensures.empty.0 c.deref.ensures.value c.in_ok-record.ensures.short in
-    kept_behind g.D.Disk (then_file c.in_ok-identity.ensures.at.in_file) (kept_behind g.D.Disk then_identity (kept_behind g.D.Disk same_then_batches (kept_behind g.D.Disk same_then_same c.length_of.ensures.kept
-    (answered c.length_of.result c.in_ok-length_of.was) c.length_of-2.ensures.kept)
-    (answered c.length_of-2.result c.in_ok-length_of-2.was) c.create.ensures.kept)
-    (answered c.create.result c.in_ok-log.was) c.create-2.ensures.kept)
-    (answered c.create-2.result c.in_ok-identity.was)
-    (kept_as g.D.Disk (neither (answered c.append.result c.in_ok-append.was) done)
-    (λ a b same. same) (kept_but g.D.Disk room c.append.ensures.kept))
+    let at = c.in_ok-identity.ensures.at in
+    let appended = answered c.append.result c.in_ok-append.was in
+    kept_behind g.D.Disk (then_file at.in_file) logs empty
+    (kept_as g.D.Disk (neither appended done) (λ a b same. same)
+    (kept_but g.D.Disk room c.append.ensures.kept))
 
 -- it reports environment errors alone
 pub returns-in_err-length_of-clause-created : goal.returns-in_err-length_of-clause-created

@@ -148,7 +148,8 @@ returns-clause-found g c = λ honest.
       list,
       had_batches (g.D.Disk.state c.args.disk.now) (g.D.Disk.state c.identity_on.new.disk)
           (g.D.Disk.state c.open.new.disk) c.in_ok-log.log it.id it.config list
-          (c.in_ok-identity.ensures.found honest).had there o read.0 read.1 c.in_ok-batches.ensures.few,
+          (c.in_ok-identity.ensures.found honest).had there o read.0 read.1
+          c.in_ok-batches.ensures.few,
     )
 
 -- only a disk without the identity of a node is blank

@@ -7,6 +7,7 @@ use Rattle.chain_core.specs.declared.Done.TheVariants as done
 use Rattle.node.specs.Stops.{IsEnvironmental}
 use Rattle.node.proofs.Running.{at_rest, ends_rule, ends_stopped}
 use Rattle.node.proofs.Running.{copy_after, number_taken, taken_stands}
+use Rattle.node.proofs.Steps.{node_goes_on, node_stays, node_stops}
 use Rattle.node.proofs.node.Node.append.Goals as goal
 
 -- nothing has changed
@@ -58,3 +59,21 @@ returns-clause-ends g c = λ x n input r.
     c.in_ok-due.due.items c.deref.result.now sent c.output_of_append.result e.any_moment leaves
     follows
     c.deref.ensures.value both says c.output_of_append.ensures.memory
+
+-- the store's part keeps the node
+pub returns-in_err-copy-clause-kept : goal.returns-in_err-copy-clause-kept
+returns-in_err-copy-clause-kept g c =
+    node_stays g.D.Disk c.from_residual.result c.args.self.now c.from_residual.ensures.1
+
+pub returns-in_err-due-clause-kept : goal.returns-in_err-due-clause-kept
+returns-in_err-due-clause-kept g c =
+    let told = c.from_residual-in_err-due.ensures in
+    node_stops g.D.Disk c.from_residual-in_err-due.result c.append_batch.result c.args.self.now
+    c.append_batch.new.self c.in_err-due.field-0.0 c.in_err-due.was told.0 told.1
+    c.append_batch.ensures.kept
+
+pub returns-clause-kept : goal.returns-clause-kept
+returns-clause-kept g c =
+    node_goes_on g.D.Disk c.output_of_append.result c.append_batch.result c.args.self.now
+    c.append_batch.new.self c.in_ok-due.was c.output_of_append.ensures.memory
+    c.append_batch.ensures.kept

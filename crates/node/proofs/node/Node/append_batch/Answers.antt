@@ -1,4 +1,4 @@
-use Rattle.std.proofs.Common.{rules, sym, subst, ℕ, inr, ◌∙◌}
+use Rattle.std.proofs.Common.{sym, subst, ℕ, inr, ◌∙◌}
 use Rattle.std.proofs.lemmas.Result.{err_from_is_err_and}
 use Rattle.chain_core.specs as core
 use Rattle.chain_core.specs.{done_of}
@@ -6,6 +6,8 @@ use Rattle.node.specs.Stops.{IsEnvironmental}
 use Rattle.node.proofs.Running.{with_engine, with_core, counts_appended, keeps_kept}
 use Rattle.node.proofs.Running.{holds_appended}
 use Rattle.node.proofs.Running.{appends, goes_on, ends_stopped}
+use Rattle.std.proofs.lemmas.Result.{IfOk-from_err}
+use Rattle.node.proofs.Keeping.{answered, done, kept_as, memory_told, neither, stop_passed}
 use Rattle.node.proofs.node.Node.append_batch.Goals as goal
 
 -- the store stopped, and a crash leaves its batches with or without the new one
@@ -73,10 +75,32 @@ returns-clause-kept g c =
     let kept = keeps_kept c.steps_leave.ensures old c.after.new.self c.args.done due
     c.in_ok-after.ensures.after in
     record {
-      disk = search rules;
+      disk = kept_as g.D.Disk (neither (answered c.append.result c.in_ok-append.was) done)
+          (λ a b kept. kept) c.append.ensures.kept;
       works = record {
         usable = usable.0;
         count = rw (usable.1, ← c.requires.may.count) count;
         kept = kept ∙ c.requires.may.kept ∙ sym usable.2;
       };
+    }
+
+-- without the store's part it is not ready
+pub returns-in_err-append-clause-kept : goal.returns-in_err-append-clause-kept
+returns-in_err-append-clause-kept g c =
+    let told = c.from_residual.ensures in
+    record {
+      disk = kept_as g.D.Disk (stop_passed c.append.result c.in_err-append.field-0.0
+          c.from_residual.result c.in_err-append.was told.1) (λ a b kept. kept)
+          c.append.ensures.kept;
+      works = IfOk-from_err c.from_residual.result _ told.0;
+    }
+
+pub returns-in_err-after-clause-kept : goal.returns-in_err-after-clause-kept
+returns-in_err-after-clause-kept g c =
+    let told = c.from_residual-in_err-after.ensures in
+    record {
+      disk = kept_as g.D.Disk (neither (answered c.append.result c.in_ok-append.was)
+          (memory_told c.from_residual-in_err-after.result told.1)) (λ a b kept. kept)
+          c.append.ensures.kept;
+      works = IfOk-from_err c.from_residual-in_err-after.result _ told.0;
     }

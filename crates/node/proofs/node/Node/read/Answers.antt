@@ -4,6 +4,7 @@ use Rattle.chain_model.specs.{reply_read}
 use Rattle.node.specs.Stops.{IsEnvironmental}
 use Rattle.node.proofs.Outputs.{readable, tells_read}
 use Rattle.node.proofs.Running.{with_engine, still_refines, still_runs, ends, ends_stopped}
+use Rattle.node.proofs.Steps.{node_has_read, node_reads}
 use Rattle.node.proofs.node.Node.read.Goals as goal
 
 -- the value could not be had, and the engine holds what it held
@@ -42,3 +43,21 @@ returns-clause-ends g c = λ x n input read r.
     (still_refines g.D.Disk c.durable_is_left.ensures old c.get.new.disk x n a.node r
     (c.get.ensures.still r.honest)) runs tells
     c.value_output.ensures.memory
+
+-- a read keeps the store
+pub returns-in_err-value-clause-kept : goal.returns-in_err-value-clause-kept
+returns-in_err-value-clause-kept g c =
+    let old = c.args.self.now in
+    let told = c.from_residual.ensures in
+    node_reads g.D.Disk c.from_residual.result c.get.result old
+    (with_engine old c.get.new.disk old.engine) c.requires c.in_err-value.field-0.0
+    c.in_err-value.was told.0 told.1 c.get.ensures.kept
+
+pub returns-clause-kept : goal.returns-clause-kept
+returns-clause-kept g c =
+    let old = c.args.self.now in
+    let ready = c.requires in
+    node_has_read g.D.Disk c.value_output.result c.get.result old
+    (with_engine old c.get.new.disk old.engine) c.in_ok-value.was c.value_output.ensures.memory
+    (record { usable = ready.usable; count = ready.count; kept = ready.kept })
+    c.get.ensures.kept

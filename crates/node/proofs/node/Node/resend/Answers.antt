@@ -5,6 +5,7 @@ use Rattle.chain_model.specs.{resend}
 use Rattle.node.specs.Outputs.{OutputRefines}
 use Rattle.node.specs.Stops.{IsEnvironmental}
 use Rattle.node.proofs.Running.{with_engine, still_refines, still_runs, ends, ends_stopped}
+use Rattle.node.proofs.Steps.{node_has_read, node_reads}
 use Rattle.node.proofs.node.Node.resend.Goals as goal
 
 -- a batch could not be had, and the engine holds what it held
@@ -38,3 +39,21 @@ returns-clause-ends g c = λ x n input r.
     ends g.D.Disk old node x n input (resend x n) c.output_of.result
     (still_refines g.D.Disk c.durable_is_left.ensures old c.resent.new.disk x n n r
     (c.resent.ensures.still r.honest)) runs tells c.output_of.ensures.memory
+
+-- what is read of the store is kept
+pub returns-in_err-sent-clause-kept : goal.returns-in_err-sent-clause-kept
+returns-in_err-sent-clause-kept g c =
+    let old = c.args.self.now in
+    let told = c.from_residual.ensures in
+    node_reads g.D.Disk c.from_residual.result c.resent.result old
+    (with_engine old c.resent.new.disk old.engine) c.requires c.in_err-sent.field-0.0
+    c.in_err-sent.was told.0 told.1 c.resent.ensures.kept
+
+pub returns-clause-kept : goal.returns-clause-kept
+returns-clause-kept g c =
+    let old = c.args.self.now in
+    let ready = c.requires in
+    node_has_read g.D.Disk c.output_of.result c.resent.result old
+    (with_engine old c.resent.new.disk old.engine) c.in_ok-sent.was c.output_of.ensures.memory
+    (record { usable = ready.usable; count = ready.count; kept = ready.kept })
+    c.resent.ensures.kept
