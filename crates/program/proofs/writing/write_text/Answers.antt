@@ -1,4 +1,5 @@
 use Rattle.std.proofs.Common.{arith}
+use Rattle.std.proofs.lemmas.Grind.{common_steps}
 use Rattle.program.proofs.Written.{writes_more}
 use Rattle.program.proofs.writing.write_text.Goals as goal
 
@@ -10,3 +11,6 @@ loop-preserved g c =
           c.in_ok-count.count c.loop.invariant.within (omega arith) c.loop.invariant.wrote
           c.in_ok-count.ensures.some;
     }
+
+pub returns-then-written-bytes-clause-whole : goal.returns-then-written-bytes-clause-whole
+returns-then-written-bytes-clause-whole g c = grind (arith, common_steps)

@@ -1,4 +1,5 @@
-use Rattle.std.proofs.Common.{rules}
+use Rattle.std.proofs.Common.{rules, arith}
+use Rattle.std.proofs.lemmas.Grind.{common_steps}
 use Rattle.program.proofs.Edits.{is_put}
 use Rattle.program.proofs.script.edit.raw_edit_of.Goals as goal
 
@@ -8,3 +9,6 @@ returns c = search (
   is_put c.args.word.now c.in-Some-3.key.items c.in-Some-4.value.items
       c.in-Some-place_of_equals.place,
 )
+
+pub returns-in_default-3 : goal.returns-in_default-3
+returns-in_default-3 c = grind (arith, common_steps)

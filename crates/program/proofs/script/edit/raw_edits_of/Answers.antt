@@ -1,5 +1,6 @@
 use Rattle.std.proofs.Common.{arith}
 use Rattle.std.proofs.lemmas.Grind.{common_steps}
+use Rattle.std.proofs.lemmas.Grind.{common_steps}
 use Rattle.std.proofs.lemmas.List.Elements.{All-push}
 use Rattle.program.specs.Statements.{AreBytesIn}
 use Rattle.program.specs.Edits.{edit_of}
@@ -16,3 +17,9 @@ loop-word-preserved c =
           (edit_of c.in-Some.change) was.each_bytes one.1);
       spelled = grind (arith, common_steps);
     }
+
+pub returns-in-None : goal.returns-in-None
+returns-in-None c = grind (arith, common_steps)
+
+pub returns : goal.returns
+returns c = grind (arith, common_steps)

@@ -1,4 +1,5 @@
 use Rattle.std.proofs.Common.{map, refl, arith}
+use Rattle.std.proofs.lemmas.Grind.{common_steps}
 use Rattle.program.proofs.Places.{only_word}
 use Rattle.program.proofs.Placing.{read_delivery, delivers, undelivered}
 use Rattle.program.proofs.script.reader.deliver.Goals as goal
@@ -24,3 +25,12 @@ returns c =
     (only_word c.split_fault.result.0.now _ _
     (omega (arith, c.in-len1.len_at_least, c.in-len1.len_below)) word.2) c.in_ok-fault.ensures)
     (rw c.if-is_none.ensures refl)
+
+pub returns-in_default : goal.returns-in_default
+returns-in_default c = grind (arith, common_steps)
+
+pub returns-in_default-number : goal.returns-in_default-number
+returns-in_default-number c = grind (arith, common_steps)
+
+pub returns-in_err-fault : goal.returns-in_err-fault
+returns-in_err-fault c = grind (arith, common_steps)

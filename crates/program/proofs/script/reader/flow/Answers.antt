@@ -1,4 +1,5 @@
 use Rattle.std.proofs.Common.{map, sym, refl, ◌∙◌, arith}
+use Rattle.std.proofs.lemmas.Grind.{common_steps}
 use Rattle.std.proofs.lemmas.Bool.Decides.{nat_tests}
 use Rattle.program.proofs.Places.{no_word}
 use Rattle.program.proofs.Placing.{flows}
@@ -13,3 +14,12 @@ returns c =
     (sym (no_word c.split_fault.result.0.now (grind (arith, nat_tests, empty))) ∙ cut.before)
     (sym (no_word c.split_fault.result.1.now (grind (arith, nat_tests, bare))) ∙ cut.behind)
     (rw c.if-is_none.ensures refl)
+
+pub returns-then-not-is_empty : goal.returns-then-not-is_empty
+returns-then-not-is_empty c = grind (arith, common_steps)
+
+pub returns-then-not-is_empty-2 : goal.returns-then-not-is_empty-2
+returns-then-not-is_empty-2 c = grind (arith, common_steps)
+
+pub returns-then-is_none : goal.returns-then-is_none
+returns-then-is_none c = grind (arith, common_steps)

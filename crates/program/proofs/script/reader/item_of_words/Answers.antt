@@ -1,4 +1,5 @@
-use Rattle.std.proofs.Common.{rules, codes, map, take, drop, length, ◌-◌}
+use Rattle.std.proofs.Common.{rules, codes, map, take, drop, length, ◌-◌, arith}
+use Rattle.std.proofs.lemmas.Grind.{common_steps}
 use Rattle.program.proofs.Places.{named_word}
 use Rattle.program.proofs.Placing.{is_config}
 use Rattle.program.proofs.script.reader.item_of_words.Goals as goal
@@ -10,3 +11,15 @@ returns-then-eq c =
     (drop 1 ws))) c.in_ok-config.config
     (named_word ws (codes "config") c.in-len1-up.len_at_least (search rules)) e.1 e.2 e.3 e.4 e.0
     c.in_ok-only.field-0 c.in_ok-only.ensures
+
+pub returns-in_default : goal.returns-in_default
+returns-in_default c = grind (arith, common_steps)
+
+pub returns-in_err-config : goal.returns-in_err-config
+returns-in_err-config c = grind (arith, common_steps)
+
+pub returns-in_err-statement : goal.returns-in_err-statement
+returns-in_err-statement c = grind (arith, common_steps)
+
+pub returns : goal.returns
+returns c = grind (arith, common_steps)

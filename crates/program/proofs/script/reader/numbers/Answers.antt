@@ -1,5 +1,6 @@
 use Rattle.std.proofs.Common.{arith}
 use Rattle.std.proofs.lemmas.Grind.{common_steps}
+use Rattle.std.proofs.lemmas.Grind.{common_steps}
 use Rattle.program.specs.Words.{is_number}
 use Rattle.program.proofs.Places.{all_texts}
 use Rattle.program.proofs.script.reader.numbers.Goals as goal
@@ -13,3 +14,6 @@ returns c = (
   grind (arith, common_steps),
   grind (arith, common_steps),
 )
+
+pub loop-word-preserved : goal.loop-word-preserved
+loop-word-preserved c = grind (arith, common_steps)

@@ -1,4 +1,5 @@
-use Rattle.std.proofs.Common.{rules, ◌∙◌}
+use Rattle.std.proofs.Common.{rules, ◌∙◌, arith}
+use Rattle.std.proofs.lemmas.Grind.{common_steps}
 use Rattle.program.proofs.Texts.{not_bytes, bytes_done}
 use Rattle.program.proofs.script.word.bytes_of.Goals as goal
 
@@ -11,3 +12,12 @@ returns c =
     let done = bytes_done c.args.word.now c.loop-rest.bytes.items (search rules) (search rules)
     (search rules) in
     (done.0, c.loop-rest.invariant.each, done.1)
+
+pub loop-rest-preserved-in-Some : goal.loop-rest-preserved-in-Some
+loop-rest-preserved-in-Some c = grind (arith, common_steps)
+
+pub loop-rest-preserved : goal.loop-rest-preserved
+loop-rest-preserved c = grind (arith, common_steps)
+
+pub returns-then-is_empty-2 : goal.returns-then-is_empty-2
+returns-then-is_empty-2 c = grind (arith, common_steps)

@@ -1,4 +1,5 @@
-use Rattle.std.proofs.Common.{rules}
+use Rattle.std.proofs.Common.{rules, arith}
+use Rattle.std.proofs.lemmas.Grind.{common_steps}
 use Rattle.program.proofs.Texts.{escape_at, tail3}
 use Rattle.program.proofs.script.word.first_byte.Goals as goal
 
@@ -8,3 +9,9 @@ returns-else-is_itself c =
     c.args.text.now in
     rw (tail3 t) (escape_at t _ _ c.in-37.len_at_least (search rules) h.0 h.1 h.2 l.0 l.1 l.2
     (search rules))
+
+pub returns-then-is_itself : goal.returns-then-is_itself
+returns-then-is_itself c = grind (arith, common_steps)
+
+pub returns-in-len1-up : goal.returns-in-len1-up
+returns-in-len1-up c = grind (arith, common_steps)

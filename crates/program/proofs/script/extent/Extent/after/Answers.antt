@@ -1,4 +1,5 @@
-use Rattle.std.proofs.Common.{rules, ◌++◌, take}
+use Rattle.std.proofs.Common.{rules, ◌++◌, take, arith}
+use Rattle.std.proofs.lemmas.Grind.{common_steps}
 use Rattle.program.proofs.Beginnings.{fault_among}
 use Rattle.program.proofs.script.extent.Extent.after.Goals as goal
 
@@ -8,3 +9,9 @@ returns-in_err-extent c = λ text has.
     (c.in_err-extent.ensures (text ++ take c.loop-byte.byte-index c.args.bytes.now)
     (c.loop-byte.invariant text has)) in
     search (rules, faulty)
+
+pub loop-byte-preserved : goal.loop-byte-preserved
+loop-byte-preserved c = grind (arith, common_steps)
+
+pub returns : goal.returns
+returns c = grind (arith, common_steps)
