@@ -1,7 +1,11 @@
 //! What the program's words ask for.
-ghost use Rattle.std.specs.Prelude.{◌≡◌, ◌≢◌, ◌∷◌, [], ℕ, List, false, map, codes, Some};
-ghost use Rattle.std.specs.Prelude.{IfSome};
-ghost use Rattle.program.specs.Invocations.{lab_script, is_dashed};
+ghost use Rattle.std.specs.Prelude.{◌≡◌, ◌≢◌, ℕ, List, false, map, codes, Ok, Some, None, IfOk};
+ghost use Rattle.std.specs.Prelude.{MatchOption};
+ghost use Rattle.program.specs.Invocations.{lab_script as script_of, is_dashed};
+
+use clap::error::ErrorKind;
+use clap::{Arg, ArgAction, Command};
+use std::alloc::{AllocError, Global};
 
 /// What the words ask for.
 pub enum Invocation<'a> {
@@ -11,8 +15,49 @@ pub enum Invocation<'a> {
     Script(&'a str),
 }
 
+/// Why the words are no request.
+#[derive(Clone, Copy)]
+pub enum WordsError {
+    Usage,
+    Memory,
+}
+
 /// The line for words that are no request.
 pub const USAGE: &str = "usage: chainstore lab SCRIPT | loop SCRIPT --dir D | dump DIR";
+
+/// The words that the program knows.
+fn grammar<'a>(alloc: Global) -> Result<Command<'a>, AllocError> {
+    let script = Arg::new(alloc, "SCRIPT")
+        .required(true)
+        .action(ArgAction::Set);
+    let lab = Command::new(alloc, "lab")
+        .disable_help_flag(true)
+        .arg(script)?;
+    Command::new(alloc, "chainstore")
+        .subcommand_required(true)
+        .disable_help_flag(true)
+        .disable_help_subcommand(true)
+        .subcommand(lab)
+}
+
+fn parsed<'a>(alloc: Global, words: &'a [&'a str]) -> Result<Option<&'a str>, clap::Error> {
+    let matches = grammar(alloc)?.try_get_matches_from(words)?;
+    match matches.subcommand_matches("lab") {
+        None => Ok(None),
+        Some(lab) => Ok(lab.get_str("SCRIPT")),
+    }
+}
+
+/// The script of words in their plain form.
+fn lab_script<'a>(words: &'a [&'a str]) -> Option<&'a str>
+    ensures { MatchOption result (script_of (map (λ w. w.now) words.now) ≡ None)
+        (λ script. script_of (map (λ w. w.now) words.now) ≡ Some script.now) }
+{
+    match words {
+        [_, name, script] if *name == "lab" => Some(*script),
+        _ => None,
+    }
+}
 
 fn begins_with_dash(word: &str) -> bool
     ensures { result ≡ is_dashed word.now }
@@ -23,53 +68,27 @@ fn begins_with_dash(word: &str) -> bool
     }
 }
 
-/// The run of a script: `-` stands for standard input.
-fn run_of(script: &str) -> Invocation<'_>
-    ensures input { script.now ≡ codes "-" → result ≡ Invocation.Input }
-    ensures path { is_dashed script.now ≡ false → result ≢ Invocation.Input }
+/// The request that the words spell. The first word is the program's name. What words of the plain
+/// form ask for is decided here, and a contract says it; the parser decides on all others.
+pub fn invocation_of<'a>(alloc: Global, words: &'a [&'a str]) -> Result<Invocation<'a>, WordsError>
+    ensures input { script_of (map (λ w. w.now) words.now) ≡ Some (codes "-") →
+        result ≡ Ok Invocation.Input }
+    ensures path { (path : List ℕ) → script_of (map (λ w. w.now) words.now) ≡ Some path →
+        is_dashed path ≡ false → IfOk result (λ request. request ≢ Invocation.Input) }
 {
-    if script == "-" {
-        Invocation::Input
-    } else {
-        Invocation::Script(script)
+    if let Some(script) = lab_script(words) {
+        if script == "-" {
+            return Ok(Invocation::Input);
+        }
+        if !begins_with_dash(script) {
+            return Ok(Invocation::Script(script));
+        }
     }
-}
-
-/// The run of a script that is no option.
-fn run_of_plain(script: &str) -> Option<Invocation<'_>>
-    ensures input { script.now ≡ codes "-" → result ≡ Some Invocation.Input }
-    ensures path { is_dashed script.now ≡ false → IfSome result (λ it. it ≢ Invocation.Input) }
-{
-    if script == "-" || !begins_with_dash(script) {
-        Some(run_of(script))
-    } else {
-        None
-    }
-}
-
-/// The run that the words behind `lab` ask for. Behind `--` any word is a script.
-fn lab_request<'a>(words: &[&'a str]) -> Option<Invocation<'a>>
-    ensures input { map (λ w. w.now) words.now ≡ codes "-" ∷ [] → result ≡ Some Invocation.Input }
-    ensures path { (path : List ℕ) → map (λ w. w.now) words.now ≡ path ∷ [] →
-        is_dashed path ≡ false → IfSome result (λ request. request ≢ Invocation.Input) }
-{
-    match words {
-        [script] => run_of_plain(script),
-        [first, script] if *first == "--" => Some(run_of(script)),
-        [script, last] if *last == "--" => run_of_plain(script),
-        _ => None,
-    }
-}
-
-/// The request that the words spell, if they spell one. The first word is the program's name.
-pub fn invocation_of<'a>(words: &[&'a str]) -> Option<Invocation<'a>>
-    ensures input { lab_script (map (λ w. w.now) words.now) ≡ Some (codes "-") →
-        result ≡ Some Invocation.Input }
-    ensures path { (path : List ℕ) → lab_script (map (λ w. w.now) words.now) ≡ Some path →
-        is_dashed path ≡ false → IfSome result (λ request. request ≢ Invocation.Input) }
-{
-    match words {
-        [_, name, behind @ ..] if *name == "lab" => lab_request(behind),
-        _ => None,
+    match parsed(alloc, words) {
+        Ok(Some("-")) => Ok(Invocation::Input),
+        Ok(Some(script)) => Ok(Invocation::Script(script)),
+        Ok(None) => Err(WordsError::Usage),
+        Err(error) if error.kind() == ErrorKind::OutOfMemory => Err(WordsError::Memory),
+        Err(_) => Err(WordsError::Usage),
     }
 }

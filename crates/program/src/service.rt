@@ -8,7 +8,7 @@ ghost use Rattle.program.specs.Runs.{RunEnds, RunEndsAs, RunHasFailed, IsRunOfTe
 ghost use Rattle.program.specs.declared.failure.Failure.{Failure as Cause};
 
 use crate::failure::Failure;
-use crate::invocation::{Invocation, USAGE, invocation_of};
+use crate::invocation::{Invocation, USAGE, WordsError, invocation_of};
 use crate::run_input::run_input;
 use std::alloc::Global;
 use std::fs::OpenOptions;
@@ -34,10 +34,11 @@ pub fn serve<F: Files + Alloc<A = Global>, R: Read, O: Write, E: Write>(
     ensures status { result ≤ 2 }
     ensures usage { result ≡ 2 → O.contents out.new ≡ O.contents out.old }
 {
-    match invocation_of(words) {
-        Some(Invocation::Input) => end(serve_script(rt.alloc(), input, out, err)),
-        Some(Invocation::Script(path)) => serve_path(rt, path, out, err),
-        None => refuse(err),
+    match invocation_of(rt.alloc(), words) {
+        Ok(Invocation::Input) => end(serve_script(rt.alloc(), input, out, err)),
+        Ok(Invocation::Script(path)) => serve_path(rt, path, out, err),
+        Err(WordsError::Memory) => report(err, Failure::Memory),
+        Err(WordsError::Usage) => refuse(err),
     }
 }
 

@@ -10,10 +10,6 @@ const REFUSED: &[&[&str]] = &[
     &["chainstore", "lab"],
     &["chainstore", "lab", "-", "-"],
     &["chainstore", "lab", "-x"],
-    &["chainstore", "lab", "-x", "--"],
-    &["chainstore", "lab", "--"],
-    &["chainstore", "lab", "--", "-", "--"],
-    &["chainstore", "--", "lab", "-"],
     &["chainstore", "lab", "--help"],
     &["chainstore", "--help"],
     &["chainstore", "-h"],
@@ -38,7 +34,6 @@ fn words_name_a_script(rt: HostRuntime) {
     for words in [
         ["chainstore", "lab", "-"].as_slice(),
         &["chainstore", "lab", "--", "-"],
-        &["chainstore", "lab", "-", "--"],
     ] {
         let outcome = called(&rt, words, SCRIPT);
         assert!(rt; outcome.prints(b"2: committed 1\n3: value 1 at 1\n", b""));
