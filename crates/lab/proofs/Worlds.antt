@@ -3,7 +3,7 @@ use Rattle.std.proofs.Common.{◌≡◌, ℕ, ◌+◌, ◌≤◌, List, [], ◌�
 use Rattle.std.proofs.Common.{Bool, true, false}
 use Rattle.std.proofs.Common.{refl, sym, ap, subst, ◌∙◌, arith, append-nil}
 use Rattle.std.proofs.Math.Seq.{map-set_same}
-use Rattle.std.proofs.lemmas.List.{set-set, get_or_default}
+use Rattle.std.proofs.lemmas.List.{get_or_default, length-set, set-set}
 use Rattle.std.specs.Prelude.{All, Option, Some, None, MatchOption}
 use Rattle.std.proofs.lemmas.Bool.{false≢true}
 use Rattle.std.proofs.lemmas.Option.{MatchOption-at_none, MatchOption-at_some}
@@ -138,6 +138,12 @@ moved old i x between was was' now node_input it did at out id refines disk only
       forgets = subst (λ (s : SimNode). IsUnarmed (disk_in s.state) →
           IsUnarmed (disk_in now.state)) is forgets;
     }
+
+-- .. and there are as many nodes as before
+pub as_many : (old : List SimNode) (x : ℕ) (node_input : NodeInput) (it : Fault)
+    (did : StepOutcome) (now : List SimNode) → HasMoved old x node_input it did now →
+    length now ≡ length old
+as_many old x node_input it did now t = ap length t.others ∙ length-set old t.index t.sim
 
 -- in every run frames are in order
 abbrev pub AlwaysInOrder : Type 0

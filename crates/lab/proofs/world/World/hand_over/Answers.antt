@@ -1,24 +1,31 @@
-use Rattle.std.proofs.Common.{List, subst}
+use Rattle.std.proofs.Common.{List, sym, subst, ◌∙◌}
+use Rattle.std.proofs.lemmas.List.{with_items_is}
 use Rattle.disk.specs.declared.Fault.{Fault}
 use Rattle.lab.specs.declared.sim_node.SimNode.{SimNode}
 use Rattle.lab.specs.Worlds.{HasMoved}
+use Rattle.lab.proofs.Worlds.{as_many}
 use Rattle.lab.proofs.world.World.hand_over.Goals as goal
 
 -- the node took what the event brought, with the event's fault
 pub returns : goal.returns
 returns c =
     let it = c.args.delivery in
+    let nodes = c.args.self.now.nodes in
     let did = c.in_ok-outcome.outcome in
     let now = c.step_at.new.nodes in
-    let took = subst (λ (f : Fault). HasMoved c.deref_mut.result.now it.0 it.1 f did now)
-    c.in_ok-fault.ensures c.in_ok-outcome.ensures in
+    let took = subst (λ (l : List SimNode). HasMoved l it.0 it.1 c.args.event.now.fault did now)
+    c.deref_mut.ensures.value
+    (subst (λ (f : Fault). HasMoved c.deref_mut.result.now it.0 it.1 f did now)
+    c.in_ok-fault.ensures c.in_ok-outcome.ensures) in
+    let size = as_many nodes.items it.0 it.1 c.args.event.now.fault did now took
+    ∙ sym nodes.ok.0 in
     record {
       lines = c.in_ok-lines.lines;
       keeps = record { taken = c.in_ok-keep.ensures; kept = c.in_ok-push.ensures.items };
       stepped = record {
         did = did;
-        took = subst (λ (l : List SimNode). HasMoved l it.0 it.1 c.args.event.now.fault did now)
-            c.deref_mut.ensures.value took;
+        took = subst (λ (l : List SimNode). HasMoved nodes.items it.0 it.1
+            c.args.event.now.fault did l) (sym (with_items_is nodes now size)) took;
         sent = c.in_ok-lines.ensures.posted;
         traced = c.in_ok-lines.ensures.lines;
       };
