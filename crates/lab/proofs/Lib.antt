@@ -1,6 +1,6 @@
 mod Rests
 mod Faults
-mod Taking
+mod Dispatching
 mod Disks
 mod Posting
 mod Reading

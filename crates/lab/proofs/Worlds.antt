@@ -47,7 +47,7 @@ use Rattle.lab.specs.Traces.{modelled_from}
 use Rattle.lab.specs.Worlds.{PostedRefines, SimNodeRefines, HasMoved, HasNoNode, HasStepped}
 use Rattle.lab.specs.Worlds.{RunRefines}
 use Rattle.lab.specs.Worlds.{HasRun}
-use Rattle.lab.specs.Worlds.{HasApplied, HasHanded, HasPassed, Ignores, IsIndexOf, StopsNode}
+use Rattle.lab.specs.Worlds.{HasApplied, HasDelivered, HasPassed, Ignores, IsIndexOf, StopsNode}
 use Rattle.lab.specs.Worlds.{Takes}
 use Rattle.lab.specs.Worlds.{frames_of_step}
 use Rattle.lab.proofs.Posting.{zip_both}
@@ -427,9 +427,9 @@ module _ (in_order : AlwaysInOrder) (cs : Configurations) (events : List Event)
       new.nodes.items)
 
   -- one that is for a node is applied by the node's step
-  pub handed_after : (it : ℕ × NodeInput) → found ≡ Some it →
-      HasHanded old new event it.0 it.1 → HasApplied old new cs events steps event
-  handed_after it is h =
+  pub delivered_after : (it : ℕ × NodeInput) → found ≡ Some it →
+      HasDelivered old new event it.0 it.1 → HasApplied old new cs events steps event
+  delivered_after it is h =
       let now : List SimNode = new.nodes.items in
       let more : List Posted = new.frames.items in
       Takes (named_after in_order cs events steps sims posted run.made i next event found fits it

@@ -214,11 +214,10 @@ StateFollows is_honest state failures calls (Down disk) (to_node.BadFrame why) n
 StateFollows is_honest state failures calls (Down disk) to_node.Start new = Unit {0}
 StateFollows is_honest state failures calls (Down disk) (to_node.Stop junk) new = new ≡ Down disk
 
--- ---- the whole of it
+-- ---- one input of a node
 
--- a node that had this state took this input, and its disk had this fault meanwhile: such are its
--- new state and its outcome
-pub record HasTaken {D : Type 0} (g : Ghosts D) (fault : Fault) (node_input : NodeInput)
+-- a node in the old state took this input, with this fault armed: its new state and its outcome
+pub record HasDispatched {D : Type 0} (g : Ghosts D) (fault : Fault) (node_input : NodeInput)
     (old new : NodeState D) (did : StepOutcome) : Type 0 where
   pub ready : StateIsReady new
   pub refines : (x : ℕ) (n : Machine) → StateRefines g.is_honest g.state old x n →

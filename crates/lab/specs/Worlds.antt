@@ -202,14 +202,14 @@ pub record HasKept (old new : World) (event : Event) (lines : List Line) : Type 
   pub taken : events_in new.events.items ≡ events_in old.events.items ++ event ∷ []
   pub kept : new.steps.items ≡ old.steps.items ++ lines ∷ []
 
--- .. and is as it was otherwise, as the event brought nothing to any node
+-- the world kept an event that brought nothing to any node, and is as it was otherwise
 pub record HasPassed (old new : World) (event : Event) : Type 0 where
   pub keeps : HasKept old new event (line.Nothing ∷ [])
   pub nodes : new.nodes.items ≡ old.nodes.items
   pub frames : new.frames.items ≡ old.frames.items
 
--- .. and node x took the input that the event brought
-pub record HasHanded (old new : World) (event : Event) (x : ℕ) (node_input : NodeInput) : Type 0
+-- the world kept an event, and node x took its input
+pub record HasDelivered (old new : World) (event : Event) (x : ℕ) (node_input : NodeInput) : Type 0
   where
     pub lines : List Line
     pub keeps : HasKept old new event lines

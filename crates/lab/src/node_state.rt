@@ -8,7 +8,7 @@ ghost use Rattle.node.specs.{DiskAlwaysRefines, IsReady, NodeRefines, StopRefine
 ghost use Rattle.lab.specs.Disks.{junk_at_end};
 ghost use Rattle.lab.specs.Events.{told_cause};
 ghost use Rattle.lab.specs.SimNodes.{StateRefines, StateIsReady, calls_of, disk_in};
-ghost use Rattle.lab.specs.Outcomes.{DiskFits, HasCrashed, HasHandled, HasStarted, HasTaken};
+ghost use Rattle.lab.specs.Outcomes.{DiskFits, HasCrashed, HasHandled, HasStarted, HasDispatched};
 ghost use Rattle.lab.specs.Outcomes.{IsExplained, has_struck_in};
 
 use crate::input::{NodeInput, StepOutcome, dropped, output_down};
@@ -134,14 +134,14 @@ fn step<D: Crash + Drop>(
 }
 
 // A node that is up takes an input, on a disk with this fault.
-fn take_up<D: Crash + Drop>(
+fn dispatch_up<D: Crash + Drop>(
     alloc: Global,
     node: Node<D>,
     input: NodeInput,
     fault: Fault,
 ) -> (NodeState<D>, StepOutcome)
     requires { IsReady node }
-    ensures { HasTaken D.Disk fault input (NodeState.Up node) result.0 result.1 }
+    ensures { HasDispatched D.Disk fault input (NodeState.Up node) result.0 result.1 }
 {
     match input {
         NodeInput::Step(input) => step(alloc, node, input, fault),
@@ -161,14 +161,14 @@ fn take_up<D: Crash + Drop>(
 }
 
 // A node that is down takes an input: it can only be started.
-fn take_down<D: Crash + Drop>(
+fn dispatch_down<D: Crash + Drop>(
     alloc: Global,
     disk: D,
     input: NodeInput,
     fault: Fault,
     limits: &Limits,
 ) -> Result<(NodeState<D>, StepOutcome), AllocError>
-    ensures { IfOk result (λ it. HasTaken D.Disk fault input (NodeState.Down disk) it.0 it.1) }
+    ensures { IfOk result (λ it. HasDispatched D.Disk fault input (NodeState.Down disk) it.0 it.1) }
 {
     match input {
         NodeInput::Step(input) => {
@@ -194,11 +194,11 @@ impl<D: Crash + Drop> NodeState<D> {
         limits: &Limits,
     ) -> Result<(NodeState<D>, StepOutcome), AllocError>
         requires { StateIsReady self }
-        ensures { IfOk result (λ it. HasTaken D.Disk fault input self it.0 it.1) }
+        ensures { IfOk result (λ it. HasDispatched D.Disk fault input self it.0 it.1) }
     {
         match self {
-            NodeState::Up(node) => Ok(take_up(alloc, node, input, fault)),
-            NodeState::Down(disk) => take_down(alloc, disk, input, fault, limits),
+            NodeState::Up(node) => Ok(dispatch_up(alloc, node, input, fault)),
+            NodeState::Down(disk) => dispatch_down(alloc, disk, input, fault, limits),
         }
     }
 }

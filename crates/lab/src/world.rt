@@ -14,7 +14,7 @@ ghost use Rattle.lab.specs.Runs.{IsRun};
 ghost use Rattle.lab.specs.History.{OneHistory};
 ghost use Rattle.lab.specs.Worlds.{HasRun, HasApplied, HasEnded, AreCreated, AreLeft, IsCreated};
 ghost use Rattle.lab.specs.Worlds.{IsLeft, IsRunSoFar, HasHistory, StopsNode, IsIndexOf, HasNoNode};
-ghost use Rattle.lab.specs.Worlds.{HasHanded, HasMoved, HasPassed};
+ghost use Rattle.lab.specs.Worlds.{HasDelivered, HasMoved, HasPassed};
 ghost use Rattle.lab.specs.Worlds.{events_in, frames_in_steps};
 
 use crate::delivery::{Posted, delivery_of};
@@ -142,8 +142,8 @@ fn index_of(nodes: &[SimNode], id: NodeId) -> Option<usize>
     nodes.iter().position(|node| node.id == id)
 }
 
-// Hands an input to the node at an index, with this fault on its disk meanwhile. Without memory the
-// node is lost.
+// Delivers an input to the node at an index, with this fault armed meanwhile. Where memory is short
+// the node is lost.
 fn step_at(
     alloc: Global,
     nodes: &mut [SimNode],
@@ -189,8 +189,8 @@ impl World {
         Ok(())
     }
 
-    // Hands what an event brings to the node at this index, which it is for.
-    fn hand_over(
+    // Delivers the input of an event to the node at this index, and keeps the event and its lines.
+    fn deliver(
         &mut self,
         alloc: Global,
         event: &Event,
@@ -198,7 +198,7 @@ impl World {
         delivery: (NodeId, NodeInput),
     ) -> Result<(), LabError>
         requires { IsIndexOf self.old.nodes.items index delivery.0 }
-        ensures { OnOk result (HasHanded self.old self.new event.now delivery.0 delivery.1) }
+        ensures { OnOk result (HasDelivered self.old self.new event.now delivery.0 delivery.1) }
     {
         keep(&mut self.events, event)?;
         let fault = event.fault.clone()?;
@@ -228,7 +228,7 @@ impl World {
         let Some(index) = index_of(&self.nodes, to) else {
             return Ok(());
         };
-        self.hand_over(alloc, event, index, delivery)
+        self.deliver(alloc, event, index, delivery)
     }
 
     /// Applies an event to the node that it is for. One that names a node which the world does not

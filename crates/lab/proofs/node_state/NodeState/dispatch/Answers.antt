@@ -1,17 +1,17 @@
 use Rattle.std.proofs.Common.{sym, subst}
 use Rattle.lab.specs.declared.node_state.NodeState.{NodeState}
 use Rattle.std.specs.Prelude.{IfOk}
-use Rattle.lab.specs.Outcomes.{HasTaken}
+use Rattle.lab.specs.Outcomes.{HasDispatched}
 use Rattle.lab.proofs.node_state.NodeState.dispatch.Goals as goal
 
 -- a node that is up takes it, or one that is down
 pub returns-in-Up : goal.returns-in-Up
 returns-in-Up g c =
-    subst (λ (m : NodeState _). HasTaken g.D.Disk c.args.fault c.args.input m c.take_up.result.0
-    c.take_up.result.1) (sym c.in-Up.is) c.take_up.ensures
+    subst (λ (m : NodeState _). HasDispatched g.D.Disk c.args.fault c.args.input m c.dispatch_up.result.0
+    c.dispatch_up.result.1) (sym c.in-Up.is) c.dispatch_up.ensures
 
 pub returns-in-Down : goal.returns-in-Down
 returns-in-Down g c =
-    subst (λ (m : NodeState _). IfOk c.take_down.result
-    (λ it. HasTaken g.D.Disk c.args.fault c.args.input m it.0 it.1)) (sym c.in-Down.is)
-    c.take_down.ensures
+    subst (λ (m : NodeState _). IfOk c.dispatch_down.result
+    (λ it. HasDispatched g.D.Disk c.args.fault c.args.input m it.0 it.1)) (sym c.in-Down.is)
+    c.dispatch_down.ensures

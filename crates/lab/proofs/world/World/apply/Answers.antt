@@ -4,7 +4,7 @@ use Rattle.std.proofs.lemmas.Result.{on_ok_weaker}
 use Rattle.lab.specs.declared.delivery.Posted.{Posted}
 use Rattle.lab.specs.declared.sim_node.SimNode.{SimNode}
 use Rattle.lab.specs.Worlds.{HasNoNode, IsIndexOf}
-use Rattle.lab.proofs.Worlds.{FitsDelivery, handed_after, ignored_after, passed_after, place_of}
+use Rattle.lab.proofs.Worlds.{FitsDelivery, delivered_after, ignored_after, passed_after, place_of}
 use Rattle.lab.proofs.world.World.apply.Goals as goal
 
 -- no frame has the place
@@ -51,6 +51,6 @@ returns c = λ cs events steps run.
     let found = c.in_ok-delivery.field-0 in
     let fits = subst (λ (l : List Posted). FitsDelivery l i event.kind found)
     c.deref.ensures.value c.in_ok-delivery.ensures in
-    on_ok_weaker c.hand_over.result (handed_after c.in_order.ensures cs events steps self
-    c.hand_over.new.self run i at event found fits c.in-Some-2.delivery c.in-Some-2.is)
-    c.hand_over.ensures
+    on_ok_weaker c.deliver.result (delivered_after c.in_order.ensures cs events steps self
+    c.deliver.new.self run i at event found fits c.in-Some-2.delivery c.in-Some-2.is)
+    c.deliver.ensures

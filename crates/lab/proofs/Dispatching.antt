@@ -10,7 +10,7 @@ use Rattle.lab.specs.declared.input.NodeInput.{NodeInput}
 use Rattle.lab.specs.declared.input.StepOutcome.TheVariants as done
 use Rattle.lab.specs.declared.node_state.NodeState.{NodeState}
 use Rattle.lab.specs.declared.node_state.NodeState.TheVariants.{Up, Down}
-use Rattle.lab.specs.Outcomes.{HasTaken, OutcomeRefines, StateFollows, has_struck_in}
+use Rattle.lab.specs.Outcomes.{HasDispatched, OutcomeRefines, StateFollows, has_struck_in}
 use Rattle.lab.specs.SimNodes.{StateIsReady, StateRefines, calls_of, disk_in}
 use Rattle.lab.proofs.Faults.{idle}
 
@@ -30,7 +30,7 @@ pub answered_only : {D : Type 0} (g : Ghosts D) (it : Fault) (node_input : NodeI
     OutcomeRefines g.is_honest g.state it (has_struck_in (calls_of g) it (disk_in old) old) x n
     node_input old (done.Answered output)) →
     StateFollows g.is_honest g.state g.failures (calls_of g) old node_input old →
-    HasTaken g it node_input old old (done.Answered output)
+    HasDispatched g it node_input old old (done.Answered output)
 answered_only g it node_input old output ready refines follows = record {
   ready = ready;
   refines = refines;

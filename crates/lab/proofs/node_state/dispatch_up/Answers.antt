@@ -5,14 +5,14 @@ use Rattle.lab.specs.declared.input.NodeInput.TheVariants as to_node
 use Rattle.lab.specs.declared.input.StepOutcome.TheVariants as done
 use Rattle.lab.specs.declared.node_state.NodeState.TheVariants.{Up}
 use Rattle.lab.specs.SimNodes.{StateRefines, calls_of}
-use Rattle.lab.specs.Outcomes.{Drops, HasCrashed, HasTaken, RunsOn, Stops}
-use Rattle.lab.proofs.Taking.{answered_only, ready_up}
-use Rattle.lab.proofs.node_state.take_up.Goals as goal
+use Rattle.lab.specs.Outcomes.{Drops, HasCrashed, HasDispatched, RunsOn, Stops}
+use Rattle.lab.proofs.Dispatching.{answered_only, ready_up}
+use Rattle.lab.proofs.node_state.dispatch_up.Goals as goal
 
 pub returns-in-Step : goal.returns-in-Step
 returns-in-Step g c =
     let e = c.step.ensures in
-    subst (λ (k : NodeInput). HasTaken g.D.Disk c.args.fault k (Up c.args.node) c.step.result.0
+    subst (λ (k : NodeInput). HasDispatched g.D.Disk c.args.fault k (Up c.args.node) c.step.result.0
     c.step.result.1) (sym c.in-Step.is) (record {
       ready = e.ready;
       refines = e.refines;
@@ -25,7 +25,7 @@ returns-in-Step g c =
 pub returns-in-BadFrame : goal.returns-in-BadFrame
 returns-in-BadFrame g c =
     let output = c.dropped-output in
-    subst (λ (k : NodeInput). HasTaken g.D.Disk c.args.fault k (Up c.args.node) (Up c.args.node)
+    subst (λ (k : NodeInput). HasDispatched g.D.Disk c.args.fault k (Up c.args.node) (Up c.args.node)
     (done.Answered output.result)) (sym c.in-BadFrame.is)
     (answered_only g.D.Disk c.args.fault (to_node.BadFrame c.in-BadFrame.why) (Up c.args.node)
     output.result (ready_up c.args.node c.requires)
@@ -34,7 +34,7 @@ returns-in-BadFrame g c =
 pub returns-in-Start : goal.returns-in-Start
 returns-in-Start g c =
     let output = c.dropped-output-in-Start in
-    subst (λ (k : NodeInput). HasTaken g.D.Disk c.args.fault k (Up c.args.node) (Up c.args.node)
+    subst (λ (k : NodeInput). HasDispatched g.D.Disk c.args.fault k (Up c.args.node) (Up c.args.node)
     (done.Answered output.result)) (sym c.in-Start.is)
     (answered_only g.D.Disk c.args.fault to_node.Start (Up c.args.node) output.result
     (ready_up c.args.node c.requires)
@@ -50,7 +50,7 @@ returns-in-Stop g c =
     let crashed = λ (honest : g.D.Disk.is_honest c.args.node.disk).
     subst (λ d. HasCrashed g.D.Disk.state g.D.Disk.failures (calls_of g.D.Disk) junk d new)
     c.into_disk.ensures.disk (e.crashes (subst g.D.Disk.is_honest same honest)) in
-    subst (λ (k : NodeInput). HasTaken g.D.Disk c.args.fault k (Up c.args.node) new
+    subst (λ (k : NodeInput). HasDispatched g.D.Disk c.args.fault k (Up c.args.node) new
     (done.Stopped None)) (sym c.in-Stop.is) (record {
       ready = e.ready;
       refines = λ x n r.

@@ -4,7 +4,7 @@ use Rattle.disk.specs.declared.Fault.{Fault}
 use Rattle.lab.specs.declared.sim_node.SimNode.{SimNode}
 use Rattle.lab.specs.Worlds.{HasMoved}
 use Rattle.lab.proofs.Worlds.{as_many}
-use Rattle.lab.proofs.world.World.hand_over.Goals as goal
+use Rattle.lab.proofs.world.World.deliver.Goals as goal
 
 -- the node took what the event brought, with the event's fault
 pub returns : goal.returns
