@@ -27,7 +27,7 @@ IsNewNumber table number = (HasFailedAdd table → ⊥) → (entry : Entry) → 
 abbrev pub IsFoundAt : Memtable → List ℕ → ℕ → Found → Type 0
 IsFoundAt table key at (lookup.Value value) =
     (number : ℕ) × IsNewest at (TableHolds table)
-    (record { key = key; number = number; value = Some value })
+    (record { key = key; number = number; value = Some value.now })
 IsFoundAt table key at lookup.Deleted =
     (number : ℕ) × IsNewest at (TableHolds table)
     (record { key = key; number = number; value = None })

@@ -74,10 +74,11 @@ impl Memtable {
         self.bytes
     }
 
-    /// What the key has at a number.
-    pub fn get(&self, key: &Key, at: Number) -> Result<Found, MemtableError>
+    /// What the key has at a number. It takes no memory.
+    pub fn get<'a>(&'a self, key: &Key, at: Number) -> Result<Found<'a>, MemtableError>
         ensures found { IfOk result (IsFoundAt self.now key.now at) }
-        ensures failed { IsErrOf result MemtableError.Failed ↔ HasFailedAdd self.now }
+        ensures failed { (result ≡ Err MemtableError.Failed) ↔ HasFailedAdd self.now }
+        ensures only { IsOkUnless result MemtableError.Failed }
     {
         if self.has_failed {
             return Err(MemtableError::Failed);
@@ -89,7 +90,7 @@ impl Memtable {
             return Ok(Found::None);
         };
         match &versions.get(place).value {
-            Some(value) => Ok(Found::Value(value.clone()?)),
+            Some(value) => Ok(Found::Value(value)),
             None => Ok(Found::Deleted),
         }
     }

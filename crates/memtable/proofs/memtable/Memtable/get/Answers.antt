@@ -11,15 +11,14 @@ get-requires-3 c =
     c.in-Some.versions.now c.in-Some.ensures.value (c.args.self.now.rising c.if-self.false))).0
 
 -- a value
-pub returns-in_ok-clone-in-Some-value-clause-found :
-    goal.returns-in_ok-clone-in-Some-value-clause-found
+pub returns-in-Some-value-clause-found :
+    goal.returns-in-Some-value-clause-found
 unfolding TableHolds
-returns-in_ok-clone-in-Some-value-clause-found c =
-    let value = c.in_ok-clone-in-Some-value in
+returns-in-Some-value-clause-found c =
     newest c.args.self.now.map c.args.key.now c.in-Some.versions.now c.args.at c.get-2.result
-    c.in-Some-last_up_to.place c.get-3.result.now (Some value.field-0) c.get-2.ensures.same
+    c.in-Some-last_up_to.place c.get-3.result.now (Some c.in-Some-value.value) c.get-2.ensures.same
     c.in-Some.ensures.value (c.args.self.now.rising c.if-self.false) c.in-Some-last_up_to.ensures
-    c.get-3.ensures (c.in-Some-value.is ∙ ap Some (sym value.ensures))
+    c.get-3.ensures c.in-Some-value.is
 
 -- a deletion
 pub returns-in-None-clause-found : goal.returns-in-None-clause-found
