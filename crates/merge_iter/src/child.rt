@@ -12,7 +12,7 @@ ghost use Rattle.merge_iter.specs.LentCursors.{KeepsCursor, RefusesMove};
 use crate::cursor::Cursor;
 use crate::direction::Direction;
 use crate::error::CursorError;
-use crate::order::order;
+use crate::order;
 
 /// Whether a walk in this direction meets the entry of `one` before that of `other`.
 pub fn precedes<C: Cursor>(way: Direction, one: &C, other: &C) -> bool

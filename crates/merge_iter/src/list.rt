@@ -9,7 +9,7 @@ ghost use Rattle.merge_iter.specs.Positions.{Off};
 
 use crate::cursor::Cursor;
 use crate::error::CursorError;
-use crate::order::order;
+use crate::order;
 use crate::owned_entry::OwnedEntry;
 
 // Whether the entry comes before that key and number.

@@ -14,7 +14,7 @@ use crate::cursor::Cursor;
 use crate::error::CursorError;
 use crate::kept::{KeptEntry, copy};
 use crate::mode::Mode;
-use crate::order::order;
+use crate::order;
 use crate::shown::{find_back, find_forward};
 
 // Moves back onto the entry that is shown, where the cursor has gone on behind it.

@@ -1,0 +1,103 @@
+-- Entries and blocks of them, and their one spelling.
+use Rattle.std.specs.Prelude.{◌≡◌, ℕ, ◌≤◌, ◌<◌, ◌^◌, List, [], ◌∷◌, ◌++◌, ◌+◌, length, take}
+use Rattle.std.specs.Prelude.{Option, Some, None, IfSome, All, AllPairs}
+use Rattle.std.specs.List.{flat_map}
+use Rattle.std.specs.Int.{w32, w64, to_be_bytes}
+use Rattle.sha2.specs.Sha256.{sha256}
+use Rattle.kv_types.specs.declared.bounds.TheConstants.{MAX_KEY, MAX_VALUE, MAX_NUMBER}
+use Rattle.kv_types.specs.{Entry, text_bytes}
+use Rattle.merge_iter.specs.declared.Direction.TheVariants.{Forward}
+use Rattle.merge_iter.specs.{EntryPrecedes}
+
+-- ---- parts of a file
+
+-- the first 8 bytes of SHA-256
+unfoldable pub digest : List ℕ → List ℕ
+digest content = take 8 (sha256 content)
+
+-- a part of a file is a content and its digest
+abbrev pub sealed : List ℕ → List ℕ
+sealed content = content ++ digest content
+
+-- a number in four or eight bytes, the most significant first
+abbrev pub be32 : ℕ → List ℕ
+be32 n = to_be_bytes w32 n
+
+abbrev pub be64 : ℕ → List ℕ
+be64 n = to_be_bytes w64 n
+
+-- ---- entries
+
+-- a key that a table may have
+abbrev pub IsStoredKey : List ℕ → Type 0
+IsStoredKey key = length key ≤ MAX_KEY
+
+-- its length and its bytes
+abbrev pub key_bytes : List ℕ → List ℕ
+key_bytes key = text_bytes key
+
+-- a put is the byte 1 and the value, a deletion the byte 2
+abbrev pub change_bytes : Option (List ℕ) → List ℕ
+change_bytes (Some value) = 1 ∷ text_bytes value
+change_bytes None = 2 ∷ []
+
+-- key, number, and what was done
+abbrev pub entry_bytes : Entry → List ℕ
+entry_bytes entry = key_bytes entry.key ++ (be64 entry.number ++ change_bytes entry.value)
+
+abbrev pub entries_bytes : List Entry → List ℕ
+entries_bytes entries = flat_map entry_bytes entries
+
+-- an entry keeps the limits of keys, numbers and values
+pub record IsTableEntry (entry : Entry) : Type 0 where
+  pub key : IsStoredKey entry.key
+  pub number : entry.number ≤ MAX_NUMBER
+  pub value : IfSome entry.value (λ value. length value ≤ MAX_VALUE)
+
+-- each entry comes before those behind it: keys rise, and the numbers of one key fall
+abbrev pub AreRising : List Entry → Type 0
+AreRising entries = AllPairs (EntryPrecedes Forward) entries
+
+-- the last of a list, if there is one
+abbrev pub last_of : {A : Type 0} → List A → Option A
+last_of [] = None
+last_of (x ∷ []) = Some x
+last_of (x ∷ y ∷ ys) = last_of (y ∷ ys)
+
+-- the entry may stand behind these: it comes after the last of them
+abbrev pub CanFollow : List Entry → Entry → Type 0
+CanFollow entries entry = IfSome (last_of entries) (λ last. EntryPrecedes Forward last entry)
+
+-- ---- blocks
+
+-- the number of entries, and the entries
+abbrev pub block_content : List Entry → List ℕ
+block_content entries = be32 (length entries) ++ entries_bytes entries
+
+-- a block with its digest
+abbrev pub block_part : List Entry → List ℕ
+block_part entries = sealed (block_content entries)
+
+-- the bytes are a block of these entries
+pub record IsBlock (part : List ℕ) (entries : List Entry) : Type 0 where
+  pub spelled : part ≡ block_part entries
+  pub some : 1 ≤ length entries
+  pub few : length entries < 2 ^ 32
+  pub each : All IsTableEntry entries
+  pub rising : AreRising entries
+
+-- the bytes are a block of some entries
+abbrev pub IsCheckedBlock : List ℕ → Type 0
+IsCheckedBlock part = (entries : List Entry) × IsBlock part entries
+
+-- the bytes are a block of some entries, and the text is the spelling of its entries alone
+abbrev pub IsBlockText : List ℕ → List ℕ → Type 0
+IsBlockText part text = (entries : List Entry) × IsBlock part entries × (text ≡ entries_bytes entries)
+
+-- ---- the entries inside a block
+
+-- the places of entries in their spelling, of which the first stands at this place
+abbrev pub starts_from : ℕ → List Entry → List ℕ
+starts_from place [] = []
+starts_from place (entry ∷ entries) =
+    place ∷ starts_from (place + length (entry_bytes entry)) entries

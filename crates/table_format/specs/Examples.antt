@@ -1,0 +1,33 @@
+-- Tables of one entry, worked out.
+use Rattle.std.specs.Prelude.{◌≡◌, ℕ, List, [], ◌∷◌, length, codes, Option, Some, None}
+use Rattle.kv_types.specs.{Entry}
+use Rattle.table_format.specs.declared.footer.Footer.{Footer}
+use Rattle.table_format.specs.Blocks.{block_content, block_part}
+use Rattle.table_format.specs.Tables.{Block, block_lines, filter_part, footer_part, index_content}
+use Rattle.table_format.specs.Tables.{index_part, TableRepresents}
+
+-- what the batch with number 1 left of `a`
+abbrev pub of_a : Option (List ℕ) → Entry
+of_a value = record { key = codes "a"; number = 1; value = value }
+
+abbrev pub put_a : Entry
+put_a = of_a (Some (codes "1"))
+
+-- the block with one entry
+abbrev pub single : Entry → Block
+single entry = record { front = []; last = entry }
+
+pub record TableExamples : Type 0 where
+  pub content : block_content (put_a ∷ [])
+      ≡ 0 ∷ 0 ∷ 0 ∷ 1 ∷ 0 ∷ 1 ∷ 97 ∷ 0 ∷ 0 ∷ 0 ∷ 0 ∷ 0 ∷ 0 ∷ 0 ∷ 1 ∷ 1 ∷ 0 ∷ 1 ∷ 49 ∷ []
+  pub line : index_content (block_lines 0 (single put_a ∷ []))
+      ≡ 0 ∷ 0 ∷ 0 ∷ 1 ∷ 0 ∷ 0 ∷ 0 ∷ 0 ∷ 0 ∷ 0 ∷ 0 ∷ 0 ∷ 0 ∷ 0 ∷ 0 ∷ 27 ∷ 0 ∷ 1 ∷ 97
+      ∷ 0 ∷ 0 ∷ 0 ∷ 0 ∷ 0 ∷ 0 ∷ 0 ∷ 1 ∷ []
+  pub block : length (block_part (put_a ∷ [])) ≡ 27
+  pub filter : (bytes : List ℕ) → length bytes ≡ 8 → length (filter_part bytes) ≡ 20
+  pub index : length (index_part (block_lines 0 (single put_a ∷ []))) ≡ 35
+  pub footer : (it : Footer) → length (footer_part it) ≡ 52
+  pub smallest : (bytes : List ℕ) → TableRepresents bytes (put_a ∷ []) → length bytes ≡ 134
+  pub deletion : (bytes : List ℕ) → TableRepresents bytes (of_a None ∷ []) → length bytes ≡ 131
+  pub longer : (bytes value : List ℕ) → length value ≡ 200 →
+      TableRepresents bytes (of_a (Some value) ∷ []) → length bytes ≡ 333

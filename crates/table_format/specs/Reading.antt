@@ -1,0 +1,78 @@
+-- Reading entries, lines and footers from left to right.
+use Rattle.std.specs.Prelude.{◌≡◌, ℕ, zero, suc, List, [], ◌∷◌, ◌++◌, Option, Some, None, nat_le}
+use Rattle.std.specs.Option.{option_map}
+use Rattle.std.specs.Int.{w32, w64}
+use Rattle.kv_types.specs.declared.bounds.TheConstants.{MAX_KEY, MAX_VALUE, MAX_NUMBER}
+use Rattle.kv_types.specs.{Entry, ◌>>=◌, text_at}
+use Rattle.byte_fields.specs.Readers.{Reader, both, mapped, only, number_at}
+use Rattle.table_format.specs.declared.line.IndexLine.{IndexLine}
+use Rattle.table_format.specs.declared.line.LentLine.{LentLine}
+use Rattle.table_format.specs.declared.footer.Footer.{Footer}
+use Rattle.table_format.specs.declared.entry.LentEntry.{LentEntry}
+use Rattle.table_format.specs.Tables.{line_bytes}
+use Rattle.table_format.specs.Parts.{IsIndexLine}
+
+-- ---- entries
+
+unfoldable pub key_at : Reader (List ℕ)
+key_at bytes = text_at MAX_KEY bytes
+
+-- a number of a batch
+unfoldable pub stored_number_at : Reader ℕ
+stored_number_at bytes = only (λ n. nat_le n MAX_NUMBER) (number_at w64) bytes
+
+unfoldable pub change_at : Reader (Option (List ℕ))
+change_at [] = None
+change_at (zero ∷ rest) = None
+change_at (suc zero ∷ rest) = text_at MAX_VALUE rest >>= λ value. Some (Some value.0, value.1)
+change_at (suc (suc zero) ∷ rest) = Some (None, rest)
+change_at (suc (suc (suc b)) ∷ rest) = None
+
+abbrev pub as_entry : List ℕ × (ℕ × Option (List ℕ)) → Entry
+as_entry x = record { key = x.0; number = x.1.0; value = x.1.1 }
+
+unfoldable pub table_entry_at : Reader Entry
+table_entry_at bytes = mapped as_entry (both key_at (both stored_number_at change_at)) bytes
+
+-- an entry that is lent, as an entry
+abbrev pub lent_entry : LentEntry → Entry
+lent_entry it = record {
+  key = it.key.now;
+  number = it.number;
+  value = option_map (λ v. v.now) it.value;
+}
+
+-- ---- lines of an index
+
+-- a line that is lent, as a line
+abbrev pub lent_line : LentLine → IndexLine
+lent_line it = record { place = it.place; len = it.len; key = it.key.now; number = it.number }
+
+abbrev pub as_line : ℕ × (ℕ × (List ℕ × ℕ)) → IndexLine
+as_line x = record { place = x.0; len = x.1.0; key = x.1.1.0; number = x.1.1.1 }
+
+unfoldable pub line_at : Reader IndexLine
+line_at bytes =
+    mapped as_line (both (number_at w64) (both (number_at w32) (both key_at stored_number_at)))
+    bytes
+
+-- where a line is read, it is the one that is spelled there
+abbrev pub LinesAreRead : Type 0
+LinesAreRead = (line : IndexLine) (rest : List ℕ) → IsIndexLine line →
+    line_at (line_bytes line ++ rest) ≡ Some (line, rest)
+
+-- ---- the footer
+
+abbrev pub as_footer : ℕ × (ℕ × (ℕ × (ℕ × ℕ))) → Footer
+as_footer x = record {
+  index = x.0;
+  index_len = x.1.0;
+  filter = x.1.1.0;
+  filter_len = x.1.1.1.0;
+  entries = x.1.1.1.1;
+}
+
+unfoldable pub footer_at : Reader Footer
+footer_at bytes =
+    mapped as_footer (both (number_at w64) (both (number_at w32) (both (number_at w64)
+    (both (number_at w32) (number_at w64))))) bytes

@@ -1,0 +1,135 @@
+-- Which entries the bytes of a table file represent.
+use Rattle.std.specs.Prelude.{◌≡◌, ℕ, ◌+◌, ◌<◌, ◌≤◌, ◌^◌, List, [], ◌∷◌, ◌++◌, length, All}
+use Rattle.std.specs.Prelude.{Bool, false, if◌then◌else◌}
+use Rattle.std.specs.List.{flat_map}
+use Rattle.std.specs.Str.{bytes_eq}
+use Rattle.bloom.specs.Filters.{IsFilter}
+use Rattle.kv_types.specs.{Entry}
+use Rattle.table_format.specs.declared.sizes.TheConstants.{MAX_DATA}
+use Rattle.table_format.specs.declared.line.IndexLine.{IndexLine}
+use Rattle.table_format.specs.declared.footer.Footer.{Footer}
+use Rattle.table_format.specs.Blocks.{sealed, be32, be64, key_bytes, IsTableEntry, AreRising}
+use Rattle.table_format.specs.Blocks.{block_part}
+
+-- ---- blocks one behind the other
+
+-- the entries of a block: the last, and those before it
+pub record Block : Type 0 where
+  pub front : List Entry
+  pub last : Entry
+
+abbrev pub block_entries : Block → List Entry
+block_entries block = block.front ++ block.last ∷ []
+
+abbrev pub block_bytes : Block → List ℕ
+block_bytes block = block_part (block_entries block)
+
+-- the entries of blocks in order
+abbrev pub entries_of_blocks : List Block → List Entry
+entries_of_blocks blocks = flat_map block_entries blocks
+
+abbrev pub data_bytes : List Block → List ℕ
+data_bytes blocks = flat_map block_bytes blocks
+
+-- ---- the index
+
+-- where a block stands, how long it is with its digest, and its last entry's key and number
+abbrev pub block_line : ℕ → Block → IndexLine
+block_line place block = record {
+  place = place;
+  len = length (block_bytes block);
+  key = block.last.key;
+  number = block.last.number;
+}
+
+-- the lines of blocks of which the first stands at this place
+abbrev pub block_lines : ℕ → List Block → List IndexLine
+block_lines place [] = []
+block_lines place (block ∷ blocks) =
+    block_line place block ∷ block_lines (place + length (block_bytes block)) blocks
+
+abbrev pub line_bytes : IndexLine → List ℕ
+line_bytes line = be64 line.place ++ (be32 line.len ++ (key_bytes line.key ++ be64 line.number))
+
+-- the number of lines, and the lines
+abbrev pub index_content : List IndexLine → List ℕ
+index_content lines = be32 (length lines) ++ flat_map line_bytes lines
+
+abbrev pub index_part : List IndexLine → List ℕ
+index_part lines = sealed (index_content lines)
+
+-- ---- the filter
+
+-- the number of bytes, and the bytes
+abbrev pub filter_part : List ℕ → List ℕ
+filter_part filter = sealed (be32 (length filter) ++ filter)
+
+-- whether the first entry has the key
+abbrev pub begins_with : List ℕ → List Entry → Bool
+begins_with key [] = false
+begins_with key (entry ∷ entries) = bytes_eq key entry.key
+
+-- the keys of rising entries, each once
+abbrev pub different_keys : List Entry → List (List ℕ)
+different_keys [] = []
+different_keys (entry ∷ entries) =
+    if begins_with entry.key entries then different_keys entries
+    else entry.key ∷ different_keys entries
+
+-- ---- the footer
+
+-- `CRLSMT01`
+abbrev pub mark : List ℕ
+mark = 67 ∷ 82 ∷ 76 ∷ 83 ∷ 77 ∷ 84 ∷ 48 ∷ 49 ∷ []
+
+-- the fields, format 1, and the mark
+abbrev pub footer_content : Footer → List ℕ
+footer_content it =
+    be64 it.index ++ (be32 it.index_len ++ (be64 it.filter ++ (be32 it.filter_len
+    ++ (be64 it.entries ++ (be32 1 ++ mark)))))
+
+abbrev pub footer_part : Footer → List ℕ
+footer_part it = sealed (footer_content it)
+
+-- where index and filter are, how long they are with their digests, and the number of entries
+abbrev pub table_footer : List Block → List ℕ → Footer
+table_footer blocks filter = record {
+  index = length (data_bytes blocks) + length (filter_part filter);
+  index_len = length (index_part (block_lines 0 blocks));
+  filter = length (data_bytes blocks);
+  filter_len = length (filter_part filter);
+  entries = length (entries_of_blocks blocks);
+}
+
+-- ---- a table
+
+-- blocks, filter, index and footer, each directly behind the one before
+abbrev pub table_spelling : List Block → List ℕ → List ℕ
+table_spelling blocks filter =
+    data_bytes blocks ++ (filter_part filter
+    ++ (index_part (block_lines 0 blocks) ++ footer_part (table_footer blocks filter)))
+
+-- the lengths that are spelled in a table fit their fields
+pub record FitsFields (blocks : List Block) (filter : List ℕ) : Type 0 where
+  pub data_len : length (data_bytes blocks) ≤ MAX_DATA
+  pub each : All (λ block. length (block_bytes block) < 2 ^ 32) blocks
+  pub filter_len : length (filter_part filter) < 2 ^ 32
+  pub index_len : length (index_part (block_lines 0 blocks)) < 2 ^ 32
+
+-- The bytes are a table of these entries: they rise and keep the limits, they stand in blocks of
+-- any division, and the filter is that of their keys.
+pub record TableRepresents (bytes : List ℕ) (entries : List Entry) : Type 0 where
+  pub blocks : List Block
+  pub filter : List ℕ
+  pub spelled : bytes ≡ table_spelling blocks filter
+  pub division : entries ≡ entries_of_blocks blocks
+  pub some : 1 ≤ length entries
+  pub each : All IsTableEntry entries
+  pub rising : AreRising entries
+  pub exact : IsFilter (different_keys entries) filter
+  pub fits : FitsFields blocks filter
+
+-- bytes represent at most one list of entries
+abbrev pub TableIsUnique : Type 0
+TableIsUnique = (bytes : List ℕ) (entries others : List Entry) → TableRepresents bytes entries →
+    TableRepresents bytes others → entries ≡ others

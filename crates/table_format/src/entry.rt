@@ -1,0 +1,62 @@
+//! Entries that are lent from the block that they stand in.
+ghost use Rattle.std.specs.Prelude.{◌≡◌, ◌≤◌, length, option_map, IfSome};
+ghost use Rattle.kv_types.specs.declared.bounds.TheConstants.{MAX_KEY};
+ghost use Rattle.byte_fields.specs.Readers.{ReadsFront};
+ghost use Rattle.table_format.specs.Reading.{key_at, stored_number_at, change_at, table_entry_at};
+ghost use Rattle.table_format.specs.Reading.{lent_entry};
+
+use byte_fields::{read_text, read_u64};
+use kv_types::bounds::{MAX_KEY, MAX_NUMBER, MAX_VALUE};
+
+/// A version of a key, lent: its value at a number, or `None` if the key was deleted there.
+#[derive(Clone, Copy)]
+pub struct LentEntry<'a> {
+    pub key: &'a [u8],
+    pub number: u64,
+    pub value: Option<&'a [u8]>,
+}
+
+#[tactic(auto, unfolding(crate::specs::Reading::stored_number_at))]
+pub fn number_of(bytes: &[u8]) -> Option<(u64, &[u8])>
+    ensures { ReadsFront (λ x. (x.0, x.1.now)) result (stored_number_at bytes.now) }
+{
+    let (number, rest) = read_u64(bytes)?;
+    if number > MAX_NUMBER {
+        return None;
+    }
+    Some((number, rest))
+}
+
+#[tactic(auto, unfolding(crate::specs::Reading::key_at))]
+pub fn key_of(bytes: &[u8]) -> Option<(&[u8], &[u8])>
+    ensures key { ReadsFront (λ x. (x.0.now, x.1.now)) result (key_at bytes.now) }
+    ensures limit { IfSome result (λ x. length x.0.now ≤ MAX_KEY) }
+{
+    read_text(MAX_KEY, bytes)
+}
+
+#[tactic(auto, unfolding(crate::specs::Reading::change_at))]
+fn change_of(bytes: &[u8]) -> Option<(Option<&[u8]>, &[u8])>
+    ensures { ReadsFront (λ x. (option_map (λ v. v.now) x.0, x.1.now)) result
+        (change_at bytes.now) }
+{
+    match bytes {
+        [1, rest @ ..] => {
+            let (value, rest) = read_text(MAX_VALUE, rest)?;
+            Some((Some(value), rest))
+        }
+        [2, rest @ ..] => Some((None, rest)),
+        _ => None,
+    }
+}
+
+/// The entry at the front of the bytes, and the bytes behind it.
+#[tactic(auto, unfolding(crate::specs::Reading::table_entry_at))]
+pub fn entry_of(bytes: &[u8]) -> Option<(LentEntry<'_>, &[u8])>
+    ensures { ReadsFront (λ x. (lent_entry x.0, x.1.now)) result (table_entry_at bytes.now) }
+{
+    let (key, rest) = key_of(bytes)?;
+    let (number, rest) = number_of(rest)?;
+    let (value, rest) = change_of(rest)?;
+    Some((LentEntry { key, number, value }, rest))
+}

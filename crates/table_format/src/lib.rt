@@ -1,0 +1,27 @@
+//! The format of a table file: entries in blocks, a filter, an index and a footer, each with a
+//! digest, written and read part by part.
+#![tactic(auto)]
+
+mod block;
+mod entry;
+mod error;
+mod filter;
+mod footer;
+mod index;
+pub mod laws;
+mod line;
+mod part;
+pub mod sizes;
+mod starts;
+mod writing;
+
+pub use block::{entries_in, entries_of};
+pub use entry::{LentEntry, entry_of};
+pub use error::TableError;
+pub use filter::{filter_of, filter_part_of};
+pub use footer::{Footer, footer_of, footer_part_of};
+pub use index::lines_of;
+pub use line::IndexLine;
+pub use part::{seal, unsealed};
+pub use starts::{entry_at, starts_of};
+pub use writing::{entry_len, put_entry, put_line};
