@@ -1,15 +1,11 @@
 -- The entries of a block, read one behind the other.
-use Rattle.std.proofs.Common.{◌≡◌, ℕ, zero, suc, ◌+◌, ◌-◌, ◌≤◌, ◌<◌, ◌^◌, List, [], ◌∷◌, ◌++◌, length, map, Option, Some, None}
-use Rattle.std.proofs.Common.{refl, sym, ap, subst, ◌∙◌, arith, append_assoc, length-append, IfSome, AllPairs, All, ◌⊎◌, inl, inr}
-use Rattle.std.specs.List.{flat_map, AllByRecursion, slice_get}
+use Rattle.std.proofs.Common.{◌≡◌, ℕ, ◌+◌, ◌<◌, List, [], ◌∷◌, ◌++◌, length, Option, Some, None}
+use Rattle.std.proofs.Common.{refl, sym, ap, subst, ◌∙◌, arith, length-append, IfSome, AllPairs}
+use Rattle.std.specs.List.{flat_map}
 use Rattle.std.specs.Int.{w32}
-use Rattle.std.proofs.lemmas.List.{append-nil, map-append}
-use Rattle.std.proofs.lemmas.List.Concat.{flat_map-cons}
 use Rattle.std.proofs.lemmas.List.Elements.{All-from_recursion, recursion_from_All}
-use Rattle.kv_types.proofs.Fields.{IsBytes, some_is}
-use Rattle.kv_types.proofs.Ordered.{Among, Rises, rises_from_AllPairs}
-use Rattle.byte_fields.specs.Readers.{Reader, number_at}
-use Rattle.byte_fields.proofs.Readers.{Reads, number_reads, wide32}
+use Rattle.kv_types.proofs.Fields.{IsBytes}
+use Rattle.byte_fields.specs.Readers.{number_at}
 use Rattle.merge_iter.specs.declared.Direction.TheVariants.{Forward}
 use Rattle.merge_iter.specs.{EntryPrecedes}
 use Rattle.kv_types.specs.{Entry}
@@ -91,8 +87,7 @@ next_entry text rest seen count last part all entry behind r w x some e =
     let n = next_of entry_reads rest r.entries all entry behind
     (after_entries text rest seen count last part all r w x) some e in
     let count_is = w.size in
-    let seen_is = r.number in
-    (
+    let seen_is = r.number in (
       omega (arith, count_is, seen_is, ap length n.split, length-append r.entries (entry ∷ n.others)),
       subst (λ (o : Option Entry). IfSome o (λ before. EntryPrecedes Forward before entry)) (sym r.end)
           (can_follow r.entries n.others entry (subst (AllPairs (EntryPrecedes Forward)) n.split x.rising)),
@@ -116,8 +111,7 @@ is_block part content text rest seen count last is fits e r none len some =
     let few = t.1 in
     let seen_is = r.number in
     let size : count ≡ length r.entries = sym len ∙ seen_is in
-    let end = text_end text rest r.entries r.passed none in
-    (
+    let end = text_end text rest r.entries r.passed none in (
       r.entries,
       record {
         spelled = is ∙ ap sealed (t.0.parts ∙ ap (λ (x : List ℕ). be32 count ++ x) end

@@ -1,6 +1,6 @@
 -- Entries that are read are those that were spelled.
-use Rattle.std.proofs.Common.{◌≡◌, ℕ, zero, suc, ◌<◌, ◌≤◌, List, [], ◌∷◌, ◌++◌, length, Option, Some, None}
-use Rattle.std.proofs.Common.{IfSome, refl, sym, ap, subst, ◌∙◌, arith, nat_le, ◌^◌}
+use Rattle.std.proofs.Common.{◌≡◌, ℕ, zero, suc, ◌≤◌, List, [], ◌∷◌, ◌++◌, length, Option, Some, None}
+use Rattle.std.proofs.Common.{IfSome, refl, ap, subst, arith, nat_le, ◌^◌}
 use Rattle.std.proofs.lemmas.Bool.{leb-true, le-leb}
 use Rattle.kv_types.specs.declared.bounds.TheConstants.{MAX_KEY, MAX_VALUE, MAX_NUMBER}
 use Rattle.kv_types.specs.{◌>>=◌, text_at}
@@ -37,8 +37,7 @@ put_takes bytes x fits e =
     let t = text_takes MAX_VALUE bytes a.0 fits a.1 in
     let found : Option (List ℕ) × List ℕ = (Some a.0.0, a.0.1) in
     subst (λ (y : Option (List ℕ) × List ℕ). Takes (1 ∷ bytes) (change_bytes y.0) y.1 × IsChange y.0)
-    (some_is found x a.2)
-    (
+    (some_is found x a.2) (
       record { parts = ap (λ (w : List ℕ). 1 ∷ w) t.0.parts; rest_fits = t.0.rest_fits },
       t.1,
     )

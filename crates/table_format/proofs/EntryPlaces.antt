@@ -1,9 +1,9 @@
 -- The places of entries inside a block.
 use Rattle.std.proofs.Common.{◌≡◌, ℕ, zero, suc, ◌+◌, ◌-◌, ◌≤◌, ◌<◌, List, [], ◌∷◌, ◌++◌, length}
-use Rattle.std.proofs.Common.{Option, Some, None, All, refl, sym, ap, subst, ◌∙◌, arith, drop}
+use Rattle.std.proofs.Common.{Some, None, All, refl, sym, ap, subst, ◌∙◌, arith, drop, take}
 use Rattle.std.proofs.Common.{append_assoc, length-append}
-use Rattle.std.specs.List.{flat_map, AllByRecursion, slice_get}
-use Rattle.std.proofs.lemmas.List.{drop_at}
+use Rattle.std.specs.List.{AllByRecursion, slice_get}
+use Rattle.std.proofs.lemmas.List.{drop_at, length-drop, take_all}
 use Rattle.std.proofs.lemmas.List.Concat.{flat_map-cons}
 use Rattle.std.proofs.lemmas.List.Elements.{recursion_from_All}
 use Rattle.kv_types.proofs.Fields.{IsBytes, some_is}
@@ -22,8 +22,11 @@ starts_push place [] entry =
 starts_push place (x ∷ entries) entry =
     let next = place + length (entry_bytes x) in
     let e : next + length (entries_bytes entries) ≡ place + length (entries_bytes (x ∷ entries)) =
-    omega (arith, ap length (flat_map-cons entry_bytes x entries),
-    length-append (entry_bytes x) (entries_bytes entries)) in
+    omega (
+      arith,
+      ap length (flat_map-cons entry_bytes x entries),
+      length-append (entry_bytes x) (entries_bytes entries),
+    ) in
     ap (λ (l : List ℕ). place ∷ l) (starts_push next entries entry)
     ∙ ap (λ (p : ℕ). place ∷ (starts_from next entries ++ p ∷ [])) e
 
@@ -116,8 +119,7 @@ at_place : (entries : List Entry) (first i place : ℕ) (entry : Entry)
 at_place [] first i place entry each at is = absurd cc
 at_place (x ∷ entries) first zero place entry each at is =
     let same : x ≡ entry = some_is x entry is in
-    let here : first ≡ place = some_is first place at in
-    (
+    let here : first ≡ place = some_is first place at in (
       omega (arith, here),
       record {
         before = [];
@@ -157,3 +159,11 @@ read_there text entry place s =
     ap (λ (t : List ℕ). table_entry_at (drop place t)) s.split
     ∙ ap table_entry_at (drop_at s.before (entry_bytes entry ++ s.after) place (sym s.len))
     ∙ entry_reads.again entry s.after s.right
+
+-- the same of the rest as a slice
+pub read_slice : (text : List ℕ) (entry : Entry) (place : ℕ) → (s : StartsAt text entry place)
+    → table_entry_at (take (length text - place) (drop place text)) ≡ Some (entry, s.after)
+read_slice text entry place s =
+    ap table_entry_at (take_all (length text - place) (drop place text)
+    (omega (arith, length-drop place text)))
+    ∙ read_there text entry place s

@@ -1,9 +1,8 @@
 -- Blocks at the front of bytes: which they are is told by the bytes.
-use Rattle.std.proofs.Common.{◌≡◌, ℕ, suc, ◌+◌, ◌-◌, ◌≤◌, ◌<◌, ◌^◌, List, [], ◌∷◌, ◌++◌, length, Option, Some, None, All}
-use Rattle.std.proofs.Common.{refl, sym, ap, subst, ◌∙◌, arith, append_assoc, length-append, get_or}
+use Rattle.std.proofs.Common.{◌≡◌, ℕ, ◌+◌, ◌-◌, ◌≤◌, ◌<◌, ◌^◌, List, [], ◌∷◌, ◌++◌, length, Option, Some, None}
+use Rattle.std.proofs.Common.{refl, sym, ap, subst, ◌∙◌, arith, append_assoc, length-append}
 use Rattle.std.specs.List.{flat_map, AllByRecursion}
 use Rattle.std.specs.Int.{w16, w32, to_be_bytes, from_be_bytes}
-use Rattle.std.proofs.lemmas.List.Elements.{All-from_recursion, recursion_from_All}
 use Rattle.std.proofs.Common.{take, drop}
 use Rattle.std.proofs.lemmas.List.{take_at, drop_at}
 use Rattle.std.proofs.lemmas.List.Concat.{flat_map-cons}
@@ -36,8 +35,7 @@ split_same (c ∷ a) (d ∷ b) x y len e =
 pub same_count : (m n : ℕ) (x y : List ℕ) → m < 2 ^ 32 → n < 2 ^ 32 → be32 m ++ x ≡ be32 n ++ y
     → (m ≡ n) × (x ≡ y)
 same_count m n x y small_m small_n is =
-    let s = split_same (be32 m) (be32 n) x y refl is in
-    (
+    let s = split_same (be32 m) (be32 n) x y refl is in (
       sym (from_be_bytes-to_be_bytes_4 m small_m) ∙ ap (from_be_bytes w32) s.0
           ∙ from_be_bytes-to_be_bytes_4 n small_n,
       s.1,
@@ -82,8 +80,13 @@ pub few_entries : (entries : List Entry) → length entries ≤ length (flat_map
 few_entries [] = omega arith
 few_entries (entry ∷ entries) =
     let below = few_entries entries in
-    omega (arith, entry_long entry, below, ap length (flat_map-cons entry_bytes entry entries),
-    length-append (entry_bytes entry) (flat_map entry_bytes entries))
+    omega (
+      arith,
+      entry_long entry,
+      below,
+      ap length (flat_map-cons entry_bytes entry entries),
+      length-append (entry_bytes entry) (flat_map entry_bytes entries),
+    )
 
 pub length-block_content : (entries : List Entry)
     → length (block_content entries) ≡ 4 + length (flat_map entry_bytes entries)
@@ -135,12 +138,20 @@ pub same_data : (a b : List Block) → AllByRecursion IsSmall a → AllByRecursi
 same_data [] [] small_a small_b each_a each_b e = refl
 same_data [] (y ∷ b) small_a small_b each_a each_b e =
     let long = length-block_part (block_entries y) in
-    absurd (omega (arith, long, ap length (e ∙ flat_map-cons block_bytes y b),
-    length-append (block_bytes y) (data_bytes b)))
+    absurd (omega (
+      arith,
+      long,
+      ap length (e ∙ flat_map-cons block_bytes y b),
+      length-append (block_bytes y) (data_bytes b),
+    ))
 same_data (x ∷ a) [] small_a small_b each_a each_b e =
     let long = length-block_part (block_entries x) in
-    absurd (omega (arith, long, ap length (sym e ∙ flat_map-cons block_bytes x a),
-    length-append (block_bytes x) (data_bytes a)))
+    absurd (omega (
+      arith,
+      long,
+      ap length (sym e ∙ flat_map-cons block_bytes x a),
+      length-append (block_bytes x) (data_bytes a),
+    ))
 same_data (x ∷ a) (y ∷ b) small_a small_b each_a each_b e =
     let ja = flat_map-cons block_entries x a in
     let jb = flat_map-cons block_entries y b in

@@ -1,15 +1,13 @@
 -- The lines of an index, read one behind the other.
-use Rattle.std.proofs.Common.{◌≡◌, ℕ, zero, suc, ◌+◌, ◌-◌, ◌≤◌, ◌<◌, ◌^◌, List, [], ◌∷◌, ◌++◌, length, map, Option, Some, None}
-use Rattle.std.proofs.Common.{refl, sym, ap, subst, ◌∙◌, arith, append_assoc, length-append, IfSome, AllPairs, All, ◌⊎◌, inl, inr}
-use Rattle.std.specs.List.{flat_map, AllByRecursion, slice_get}
+use Rattle.std.proofs.Common.{◌≡◌, ℕ, zero, suc, ◌+◌, ◌-◌, ◌≤◌, ◌<◌, List, [], ◌∷◌, ◌++◌, length, map, Some, None}
+use Rattle.std.proofs.Common.{refl, sym, ap, subst, ◌∙◌, arith, length-append, AllPairs}
+use Rattle.std.specs.List.{flat_map, slice_get}
 use Rattle.std.specs.Int.{w32}
-use Rattle.std.proofs.lemmas.List.{append-nil, map-append}
+use Rattle.std.proofs.lemmas.List.{map-append}
 use Rattle.std.proofs.lemmas.List.Concat.{flat_map-cons}
 use Rattle.std.proofs.lemmas.List.Elements.{All-from_recursion, recursion_from_All}
 use Rattle.kv_types.proofs.Fields.{IsBytes, some_is}
-use Rattle.kv_types.proofs.Ordered.{Among, Rises, rises_from_AllPairs}
-use Rattle.byte_fields.specs.Readers.{Reader, number_at}
-use Rattle.byte_fields.proofs.Readers.{Reads, number_reads, wide32}
+use Rattle.byte_fields.specs.Readers.{number_at}
 use Rattle.merge_iter.specs.declared.Direction.TheVariants.{Forward}
 use Rattle.merge_iter.specs.{EntryPrecedes}
 use Rattle.table_format.proofs.Lines.{line_reads}
@@ -134,8 +132,13 @@ has_text text count part end all w x = by all w.spelled x.some
     by : (lines : List IndexLine) → text ≡ flat_map line_bytes lines → 1 ≤ length lines → 0 < length text
     by [] is some = absurd (omega (arith, some))
     by (x ∷ lines) is some =
-        omega (arith, ap length is, ap length (flat_map-cons line_bytes x lines),
-        length-append (line_bytes x) (flat_map line_bytes lines), line_long x)
+        omega (
+          arith,
+          ap length is,
+          ap length (flat_map-cons line_bytes x lines),
+          length-append (line_bytes x) (flat_map line_bytes lines),
+          line_long x,
+        )
 
 pub is_index : (part content text rest : List ℕ) (count : ℕ) (lines : List IndexLine) (end : ℕ) → part ≡ sealed content
     → IsBytes content → number_at w32 content ≡ Some (count, text) → LinesRead text rest lines end end

@@ -1,7 +1,7 @@
 -- What the bytes of a part stand for, and that they stand for one thing.
-use Rattle.std.proofs.Common.{◌≡◌, ℕ, ◌+◌, ◌≤◌, ◌<◌, ◌^◌, List, [], ◌∷◌, ◌++◌, length, Option, Some, None, refl}
+use Rattle.std.proofs.Common.{◌≡◌, ℕ, ◌<◌, ◌^◌, List, ◌++◌, length, Option, Some, None, refl}
 use Rattle.std.proofs.lemmas.List.{take_at}
-use Rattle.std.proofs.Common.{take, sym, ap, subst, ◌∙◌, arith, length-append, Bool, true, false, not, nat_eq}
+use Rattle.std.proofs.Common.{take, sym, ap, subst, ◌∙◌, arith}
 use Rattle.std.specs.Int.{w32, w64}
 use Rattle.kv_types.proofs.Fields.{IsBytes, some_is}
 use Rattle.byte_fields.specs.Readers.{number_at}
@@ -18,7 +18,6 @@ pub same_content : (a b : List ℕ) → sealed a ≡ sealed b → a ≡ b
 same_content a b is =
     let len : length a ≡ length b = omega (arith, ap length is, length-sealed a, length-sealed b) in
     (split_same a b (digest a) (digest b) len is).0
-
 
 none_some : {A : Type 0} (o : Option A) (x : A) → o ≡ None → o ≡ Some x → ⊥
 none_some o x a b = absurd cc

@@ -1,16 +1,13 @@
 -- Items that were read one behind the other, and those that are left.
-use Rattle.std.proofs.Common.{◌≡◌, ℕ, zero, suc, ◌+◌, ◌-◌, ◌≤◌, ◌<◌, ◌^◌, List, [], ◌∷◌, ◌++◌, length, map, Option, Some, None}
-use Rattle.std.proofs.Common.{refl, sym, ap, subst, ◌∙◌, arith, append_assoc, length-append, IfSome, AllPairs, All, ◌⊎◌, inl, inr}
-use Rattle.std.specs.List.{flat_map, AllByRecursion, slice_get}
-use Rattle.std.specs.Int.{w32}
-use Rattle.std.proofs.lemmas.List.{append-nil, map-append}
+use Rattle.std.proofs.Common.{◌≡◌, ℕ, ◌<◌, List, [], ◌∷◌, ◌++◌, length, Some, None}
+use Rattle.std.proofs.Common.{refl, sym, ap, ◌∙◌, arith, append_assoc, length-append}
+use Rattle.std.specs.List.{flat_map, AllByRecursion}
+use Rattle.std.proofs.lemmas.List.{append-nil}
 use Rattle.std.proofs.lemmas.Grind.{flat_map-append}
 use Rattle.std.proofs.lemmas.List.Concat.{flat_map-cons}
-use Rattle.std.proofs.lemmas.List.Elements.{All-from_recursion, recursion_from_All}
 use Rattle.kv_types.proofs.Fields.{IsBytes, some_is}
-use Rattle.kv_types.proofs.Ordered.{Among, Rises, rises_from_AllPairs}
-use Rattle.byte_fields.specs.Readers.{Reader, number_at}
-use Rattle.byte_fields.proofs.Readers.{Reads, number_reads, wide32}
+use Rattle.byte_fields.specs.Readers.{Reader}
+use Rattle.byte_fields.proofs.Readers.{Reads}
 
 pub flat_push : {A : Type 0} (spell : A → List ℕ) (xs : List A) (x : A)
     → flat_map spell (xs ++ x ∷ []) ≡ flat_map spell xs ++ spell x
@@ -60,8 +57,14 @@ pub split_by : {A : Type 0} {Is : A → Type 0} {spell : A → List ℕ} {reader
 split_by {A} {Is} {spell} {reader} reads long rest [] all each_r each is =
     record { after = all; split = refl; spelled = is; each = each }
 split_by {A} {Is} {spell} {reader} reads long rest (x ∷ read) [] each_r each is =
-    absurd (omega (arith, long x, ap length is, ap length (flat_map-cons spell x read),
-    length-append (flat_map spell (x ∷ read)) rest, length-append (spell x) (flat_map spell read)))
+    absurd (omega (
+      arith,
+      long x,
+      ap length is,
+      ap length (flat_map-cons spell x read),
+      length-append (flat_map spell (x ∷ read)) rest,
+      length-append (spell x) (flat_map spell read),
+    ))
 split_by {A} {Is} {spell} {reader} reads long rest (x ∷ read) (y ∷ all) each_r each is =
     let parts : spell x ++ (flat_map spell read ++ rest) ≡ spell y ++ flat_map spell all =
     sym (append_assoc (spell x) (flat_map spell read) rest)
@@ -125,8 +128,13 @@ all_by : {A : Type 0} (spell : A → List ℕ) → ((a : A) → 0 < length (spel
     → length rest ≡ 0 → all ≡ read
 all_by {A} spell long rest read all [] split is none = split ∙ append-nil read
 all_by {A} spell long rest read all (x ∷ xs) split is none =
-    absurd (omega (arith, none, long x, ap length (is ∙ flat_map-cons spell x xs),
-    length-append (spell x) (flat_map spell xs)))
+    absurd (omega (
+      arith,
+      none,
+      long x,
+      ap length (is ∙ flat_map-cons spell x xs),
+      length-append (spell x) (flat_map spell xs),
+    ))
 
 pub all_read : {A : Type 0} {Is : A → Type 0} (spell : A → List ℕ) → ((a : A) → 0 < length (spell a))
     → (rest : List ℕ) (read all : List A) → After Is spell rest read all → length rest ≡ 0 → all ≡ read
@@ -141,4 +149,3 @@ pub text_end : {A : Type 0} {Is : A → Type 0} {spell : A → List ℕ} (text r
 text_end {A} {Is} {spell} text rest read p none =
     p.spelled ∙ ap (λ (r : List ℕ). flat_map spell read ++ r) (nil_of rest none)
     ∙ append-nil (flat_map spell read)
-

@@ -1,12 +1,7 @@
 -- Lists whose entries rise.
-use Rattle.std.proofs.Common.{◌≡◌, ◌↔◌, ◌⊎◌, inl, inr, ℕ, suc, ◌+◌, ◌≤◌, ◌<◌, ◌^◌, Bool, true, false, IsTrue, not}
-use Rattle.std.proofs.Common.{List, [], ◌∷◌, ◌++◌, length, map, cond, Option, Some, None, IfSome, nat_eq}
-use Rattle.std.proofs.Common.{refl, sym, ap, subst, ◌∙◌, arith, AllPairs, Ordering, length-append}
-use Rattle.std.specs.Ordering.{is_lt, ordering_then, nat_cmp}
-use Rattle.std.specs.Cmp.Lexicographic.{slice_cmp, pointwise}
-use Rattle.std.specs.Str.{bytes_eq}
-use Rattle.std.proofs.lemmas.List.{map-append}
-use Rattle.std.proofs.lemmas.Slice.Eq.{bytes_eq-Decides}
+use Rattle.std.proofs.Common.{◌≡◌, ◌⊎◌, inl, inr, ◌<◌}
+use Rattle.std.proofs.Common.{List, [], ◌∷◌, ◌++◌, length, Option, Some, None, IfSome}
+use Rattle.std.proofs.Common.{refl, subst, arith, AllPairs}
 use Rattle.kv_types.proofs.Ordered.{Among, Rises, AllPairs-rises, rises_from_AllPairs}
 use Rattle.merge_iter.specs.{EntryPrecedes, chain}
 use Rattle.merge_iter.specs.declared.Direction.TheVariants.{Forward}
@@ -50,8 +45,7 @@ rises_push (x ∷ y ∷ entries) entry rises follows =
     let some : 0 < length (y ∷ entries) = omega arith in
     let last = last_of_some (y ∷ entries) some in
     let before : EntryPrecedes Forward last.0 entry = subst (λ (o : Option Entry). IfSome o (λ l. EntryPrecedes Forward l entry)) last.1 follows in
-    let first = rises.0 last.0 (last_among (y ∷ entries) last.0 last.1) in
-    (
+    let first = rises.0 last.0 (last_among (y ∷ entries) last.0 last.1) in (
       λ z a. elim (among_push (y ∷ entries) entry z a) [
         | inl there ↦ rises.0 z there
         | inr e ↦ subst (EntryPrecedes Forward x) e (chain Forward x last.0 entry first before)
@@ -88,4 +82,3 @@ pub can_follow : (entries others : List Entry) (entry : Entry) → AllPairs (Ent
 can_follow entries others entry rising =
     let rises = rises_from_AllPairs (EntryPrecedes Forward) (entries ++ entry ∷ others) rising in
     follows_last entries entry (last_of entries) refl (λ z a. early_all entries others entry z rises a)
-

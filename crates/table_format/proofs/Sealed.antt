@@ -1,5 +1,5 @@
 -- A part ends in its digest.
-use Rattle.std.proofs.Common.{◌≡◌, ℕ, ◌+◌, ◌-◌, ◌≤◌, ◌<◌, List, ◌++◌, length, take, drop, refl, sym, ap, subst}
+use Rattle.std.proofs.Common.{◌≡◌, ℕ, ◌+◌, ◌-◌, List, ◌++◌, length, take, drop, refl, sym, ap}
 use Rattle.std.proofs.Common.{◌∙◌, arith, length-append, append_assoc}
 use Rattle.std.proofs.lemmas.List.{take_at, drop_at, length-take}
 use Rattle.sha2.specs.Sha256.{sha256}
@@ -19,8 +19,7 @@ pub sealed_parts : (part content : List ℕ) → part ≡ sealed content
     → (take (length part - 8) part ≡ content) × (drop (length part - 8) part ≡ digest content)
 sealed_parts part content is =
     let len : length part - 8 ≡ length content =
-    omega (arith, ap length is, length-sealed content) in
-    (
+    omega (arith, ap length is, length-sealed content) in (
       ap (λ (n : ℕ). take n part) len ∙ ap (take (length content)) is
           ∙ take_at content (digest content) (length content) refl,
       ap (λ (n : ℕ). drop n part) len ∙ ap (drop (length content)) is

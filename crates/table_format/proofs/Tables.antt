@@ -1,5 +1,5 @@
 -- The bytes of a table tell its entries.
-use Rattle.std.proofs.Common.{◌≡◌, ℕ, ◌+◌, ◌≤◌, ◌<◌, ◌^◌, List, [], ◌∷◌, ◌++◌, length, refl, sym, ap, subst}
+use Rattle.std.proofs.Common.{◌≡◌, ℕ, ◌+◌, ◌<◌, ◌^◌, List, ◌++◌, length, refl, sym, ap, subst}
 use Rattle.std.proofs.Common.{◌∙◌, arith, append_assoc, length-append}
 use Rattle.std.specs.List.{AllByRecursion}
 use Rattle.std.specs.Int.{w64, from_be_bytes}
@@ -41,8 +41,12 @@ pub length-table : (blocks : List Block) (filter : List ℕ)
     → length (table_spelling blocks filter) ≡ length (before_footer blocks filter) + 52
 length-table blocks filter =
     let foot = table_footer blocks filter in
-    omega (arith, ap length (table_parts blocks filter), length-footer foot,
-    length-append (before_footer blocks filter) (sealed (footer_content foot)))
+    omega (
+      arith,
+      ap length (table_parts blocks filter),
+      length-footer foot,
+      length-append (before_footer blocks filter) (sealed (footer_content foot)),
+    )
 
 pub table_is_unique : TableIsUnique
 table_is_unique bytes entries others s t =
@@ -54,8 +58,12 @@ table_is_unique bytes entries others s t =
     ∙ table_parts t.blocks t.filter in
     let fronts : length (before_footer s.blocks s.filter)
     ≡ length (before_footer t.blocks t.filter) =
-    omega (arith, ap length (sym s.spelled ∙ t.spelled), length-table s.blocks s.filter,
-    length-table t.blocks t.filter) in
+    omega (
+      arith,
+      ap length (sym s.spelled ∙ t.spelled),
+      length-table s.blocks s.filter,
+      length-table t.blocks t.filter,
+    ) in
     let parts = split_same (before_footer s.blocks s.filter) (before_footer t.blocks t.filter)
     (sealed (footer_content fa)) (sealed (footer_content fb)) fronts same in
     let feet = split_same (footer_content fa) (footer_content fb) (digest (footer_content fa))

@@ -1,4 +1,4 @@
-use Rattle.std.proofs.Common.{◌≡◌, ◌-◌, ℕ, List, length, take, drop, ap, ◌∙◌, arith}
+use Rattle.std.proofs.Common.{◌-◌, length, take, ap, ◌∙◌, arith}
 use Rattle.table_format.proofs.Fronts.{block_long, entries_there}
 use Rattle.table_format.proofs.block.entries_in.Goals as goal
 

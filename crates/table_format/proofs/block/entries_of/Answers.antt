@@ -1,4 +1,4 @@
-use Rattle.std.proofs.Common.{◌≡◌, ◌<◌, ◌≤◌, ℕ, length, sym, ◌∙◌, arith, None, Some, option_map, Option, IfSome, subst, Bool, IsTrue, true, false}
+use Rattle.std.proofs.Common.{◌≡◌, length, arith, Bool, IsTrue, false}
 use Rattle.table_format.proofs.BlockLoops.{block_spells, entries_all, entries_begin, entries_next}
 use Rattle.table_format.proofs.BlockLoops.{entry_shorter, is_block, next_entry, no_entry}
 use Rattle.table_format.proofs.Cases.{is_nothing, not_empty}
@@ -38,7 +38,7 @@ returns-then-seen-count-clause-one c = λ entries b.
     let rest = c.loop-last.rest.now in
     let some = not_empty (length rest) c.is_empty.result c.is_empty.ensures c.loop-last-test.true in
     let n = next_entry c.in-Some-read_u32.entries.now rest _ _ _ c.args.part.now entries (lent_entry c.in-Some-entry_of.entry)
-        c.in-Some-entry_of.after.now c.loop-last.invariant.read w b some c.in-Some-entry_of.ensures in
+    c.in-Some-entry_of.after.now c.loop-last.invariant.read w b some c.in-Some-entry_of.ensures in
     let below = n.0 in
     elim c.then-seen-count.branch [
       | then-seen-count-via-then-seen-count v ↦ let e = v.if-seen-count.true in absurd (omega (arith, below, e))

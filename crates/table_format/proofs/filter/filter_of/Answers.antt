@@ -1,4 +1,4 @@
-use Rattle.std.proofs.Common.{◌≡◌, ◌∙◌, sym, arith, subst, Option, List, ℕ, Bor}
+use Rattle.std.proofs.Common.{sym, arith, subst, Option, List, ℕ, Bor}
 use Rattle.table_format.proofs.PartLaws.{content_fits, filter_none, filter_right, filter_same}
 use Rattle.table_format.specs.Parts.{IsFilterPart, ReadsPart}
 use Rattle.table_format.proofs.filter.filter_of.Goals as goal
@@ -19,8 +19,7 @@ pub returns : goal.returns
 returns c =
     let part = c.args.part.now in
     let content = c.in_ok-content.content.now in
-    let is = c.in_ok-content.ensures.sealed in
-    (
+    let is = c.in_ok-content.ensures.sealed in (
       filter_right part content c.in_ok-len.len c.in_ok-len.filter.now is
           (content_fits part content (λ i. omega (arith, c.type_inv.part i)) is)
           c.in_ok-len.ensures c.if-len-filter.false,

@@ -32,8 +32,7 @@ returns c =
     let it = c.in_ok-footer.footer in
     let end : rest ≡ format_bytes = (bytes_eq-Decides rest c.as_slice.result.now).0
     (on (pointwise nat_eq rest c.as_slice.result.now) (sym c.if-ne.false ∙ c.ne.ensures))
-    ∙ c.as_slice.ensures in
-    (
+    ∙ c.as_slice.ensures in (
       footer_right part content it rest is
           (content_fits part content (λ i. omega (arith, c.type_inv.part i)) is)
           c.in_ok-footer.ensures end,

@@ -1,4 +1,4 @@
-use Rattle.std.proofs.Common.{length, map, List, ℕ}
+use Rattle.std.proofs.Common.{length}
 use Rattle.table_format.proofs.IndexLoops.{LinesRead}
 use Rattle.table_format.proofs.index.lines_of.Given as goal
 
