@@ -1,0 +1,13 @@
+pub mod Sealed
+pub mod Entries
+pub mod Lines
+pub mod Fronts
+pub mod Tables
+pub mod PartLaws
+pub mod Passed
+pub mod Rising
+pub mod IndexLoops
+pub mod BlockLoops
+pub mod Cases
+pub mod EntryPlaces
+pub mod Examples

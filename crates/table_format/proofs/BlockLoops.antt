@@ -1,0 +1,131 @@
+-- The entries of a block, read one behind the other.
+use Rattle.std.proofs.Common.{◌≡◌, ℕ, ◌+◌, ◌<◌, List, [], ◌∷◌, ◌++◌, length, Option, Some, None}
+use Rattle.std.proofs.Common.{refl, sym, ap, subst, ◌∙◌, arith, length-append, IfSome, AllPairs}
+use Rattle.std.specs.List.{flat_map}
+use Rattle.std.specs.Int.{w32}
+use Rattle.std.proofs.lemmas.List.Elements.{All-from_recursion, recursion_from_All}
+use Rattle.kv_types.proofs.Fields.{IsBytes}
+use Rattle.byte_fields.specs.Readers.{number_at}
+use Rattle.merge_iter.specs.declared.Direction.TheVariants.{Forward}
+use Rattle.merge_iter.specs.{EntryPrecedes}
+use Rattle.kv_types.specs.{Entry}
+use Rattle.table_format.proofs.Entries.{entry_reads}
+use Rattle.table_format.proofs.Fronts.{entry_long}
+use Rattle.table_format.proofs.PartLaws.{length_reads, same_content, same_counted}
+use Rattle.table_format.proofs.Passed.{After, Passed, all_read, never_none, next_of, passed_next}
+use Rattle.table_format.proofs.Passed.{split_of, text_end}
+use Rattle.table_format.proofs.Rising.{can_follow, last_push, rising_push}
+use Rattle.table_format.specs.Blocks.{IsBlock, IsBlockText, IsTableEntry, be32, entry_bytes}
+use Rattle.table_format.specs.Blocks.{last_entry, sealed}
+use Rattle.table_format.specs.Reading.{table_entry_at}
+
+-- ---- entries
+
+entry_full : (entry : Entry) → 0 < length (entry_bytes entry)
+entry_full entry = omega (arith, entry_long entry)
+
+pub record EntriesRead (text rest : List ℕ) (seen : ℕ) (last : Option Entry) : Type 0 where
+  pub entries : List Entry
+  pub passed : Passed IsTableEntry entry_bytes text rest entries
+  pub rising : AllPairs (EntryPrecedes Forward) entries
+  pub number : seen ≡ length entries
+  pub end : last ≡ last_entry entries
+
+pub entries_begin : (text : List ℕ) → IsBytes text → EntriesRead text text 0 None
+entries_begin text fits =
+    record {
+      entries = [];
+      passed = record { spelled = refl; each = tt; fits = fits };
+      rising = λ i j d lt short. absurd (omega (arith, short));
+      number = refl;
+      end = refl;
+    }
+
+pub entries_next : (text rest : List ℕ) (seen : ℕ) (last : Option Entry) (entry : Entry) (behind : List ℕ)
+    → EntriesRead text rest seen last → table_entry_at rest ≡ Some (entry, behind)
+    → IfSome last (λ before. EntryPrecedes Forward before entry) → EntriesRead text behind (seen + 1) (Some entry)
+entries_next text rest seen last entry behind r e follows =
+    let seen_is = r.number in
+    record {
+      entries = r.entries ++ entry ∷ [];
+      passed = passed_next entry_reads text rest r.entries entry behind r.passed e;
+      rising = rising_push r.entries entry r.rising (subst (λ (o : Option Entry). IfSome o (λ before. EntryPrecedes Forward before entry)) r.end follows);
+      number = omega (arith, seen_is, length-append r.entries (entry ∷ []));
+      end = sym (last_push r.entries entry);
+    }
+
+pub record SpelledEntries (text : List ℕ) (count : ℕ) (all : List Entry) : Type 0 where
+  pub size : count ≡ length all
+  pub spelled : text ≡ flat_map entry_bytes all
+
+pub block_spells : (part content text : List ℕ) (count : ℕ) → part ≡ sealed content
+    → number_at w32 content ≡ Some (count, text) → (all : List Entry) → IsBlock part all → SpelledEntries text count all
+block_spells part content text count is e all x =
+    let same : content ≡ be32 (length all) ++ flat_map entry_bytes all =
+    same_content content (be32 (length all) ++ flat_map entry_bytes all) (sym is ∙ x.spelled) in
+    let c = same_counted content text (flat_map entry_bytes all) count (length all) same x.few e in
+    record { size = c.0; spelled = c.1 }
+
+after_entries : (text rest : List ℕ) (seen count : ℕ) (last : Option Entry) (part : List ℕ) (all : List Entry)
+    → (r : EntriesRead text rest seen last) → SpelledEntries text count all → IsBlock part all
+    → After IsTableEntry entry_bytes rest r.entries all
+after_entries text rest seen count last part all r w x =
+    split_of entry_reads entry_full text rest r.entries all r.passed (recursion_from_All IsTableEntry all x.each) w.spelled
+
+pub no_entry : (text rest : List ℕ) (seen count : ℕ) (last : Option Entry) (part : List ℕ) (all : List Entry)
+    → EntriesRead text rest seen last → SpelledEntries text count all → IsBlock part all → 0 < length rest
+    → table_entry_at rest ≡ None → ⊥
+no_entry text rest seen count last part all r w x some e =
+    let s = after_entries text rest seen count last part all r w x in
+    never_none entry_reads rest s.after s.each s.spelled some e
+
+pub next_entry : (text rest : List ℕ) (seen count : ℕ) (last : Option Entry) (part : List ℕ) (all : List Entry)
+    (entry : Entry) (behind : List ℕ) → EntriesRead text rest seen last → SpelledEntries text count all
+    → IsBlock part all → 0 < length rest → table_entry_at rest ≡ Some (entry, behind)
+    → (seen < count) × IfSome last (λ before. EntryPrecedes Forward before entry)
+next_entry text rest seen count last part all entry behind r w x some e =
+    let n = next_of entry_reads rest r.entries all entry behind
+    (after_entries text rest seen count last part all r w x) some e in
+    let count_is = w.size in
+    let seen_is = r.number in (
+      omega (arith, count_is, seen_is, ap length n.split, length-append r.entries (entry ∷ n.others)),
+      subst (λ (o : Option Entry). IfSome o (λ before. EntryPrecedes Forward before entry)) (sym r.end)
+          (can_follow r.entries n.others entry (subst (AllPairs (EntryPrecedes Forward)) n.split x.rising)),
+    )
+
+pub entries_all : (text rest : List ℕ) (seen count : ℕ) (last : Option Entry) (part : List ℕ) (all : List Entry)
+    → EntriesRead text rest seen last → SpelledEntries text count all → IsBlock part all → length rest ≡ 0
+    → seen ≡ count
+entries_all text rest seen count last part all r w x none =
+    let s = after_entries text rest seen count last part all r w x in
+    let same : all ≡ r.entries = all_read entry_bytes entry_full rest r.entries all s none in
+    let count_is = w.size in
+    let seen_is = r.number in
+    omega (arith, count_is, seen_is, ap length same)
+
+pub is_block : (part content text rest : List ℕ) (seen count : ℕ) (last : Option Entry) → part ≡ sealed content
+    → IsBytes content → number_at w32 content ≡ Some (count, text) → EntriesRead text rest seen last
+    → length rest ≡ 0 → seen ≡ count → 0 < count → IsBlockText part text
+is_block part content text rest seen count last is fits e r none len some =
+    let t = length_reads.takes content (count, text) fits e in
+    let few = t.1 in
+    let seen_is = r.number in
+    let size : count ≡ length r.entries = sym len ∙ seen_is in
+    let end = text_end text rest r.entries r.passed none in (
+      r.entries,
+      record {
+        spelled = is ∙ ap sealed (t.0.parts ∙ ap (λ (x : List ℕ). be32 count ++ x) end
+            ∙ ap (λ (k : ℕ). be32 k ++ flat_map entry_bytes r.entries) size);
+        some = omega (arith, some, size);
+        few = omega (arith, few, size);
+        each = All-from_recursion IsTableEntry r.entries r.passed.each;
+        rising = r.rising;
+      },
+      end,
+    )
+
+pub entry_shorter : (rest : List ℕ) (entry : Entry) (behind : List ℕ) → IsBytes rest
+    → table_entry_at rest ≡ Some (entry, behind) → length behind < length rest
+entry_shorter rest entry behind fits read =
+    let t = entry_reads.takes rest (entry, behind) fits read in
+    omega (arith, entry_long entry, ap length t.0.parts, length-append (entry_bytes entry) behind)

@@ -1,0 +1,18 @@
+-- Truth values of tests, and what they say.
+use Rattle.std.proofs.Common.{◌≡◌, ℕ, zero, suc, ◌<◌, refl, sym, ◌∙◌, arith, Bool, true, false, not, eqb}
+use Rattle.std.proofs.lemmas.Bool.{eqb-true}
+
+pub off : (b : Bool) → true ≡ not b → b ≡ true → ⊥
+off true e h = absurd cc
+off false e h = absurd cc
+
+pub on : (b : Bool) → false ≡ not b → b ≡ true
+on true e = refl
+on false e = absurd cc
+
+pub not_empty : (n : ℕ) (b : Bool) → b ≡ eqb n 0 → b ≡ false → 0 < n
+not_empty zero b is off = absurd (cc (is, off))
+not_empty (suc n) b is off = omega arith
+
+pub is_nothing : (n : ℕ) (b : Bool) → b ≡ eqb n 0 → b ≡ true → n ≡ 0
+is_nothing n b is on = eqb-true n 0 (sym is ∙ on)

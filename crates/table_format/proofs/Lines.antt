@@ -1,0 +1,22 @@
+-- Lines that are read are those that were spelled.
+use Rattle.std.proofs.Common.{ℕ, ◌^◌, List, refl}
+use Rattle.std.specs.Int.{w32, w64}
+use Rattle.byte_fields.proofs.Readers.{Reads, both_reads, made_reads, right_reads, number_reads, wide32, wide64}
+use Rattle.table_format.proofs.Entries.{count_reads, key_reads}
+use Rattle.table_format.specs.Parts.{IsIndexLine}
+use Rattle.table_format.specs.Reading.{as_line, line_at}
+use Rattle.table_format.specs.Tables.{line_bytes}
+use Rattle.table_format.specs.declared.line.IndexLine.{IndexLine}
+
+abbrev as_parts : IndexLine → ℕ × (ℕ × (List ℕ × ℕ))
+as_parts line = (line.place, (line.len, (line.key, line.number)))
+
+pub line_reads : Reads IsIndexLine line_bytes line_at
+unfolding line_at
+line_reads =
+    right_reads
+    (λ line is. record { place = is.0; len = is.1.0; key = is.1.1.0; number = is.1.1.1 })
+    (λ line is. (is.place, (is.len, (is.key, is.number))))
+    (made_reads as_line as_parts (λ line. refl) (λ x. refl)
+    (both_reads (number_reads w64 (2 ^ 64) wide64)
+    (both_reads (number_reads w32 (2 ^ 32) wide32) (both_reads key_reads count_reads))))
