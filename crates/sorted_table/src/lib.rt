@@ -1,8 +1,11 @@
 //! Sorted tables: opened, looked up and walked through, one block at a time.
 #![tactic(auto)]
 
+mod block;
 mod found;
+mod lines;
 mod table;
+mod tail;
 
 pub use found::FoundVersion;
 pub use table::Table;
