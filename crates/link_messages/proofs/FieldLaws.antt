@@ -21,15 +21,17 @@ use Rattle.link_messages.specs.Spelling.{u8, u16, u32, u64, optional, at_text}
 use Rattle.link_messages.specs.Spelling.{range_text, row_text, page_text, refusal_number, IsEpoch}
 use Rattle.link_messages.specs.Spelling.{IsNumber}
 use Rattle.link_messages.specs.Spelling.{IsPlace, IsKey, IsValue, IsRange, IsRow, IsSmall}
-use Rattle.link_messages.specs.Reading.{only, number_at, epoch_at, id_at}
+use Rattle.byte_fields.specs.{only, number_at}
+use Rattle.link_messages.specs.Reading.{epoch_at, id_at}
 use Rattle.link_messages.specs.Reading.{count_at, place_at, at_at, found_at, bound_at, limit_at}
 use Rattle.link_messages.specs.Reading.{range_at, as_range, row_at, as_row, rows_at, page_at}
 use Rattle.link_messages.specs.Reading.{as_page}
 use Rattle.link_messages.specs.Reading.{config_at}
 use Rattle.link_messages.specs.Reading.{refusal_of, refusal_at}
-use Rattle.link_messages.proofs.Readers.{Reads, both_reads, made_reads, only_reads, number_reads}
-use Rattle.link_messages.proofs.Readers.{truth_reads, optional_reads, counted_reads, wide8, wide16}
-use Rattle.link_messages.proofs.Readers.{wide32, wide64, right_reads, nothing_read}
+use Rattle.byte_fields.proofs.Readers.{Reads, both_reads, made_reads, only_reads, number_reads}
+use Rattle.byte_fields.proofs.Readers.{counted_reads, wide8, wide16}
+use Rattle.link_messages.proofs.Readers.{truth_reads, optional_reads}
+use Rattle.byte_fields.proofs.Readers.{wide32, wide64, right_reads, nothing_read}
 
 -- ---- tests
 

@@ -24,7 +24,7 @@ use Rattle.link_messages.specs.Stream.{NextOutcome, IsByteOutcome, Splits, OneSp
 use Rattle.link_messages.specs.Stream.{FaultsStay}
 use Rattle.link_messages.specs.Stream.{OneSplit}
 use Rattle.link_messages.specs.Reading.{IsOr, content_at}
-use Rattle.link_messages.proofs.Readers.{IsBytes-take, IsBytes-drop}
+use Rattle.byte_fields.proofs.Readers.{IsBytes-take, IsBytes-drop}
 use Rattle.link_messages.proofs.FrameLaws.{frames_fit}
 use Rattle.link_messages.proofs.Contents.{Verdict, verdict, one_verdict}
 

@@ -4,7 +4,8 @@ use Rattle.std.specs.Prelude.{nat_le, ◌==◌, Bool, true, false, ◌&&◌, Opt
 use Rattle.std.specs.Prelude.{Result, Ok, Err, if◌then◌else◌}
 use Rattle.std.specs.Global.{Vec}
 use Rattle.std.specs.List.{sum_by}
-use Rattle.std.specs.Int.{Width, w8, w16, w32, w64, byte_len, from_be_bytes}
+use Rattle.std.specs.Int.{w8, w16, w32, w64}
+use Rattle.byte_fields.specs.{Reader, both, mapped, only, counted, number_at}
 use Rattle.configurations.specs.{is_config}
 use Rattle.kv_types.specs.declared.bounds.TheConstants.{MAX_KEY, MAX_VALUE, MAX_ROWS, MAX_PAGE}
 use Rattle.kv_types.specs.declared.bounds.TheConstants.{MAX_NUMBER}
@@ -19,40 +20,7 @@ use Rattle.link_messages.specs.declared.error.FrameError.{FrameError}
 use Rattle.link_messages.specs.declared.error.FrameError.TheVariants as fault
 use Rattle.link_messages.specs.Stream.{length_field}
 
--- a reader: a value from the front of bytes, and the bytes behind it
-abbrev pub Reader : Type 0 → Type 0
-Reader A = List ℕ → Option (A × List ℕ)
-
--- ---- combinators of readers
-
--- one reading, and then another behind it
-abbrev pub both : {A B : Type 0} → Reader A → Reader B → Reader (A × B)
-both first second bytes = first bytes >>= λ a. second a.1 >>= λ b. Some ((a.0, b.0), b.1)
-
--- a reading with a function applied to its value
-abbrev pub mapped : {A B : Type 0} → (A → B) → Reader A → Reader B
-mapped make read bytes = read bytes >>= λ a. Some (make a.0, a.1)
-
--- a reading whose value passes a test
-abbrev pub only : {A : Type 0} → (A → Bool) → Reader A → Reader A
-only test read bytes = read bytes >>= λ a. if test a.0 then Some a else None
-
--- a given number of readings, one behind the other
-unfoldable pub many : {A : Type 0} → Reader A → ℕ → Reader (List A)
-many read zero bytes = Some ([], bytes)
-many read (suc n) bytes = read bytes >>= λ first. many read n first.1 >>= λ others. Some
-    (first.0 ∷ others.0, others.1)
-
--- a number, and that many readings
-abbrev pub counted : {A : Type 0} → Reader ℕ → Reader A → Reader (List A)
-counted count read bytes = count bytes >>= λ n. many read n.0 n.1
-
 -- ---- fields
-
-abbrev pub number_at : Width → Reader ℕ
-number_at w bytes =
-    if nat_lt (length bytes) (byte_len w) then None else Some
-    (from_be_bytes w (take (byte_len w) bytes), drop (byte_len w) bytes)
 
 unfoldable pub truth_at : Reader Bool
 truth_at [] = None

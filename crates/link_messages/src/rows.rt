@@ -3,7 +3,8 @@ ghost use Rattle.std.specs.Prelude.{◌≡◌, ◌++◌, OnOk, All, nat_le};
 ghost use Rattle.std.specs.List.{flat_map, sum_by};
 ghost use Rattle.kv_types.specs.{row_size};
 ghost use Rattle.link_messages.specs.Spelling.{row_text, page_text, IsRow};
-ghost use Rattle.link_messages.specs.Reading.{ReadsField, items_of, many, row_at, rows_at, page_at};
+ghost use Rattle.byte_fields.specs.{many};
+ghost use Rattle.link_messages.specs.Reading.{ReadsField, items_of, row_at, rows_at, page_at};
 
 use crate::FrameError;
 use crate::fields::{key_of, value_of};

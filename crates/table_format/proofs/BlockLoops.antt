@@ -5,7 +5,7 @@ use Rattle.std.specs.List.{flat_map}
 use Rattle.std.specs.Int.{w32}
 use Rattle.std.proofs.lemmas.List.Elements.{All-from_recursion, recursion_from_All}
 use Rattle.kv_types.proofs.Fields.{IsBytes}
-use Rattle.byte_fields.specs.Readers.{number_at}
+use Rattle.byte_fields.specs.{number_at}
 use Rattle.merge_iter.specs.declared.Direction.TheVariants.{Forward}
 use Rattle.merge_iter.specs.{EntryPrecedes}
 use Rattle.kv_types.specs.{Entry}
@@ -16,7 +16,7 @@ use Rattle.table_format.proofs.Passed.{After, Passed, all_read, never_none, next
 use Rattle.table_format.proofs.Passed.{split_of, text_end}
 use Rattle.table_format.proofs.Rising.{can_follow, last_push, rising_push}
 use Rattle.table_format.specs.Blocks.{IsBlock, IsBlockText, IsTableEntry, be32, entry_bytes}
-use Rattle.table_format.specs.Blocks.{last_of, sealed}
+use Rattle.table_format.specs.Blocks.{last_entry, sealed}
 use Rattle.table_format.specs.Reading.{table_entry_at}
 
 -- ---- entries
@@ -29,7 +29,7 @@ pub record EntriesRead (text rest : List ℕ) (seen : ℕ) (last : Option Entry)
   pub passed : Passed IsTableEntry entry_bytes text rest entries
   pub rising : AllPairs (EntryPrecedes Forward) entries
   pub number : seen ≡ length entries
-  pub end : last ≡ last_of entries
+  pub end : last ≡ last_entry entries
 
 pub entries_begin : (text : List ℕ) → IsBytes text → EntriesRead text text 0 None
 entries_begin text fits =

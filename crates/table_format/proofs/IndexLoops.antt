@@ -7,7 +7,7 @@ use Rattle.std.proofs.lemmas.List.{map-append}
 use Rattle.std.proofs.lemmas.List.Concat.{flat_map-cons}
 use Rattle.std.proofs.lemmas.List.Elements.{All-from_recursion, recursion_from_All}
 use Rattle.kv_types.proofs.Fields.{IsBytes, some_is}
-use Rattle.byte_fields.specs.Readers.{number_at}
+use Rattle.byte_fields.specs.{number_at}
 use Rattle.merge_iter.specs.declared.Direction.TheVariants.{Forward}
 use Rattle.merge_iter.specs.{EntryPrecedes}
 use Rattle.table_format.proofs.Lines.{line_reads}
@@ -15,7 +15,7 @@ use Rattle.table_format.proofs.PartLaws.{length_reads, same_content, same_counte
 use Rattle.table_format.proofs.Passed.{After, Passed, all_read, never_none, next_of, passed_next}
 use Rattle.table_format.proofs.Passed.{split_of, text_end}
 use Rattle.table_format.proofs.Rising.{can_follow, rising_push}
-use Rattle.table_format.specs.Blocks.{CanFollow, be32, last_of, sealed}
+use Rattle.table_format.specs.Blocks.{CanFollow, be32, last_entry, sealed}
 use Rattle.table_format.specs.Parts.{FillsPlaces, IsIndex, IsIndexLine, end_spot}
 use Rattle.table_format.specs.Reading.{line_at}
 use Rattle.table_format.specs.Tables.{index_content, line_bytes}
@@ -164,7 +164,7 @@ line_shorter rest line behind fits e =
     omega (arith, line_long line, ap length t.0.parts, length-append (line_bytes line) behind)
 
 line_last : (lines : List IndexLine) (n : ℕ) (x : IndexLine) → length lines ≡ suc n
-    → slice_get lines n ≡ Some x → last_of (map end_spot lines) ≡ Some (end_spot x)
+    → slice_get lines n ≡ Some x → last_entry (map end_spot lines) ≡ Some (end_spot x)
 line_last [] n x len is = absurd (omega (arith, len))
 line_last (y ∷ []) zero x len is = ap (λ (z : IndexLine). Some (end_spot z)) (some_is y x is)
 line_last (y ∷ []) (suc n) x len is = absurd (omega (arith, len))
@@ -173,7 +173,7 @@ line_last (y ∷ z ∷ xs) (suc n) x len is = line_last (z ∷ xs) n x (omega (a
 
 pub last_line : (lines : List IndexLine) (x : IndexLine)
     → slice_get lines (length lines - 1) ≡ Some x
-    → last_of (map end_spot lines) ≡ Some (end_spot x)
+    → last_entry (map end_spot lines) ≡ Some (end_spot x)
 last_line [] x is = absurd cc
 last_line (y ∷ ys) x is =
     line_last (y ∷ ys) (length ys) x refl

@@ -6,22 +6,22 @@ use Rattle.kv_types.proofs.Ordered.{Among, Rises, AllPairs-rises, rises_from_All
 use Rattle.merge_iter.specs.{EntryPrecedes, chain}
 use Rattle.merge_iter.specs.declared.Direction.TheVariants.{Forward}
 use Rattle.kv_types.specs.{Entry}
-use Rattle.table_format.specs.Blocks.{CanFollow, last_of}
+use Rattle.table_format.specs.Blocks.{CanFollow, last_entry}
 
 -- ---- ends
 
-pub last_push : (entries : List Entry) (entry : Entry) → last_of (entries ++ entry ∷ []) ≡ Some entry
+pub last_push : (entries : List Entry) (entry : Entry) → last_entry (entries ++ entry ∷ []) ≡ Some entry
 last_push [] entry = refl
 last_push (x ∷ []) entry = refl
 last_push (x ∷ y ∷ entries) entry = last_push (y ∷ entries) entry
 
-pub last_among : (entries : List Entry) (last : Entry) → last_of entries ≡ Some last → Among last entries
+pub last_among : (entries : List Entry) (last : Entry) → last_entry entries ≡ Some last → Among last entries
 last_among [] last e = absurd cc
 last_among (x ∷ []) last e = inl (cc)
 last_among (x ∷ y ∷ entries) last e = inr (last_among (y ∷ entries) last e)
 
 -- entries that are there have a last one
-pub last_of_some : (entries : List Entry) → 0 < length entries → (last : Entry) × (last_of entries ≡ Some last)
+pub last_of_some : (entries : List Entry) → 0 < length entries → (last : Entry) × (last_entry entries ≡ Some last)
 last_of_some [] some = absurd (omega (arith, some))
 last_of_some (x ∷ []) some = (x, refl)
 last_of_some (x ∷ y ∷ entries) some = last_of_some (y ∷ entries) (omega arith)
@@ -72,7 +72,7 @@ early_all (x ∷ entries) others entry z rises (inl e) =
     among_middle (x ∷ entries) others entry = inr (among_middle entries others entry)
 early_all (x ∷ entries) others entry z rises (inr a) = early_all entries others entry z rises.1 a
 
-follows_last : (entries : List Entry) (entry : Entry) (o : Option Entry) → last_of entries ≡ o
+follows_last : (entries : List Entry) (entry : Entry) (o : Option Entry) → last_entry entries ≡ o
     → ((z : Entry) → Among z entries → EntryPrecedes Forward z entry) → IfSome o (λ last. EntryPrecedes Forward last entry)
 follows_last entries entry None e early = tt
 follows_last entries entry (Some last) e early = early last (last_among entries last e)
@@ -81,4 +81,4 @@ pub can_follow : (entries others : List Entry) (entry : Entry) → AllPairs (Ent
     → CanFollow entries entry
 can_follow entries others entry rising =
     let rises = rises_from_AllPairs (EntryPrecedes Forward) (entries ++ entry ∷ others) rising in
-    follows_last entries entry (last_of entries) refl (λ z a. early_all entries others entry z rises a)
+    follows_last entries entry (last_entry entries) refl (λ z a. early_all entries others entry z rises a)

@@ -58,15 +58,15 @@ pub record IsTableEntry (entry : Entry) : Type 0 where
 abbrev pub AreRising : List Entry → Type 0
 AreRising entries = AllPairs (EntryPrecedes Forward) entries
 
--- the last of a list, if there is one
-abbrev pub last_of : {A : Type 0} → List A → Option A
-last_of [] = None
-last_of (x ∷ []) = Some x
-last_of (x ∷ y ∷ ys) = last_of (y ∷ ys)
+-- the last of these entries, if there is one
+abbrev pub last_entry : List Entry → Option Entry
+last_entry [] = None
+last_entry (entry ∷ []) = Some entry
+last_entry (entry ∷ next ∷ entries) = last_entry (next ∷ entries)
 
 -- the entry may stand behind these: it comes after the last of them
 abbrev pub CanFollow : List Entry → Entry → Type 0
-CanFollow entries entry = IfSome (last_of entries) (λ last. EntryPrecedes Forward last entry)
+CanFollow entries entry = IfSome (last_entry entries) (λ last. EntryPrecedes Forward last entry)
 
 -- ---- blocks
 

@@ -6,7 +6,7 @@ pub mod Errors
 pub mod Examples
 -- What crates above name.
 pub use Rattle.table_format.specs.Blocks.{AreRising, CanFollow, IsBlock, IsBlockText}
-pub use Rattle.table_format.specs.Blocks.{IsCheckedBlock, last_of}
+pub use Rattle.table_format.specs.Blocks.{IsCheckedBlock, last_entry}
 pub use Rattle.table_format.specs.Blocks.{IsStoredKey, IsTableEntry, be32, be64, block_content}
 pub use Rattle.table_format.specs.Blocks.{block_part, entries_bytes, entry_bytes, sealed}
 pub use Rattle.table_format.specs.Blocks.{starts_from}
