@@ -1,0 +1,6 @@
+pub mod Open
+pub mod Searches
+pub mod Tails
+-- What crates above name.
+pub use Rattle.sorted_table.specs.Open.{FileRepresents, LookupFinds, TableServes, found_entry}
+pub use Rattle.sorted_table.specs.Open.{table_file}

@@ -1,0 +1,69 @@
+//! The search for a key and number in a block.
+ghost use Rattle.std.specs.Prelude.{◌≡◌, ◌⊎◌, List, All, MatchResult, IfErr, option_map};
+ghost use Rattle.std.specs.Ordering.{is_lt};
+ghost use Rattle.kv_types.specs.{Entry};
+ghost use Rattle.merge_iter.specs.{entry_cmp, spot};
+ghost use Rattle.table_format.specs.{IsBlock, IsTableEntry, entries_bytes, lent_entry};
+ghost use Rattle.sorted_table.specs.Open.{LookupFinds};
+ghost use Rattle.sorted_table.specs.Searches.{FindsFirstWithout, IsEarlier};
+
+use crate::found::{FoundVersion, version_of};
+use merge_iter::order;
+use std::alloc::Global;
+use table_format::{LentEntry, TableError, entries_in, entry_of};
+
+// Whether the entry comes before the key and number.
+fn is_earlier(entry: LentEntry, key: &[u8], number: u64) -> bool
+    ensures { result ≡ is_lt (entry_cmp (lent_entry entry.entry) (spot key.now number)) }
+{
+    order(entry.key, entry.number, key, number).is_lt()
+}
+
+// The first entry in the spelling of a block's entries that does not come before the key and
+// number.
+fn first_from<'a>(
+    text: &'a [u8],
+    key: &[u8],
+    number: u64,
+) -> Result<Option<LentEntry<'a>>, TableError>
+    ensures first { (entries : List Entry) → All IsTableEntry entries →
+        text.now ≡ entries_bytes entries →
+        MatchResult result (λ first. FindsFirstWithout (IsEarlier (spot key.now number)) entries
+        (option_map lent_entry first)) (λ _. ⊥) }
+    ensures only { IfErr result (λ e. e ≡ TableError.Damaged) }
+{
+    let mut rest = text;
+    while !rest.is_empty() {
+        let Some((entry, after)) = entry_of(rest) else {
+            return Err(TableError::Damaged);
+        };
+        if !is_earlier(entry, key, number) {
+            return Ok(Some(entry));
+        }
+        rest = after;
+    }
+    Ok(None)
+}
+
+/// What a block that was checked has of the key at the number.
+pub fn find_in(
+    alloc: Global,
+    block: &[u8],
+    key: &[u8],
+    at: u64,
+) -> Result<Option<FoundVersion>, TableError>
+    ensures found { (entries : List Entry) → IsBlock block.now entries →
+        MatchResult result (LookupFinds entries key.now at) (λ e. e ≡ TableError.Memory) }
+    ensures only { IfErr result (λ e. (e ≡ TableError.Memory) ⊎ (e ≡ TableError.Damaged)) }
+{
+    let Some(text) = entries_in(block) else {
+        return Err(TableError::Damaged);
+    };
+    let Some(entry) = first_from(text, key, at)? else {
+        return Ok(None);
+    };
+    if entry.key != key {
+        return Ok(None);
+    }
+    Ok(Some(version_of(alloc, entry)?))
+}

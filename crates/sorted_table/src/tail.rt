@@ -1,0 +1,140 @@
+//! The tail of a table: its filter and its index, read from a file.
+ghost use Rattle.std.specs.Prelude.{◌≡◌, ◌≤◌, ◌+◌, ◌↔◌, ◌⊎◌, ℕ, List, length, take, drop, Some, IsTrue};
+ghost use Rattle.std.specs.Prelude.{IfOk, IfErr, IfSome, MatchOption, MatchResult};
+ghost use Rattle.std.specs.Rc.{rc_slice_items};
+ghost use Rattle.disk.specs.{IsSame, IsStill, KeepsDisk, seen};
+ghost use Rattle.kv_types.specs.{Entry};
+ghost use Rattle.table_format.specs.{IsBuilderError, IsEnvironmentError, ReportsDevice};
+ghost use Rattle.table_format.specs.{TableRepresents, block_lines};
+ghost use Rattle.sorted_table.specs.Tails.{IsTail, tail_bytes};
+
+use disk::Disk;
+use std::alloc::Global;
+use std::rc::RcSlice;
+use table_format::sizes::FOOTER_SIZE;
+use table_format::{Footer, IndexLine, TableError, filter_of, footer_of, lines_of};
+
+/// Where the tail stands in its file, its length, and that of the filter's part, in bytes.
+#[derive(Clone, Copy)]
+pub struct Tail {
+    pub place: u64,
+    pub len: usize,
+    pub filter_len: usize,
+}
+
+// Whether filter and index stand directly behind one another and before the footer.
+fn are_placed(footer: Footer, end: u64) -> bool
+    ensures { IsTrue result ↔ (footer.filter + footer.filter_len ≡ footer.index)
+        × (footer.index + footer.index_len ≡ end) }
+{
+    footer.filter <= footer.index
+        && footer.index <= end
+        && footer.index - footer.filter == footer.filter_len as u64
+        && end - footer.index == footer.index_len as u64
+}
+
+// Where the tail stands, by the footer, which begins at this place.
+fn tail_of(footer: &[u8], end: u64) -> Option<Tail>
+    ensures within { IfSome result (λ tail. tail.filter_len ≤ tail.len) }
+    ensures ends { IfSome result (λ tail. tail.place + tail.len ≡ end) }
+    ensures tail { (bytes : List ℕ) (entries : List Entry) (table : TableRepresents bytes entries) →
+        end + FOOTER_SIZE ≡ length bytes → footer.now ≡ take FOOTER_SIZE (drop end bytes) →
+        MatchOption result ⊥ (IsTail table.blocks table.filter) }
+{
+    let footer = footer_of(footer)?;
+    if !are_placed(footer, end) {
+        return None;
+    }
+    Some(Tail {
+        place: footer.filter,
+        len: (end - footer.filter) as usize,
+        filter_len: footer.filter_len as usize,
+    })
+}
+
+// Reads the footer of a file, and where it begins.
+fn read_footer<D: Disk>(disk: &mut D, file: u64) -> Result<([u8; FOOTER_SIZE], u64), TableError>
+    ensures kept { KeepsDisk D.Disk disk.old disk.new (ReportsDevice result) ⊥ IsSame }
+    ensures footer { (bytes : List ℕ) → D.is_honest disk.old →
+        seen (D.state disk.old file) ≡ Some bytes → FOOTER_SIZE ≤ length bytes →
+        MatchResult result (λ x. (x.1 + FOOTER_SIZE ≡ length bytes)
+        × (x.0 ≡ take FOOTER_SIZE (drop x.1 bytes))) IsEnvironmentError }
+    ensures refusals { IfErr result (λ e. IsBuilderError e → ⊥) }
+    ensures still { IsStill D.Disk disk.old disk.new }
+{
+    let mut footer = [0u8; FOOTER_SIZE];
+    let length = disk.length(file)?;
+    if length < FOOTER_SIZE as u64 {
+        return Err(TableError::Damaged);
+    }
+    let end = length - FOOTER_SIZE as u64;
+    disk.read(file, end, &mut footer)?;
+    Ok((footer, end))
+}
+
+// The bytes of a file from a place on.
+fn read_part<D: Disk>(
+    alloc: Global,
+    disk: &mut D,
+    file: u64,
+    at: u64,
+    len: usize,
+) -> Result<Vec<u8>, TableError>
+    ensures kept { KeepsDisk D.Disk disk.old disk.new (ReportsDevice result) ⊥ IsSame }
+    ensures read { (bytes : List ℕ) → D.is_honest disk.old →
+        seen (D.state disk.old file) ≡ Some bytes → at + len ≤ length bytes →
+        MatchResult result (λ part. part.items ≡ take len (drop at bytes)) IsEnvironmentError }
+    ensures len { IfOk result (λ part. length part.items ≡ len) }
+    ensures refusals { IfErr result (λ e. IsBuilderError e → ⊥) }
+    ensures still { IsStill D.Disk disk.old disk.new }
+{
+    let mut part = vec![in alloc; 0u8; len]?;
+    disk.read(file, at, &mut part)?;
+    Ok(part)
+}
+
+/// Reads the tail of a table. It needs three device calls, and no more memory than the file is
+/// long.
+pub fn read_tail<D: Disk>(
+    alloc: Global,
+    disk: &mut D,
+    file: u64,
+) -> Result<(Vec<u8>, Tail), TableError>
+    ensures kept { KeepsDisk D.Disk disk.old disk.new (ReportsDevice result) ⊥ IsSame }
+    ensures tail { (bytes : List ℕ) (entries : List Entry) (table : TableRepresents bytes entries) →
+        D.is_honest disk.old → seen (D.state disk.old file) ≡ Some bytes →
+        MatchResult result (λ x. (x.0.items ≡ tail_bytes table.blocks table.filter)
+        × IsTail table.blocks table.filter x.1) IsEnvironmentError }
+    ensures within { IfOk result (λ x. x.1.filter_len ≤ length x.0.items) }
+    ensures refusals { IfErr result (λ e. IsBuilderError e → ⊥) }
+    ensures still { IsStill D.Disk disk.old disk.new }
+{
+    let (footer, end) = read_footer(disk, file)?;
+    let Some(tail) = tail_of(&footer, end) else {
+        return Err(TableError::Damaged);
+    };
+    let bytes = read_part(alloc, disk, file, tail.place, tail.len)?;
+    Ok((bytes, tail))
+}
+
+/// The lines of the index and the filter, by the bytes of the tail.
+pub fn parts_of(
+    alloc: Global,
+    bytes: &[u8],
+    tail: Tail,
+) -> Result<(RcSlice<IndexLine>, Vec<u8>), TableError>
+    requires { tail.filter_len ≤ length bytes.now }
+    ensures parts { (all : List ℕ) (entries : List Entry) (table : TableRepresents all entries) →
+        bytes.now ≡ tail_bytes table.blocks table.filter → IsTail table.blocks table.filter tail →
+        MatchResult result (λ x. (rc_slice_items x.0 ≡ block_lines 0 table.blocks)
+        × (x.1.items ≡ table.filter)) (λ e. e ≡ TableError.Memory) }
+    ensures only { IfErr result (λ e. (e ≡ TableError.Memory) ⊎ (e ≡ TableError.Damaged)) }
+{
+    let (filter, index) = bytes.split_at(tail.filter_len);
+    let Some(filter) = filter_of(filter) else {
+        return Err(TableError::Damaged);
+    };
+    let lines = lines_of(alloc, index, tail.place)?;
+    let lines = RcSlice::from_vec(lines)?;
+    Ok((lines, filter.to_vec(alloc)?))
+}
