@@ -1,17 +1,18 @@
 // Runs as scripts of events, and the trace of each event.
-use configurations::{Config, ConfigError, Configs, NodeId};
+use crate::answers::{is_text, put_reply};
+use crate::items::{Change, batch_of, config_of, id_of, key_of, number};
+use configurations::{ConfigError, Configs, NodeId};
 use disk::{Fault, Junk, JunkBytes};
-use kv_types::{Batch, Edit, Key, KvError, Limits, Number, Value};
-use lab::{Event, EventKind, LabError, Line, Report, World, names_nodes, run};
-use node::{Reply, Stop};
+use kv_types::{KvError, Limits};
+use lab::{Event, EventKind, Line, NodeReport, Report, World, names_nodes, run};
+use node::Stop;
 use std::alloc::{AllocError, Global};
 use std::test::Fail;
 
-/// An event. Batches and reads are of the key `a`.
+/// An event. Reads are of the key `a`.
 #[derive(Clone, Copy)]
 pub enum Step {
-    /// Puts a value to the key, or deletes it, in order.
-    Submit(u16, &'static [Option<&'static str>]),
+    Submit(u16, &'static [Change]),
     Get(u16, Option<u64>),
     Deliver(u64),
     Tick(u16),
@@ -20,167 +21,89 @@ pub enum Step {
     Stop(u16, &'static [u8]),
 }
 
-pub const ONE: &[Option<&'static str>] = &[Some("1")];
-
-pub const TWO: &[Option<&'static str>] = &[Some("2")];
-
-fn id(id: u16) -> Result<NodeId, KvError> {
-    NodeId::new(id).ok_or(KvError::BadBytes)
-}
-
-fn number(n: u64) -> Number {
-    Number::new(n).unwrap_or(Number::ZERO)
-}
-
-pub fn key(alloc: Global) -> Result<Key, KvError> {
-    Key::new(b"a".to_vec(alloc)?)
-}
-
-fn edit(alloc: Global, value: Option<&str>) -> Result<Edit, KvError> {
-    match value {
-        None => Ok(Edit::Delete(key(alloc)?)),
-        Some(text) => {
-            let value = Value::new(text.as_bytes().to_vec(alloc)?)?;
-            Ok(Edit::Put(key(alloc)?, value))
-        }
-    }
-}
-
-fn batch(alloc: Global, values: &[Option<&'static str>]) -> Result<Batch, KvError> {
-    let mut edits = Vec::new(alloc);
-    for value in values {
-        edits.push(edit(alloc, *value)?)?;
-    }
-    Batch::new(edits)
-}
-
 fn kind_of(alloc: Global, step: &Step) -> Result<EventKind, KvError> {
+    let node = match step {
+        Step::Deliver(place) => return Ok(EventKind::Deliver { place: *place }),
+        Step::Submit(node, _)
+        | Step::Get(node, _)
+        | Step::Tick(node)
+        | Step::Start(node)
+        | Step::Stop(node, _) => id_of(*node)?,
+    };
     Ok(match step {
-        Step::Submit(node, values) => EventKind::Submit {
-            node: id(*node)?,
-            batch: batch(alloc, values)?,
+        Step::Submit(_, changes) => EventKind::Submit {
+            node,
+            batch: batch_of(alloc, *changes)?,
         },
-        Step::Get(node, at) => EventKind::Get {
-            node: id(*node)?,
-            key: key(alloc)?,
+        Step::Get(_, at) => EventKind::Get {
+            node,
+            key: key_of(alloc, "a")?,
             at: at.map(number),
         },
-        Step::Deliver(place) => EventKind::Deliver { place: *place },
-        Step::Tick(node) => EventKind::Tick { node: id(*node)? },
-        Step::Start(node) => EventKind::Start { node: id(*node)? },
-        Step::Stop(node, junk) => EventKind::Stop {
-            node: id(*node)?,
+        Step::Stop(_, junk) => EventKind::Stop {
+            node,
             junk: Junk::Bytes(JunkBytes::new(junk.to_vec(alloc)?)),
         },
+        Step::Start(_) => EventKind::Start { node },
+        _ => EventKind::Tick { node },
     })
 }
 
-/// The event of a step, without a fault.
-pub fn event(alloc: Global, step: &Step) -> Result<Event, KvError> {
-    let kind = kind_of(alloc, step)?;
-    let fault = Fault::None;
-    Ok(Event { kind, fault })
+/// The event of a step, with this fault.
+fn event(alloc: Global, step: &Step, fault: Fault) -> Result<Event, KvError> {
+    match kind_of(alloc, step) {
+        Ok(kind) => Ok(Event { kind, fault }),
+        Err(e) => Err(e),
+    }
 }
 
 fn events_of(alloc: Global, steps: &[Step]) -> Result<Vec<Event>, KvError> {
     let mut events = Vec::new(alloc);
     for step in steps {
-        events.push(event(alloc, step)?)?;
+        events.push(event(alloc, step, Fault::None)?)?;
     }
     Ok(events)
 }
 
 /// The list of one configuration, of these nodes.
 pub fn configs(alloc: Global, ids: &[u16]) -> Result<Configs, ConfigError> {
-    let mut configs = Vec::new(alloc);
-    configs.push(Config::new(alloc, ids.to_vec(alloc)?)?)?;
-    Configs::new(configs)
+    let config = config_of(alloc, ids)?;
+    Configs::new(vec![in alloc; config]?)
+}
+
+/// Whether the steps name a node that is not in the chain of these nodes.
+pub fn names_another(alloc: Global, ids: &[u16], steps: &[Step]) -> Result<bool, KvError> {
+    let events = events_of(alloc, steps)?;
+    match configs(alloc, ids) {
+        Ok(configs) => Ok(!names_nodes(&configs, &events)),
+        Err(_) => Err(KvError::Memory),
+    }
 }
 
 /// The report of these events in a chain of these nodes, whom they name.
-pub fn report_of(alloc: Global, ids: &[u16], steps: &[Step]) -> Result<Option<Report>, Fail> {
+fn report_of(alloc: Global, ids: &[u16], steps: &[Step]) -> Result<Report, Fail> {
     let configs = configs(alloc, ids)?;
     let events = events_of(alloc, steps)?;
     if !names_nodes(&configs, &events) {
-        return Ok(None);
+        return Err("no node".into());
     }
-    Ok(Some(run(alloc, &configs, &events, &Limits::default())?))
+    Ok(run(alloc, &configs, &events, &Limits::default())?)
 }
 
-/// The trace of this run, an event a line.
-pub fn shown_of(alloc: Global, ids: &[u16], steps: &[Step]) -> Result<String, Fail> {
-    let report = report_of(alloc, ids, steps)?.ok_or("no node")?;
-    Ok(shown(alloc, &report)?)
-}
-
-/// The report of this run on each node, a node a line.
-pub fn nodes_of(alloc: Global, ids: &[u16], steps: &[Step]) -> Result<String, Fail> {
-    let report = report_of(alloc, ids, steps)?.ok_or("no node")?;
-    Ok(nodes_text(alloc, &report)?)
-}
-
-fn stepped(alloc: Global, world: &mut World, events: &[Event]) -> Result<(), LabError> {
-    for event in events {
-        world.step(alloc, event)?;
-    }
-    Ok(())
-}
-
-/// The number of frames that a chain of these nodes has sent after these events, and the number of
-/// steps in its report.
-pub fn sent_after(alloc: Global, ids: &[u16], steps: &[Step]) -> Result<(u64, usize), Fail> {
-    let configs = configs(alloc, ids)?;
-    let events = events_of(alloc, steps)?;
-    let mut world = World::new(alloc, &configs, &Limits::default())?;
-    stepped(alloc, &mut world, &events)?;
-    let sent = world.sent();
-    Ok((sent, world.finish(alloc)?.steps.len()))
-}
-
-fn value_text(alloc: Global, value: &Value) -> Result<String, AllocError> {
-    String::from_utf8_lossy(alloc, value.as_bytes())
-}
-
-fn reply_text(alloc: Global, reply: &Reply) -> Result<String, AllocError> {
-    match reply {
-        Reply::Committed { request, number } => {
-            let (request, number) = (request.get(), number.get());
-            format!(in alloc; "{request}: committed {number}")
-        }
-        Reply::Refused { request, refusal } => {
-            let request = request.get();
-            format!(in alloc; "{request}: refused {} {refusal:?}", *refusal as u8)
-        }
-        Reply::Value {
-            request,
-            number,
-            value,
-        } => {
-            let (request, number) = (request.get(), number.get());
-            match value {
-                Some(value) => {
-                    let text = value_text(alloc, value)?;
-                    format!(in alloc; "{request}: value {text} at {number}")
-                }
-                None => format!(in alloc; "{request}: none at {number}"),
-            }
-        }
-    }
-}
-
-fn stopped_text(alloc: Global, node: NodeId, cause: Option<Stop>) -> Result<String, AllocError> {
+fn put_stop(text: &mut String, node: NodeId, cause: Option<Stop>) -> Result<(), AllocError> {
     let node = node.get();
     match cause {
-        Some(cause) => format!(in alloc; "node {node} stopped: {cause}"),
-        None => format!(in alloc; "node {node} stopped"),
+        Some(cause) => write!(text, "node {node} stopped: {cause}"),
+        None => write!(text, "node {node} stopped"),
     }
 }
 
-fn line_text(alloc: Global, line: &Line) -> Result<String, AllocError> {
+fn put_line(text: &mut String, line: &Line) -> Result<(), AllocError> {
     match line {
-        Line::Nothing => format!(in alloc; "nothing"),
-        Line::Dropped(reason) => format!(in alloc; "dropped {reason:?}"),
-        Line::Replied(reply) => reply_text(alloc, reply),
+        Line::Nothing => text.push_str("nothing"),
+        Line::Dropped(reason) => write!(text, "dropped {reason:?}"),
+        Line::Replied(reply) => put_reply(text, reply),
+        Line::Stopped { node, cause } => put_stop(text, *node, *cause),
         Line::Started {
             node,
             epoch,
@@ -189,8 +112,18 @@ fn line_text(alloc: Global, line: &Line) -> Result<String, AllocError> {
         } => {
             let (node, epoch) = (node.get(), epoch.get());
             let (count, done) = (count.get(), committed.get());
-            format!(in alloc; "node {node} started epoch {epoch} count {count} committed {done}")
+            write!(
+                text,
+                "node {node} started epoch {epoch} count {count} committed {done}"
+            )
         }
+        sent => put_sent(text, sent),
+    }
+}
+
+/// A line on a frame that was sent.
+fn put_sent(text: &mut String, line: &Line) -> Result<(), AllocError> {
+    match line {
         Line::Forwarded {
             place,
             from,
@@ -199,7 +132,7 @@ fn line_text(alloc: Global, line: &Line) -> Result<String, AllocError> {
             number,
         } => {
             let (from, to, epoch, number) = (from.get(), to.get(), epoch.get(), number.get());
-            format!(in alloc; "#{place} {from}>{to} forward {epoch} {number}")
+            write!(text, "#{place} {from}>{to} forward {epoch} {number}")
         }
         Line::Acknowledged {
             place,
@@ -211,86 +144,119 @@ fn line_text(alloc: Global, line: &Line) -> Result<String, AllocError> {
         } => {
             let (from, to, epoch) = (from.get(), to.get(), epoch.get());
             let (committed, have) = (committed.get(), have.get());
-            format!(in alloc; "#{place} {from}>{to} ack {epoch} {committed} {have}")
+            write!(text, "#{place} {from}>{to} ack {epoch} {committed} {have}")
         }
-        Line::Stopped { node, cause } => stopped_text(alloc, *node, *cause),
+        _ => Ok(()),
     }
 }
 
-fn lines_text(alloc: Global, lines: &[Line]) -> Result<String, AllocError> {
-    let mut text = String::new(alloc);
-    for line in lines {
-        if !text.is_empty() {
+/// The lines of an event, parted by ` / `.
+fn put_lines(text: &mut String, lines: &[Line]) -> Result<(), AllocError> {
+    for (index, line) in lines.iter().enumerate() {
+        if index > 0 {
             text.push_str(" / ")?;
         }
-        text.push_str(&line_text(alloc, line)?)?;
+        put_line(text, line)?;
     }
-    Ok(text)
+    text.push_str("\n")
 }
 
-/// The trace of all events, an event a line.
-pub fn shown(alloc: Global, report: &Report) -> Result<String, AllocError> {
-    let mut text = String::new(alloc);
+/// A node at the end: the numbers of one that runs.
+fn put_node(text: &mut String, node: &NodeReport) -> Result<(), AllocError> {
+    let id = node.id.get();
+    let Some(numbers) = node.running else {
+        return write!(text, "node {id} stopped\n");
+    };
+    let (epoch, count) = (numbers.epoch.get(), numbers.count.get());
+    let (done, floor, kept) = (
+        numbers.committed.get(),
+        numbers.floor.get(),
+        numbers.kept.get(),
+    );
+    write!(
+        text,
+        "node {id} epoch {epoch} count {count} committed {done} floor {floor} kept {kept}\n"
+    )
+}
+
+/// The trace of all events, an event a line, and then each node.
+fn put_report(text: &mut String, report: &Report) -> Result<(), AllocError> {
     for lines in &report.steps {
-        text.push_str(&lines_text(alloc, lines.as_slice())?)?;
-        text.push_str("\n")?;
+        put_lines(text, lines.as_slice())?;
     }
-    Ok(text)
-}
-
-// The number of events of a world so far, and the trace of the last one.
-fn so_far(alloc: Global, world: &World) -> Result<String, AllocError> {
-    let taken = world.events().len();
-    match world.report().last() {
-        Some(lines) => {
-            let text = lines_text(alloc, lines.as_slice())?;
-            format!(in alloc; "{taken} {text}\n")
-        }
-        None => format!(in alloc; "{taken}\n"),
-    }
-}
-
-/// The state of a world of these nodes after each event, an event a line.
-pub fn shown_on_the_way(alloc: Global, ids: &[u16], steps: &[Step]) -> Result<String, Fail> {
-    let configs = configs(alloc, ids)?;
-    let events = events_of(alloc, steps)?;
-    let mut world = World::new(alloc, &configs, &Limits::default())?;
-    let mut text = so_far(alloc, &world)?;
-    for event in &events {
-        world.step(alloc, event)?;
-        text.push_str(&so_far(alloc, &world)?)?;
-    }
-    Ok(text)
-}
-
-/// The number of lines that report a stop, and the number of those that report a stop by the node
-/// itself.
-pub fn stops_in(report: &Report) -> (u64, u64) {
-    let (mut all, mut own) = (0u64, 0u64);
-    for lines in &report.steps {
-        for line in lines.as_slice() {
-            if let Line::Stopped { cause, .. } = line {
-                all = all.saturating_add(1);
-                own = own.saturating_add(cause.is_some() as u64);
-            }
-        }
-    }
-    (all, own)
-}
-
-// The report on each node, a node a line.
-fn nodes_text(alloc: Global, report: &Report) -> Result<String, AllocError> {
-    let mut text = String::new(alloc);
     for node in &report.nodes {
-        let id = node.id.get();
-        let line = match &node.running {
-            Some(numbers) => {
-                let (count, committed) = (numbers.count.get(), numbers.committed.get());
-                format!(in alloc; "node {id} count {count} committed {committed}\n")?
-            }
-            None => format!(in alloc; "node {id} stopped\n")?,
-        };
-        text.push_str(&line)?;
+        put_node(text, node)?;
     }
+    Ok(())
+}
+
+/// Fails where the report is another one.
+pub fn shows(alloc: Global, report: &Report, want: &str) -> Result<(), Fail> {
+    let mut text = String::new(alloc);
+    put_report(&mut text, report)?;
+    is_text(&text, want)
+}
+
+/// Events, and their report: the trace of each, and each node at the end.
+pub type Run = (&'static [Step], &'static str);
+
+/// Fails where a run in a chain of these nodes has another report.
+pub fn all_show(alloc: Global, ids: &[u16], runs: &[Run]) -> Result<(), Fail> {
+    for (steps, want) in runs {
+        shows(alloc, &report_of(alloc, ids, *steps)?, *want)?;
+    }
+    Ok(())
+}
+
+/// The number of events of a world so far, that of the frames it sent, and the trace of the last
+/// event.
+fn put_world(text: &mut String, world: &World) -> Result<(), AllocError> {
+    let (taken, sent) = (world.events().len(), world.sent());
+    let Some(lines) = world.report().last() else {
+        return write!(text, "{taken} {sent}\n");
+    };
+    write!(text, "{taken} {sent} ")?;
+    put_lines(text, lines.as_slice())
+}
+
+/// Takes a step, with this fault.
+pub fn take(alloc: Global, world: &mut World, step: &Step, fault: Fault) -> Result<(), Fail> {
+    let event = event(alloc, step, fault)?;
+    let taken = world.step(alloc, &event);
+    drop(event);
+    Ok(taken?)
+}
+
+/// The state of a world, and the one after each event.
+fn put_way(
+    alloc: Global,
+    text: &mut String,
+    world: &mut World,
+    steps: &[Step],
+) -> Result<(), Fail> {
+    put_world(text, world)?;
+    for step in steps {
+        take(alloc, world, step, Fault::None)?;
+        put_world(text, world)?;
+    }
+    Ok(())
+}
+
+/// The state of a world of these nodes after each event, and the number of events in its report.
+fn way_of(alloc: Global, ids: &[u16], steps: &[Step]) -> Result<String, Fail> {
+    let mut world = World::new(alloc, &configs(alloc, ids)?, &Limits::default())?;
+    let mut text = String::new(alloc);
+    let gone = put_way(alloc, &mut text, &mut world, steps);
+    let report = world.finish(alloc);
+    gone?;
+    write!(text, "{}\n", report?.steps.len())?;
     Ok(text)
+}
+
+/// Fails where a world of these nodes is another one on its way.
+pub fn all_go(alloc: Global, ids: &[u16], runs: &[Run]) -> Result<(), Fail> {
+    for (steps, want) in runs {
+        is_text(&way_of(alloc, ids, *steps)?, *want)?;
+    }
+    Ok(())
 }

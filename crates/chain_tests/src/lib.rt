@@ -1,10 +1,16 @@
-//! Tests of complete runs: the trace of each event, with expected values from the rules.
+//! Tests of one node and of whole runs, with expected values from the rules of a step.
 #![tactic(auto)]
 
+#[cfg(test)]
+mod answers;
 #[cfg(test)]
 mod courses;
 #[cfg(test)]
 mod example;
+#[cfg(test)]
+mod items;
+#[cfg(test)]
+mod nodes;
 #[cfg(test)]
 mod one_node;
 #[cfg(test)]

@@ -1,21 +1,21 @@
 // Runs of one node: the result of each event, by the rules of a step.
-use crate::courses::{ONE, Step, TWO, report_of, shown_of};
+use crate::courses::{Run, Step, all_show};
+use crate::items::{NO_A, ONE, THREE, TWO};
 use std::test::Fail;
 
-// Events, and the trace of each.
-static RUNS: [(&[Step], &str); 2] = [
+static RUNS: [Run; 3] = [
     // Batches are committed and read.
     (
         &[
             Step::Get(1, None),
             Step::Submit(1, ONE),
             Step::Get(1, None),
-            Step::Submit(1, &[Some("1"), None, Some("2")]),
+            Step::Submit(1, THREE),
             Step::Get(1, None),
             Step::Get(1, Some(1)),
             Step::Get(1, Some(0)),
             Step::Get(1, Some(3)),
-            Step::Submit(1, &[None]),
+            Step::Submit(1, NO_A),
             Step::Get(1, None),
         ],
         "\
@@ -29,6 +29,7 @@ static RUNS: [(&[Step], &str); 2] = [
 8: refused 4 NotCommitted
 9: committed 3
 10: none at 3
+node 1 epoch 0 count 3 committed 3 floor 0 kept 0
 ",
     ),
     // A stop with junk loses nothing.
@@ -62,27 +63,21 @@ node 1 stopped
 node 1 started epoch 0 count 2 committed 2
 12: value 2 at 2
 13: value 1 at 1
+node 1 epoch 0 count 2 committed 2 floor 0 kept 0
+",
+    ),
+    // A node that runs has its numbers.
+    (
+        &[Step::Submit(1, ONE), Step::Submit(1, TWO)],
+        "\
+1: committed 1
+2: committed 2
+node 1 epoch 0 count 2 committed 2 floor 0 kept 0
 ",
     ),
 ];
 
 #[test]
 fn what_each_event_shows(rt: HostRuntime) -> Result<(), Fail> {
-    for (steps, want) in &RUNS {
-        let text = shown_of(rt.alloc(), &[1], *steps)?;
-        assert!(rt; text.as_str() == *want, "{text}");
-    }
-    Ok(())
-}
-
-#[test]
-fn the_report_has_the_numbers_of_a_running_node(rt: HostRuntime) -> Result<(), Fail> {
-    let steps = [Step::Submit(1, ONE), Step::Submit(1, TWO)];
-    let report = report_of(rt.alloc(), &[1], &steps)?.ok_or("no node")?;
-    assert!(rt; report.nodes.len() == 1);
-    let numbers = report.nodes[0].running.ok_or("rests")?;
-    let (epoch, count) = (numbers.epoch.get(), numbers.count.get());
-    assert!(rt; (epoch, count, numbers.committed.get()) == (0, 2, 2));
-    assert!(rt; (numbers.floor.get(), numbers.kept.get()) == (0, 0));
-    Ok(())
+    all_show(rt.alloc(), &[1], &RUNS)
 }

@@ -1,12 +1,13 @@
 // A fault at every call of the disk in every event of a run: what is told and what is on the disks
 // afterwards agrees with one list of batches.
-use crate::courses::{ONE, Step, TWO, configs, event, key};
+use crate::courses::{Step, configs, take};
+use crate::items::{Change, ONE, TWO, key_of};
 use disk::{Fault, Junk, JunkBytes, MemDisk};
-use kv_types::{Batch, Limits, value_at};
-use lab::{Event, EventKind, Line, World};
+use kv_types::{Batch, Edit, Key, Limits, Value, value_at};
+use lab::{Line, Lines, NodeReport, World};
 use node::{Reply, Stop};
 use record_log::Log;
-use std::alloc::Global;
+use std::alloc::{AllocError, Global};
 use std::test::Fail;
 
 // The nodes of a chain, and events.
@@ -94,38 +95,38 @@ static ALL_WAYS: [Way; 6] = [
     Way::Bytes(b"\x01\x00"),
 ];
 
-fn fault_at(alloc: Global, way: Way, call: u64) -> Result<Fault, Fail> {
+fn junk_of(alloc: Global, bytes: &[u8]) -> Result<Junk, AllocError> {
+    Ok(Junk::Bytes(JunkBytes::new(bytes.to_vec(alloc)?)))
+}
+
+fn fault_at(alloc: Global, way: Way, call: u64) -> Result<Fault, AllocError> {
     Ok(match way {
         Way::Fail => Fault::Fail(call),
         Way::Old => Fault::Stop(call, Junk::Old),
         Way::Bytes(b"") => Fault::Stop(call, Junk::New),
-        Way::Bytes(bytes) => {
-            let junk = JunkBytes::new(bytes.to_vec(alloc)?);
-            Fault::Stop(call, Junk::Bytes(junk))
-        }
+        Way::Bytes(bytes) => Fault::Stop(call, junk_of(alloc, bytes)?),
     })
 }
 
-// A run so far, and the batch of each event that submits one.
-#[derive(Drop)]
-struct Course {
-    world: World,
-    submitted: Vec<Option<Batch>>,
-}
-
-// The batch that an event submits.
-fn batch_of(event: &Event) -> Result<Option<Batch>, Fail> {
-    match &event.kind {
-        EventKind::Submit { batch, .. } => Ok(Some(batch.clone()?)),
-        _ => Ok(None),
+// What a node tells that stops at a fault.
+fn cause_of(way: Way) -> Option<Stop> {
+    match way {
+        Way::Fail => Some(Stop::Disk),
+        Way::Old | Way::Bytes(_) => None,
     }
 }
 
+// A run so far, and the step of each event.
+#[derive(Drop)]
+struct Course {
+    world: World,
+    taken: Vec<Step>,
+}
+
 impl Course {
-    fn step(&mut self, alloc: Global, event: &Event) -> Result<(), Fail> {
-        self.submitted.push(batch_of(event)?)?;
-        self.world.step(alloc, event)?;
-        Ok(())
+    fn step(&mut self, alloc: Global, step: Step, fault: Fault) -> Result<(), Fail> {
+        take(alloc, &mut self.world, &step, fault)?;
+        Ok(self.taken.push(step)?)
     }
 
     // The node that stopped in the last event, and the cause that it told.
@@ -135,100 +136,107 @@ impl Course {
             _ => None,
         }
     }
-}
 
-// The run of these events with a fault in one of them. A node that stops at the fault is started
-// again at once. Answers whether the fault struck, too.
-fn course_of(
-    alloc: Global,
-    nodes: &[u16],
-    steps: &[Step],
-    index: usize,
-    fault: Fault,
-) -> Result<(Course, bool), Fail> {
-    let world = World::new(alloc, &configs(alloc, nodes)?, &Limits::default())?;
-    let submitted = Vec::new(alloc);
-    let mut course = Course { world, submitted };
-    let mut struck = false;
-    for (at, step) in steps.iter().enumerate() {
-        let mut event = event(alloc, step)?;
-        if at != index {
-            course.step(alloc, &event)?;
-            continue;
+    // Takes a step with a fault at this call. A node that stops at the fault is started again at
+    // once. Answers whether the fault struck.
+    fn strike(&mut self, alloc: Global, step: Step, way: Way, call: u64) -> Result<bool, Fail> {
+        self.step(alloc, step, fault_at(alloc, way, call)?)?;
+        let Some((node, cause)) = self.stopped() else {
+            return Ok(false);
+        };
+        if cause != cause_of(way) {
+            return Err("another cause".into());
         }
-        event.fault = fault.clone()?;
-        course.step(alloc, &event)?;
-        if let Some((node, cause)) = course.stopped() {
-            struck = true;
-            if cause != cause_of(&fault) {
-                return Err("another cause".into());
+        self.step(alloc, Step::Start(node), Fault::None)?;
+        Ok(true)
+    }
+
+    // Takes the steps, that of this index with a fault. Answers whether the fault struck.
+    fn run(
+        &mut self,
+        alloc: Global,
+        steps: &[Step],
+        index: usize,
+        way: Way,
+        call: u64,
+    ) -> Result<bool, Fail> {
+        let mut struck = false;
+        for (at, step) in steps.iter().enumerate() {
+            if at == index {
+                struck = self.strike(alloc, *step, way, call)?;
+            } else {
+                self.step(alloc, *step, Fault::None)?;
             }
-            course.step(alloc, &start_of(alloc, node)?)?;
         }
-    }
-    Ok((course, struck))
-}
-
-fn start_of(alloc: Global, node: u16) -> Result<Event, Fail> {
-    Ok(event(alloc, &Step::Start(node))?)
-}
-
-// What a node tells that stops at a fault.
-fn cause_of(fault: &Fault) -> Option<Stop> {
-    match fault {
-        Fault::Stop(_, _) => None,
-        Fault::None | Fault::Fail(_) => Some(Stop::Disk),
+        Ok(struck)
     }
 }
 
-// The batches on a disk.
-fn batches_on(alloc: Global, mut disk: MemDisk) -> Result<Vec<Batch>, Fail> {
-    let log = Log::open(alloc, &mut disk, 3, 0)?;
-    let mut batches = Vec::new(alloc);
+// The records of the log of batches on a disk.
+fn records_on(alloc: Global, disk: &mut MemDisk) -> Result<Vec<Vec<u8>>, Fail> {
+    let log = Log::open(alloc, disk, 3, 0)?;
+    let mut records = Vec::new(alloc);
     for index in 0..log.len() {
-        let record = log.record(alloc, &mut disk, index)?;
-        let spelled = record.get(8..).ok_or("short record")?;
-        batches.push(Batch::from_bytes(alloc, spelled)?)?;
+        records.push(log.record(alloc, disk, index)?)?;
     }
-    Ok(batches)
+    Ok(records)
 }
 
-fn are_same(alloc: Global, a: &Batch, b: &Batch) -> Result<bool, Fail> {
-    Ok(a.to_bytes(alloc)? == b.to_bytes(alloc)?)
-}
-
-// How many first batches two lists have in common.
-fn common_len(alloc: Global, list: &[Batch], other: &[Batch]) -> Result<usize, Fail> {
+// How many first records two lists have in common.
+fn common_len(list: &[Vec<u8>], other: &[Vec<u8>]) -> usize {
     for (index, (a, b)) in list.iter().zip(other).enumerate() {
-        if !are_same(alloc, a, b)? {
-            return Ok(index);
+        if a.as_slice() != b.as_slice() {
+            return index;
         }
     }
-    Ok(list.len().min(other.len()))
+    list.len().min(other.len())
 }
 
-// The one list: what the disks of all nodes have in common.
-fn one_list(alloc: Global, disks: Vec<MemDisk>) -> Result<Vec<Batch>, Fail> {
-    let mut list: Option<Vec<Batch>> = None;
-    for disk in disks {
-        let batches = batches_on(alloc, disk)?;
-        match &mut list {
-            None => list = Some(batches),
-            Some(list) => list.truncate(common_len(alloc, list, &batches)?),
-        }
+// What the disks of all nodes have in common.
+fn common_records(alloc: Global, nodes: &mut [NodeReport]) -> Result<Vec<Vec<u8>>, Fail> {
+    let (first, others) = nodes.split_first_mut().ok_or("no node")?;
+    let mut list = records_on(alloc, &mut first.disk)?;
+    for node in others {
+        let records = records_on(alloc, &mut node.disk)?;
+        list.truncate(common_len(&list, &records));
     }
-    Ok(list.ok_or("no node")?)
+    Ok(list)
 }
 
-// Whether the list has each batch once, in the order of the submits.
-fn is_taken(alloc: Global, list: &[Batch], submitted: &[Option<Batch>]) -> Result<bool, Fail> {
-    let mut passed = 0;
-    for batch in submitted.iter().flatten() {
-        if passed < list.len() && are_same(alloc, batch, &list[passed])? {
-            passed += 1;
+// The one list.
+fn one_list(alloc: Global, nodes: &mut [NodeReport]) -> Result<Vec<Batch>, Fail> {
+    let mut list = Vec::new(alloc);
+    for record in &common_records(alloc, nodes)? {
+        let spelled = record.get(8..).unwrap_or(&[]);
+        list.push(Batch::from_bytes(alloc, spelled)?)?;
+    }
+    Ok(list)
+}
+
+fn is_value(found: Option<&Value>, want: Option<&[u8]>) -> bool {
+    match (found, want) {
+        (Some(value), Some(bytes)) => value.as_bytes() == bytes,
+        (None, None) => true,
+        _ => false,
+    }
+}
+
+fn is_edit(edit: &Edit, change: &Change) -> bool {
+    let want = match change.1 {
+        Some(text) => Some(text.as_bytes()),
+        None => None,
+    };
+    edit.key().as_bytes() == change.0.as_bytes() && is_value(edit.value(), want)
+}
+
+// Whether the batch has these edits.
+fn is_batch(batch: &Batch, changes: &[Change]) -> bool {
+    for (edit, change) in batch.edits().iter().zip(changes) {
+        if !is_edit(edit, change) {
+            return false;
         }
     }
-    Ok(passed == list.len())
+    batch.edits().len() == changes.len()
 }
 
 // What stands at a number, the first being 1.
@@ -236,91 +244,161 @@ fn at<T>(list: &[T], number: u64) -> Option<&T> {
     list.get((number as usize).checked_sub(1)?)
 }
 
-// Whether a reply speaks of the list.
-fn speaks(
-    alloc: Global,
-    list: &[Batch],
-    submitted: &[Option<Batch>],
-    reply: &Reply,
-) -> Result<bool, Fail> {
-    match reply {
-        Reply::Refused { .. } => Ok(true),
-        Reply::Committed { request, number } => {
-            let event = at(submitted, request.get()).ok_or("no event")?;
-            let batch = event.as_ref().ok_or("no batch")?;
-            match at(list, number.get()) {
-                Some(there) => are_same(alloc, batch, there),
-                None => Ok(false),
+// Whether the batch at a number is that of the step.
+fn is_at(list: &[Batch], number: u64, step: &Step) -> bool {
+    match (at(list, number), step) {
+        (Some(batch), Step::Submit(_, changes)) => is_batch(batch, *changes),
+        _ => false,
+    }
+}
+
+// Whether the list has batches that were submitted, each once and in their order.
+fn is_taken(list: &[Batch], taken: &[Step]) -> bool {
+    let mut passed: u64 = 0;
+    for step in taken {
+        if is_at(list, passed.saturating_add(1), step) {
+            passed = passed.saturating_add(1);
+        }
+    }
+    passed == list.len() as u64
+}
+
+// What replies may speak of.
+#[derive(Drop)]
+struct History<'a> {
+    list: &'a [Batch],
+    taken: &'a [Step],
+    key: Key,
+}
+
+impl History<'_> {
+    // Whether the reply is of the list.
+    fn has_reply(&self, reply: &Reply) -> bool {
+        match reply {
+            Reply::Refused { .. } => true,
+            Reply::Committed { request, number } => match at(self.taken, request.get()) {
+                Some(step) => is_at(self.list, number.get(), step),
+                None => false,
+            },
+            Reply::Value { number, value, .. } => self.has_value(number.get(), value),
+        }
+    }
+
+    // Whether the key has this value at this number.
+    fn has_value(&self, number: u64, value: &Option<Value>) -> bool {
+        let Some(first) = self.list.get(..number as usize) else {
+            return false;
+        };
+        let want = match value {
+            Some(value) => Some(value.as_bytes()),
+            None => None,
+        };
+        is_value(value_at(first, &self.key), want)
+    }
+
+    // Whether the replies are of the list.
+    fn has_replies(&self, steps: &[Lines]) -> bool {
+        for lines in steps {
+            for line in lines.as_slice() {
+                if let Line::Replied(reply) = line {
+                    if !self.has_reply(reply) {
+                        return false;
+                    }
+                }
             }
         }
-        Reply::Value { number, value, .. } => {
-            let Some(first) = list.get(..number.get() as usize) else {
-                return Ok(false);
-            };
-            let shown = value_at(first, &key(alloc)?).map(|value| value.as_bytes());
-            Ok(shown == value.as_ref().map(|value| value.as_bytes()))
+        true
+    }
+}
+
+impl History<'_> {
+    fn agrees(&self, steps: &[Lines]) -> Result<(), Fail> {
+        if !is_taken(self.list, self.taken) {
+            return Err("a batch that was not submitted".into());
         }
+        if !self.has_replies(steps) {
+            return Err("a reply that speaks of another list".into());
+        }
+        Ok(())
     }
 }
 
 // What a run told and left agrees with one list.
 fn check(alloc: Global, course: Course) -> Result<(), Fail> {
-    let Course { world, submitted } = course;
-    let report = world.finish(alloc)?;
-    let mut disks = Vec::new(alloc);
-    for node in report.nodes {
-        disks.push(node.disk)?;
-    }
-    let list = one_list(alloc, disks)?;
-    if !is_taken(alloc, &list, &submitted)? {
-        return Err("a batch that was not submitted".into());
-    }
-    for lines in &report.steps {
-        for line in lines.as_slice() {
-            if let Line::Replied(reply) = line {
-                if !speaks(alloc, &list, &submitted, reply)? {
-                    return Err("a reply that speaks of another list".into());
-                }
-            }
+    let Course { world, taken } = course;
+    let mut report = world.finish(alloc)?;
+    let list = one_list(alloc, &mut report.nodes)?;
+    let key = key_of(alloc, "a")?;
+    let (list, taken) = (list.as_slice(), taken.as_slice());
+    let history = History { list, taken, key };
+    history.agrees(&report.steps)
+}
+
+fn created(alloc: Global, nodes: &[u16]) -> Result<Course, Fail> {
+    let configs = configs(alloc, nodes)?;
+    let world = World::new(alloc, &configs, &Limits::default())?;
+    let taken = Vec::new(alloc);
+    Ok(Course { world, taken })
+}
+
+// One run with a fault, checked. Answers whether the fault struck.
+fn strikes(
+    alloc: Global,
+    (nodes, steps): (&[u16], &[Step]),
+    index: usize,
+    way: Way,
+    call: u64,
+) -> Result<bool, Fail> {
+    let mut course = created(alloc, nodes)?;
+    match course.run(alloc, steps, index, way, call) {
+        Ok(struck) => {
+            check(alloc, course)?;
+            Ok(struck)
+        }
+        Err(e) => {
+            drop(course);
+            Err(e)
         }
     }
-    Ok(())
 }
 
 // Faults at the first call of the disk in this event, at the second, and so on, as long as they
 // strike. Answers how many runs that were.
-fn sweep(
-    alloc: Global,
-    nodes: &[u16],
-    steps: &[Step],
-    index: usize,
-    way: Way,
-) -> Result<u64, Fail> {
+fn sweep(alloc: Global, run: (&[u16], &[Step]), index: usize, way: Way) -> Result<u64, Fail> {
     for call in 1..100 {
-        let fault = fault_at(alloc, way, call)?;
-        let (course, struck) = course_of(alloc, nodes, steps, index, fault)?;
-        check(alloc, course)?;
-        if !struck {
+        if !strikes(alloc, run, index, way, call)? {
             return Ok(call);
         }
     }
     Err("a step of 99 calls".into())
 }
 
-#[test]
-fn every_run_with_a_fault_has_one_list(rt: HostRuntime) -> Result<(), Fail> {
+// Sweeps each event of a run but the stops, in all ways. Answers how many runs that were.
+fn sweep_events(alloc: Global, run: (&[u16], &[Step])) -> Result<u64, Fail> {
     let mut runs: u64 = 0;
-    for (nodes, steps) in &RUNS {
-        for (index, step) in steps.iter().enumerate() {
-            if let Step::Stop(_, _) = step {
-                continue;
-            }
-            for way in &ALL_WAYS {
-                let more = sweep(rt.alloc(), *nodes, *steps, index, *way)?;
-                runs = runs.saturating_add(more);
-            }
+    for (index, step) in run.1.iter().enumerate() {
+        if let Step::Stop(_, _) = step {
+            continue;
+        }
+        for way in &ALL_WAYS {
+            runs = runs.saturating_add(sweep(alloc, run, index, *way)?);
         }
     }
-    assert!(rt; runs == 666, "{runs} runs");
-    Ok(())
+    Ok(runs)
+}
+
+fn sweep_all(alloc: Global) -> Result<(), Fail> {
+    let mut runs: u64 = 0;
+    for run in &RUNS {
+        runs = runs.saturating_add(sweep_events(alloc, *run)?);
+    }
+    if runs == 666 {
+        return Ok(());
+    }
+    Err(Fail::new(format_args!("{runs} runs")))
+}
+
+#[test]
+fn every_run_with_a_fault_has_one_list(rt: HostRuntime) -> Result<(), Fail> {
+    sweep_all(rt.alloc())
 }

@@ -1,7 +1,7 @@
 // Runs of a chain of nodes 1, 2 and 3: the trace of each event, by the rules of a step.
-use crate::courses::{
-    ONE, Step, TWO, nodes_of, report_of, sent_after, shown_of, shown_on_the_way, stops_in,
-};
+use crate::answers::is_so;
+use crate::courses::{Run, Step, all_go, all_show, names_another};
+use crate::items::{ONE, TWO};
 use std::test::Fail;
 
 const CHAIN: &[u16] = &[1, 2, 3];
@@ -34,8 +34,7 @@ const RESTS: &[Step] = &[
     Step::Stop(2, b"\x01"),
 ];
 
-// Events, and the trace of each.
-static RUNS: [(&[Step], &str); 5] = [
+static RUNS: [Run; 5] = [
     // A batch goes down the chain and back.
     (
         DOWN,
@@ -49,6 +48,9 @@ static RUNS: [(&[Step], &str); 5] = [
 1: committed 1
 8: value 1 at 1
 9: refused 2 NotHead
+node 1 epoch 0 count 1 committed 1 floor 0 kept 0
+node 2 epoch 0 count 1 committed 1 floor 0 kept 0
+node 3 epoch 0 count 1 committed 1 floor 0 kept 0
 ",
     ),
     // A repeated Forward is dropped, and acknowledged again. An old Ack changes nothing.
@@ -76,6 +78,9 @@ dropped OtherNumber / #3 2>1 ack 0 0 1
 
 dropped OtherNumber / #6 3>2 ack 0 1 1
 10: value 1 at 1
+node 1 epoch 0 count 1 committed 1 floor 0 kept 0
+node 2 epoch 0 count 1 committed 1 floor 0 kept 0
+node 3 epoch 0 count 1 committed 1 floor 0 kept 0
 ",
     ),
     // A batch that arrives before the one it follows is dropped, and sent again at a tick.
@@ -101,9 +106,12 @@ dropped OtherNumber / #3 2>1 ack 0 0 0
 #8 3>2 ack 0 0 0
 #9 2>3 forward 0 1 / #10 2>3 forward 0 2 / #11 2>1 ack 0 0 2
 #12 1>2 forward 0 1 / #13 1>2 forward 0 2
+node 1 epoch 0 count 2 committed 0 floor 0 kept 0
+node 2 epoch 0 count 2 committed 0 floor 0 kept 0
+node 3 epoch 0 count 0 committed 0 floor 0 kept 0
 ",
     ),
-    // A node that rests drops and refuses.
+    // A node that rests drops and refuses. It stops only where an event stops it.
     (
         RESTS,
         "\
@@ -119,6 +127,9 @@ node 2 started epoch 0 count 0 committed 0
 #2 2>3 forward 0 1
 #3 3>2 ack 0 1 1
 node 2 stopped
+node 1 epoch 0 count 1 committed 0 floor 0 kept 0
+node 2 stopped
+node 3 epoch 0 count 1 committed 1 floor 0 kept 0
 ",
     ),
     // A place without a frame has no effect.
@@ -138,90 +149,62 @@ nothing
 nothing
 nothing
 #2 2>3 forward 0 1
+node 1 epoch 0 count 1 committed 0 floor 0 kept 0
+node 2 epoch 0 count 1 committed 0 floor 0 kept 0
+node 3 epoch 0 count 0 committed 0 floor 0 kept 0
 ",
     ),
 ];
 
 #[test]
 fn what_each_event_shows(rt: HostRuntime) -> Result<(), Fail> {
-    for (steps, want) in &RUNS {
-        let text = shown_of(rt.alloc(), CHAIN, *steps)?;
-        assert!(rt; text.as_str() == *want, "{text}");
-    }
-    Ok(())
+    all_show(rt.alloc(), CHAIN, &RUNS)
 }
 
-// Events, and the report on each node after them.
-static NODES: [(&[Step], &str); 2] = [
+// The node of the second step is unknown.
+const UNKNOWN: &[Step] = &[Step::Submit(1, ONE), Step::Tick(4), Step::Tick(1)];
+
+// Steps, and a world on the way: the numbers of its events and its frames after none of the steps
+// and after each, what the last event shows, and then the number of events in its report. A step
+// that names an unknown node is no event. One that delivers no frame is an event.
+static WAYS: [Run; 3] = [
+    (&[], "0 0\n0\n"),
     (
-        DOWN,
+        UNKNOWN,
         "\
-node 1 count 1 committed 1
-node 2 count 1 committed 1
-node 3 count 1 committed 1
+0 0
+1 1 #1 1>2 forward 0 1
+1 1 #1 1>2 forward 0 1
+2 2 #2 1>2 forward 0 1
+2
 ",
     ),
     (
-        RESTS,
+        &[
+            Step::Submit(1, ONE),
+            Step::Tick(4),
+            Step::Deliver(1),
+            Step::Deliver(9),
+            Step::Tick(1),
+        ],
         "\
-node 1 count 1 committed 0
-node 2 stopped
-node 3 count 1 committed 1
+0 0
+1 1 #1 1>2 forward 0 1
+1 1 #1 1>2 forward 0 1
+2 2 #2 2>3 forward 0 1
+3 2 nothing
+4 3 #3 1>2 forward 0 1
+4
 ",
     ),
 ];
 
 #[test]
-fn what_is_left_of_each_node(rt: HostRuntime) -> Result<(), Fail> {
-    for (steps, want) in &NODES {
-        let text = nodes_of(rt.alloc(), CHAIN, *steps)?;
-        assert!(rt; text.as_str() == *want, "{text}");
-    }
-    Ok(())
-}
-
-// An event that names an unknown node is no step.
-#[test]
-fn a_world_is_stepped(rt: HostRuntime) -> Result<(), Fail> {
-    let none = sent_after(rt.alloc(), CHAIN, &[])?;
-    assert!(rt; none == (0, 0));
-    let steps = [Step::Submit(1, ONE), Step::Tick(4), Step::Tick(1)];
-    let sent = sent_after(rt.alloc(), CHAIN, &steps)?;
-    assert!(rt; sent == (2, 2));
-    let report = report_of(rt.alloc(), CHAIN, &steps)?;
-    assert!(rt; report.is_none());
-    Ok(())
-}
-
-// With ample memory a node stops only where an event stops it.
-#[test]
-fn no_node_stops_by_itself(rt: HostRuntime) -> Result<(), Fail> {
-    let report = report_of(rt.alloc(), CHAIN, RESTS)?.ok_or("no node")?;
-    assert!(rt; stops_in(&report) == (2, 0));
-    Ok(())
-}
-
-// What the world has after none of these events, and after each.
-const WAY: &str = "\
-0
-1 #1 1>2 forward 0 1
-1 #1 1>2 forward 0 1
-2 #2 2>3 forward 0 1
-3 nothing
-4 #3 1>2 forward 0 1
-";
-
-// An event of an unknown node is no step, and one without a frame is a step.
-#[test]
 fn a_world_that_goes_on_shows_what_it_did(rt: HostRuntime) -> Result<(), Fail> {
-    let steps = [
-        Step::Submit(1, ONE),
-        Step::Tick(4),
-        Step::Deliver(1),
-        Step::Deliver(9),
-        Step::Tick(1),
-    ];
-    let text = shown_on_the_way(rt.alloc(), CHAIN, &steps)?;
-    assert!(rt; text.as_str() == WAY, "{text}");
-    Ok(())
+    all_go(rt.alloc(), CHAIN, &WAYS)
+}
+
+#[test]
+fn an_unknown_node(rt: HostRuntime) -> Result<(), Fail> {
+    is_so(names_another(rt.alloc(), CHAIN, UNKNOWN))
 }

@@ -22,17 +22,17 @@ fn is_edit(batch: &Batch, value: Option<&[u8]>) -> bool {
     }
 }
 
-/// Whether the batch is spelled so.
-fn is_spelled_so(alloc: Global, batch: Batch, want: &[u8]) -> Result<bool, KvError> {
+/// The spelling of a batch, which is let go.
+fn spelled(alloc: Global, batch: Batch) -> Result<Vec<u8>, AllocError> {
     let bytes = batch.to_bytes(alloc);
     drop(batch);
-    Ok(bytes?.as_slice() == want)
+    bytes
 }
 
 /// Whether a batch of one edit of the key `a`, with this value, is spelled so.
 fn is_spelled(alloc: Global, value: Option<&'static [u8]>, want: &[u8]) -> Result<bool, KvError> {
     let batch = batch_of(alloc, &[(b"a", value)])?;
-    is_spelled_so(alloc, batch, want)
+    Ok(spelled(alloc, batch)?.as_slice() == want)
 }
 
 /// A value of the key `a`, and how a batch of this edit is spelled.
@@ -160,13 +160,13 @@ fn what_is_made_at_the_edges(rt: HostRuntime) -> Result<(), Fail> {
 
 /// Whether the longest batch has a spelling of 65,536 bytes, and the one read from that another.
 fn is_longest(alloc: Global) -> Result<bool, KvError> {
-    let bytes = four_puts(alloc, 16358)?.to_bytes(alloc)?;
+    let bytes = spelled(alloc, four_puts(alloc, 16358)?)?;
     Ok(bytes.len() == 65536 && is_spelling(alloc, &bytes)?)
 }
 
 /// Whether the bytes spell a batch.
 fn is_spelling(alloc: Global, bytes: &[u8]) -> Result<bool, KvError> {
-    is_spelled_so(alloc, Batch::from_bytes(alloc, bytes)?, bytes)
+    Ok(spelled(alloc, Batch::from_bytes(alloc, bytes)?)?.as_slice() == bytes)
 }
 
 #[test]
@@ -374,13 +374,17 @@ enum Copied {
 /// Whether a copy of such a range is one.
 fn copies_range(alloc: Global) -> Result<bool, KvError> {
     let range = range_of(alloc, Some(b"d"), true, 2)?;
-    Ok(is_backward(&range.clone()?))
+    let copy = range.clone();
+    drop(range);
+    Ok(is_backward(&copy?))
 }
 
 /// Whether a copy of a batch of one edit has this edit.
 fn copies_batch(alloc: Global) -> Result<bool, KvError> {
     let batch = batch_of(alloc, &[(b"a", Some(b"1"))])?;
-    Ok(is_edit(&batch.clone()?, Some(b"1")))
+    let copy = batch.clone();
+    drop(batch);
+    Ok(is_edit(&copy?, Some(b"1")))
 }
 
 fn row_of(alloc: Global) -> Result<Row, KvError> {
@@ -389,12 +393,18 @@ fn row_of(alloc: Global) -> Result<Row, KvError> {
     Ok(Row { key, value })
 }
 
-/// Whether a row is of 6 bytes, and a page of its copy has this row alone, and says that there are
-/// more.
+/// Whether a page of this row has one row, and says that there are more.
+fn pages(alloc: Global, row: Row) -> Result<bool, KvError> {
+    let page = Page::new(vec![in alloc; row]?, true);
+    Ok(page.rows().len() == 1 && page.has_more())
+}
+
+/// Whether a row is of 6 bytes, and a page of its copy is one of a row.
 fn copies_row(alloc: Global) -> Result<bool, KvError> {
     let row = row_of(alloc)?;
-    let page = Page::new(vec![in alloc; row.clone()?]?, true);
-    Ok(row.size() == 6 && page.rows().len() == 1 && page.has_more())
+    let (size, copy) = (row.size(), row.clone());
+    drop(row);
+    Ok(size == 6 && pages(alloc, copy?)?)
 }
 
 impl Case for Copied {
