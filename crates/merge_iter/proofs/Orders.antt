@@ -8,7 +8,6 @@ use Rattle.merge_iter.specs.declared.owned_entry.OwnedEntry.{OwnedEntry}
 use Rattle.merge_iter.specs.ListEntries.{entry_of}
 use Rattle.kv_types.specs.{Entry}
 use Rattle.merge_iter.specs.Order.{entry_cmp}
-use Rattle.merge_iter.specs.Positions.{Position, On, Off, Broken, IfOn}
 
 pub less_iff : (r : Ordering) → IsTrue (is_lt r) ↔ (r ≡ Less)
 less_iff Less = (λ h. refl, λ e. refl)
@@ -32,23 +31,3 @@ both k l m n a b r t ka ma lb nb o is =
     let same : r ≡ entry_cmp a b = cc in
     subst (λ x. IsTrue x ↔ (entry_cmp a b ≡ Less)) (sym (is ∙ ap is_lt same))
     (less_iff (entry_cmp a b))
-
-pub comes_ahead : (s s' : Position) (k l : List ℕ) (m n : ℕ) (r : Ordering) (t : Bool)
-    → IfOn s (λ a. k ≡ a.key) → IfOn s (λ a. m ≡ a.number) → IfOn s' (λ b. l ≡ b.key)
-    → IfOn s' (λ b. n ≡ b.number) → r ≡ ordering_then (slice_cmp nat_cmp k l) (nat_cmp n m)
-    → t ≡ is_lt r → IfOn s (λ a. IfOn s' (λ b. IsTrue t ↔ (entry_cmp a b ≡ Less)))
-comes_ahead (On a) (On b) k l m n r t ka ma lb nb o is = both k l m n a b r t ka ma lb nb o is
-comes_ahead (On a) Off k l m n r t ka ma lb nb o is = tt
-comes_ahead (On a) Broken k l m n r t ka ma lb nb o is = tt
-comes_ahead Off s' k l m n r t ka ma lb nb o is = tt
-comes_ahead Broken s' k l m n r t ka ma lb nb o is = tt
-
-pub comes_behind : (s s' : Position) (k l : List ℕ) (m n : ℕ) (r : Ordering) (t : Bool)
-    → IfOn s (λ a. k ≡ a.key) → IfOn s (λ a. m ≡ a.number) → IfOn s' (λ b. l ≡ b.key)
-    → IfOn s' (λ b. n ≡ b.number) → r ≡ ordering_then (slice_cmp nat_cmp k l) (nat_cmp n m)
-    → t ≡ is_lt r → IfOn s' (λ b. IfOn s (λ a. IsTrue t ↔ (entry_cmp a b ≡ Less)))
-comes_behind (On a) (On b) k l m n r t ka ma lb nb o is = both k l m n a b r t ka ma lb nb o is
-comes_behind Off (On b) k l m n r t ka ma lb nb o is = tt
-comes_behind Broken (On b) k l m n r t ka ma lb nb o is = tt
-comes_behind s Off k l m n r t ka ma lb nb o is = tt
-comes_behind s Broken k l m n r t ka ma lb nb o is = tt

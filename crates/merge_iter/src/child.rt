@@ -1,7 +1,8 @@
 //! One cursor, moved in either direction.
-ghost use Rattle.std.specs.Prelude.{◌↔◌, ◌<◌, IsTrue, IsErr, OnOk};
+ghost use Rattle.std.specs.declared.cmp.Ordering.TheVariants.{Less};
+ghost use Rattle.std.specs.Prelude.{◌≡◌, ◌↔◌, ◌<◌, IsTrue, IsErr, OnOk};
 ghost use Rattle.kv_types.specs.{Entry};
-ghost use Rattle.merge_iter.specs.Order.{EntryPrecedes};
+ghost use Rattle.merge_iter.specs.Order.{EntryPrecedes, entry_cmp};
 ghost use Rattle.merge_iter.specs.Positions.{AtEnd, At, After, WalkMeets, IsOn, IfOn, IsBroken};
 ghost use Rattle.merge_iter.specs.Positions.{IsFirst};
 ghost use Rattle.merge_iter.specs.Moves.{CanStep, MoveFinds};
@@ -12,7 +13,21 @@ ghost use Rattle.merge_iter.specs.LentCursors.{KeepsCursor, RefusesMove};
 use crate::cursor::Cursor;
 use crate::direction::Direction;
 use crate::error::CursorError;
-use crate::order;
+use std::cmp::Ordering;
+
+// Whether the entry of `one` comes before that of `other`. Numbers are read only for equal keys.
+fn comes_before<C: Cursor>(one: &C, other: &C) -> bool
+    requires one_on { IsOn (C.position one.now) }
+    requires other_on { IsOn (C.position other.now) }
+    ensures { IfOn (C.position one.now) (λ a. IfOn (C.position other.now)
+        (λ b. IsTrue result ↔ entry_cmp a b ≡ Less)) }
+{
+    match one.key().cmp(&other.key()) {
+        Ordering::Less => true,
+        Ordering::Equal => other.number() < one.number(),
+        Ordering::Greater => false,
+    }
+}
 
 /// Whether a walk in this direction meets the entry of `one` before that of `other`.
 pub fn precedes<C: Cursor>(way: Direction, one: &C, other: &C) -> bool
@@ -22,14 +37,8 @@ pub fn precedes<C: Cursor>(way: Direction, one: &C, other: &C) -> bool
         (λ b. IsTrue result ↔ EntryPrecedes way a b)) }
 {
     match way {
-        Direction::Forward => {
-            let ordering = order(one.key(), one.number(), other.key(), other.number());
-            ordering.is_lt()
-        }
-        Direction::Backward => {
-            let ordering = order(other.key(), other.number(), one.key(), one.number());
-            ordering.is_lt()
-        }
+        Direction::Forward => comes_before(one, other),
+        Direction::Backward => comes_before(other, one),
     }
 }
 
