@@ -8,23 +8,23 @@ use table_format::{
 };
 
 /// The block of one entry: `1` was put at `a` by the batch with number 1.
-static BLOCK: [u8; 27] = [
+pub static BLOCK: [u8; 27] = [
     0, 0, 0, 1, 0, 1, 97, 0, 0, 0, 0, 0, 0, 0, 1, 1, 0, 1, 49, 176, 228, 216, 211, 250, 103, 200, 7,
 ];
 
 /// The part of the filter of the key `a`.
-static FILTER: [u8; 20] = [
+pub static FILTER: [u8; 20] = [
     0, 0, 0, 8, 0, 12, 128, 1, 16, 0, 2, 64, 180, 15, 122, 118, 18, 42, 63, 81,
 ];
 
 /// The index of that block.
-static INDEX: [u8; 35] = [
+pub static INDEX: [u8; 35] = [
     0, 0, 0, 1, 0, 0, 0, 0, 0, 0, 0, 0, 0, 0, 0, 27, 0, 1, 97, 0, 0, 0, 0, 0, 0, 0, 1, 29, 191, 61,
     191, 75, 60, 111, 219,
 ];
 
 /// The footer behind them.
-static FOOTER: [u8; 52] = [
+pub static FOOTER: [u8; 52] = [
     0, 0, 0, 0, 0, 0, 0, 47, 0, 0, 0, 35, 0, 0, 0, 0, 0, 0, 0, 27, 0, 0, 0, 20, 0, 0, 0, 0, 0, 0,
     0, 1, 0, 0, 0, 1, 67, 82, 76, 83, 77, 84, 48, 49, 131, 236, 126, 53, 92, 27, 68, 168,
 ];
