@@ -5,3 +5,4 @@ pub mod BlockWalks
 pub mod LineBlocks
 pub mod TailsLemmas
 pub mod FilterLemmas
+pub mod TableLookups

@@ -9,6 +9,7 @@ use crate::block::find_in;
 use crate::found::FoundVersion;
 use crate::lines::line_for;
 use crate::tail::{parts_of, read_tail};
+use bloom::laws::filters_cover;
 use bloom::{KeyHashes, may_hold_hashed};
 use disk::Disk;
 use std::alloc::Global;
@@ -87,6 +88,7 @@ impl Table {
         ensures still { IsStill ⟦<Files<D> as Disk>⟧ files.old files.new }
     {
         if !may_hold_hashed(&self.filter, hashes) {
+            filters_cover(); // law: the filter of some keys covers each of them
             return Ok(None);
         }
         let Some(line) = line_for(&self.lines, key, at) else {
