@@ -9,4 +9,5 @@ mod tail;
 
 pub use found::FoundVersion;
 pub use table::Table;
+pub use table_files::Files;
 pub use table_format::TableError;
