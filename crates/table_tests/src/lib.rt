@@ -1,7 +1,10 @@
-//! Tests of entries in memory, of cursors over them and of filters, beyond the contracts: long
-//! walks against plain lists, bytes of filters, and calls that succeed.
+//! Tests of entries in memory and in tables, of cursors over them and of filters, beyond the
+//! contracts: long walks against plain lists, bytes of filters and tables, damage, and calls that
+//! succeed.
 #![tactic(auto)]
 
+#[cfg(test)]
+mod files;
 #[cfg(test)]
 mod filters;
 #[cfg(test)]
@@ -14,5 +17,7 @@ mod parts;
 mod plain;
 #[cfg(test)]
 mod sequence;
+#[cfg(test)]
+mod tables;
 #[cfg(test)]
 mod walks;

@@ -6,7 +6,10 @@ use crate::parts::{BLOCK, FILTER, FOOTER, INDEX};
 use disk::{Disk, MemDisk};
 use kv_types::bounds::{MAX_KEY, MAX_NUMBER, MAX_VALUE};
 use merge_iter::{Cursor, CursorError, OwnedEntry};
-use sorted_table::{Builder, Files, Finished, LentEntry, Table, TableError};
+use sorted_table::{Table, TableError};
+use table_builder::{Builder, Finished};
+use table_files::Files;
+use table_format::LentEntry;
 use std::alloc::{AllocError, Global};
 use std::test::Fail;
 
