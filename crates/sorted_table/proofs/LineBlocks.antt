@@ -1,7 +1,7 @@
 -- The block of an index line, in the file and among the entries.
-use Rattle.std.proofs.Common.{◌≡◌, ℕ, ◌+◌, ◌≤◌, ◌<◌, ◌^◌, List, [], ◌∷◌, ◌++◌, length, take, drop, All, AllPairs}
+use Rattle.std.proofs.Common.{◌≡◌, ℕ, ◌+◌, ◌≤◌, List, [], ◌∷◌, ◌++◌, length, take, drop}
 use Rattle.std.proofs.Common.{refl, sym, ap, subst, ◌∙◌, arith, append_assoc, length-append, ◌⊎◌, inl, inr}
-use Rattle.std.specs.List.{flat_map, AllByRecursion}
+use Rattle.std.specs.List.{AllByRecursion}
 use Rattle.std.proofs.lemmas.List.{take_at, drop_at}
 use Rattle.std.proofs.lemmas.Grind.{flat_map-append}
 use Rattle.std.proofs.lemmas.List.Concat.{flat_map-cons}
@@ -12,7 +12,7 @@ use Rattle.merge_iter.specs.{EntryPrecedes, chain, spot}
 use Rattle.merge_iter.specs.declared.Direction.TheVariants.{Forward}
 use Rattle.table_format.proofs.Fronts.{IsSmall, few_entries, length-block_part, split_each}
 use Rattle.table_format.specs.{Block, IsBlock, IsTableEntry, TableRepresents, block_bytes, block_entries, block_line, block_lines}
-use Rattle.table_format.specs.{data_bytes, end_spot, entries_of_blocks, filter_part, footer_part, index_part, table_footer}
+use Rattle.table_format.specs.{data_bytes, entries_of_blocks, filter_part, footer_part, index_part, table_footer}
 use Rattle.table_format.specs.declared.IndexLine.{IndexLine}
 use Rattle.sorted_table.specs.Searches.{EndsEarlier, IsEarlier}
 
@@ -162,9 +162,14 @@ line_block bytes entries s before line after e =
             (split_each IsTableEntry one (entries_of_blocks p.others) each.1).0;
         rising = AllPairs-rises Up one (rising_parts one (entries_of_blocks p.others) back).front;
       };
-      within = omega (arith, place, len, ap length spelled,
-          length-append (data_bytes p.done) (text ++ (data_bytes p.others ++ tail)),
-          length-append text (data_bytes p.others ++ tail));
+      within = omega (
+        arith,
+        place,
+        len,
+        ap length spelled,
+        length-append (data_bytes p.done) (text ++ (data_bytes p.others ++ tail)),
+        length-append text (data_bytes p.others ++ tail),
+      );
     }
 
 -- ---- blocks that end before a spot

@@ -1,5 +1,5 @@
 -- A lookup in a table by the one block where a key and number would stand.
-use Rattle.std.proofs.Common.{◌≡◌, inr, ℕ, ◌+◌, ◌≤◌, List, ◌++◌, length, map, take, drop, All, Option, Some, None, Contains}
+use Rattle.std.proofs.Common.{◌≡◌, inr, ℕ, ◌+◌, ◌≤◌, List, ◌++◌, length, map, take, drop, All, Option, Contains}
 use Rattle.std.proofs.Common.{sym, subst, ◌∙◌, Result, Ok, Err, MatchResult}
 use Rattle.std.specs.List.{AllByRecursion}
 use Rattle.std.proofs.lemmas.List.Elements.{recursion_from_All}

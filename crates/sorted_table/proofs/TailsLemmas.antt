@@ -13,7 +13,7 @@ use Rattle.table_format.proofs.Fronts.{IsSmall, few_entries, length-block_part, 
 use Rattle.table_format.proofs.Sealed.{length-sealed}
 use Rattle.table_format.proofs.Tables.{before_footer, length-footer, length-table, table_parts}
 use Rattle.table_format.specs.{Block, FillsPlaces, IsFilterPart, IsFooter, IsIndex, IsIndexLine, IsTableEntry}
-use Rattle.table_format.specs.{TableRepresents, be32, block_bytes, block_entries, block_line, block_lines, data_bytes}
+use Rattle.table_format.specs.{TableRepresents, be32, block_bytes, block_entries, block_lines, data_bytes}
 use Rattle.table_format.specs.{AreRising, end_spot, entries_of_blocks, filter_part, footer_part, index_content, index_part}
 use Rattle.table_format.specs.{line_bytes, table_footer}
 use Rattle.table_format.specs.declared.Footer.{Footer}
@@ -30,10 +30,16 @@ few_in_blocks : (blocks : List Block) → length (entries_of_blocks blocks) ≤ 
 few_in_blocks [] = omega arith
 few_in_blocks (b ∷ blocks) =
     let below = few_in_blocks blocks in
-    omega (arith, below, few_entries (block_entries b), length-block_part (block_entries b),
-    ap length (flat_map-cons block_entries b blocks),
-    length-append (block_entries b) (entries_of_blocks blocks),
-    ap length (flat_map-cons block_bytes b blocks), length-append (block_bytes b) (data_bytes blocks))
+    omega (
+      arith,
+      below,
+      few_entries (block_entries b),
+      length-block_part (block_entries b),
+      ap length (flat_map-cons block_entries b blocks),
+      length-append (block_entries b) (entries_of_blocks blocks),
+      ap length (flat_map-cons block_bytes b blocks),
+      length-append (block_bytes b) (data_bytes blocks),
+    )
 
 pub long_enough : (bytes : List ℕ) (entries : List Entry) (s : TableRepresents bytes entries)
     → length bytes ≡ length (before_footer s.blocks s.filter) + 52
@@ -85,8 +91,13 @@ placed bytes entries s end it is same =
     let filter = filter_part s.filter in
     let index = index_part (block_lines 0 s.blocks) in
     let e : (length blocks + length filter) + length index ≡ end =
-    omega (arith, is, long_enough bytes entries s, length-append blocks (filter ++ index),
-    length-append filter index) in
+    omega (
+      arith,
+      is,
+      long_enough bytes entries s,
+      length-append blocks (filter ++ index),
+      length-append filter index,
+    ) in
     subst (λ (f : Footer). (f.filter + f.filter_len ≡ f.index) × (f.index + f.index_len ≡ end)) same
     (refl, e)
 
@@ -102,8 +113,14 @@ tail_by bytes entries s end it tail is same place filter_len len =
     record {
       place = place ∙ sym at;
       filter_len = filter_len ∙ sym filter;
-      len = omega (arith, len, is, at, long_enough bytes entries s,
-          length-append (data_bytes s.blocks) (tail_bytes s.blocks s.filter));
+      len = omega (
+        arith,
+        len,
+        is,
+        at,
+        long_enough bytes entries s,
+        length-append (data_bytes s.blocks) (tail_bytes s.blocks s.filter),
+      );
     }
 
 -- ---- the tail
@@ -124,8 +141,13 @@ pub tail_within : (bytes : List ℕ) (entries : List Entry) (s : TableRepresents
 tail_within bytes entries s tail is =
     let place = is.place in
     let len = is.len in
-    omega (arith, place, len, long_enough bytes entries s,
-    length-append (data_bytes s.blocks) (tail_bytes s.blocks s.filter))
+    omega (
+      arith,
+      place,
+      len,
+      long_enough bytes entries s,
+      length-append (data_bytes s.blocks) (tail_bytes s.blocks s.filter),
+    )
 
 pub filter_here : (bytes : List ℕ) (entries : List Entry) (s : TableRepresents bytes entries)
     (part : List ℕ) → part ≡ filter_part s.filter → IsFilterPart part s.filter
@@ -133,8 +155,12 @@ filter_here bytes entries s part is =
     let small = s.fits.filter_len in
     subst (λ (p : List ℕ). IsFilterPart p s.filter) (sym is) (record {
       spelled = refl;
-      short = omega (arith, small, length-sealed (be32 (length s.filter) ++ s.filter),
-          length-append (be32 (length s.filter)) s.filter);
+      short = omega (
+        arith,
+        small,
+        length-sealed (be32 (length s.filter) ++ s.filter),
+        length-append (be32 (length s.filter)) s.filter,
+      );
     })
 
 -- ---- the index
@@ -161,8 +187,7 @@ ends_rise : (place : ℕ) (blocks : List Block) → Rises (EntryPrecedes Forward
 ends_rise place [] rises = tt
 ends_rise place (b ∷ blocks) rises =
     let parts = rising_parts (block_entries b) (entries_of_blocks blocks)
-    (subst (Rises Up) (flat_map-cons block_entries b blocks) rises) in
-    (
+    (subst (Rises Up) (flat_map-cons block_entries b blocks) rises) in (
       λ z a. ends_after b (place + length (block_bytes b)) blocks
           (λ y c. parts.across b.last y (last_there b) c) z a,
       ends_rise (place + length (block_bytes b)) blocks parts.back,
@@ -182,8 +207,7 @@ fills_from place (b ∷ blocks) =
     let below = fills_from (place + length (block_bytes b)) blocks in
     let size : length (data_bytes (b ∷ blocks)) ≡ length (block_bytes b) + length (data_bytes blocks) =
     ap length (flat_map-cons block_bytes b blocks)
-    ∙ length-append (block_bytes b) (data_bytes blocks) in
-    (
+    ∙ length-append (block_bytes b) (data_bytes blocks) in (
       refl,
       subst (λ (n : ℕ). FillsPlaces (place + length (block_bytes b))
           (block_lines (place + length (block_bytes b)) blocks) n) (omega (arith, size)) below,
@@ -199,8 +223,7 @@ lines_right place (b ∷ blocks) room small each =
     ∙ length-append (block_bytes b) (data_bytes blocks) in
     let parts = split_each IsTableEntry (block_entries b) (entries_of_blocks blocks)
     (subst (AllByRecursion IsTableEntry) (flat_map-cons block_entries b blocks) each) in
-    let last = (split_each IsTableEntry b.front (b.last ∷ []) parts.0).1.0 in
-    (
+    let last = (split_each IsTableEntry b.front (b.last ∷ []) parts.0).1.0 in (
       record { place = omega (arith, room); len = small.0; key = last.key; number = last.number },
       lines_right (place + length (block_bytes b)) blocks (omega (arith, room, size)) small.1 parts.1,
     )
@@ -209,8 +232,12 @@ few_lines : (lines : List IndexLine) → length lines ≤ length (flat_map line_
 few_lines [] = omega arith
 few_lines (x ∷ lines) =
     let below = few_lines lines in
-    omega (arith, below, ap length (flat_map-cons line_bytes x lines),
-    length-append (line_bytes x) (flat_map line_bytes lines))
+    omega (
+      arith,
+      below,
+      ap length (flat_map-cons line_bytes x lines),
+      length-append (line_bytes x) (flat_map line_bytes lines),
+    )
 
 length-lines : (place : ℕ) (blocks : List Block) → length (block_lines place blocks) ≡ length blocks
 length-lines place [] = refl
@@ -234,8 +261,13 @@ is_index bytes entries s =
     record {
       spelled = refl;
       some = omega (arith, some, length-lines 0 s.blocks);
-      few = omega (arith, index_len, few_lines lines, length-sealed (index_content lines),
-          length-append (be32 (length lines)) (flat_map line_bytes lines));
+      few = omega (
+        arith,
+        index_len,
+        few_lines lines,
+        length-sealed (index_content lines),
+        length-append (be32 (length lines)) (flat_map line_bytes lines),
+      );
       each = All-from_recursion IsIndexLine lines (lines_right 0 s.blocks (omega (arith, data_len))
           (recursion_from_All IsSmall s.blocks s.fits.each) each);
       rising = lines_rise bytes entries s;

@@ -30,8 +30,7 @@ returns-clause-parts c = λ all entries s is t.
     ∙ drop_at (filter_part s.filter) (index_part lines) len (sym t.filter_len) in
     let filter : s.filter ≡ c.in-Some.filter.now =
     c.in-Some.ensures.1 s.filter (filter_here all entries s c.split_at.result.0.now front) in
-    let copied : c.in_ok-to_vec.field-0.items ≡ c.in-Some.filter.now = search rules in
-    (
+    let copied : c.in_ok-to_vec.field-0.items ≡ c.in-Some.filter.now = search rules in (
       c.in_ok-lines-2.ensures ∙ sym (c.in_ok-lines.ensures.1 lines
           (index_here all entries s c.split_at.result.1.now c.args.tail.place back t.place)),
       copied ∙ sym filter,

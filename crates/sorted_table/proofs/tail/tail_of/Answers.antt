@@ -1,4 +1,4 @@
-use Rattle.std.proofs.Common.{◌≡◌, refl, Bool, true, false, IsTrue}
+use Rattle.std.proofs.Common.{◌≡◌, refl, Bool, false, IsTrue}
 use Rattle.table_format.specs.{table_footer}
 use Rattle.sorted_table.proofs.TailsLemmas.{footer_here, placed, tail_by}
 use Rattle.sorted_table.proofs.tail.tail_of.Goals as goal

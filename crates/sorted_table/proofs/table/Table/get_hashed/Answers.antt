@@ -1,8 +1,8 @@
 use Rattle.std.proofs.Common.{◌≡◌, Bool, IsTrue, List, ℕ, Err, Ok, false, sym, subst, ◌∙◌}
 use Rattle.std.proofs.lemmas.Result.{err_from_is_err_and}
-use Rattle.bloom.specs.{CoversHashed, IsFilter}
+use Rattle.bloom.specs.{CoversHashed}
 use Rattle.disk.proofs.Still.{still}
-use Rattle.table_files.specs.BlockReads.{known_block_answered}
+use Rattle.table_files.specs.{known_block_answered}
 use Rattle.table_format.specs.{IsBlock}
 use Rattle.sorted_table.proofs.FilterLemmas.{denied_unseen}
 use Rattle.sorted_table.proofs.TableLookups.{block_for, no_block, result_up}
