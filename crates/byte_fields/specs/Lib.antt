@@ -1,4 +1,5 @@
 pub mod Readers
+pub mod ReadersLemmas
 -- What crates above name.
 pub use Rattle.byte_fields.specs.Readers.{Reader, ReadsFront, both, counted, mapped, number_at}
 pub use Rattle.byte_fields.specs.Readers.{only}

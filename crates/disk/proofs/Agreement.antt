@@ -13,7 +13,7 @@ use Rattle.disk.specs.States.{Slot, Absent, Fresh, Kept, State, seen, MakesUnsyn
 use Rattle.disk.specs.States.{IsSame, ChangesSlot, written, cut_to}
 use Rattle.disk.specs.Calls.{CanBegin, WriteOutcome, CutOutcome}
 use Rattle.disk.specs.Memory.{KeptAgrees, AllKeptAgree}
-use Rattle.disk.proofs.Places.{get-take, overwritten_before, overwritten_after}
+use Rattle.disk.specs.PlacesLemmas.{get-take, overwritten_before, overwritten_after}
 
 -- an unsynced place stays unsynced under one more pending write
 pub unsynced_still : (end : ℕ) (touches : List PendingWrite) (one : PendingWrite) (place : ℕ)

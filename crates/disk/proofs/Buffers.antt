@@ -11,9 +11,9 @@ use Rattle.std.proofs.lemmas.List.{length-take, length-drop, take-append-le, dro
 use Rattle.disk.specs.Piece.{Piece}
 use Rattle.disk.specs.States.{overwritten}
 use Rattle.disk.specs.Buffer.{uncovered, AllWithin}
-use Rattle.disk.proofs.Places.{same_bytes, get-take, get-take_past, get-drop}
-use Rattle.disk.proofs.Places.{get-append_left, get-append_right}
-use Rattle.disk.proofs.Places.{overwritten_before, overwritten_inside, overwritten_after}
+use Rattle.disk.specs.PlacesLemmas.{same_bytes, get-take, get-take_past, get-drop}
+use Rattle.disk.specs.PlacesLemmas.{get-append_left, get-append_right}
+use Rattle.disk.specs.PlacesLemmas.{overwritten_before, overwritten_inside, overwritten_after}
 
 -- a write makes the bytes longer only where it goes past their end
 pub length-overwritten : (old : List ℕ) (at : ℕ) (bytes : List ℕ) → at ≤ length old

@@ -14,7 +14,7 @@ use Rattle.std.proofs.lemmas.Option.{gets, slice_get-get_or}
 use Rattle.std.proofs.lemmas.Nat.{mod_below}
 use Rattle.disk.specs.declared.pending_write.PendingWrite.{PendingWrite}
 use Rattle.disk.specs.Crashes.{is_unsynced, unsynced_before, torn, torn_byte}
-use Rattle.disk.proofs.Places.{same_bytes, get-past}
+use Rattle.disk.specs.PlacesLemmas.{same_bytes, get-past}
 
 -- a byte that was put is there
 get-set_here : (bytes : List ℕ) (place byte : ℕ) → place < length bytes

@@ -11,6 +11,11 @@ pub mod File
 pub mod Held
 pub mod Memory
 pub mod Crashes
+pub mod PlacesLemmas
+pub mod StepsLemmas
+pub mod MomentsLemmas
+pub mod BesideLemmas
+pub mod StillLemmas
 -- What crates above name.
 pub use Rattle.disk.specs.Calls.{EndsOutOfRange, HasStruck, RisesByOne, SyncOutcome}
 pub use Rattle.disk.specs.Calls.{WriteOutcome}

@@ -7,8 +7,8 @@ use Rattle.kv_types.specs.declared.error.KvError.TheVariants.{BadBytes}
 use Rattle.kv_types.specs.Content.{BatchContent}
 use Rattle.kv_types.specs.Spelling.{text_bytes, batch_bytes, IsBatch}
 use Rattle.kv_types.specs.Reading.{ReadsBytes, RefusesBytes, text_at, batch_at}
-use Rattle.kv_types.proofs.Fields.{IsBytes, text_takes, text_again}
-use Rattle.kv_types.proofs.Batches.{front_again}
+use Rattle.kv_types.specs.FieldsLemmas.{IsBytes, text_takes, text_again}
+use Rattle.kv_types.specs.BatchesLemmas.{front_again}
 
 pub text_found : {X : Type 0} (view : X → List ℕ × List ℕ) (limit : ℕ) (bytes : List ℕ)
     (r : Result X KvError) → IsBytes bytes → ReadsBytes view r (text_at limit bytes)

@@ -2,10 +2,7 @@ pub mod ByteOrder
 pub mod MapLaws
 pub mod ViewLaws
 pub mod EntryCases
-pub mod Ordered
 pub mod Walks
 pub mod PageLaws
 pub mod Loop
-pub mod Fields
-pub mod Batches
 pub mod Fronts

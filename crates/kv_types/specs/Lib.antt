@@ -10,6 +10,9 @@ pub mod Pages
 pub mod Limits
 pub mod Bounds
 pub mod Examples
+pub mod FieldsLemmas
+pub mod BatchesLemmas
+pub mod OrderLemmas
 -- What crates above name.
 pub use Rattle.kv_types.specs.Content.{BatchContent}
 pub use Rattle.kv_types.specs.Entries.{Entry, IsNewest, IsSeen, IsShown, IsUnseen}

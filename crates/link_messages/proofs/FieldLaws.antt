@@ -13,8 +13,8 @@ use Rattle.kv_types.specs.declared.bounds.TheConstants.{MAX_KEY, MAX_VALUE, MAX_
 use Rattle.kv_types.specs.declared.bounds.TheConstants.{MAX_NUMBER}
 use Rattle.kv_types.specs.{text_bytes, IsBatch, batch_bytes as batch_text, row_size, ◌>>=◌, text_at}
 use Rattle.kv_types.specs.{batch_at}
-use Rattle.kv_types.proofs.Fields.{IsBytes, bind_some, some_is, Takes, text_takes, text_again}
-use Rattle.kv_types.proofs.Batches.{front_takes, front_again}
+use Rattle.kv_types.specs.FieldsLemmas.{IsBytes, bind_some, some_is, Takes, text_takes, text_again}
+use Rattle.kv_types.specs.BatchesLemmas.{front_takes, front_again}
 use Rattle.chain_model.specs.declared.Refusal.{Refusal}
 use Rattle.chain_model.specs.declared.Refusal.TheVariants as refused
 use Rattle.link_messages.specs.Spelling.{u8, u16, u32, u64, optional, at_text}
@@ -28,10 +28,10 @@ use Rattle.link_messages.specs.Reading.{range_at, as_range, row_at, as_row, rows
 use Rattle.link_messages.specs.Reading.{as_page}
 use Rattle.link_messages.specs.Reading.{config_at}
 use Rattle.link_messages.specs.Reading.{refusal_of, refusal_at}
-use Rattle.byte_fields.proofs.Readers.{Reads, both_reads, made_reads, only_reads, number_reads}
-use Rattle.byte_fields.proofs.Readers.{counted_reads, wide8, wide16}
+use Rattle.byte_fields.specs.ReadersLemmas.{Reads, both_reads, made_reads, only_reads, number_reads}
+use Rattle.byte_fields.specs.ReadersLemmas.{counted_reads, wide8, wide16}
 use Rattle.link_messages.proofs.Readers.{truth_reads, optional_reads}
-use Rattle.byte_fields.proofs.Readers.{wide32, wide64, right_reads, nothing_read}
+use Rattle.byte_fields.specs.ReadersLemmas.{wide32, wide64, right_reads, nothing_read}
 
 -- ---- tests
 

@@ -10,7 +10,7 @@ use Rattle.configurations.specs.{TestDecidesConfig}
 use Rattle.kv_types.specs.declared.Row.{Row}
 use Rattle.kv_types.specs.{row_size, ◌>>=◌, Span, Rows, text_bytes}
 use Rattle.kv_types.specs.declared.bounds.TheConstants.{MAX_KEY, MAX_VALUE, MAX_PAGE}
-use Rattle.kv_types.proofs.Fields.{IsBytes, bind_some, some_is, Takes}
+use Rattle.kv_types.specs.FieldsLemmas.{IsBytes, bind_some, some_is, Takes}
 use Rattle.link_messages.specs.declared.frame.Frame.{Frame}
 use Rattle.link_messages.specs.declared.frame.Frame.TheVariants as frame
 use Rattle.link_messages.specs.Spelling.{kind, fields, IsFrame, u16, u32, row_text}
@@ -22,7 +22,7 @@ use Rattle.link_messages.specs.Reading.{forward_at, ack_at, notice_at}
 use Rattle.link_messages.specs.Reading.{submit_at, get_at, rows_frame_at, open_at, close_at}
 use Rattle.link_messages.specs.Reading.{committed_at, value_at, rows_are_at, opened_at, refused_at}
 use Rattle.link_messages.specs.Reading.{closed_at, readers, nth, reader_of}
-use Rattle.byte_fields.proofs.Readers.{Reads, both_reads}
+use Rattle.byte_fields.specs.ReadersLemmas.{Reads, both_reads}
 use Rattle.link_messages.proofs.FieldLaws.{epoch_reads, id_reads, count_reads, place_reads}
 use Rattle.link_messages.proofs.FieldLaws.{at_reads}
 use Rattle.link_messages.proofs.FieldLaws.{key_reads, found_reads, batch_reads, config_reads}

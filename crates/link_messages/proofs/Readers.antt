@@ -4,13 +4,13 @@ use Rattle.std.proofs.Common.{List}
 use Rattle.std.proofs.Common.{[], ◌∷◌, ◌++◌, Option, Some, None, IfSome, refl}
 use Rattle.std.proofs.Common.{ap, subst}
 use Rattle.kv_types.specs.{◌>>=◌}
-use Rattle.kv_types.proofs.Fields.{IsBytes, IsBytes-rest, bind_some, some_is, Takes}
-use Rattle.kv_types.proofs.Fields.{Takes-then}
+use Rattle.kv_types.specs.FieldsLemmas.{IsBytes, IsBytes-rest, bind_some, some_is, Takes}
+use Rattle.kv_types.specs.FieldsLemmas.{Takes-then}
 use Rattle.link_messages.specs.Spelling.{truth, optional}
 use Rattle.byte_fields.specs.{Reader, mapped}
 use Rattle.link_messages.specs.Reading.{truth_at}
 use Rattle.link_messages.specs.Reading.{optional_at}
-use Rattle.byte_fields.proofs.Readers.{Reads}
+use Rattle.byte_fields.specs.ReadersLemmas.{Reads}
 
 truth_takes : (bytes : List ℕ) (x : Bool × List ℕ) → IsBytes bytes → truth_at bytes ≡ Some x
     → Takes bytes (truth x.0) x.1 × Unit {0}

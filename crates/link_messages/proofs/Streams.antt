@@ -13,7 +13,7 @@ use Rattle.std.proofs.lemmas.List.Elements.{All-from_recursion, recursion_from_A
 use Rattle.std.proofs.lemmas.Nat.{be_bytes_4, from_be_bytes-to_be_bytes_4}
 use Rattle.byteorder.specs.Endian.{big_number}
 use Rattle.configurations.specs.{TestDecidesConfig}
-use Rattle.kv_types.proofs.Fields.{IsBytes}
+use Rattle.kv_types.specs.FieldsLemmas.{IsBytes}
 use Rattle.link_messages.specs.declared.error.FrameError.{FrameError}
 use Rattle.link_messages.specs.declared.error.FrameError.TheVariants as fault
 use Rattle.link_messages.specs.declared.frame.Frame.{Frame}
@@ -24,7 +24,7 @@ use Rattle.link_messages.specs.Stream.{NextOutcome, IsByteOutcome, Splits, OneSp
 use Rattle.link_messages.specs.Stream.{FaultsStay}
 use Rattle.link_messages.specs.Stream.{OneSplit}
 use Rattle.link_messages.specs.Reading.{IsOr, content_at}
-use Rattle.byte_fields.proofs.Readers.{IsBytes-take, IsBytes-drop}
+use Rattle.byte_fields.specs.ReadersLemmas.{IsBytes-take, IsBytes-drop}
 use Rattle.link_messages.proofs.FrameLaws.{frames_fit}
 use Rattle.link_messages.proofs.Contents.{Verdict, verdict, one_verdict}
 

@@ -20,7 +20,7 @@ use Rattle.merge_iter.specs.ShownEntries.{IsOnTheWay, IsSettled}
 use Rattle.std.specs.declared.cmp.Ordering.{Ordering}
 use Rattle.std.specs.Ordering.{is_lt, ordering_then, nat_cmp}
 use Rattle.std.specs.Cmp.Lexicographic.{slice_cmp}
-use Rattle.merge_iter.proofs.Orders.{both}
+use Rattle.merge_iter.specs.OrderLemmas.{by_parts}
 use Rattle.merge_iter.specs.Searches.{seek_itself, judged_step, shown_here, shown_none, judged_back}
 use Rattle.merge_iter.specs.Searches.{settled_left, settled_end}
 
@@ -165,7 +165,7 @@ pub spot_early : (s : Position) (k key : List ℕ) (m number : ℕ) (r : Orderin
     (slice_cmp nat_cmp k key) (nat_cmp number m) → t ≡ is_lt r
     → IsTrue t → IfOn s (λ a. EntryPrecedes Forward a (spot key number))
 spot_early (On a) k key m number r t ka ma o is h =
-    (both k key m number a (spot key number) r t ka ma refl refl o is).0 h
+    (by_parts k key m number a (spot key number) r t ka ma refl refl o is).0 h
 spot_early Off k key m number r t ka ma o is h = tt
 spot_early Broken k key m number r t ka ma o is h = tt
 
@@ -174,7 +174,7 @@ pub spot_late : (s : Position) (k key : List ℕ) (m number : ℕ) (r : Ordering
     (slice_cmp nat_cmp k key) (nat_cmp number m) → t ≡ is_lt r
     → (IsTrue t → ⊥) → IfOn s (λ a. EntryPrecedes Forward a (spot key number) → ⊥)
 spot_late (On a) k key m number r t ka ma o is else_ =
-    λ c. else_ ((both k key m number a (spot key number) r t ka ma refl refl o is).1 c)
+    λ c. else_ ((by_parts k key m number a (spot key number) r t ka ma refl refl o is).1 c)
 spot_late Off k key m number r t ka ma o is else_ = tt
 spot_late Broken k key m number r t ka ma o is else_ = tt
 

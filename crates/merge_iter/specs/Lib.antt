@@ -13,6 +13,7 @@ pub mod KeptEntries
 pub mod Searches
 pub mod AtNumbers
 pub mod Views
+pub mod OrderLemmas
 -- What crates above name.
 pub use Rattle.merge_iter.specs.EntryOrder.{chain, entry_total, never}
 pub use Rattle.merge_iter.specs.EntryParts.{equal_parts, numbers_fall}

@@ -11,7 +11,7 @@ use Rattle.disk.specs.{State, Slot, Absent, Fresh, Kept, Contents, IsFileOutcome
 use Rattle.disk.specs.{DurableFileIsLeft, DurableIsLeft, EndsOutOfRange, IsDurable, IsLeftAt}
 use Rattle.disk.specs.{LeavesSince, contents}
 use Rattle.disk.specs.{IsSameBut, seen}
-use Rattle.disk.proofs.Moments.{started, weaker}
+use Rattle.disk.specs.MomentsLemmas.{started, weaker}
 use Rattle.record_log.specs.declared.Log.{Log}
 use Rattle.record_log.specs.{HasFailed, Represents, LogHolds, IsAt, IsOldOrNew, IsOldOrNewFrom}
 use Rattle.record_log.specs.{count_of, file_of, gate_of}

@@ -7,8 +7,8 @@ use Rattle.std.proofs.lemmas.List.{length-replicate}
 use Rattle.kv_types.specs.{BatchContent}
 use Rattle.disk.specs.declared.Disk.{Ghosts}
 use Rattle.disk.specs.{AlwaysLeaves, Contents, DurableIsLeft, IsCrashOutcome, State, contents}
-use Rattle.disk.proofs.Moments.{weaker}
-use Rattle.disk.proofs.Still.{still}
+use Rattle.disk.specs.MomentsLemmas.{weaker}
+use Rattle.disk.specs.StillLemmas.{still}
 use Rattle.chain_model.specs.{successor, place, Answer, started, Message}
 use Rattle.chain_core.specs.declared.Done.{Done}
 use Rattle.chain_core.specs.declared.Done.TheVariants as done

@@ -7,8 +7,8 @@ use Rattle.std.proofs.lemmas.List.{length-take, length-drop, take-append-le}
 use Rattle.disk.specs.declared.DiskError.{DiskError}
 use Rattle.disk.specs.declared.DiskError.TheVariants as disk
 use Rattle.disk.specs.{IsLeftAt, Kept, LeavesSince, Slot, State}
-use Rattle.disk.proofs.Beside.{at_start, at_weaker}
-use Rattle.disk.proofs.Steps.{Only, sure_only}
+use Rattle.disk.specs.BesideLemmas.{at_start, at_weaker}
+use Rattle.disk.specs.StepsLemmas.{Only, sure_only}
 use Rattle.record_log.specs.declared.log.Log.{Log}
 use Rattle.record_log.specs.Error.{log_error}
 use Rattle.record_log.specs.Grammar.{Represents, ends_from}

@@ -3,7 +3,7 @@ use Rattle.std.proofs.Common.{◌≡◌, ℕ, ◌+◌, ◌<◌, List, [], ◌∷
 use Rattle.disk.specs.declared.DiskError.{DiskError}
 use Rattle.disk.specs.{IsLeftAt, IsSameBut, LeavesSince, Passes, State, SyncOutcome, WriteOutcome}
 use Rattle.disk.specs.{synced, written}
-use Rattle.disk.proofs.Beside.{at_start, at_more, at_sync, same_but_join}
+use Rattle.disk.specs.BesideLemmas.{at_start, at_more, at_sync, same_but_join}
 use Rattle.record_log.specs.Push.{IsDurableAs}
 use Rattle.record_log.proofs.Pushes.{OnTheWay, durable_start, first_write, second_write}
 

@@ -8,8 +8,8 @@ use Rattle.std.proofs.lemmas.List.{drop_more}
 use Rattle.disk.specs.declared.PendingWrite.TheVariants.{Wrote}
 use Rattle.disk.specs.{Slot, Kept, IsUnsynced, State, overwritten, written, synced, WriteOutcome}
 use Rattle.disk.specs.declared.DiskError.{DiskError}
-use Rattle.disk.proofs.Places.{take_same, window_same, overwritten_before}
-use Rattle.disk.proofs.Steps.{Only, sure_only, writes_only}
+use Rattle.disk.specs.PlacesLemmas.{take_same, window_same, overwritten_before}
+use Rattle.disk.specs.StepsLemmas.{Only, sure_only, writes_only}
 use Rattle.record_log.specs.Push.{pushed, IsPartlyPushed, IsDurableAs}
 
 -- a content on the way

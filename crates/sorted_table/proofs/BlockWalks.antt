@@ -2,13 +2,13 @@
 use Rattle.std.proofs.Common.{◌≡◌, inl, inr, ℕ, ◌<◌, List, [], ◌∷◌, ◌++◌, length, Some, None, All}
 use Rattle.std.proofs.Common.{refl, sym, subst, arith}
 use Rattle.std.proofs.lemmas.List.Elements.{recursion_from_All}
-use Rattle.kv_types.proofs.Fields.{IsBytes}
-use Rattle.kv_types.proofs.Ordered.{All-among, Among}
+use Rattle.kv_types.specs.FieldsLemmas.{IsBytes}
+use Rattle.kv_types.specs.OrderLemmas.{All-among, Among}
 use Rattle.kv_types.specs.{Entry}
-use Rattle.table_format.proofs.Entries.{entry_reads}
-use Rattle.table_format.proofs.Fronts.{entry_long}
-use Rattle.table_format.proofs.Passed.{After, Passed, all_read, never_none, next_of, passed_next, split_of}
-use Rattle.table_format.proofs.Rising.{among_push}
+use Rattle.table_format.specs.EntriesLemmas.{entry_reads}
+use Rattle.table_format.specs.FrontsLemmas.{entry_long}
+use Rattle.table_format.specs.PassedLemmas.{After, Passed, all_read, never_none, next_of, passed_next, split_of}
+use Rattle.table_format.specs.RisingLemmas.{among_push}
 use Rattle.table_format.specs.{IsTableEntry, entries_bytes, entry_bytes, table_entry_at}
 use Rattle.sorted_table.specs.Searches.{IsEarlier, IsFirstWithout}
 

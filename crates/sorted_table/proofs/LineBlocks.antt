@@ -6,11 +6,11 @@ use Rattle.std.proofs.lemmas.List.{take_at, drop_at}
 use Rattle.std.proofs.lemmas.Grind.{flat_map-append}
 use Rattle.std.proofs.lemmas.List.Concat.{flat_map-cons}
 use Rattle.std.proofs.lemmas.List.Elements.{All-from_recursion, recursion_from_All}
-use Rattle.kv_types.proofs.Ordered.{Among, Rises, rises_from_AllPairs, AllPairs-rises}
+use Rattle.kv_types.specs.OrderLemmas.{Among, Rises, rises_from_AllPairs, AllPairs-rises}
 use Rattle.kv_types.specs.{Entry}
 use Rattle.merge_iter.specs.{EntryPrecedes, chain, spot}
 use Rattle.merge_iter.specs.declared.Direction.TheVariants.{Forward}
-use Rattle.table_format.proofs.Fronts.{IsSmall, few_entries, length-block_part, split_each}
+use Rattle.table_format.specs.FrontsLemmas.{IsShortBlock, few_entries, length-block_part, split_each}
 use Rattle.table_format.specs.{Block, IsBlock, IsTableEntry, TableRepresents, block_bytes, block_entries, block_line, block_lines}
 use Rattle.table_format.specs.{data_bytes, entries_of_blocks, filter_part, footer_part, index_part, table_footer}
 use Rattle.table_format.specs.declared.IndexLine.{IndexLine}
@@ -145,8 +145,8 @@ line_block bytes entries s before line after e =
     let back = (rising_parts (entries_of_blocks p.done) (one ++ entries_of_blocks p.others) rises).back in
     let each = split_each IsTableEntry (entries_of_blocks p.done) (one ++ entries_of_blocks p.others)
     (subst (AllByRecursion IsTableEntry) all (recursion_from_All IsTableEntry entries s.each)) in
-    let small = (split_each IsSmall p.done (p.block ∷ p.others) (subst (AllByRecursion IsSmall) p.split
-    (recursion_from_All IsSmall s.blocks s.fits.each))).1.0 in
+    let small = (split_each IsShortBlock p.done (p.block ∷ p.others) (subst (AllByRecursion IsShortBlock) p.split
+    (recursion_from_All IsShortBlock s.blocks s.fits.each))).1.0 in
     record {
       done = p.done;
       block = p.block;

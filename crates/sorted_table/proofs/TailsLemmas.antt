@@ -5,13 +5,13 @@ use Rattle.std.specs.List.{flat_map, AllByRecursion}
 use Rattle.std.proofs.lemmas.List.{take_at, drop_at, take_all}
 use Rattle.std.proofs.lemmas.List.Concat.{flat_map-cons}
 use Rattle.std.proofs.lemmas.List.Elements.{All-from_recursion, recursion_from_All}
-use Rattle.kv_types.proofs.Ordered.{Among, Rises, AllPairs-rises, rises_from_AllPairs}
+use Rattle.kv_types.specs.OrderLemmas.{Among, Rises, AllPairs-rises, rises_from_AllPairs}
 use Rattle.kv_types.specs.{Entry}
 use Rattle.merge_iter.specs.{EntryPrecedes, spot}
 use Rattle.merge_iter.specs.declared.Direction.TheVariants.{Forward}
-use Rattle.table_format.proofs.Fronts.{IsSmall, few_entries, length-block_part, split_each}
-use Rattle.table_format.proofs.Sealed.{length-sealed}
-use Rattle.table_format.proofs.Tables.{before_footer, length-footer, length-table, table_parts}
+use Rattle.table_format.specs.FrontsLemmas.{IsShortBlock, few_entries, length-block_part, split_each}
+use Rattle.table_format.specs.SealedLemmas.{length-sealed}
+use Rattle.table_format.specs.TablesLemmas.{before_footer, length-footer, length-table, table_parts}
 use Rattle.table_format.specs.{Block, FillsPlaces, IsFilterPart, IsFooter, IsIndex, IsIndexLine, IsTableEntry}
 use Rattle.table_format.specs.{TableRepresents, be32, block_bytes, block_entries, block_lines, data_bytes}
 use Rattle.table_format.specs.{AreRising, end_spot, entries_of_blocks, filter_part, footer_part, index_content, index_part}
@@ -214,7 +214,7 @@ fills_from place (b ∷ blocks) =
     )
 
 lines_right : (place : ℕ) (blocks : List Block) → place + length (data_bytes blocks) < 2 ^ 64
-    → AllByRecursion IsSmall blocks → AllByRecursion IsTableEntry (entries_of_blocks blocks)
+    → AllByRecursion IsShortBlock blocks → AllByRecursion IsTableEntry (entries_of_blocks blocks)
     → AllByRecursion IsIndexLine (block_lines place blocks)
 lines_right place [] room small each = tt
 lines_right place (b ∷ blocks) room small each =
@@ -269,7 +269,7 @@ is_index bytes entries s =
         length-append (be32 (length lines)) (flat_map line_bytes lines),
       );
       each = All-from_recursion IsIndexLine lines (lines_right 0 s.blocks (omega (arith, data_len))
-          (recursion_from_All IsSmall s.blocks s.fits.each) each);
+          (recursion_from_All IsShortBlock s.blocks s.fits.each) each);
       rising = lines_rise bytes entries s;
       fills = subst (λ (n : ℕ). FillsPlaces 0 lines n) (omega arith) (fills_from 0 s.blocks);
     }

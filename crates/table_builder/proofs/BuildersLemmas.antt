@@ -8,8 +8,8 @@ use Rattle.table_format.specs.declared.TableError.{TableError}
 use Rattle.table_format.specs.declared.sizes.TheConstants.{BLOCK_SIZE, MAX_DATA}
 use Rattle.table_format.specs.{IsEnvironmentError, IsTableEntry, block_content}
 use Rattle.table_format.specs.{block_lines, entries_of_blocks, entry_bytes, line_bytes}
-use Rattle.table_format.proofs.Fronts.{length-block_content, length-block_part}
-use Rattle.table_format.proofs.Rising.{last_push, rising_push}
+use Rattle.table_format.specs.FrontsLemmas.{length-block_content, length-block_part}
+use Rattle.table_format.specs.RisingLemmas.{last_push, rising_push}
 use Rattle.table_builder.specs.declared.builder.Builder.{Builder}
 use Rattle.table_builder.specs.Builders.{AddRefusal, HasBuilderFailed, HoldsDivision, HoldsEntries}
 use Rattle.table_builder.specs.Closing.{CanAdd, CanClose}

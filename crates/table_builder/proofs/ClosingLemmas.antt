@@ -19,11 +19,11 @@ use Rattle.table_format.specs.{Block, IsTableEntry, TableRepresents, be32, be64,
 use Rattle.table_format.specs.{block_content, block_entries, block_line, block_lines, data_bytes}
 use Rattle.table_format.specs.{different_keys, entries_of_blocks, entry_bytes, filter_part, footer_part}
 use Rattle.table_format.specs.{index_content, index_part, last_entry, line_bytes}
-use Rattle.table_format.proofs.Fronts.{IsSmall, length-block_content, length-block_part, split_each}
-use Rattle.table_format.proofs.Passed.{all_push}
-use Rattle.table_format.proofs.Rising.{last_push}
-use Rattle.table_format.proofs.Sealed.{length-sealed}
-use Rattle.table_format.proofs.Tables.{length-footer}
+use Rattle.table_format.specs.FrontsLemmas.{IsShortBlock, length-block_content, length-block_part, split_each}
+use Rattle.table_format.specs.PassedLemmas.{all_push}
+use Rattle.table_format.specs.RisingLemmas.{last_push}
+use Rattle.table_format.specs.SealedLemmas.{length-sealed}
+use Rattle.table_format.specs.TablesLemmas.{length-footer}
 use Rattle.table_builder.specs.declared.builder.Builder.{Builder}
 use Rattle.table_builder.specs.Builders.{HoldsBlocks, HoldsEntries}
 use Rattle.table_builder.specs.Closing.{CanClose, CanEnd}
@@ -277,7 +277,7 @@ module _ (it : Builder) (entries : List Entry) (h : HoldsEntries it entries)
         each = h.each;
         rising = h.rising;
         size = h.size;
-        small = All-from_recursion IsSmall (finished_blocks parts) (smalls parts.opened f.short);
+        small = All-from_recursion IsShortBlock (finished_blocks parts) (smalls parts.opened f.short);
         long = omega (arith, long, length-finished parts, more);
       }
     where
@@ -293,10 +293,10 @@ module _ (it : Builder) (entries : List Entry) (h : HoldsEntries it entries)
       few_more (x ∷ xs) = omega (arith, length-append (division entries).closed (block_from x xs ∷ []))
 
       smalls : (opened : List Entry) → length (block_content opened) < 4096
-          → AllByRecursion IsSmall ((division entries).closed ++ last_block opened)
-      smalls [] short = subst (AllByRecursion IsSmall) (sym (append-nil (division entries).closed)) (fine it entries h).small
+          → AllByRecursion IsShortBlock ((division entries).closed ++ last_block opened)
+      smalls [] short = subst (AllByRecursion IsShortBlock) (sym (append-nil (division entries).closed)) (fine it entries h).small
       smalls (x ∷ xs) short =
-          all_push IsSmall (division entries).closed (block_from x xs) (fine it entries h).small
+          all_push IsShortBlock (division entries).closed (block_from x xs) (fine it entries h).small
           (omega (
             arith,
             short,

@@ -3,7 +3,7 @@ use Rattle.std.proofs.Common.{◌≡◌, ◌↔◌, ℕ, Result, Ok, Err, inl, i
 use Rattle.std.specs.Prelude.{IfErr, IsErrAnd, MatchResult}
 use Rattle.disk.specs.declared.Disk.{Ghosts}
 use Rattle.disk.specs.{RisesByOne}
-use Rattle.disk.proofs.Beside.{at_join, at_start, same_but_join}
+use Rattle.disk.specs.BesideLemmas.{at_join, at_start, same_but_join}
 use Rattle.table_format.specs.declared.TableError.{TableError}
 use Rattle.table_format.specs.declared.TableError.TheVariants as table
 use Rattle.table_format.specs.{IsBuilderError, ReportsDevice}

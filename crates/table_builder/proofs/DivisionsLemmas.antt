@@ -16,8 +16,8 @@ use Rattle.table_format.specs.Blocks.{change_bytes, key_bytes}
 use Rattle.table_format.specs.{Block, IsTableEntry, be64, block_bytes, block_content, block_entries}
 use Rattle.table_format.specs.{block_line, block_lines, block_part, data_bytes, entries_of_blocks}
 use Rattle.table_format.specs.{entry_bytes}
-use Rattle.table_format.proofs.Fronts.{IsSmall, entry_long, length-block_content, length-block_part}
-use Rattle.table_format.proofs.Passed.{all_push, flat_push}
+use Rattle.table_format.specs.FrontsLemmas.{IsShortBlock, entry_long, length-block_content, length-block_part}
+use Rattle.table_format.specs.PassedLemmas.{all_push, flat_push}
 use Rattle.table_builder.specs.Divisions.{Division, block_from, data_size, division}
 use Rattle.table_builder.specs.Divisions.{finished_blocks, last_block, with_entries, with_entry}
 
@@ -195,7 +195,7 @@ data_long (block ∷ blocks) =
 -- The entries of a division. Its closed blocks are not short, and none is long.
 pub record IsFine (it : Division) (entries : List Entry) : Type 0 where
   pub all : entries_of_blocks it.closed ++ it.opened ≡ entries
-  pub small : AllByRecursion IsSmall it.closed
+  pub small : AllByRecursion IsShortBlock it.closed
   pub long : 4104 * length it.closed ≤ length (data_bytes it.closed)
   pub short : length (block_content it.opened) < BLOCK_SIZE
 
@@ -229,7 +229,7 @@ fine_by it entries entry true test f is =
           ∙ entries_of_push it.closed one
           ∙ sym (append_assoc (entries_of_blocks it.closed) it.opened (entry ∷ []))
           ∙ ap (λ (r : List Entry). r ++ entry ∷ []) f.all;
-      small = all_push IsSmall it.closed one f.small (omega (arith, small));
+      small = all_push IsShortBlock it.closed one f.small (omega (arith, small));
       long = omega (
         arith,
         full,

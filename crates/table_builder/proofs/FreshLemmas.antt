@@ -3,7 +3,7 @@ use Rattle.std.proofs.Common.{◌≡◌, ℕ, ◌+◌, List, [], ◌++◌, lengt
 use Rattle.std.proofs.lemmas.List.{append-nil, drop_all, take_all}
 use Rattle.disk.specs.{Absent, Fresh, IsLeftAt, IsSameBut, Kept, LeavesSince, Passes, Slot, State}
 use Rattle.disk.specs.{overwritten, synced, written}
-use Rattle.disk.proofs.Beside.{at_more, at_start}
+use Rattle.disk.specs.BesideLemmas.{at_more, at_start}
 use Rattle.table_builder.specs.Fresh.{IsFresh}
 
 -- bytes written behind the end

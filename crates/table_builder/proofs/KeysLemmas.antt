@@ -13,7 +13,7 @@ use Rattle.kv_types.specs.{Entry}
 use Rattle.merge_iter.specs.{EntryPrecedes, entry_cmp, spot}
 use Rattle.merge_iter.specs.declared.Direction.TheVariants.{Forward}
 use Rattle.table_format.specs.{CanFollow, different_keys, last_entry}
-use Rattle.table_format.proofs.Rising.{last_of_some, last_push}
+use Rattle.table_format.specs.RisingLemmas.{last_of_some, last_push}
 use Rattle.table_builder.specs.declared.keys.AddedKeys.{AddedKeys}
 use Rattle.table_builder.specs.Keys.{KnowsKeys, first_entry}
 

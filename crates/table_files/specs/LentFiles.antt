@@ -7,7 +7,7 @@ use Rattle.std.proofs.lemmas.Bool.{cases_lt}
 use Rattle.disk.specs.{State, Contents, IsSame, IsStill, KeepsDisk, HasStruck, HasStruckBy, RisesByOne}
 use Rattle.disk.specs.{AllLeave}
 use Rattle.disk.specs.Moments.{AllLeave as later}
-use Rattle.disk.proofs.Still.{still, still_more}
+use Rattle.disk.specs.StillLemmas.{still, still_more}
 use Rattle.table_format.specs.{ReportsDevice}
 use Rattle.table_format.specs.declared.TableError.{TableError}
 use Rattle.table_format.specs.declared.TableError.TheVariants as table

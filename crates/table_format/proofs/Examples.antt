@@ -11,9 +11,9 @@ use Rattle.table_format.specs.Examples.{single_table}
 use Rattle.std.proofs.lemmas.List.{append-nil}
 use Rattle.std.proofs.lemmas.List.Concat.{flat_map-cons}
 use Rattle.kv_types.specs.{Entry, text_bytes}
-use Rattle.table_format.proofs.Fronts.{length-block_part}
-use Rattle.table_format.proofs.Sealed.{length-sealed}
-use Rattle.table_format.proofs.Tables.{length-footer, length-table}
+use Rattle.table_format.specs.FrontsLemmas.{length-block_part}
+use Rattle.table_format.specs.SealedLemmas.{length-sealed}
+use Rattle.table_format.specs.TablesLemmas.{length-footer, length-table}
 use Rattle.table_format.specs.Blocks.{be32, be64, entries_bytes, block_part, key_bytes}
 use Rattle.table_format.specs.Examples.{TableExamples, of_a, put_a, single}
 use Rattle.table_format.specs.Tables.{Block, TableRepresents, block_bytes, block_entries, block_lines, data_bytes}

@@ -6,15 +6,15 @@ use Rattle.std.specs.Int.{w32}
 use Rattle.std.proofs.lemmas.List.{map-append}
 use Rattle.std.proofs.lemmas.List.Concat.{flat_map-cons}
 use Rattle.std.proofs.lemmas.List.Elements.{All-from_recursion, recursion_from_All}
-use Rattle.kv_types.proofs.Fields.{IsBytes, some_is}
+use Rattle.kv_types.specs.FieldsLemmas.{IsBytes, some_is}
 use Rattle.byte_fields.specs.{number_at}
 use Rattle.merge_iter.specs.declared.Direction.TheVariants.{Forward}
 use Rattle.merge_iter.specs.{EntryPrecedes}
 use Rattle.table_format.proofs.Lines.{line_reads}
-use Rattle.table_format.proofs.PartLaws.{length_reads, same_content, same_counted}
-use Rattle.table_format.proofs.Passed.{After, Passed, all_read, never_none, next_of, passed_next}
-use Rattle.table_format.proofs.Passed.{split_of, text_end}
-use Rattle.table_format.proofs.Rising.{can_follow, rising_push}
+use Rattle.table_format.specs.PartsLemmas.{length_reads, same_content, same_counted}
+use Rattle.table_format.specs.PassedLemmas.{After, Passed, all_read, never_none, next_of, passed_next}
+use Rattle.table_format.specs.PassedLemmas.{split_of, text_end}
+use Rattle.table_format.specs.RisingLemmas.{can_follow, rising_push}
 use Rattle.table_format.specs.Blocks.{CanFollow, be32, last_entry, sealed}
 use Rattle.table_format.specs.Parts.{FillsPlaces, IsIndex, IsIndexLine, end_spot}
 use Rattle.table_format.specs.Reading.{line_at}

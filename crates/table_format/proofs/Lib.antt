@@ -1,13 +1,3 @@
-pub mod Sealed
-pub mod Entries
 pub mod Lines
-pub mod Fronts
-pub mod Tables
-pub mod PartLaws
-pub mod Passed
-pub mod Rising
 pub mod IndexLoops
-pub mod BlockLoops
-pub mod Cases
-pub mod EntryPlaces
 pub mod Examples

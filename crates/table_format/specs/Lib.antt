@@ -4,6 +4,16 @@ pub mod Parts
 pub mod Reading
 pub mod Errors
 pub mod Examples
+pub mod EntriesLemmas
+pub mod FrontsLemmas
+pub mod PartsLemmas
+pub mod PassedLemmas
+pub mod RisingLemmas
+pub mod EntryPlacesLemmas
+pub mod SealedLemmas
+pub mod CasesLemmas
+pub mod TablesLemmas
+pub mod BlockLoopLemmas
 -- What crates above name.
 pub use Rattle.table_format.specs.Blocks.{AreRising, CanFollow, IsBlock, IsBlockText}
 pub use Rattle.table_format.specs.Blocks.{IsCheckedBlock, last_entry}

@@ -1,4 +1,4 @@
-use Rattle.disk.proofs.Steps.{sure_left}
+use Rattle.disk.specs.StepsLemmas.{sure_left}
 use Rattle.disk.proofs.laws.durable_file_is_left.Goals as goal
 
 pub returns : goal.returns

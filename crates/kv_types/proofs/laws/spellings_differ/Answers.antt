@@ -1,4 +1,4 @@
-use Rattle.kv_types.proofs.Batches as laws
+use Rattle.kv_types.specs.BatchesLemmas as laws
 use Rattle.kv_types.proofs.laws.spellings_differ.Goals as goal
 
 pub returns : goal.returns

@@ -8,7 +8,7 @@ use Rattle.node.proofs.Causes.{refuses}
 use Rattle.node.proofs.Engines.{holds_in}
 use Rattle.node.proofs.Keeping.{answered, done, kept_as, kept_behind, memory_told, neither}
 use Rattle.node.proofs.Keeping.{same_files, same_then_same, stop_passed, unchanged}
-use Rattle.disk.proofs.Still.{still, still_more}
+use Rattle.disk.specs.StillLemmas.{still, still_more}
 use Rattle.node.proofs.engine.batches_in.Goals as goal
 
 -- none was read

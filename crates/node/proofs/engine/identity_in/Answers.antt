@@ -6,7 +6,7 @@ use Rattle.node.specs.Layout.{identity_record, identity_records}
 use Rattle.node.proofs.Blank.{none_held}
 use Rattle.node.proofs.Causes.{working_log, undamaged}
 use Rattle.node.proofs.Opens.{named_by}
-use Rattle.disk.proofs.Still.{still}
+use Rattle.disk.specs.StillLemmas.{still}
 use Rattle.node.proofs.Keeping.{answered, bytes_only, kept_as, log_failed, neither, refused}
 use Rattle.node.proofs.Keeping.{same_files, unchanged}
 use Rattle.node.proofs.engine.identity_in.Goals as goal

@@ -8,7 +8,7 @@ use Rattle.node.specs.Layout.{identity_file, identity_records}
 use Rattle.node.proofs.Blank.{has_bytes, blank_read, blank_declined}
 use Rattle.node.proofs.Causes.{of_machine}
 use Rattle.node.proofs.Opens.{has_in, found_id}
-use Rattle.disk.proofs.Still.{still_more}
+use Rattle.disk.specs.StillLemmas.{still_more}
 use Rattle.node.proofs.Keeping.{adds_then_same, answered, kept_as, kept_behind, log_failed}
 use Rattle.node.proofs.Keeping.{neither, refused, same_adds, same_then_adds, stop_passed}
 use Rattle.node.proofs.engine.identity_on.Goals as goal

@@ -1,4 +1,4 @@
-use Rattle.disk.proofs.Still.{still, still_same}
+use Rattle.disk.specs.StillLemmas.{still, still_same}
 use Rattle.node.proofs.engine.length_of.Goals as goal
 
 -- the length is read

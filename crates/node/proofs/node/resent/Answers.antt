@@ -9,7 +9,7 @@ use Rattle.node.proofs.Engines.{kept_on, same_store}
 use Rattle.node.proofs.Keeping.{answered, done, kept_as, kept_behind, memory_told, neither}
 use Rattle.node.proofs.Keeping.{stop_passed, unchanged}
 use Rattle.node.proofs.Outputs.{both_sent, made_of}
-use Rattle.disk.proofs.Still.{still, still_more}
+use Rattle.disk.specs.StillLemmas.{still, still_more}
 use Rattle.node.proofs.node.resent.Goals as goal
 
 -- a batch that could not be had is wanted for the engine's cause

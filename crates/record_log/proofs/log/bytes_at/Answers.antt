@@ -1,5 +1,5 @@
 -- A read leaves nothing new.
-use Rattle.disk.proofs.Still.{still, still_same}
+use Rattle.disk.specs.StillLemmas.{still, still_same}
 use Rattle.record_log.proofs.log.bytes_at.Goals as goal
 
 pub returns-in_err-bytes-clause-still : goal.returns-in_err-bytes-clause-still

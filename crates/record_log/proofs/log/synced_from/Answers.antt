@@ -1,5 +1,5 @@
 -- A sync and reads leave nothing new.
-use Rattle.disk.proofs.Still.{still, still_same, still_sync, still_more}
+use Rattle.disk.specs.StillLemmas.{still, still_same, still_sync, still_more}
 use Rattle.record_log.proofs.log.synced_from.Goals as goal
 
 pub returns-in_err-sync-clause-still : goal.returns-in_err-sync-clause-still

@@ -2,7 +2,7 @@ use Rattle.std.proofs.Common.{◌≡◌, Option, option_map, sym, ◌∙◌, nat
 use Rattle.std.specs.Cmp.Lexicographic.{pointwise}
 use Rattle.std.proofs.lemmas.Slice.Eq.{bytes_eq-Decides}
 use Rattle.merge_iter.specs.{spot}
-use Rattle.table_format.proofs.Cases.{off, on}
+use Rattle.table_format.specs.CasesLemmas.{off, on}
 use Rattle.table_format.specs.{lent_entry}
 use Rattle.sorted_table.specs.Searches.{FindsFirstWithout, IsEarlier}
 use Rattle.sorted_table.proofs.LookupsLemmas.{found_by, newest_there, unseen_all, unseen_there}

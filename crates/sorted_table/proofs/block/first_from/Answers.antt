@@ -1,7 +1,7 @@
 use Rattle.std.proofs.Common.{length, arith}
 use Rattle.merge_iter.specs.{spot}
-use Rattle.table_format.proofs.BlockLoops.{entry_shorter}
-use Rattle.table_format.proofs.Cases.{is_nothing, not_empty}
+use Rattle.table_format.specs.BlockLoopLemmas.{entry_shorter}
+use Rattle.table_format.specs.CasesLemmas.{is_nothing, not_empty}
 use Rattle.table_format.specs.{lent_entry}
 use Rattle.sorted_table.proofs.BlockWalks.{walk_begins, walk_ends, walk_finds, walk_next, walk_none}
 use Rattle.sorted_table.proofs.SearchesLemmas.{early_by, late_by}

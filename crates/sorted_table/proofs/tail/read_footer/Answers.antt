@@ -1,5 +1,5 @@
 -- Calls that only read leave nothing new.
-use Rattle.disk.proofs.Still.{still, still_same}
+use Rattle.disk.specs.StillLemmas.{still, still_same}
 use Rattle.sorted_table.proofs.tail.read_footer.Goals as goal
 
 pub returns-in_err-length-clause-still : goal.returns-in_err-length-clause-still

@@ -1,5 +1,5 @@
 -- A read leaves nothing new.
-use Rattle.disk.proofs.Still.{still, still_same}
+use Rattle.disk.specs.StillLemmas.{still, still_same}
 use Rattle.sorted_table.proofs.tail.read_part.Goals as goal
 
 pub returns-in_err-part-clause-still : goal.returns-in_err-part-clause-still

@@ -1,6 +1,6 @@
 use Rattle.std.proofs.Common.{ap, ◌∙◌, arith}
 use Rattle.std.proofs.lemmas.Result.{err_from_is_err_and}
-use Rattle.disk.proofs.Still.{still_more}
+use Rattle.disk.specs.StillLemmas.{still_more}
 use Rattle.disk.specs.{seen}
 use Rattle.sorted_table.proofs.TailsLemmas.{long_enough, tail_at, tail_within}
 use Rattle.sorted_table.proofs.tail.read_tail.Goals as goal

@@ -1,6 +1,6 @@
 use Rattle.std.proofs.Common.{ap, ◌∙◌}
 use Rattle.disk.specs.{synced}
-use Rattle.disk.proofs.Beside.{same_but_join}
+use Rattle.disk.specs.BesideLemmas.{same_but_join}
 use Rattle.table_builder.proofs.FreshLemmas.{fresh_synced, spared, spared_more}
 use Rattle.table_builder.proofs.appending.append_last.Goals as goal
 

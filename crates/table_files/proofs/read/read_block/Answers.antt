@@ -2,7 +2,7 @@ use Rattle.std.proofs.Common.{◌≡◌, ◌∙◌, ◌+◌, sym, subst, rules, 
 use Rattle.std.proofs.lemmas.List.{take_at}
 use Rattle.disk.specs.{seen}
 use Rattle.disk.specs.Calls.{IsRefusalOf}
-use Rattle.disk.proofs.Still.{still, still_same}
+use Rattle.disk.specs.StillLemmas.{still, still_same}
 use Rattle.table_format.specs.{IsCheckedBlock, entries_bytes}
 use Rattle.table_files.proofs.BlockReadsLemmas.{read_is, none_is_block, refused}
 use Rattle.table_files.proofs.read.read_block.Goals as goal

@@ -1,5 +1,5 @@
 use Rattle.std.proofs.Common.{◌-◌, length, take, ap, ◌∙◌, arith}
-use Rattle.table_format.proofs.Fronts.{block_long, entries_there}
+use Rattle.table_format.specs.FrontsLemmas.{block_long, entries_there}
 use Rattle.table_format.proofs.block.entries_in.Goals as goal
 
 pub returns-then-block-lt12 : goal.returns-then-block-lt12

@@ -1,8 +1,8 @@
 use Rattle.std.proofs.Common.{◌≡◌, length, arith, Bool, IsTrue, false}
-use Rattle.table_format.proofs.BlockLoops.{block_spells, entries_all, entries_begin, entries_next}
-use Rattle.table_format.proofs.BlockLoops.{entry_shorter, is_block, next_entry, no_entry}
-use Rattle.table_format.proofs.Cases.{is_nothing, not_empty}
-use Rattle.table_format.proofs.PartLaws.{content_fits, text_fits, text_none}
+use Rattle.table_format.specs.BlockLoopLemmas.{block_spells, entries_all, entries_begin, entries_next}
+use Rattle.table_format.specs.BlockLoopLemmas.{entry_shorter, is_block, next_entry, no_entry}
+use Rattle.table_format.specs.CasesLemmas.{is_nothing, not_empty}
+use Rattle.table_format.specs.PartsLemmas.{content_fits, text_fits, text_none}
 use Rattle.table_format.specs.Reading.{lent_entry}
 use Rattle.table_format.proofs.block.entries_of.Goals as goal
 use Rattle.table_format.proofs.block.entries_of.Goals.{then-seen-count-via-then-seen-count, then-seen-count-via-else-seen-count+then-not-follows}

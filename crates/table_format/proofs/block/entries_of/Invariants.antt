@@ -1,5 +1,5 @@
 use Rattle.std.proofs.Common.{length, ◌≤◌, option_map}
-use Rattle.table_format.proofs.BlockLoops.{EntriesRead}
+use Rattle.table_format.specs.BlockLoopLemmas.{EntriesRead}
 use Rattle.table_format.specs.Reading.{lent_entry}
 use Rattle.table_format.proofs.block.entries_of.Given as goal
 

@@ -1,5 +1,5 @@
 use Rattle.std.proofs.Common.{sym, arith, subst, Option, List, ℕ, Bor}
-use Rattle.table_format.proofs.PartLaws.{content_fits, filter_none, filter_right, filter_same}
+use Rattle.table_format.specs.PartsLemmas.{content_fits, filter_none, filter_right, filter_same}
 use Rattle.table_format.specs.Parts.{IsFilterPart, ReadsPart}
 use Rattle.table_format.proofs.filter.filter_of.Goals as goal
 

@@ -1,9 +1,9 @@
 use Rattle.std.proofs.Common.{◌≡◌, ◌∙◌, sym, nat_eq, arith, subst, Option}
 use Rattle.std.specs.Cmp.Lexicographic.{pointwise}
 use Rattle.std.proofs.lemmas.Slice.Eq.{bytes_eq-Decides}
-use Rattle.table_format.proofs.Cases.{off, on}
-use Rattle.table_format.proofs.PartLaws.{content_fits, footer_none, footer_right, footer_same}
-use Rattle.table_format.proofs.PartLaws.{format_bytes}
+use Rattle.table_format.specs.CasesLemmas.{off, on}
+use Rattle.table_format.specs.PartsLemmas.{content_fits, footer_none, footer_right, footer_same}
+use Rattle.table_format.specs.PartsLemmas.{format_bytes}
 use Rattle.table_format.specs.Parts.{IsFooter, ReadsPart}
 use Rattle.table_format.specs.declared.footer.Footer.{Footer}
 use Rattle.table_format.proofs.footer.footer_of.Goals as goal

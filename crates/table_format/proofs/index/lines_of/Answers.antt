@@ -1,9 +1,9 @@
 use Rattle.std.proofs.Common.{◌≡◌, ◌+◌, ℕ, List, [], ◌∷◌, ◌++◌, length, map, sym, ap, refl, ◌∙◌, arith, inr, Bool, IsTrue, false, subst}
-use Rattle.table_format.proofs.Cases.{is_nothing, not_empty}
+use Rattle.table_format.specs.CasesLemmas.{is_nothing, not_empty}
 use Rattle.table_format.proofs.IndexLoops.{LinesRead, fills_end, has_text, index_spells, is_index}
 use Rattle.table_format.proofs.IndexLoops.{line_shorter, lines_all, lines_begin, lines_next}
 use Rattle.table_format.proofs.IndexLoops.{next_line, no_line}
-use Rattle.table_format.proofs.PartLaws.{content_fits, text_fits, text_none}
+use Rattle.table_format.specs.PartsLemmas.{content_fits, text_fits, text_none}
 use Rattle.table_format.specs.Blocks.{CanFollow}
 use Rattle.table_format.specs.Parts.{IsIndex, end_spot}
 use Rattle.table_format.specs.Reading.{lent_line}

@@ -2,7 +2,7 @@ use Rattle.std.proofs.Common.{◌≡◌, ◌↔◌, IsTrue, Bool, Option, IfSome
 use Rattle.std.specs.Ordering.{is_lt, ordering_then, nat_cmp}
 use Rattle.std.specs.Cmp.Lexicographic.{slice_cmp}
 use Rattle.std.proofs.Common.{List, ℕ}
-use Rattle.merge_iter.proofs.Orders.{less_iff}
+use Rattle.merge_iter.specs.OrderLemmas.{less_iff}
 use Rattle.merge_iter.specs.{EntryPrecedes, entry_cmp}
 use Rattle.merge_iter.specs.declared.Direction.TheVariants.{Forward}
 use Rattle.kv_types.specs.{Entry}

@@ -1,6 +1,6 @@
 use Rattle.std.proofs.Common.{◌≡◌, ℕ, List, length, ap, sym, ◌∙◌, arith, true, not, nat_eq, subst}
 use Rattle.std.specs.Cmp.Lexicographic.{pointwise, nat_list_eq_equiv}
-use Rattle.table_format.proofs.Sealed.{length-sealed, sealed_parts}
+use Rattle.table_format.specs.SealedLemmas.{length-sealed, sealed_parts}
 use Rattle.table_format.specs.Blocks.{digest}
 use Rattle.table_format.proofs.part.unsealed.Goals as goal
 

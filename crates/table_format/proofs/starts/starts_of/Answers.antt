@@ -1,7 +1,7 @@
 use Rattle.std.proofs.Common.{◌-◌, length, sym, subst, refl}
-use Rattle.table_format.proofs.Cases.{not_empty, is_nothing}
-use Rattle.table_format.proofs.EntryPlaces.{StartsRead, no_start, starts_all, starts_next}
-use Rattle.table_format.proofs.BlockLoops.{entry_shorter}
+use Rattle.table_format.specs.CasesLemmas.{not_empty, is_nothing}
+use Rattle.table_format.specs.EntryPlacesLemmas.{StartsRead, no_start, starts_all, starts_next}
+use Rattle.table_format.specs.BlockLoopLemmas.{entry_shorter}
 use Rattle.table_format.specs.Reading.{lent_entry}
 use Rattle.table_format.proofs.starts.starts_of.Goals as goal
 

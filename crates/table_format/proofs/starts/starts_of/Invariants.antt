@@ -1,5 +1,5 @@
 use Rattle.std.proofs.Common.{length}
-use Rattle.table_format.proofs.EntryPlaces.{StartsRead}
+use Rattle.table_format.specs.EntryPlacesLemmas.{StartsRead}
 use Rattle.table_format.proofs.starts.starts_of.Given as goal
 
 abbrev pub invariant-loop-rest : goal.invariant-loop-rest

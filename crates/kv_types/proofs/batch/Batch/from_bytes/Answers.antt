@@ -3,7 +3,7 @@ use Rattle.kv_types.specs.declared.error.KvError.{KvError}
 use Rattle.kv_types.specs.declared.error.KvError.TheVariants.{BadBytes}
 use Rattle.std.proofs.lemmas.Result.{err_from_is_err_and}
 use Rattle.kv_types.specs.Reading.{batch_of, RefusesBytes}
-use Rattle.kv_types.proofs.Batches.{batch_takes, batch_again}
+use Rattle.kv_types.specs.BatchesLemmas.{batch_takes, batch_again}
 use Rattle.kv_types.proofs.batch.Batch.from_bytes.Goals as goal
 
 pub returns-in_err-all_edits_of-clause-bad : goal.returns-in_err-all_edits_of-clause-bad

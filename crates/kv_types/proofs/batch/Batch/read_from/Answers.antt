@@ -3,7 +3,7 @@ use Rattle.std.proofs.lemmas.Result.{err_from_is_err_and}
 use Rattle.kv_types.specs.declared.error.KvError.{KvError}
 use Rattle.kv_types.specs.declared.error.KvError.TheVariants.{BadBytes}
 use Rattle.kv_types.specs.Reading.{batch_at, RefusesBytes}
-use Rattle.kv_types.proofs.Batches.{front_takes}
+use Rattle.kv_types.specs.BatchesLemmas.{front_takes}
 use Rattle.kv_types.proofs.Fronts.{no_batch}
 use Rattle.kv_types.proofs.batch.Batch.read_from.Goals as goal
 

@@ -1,7 +1,7 @@
 use Rattle.std.proofs.Common.{◌≤◌, length, ap, sym, ◌∙◌, arith}
 use Rattle.chain_model.specs.{place}
 use Rattle.node.proofs.Engines.{stands_at}
-use Rattle.disk.proofs.Still.{still}
+use Rattle.disk.specs.StillLemmas.{still}
 use Rattle.node.proofs.engine.Engine.batch.Goals as goal
 
 -- the batch of a number is one place before it

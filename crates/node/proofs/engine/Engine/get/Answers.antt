@@ -1,4 +1,4 @@
-use Rattle.disk.proofs.Still.{still}
+use Rattle.disk.specs.StillLemmas.{still}
 use Rattle.std.proofs.Common.{Some, ap, inr, refl, ◌∙◌}
 use Rattle.node.specs.Stops.{IsEnvironmental}
 use Rattle.node.proofs.Causes.{refuses}

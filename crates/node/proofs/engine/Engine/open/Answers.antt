@@ -8,7 +8,7 @@ use Rattle.node.proofs.Blank.{blank_by_log, blank_by_store, not_blank}
 use Rattle.node.proofs.Causes.{of_machine, refuses}
 use Rattle.node.proofs.Opens.{had_batches, has_in, same_identity, same_batches}
 use Rattle.node.proofs.Engines.{batches_apart, files_apart, holds_in, id_in, usable}
-use Rattle.disk.proofs.Still.{still_more}
+use Rattle.disk.specs.StillLemmas.{still_more}
 use Rattle.node.proofs.Keeping.{answered, both_synced, done, kept_as, kept_behind, log_failed}
 use Rattle.node.proofs.Keeping.{neither, one_synced, stop_passed, synced_and_read}
 use Rattle.node.proofs.engine.Engine.open.Goals as goal

@@ -1,4 +1,4 @@
-use Rattle.disk.proofs.Still.{still}
+use Rattle.disk.specs.StillLemmas.{still}
 use Rattle.record_log.proofs.Spans.{answers}
 use Rattle.record_log.proofs.log.Log.record.Goals as goal
 

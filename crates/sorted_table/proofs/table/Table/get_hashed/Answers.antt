@@ -1,7 +1,7 @@
 use Rattle.std.proofs.Common.{◌≡◌, Bool, IsTrue, List, ℕ, Err, Ok, false, sym, subst, ◌∙◌}
 use Rattle.std.proofs.lemmas.Result.{err_from_is_err_and}
 use Rattle.bloom.specs.{CoversHashed}
-use Rattle.disk.proofs.Still.{still}
+use Rattle.disk.specs.StillLemmas.{still}
 use Rattle.table_files.specs.{known_block_answered}
 use Rattle.table_format.specs.{IsBlock}
 use Rattle.sorted_table.proofs.FilterLemmas.{denied_unseen}

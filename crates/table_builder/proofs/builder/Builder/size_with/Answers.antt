@@ -1,6 +1,6 @@
 use Rattle.std.proofs.Common.{◌++◌, ◌∷◌, [], arith}
 use Rattle.table_format.specs.{lent_entry}
-use Rattle.table_format.proofs.Fronts.{length-block_content, length-block_part}
+use Rattle.table_format.specs.FrontsLemmas.{length-block_content, length-block_part}
 use Rattle.table_builder.specs.Divisions.{division}
 use Rattle.table_builder.proofs.BuildersLemmas.{bounds}
 use Rattle.table_builder.proofs.DivisionsLemmas.{entry_short, length-entries_push, size_push}

@@ -1,5 +1,5 @@
 use Rattle.std.proofs.Common.{refl}
-use Rattle.disk.proofs.Still.{still}
+use Rattle.disk.specs.StillLemmas.{still}
 use Rattle.std.specs.Rc.{rc_slice_items}
 use Rattle.table_files.proofs.BlocksStay.{blocks_stay, blocks_and_one, same_block}
 use Rattle.table_files.proofs.files.Files.block.Goals as goal

@@ -4,7 +4,7 @@ use Rattle.disk.specs.declared.error.DiskError.{DiskError}
 use Rattle.disk.specs.States.{State, IsCrashOutcome, IsSame}
 use Rattle.disk.specs.Calls.{SyncOutcome}
 use Rattle.disk.specs.Moments.{Passes, LeavesSince}
-use Rattle.disk.proofs.Moments.{started, stays, join, weaker, same_narrows, sync_narrows}
+use Rattle.disk.specs.MomentsLemmas.{started, stays, join, weaker, same_narrows, sync_narrows}
 
 -- before the first call
 pub still : (disk : State) (past : List State) → LeavesSince disk past disk past

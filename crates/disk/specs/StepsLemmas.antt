@@ -8,7 +8,7 @@ use Rattle.disk.specs.declared.error.DiskError.TheVariants.{Failed, NoFile, Shor
 use Rattle.disk.specs.States.{Slot, Absent, Fresh, Kept, State, IsFileOutcome}
 use Rattle.disk.specs.States.{IsUnsynced, IsDurable, seen, synced, written}
 use Rattle.disk.specs.Calls.{FailureLeaves, WriteOutcome, SyncOutcome}
-use Rattle.disk.proofs.Places.{same_bytes}
+use Rattle.disk.specs.PlacesLemmas.{same_bytes}
 
 -- each outcome has P
 abbrev pub Only : (Option (List ℕ) → Type 0) → Slot → Type 0

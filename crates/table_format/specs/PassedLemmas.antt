@@ -5,9 +5,9 @@ use Rattle.std.specs.List.{flat_map, AllByRecursion}
 use Rattle.std.proofs.lemmas.List.{append-nil}
 use Rattle.std.proofs.lemmas.Grind.{flat_map-append}
 use Rattle.std.proofs.lemmas.List.Concat.{flat_map-cons}
-use Rattle.kv_types.proofs.Fields.{IsBytes, some_is}
+use Rattle.kv_types.specs.FieldsLemmas.{IsBytes, some_is}
 use Rattle.byte_fields.specs.{Reader}
-use Rattle.byte_fields.proofs.Readers.{Reads}
+use Rattle.byte_fields.specs.ReadersLemmas.{Reads}
 
 pub flat_push : {A : Type 0} (spell : A → List ℕ) (xs : List A) (x : A)
     → flat_map spell (xs ++ x ∷ []) ≡ flat_map spell xs ++ spell x

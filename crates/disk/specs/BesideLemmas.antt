@@ -9,8 +9,8 @@ use Rattle.disk.specs.States.{Slot, State, Contents, IsFileOutcome, IsCrashOutco
 use Rattle.disk.specs.Calls.{SyncOutcome}
 use Rattle.disk.specs.Moments.{OnlyLeaves, Passes, LeavesSince, LooksAt, IsUnnamed}
 use Rattle.disk.specs.Moments.{IsLeftAt}
-use Rattle.disk.proofs.Steps.{Only, read_is_outcome}
-use Rattle.disk.proofs.Moments.{started, goes_on, stays, join, weaker, sync_narrows}
+use Rattle.disk.specs.StepsLemmas.{Only, read_is_outcome}
+use Rattle.disk.specs.MomentsLemmas.{started, goes_on, stays, join, weaker, sync_narrows}
 
 -- the contents with this file exchanged
 abbrev exchanged : Contents → ℕ → Option (List ℕ) → Contents

@@ -3,11 +3,11 @@ use Rattle.std.proofs.Common.{◌≡◌, ℕ, ◌<◌, ◌^◌, List, ◌++◌, 
 use Rattle.std.proofs.lemmas.List.{take_at}
 use Rattle.std.proofs.Common.{take, sym, ap, subst, ◌∙◌, arith}
 use Rattle.std.specs.Int.{w32, w64}
-use Rattle.kv_types.proofs.Fields.{IsBytes, some_is}
+use Rattle.kv_types.specs.FieldsLemmas.{IsBytes, some_is}
 use Rattle.byte_fields.specs.{number_at}
-use Rattle.byte_fields.proofs.Readers.{Reads, both_reads, made_reads, right_reads, number_reads, wide32, wide64, IsBytes-take}
-use Rattle.table_format.proofs.Fronts.{split_same}
-use Rattle.table_format.proofs.Sealed.{length-sealed}
+use Rattle.byte_fields.specs.ReadersLemmas.{Reads, both_reads, made_reads, right_reads, number_reads, wide32, wide64, IsBytes-take}
+use Rattle.table_format.specs.FrontsLemmas.{split_same}
+use Rattle.table_format.specs.SealedLemmas.{length-sealed}
 use Rattle.table_format.specs.Blocks.{be32, be64, digest, sealed}
 use Rattle.table_format.specs.Parts.{HasFieldRanges, IsFilterPart, IsFooter}
 use Rattle.table_format.specs.Reading.{as_footer, footer_at}

@@ -6,7 +6,7 @@ use Rattle.disk.specs.States.{Slot, State, Contents, IsFileOutcome, IsSame}
 use Rattle.disk.specs.Calls.{FailureLeaves, SyncOutcome}
 use Rattle.disk.specs.Moments.{OnlyLeaves, Passes, AllLeave, LeavesSince}
 use Rattle.disk.specs.Moments.{AllLeave as later}
-use Rattle.disk.proofs.Steps.{syncs_only}
+use Rattle.disk.specs.StepsLemmas.{syncs_only}
 use Rattle.std.proofs.lemmas.Bool.{cases_eq}
 
 -- a state that leaves nothing new, file by file

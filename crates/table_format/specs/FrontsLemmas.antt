@@ -8,10 +8,10 @@ use Rattle.std.proofs.lemmas.List.{take_at, drop_at}
 use Rattle.std.proofs.lemmas.List.Concat.{flat_map-cons}
 use Rattle.std.proofs.lemmas.Nat.{from_be_bytes-to_be_bytes_4}
 use Rattle.byte_fields.specs.{many}
-use Rattle.byte_fields.proofs.Readers.{many_again}
+use Rattle.byte_fields.specs.ReadersLemmas.{many_again}
 use Rattle.kv_types.specs.{Entry}
-use Rattle.table_format.proofs.Entries.{entry_reads}
-use Rattle.table_format.proofs.Sealed.{length-digest, length-sealed}
+use Rattle.table_format.specs.EntriesLemmas.{entry_reads}
+use Rattle.table_format.specs.SealedLemmas.{length-digest, length-sealed}
 use Rattle.table_format.specs.Blocks.{IsTableEntry, be32, be64, block_content, block_part}
 use Rattle.table_format.specs.Blocks.{change_bytes, digest, entries_bytes, entry_bytes, key_bytes}
 use Rattle.table_format.specs.Reading.{table_entry_at}
@@ -128,11 +128,11 @@ split_each P (x ∷ xs) ys each = let below = split_each P xs ys each.1 in
     ((each.0, below.0), below.1)
 
 -- a block whose length fits its field
-abbrev pub IsSmall : Block → Type 0
-IsSmall block = length (block_bytes block) < 2 ^ 32
+abbrev pub IsShortBlock : Block → Type 0
+IsShortBlock block = length (block_bytes block) < 2 ^ 32
 
 -- data of the same length has the same blocks
-pub same_data : (a b : List Block) → AllByRecursion IsSmall a → AllByRecursion IsSmall b
+pub same_data : (a b : List Block) → AllByRecursion IsShortBlock a → AllByRecursion IsShortBlock b
     → AllByRecursion IsTableEntry (entries_of_blocks a) → AllByRecursion IsTableEntry (entries_of_blocks b)
     → data_bytes a ≡ data_bytes b → entries_of_blocks a ≡ entries_of_blocks b
 same_data [] [] small_a small_b each_a each_b e = refl

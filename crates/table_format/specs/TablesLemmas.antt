@@ -5,8 +5,8 @@ use Rattle.std.specs.List.{AllByRecursion}
 use Rattle.std.specs.Int.{w64, from_be_bytes}
 use Rattle.std.proofs.lemmas.List.Elements.{recursion_from_All}
 use Rattle.std.proofs.lemmas.Nat.{from_be_bytes-to_be_bytes_8}
-use Rattle.table_format.proofs.Fronts.{IsSmall, same_data, split_same}
-use Rattle.table_format.proofs.Sealed.{length-sealed}
+use Rattle.table_format.specs.FrontsLemmas.{IsShortBlock, same_data, split_same}
+use Rattle.table_format.specs.SealedLemmas.{length-sealed}
 use Rattle.table_format.specs.Blocks.{IsTableEntry, be32, be64, digest, sealed}
 use Rattle.table_format.specs.Tables.{Block, TableIsUnique, block_lines, data_bytes, filter_part}
 use Rattle.table_format.specs.Tables.{footer_content, index_part, table_footer, table_spelling}
@@ -78,5 +78,5 @@ table_is_unique bytes entries others s t =
     let each_a = subst (AllByRecursion IsTableEntry) s.division (recursion_from_All IsTableEntry entries s.each) in
     let each_b = subst (AllByRecursion IsTableEntry) t.division
     (recursion_from_All IsTableEntry others t.each) in
-    s.division ∙ same_data s.blocks t.blocks (recursion_from_All IsSmall s.blocks s.fits.each)
-    (recursion_from_All IsSmall t.blocks t.fits.each) each_a each_b datas.0 ∙ sym t.division
+    s.division ∙ same_data s.blocks t.blocks (recursion_from_All IsShortBlock s.blocks s.fits.each)
+    (recursion_from_All IsShortBlock t.blocks t.fits.each) each_a each_b datas.0 ∙ sym t.division

@@ -2,7 +2,7 @@
 use Rattle.std.proofs.Common.{◌≡◌, ◌⊎◌, inl, inr, ◌<◌}
 use Rattle.std.proofs.Common.{List, [], ◌∷◌, ◌++◌, length, Option, Some, None, IfSome}
 use Rattle.std.proofs.Common.{refl, subst, arith, AllPairs}
-use Rattle.kv_types.proofs.Ordered.{Among, Rises, AllPairs-rises, rises_from_AllPairs}
+use Rattle.kv_types.specs.OrderLemmas.{Among, Rises, AllPairs-rises, rises_from_AllPairs}
 use Rattle.merge_iter.specs.{EntryPrecedes, chain}
 use Rattle.merge_iter.specs.declared.Direction.TheVariants.{Forward}
 use Rattle.kv_types.specs.{Entry}

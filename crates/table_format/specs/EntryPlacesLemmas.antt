@@ -6,11 +6,11 @@ use Rattle.std.specs.List.{AllByRecursion, slice_get}
 use Rattle.std.proofs.lemmas.List.{drop_at, length-drop, take_all}
 use Rattle.std.proofs.lemmas.List.Concat.{flat_map-cons}
 use Rattle.std.proofs.lemmas.List.Elements.{recursion_from_All}
-use Rattle.kv_types.proofs.Fields.{IsBytes, some_is}
+use Rattle.kv_types.specs.FieldsLemmas.{IsBytes, some_is}
 use Rattle.kv_types.specs.{Entry}
-use Rattle.table_format.proofs.Entries.{entry_reads}
-use Rattle.table_format.proofs.Fronts.{entry_long}
-use Rattle.table_format.proofs.Passed.{After, Passed, all_read, never_none, passed_next, split_of}
+use Rattle.table_format.specs.EntriesLemmas.{entry_reads}
+use Rattle.table_format.specs.FrontsLemmas.{entry_long}
+use Rattle.table_format.specs.PassedLemmas.{After, Passed, all_read, never_none, passed_next, split_of}
 use Rattle.table_format.specs.Blocks.{IsTableEntry, entries_bytes, entry_bytes, starts_from}
 use Rattle.table_format.specs.Reading.{table_entry_at}
 
@@ -142,11 +142,11 @@ at_place (x ∷ entries) first (suc i) place entry each at is =
     let le = s.0 in
     (omega (arith, le), behind x entry entries first next refl place s.1 s.0)
 
-pub start_of : (text : List ℕ) (entries : List Entry) (i place : ℕ) (entry : Entry)
+pub entry_start : (text : List ℕ) (entries : List Entry) (i place : ℕ) (entry : Entry)
     → All IsTableEntry entries → text ≡ entries_bytes entries
     → slice_get (starts_from 0 entries) i ≡ Some place → slice_get entries i ≡ Some entry
     → StartsAt text entry place
-start_of text entries i place entry each spelled at is =
+entry_start text entries i place entry each spelled at is =
     let s = (at_place entries 0 i place entry (recursion_from_All IsTableEntry entries each) at is).1
     in
     let same : place - 0 ≡ place = omega arith in

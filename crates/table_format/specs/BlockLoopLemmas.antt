@@ -4,17 +4,17 @@ use Rattle.std.proofs.Common.{refl, sym, ap, subst, ◌∙◌, arith, length-app
 use Rattle.std.specs.List.{flat_map}
 use Rattle.std.specs.Int.{w32}
 use Rattle.std.proofs.lemmas.List.Elements.{All-from_recursion, recursion_from_All}
-use Rattle.kv_types.proofs.Fields.{IsBytes}
+use Rattle.kv_types.specs.FieldsLemmas.{IsBytes}
 use Rattle.byte_fields.specs.{number_at}
 use Rattle.merge_iter.specs.declared.Direction.TheVariants.{Forward}
 use Rattle.merge_iter.specs.{EntryPrecedes}
 use Rattle.kv_types.specs.{Entry}
-use Rattle.table_format.proofs.Entries.{entry_reads}
-use Rattle.table_format.proofs.Fronts.{entry_long}
-use Rattle.table_format.proofs.PartLaws.{length_reads, same_content, same_counted}
-use Rattle.table_format.proofs.Passed.{After, Passed, all_read, never_none, next_of, passed_next}
-use Rattle.table_format.proofs.Passed.{split_of, text_end}
-use Rattle.table_format.proofs.Rising.{can_follow, last_push, rising_push}
+use Rattle.table_format.specs.EntriesLemmas.{entry_reads}
+use Rattle.table_format.specs.FrontsLemmas.{entry_long}
+use Rattle.table_format.specs.PartsLemmas.{length_reads, same_content, same_counted}
+use Rattle.table_format.specs.PassedLemmas.{After, Passed, all_read, never_none, next_of, passed_next}
+use Rattle.table_format.specs.PassedLemmas.{split_of, text_end}
+use Rattle.table_format.specs.RisingLemmas.{can_follow, last_push, rising_push}
 use Rattle.table_format.specs.Blocks.{IsBlock, IsBlockText, IsTableEntry, be32, entry_bytes}
 use Rattle.table_format.specs.Blocks.{last_entry, sealed}
 use Rattle.table_format.specs.Reading.{table_entry_at}

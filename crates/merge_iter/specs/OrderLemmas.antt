@@ -24,10 +24,10 @@ before_by key e spot r b k o t =
     in
     t ∙ ap is_lt same
 
-pub both : (k l : List ℕ) (m n : ℕ) (a b : Entry) (r : Ordering) (t : Bool) → k ≡ a.key
+pub by_parts : (k l : List ℕ) (m n : ℕ) (a b : Entry) (r : Ordering) (t : Bool) → k ≡ a.key
     → m ≡ a.number → l ≡ b.key → n ≡ b.number → r ≡ ordering_then (slice_cmp nat_cmp k l)
     (nat_cmp n m) → t ≡ is_lt r → IsTrue t ↔ (entry_cmp a b ≡ Less)
-both k l m n a b r t ka ma lb nb o is =
+by_parts k l m n a b r t ka ma lb nb o is =
     let same : r ≡ entry_cmp a b = cc in
     subst (λ x. IsTrue x ↔ (entry_cmp a b ≡ Less)) (sym (is ∙ ap is_lt same))
     (less_iff (entry_cmp a b))
