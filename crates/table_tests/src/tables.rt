@@ -1,20 +1,21 @@
-//! Tables in files: their bytes, lookups and walks both ways, and what damage answers.
+//! Tables in files: their bytes, lookups, the calls of the device that these make, and what damage
+//! answers.
 ghost use Rattle.std.specs.Prelude.{IfSome};
 ghost use Rattle.table_format.specs.{IsTableEntry, lent_entry};
 
 use crate::parts::{BLOCK, FILTER, FOOTER, INDEX};
-use disk::{Disk, MemDisk};
+use disk::{Crash, Disk, Fault, MemDisk};
 use kv_types::bounds::{MAX_KEY, MAX_NUMBER, MAX_VALUE};
-use merge_iter::{Cursor, CursorError, OwnedEntry};
+use merge_iter::OwnedEntry;
 use sorted_table::{Table, TableError};
+use std::alloc::{AllocError, Global};
+use std::test::Fail;
 use table_builder::{Builder, Finished};
 use table_files::Files;
 use table_format::LentEntry;
-use std::alloc::{AllocError, Global};
-use std::test::Fail;
 
 /// The file of the table.
-const FILE: u64 = 3;
+pub const FILE: u64 = 3;
 
 /// The entry, lent, if it is within the limits of tables.
 fn lent(entry: &OwnedEntry) -> Option<LentEntry<'_>>
@@ -78,7 +79,7 @@ fn with_cache(alloc: Global, disk: MemDisk, blocks: usize) -> Result<Files<MemDi
 }
 
 /// A disk with the table of these entries, and a cache of so many blocks.
-fn files_of(
+pub fn files_of(
     alloc: Global,
     entries: &[OwnedEntry],
     blocks: usize,
@@ -202,6 +203,42 @@ fn lookups_at_each_number(rt: HostRuntime) -> Result<(), Fail> {
     Ok(())
 }
 
+// ---- calls of the device
+
+/// Whether a call of the device that comes so late is made by an opening.
+fn opening_reaches(alloc: Global, call: u64) -> Result<bool, Fail> {
+    let mut files = files_of(alloc, &few(alloc)?, 1)?;
+    files.arm(&Fault::Fail(call));
+    let is_open = Table::open(alloc, &mut files, FILE).is_ok();
+    if is_open == files.has_struck() {
+        return Err("an opening hides a failure".into());
+    }
+    Ok(!is_open)
+}
+
+/// Whether such a call is made by two lookups of one key.
+fn lookups_reach(alloc: Global, call: u64) -> Result<bool, Fail> {
+    let mut files = files_of(alloc, &few(alloc)?, 1)?;
+    let table = Table::open(alloc, &mut files, FILE)?;
+    files.arm(&Fault::Fail(call));
+    let first = table.get(alloc, &mut files, b"@", 5).is_ok();
+    let second = table.get(alloc, &mut files, b"@", 5).is_ok();
+    if (first && second) == files.has_struck() {
+        return Err("a lookup hides a failure".into());
+    }
+    Ok(!(first && second))
+}
+
+#[test]
+fn an_opening_makes_three_calls_and_a_lookup_one(rt: HostRuntime) -> Result<(), Fail> {
+    let alloc = rt.alloc();
+    let opening = (opening_reaches(alloc, 3)?, opening_reaches(alloc, 4)?);
+    assert!(rt; opening == (true, false), "{opening:?}");
+    let lookups = (lookups_reach(alloc, 1)?, lookups_reach(alloc, 2)?);
+    assert!(rt; lookups == (true, false), "{lookups:?}");
+    Ok(())
+}
+
 // ---- many blocks
 
 const ENTRIES: u16 = 10_000;
@@ -212,11 +249,15 @@ fn one_of_many(alloc: Global, i: u16) -> Result<OwnedEntry, AllocError> {
     let [high, low] = (i / 2).to_be_bytes();
     (key[6], key[7]) = (high, low);
     let value = [low; 100];
-    let value = if i % 7 == 0 { None } else { Some(value.as_slice()) };
+    let value = if i % 7 == 0 {
+        None
+    } else {
+        Some(value.as_slice())
+    };
     entry_of(alloc, &key, u64::from(u16::MAX - i), value)
 }
 
-fn many(alloc: Global) -> Result<Vec<OwnedEntry>, AllocError> {
+pub fn many(alloc: Global) -> Result<Vec<OwnedEntry>, AllocError> {
     let mut entries = Vec::new(alloc);
     for i in 0..ENTRIES {
         entries.push(one_of_many(alloc, i)?)?;
@@ -250,63 +291,6 @@ fn lookups_in_many_blocks(rt: HostRuntime) -> Result<(), Fail> {
     Ok(())
 }
 
-/// Whether the cursor stands on this entry.
-fn stands_on<C: Cursor>(cursor: &C, want: &OwnedEntry) -> bool {
-    cursor.valid()
-        && cursor.key() == want.key.as_slice()
-        && cursor.number() == want.number
-        && cursor.value() == want.value.as_deref()
-}
-
-/// How many of the entries a walk forward meets in their places.
-fn met_forward<C: Cursor>(
-    cursor: &mut C,
-    source: &mut C::Source,
-    entries: &[OwnedEntry],
-) -> Result<usize, CursorError> {
-    let mut count = 0usize;
-    cursor.first(source)?;
-    for entry in entries {
-        if !stands_on(cursor, entry) {
-            return Ok(count);
-        }
-        count = count.wrapping_add(1);
-        cursor.next(source)?;
-    }
-    Ok(if cursor.valid() { 0 } else { count })
-}
-
-/// How many of the entries a walk back meets in their places.
-fn met_back<C: Cursor>(
-    cursor: &mut C,
-    source: &mut C::Source,
-    entries: &[OwnedEntry],
-) -> Result<usize, CursorError> {
-    let mut count = 0usize;
-    cursor.last(source)?;
-    for entry in entries.iter().rev() {
-        if !stands_on(cursor, entry) {
-            return Ok(count);
-        }
-        count = count.wrapping_add(1);
-        cursor.prev(source)?;
-    }
-    Ok(if cursor.valid() { 0 } else { count })
-}
-
-#[test]
-fn walks_through_many_blocks(rt: HostRuntime) -> Result<(), Fail> {
-    let alloc = rt.alloc();
-    let entries = many(alloc)?;
-    let mut files = files_of(alloc, &entries, 2)?;
-    let table = Table::open(alloc, &mut files, FILE)?;
-    let mut cursor = table.cursor()?;
-    let forward = met_forward(&mut cursor, &mut files, &entries)?;
-    let back = met_back(&mut cursor, &mut files, &entries)?;
-    assert!(rt; (forward, back) == (10_000, 10_000), "{forward} {back}");
-    Ok(())
-}
-
 // ---- damage
 
 /// A disk with a file of these bytes, and a cache of one block.
@@ -316,28 +300,17 @@ fn files_with(alloc: Global, bytes: &[u8]) -> Result<Files<MemDisk>, TableError>
     with_cache(alloc, disk, 1)
 }
 
-/// Opens the table of the file, and walks through it.
-fn walk(alloc: Global, files: &mut Files<MemDisk>) -> Result<(), CursorError> {
-    let table = match Table::open(alloc, files, FILE) {
-        Ok(table) => table,
-        Err(TableError::Damaged) => return Err(CursorError::Damaged),
-        Err(_) => return Err(CursorError::Memory),
-    };
-    let mut cursor = table.cursor()?;
-    cursor.first(files)?;
-    if cursor.valid() {
-        cursor.next(files)?;
-    }
+/// Opens the table of the file, and looks its only key up.
+fn read(alloc: Global, files: &mut Files<MemDisk>) -> Result<(), TableError> {
+    let table = Table::open(alloc, files, FILE)?;
+    table.get(alloc, files, b"a", 1)?;
     Ok(())
 }
 
-/// Whether the opening or a walk says that these bytes are damaged.
+/// Whether the opening or a lookup says that these bytes are damaged.
 fn is_damaged(alloc: Global, bytes: &[u8]) -> Result<bool, TableError> {
     let mut files = files_with(alloc, bytes)?;
-    Ok(match walk(alloc, &mut files) {
-        Err(CursorError::Damaged) => true,
-        _ => false,
-    })
+    Ok(read(alloc, &mut files).err() == Some(TableError::Damaged))
 }
 
 /// The smallest table with a bit of one byte turned.
@@ -387,8 +360,18 @@ fn damage_of_a_block_is_found_by_its_first_read(rt: HostRuntime) -> Result<(), F
 /// Two tables of one key, whose first blocks differ at one place.
 fn two_tables(alloc: Global, blocks: usize) -> Result<Files<MemDisk>, Fail> {
     let mut disk = MemDisk::new(alloc);
-    build(alloc, &mut disk, 3, &[entry_of(alloc, b"a", 1, Some(b"1"))?])?;
-    build(alloc, &mut disk, 4, &[entry_of(alloc, b"a", 1, Some(b"2"))?])?;
+    build(
+        alloc,
+        &mut disk,
+        3,
+        &[entry_of(alloc, b"a", 1, Some(b"1"))?],
+    )?;
+    build(
+        alloc,
+        &mut disk,
+        4,
+        &[entry_of(alloc, b"a", 1, Some(b"2"))?],
+    )?;
     Ok(with_cache(alloc, disk, blocks)?)
 }
 
