@@ -1,0 +1,3 @@
+pub mod KeptLemmas
+pub mod BlocksStay
+pub mod BlockReadsLemmas

@@ -1,0 +1,91 @@
+-- Blocks of files, and what a read of one answers.
+use Rattle.std.specs.Prelude.{◌≡◌, ℕ, ◌+◌, ◌≤◌, List, length, take, drop, Option, Some}
+use Rattle.std.specs.Prelude.{Result, Ok, Err, MatchResult}
+use Rattle.std.proofs.Common.{inl, inr, refl, sym, ap, subst, ◌∙◌, arith}
+use Rattle.std.proofs.lemmas.List.{length-take, length-drop}
+use Rattle.std.specs.Option.{option_map}
+use Rattle.std.specs.Rc.{rc_slice_items}
+use Rattle.std.specs.declared.rc.RcSlice.{RcSlice}
+use Rattle.std.specs.Global.{Global}
+use Rattle.disk.specs.{State, seen}
+use Rattle.kv_types.specs.{Entry}
+use Rattle.table_format.specs.{IsBlock, IsCheckedBlock, IsEnvironmentError}
+use Rattle.table_format.specs.declared.TableError.{TableError}
+use Rattle.table_format.specs.declared.TableError.TheVariants as table
+use Rattle.table_files.specs.declared.cache.BlockCache.{BlockCache}
+use Rattle.table_files.specs.Caches.{CacheHolds}
+
+-- the part is what the file has from this place on
+abbrev pub IsPartAt : Option (List ℕ) → ℕ → List ℕ → Type 0
+IsPartAt file place part =
+    option_map (λ bytes. take (length part) (drop place bytes)) file ≡ Some part
+
+-- the file has the part at the place, and the part is a block of some entries
+abbrev pub IsBlockAt : State → ℕ → ℕ → List ℕ → Type 0
+IsBlockAt disk file place part =
+    IsPartAt (seen (disk file)) place part × ∥ IsCheckedBlock part ∥₁
+
+-- each block of the cache is one that its file has
+abbrev pub AreBlocksAt : State → BlockCache → Type 0
+AreBlocksAt disk cache = (file place : ℕ) (part : List ℕ) → CacheHolds cache file place part
+    → IsBlockAt disk file place part
+
+-- The answers of a read of a block of this length: the block that the file has there, or `Damaged`
+-- where it has none.
+abbrev pub BlockAnswer : State → ℕ → ℕ → ℕ → Result (RcSlice ℕ Global) TableError → Type 0
+BlockAnswer disk file place len (Ok block) =
+    (length (rc_slice_items block) ≡ len) × IsBlockAt disk file place (rc_slice_items block)
+BlockAnswer disk file place len (Err table.Damaged) =
+    (part : List ℕ) → length part ≡ len → IsBlockAt disk file place part → ⊥
+BlockAnswer disk file place len (Err table.Disk) = Unit {0}
+BlockAnswer disk file place len (Err table.Memory) = Unit {0}
+BlockAnswer disk file place len (Err table.Order) = ⊥
+BlockAnswer disk file place len (Err table.TooLarge) = ⊥
+BlockAnswer disk file place len (Err table.Failed) = ⊥
+
+-- ---- files whose bytes are known
+
+-- The file has these bytes, and so many of them from the place on are a block: the answer is that
+-- block, but for the device and want of memory.
+abbrev pub KnownBlocksAreAnswered : Type 0
+KnownBlocksAreAnswered = (disk : State) (file place len : ℕ)
+    (result : Result (RcSlice ℕ Global) TableError) (bytes : List ℕ) (entries : List Entry) →
+    BlockAnswer disk file place len result → seen (disk file) ≡ Some bytes →
+    place + len ≤ length bytes → IsBlock (take len (drop place bytes)) entries →
+    MatchResult result (λ block. rc_slice_items block ≡ take len (drop place bytes))
+    IsEnvironmentError
+
+-- the part of this length that the file has there
+part_of : (file : Option (List ℕ)) (bytes part : List ℕ) (place len : ℕ) → file ≡ Some bytes →
+    length part ≡ len → IsPartAt file place part → part ≡ take len (drop place bytes)
+part_of file bytes part place len is size at =
+    let here : IsPartAt (Some bytes) place part =
+    subst (λ (f : Option (List ℕ)). IsPartAt f place part) is at in
+    let same : take (length part) (drop place bytes) ≡ part = cc in
+    sym same ∙ ap (λ (n : ℕ). take n (drop place bytes)) size
+
+-- it is there
+is_part : (file : Option (List ℕ)) (bytes : List ℕ) (place len : ℕ) → file ≡ Some bytes →
+    length (take len (drop place bytes)) ≡ len → IsPartAt file place (take len (drop place bytes))
+is_part file bytes place len is size =
+    subst (λ (f : Option (List ℕ)). IsPartAt f place (take len (drop place bytes))) (sym is)
+    (ap Some (ap (λ (n : ℕ). take n (drop place bytes)) size))
+
+pub known_block_answered : KnownBlocksAreAnswered
+known_block_answered disk file place len (Ok block) bytes entries answer is within known =
+    part_of (seen (disk file)) bytes (rc_slice_items block) place len is answer.0 answer.1.0
+known_block_answered disk file place len (Err table.Damaged) bytes entries answer is within known =
+    let size : length (take len (drop place bytes)) ≡ len =
+    omega (arith, within, length-take len (drop place bytes), length-drop place bytes) in
+    absurd (answer (take len (drop place bytes)) size
+    (is_part (seen (disk file)) bytes place len is size, ∣ (entries, known) ∣₁))
+known_block_answered disk file place len (Err table.Disk) bytes entries answer is within known =
+    inl refl
+known_block_answered disk file place len (Err table.Memory) bytes entries answer is within known =
+    inr refl
+known_block_answered disk file place len (Err table.Order) bytes entries answer is within known =
+    absurd answer
+known_block_answered disk file place len (Err table.TooLarge) bytes entries answer is within known =
+    absurd answer
+known_block_answered disk file place len (Err table.Failed) bytes entries answer is within known =
+    absurd answer

@@ -1,0 +1,5 @@
+pub mod Kept
+pub mod Caches
+pub mod BlockReads
+pub mod Reading
+pub mod Disks

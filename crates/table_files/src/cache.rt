@@ -1,0 +1,108 @@
+//! The cache of blocks.
+ghost use Rattle.std.specs.Prelude.{◌≡◌, ◌≢◌, ◌⊎◌, ℕ, List, None, Some, IfOk, IfSome, IsSome, OnOk};
+ghost use Rattle.std.specs.Ordering.{nat_cmp};
+ghost use Rattle.std.specs.BTreeMap.{get};
+ghost use Rattle.std.specs.Rc.{rc_slice_items};
+ghost use Rattle.table_files.specs.Kept.{NumbersDiffer, NumbersAreBelow};
+
+use lru::LruCache;
+use std::alloc::{AllocError, Global};
+use std::collections::BTreeMap;
+use std::num::NonZeroUsize;
+use std::rc::RcSlice;
+
+/// The blocks of files that were used last.
+///
+/// Each file has a number of its own in the cache. To forget a file is to forget that number: no
+/// block is found under it any more, and those that are left are the first to be evicted.
+#[derive(Drop)]
+pub struct BlockCache {
+    // The numbers of files, by their numbers on the disk.
+    numbers: BTreeMap<u64, u64>,
+    // By the number here and the place in the file.
+    blocks: LruCache<(u64, u64), RcSlice<u8>>,
+    // The first number that no file has had.
+    next: u64,
+    ghost apart: { NumbersDiffer numbers },
+    ghost used: { NumbersAreBelow numbers blocks.entries next },
+}
+
+impl BlockCache {
+    ghost use Rattle.table_files.specs.Caches.{CacheHolds, AddsNoBlock};
+
+    /// A cache without blocks, for at most so many.
+    pub fn new(alloc: Global, capacity: NonZeroUsize) -> Result<BlockCache, AllocError>
+        ensures { IfOk result (λ cache. (file place : ℕ) (bytes : List ℕ) →
+            CacheHolds cache file place bytes → ⊥) }
+    {
+        Ok(BlockCache {
+            numbers: BTreeMap::new(alloc),
+            blocks: LruCache::sparse(alloc, capacity)?,
+            next: 0,
+        })
+    }
+
+    /// The block that is kept for a place of the file.
+    pub fn get(&mut self, file: u64, place: u64) -> Result<Option<RcSlice<u8>>, AllocError>
+        ensures found { IfOk result (λ found. IfSome found (λ block.
+            CacheHolds self.old file place (rc_slice_items block))) }
+        ensures keeps { AddsNoBlock self.old self.new }
+    {
+        let Some(number) = self.numbers.get(&file) else {
+            return Ok(None);
+        };
+        let key = (*number, place);
+        let Some(block) = self.blocks.peek(&key) else {
+            return Ok(None);
+        };
+        let found = block.clone()?;
+        self.blocks.promote(&key);
+        Ok(Some(found))
+    }
+
+    // The number of the file, and a new one if it has none.
+    fn number_of(&mut self, file: u64) -> Option<u64>
+        ensures number { IfSome result (λ number. get nat_cmp self.new.numbers file ≡ Some number) }
+        ensures keeps { AddsNoBlock self.old self.new }
+    {
+        if let Some(number) = self.numbers.get(&file) {
+            return Some(*number);
+        }
+        let number = self.next;
+        let next = number.checked_add(1)?;
+        let Ok(_) = self.numbers.insert(file, number) else {
+            return None;
+        };
+        self.next = next;
+        Some(number)
+    }
+
+    /// Keeps a block for a place of the file, where there is memory for it.
+    pub fn keep(&mut self, file: u64, place: u64, block: &RcSlice<u8>)
+        ensures { (f p : ℕ) (bytes : List ℕ) → CacheHolds self.new f p bytes →
+            CacheHolds self.old f p bytes
+            ⊎ ((f ≡ file) × (p ≡ place) × (bytes ≡ rc_slice_items block.now)) }
+    {
+        let Some(number) = self.number_of(file) else {
+            return;
+        };
+        if let Ok(copy) = block.clone() {
+            let _ = self.blocks.put((number, place), copy);
+        }
+    }
+
+    /// Forgets all blocks.
+    pub fn clear(&mut self)
+        ensures { (file place : ℕ) (bytes : List ℕ) → CacheHolds self.new file place bytes → ⊥ }
+    {
+        self.numbers.clear();
+    }
+
+    /// Forgets the blocks of the file.
+    pub fn forget(&mut self, file: u64)
+        ensures gone { (place : ℕ) (bytes : List ℕ) → CacheHolds self.new file place bytes → ⊥ }
+        ensures keeps { AddsNoBlock self.old self.new }
+    {
+        self.numbers.remove(&file);
+    }
+}
