@@ -3,6 +3,7 @@
 
 mod block;
 mod found;
+pub mod laws;
 mod lines;
 mod table;
 mod tail;
