@@ -88,6 +88,8 @@ block_of place (b ∷ blocks) (x ∷ before) line after e =
     let first : block_line place b ≡ x = cc in
     let rest : block_lines (place + length (block_bytes b)) blocks ≡ before ++ line ∷ after = cc in
     let below = block_of (place + length (block_bytes b)) blocks before line after rest in
+    let at : place + length (block_bytes b) + length (data_bytes below.done)
+    ≡ place + length (data_bytes (b ∷ below.done)) = omega (arith, data_size b below.done) in
     record {
       done = b ∷ below.done;
       block = below.block;
@@ -95,8 +97,7 @@ block_of place (b ∷ blocks) (x ∷ before) line after e =
       split = ap (λ (l : List Block). b ∷ l) below.split;
       lines = ap (λ (l : IndexLine). l ∷ before) (sym first)
           ∙ ap (λ (l : List IndexLine). block_line place b ∷ l) below.lines;
-      is = below.is ∙ ap (λ (p : ℕ). block_line p below.block)
-          (omega (arith, data_size b below.done));
+      is = below.is ∙ ap (λ (p : ℕ). block_line p below.block) at;
     }
 
 -- the block of a line of a table: it is in the file, and its entries are among the table's

@@ -3,11 +3,13 @@
 
 mod block;
 mod found;
+pub mod laws;
 mod lines;
 mod table;
 mod tail;
 
 pub use found::FoundVersion;
 pub use table::Table;
-pub use table_files::Files;
-pub use table_format::TableError;
+pub use table_builder::{Builder, Finished};
+pub use table_files::{Files, MAX_BLOCKS};
+pub use table_format::{LentEntry, TableError};

@@ -1,6 +1,6 @@
 //! Open tables.
 ghost use Rattle.std.specs.Prelude.{◌≡◌, List, IfOk, IfErr, MatchResult};
-ghost use Rattle.bloom.specs.{hashes_of};
+ghost use Rattle.bloom.specs.{Covers, CoversHashed, hashes_of};
 ghost use Rattle.disk.specs.{IsSame, IsStill, KeepsDisk};
 ghost use Rattle.kv_types.specs.{Entry};
 ghost use Rattle.table_format.specs.{IsBuilderError, IsEnvironmentError, ReportsDevice};
@@ -28,6 +28,7 @@ pub struct Table {
 
 impl Table {
     ghost use Rattle.sorted_table.specs.Open.{FileRepresents, LookupFinds, TableServes, table_file};
+    ghost use Rattle.sorted_table.specs.Open.{table_filter};
 
     /// Opens the table of a file. It needs three device calls, reads no block, and takes no more
     /// memory than the file is long.
@@ -49,8 +50,8 @@ impl Table {
             filter,
         })
     }
-    /// The newest version of the key with at most this number, if the table has one. Where the
-    /// filter denies the key, no block is read; otherwise one, which may be in the cache.
+    /// The newest version of the key with at most this number, if the table has one. It reads no
+    /// block where the filter denies the key, and otherwise one, unless that is in the cache.
     pub fn get<D: Disk + Drop>(
         &self,
         alloc: Global,
@@ -63,6 +64,7 @@ impl Table {
         ensures found { (entries : List Entry) → ⟦<Files<D> as Disk>⟧.is_honest files.old →
             TableServes (⟦<Files<D> as Disk>⟧.state files.old (table_file self.now)) self.now
             entries → MatchResult result (LookupFinds entries key.now at) IsEnvironmentError }
+        ensures unread { (Covers (table_filter self.now) key.now → ⊥) → files.new ≡ files.old }
         ensures refusals { IfErr result (λ e. IsBuilderError e → ⊥) }
         ensures still { IsStill ⟦<Files<D> as Disk>⟧ files.old files.new }
     {
@@ -84,6 +86,8 @@ impl Table {
         ensures found { (entries : List Entry) → ⟦<Files<D> as Disk>⟧.is_honest files.old →
             TableServes (⟦<Files<D> as Disk>⟧.state files.old (table_file self.now)) self.now
             entries → MatchResult result (LookupFinds entries key.now at) IsEnvironmentError }
+        ensures unread { (CoversHashed (table_filter self.now) hashes → ⊥) →
+            files.new ≡ files.old }
         ensures refusals { IfErr result (λ e. IsBuilderError e → ⊥) }
         ensures still { IsStill ⟦<Files<D> as Disk>⟧ files.old files.new }
     {
