@@ -1,1 +1,5 @@
 pub mod Readers
+-- What crates above name.
+pub use Rattle.byte_fields.specs.Readers.{Reader, ReadsFront, both, counted, mapped, number_at}
+pub use Rattle.byte_fields.specs.Readers.{only}
+unfoldable pub use Rattle.byte_fields.specs.Readers.{many}

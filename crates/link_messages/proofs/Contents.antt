@@ -8,7 +8,7 @@ use Rattle.link_messages.specs.declared.error.FrameError.TheVariants as fault
 use Rattle.link_messages.specs.declared.frame.Frame.{Frame}
 use Rattle.link_messages.specs.Spelling.{kind, fields}
 use Rattle.link_messages.specs.Stream.{HasKind, BeginsWithFrame, IsMalformed, IsTooMuch}
-use Rattle.byte_fields.specs.Readers.{Reader}
+use Rattle.byte_fields.specs.{Reader}
 use Rattle.link_messages.specs.Reading.{reader_of, ended, read_by, content_at}
 use Rattle.link_messages.proofs.FrameLaws.{reader_is, known, unknown, frame_again}
 

@@ -21,7 +21,7 @@ use Rattle.link_messages.specs.Spelling.{u8, u16, u32, u64, optional, at_text}
 use Rattle.link_messages.specs.Spelling.{range_text, row_text, page_text, refusal_number, IsEpoch}
 use Rattle.link_messages.specs.Spelling.{IsNumber}
 use Rattle.link_messages.specs.Spelling.{IsPlace, IsKey, IsValue, IsRange, IsRow, IsSmall}
-use Rattle.byte_fields.specs.Readers.{only, number_at}
+use Rattle.byte_fields.specs.{only, number_at}
 use Rattle.link_messages.specs.Reading.{epoch_at, id_at}
 use Rattle.link_messages.specs.Reading.{count_at, place_at, at_at, found_at, bound_at, limit_at}
 use Rattle.link_messages.specs.Reading.{range_at, as_range, row_at, as_row, rows_at, page_at}

@@ -17,7 +17,7 @@ use Rattle.link_messages.specs.Spelling.{kind, fields, IsFrame, u16, u32, row_te
 use Rattle.link_messages.specs.Spelling.{truth, optional, at_text, range_text, page_text, IsRange}
 use Rattle.link_messages.specs.Spelling.{IsSmall}
 use Rattle.link_messages.specs.Stream.{FramesFit}
-use Rattle.byte_fields.specs.Readers.{Reader, mapped}
+use Rattle.byte_fields.specs.{Reader, mapped}
 use Rattle.link_messages.specs.Reading.{forward_at, ack_at, notice_at}
 use Rattle.link_messages.specs.Reading.{submit_at, get_at, rows_frame_at, open_at, close_at}
 use Rattle.link_messages.specs.Reading.{committed_at, value_at, rows_are_at, opened_at, refused_at}

@@ -5,7 +5,7 @@ use Rattle.std.proofs.lemmas.List.{append-nil}
 use Rattle.kv_types.specs.{◌>>=◌}
 use Rattle.link_messages.specs.declared.error.FrameError.{FrameError}
 use Rattle.link_messages.specs.declared.error.FrameError.TheVariants as fault
-use Rattle.byte_fields.specs.Readers.{Reader, many}
+use Rattle.byte_fields.specs.{Reader, many}
 use Rattle.link_messages.specs.Reading.{RefusesField}
 
 -- the edits or values read before, and those still to read

@@ -7,7 +7,7 @@ use Rattle.kv_types.specs.{◌>>=◌}
 use Rattle.kv_types.proofs.Fields.{IsBytes, IsBytes-rest, bind_some, some_is, Takes}
 use Rattle.kv_types.proofs.Fields.{Takes-then}
 use Rattle.link_messages.specs.Spelling.{truth, optional}
-use Rattle.byte_fields.specs.Readers.{Reader, mapped}
+use Rattle.byte_fields.specs.{Reader, mapped}
 use Rattle.link_messages.specs.Reading.{truth_at}
 use Rattle.link_messages.specs.Reading.{optional_at}
 use Rattle.byte_fields.proofs.Readers.{Reads}

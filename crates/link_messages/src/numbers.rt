@@ -2,7 +2,7 @@
 ghost use Rattle.std.specs.Prelude.{◌≡◌, ◌++◌, OnOk};
 ghost use Rattle.std.specs.Int.{w8, w16, w32, w64};
 ghost use Rattle.link_messages.specs.Spelling.{truth, u16, u32, u64};
-ghost use Rattle.byte_fields.specs.Readers.{number_at};
+ghost use Rattle.byte_fields.specs.{number_at};
 ghost use Rattle.link_messages.specs.Reading.{ReadsField, truth_at};
 
 use crate::FrameError;

@@ -3,7 +3,7 @@ ghost use Rattle.std.specs.Prelude.{◌≡◌, ◌++◌, OnOk, All, nat_le};
 ghost use Rattle.std.specs.List.{flat_map, sum_by};
 ghost use Rattle.kv_types.specs.{row_size};
 ghost use Rattle.link_messages.specs.Spelling.{row_text, page_text, IsRow};
-ghost use Rattle.byte_fields.specs.Readers.{many};
+ghost use Rattle.byte_fields.specs.{many};
 ghost use Rattle.link_messages.specs.Reading.{ReadsField, items_of, row_at, rows_at, page_at};
 
 use crate::FrameError;

@@ -5,7 +5,7 @@ use Rattle.std.specs.List.{flat_map}
 use Rattle.std.specs.Int.{w32}
 use Rattle.std.proofs.lemmas.List.Elements.{All-from_recursion, recursion_from_All}
 use Rattle.kv_types.proofs.Fields.{IsBytes}
-use Rattle.byte_fields.specs.Readers.{number_at}
+use Rattle.byte_fields.specs.{number_at}
 use Rattle.merge_iter.specs.declared.Direction.TheVariants.{Forward}
 use Rattle.merge_iter.specs.{EntryPrecedes}
 use Rattle.kv_types.specs.{Entry}

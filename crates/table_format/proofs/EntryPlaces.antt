@@ -30,6 +30,12 @@ starts_push place (x ∷ entries) entry =
     ap (λ (l : List ℕ). place ∷ l) (starts_push next entries entry)
     ∙ ap (λ (p : ℕ). place ∷ (starts_from next entries ++ p ∷ [])) e
 
+pub length-starts : (place : ℕ) (entries : List Entry)
+    → length (starts_from place entries) ≡ length entries
+length-starts place [] = refl
+length-starts place (x ∷ entries) =
+    ap suc (length-starts (place + length (entry_bytes x)) entries)
+
 -- these entries were read, and these are their places
 pub record StartsRead (text rest starts : List ℕ) : Type 0 where
   pub entries : List Entry

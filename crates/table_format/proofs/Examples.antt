@@ -2,6 +2,12 @@
 use Rattle.std.proofs.Common.{◌≡◌, ℕ, ◌+◌, List, [], ◌∷◌, ◌++◌, length, refl, sym, ap, ◌∙◌, arith}
 use Rattle.std.proofs.Common.{length-append, Some, None}
 use Rattle.std.specs.List.{flat_map}
+use Rattle.std.proofs.Common.{All, ◌<◌, ◌^◌}
+use Rattle.std.proofs.lemmas.List.Elements.{All-from_recursion}
+use Rattle.bloom.specs.{IsFilter}
+use Rattle.table_format.specs.Blocks.{AreRising, IsTableEntry}
+use Rattle.table_format.specs.Tables.{different_keys}
+use Rattle.table_format.specs.Examples.{single_table}
 use Rattle.std.proofs.lemmas.List.{append-nil}
 use Rattle.std.proofs.lemmas.List.Concat.{flat_map-cons}
 use Rattle.kv_types.specs.{Entry, text_bytes}
@@ -105,6 +111,44 @@ abbrev one_line : ℕ → List ℕ
 one_line len =
     index_content (record { place = 0; len = len; key = put_a.key; number = 1 } ∷ [])
 
+put_a_fits : IsTableEntry put_a
+put_a_fits = record { key = omega arith; number = omega arith; value = omega arith }
+
+each_fits : All IsTableEntry (put_a ∷ [])
+each_fits = All-from_recursion IsTableEntry (put_a ∷ []) (put_a_fits, tt)
+
+alone : AreRising (put_a ∷ [])
+alone i j d lt short = absurd (omega (arith, lt, short))
+
+small : All (λ block. length (block_bytes block) < 2 ^ 32) (single put_a ∷ [])
+small = All-from_recursion (λ block. length (block_bytes block) < 2 ^ 32) (single put_a ∷ [])
+    (omega (arith, length-block_part (put_a ∷ [])), tt)
+
+single_data : length (data_bytes (single put_a ∷ [])) ≡ 27
+single_data = ap length (flat_map-cons block_bytes (single put_a) [])
+    ∙ ap length (append-nil (block_part (put_a ∷ []))) ∙ length-block_part (put_a ∷ [])
+
+single_represented : (filter : List ℕ) → IsFilter (different_keys (put_a ∷ [])) filter
+    → TableRepresents (single_table put_a filter) (put_a ∷ [])
+single_represented filter exact =
+    let len : length filter ≡ 8 = exact.len in
+    record {
+      blocks = single put_a ∷ [];
+      filter = filter;
+      spelled = refl;
+      division = refl;
+      some = omega arith;
+      each = each_fits;
+      rising = alone;
+      exact = exact;
+      fits = record {
+        data_len = omega (arith, single_data);
+        each = small;
+        filter_len = omega (arith, len, length-filter_part filter);
+        index_len = omega (arith, length-single_index put_a);
+      };
+    }
+
 pub table_examples : TableExamples
 table_examples = record {
   content = refl;
@@ -117,4 +161,6 @@ table_examples = record {
   deletion = λ bytes t. length-single bytes (of_a None) t;
   longer = λ bytes value len t.
       omega (arith, len, length-append value [], length-single bytes (of_a (Some value)) t);
+  represented = single_represented;
+  other_keys = refl;
 }

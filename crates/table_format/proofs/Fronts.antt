@@ -7,7 +7,7 @@ use Rattle.std.proofs.Common.{take, drop}
 use Rattle.std.proofs.lemmas.List.{take_at, drop_at}
 use Rattle.std.proofs.lemmas.List.Concat.{flat_map-cons}
 use Rattle.std.proofs.lemmas.Nat.{from_be_bytes-to_be_bytes_4}
-use Rattle.byte_fields.specs.Readers.{many}
+use Rattle.byte_fields.specs.{many}
 use Rattle.byte_fields.proofs.Readers.{many_again}
 use Rattle.kv_types.specs.{Entry}
 use Rattle.table_format.proofs.Entries.{entry_reads}

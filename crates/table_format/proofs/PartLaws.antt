@@ -4,7 +4,7 @@ use Rattle.std.proofs.lemmas.List.{take_at}
 use Rattle.std.proofs.Common.{take, sym, ap, subst, ◌∙◌, arith}
 use Rattle.std.specs.Int.{w32, w64}
 use Rattle.kv_types.proofs.Fields.{IsBytes, some_is}
-use Rattle.byte_fields.specs.Readers.{number_at}
+use Rattle.byte_fields.specs.{number_at}
 use Rattle.byte_fields.proofs.Readers.{Reads, both_reads, made_reads, right_reads, number_reads, wide32, wide64, IsBytes-take}
 use Rattle.table_format.proofs.Fronts.{split_same}
 use Rattle.table_format.proofs.Sealed.{length-sealed}

@@ -6,7 +6,7 @@ use Rattle.std.proofs.lemmas.List.{append-nil}
 use Rattle.std.proofs.lemmas.Grind.{flat_map-append}
 use Rattle.std.proofs.lemmas.List.Concat.{flat_map-cons}
 use Rattle.kv_types.proofs.Fields.{IsBytes, some_is}
-use Rattle.byte_fields.specs.Readers.{Reader}
+use Rattle.byte_fields.specs.{Reader}
 use Rattle.byte_fields.proofs.Readers.{Reads}
 
 pub flat_push : {A : Type 0} (spell : A → List ℕ) (xs : List A) (x : A)

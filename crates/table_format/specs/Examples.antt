@@ -1,10 +1,11 @@
 -- Tables of one entry, worked out.
 use Rattle.std.specs.Prelude.{◌≡◌, ℕ, List, [], ◌∷◌, length, codes, Option, Some, None}
+use Rattle.bloom.specs.{IsFilter}
 use Rattle.kv_types.specs.{Entry}
 use Rattle.table_format.specs.declared.footer.Footer.{Footer}
 use Rattle.table_format.specs.Blocks.{block_content, block_part}
 use Rattle.table_format.specs.Tables.{Block, block_lines, filter_part, footer_part, index_content}
-use Rattle.table_format.specs.Tables.{index_part, TableRepresents}
+use Rattle.table_format.specs.Tables.{TableRepresents, different_keys, index_part, table_spelling}
 
 -- what the batch with number 1 left of `a`
 abbrev pub of_a : Option (List ℕ) → Entry
@@ -16,6 +17,10 @@ put_a = of_a (Some (codes "1"))
 -- the block with one entry
 abbrev pub single : Entry → Block
 single entry = record { front = []; last = entry }
+
+-- the table of the entry in one block with this filter
+abbrev pub single_table : Entry → List ℕ → List ℕ
+single_table entry filter = table_spelling (single entry ∷ []) filter
 
 pub record TableExamples : Type 0 where
   pub content : block_content (put_a ∷ [])
@@ -31,3 +36,6 @@ pub record TableExamples : Type 0 where
   pub deletion : (bytes : List ℕ) → TableRepresents bytes (of_a None ∷ []) → length bytes ≡ 131
   pub longer : (bytes value : List ℕ) → length value ≡ 200 →
       TableRepresents bytes (of_a (Some value) ∷ []) → length bytes ≡ 333
+  pub represented : (filter : List ℕ) → IsFilter (codes "a" ∷ []) filter →
+      TableRepresents (single_table put_a filter) (put_a ∷ [])
+  pub other_keys : different_keys (put_a ∷ of_a None ∷ []) ≡ codes "a" ∷ []

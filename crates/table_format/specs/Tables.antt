@@ -3,7 +3,7 @@ use Rattle.std.specs.Prelude.{◌≡◌, ℕ, ◌+◌, ◌<◌, ◌≤◌, ◌^�
 use Rattle.std.specs.Prelude.{Bool, false, if◌then◌else◌}
 use Rattle.std.specs.List.{flat_map}
 use Rattle.std.specs.Str.{bytes_eq}
-use Rattle.bloom.specs.Filters.{IsFilter}
+use Rattle.bloom.specs.{IsFilter}
 use Rattle.kv_types.specs.{Entry}
 use Rattle.table_format.specs.declared.sizes.TheConstants.{MAX_DATA}
 use Rattle.table_format.specs.declared.line.IndexLine.{IndexLine}

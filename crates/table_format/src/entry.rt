@@ -1,7 +1,7 @@
 //! Entries that are lent from the block that they stand in.
 ghost use Rattle.std.specs.Prelude.{◌≡◌, ◌≤◌, length, option_map, IfSome};
 ghost use Rattle.kv_types.specs.declared.bounds.TheConstants.{MAX_KEY};
-ghost use Rattle.byte_fields.specs.Readers.{ReadsFront};
+ghost use Rattle.byte_fields.specs.{ReadsFront};
 ghost use Rattle.table_format.specs.Reading.{key_at, stored_number_at, change_at, table_entry_at};
 ghost use Rattle.table_format.specs.Reading.{lent_entry};
 

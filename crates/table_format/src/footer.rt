@@ -1,6 +1,6 @@
 //! The last part of a table, which says where the others are.
 ghost use Rattle.std.specs.Prelude.{◌≡◌, IfOk};
-ghost use Rattle.byte_fields.specs.Readers.{ReadsFront};
+ghost use Rattle.byte_fields.specs.{ReadsFront};
 ghost use Rattle.table_format.specs.Parts.{ReadsPart, IsFooter};
 ghost use Rattle.table_format.specs.Reading.{footer_at};
 ghost use Rattle.table_format.specs.Tables.{footer_part};

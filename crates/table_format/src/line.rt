@@ -1,7 +1,7 @@
 //! Lines of an index.
 ghost use Rattle.std.specs.Prelude.{◌≡◌, ◌≤◌, length, IfSome, IfOk, IfErr};
 ghost use Rattle.kv_types.specs.declared.bounds.TheConstants.{MAX_KEY};
-ghost use Rattle.byte_fields.specs.Readers.{ReadsFront};
+ghost use Rattle.byte_fields.specs.{ReadsFront};
 ghost use Rattle.table_format.specs.Reading.{lent_line, line_at};
 
 use crate::TableError;

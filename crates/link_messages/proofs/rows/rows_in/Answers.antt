@@ -1,6 +1,6 @@
 use Rattle.std.proofs.Common.{◌≡◌, ◌++◌, ◌∷◌, []}
 use Rattle.std.proofs.lemmas.Result.{err_from_is_err_and}
-use Rattle.byte_fields.specs.Readers.{many}
+use Rattle.byte_fields.specs.{many}
 use Rattle.link_messages.specs.Reading.{row_at}
 use Rattle.link_messages.proofs.Loop.{goes_on, ends, is_done}
 use Rattle.link_messages.proofs.rows.rows_in.Goals as goal
