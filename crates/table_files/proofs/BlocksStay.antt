@@ -18,7 +18,8 @@ same_block old new file place part same at = (
 pub blocks_stay : (old new : State) (before after : BlockCache) → AreBlocksAt old before
     → IsSame old new → AddsNoBlock before after → AreBlocksAt new after
 blocks_stay old new before after right same adds file place part holds =
-    same_block old new file place part (same file) (right file place part (adds file place part holds))
+    same_block old new file place part (same file)
+    (right file place part (adds file place part holds))
 
 -- in a cache without blocks of the file that was changed
 pub blocks_beside : (old new : State) (before after : BlockCache) (file : ℕ)

@@ -1,10 +1,12 @@
 -- What calls that only read make of a disk: a relation that adds up over any number of them.
 use Rattle.disk.specs.declared.Disk.{Ghosts}
-use Rattle.std.specs.Prelude.{◌≡◌, ◌↔◌, ◌⊎◌, ℕ, ◌-◌, ◌^◌, ◌<◌, ◌≤◌, List, length, Option, Some, None}
+use Rattle.std.specs.Prelude.{◌≡◌, ◌↔◌, ◌⊎◌, ℕ, ◌-◌, ◌^◌, ◌<◌, ◌≤◌, List, length}
+use Rattle.std.specs.Prelude.{Option, Some, None}
 use Rattle.std.specs.Prelude.{Result, Ok, Err, IsSomeAnd}
 use Rattle.std.proofs.Common.{inl, inr, refl, sym, subst, ◌∙◌, arith, ⊎_elim}
 use Rattle.std.proofs.lemmas.Bool.{cases_lt}
-use Rattle.disk.specs.{State, Contents, IsSame, IsStill, KeepsDisk, HasStruck, HasStruckBy, RisesByOne}
+use Rattle.disk.specs.{State, Contents, IsSame, IsStill, KeepsDisk}
+use Rattle.disk.specs.{HasStruck, HasStruckBy, RisesByOne}
 use Rattle.disk.specs.{AllLeave}
 use Rattle.disk.specs.Moments.{AllLeave as later}
 use Rattle.disk.proofs.Still.{still, still_more}
@@ -51,7 +53,8 @@ stays_struck : (at then : Option ℕ) (before now : ℕ) → then ≡ at → bef
 stays_struck at None before now same le struck = let e : None ≡ at = same in
     subst (λ (o : Option ℕ). IsSomeAnd o (λ n. n ≤ before)) (sym e) struck
 stays_struck at (Some n) before now same le struck =
-    let h : n ≤ before = subst (λ (o : Option ℕ). IsSomeAnd o (λ n. n ≤ before)) (sym same) struck in
+    let h : n ≤ before =
+    subst (λ (o : Option ℕ). IsSomeAnd o (λ n. n ≤ before)) (sym same) struck in
     omega arith
 
 module _ {D : Type 0} (g : Ghosts D) where

@@ -36,8 +36,8 @@ pub returns-in_err-read-clause-answers : goal.returns-in_err-read-clause-answers
 returns-in_err-read-clause-answers g c = λ honest.
     refused c.in_err-read.field-0.0 (g.D.Disk.state c.args.disk.now) c.args.file c.args.place
     c.args.len c.from_residual-in_err-read.result (search rules)
-    (subst (λ (n : ℕ). IsRefusalOf c.in_err-read.field-0.0 (g.D.Disk.state c.args.disk.now) c.args.file
-    (c.args.place + n)) (c.deref_mut.ensures.len ∙ c.in_ok-bytes.ensures.len)
+    (subst (λ (n : ℕ). IsRefusalOf c.in_err-read.field-0.0 (g.D.Disk.state c.args.disk.now)
+    c.args.file (c.args.place + n)) (c.deref_mut.ensures.len ∙ c.in_ok-bytes.ensures.len)
     (c.in_err-read.ensures.reads honest))
 
 -- what was read is no block
