@@ -9,7 +9,7 @@ use Rattle.std.specs.Int.{w16, to_be_bytes}
 use Rattle.std.proofs.lemmas.List.{append-nil}
 use Rattle.std.proofs.lemmas.List.Concat.{flat_map-cons}
 use Rattle.std.proofs.lemmas.List.Elements.{All-from_recursion, recursion_from_All}
-use Rattle.bloom.specs.Filters.{IsFilter}
+use Rattle.bloom.specs.{IsFilter}
 use Rattle.kv_types.specs.{Entry}
 use Rattle.table_format.specs.declared.Footer.{Footer}
 use Rattle.table_format.specs.declared.IndexLine.{IndexLine}
@@ -212,7 +212,12 @@ finished_none it none =
     ap (λ (l : List Entry). it.closed ++ last_block l) (nil_by it.opened none)
     ∙ append-nil it.closed
 
--- one is open
+-- one is open, with these entries
+pub finished_some : (it : Division) (first : Entry) (others : List Entry)
+    → it.opened ≡ first ∷ others
+    → finished_blocks it ≡ it.closed ++ block_from first others ∷ []
+finished_some it first others is = ap (λ (l : List Entry). it.closed ++ last_block l) is
+
 pub opened_some : (opened : List Entry) → 0 < length opened
     → (first : Entry) × (others : List Entry) × (opened ≡ first ∷ others)
 opened_some [] some = absurd (omega (arith, some))

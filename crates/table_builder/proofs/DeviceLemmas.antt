@@ -12,22 +12,22 @@ use Rattle.table_builder.specs.Closing.{WritesFile}
 -- what holds of the cause holds of the refusal that reports it
 pub refuses : {T E : Type 0} (result : Result T E) {e : E} (P : T → Type 0) (Q : E → Type 0) →
     IsErrAnd result (λ s. s ≡ e) → Q e → MatchResult result P Q
-refuses (Ok x) P Q told q = absurd told
-refuses (Err s) P Q told q = subst Q (sym told) q
+refuses (Ok x) P Q reported q = absurd reported
+refuses (Err s) P Q reported q = subst Q (sym reported) q
 
 -- the same error is passed on
 pub passed_on : {T U : Type 0} (called : Result T TableError) (e : TableError)
     (result : Result U TableError) → called ≡ Err e → IsErrAnd result (λ s. s ≡ e) →
     ReportsDevice called ↔ ReportsDevice result
-passed_on called e (Ok x) is told = absurd told
-passed_on called e (Err s) is told = (λ f. cc, λ f. cc)
+passed_on called e (Ok x) is reported = absurd reported
+passed_on called e (Err s) is reported = (λ f. cc, λ f. cc)
 
 pub not_own_on : {T U : Type 0} (called : Result T TableError) (e : TableError)
     (result : Result U TableError) → called ≡ Err e → IsErrAnd result (λ s. s ≡ e) →
     IfErr called (λ e. IsBuilderError e → ⊥) → IfErr result (λ e. IsBuilderError e → ⊥)
-not_own_on called e (Ok x) is told own = absurd told
-not_own_on (Ok x) e (Err s) is told own = absurd cc
-not_own_on (Err d) e (Err s) is told own =
+not_own_on called e (Ok x) is reported own = absurd reported
+not_own_on (Ok x) e (Err s) is reported own = absurd cc
+not_own_on (Err d) e (Err s) is reported own =
     let same : d ≡ s = cc in
     subst (λ (x : TableError). IsBuilderError x → ⊥) same own
 
@@ -38,13 +38,13 @@ answered called result is ok = (λ f. absurd cc, λ f. absurd cc)
 
 memory_not : {T : Type 0} (result : Result T TableError) →
     IsErrAnd result (λ s. s ≡ table.Memory) → ReportsDevice result → ⊥
-memory_not (Ok x) told fails = absurd told
-memory_not (Err s) told fails = cc
+memory_not (Ok x) reported fails = absurd reported
+memory_not (Err s) reported fails = cc
 
 memory_own : {T : Type 0} (result : Result T TableError) →
     IsErrAnd result (λ s. s ≡ table.Memory) → IfErr result (λ e. IsBuilderError e → ⊥)
-memory_own (Ok x) told = tt
-memory_own (Err s) told = λ own. elim own [
+memory_own (Ok x) reported = tt
+memory_own (Err s) reported = λ own. elim own [
   | inl order ↦ absurd cc
   | inr rest ↦ elim rest
       [ inl large ↦ absurd cc | inr failed ↦ absurd cc ]
@@ -94,8 +94,8 @@ module _ {D : Type 0} (g : Ghosts D) (file : ℕ) where
   -- memory is wanting before any call
   pub wants_memory : {T : Type 0} (disk : D) (result : Result T TableError) {cause : Type 0} →
       IsErrAnd result (λ s. s ≡ table.Memory) → WritesFile g file disk disk result cause
-  wants_memory disk result told =
-      writes_nothing disk (memory_not result told) (memory_own result told)
+  wants_memory disk result reported =
+      writes_nothing disk (memory_not result reported) (memory_own result reported)
 
   -- a call that was answered, and one behind it
   pub writes_behind : {T U : Type 0} {old mid new : D} {called : Result T TableError}

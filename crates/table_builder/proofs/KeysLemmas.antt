@@ -8,7 +8,7 @@ use Rattle.std.specs.Ordering.{is_lt}
 use Rattle.std.specs.Str.{bytes_eq}
 use Rattle.std.proofs.lemmas.List.{map-append}
 use Rattle.std.proofs.lemmas.Slice.Eq.{bytes_eq-Decides}
-use Rattle.bloom.specs.Filters.{hashes_of}
+use Rattle.bloom.specs.{hashes_of}
 use Rattle.kv_types.specs.{Entry}
 use Rattle.merge_iter.specs.{EntryPrecedes, entry_cmp, spot}
 use Rattle.merge_iter.specs.declared.Direction.TheVariants.{Forward}
@@ -66,10 +66,9 @@ module _ (was now : AddedKeys) (entries : List Entry) (entry : Entry) (k : Knows
     (some : 0 < length entries) (count : now.count ≡ length entries + 1)
     (least : now.least.items ≡ was.least.items) (last : now.last.items ≡ entry.key)
     (number : now.number ≡ entry.number) where
-  known : different_keys (entries ++ entry ∷ []) ≡ different_keys (entries ++ entry ∷ []) →
-      now.hashes.items ≡ map hashes_of (different_keys (entries ++ entry ∷ [])) →
+  known : now.hashes.items ≡ map hashes_of (different_keys (entries ++ entry ∷ [])) →
       KnowsKeys now (entries ++ entry ∷ [])
-  known same hashes = record {
+  known hashes = record {
     count = omega (arith, count, length-append entries (entry ∷ []));
     hashes = hashes;
     least = first_push (λ r. now.least.items ≡ r.key) entries entry some
@@ -89,7 +88,7 @@ module _ (was now : AddedKeys) (entries : List Entry) (entry : Entry) (k : Knows
   knows_same same hashes =
       let end = last_of_some entries some in
       let alike = subst (λ (key : List ℕ). bytes_eq key entry.key ≡ true) (last_is end.0 end.1) same in
-      known refl (hashes ∙ k.hashes ∙ ap (map hashes_of) (sym (keys_same entries end.0 entry end.1 alike)))
+      known (hashes ∙ k.hashes ∙ ap (map hashes_of) (sym (keys_same entries end.0 entry end.1 alike)))
 
   -- after an entry of another key
   pub knows_other : bytes_eq was.last.items entry.key ≡ false →
@@ -98,7 +97,7 @@ module _ (was now : AddedKeys) (entries : List Entry) (entry : Entry) (k : Knows
   knows_other other hashes =
       let end = last_of_some entries some in
       let differ = subst (λ (key : List ℕ). bytes_eq key entry.key ≡ false) (last_is end.0 end.1) other in
-      known refl (
+      known (
       hashes ∙ ap (λ (hs : List (ℕ × ℕ)). hs ++ hashes_of entry.key ∷ []) k.hashes
       ∙ sym (map-append hashes_of (different_keys entries) (entry.key ∷ []))
       ∙ ap (map hashes_of) (sym (keys_more entries end.0 entry end.1 differ))

@@ -1,6 +1,6 @@
 -- What a builder keeps of the keys of its entries.
 use Rattle.std.specs.Prelude.{◌≡◌, List, [], ◌∷◌, length, map, Option, Some, None, IfSome}
-use Rattle.bloom.specs.Filters.{hashes_of}
+use Rattle.bloom.specs.{hashes_of}
 use Rattle.kv_types.specs.{Entry}
 use Rattle.table_format.specs.{different_keys, last_entry}
 use Rattle.table_builder.specs.declared.keys.AddedKeys.{AddedKeys}

@@ -34,7 +34,7 @@ pub fn key_from(bytes: Vec<u8>) -> Key
 impl AddedKeys {
     ghost use Rattle.std.specs.Prelude.{◌<◌, ◌^◌, ◌+◌, ◌++◌, ◌∷◌, [], ◌↔◌, ℕ, List};
     ghost use Rattle.std.specs.Prelude.{OnOk, IsTrue};
-    ghost use Rattle.bloom.specs.Filters.{hashes_of};
+    ghost use Rattle.bloom.specs.{hashes_of};
     ghost use Rattle.kv_types.specs.{Entry};
     ghost use Rattle.table_format.specs.{CanFollow};
     ghost use Rattle.table_builder.specs.Keys.{KnowsKeys};

@@ -13,10 +13,10 @@ returns-in_err-append-clause-device g c =
     let called = c.append.result in
     let e = c.in_err-append.field-0.0 in
     let result = c.from_residual-in_err-append.result in
-    let told = c.from_residual-in_err-append.ensures.1 in
+    let reported = c.from_residual-in_err-append.ensures.1 in
     let device = c.append.ensures in
-    writes_as g.D.Disk c.args.self.now.file (passed_on called e result c.in_err-append.was told)
-    (not_own_on called e result c.in_err-append.was told device.not_own)
+    writes_as g.D.Disk c.args.self.now.file (passed_on called e result c.in_err-append.was reported)
+    (not_own_on called e result c.in_err-append.was reported device.not_own)
     (λ out blocks one can.
     let is : c.deref.result.now ≡ block_bytes one =
     c.deref.ensures.value ∙ (c.in_ok-seal.ensures.sealed blocks one can).bytes in

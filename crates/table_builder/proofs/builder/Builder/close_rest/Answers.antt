@@ -1,10 +1,10 @@
-use Rattle.std.proofs.Common.{◌≡◌, ◌<◌, ◌++◌, List, length, refl, ap, sym, subst, arith, MatchResult}
-use Rattle.kv_types.specs.{Entry}
+use Rattle.std.proofs.Common.{◌≡◌, ◌<◌, List, length, refl, sym, subst, arith, MatchResult}
 use Rattle.table_format.specs.{Block, IsEnvironmentError, data_bytes}
 use Rattle.table_builder.specs.Builders.{HoldsBlocks}
-use Rattle.table_builder.specs.Divisions.{block_from, division, last_block}
+use Rattle.table_builder.specs.Divisions.{block_from, division}
 use Rattle.table_builder.specs.Fresh.{IsFresh}
-use Rattle.table_builder.proofs.ClosingLemmas.{can_close_last, can_end, finished_none, on_ok_map}
+use Rattle.table_builder.proofs.ClosingLemmas.{can_close_last, can_end, finished_none, finished_some}
+use Rattle.table_builder.proofs.ClosingLemmas.{on_ok_map}
 use Rattle.table_builder.proofs.ClosingLemmas.{opened_some}
 use Rattle.table_builder.proofs.DeviceLemmas.{writes_as, writes_nothing}
 use Rattle.table_builder.proofs.builder.Builder.close_rest.Goals as goal
@@ -42,7 +42,7 @@ returns-clause-closed g c = λ entries h more.
     let opened = h.parts.block.count in
     let some : 0 < length parts.opened = omega (arith, opened, c.if-self-eq0.false) in
     let o = opened_some parts.opened some in
-    let all = ap (λ (l : List Entry). parts.closed ++ last_block l) o.2 in
+    let all = finished_some parts o.0 o.1 o.2 in
     on_ok_map c.close.result
     (λ closed. can_end it entries h more c.close.new.self c.close.ensures.keys.keys
     (subst (HoldsBlocks c.close.new.self) (sym all) closed.closed))
@@ -56,7 +56,7 @@ returns-clause-written g c = λ entries h honest fresh.
     let opened = h.parts.block.count in
     let some : 0 < length parts.opened = omega (arith, opened, c.if-self-eq0.false) in
     let o = opened_some parts.opened some in
-    let all = ap (λ (l : List Entry). parts.closed ++ last_block l) o.2 in
+    let all = finished_some parts o.0 o.1 o.2 in
     subst (λ (blocks : List Block). MatchResult c.close.result
     (λ _. IsFresh (g.D.Disk.state c.close.new.disk it.file) (data_bytes blocks)) IsEnvironmentError)
     (sym all)

@@ -20,10 +20,10 @@ returns-in_err-append_last-clause-device g c =
     let called = c.append_last.result in
     let e = c.in_err-append_last.field-0.0 in
     let result = c.from_residual-in_err-append_last.result in
-    let told = c.from_residual-in_err-append_last.ensures.1 in
+    let reported = c.from_residual-in_err-append_last.ensures.1 in
     let device = c.append_last.ensures in
-    writes_as g.D.Disk c.args.self.file (passed_on called e result c.in_err-append_last.was told)
-    (not_own_on called e result c.in_err-append_last.was told device.not_own)
+    writes_as g.D.Disk c.args.self.file (passed_on called e result c.in_err-append_last.was reported)
+    (not_own_on called e result c.in_err-append_last.was reported device.not_own)
     (λ out blocks entries can.
     let t = (c.in_ok-tail.ensures.tail blocks entries can).1 in
     let size = can.size in

@@ -17,13 +17,13 @@ returns-clause-sealed c = λ blocks one can.
     c.in_ok-seal.ensures text (can.entries.bytes some)
     ∙ ap (λ (n : ℕ). sealed (be32 n ++ text)) can.entries.count in
     let line = c.in_ok-line.line in
-    let told = c.in_ok-line.ensures in
+    let reported = c.in_ok-line.ensures in
     let len : c.len.result ≡ length (block_bytes one) =
     omega (arith, c.len.ensures, c.seal.new.self.bytes.ok.0, ap length bytes) in
     let small = can.small in
-    let place : line.place ≡ 0 + length (data_bytes blocks) = omega (arith, told.0, can.closed.written) in
+    let place : line.place ≡ 0 + length (data_bytes blocks) = omega (arith, reported.0, can.closed.written) in
     let is = line_is line (0 + length (data_bytes blocks)) one place
-    (told.1 (omega (arith, len, small)) ∙ len) (told.2 ∙ can.key) (told.3 ∙ can.number) in
+    (reported.1 (omega (arith, len, small)) ∙ len) (reported.2 ∙ can.key) (reported.3 ∙ can.number) in
     let few = can.few in
     on_ok_map c.add_line.result
     (λ has. record {

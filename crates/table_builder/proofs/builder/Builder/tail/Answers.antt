@@ -1,6 +1,6 @@
 use Rattle.std.proofs.Common.{◌≡◌, ◌+◌, ◌<◌, ◌^◌, ◌++◌, ℕ, List, length, map, ap, sym, subst, ◌∙◌, arith}
 use Rattle.std.specs.List.{flat_map}
-use Rattle.bloom.specs.Filters.{IsFilter, hashes_of}
+use Rattle.bloom.specs.{IsFilter, hashes_of}
 use Rattle.table_format.specs.{be32, block_lines, different_keys, filter_part, index_part, line_bytes, sealed}
 use Rattle.table_builder.specs.Tails.{tail_of}
 use Rattle.table_builder.proofs.ClosingLemmas.{blocks_some, is_table, length-tail_of, tail_fits}

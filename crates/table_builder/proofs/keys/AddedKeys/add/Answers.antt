@@ -2,7 +2,7 @@ use Rattle.std.proofs.Common.{◌≡◌, ◌<◌, ◌+◌, ◌++◌, ◌∷◌, 
 use Rattle.std.proofs.Common.{Bool, true, false, not}
 use Rattle.std.specs.Str.{bytes_eq}
 use Rattle.std.proofs.lemmas.Slice.Eq.{bytes_eq-Decides}
-use Rattle.bloom.specs.Filters.{hashes_of}
+use Rattle.bloom.specs.{hashes_of}
 use Rattle.table_builder.proofs.KeysLemmas.{knows_other, knows_same}
 use Rattle.table_builder.proofs.keys.AddedKeys.add.Goals as goal
 
