@@ -1,5 +1,5 @@
 //! Open tables.
-ghost use Rattle.std.specs.Prelude.{◌≡◌, List, IfOk, IfErr, MatchResult};
+ghost use Rattle.std.specs.Prelude.{◌≡◌, ◌↔◌, List, IfOk, IfErr, IsTrue, MatchResult};
 ghost use Rattle.bloom.specs.{Covers, CoversHashed, hashes_of};
 ghost use Rattle.disk.specs.{IsSame, IsStill, KeepsDisk};
 ghost use Rattle.kv_types.specs.{Entry};
@@ -50,6 +50,13 @@ impl Table {
             filter,
         })
     }
+    // Whether the filter denies the key with these hashes.
+    fn denies(&self, hashes: KeyHashes) -> bool
+        ensures { IsTrue result ↔ (CoversHashed (table_filter self.now) hashes → ⊥) }
+    {
+        !may_hold_hashed(&self.filter, hashes)
+    }
+
     /// The newest version of the key with at most this number, if the table has one. It reads no
     /// block where the filter denies the key, and otherwise one, unless that is in the cache.
     pub fn get<D: Disk + Drop>(
@@ -91,7 +98,7 @@ impl Table {
         ensures refusals { IfErr result (λ e. IsBuilderError e → ⊥) }
         ensures still { IsStill ⟦<Files<D> as Disk>⟧ files.old files.new }
     {
-        if !may_hold_hashed(&self.filter, hashes) {
+        if self.denies(hashes) {
             filters_cover(); // law: the filter of some keys covers each of them
             return Ok(None);
         }
