@@ -1,0 +1,3 @@
+pub mod RisingEntries
+pub mod StartWalks
+pub mod StartSearches

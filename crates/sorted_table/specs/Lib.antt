@@ -1,3 +1,5 @@
+pub mod BlockPlaces
+pub mod EntryReads
 pub mod Open
 pub mod Searches
 pub mod Tails

@@ -2,8 +2,10 @@
 #![tactic(auto)]
 
 mod block;
+mod block_place;
 mod found;
 mod lines;
+mod starts;
 mod table;
 mod tail;
 
