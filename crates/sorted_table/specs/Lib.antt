@@ -1,7 +1,9 @@
 pub mod BlockPlaces
 pub mod EntryReads
+pub mod LineSizes
 pub mod Open
 pub mod Searches
+pub mod TableCursors
 pub mod Tails
 -- What crates above name.
 pub use Rattle.sorted_table.specs.Open.{FileRepresents, LookupFinds, TableServes, found_entry}

@@ -7,6 +7,7 @@ mod found;
 mod lines;
 mod starts;
 mod table;
+mod table_cursor;
 mod tail;
 
 pub use found::FoundVersion;
