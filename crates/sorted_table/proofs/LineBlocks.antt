@@ -1,0 +1,203 @@
+-- The block of an index line, in the file and among the entries.
+use Rattle.std.proofs.Common.{◌≡◌, ℕ, ◌+◌, ◌≤◌, ◌<◌, ◌^◌, List, [], ◌∷◌, ◌++◌, length, take, drop, All, AllPairs}
+use Rattle.std.proofs.Common.{refl, sym, ap, subst, ◌∙◌, arith, append_assoc, length-append, ◌⊎◌, inl, inr}
+use Rattle.std.specs.List.{flat_map, AllByRecursion}
+use Rattle.std.proofs.lemmas.List.{take_at, drop_at}
+use Rattle.std.proofs.lemmas.Grind.{flat_map-append}
+use Rattle.std.proofs.lemmas.List.Concat.{flat_map-cons}
+use Rattle.std.proofs.lemmas.List.Elements.{All-from_recursion, recursion_from_All}
+use Rattle.kv_types.proofs.Ordered.{Among, Rises, rises_from_AllPairs, AllPairs-rises}
+use Rattle.kv_types.specs.{Entry}
+use Rattle.merge_iter.specs.{EntryPrecedes, chain, spot}
+use Rattle.merge_iter.specs.declared.Direction.TheVariants.{Forward}
+use Rattle.table_format.proofs.Fronts.{IsSmall, few_entries, length-block_part, split_each}
+use Rattle.table_format.specs.{Block, IsBlock, IsTableEntry, TableRepresents, block_bytes, block_entries, block_line, block_lines}
+use Rattle.table_format.specs.{data_bytes, end_spot, entries_of_blocks, filter_part, footer_part, index_part, table_footer}
+use Rattle.table_format.specs.declared.IndexLine.{IndexLine}
+use Rattle.sorted_table.specs.Searches.{EndsEarlier, IsEarlier}
+
+abbrev Up : Entry → Entry → Type 0
+Up = EntryPrecedes Forward
+
+-- ---- parts of lists
+
+pub among_left : {A : Type 0} (xs ys : List A) (x : A) → Among x xs → Among x (xs ++ ys)
+among_left [] ys x a = absurd a
+among_left (z ∷ xs) ys x (inl e) = inl e
+among_left (z ∷ xs) ys x (inr a) = inr (among_left xs ys x a)
+
+pub among_right : {A : Type 0} (xs ys : List A) (y : A) → Among y ys → Among y (xs ++ ys)
+among_right [] ys y a = a
+among_right (x ∷ xs) ys y a = inr (among_right xs ys y a)
+
+pub record RisingParts (xs ys : List Entry) : Type 0 where
+  pub front : Rises (EntryPrecedes Forward) xs
+  pub back : Rises (EntryPrecedes Forward) ys
+  pub across : (x y : Entry) → Among x xs → Among y ys → EntryPrecedes Forward x y
+
+pub rising_parts : (xs ys : List Entry) → Rises (EntryPrecedes Forward) (xs ++ ys)
+    → RisingParts xs ys
+rising_parts [] ys rises = record { front = tt; back = rises; across = λ x y a b. absurd a }
+rising_parts (z ∷ xs) ys rises =
+    let below = rising_parts xs ys rises.1 in
+    record {
+      front = (λ y a. rises.0 y (among_left xs ys y a), below.front);
+      back = below.back;
+      across = λ x y a b. elim a [
+        | inl e ↦ subst (λ (r : Entry). Up r y) e (rises.0 y (among_right xs ys y b))
+        | inr c ↦ below.across x y c b
+      ];
+    }
+
+pub last_there : (b : Block) → Among b.last (block_entries b)
+last_there b = among_right b.front (b.last ∷ []) b.last (inl refl)
+
+-- ---- the block of a line
+
+-- the blocks before that of a line, it, and those behind it
+pub record BlockOf (place : ℕ) (blocks : List Block) (before : List IndexLine) (line : IndexLine)
+    : Type 0 where
+  pub done : List Block
+  pub block : Block
+  pub others : List Block
+  pub split : blocks ≡ done ++ block ∷ others
+  pub lines : before ≡ block_lines place done
+  pub is : line ≡ block_line (place + length (data_bytes done)) block
+
+data_size : (b : Block) (blocks : List Block)
+    → length (data_bytes (b ∷ blocks)) ≡ length (block_bytes b) + length (data_bytes blocks)
+data_size b blocks =
+    ap length (flat_map-cons block_bytes b blocks) ∙ length-append (block_bytes b) (data_bytes blocks)
+
+pub block_of : (place : ℕ) (blocks : List Block) (before : List IndexLine) (line : IndexLine)
+    (after : List IndexLine) → block_lines place blocks ≡ before ++ line ∷ after
+    → BlockOf place blocks before line
+block_of place [] [] line after e = absurd cc
+block_of place [] (x ∷ before) line after e = absurd cc
+block_of place (b ∷ blocks) [] line after e =
+    let first : block_line place b ≡ line = cc in
+    record {
+      done = [];
+      block = b;
+      others = blocks;
+      split = refl;
+      lines = refl;
+      is = sym first ∙ ap (λ (p : ℕ). block_line p b) (omega arith);
+    }
+block_of place (b ∷ blocks) (x ∷ before) line after e =
+    let first : block_line place b ≡ x = cc in
+    let rest : block_lines (place + length (block_bytes b)) blocks ≡ before ++ line ∷ after = cc in
+    let below = block_of (place + length (block_bytes b)) blocks before line after rest in
+    record {
+      done = b ∷ below.done;
+      block = below.block;
+      others = below.others;
+      split = ap (λ (l : List Block). b ∷ l) below.split;
+      lines = ap (λ (l : IndexLine). l ∷ before) (sym first)
+          ∙ ap (λ (l : List IndexLine). block_line place b ∷ l) below.lines;
+      is = below.is ∙ ap (λ (p : ℕ). block_line p below.block)
+          (omega (arith, data_size b below.done));
+    }
+
+-- the block of a line of a table: it is in the file, and its entries are among the table's
+pub record LineBlock (bytes : List ℕ) (entries : List Entry) (before : List IndexLine)
+    (line : IndexLine) : Type 0 where
+  pub done : List Block
+  pub block : Block
+  pub others : List Block
+  pub lines : before ≡ block_lines 0 done
+  pub is : line ≡ block_line (length (data_bytes done)) block
+  pub split : entries
+      ≡ entries_of_blocks done ++ (block_entries block ++ entries_of_blocks others)
+  pub is_block : IsBlock (take line.len (drop line.place bytes)) (block_entries block)
+  pub within : line.place + line.len ≤ length bytes
+
+pub line_block : (bytes : List ℕ) (entries : List Entry) (s : TableRepresents bytes entries)
+    (before : List IndexLine) (line : IndexLine) (after : List IndexLine)
+    → block_lines 0 s.blocks ≡ before ++ line ∷ after → LineBlock bytes entries before line
+line_block bytes entries s before line after e =
+    let p = block_of 0 s.blocks before line after e in
+    let one = block_entries p.block in
+    let text = block_bytes p.block in
+    let tail = filter_part s.filter ++ (index_part (block_lines 0 s.blocks)
+    ++ footer_part (table_footer s.blocks s.filter)) in
+    let blocks : data_bytes s.blocks ≡ data_bytes p.done ++ (text ++ data_bytes p.others) =
+    ap data_bytes p.split ∙ flat_map-append block_bytes p.done (p.block ∷ p.others)
+    ∙ ap (λ (l : List ℕ). data_bytes p.done ++ l) (flat_map-cons block_bytes p.block p.others) in
+    let spelled : bytes ≡ data_bytes p.done ++ (text ++ (data_bytes p.others ++ tail)) =
+    s.spelled ∙ ap (λ (l : List ℕ). l ++ tail) blocks
+    ∙ append_assoc (data_bytes p.done) (text ++ data_bytes p.others) tail
+    ∙ ap (λ (l : List ℕ). data_bytes p.done ++ l) (append_assoc text (data_bytes p.others) tail) in
+    let place : length (data_bytes p.done) ≡ line.place =
+    let e = ap (λ (l : IndexLine). l.place) p.is in omega (arith, e) in
+    let len : length text ≡ line.len = sym (ap (λ (l : IndexLine). l.len) p.is) in
+    let there : take line.len (drop line.place bytes) ≡ text =
+    ap (λ (b : List ℕ). take line.len (drop line.place b)) spelled
+    ∙ ap (take line.len)
+    (drop_at (data_bytes p.done) (text ++ (data_bytes p.others ++ tail)) line.place place)
+    ∙ take_at text (data_bytes p.others ++ tail) line.len len in
+    let all : entries ≡ entries_of_blocks p.done ++ (one ++ entries_of_blocks p.others) =
+    s.division ∙ ap entries_of_blocks p.split
+    ∙ flat_map-append block_entries p.done (p.block ∷ p.others)
+    ∙ ap (λ (l : List Entry). entries_of_blocks p.done ++ l)
+    (flat_map-cons block_entries p.block p.others) in
+    let rises = subst (Rises Up) all (rises_from_AllPairs Up entries s.rising) in
+    let back = (rising_parts (entries_of_blocks p.done) (one ++ entries_of_blocks p.others) rises).back in
+    let each = split_each IsTableEntry (entries_of_blocks p.done) (one ++ entries_of_blocks p.others)
+    (subst (AllByRecursion IsTableEntry) all (recursion_from_All IsTableEntry entries s.each)) in
+    let small = (split_each IsSmall p.done (p.block ∷ p.others) (subst (AllByRecursion IsSmall) p.split
+    (recursion_from_All IsSmall s.blocks s.fits.each))).1.0 in
+    record {
+      done = p.done;
+      block = p.block;
+      others = p.others;
+      lines = p.lines;
+      is = p.is ∙ ap (λ (n : ℕ). block_line n p.block) (omega arith);
+      split = all;
+      is_block = record {
+        spelled = there;
+        some = omega (arith, length-append p.block.front (p.block.last ∷ []));
+        few = omega (arith, few_entries one, length-block_part one, small);
+        each = All-from_recursion IsTableEntry one
+            (split_each IsTableEntry one (entries_of_blocks p.others) each.1).0;
+        rising = AllPairs-rises Up one (rising_parts one (entries_of_blocks p.others) back).front;
+      };
+      within = omega (arith, place, len, ap length spelled,
+          length-append (data_bytes p.done) (text ++ (data_bytes p.others ++ tail)),
+          length-append text (data_bytes p.others ++ tail));
+    }
+
+-- ---- blocks that end before a spot
+
+in_two : (xs ys : List Entry) (z : Entry) → Among z (xs ++ ys) → Among z xs ⊎ Among z ys
+in_two [] ys z a = inr a
+in_two (x ∷ xs) ys z (inl e) = inl (inl e)
+in_two (x ∷ xs) ys z (inr a) =
+    elim (in_two xs ys z a) [ inl b ↦ inl (inr b) | inr c ↦ inr c ]
+
+-- an entry of a block that ends before the spot
+early_in : (b : Block) (key : List ℕ) (at : ℕ) → Rises (EntryPrecedes Forward) (block_entries b)
+    → IsEarlier (spot key at) b.last → (z : Entry) → Among z (block_entries b)
+    → IsEarlier (spot key at) z
+early_in b key at rises last z a = elim (in_two b.front (b.last ∷ []) z a) [
+  | inl front ↦ chain Forward z b.last (spot key at)
+      ((rising_parts b.front (b.last ∷ []) rises).across z b.last front (inl refl)) last
+  | inr there ↦ elim there [
+    | inl e ↦ subst (IsEarlier (spot key at)) e last
+    | inr none ↦ absurd none
+  ]
+]
+
+-- entries of blocks that end before the spot
+pub early_entries : (place : ℕ) (done : List Block) (key : List ℕ) (at : ℕ)
+    → Rises (EntryPrecedes Forward) (entries_of_blocks done)
+    → AllByRecursion (EndsEarlier (spot key at)) (block_lines place done)
+    → (z : Entry) → Among z (entries_of_blocks done) → IsEarlier (spot key at) z
+early_entries place [] key at rises early z a = absurd a
+early_entries place (b ∷ done) key at rises early z a =
+    let cut = flat_map-cons block_entries b done in
+    let parts = rising_parts (block_entries b) (entries_of_blocks done) (subst (Rises Up) cut rises) in
+    elim (in_two (block_entries b) (entries_of_blocks done) z (subst (Among z) cut a)) [
+      | inl mine ↦ early_in b key at parts.front early.0 z mine
+      | inr below ↦ early_entries (place + length (block_bytes b)) done key at parts.back early.1 z below
+    ]
