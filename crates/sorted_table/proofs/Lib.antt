@@ -9,3 +9,5 @@ pub mod FilterLemmas
 pub mod RisingEntries
 pub mod StartWalks
 pub mod StartSearches
+pub mod BlockNumbers
+pub mod FirstBlocks
