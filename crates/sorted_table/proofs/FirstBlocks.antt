@@ -1,8 +1,9 @@
 -- The block of a line, as a read of the file answers.
-use Rattle.std.proofs.Common.{◌≡◌, ℕ, ◌+◌, ◌≤◌, ◌<◌, List, length, take, drop, Some, Result, Ok, Err}
+use Rattle.std.proofs.Common.{◌≡◌, ℕ, ◌+◌, ◌≤◌, ◌<◌, List, length, take, drop, get_or, Some, Result, Ok, Err}
 use Rattle.std.proofs.Common.{MatchResult, inl, inr, ◌⊎◌, refl, sym, ap, subst, ◌∙◌, arith, IfOk}
 use Rattle.std.specs.List.{slice_get}
 use Rattle.std.specs.Rc.{rc_slice_items}
+use Rattle.std.proofs.lemmas.Option.{slice_get_read}
 use Rattle.std.specs.Global.{Global}
 use Rattle.std.specs.declared.rc.RcSlice.{RcSlice}
 use Rattle.disk.specs.{State, seen}
@@ -18,6 +19,13 @@ use Rattle.sorted_table.specs.BlockPlaces.{PlaceReads}
 use Rattle.sorted_table.specs.LineSizes.{IsBounded, block_size}
 use Rattle.sorted_table.specs.TableCursors.{HasLines, IsPlaceIn}
 use Rattle.sorted_table.proofs.BlockNumbers.{BlockNumber, block_number, length-block_lines}
+
+-- the line that was read of the lines
+pub line_at : (lines given : List IndexLine) (n : ℕ) (line : IndexLine) → given ≡ lines
+    → n < length lines → line ≡ get_or given n line → slice_get lines n ≡ Some line
+line_at lines given n line same within is =
+    subst (λ l. slice_get l n ≡ Some line) same
+    (slice_get_read given (length given) n line refl (omega (arith, within, ap length same)) is)
 
 -- the block of a line of a table
 pub block_of_line : (disk : State) (file : ℕ) (lines : List IndexLine) (n : ℕ) (line : IndexLine)

@@ -11,3 +11,4 @@ pub mod StartWalks
 pub mod StartSearches
 pub mod BlockNumbers
 pub mod FirstBlocks
+pub mod TablePlaces

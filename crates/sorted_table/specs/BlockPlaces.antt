@@ -1,8 +1,10 @@
 -- Places in blocks.
-use Rattle.std.specs.Prelude.{◌≡◌, ℕ, List, Option, Some, None, slice_get}
+use Rattle.std.specs.Prelude.{◌≡◌, ℕ, ◌+◌, List, length, Option, Some, None, slice_get}
 use Rattle.std.specs.Rc.{rc_slice_items}
 use Rattle.kv_types.specs.{Entry, ◌>>=◌}
 use Rattle.merge_iter.specs.{Position, On, Off}
+use Rattle.merge_iter.specs.declared.Direction.{Direction}
+use Rattle.merge_iter.specs.declared.Direction.TheVariants.{Forward, Backward}
 use Rattle.sorted_table.specs.declared.block_place.BlockPlace.{BlockPlace}
 use Rattle.sorted_table.specs.EntryReads.{ReadsEntries, entry_read}
 
@@ -22,3 +24,8 @@ pub record IsMovedTo (at : ℕ) (old new : BlockPlace) : Type 0 where
   pub block : new.block ≡ old.block
   pub starts : new.starts ≡ old.starts
   pub at_number : new.at ≡ at
+
+-- the end of its block at which a walk in this direction begins
+abbrev pub IsAtEnd : Direction → BlockPlace → Type 0
+IsAtEnd Forward place = place.at ≡ 0
+IsAtEnd Backward place = place.at + 1 ≡ length place.starts.items

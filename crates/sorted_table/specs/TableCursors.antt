@@ -5,7 +5,6 @@ use Rattle.disk.specs.{Slot, seen}
 use Rattle.kv_types.specs.{Entry}
 use Rattle.merge_iter.specs.{Position, On, Off, Broken}
 use Rattle.merge_iter.specs.declared.Direction.{Direction}
-use Rattle.merge_iter.specs.declared.Direction.TheVariants.{Forward, Backward}
 use Rattle.merge_iter.specs.declared.CursorError.{CursorError}
 use Rattle.merge_iter.specs.declared.CursorError.TheVariants as cursor
 use Rattle.table_format.specs.{Block, TableRepresents, block_entries, block_lines}
@@ -14,7 +13,7 @@ use Rattle.table_format.specs.declared.TableError.{TableError}
 use Rattle.table_format.specs.declared.TableError.TheVariants as table
 use Rattle.sorted_table.specs.Open.{FileRepresents}
 use Rattle.sorted_table.specs.declared.block_place.BlockPlace.{BlockPlace}
-use Rattle.sorted_table.specs.BlockPlaces.{PlaceReads, place_entry}
+use Rattle.sorted_table.specs.BlockPlaces.{IsAtEnd, PlaceReads, place_entry}
 
 -- ---- positions
 
@@ -56,11 +55,6 @@ pub record CursorServes (file : Slot) (lines : List IndexLine) (place : Option B
   pub here : IfSome place (IsPlaceIn table.represents.blocks)
 
 -- ---- entering a block
-
--- the end of its block at which a walk in this direction begins
-abbrev pub IsAtEnd : Direction → BlockPlace → Type 0
-IsAtEnd Forward place = place.at ≡ 0
-IsAtEnd Backward place = place.at + 1 ≡ length place.starts.items
 
 -- a walk entered the block of this line, or there is no such line
 abbrev pub HasEntered : List IndexLine → ℕ → Direction → Option BlockPlace → Type 0

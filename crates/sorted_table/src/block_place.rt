@@ -8,6 +8,7 @@ ghost use Rattle.table_format.specs.{AreRising, IsBlock, lent_entry};
 ghost use Rattle.sorted_table.specs.EntryReads.{AreRead, SplitsEntries};
 
 use crate::starts::{count_before, entry_from, starts_in};
+use merge_iter::Direction;
 use std::rc::RcSlice;
 use table_format::{LentEntry, TableError};
 
@@ -24,7 +25,7 @@ pub struct BlockPlace {
 }
 
 impl BlockPlace {
-    ghost use Rattle.sorted_table.specs.BlockPlaces.{IsMovedTo, PlaceReads, place_entry};
+    ghost use Rattle.sorted_table.specs.BlockPlaces.{IsAtEnd, IsMovedTo, PlaceReads, place_entry};
 
     /// The first entry of a block. The memory of `starts` is used again.
     pub fn new(
@@ -103,11 +104,16 @@ impl BlockPlace {
         }
     }
 
-    /// Moves to the last entry of the block.
-    pub fn to_last(&mut self)
-        ensures { IsMovedTo (length self.old.starts.items - 1) self.old self.new }
+    /// The first entry of the block that a walk in this direction meets.
+    pub fn at_end(mut self, way: Direction) -> BlockPlace
+        ensures same { IsMovedTo result.at self result }
+        ensures end { IsAtEnd way result }
     {
-        self.at = self.starts.len() - 1;
+        self.at = match way {
+            Direction::Forward => 0,
+            Direction::Backward => self.starts.len() - 1,
+        };
+        self
     }
 
     /// Moves to the first entry of the block that does not come before this key and number.

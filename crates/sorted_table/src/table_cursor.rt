@@ -1,6 +1,6 @@
 //! A cursor over a table.
 ghost use Rattle.std.specs.Prelude.{◌≡◌, ◌<◌, ◌≤◌, List, None, Some, IfErr, IfOk, IfSome, Err};
-ghost use Rattle.std.specs.Prelude.{MatchResult, OnOk, true, false, length};
+ghost use Rattle.std.specs.Prelude.{OnErr, OnOk, true, false, length};
 ghost use Rattle.std.specs.Option.{ForSome};
 ghost use Rattle.std.specs.Rc.{rc_slice_items};
 ghost use Rattle.disk.specs.{IsSame, IsStill, KeepsDisk};
@@ -40,20 +40,20 @@ fn first_of<D: Disk + Drop>(
     alloc: Global,
     files: &mut Files<D>,
     file: u64,
-    lines: &[IndexLine],
+    lines: &RcSlice<IndexLine>,
     line: usize,
     starts: Vec<usize>,
 ) -> Result<BlockPlace, TableError>
-    requires { line < length lines.now }
+    requires { line < length (rc_slice_items lines.now) }
     ensures kept { KeepsDisk ⟦<Files<D> as Disk>⟧ files.old files.new (ReportsDevice result) ⊥
         IsSame }
     ensures first { IfOk result (λ place. (place.line ≡ line) × (place.at ≡ 0)
-        × IsBounded lines.now place) }
+        × IsBounded (rc_slice_items lines.now) place) }
     ensures reads { ⟦<Files<D> as Disk>⟧.is_honest files.old →
-        (table : HasLines (⟦<Files<D> as Disk>⟧.state files.old file) lines.now) →
+        (table : HasLines (⟦<Files<D> as Disk>⟧.state files.old file) (rc_slice_items lines.now)) →
         IfOk result (IsPlaceIn table.represents.blocks) }
     ensures damaged { result ≡ Err TableError.Damaged → ⟦<Files<D> as Disk>⟧.is_honest files.old →
-        HasLines (⟦<Files<D> as Disk>⟧.state files.old file) lines.now → ⊥ }
+        HasLines (⟦<Files<D> as Disk>⟧.state files.old file) (rc_slice_items lines.now) → ⊥ }
     ensures refusals { IfErr result (λ e. IsBuilderError e → ⊥) }
     ensures still { IsStill ⟦<Files<D> as Disk>⟧ files.old files.new }
 {
@@ -74,4 +74,44 @@ pub struct TableCursor<D> {
     has_failed: bool,
     of: PhantomData<D>,
     ghost bounded: { ForSome place (IsBounded (rc_slice_items lines)) },
+}
+
+impl<D: Disk + Drop> TableCursor<D> {
+    // Enters the block of a line, if there is such a line, by its first entry in this direction.
+    fn enter(
+        &mut self,
+        files: &mut Files<D>,
+        line: usize,
+        way: Direction,
+        starts: Vec<usize>,
+    ) -> Result<(), CursorError>
+        ensures table { (self.new.file ≡ self.old.file) × (self.new.lines ≡ self.old.lines) }
+        ensures keeps { KeepsFiles ⟦<Files<D> as Disk>⟧ files.old files.new }
+        ensures causes { ErrorCauses (⟦<Files<D> as Disk>⟧.is_honest files.old × HasLines
+            (⟦<Files<D> as Disk>⟧.state files.old self.old.file) (rc_slice_items self.old.lines)) ⊥
+            (⟦<Files<D> as Disk>⟧.failures files.old) (⟦<Files<D> as Disk>⟧.failures files.new)
+            result }
+        ensures refused { OnErr result ((self.new.place ≡ None) × (self.new.has_failed ≡ true)) }
+        ensures entered { OnOk result ((self.new.has_failed ≡ false)
+            × HasEntered (rc_slice_items self.old.lines) line way self.new.place) }
+        ensures reads { ⟦<Files<D> as Disk>⟧.is_honest files.old →
+            (table : HasLines (⟦<Files<D> as Disk>⟧.state files.old self.old.file)
+            (rc_slice_items self.old.lines)) →
+            OnOk result (IfSome self.new.place (IsPlaceIn table.represents.blocks)) }
+    {
+        self.place = None;
+        self.has_failed = true;
+        if line >= self.lines.len() {
+            self.has_failed = false;
+            return Ok(());
+        }
+        match first_of(self.alloc, files, self.file, &self.lines, line, starts) {
+            Ok(place) => {
+                self.place = Some(place.at_end(way));
+                self.has_failed = false;
+                Ok(())
+            }
+            Err(e) => Err(cursor_error(e)),
+        }
+    }
 }
