@@ -48,7 +48,7 @@ pub record BlockNumber (bytes : List ℕ) (blocks : List Block) (line : IndexLin
   pub is_block : IsBlock (take line.len (drop line.place bytes)) (block_entries block)
   pub within : line.place + line.len ≤ length bytes
 
-some_of : {A : Type 0} (xs : List A) (n : ℕ) → n < length xs → (x : A) × (slice_get xs n ≡ Some x)
+pub some_of : {A : Type 0} (xs : List A) (n : ℕ) → n < length xs → (x : A) × (slice_get xs n ≡ Some x)
 some_of [] n lt = absurd (omega (arith, lt))
 some_of (x ∷ xs) zero lt = (x, refl)
 some_of (x ∷ xs) (suc n) lt = some_of xs n (omega (arith, lt))

@@ -6,9 +6,12 @@ pub mod LineBlocks
 pub mod TailsLemmas
 pub mod FilterLemmas
 -- cursors
-pub mod RisingEntries
 pub mod StartWalks
 pub mod StartSearches
 pub mod BlockNumbers
 pub mod FirstBlocks
+pub mod ListPositions
 pub mod TablePlaces
+pub mod CursorMoves
+pub mod CursorSteps
+pub mod TableFinds

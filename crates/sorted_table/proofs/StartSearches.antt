@@ -14,7 +14,7 @@ use Rattle.merge_iter.specs.{EntryPrecedes, chain, entry_cmp}
 use Rattle.merge_iter.proofs.Orders.{less_iff}
 use Rattle.table_format.specs.Blocks.{AreRising}
 use Rattle.sorted_table.specs.EntryReads.{ReadsEntries, SplitsEntries, entry_read, is_read_before}
-use Rattle.sorted_table.proofs.RisingEntries.{in_order}
+use Rattle.sorted_table.specs.RisingEntries.{in_order}
 use Rattle.sorted_table.proofs.StartWalks.{count_read}
 
 -- ---- entries by their places

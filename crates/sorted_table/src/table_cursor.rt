@@ -1,6 +1,6 @@
 //! A cursor over a table.
-ghost use Rattle.std.specs.Prelude.{◌≡◌, ◌<◌, ◌≤◌, List, None, Some, IfErr, IfOk, IfSome, Err};
-ghost use Rattle.std.specs.Prelude.{OnErr, OnOk, true, false, length};
+ghost use Rattle.std.specs.Prelude.{◌≡◌, ◌≢◌, ◌<◌, ◌≤◌, List, None, Some, IfErr, IfOk, IfSome, Err};
+ghost use Rattle.std.specs.Prelude.{IsTrue, OnErr, OnOk, true, false, length};
 ghost use Rattle.std.specs.Option.{ForSome};
 ghost use Rattle.std.specs.Rc.{rc_slice_items};
 ghost use Rattle.disk.specs.{IsSame, IsStill, KeepsDisk};
@@ -13,8 +13,9 @@ ghost use Rattle.sorted_table.specs.LineSizes.{IsBounded};
 ghost use Rattle.sorted_table.specs.TableCursors.{HasEntered, HasLines, IsPlaceIn, move_error};
 
 use crate::block_place::BlockPlace;
+use crate::lines::line_place;
 use disk::Disk;
-use merge_iter::{CursorError, Direction};
+use merge_iter::{Cursor, CursorError, Direction};
 use std::alloc::Global;
 use std::marker::PhantomData;
 use std::rc::RcSlice;
@@ -32,6 +33,14 @@ fn cursor_error(e: TableError) -> CursorError
         | TableError::Order
         | TableError::TooLarge
         | TableError::Failed => CursorError::Damaged,
+    }
+}
+
+// The memory that a place keeps the starts of entries in.
+fn starts_of(alloc: Global, place: Option<BlockPlace>) -> Vec<usize> {
+    match place {
+        Some(place) => place.into_starts(),
+        None => Vec::new(alloc),
     }
 }
 
@@ -77,6 +86,17 @@ pub struct TableCursor<D> {
 }
 
 impl<D: Disk + Drop> TableCursor<D> {
+    // Whether the cursor stands in the block of this line.
+    fn has_block(&self, line: usize) -> bool
+        ensures { IsTrue result → IfSome self.now.place (λ place. place.line ≡ line)
+            × (self.now.place ≢ None) }
+    {
+        match &self.place {
+            Some(place) => place.line() == line,
+            None => false,
+        }
+    }
+
     // Enters the block of a line, if there is such a line, by its first entry in this direction.
     fn enter(
         &mut self,
@@ -114,4 +134,117 @@ impl<D: Disk + Drop> TableCursor<D> {
             Err(e) => Err(cursor_error(e)),
         }
     }
+}
+
+impl<D: Disk + Drop> Cursor for TableCursor<D> {
+    ghost use Rattle.sorted_table.specs.LineSizes.{blocks_size, steps_left};
+    ghost use Rattle.sorted_table.specs.TableCursors.{CursorServes, FileHolds, table_position};
+    ghost use Rattle.sorted_table.specs.TableCursorLaws.{table_laws};
+
+    type Source = Files<D>;
+
+    ghost position = { λ c. table_position c.has_failed c.place };
+
+    ghost holds = { λ c files. FileHolds (⟦<Files<D> as Disk>⟧.state files c.file) };
+
+    ghost is_sound = { λ c files. ⟦<Files<D> as Disk>⟧.is_honest files
+        × CursorServes (⟦<Files<D> as Disk>⟧.state files c.file) (rc_slice_items c.lines)
+        c.place };
+
+    ghost keeps = { KeepsFiles ⟦<Files<D> as Disk>⟧ };
+
+    ghost failures = { ⟦<Files<D> as Disk>⟧.failures };
+
+    ghost left = { λ c. steps_left (rc_slice_items c.lines) c.place };
+
+    ghost most = { λ c. blocks_size (rc_slice_items c.lines) };
+
+    fn valid(&self) -> bool {
+        self.place.is_some()
+    }
+
+    fn key(&self) -> &[u8] {
+        match &self.place {
+            Some(place) => place.entry().key,
+            None => unreachable!(),
+        }
+    }
+
+    fn number(&self) -> u64 {
+        match &self.place {
+            Some(place) => place.entry().number,
+            None => unreachable!(),
+        }
+    }
+
+    fn value(&self) -> Option<&[u8]> {
+        match &self.place {
+            Some(place) => place.entry().value,
+            None => unreachable!(),
+        }
+    }
+
+    fn next(&mut self, files: &mut Files<D>) -> Result<(), CursorError> {
+        let Some(mut place) = self.place.take() else {
+            return Err(CursorError::Failed);
+        };
+        if place.advance() {
+            self.place = Some(place);
+            return Ok(());
+        }
+        let line = place.line() + 1;
+        self.enter(files, line, Direction::Forward, place.into_starts())
+    }
+
+    fn prev(&mut self, files: &mut Files<D>) -> Result<(), CursorError> {
+        let Some(mut place) = self.place.take() else {
+            return Err(CursorError::Failed);
+        };
+        if place.retreat() {
+            self.place = Some(place);
+            return Ok(());
+        }
+        let line = place.line();
+        if line == 0 {
+            self.has_failed = false;
+            return Ok(());
+        }
+        self.enter(files, line - 1, Direction::Backward, place.into_starts())
+    }
+
+    fn seek(
+        &mut self,
+        files: &mut Files<D>,
+        key: &[u8],
+        number: u64,
+    ) -> Result<(), CursorError> {
+        let line = line_place(&self.lines, key, number);
+        if !self.has_block(line) {
+            let starts = starts_of(self.alloc, self.place.take());
+            self.enter(files, line, Direction::Forward, starts)?;
+        }
+        let Some(mut place) = self.place.take() else {
+            return Ok(());
+        };
+        if !place.seek(key, number) {
+            self.has_failed = true;
+            return Err(CursorError::Damaged);
+        }
+        self.place = Some(place);
+        Ok(())
+    }
+
+    fn first(&mut self, files: &mut Files<D>) -> Result<(), CursorError> {
+        let starts = starts_of(self.alloc, self.place.take());
+        self.enter(files, 0, Direction::Forward, starts)
+    }
+
+    fn last(&mut self, files: &mut Files<D>) -> Result<(), CursorError> {
+        let starts = starts_of(self.alloc, self.place.take());
+        let line = self.lines.len().saturating_sub(1);
+        self.enter(files, line, Direction::Backward, starts)
+    }
+
+    ghost laws = { table_laws ⟦<Files<D> as Disk>⟧ (λ c. c.file) (λ c. rc_slice_items c.lines)
+        (λ c. c.place) (λ c. c.bounded) };
 }
