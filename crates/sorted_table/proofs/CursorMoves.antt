@@ -1,6 +1,6 @@
 -- What every move of a cursor over a table keeps.
 use Rattle.std.proofs.Common.{◌≡◌, ◌↔◌, ℕ, List, Option, Some, None, IfSome, refl, sym, ap, subst, ◌∙◌}
-use Rattle.std.proofs.Common.{Result, Ok, Err, OnOk, OnErr}
+use Rattle.std.proofs.Common.{Result, Ok, Err, OnOk, OnErr, Bool, true, false, IsTrue}
 use Rattle.disk.specs.declared.Disk.{Ghosts}
 use Rattle.merge_iter.specs.{MoveKeeps}
 use Rattle.merge_iter.specs.declared.CursorError.{CursorError}
@@ -10,6 +10,11 @@ use Rattle.table_files.specs.Reading.{KeepsFiles}
 use Rattle.sorted_table.specs.declared.block_place.BlockPlace.{BlockPlace}
 use Rattle.sorted_table.specs.LineSizes.{blocks_size}
 use Rattle.sorted_table.specs.TableCursors.{CursorServes, FileHolds, HasLines, IsPlaceIn}
+
+-- what follows where a test fails
+pub when_false : (b : Bool) (P : Type 0) → b ≡ false → ((IsTrue b → ⊥) → P) → P
+when_false true P is f = absurd cc
+when_false false P is f = f (λ h. absurd cc)
 
 -- a place that was entered, or none after a refusal
 pub entered_or_none : {A B : Type 0} {E : Type 0} (P : B → Type 0) (o : Option B) (Q : Type 0)

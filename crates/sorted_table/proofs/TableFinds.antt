@@ -196,16 +196,19 @@ module _ (file : Slot) (lines : List IndexLine) (t : HasLines file lines) where
       (subst (λ n. slice_get all n ≡ Some e) (sym number) at)))
 
   -- none before the first entry of the first block
-  pub finds_none_before : (failed : Bool) (o : Option BlockPlace) (p : BlockPlace) → o ≡ Some p
-      → IfSome o (IsPlaceIn blocks) → p.line ≡ 0 → p.at ≡ 0
+  pub finds_none_before : (failed : Bool) (o : Option BlockPlace) (p : BlockPlace)
+      (place : Option BlockPlace) → o ≡ Some p → IfSome o (IsPlaceIn blocks) → p.line ≡ 0
+      → p.at ≡ 0 → place ≡ None
       → IfOn (table_position failed o) (λ e. MoveFinds {R = Unit {0}} Backward (After e)
-      (FileHolds file) (Ok tt) Off)
-  finds_none_before failed o p is here line first =
+      (FileHolds file) (Ok tt) (table_position false place))
+  finds_none_before failed o p place is here line first off =
       on_place failed o p is here _ (λ there e at.
       let number : number_of blocks p ≡ 0 =
           ap (λ n. first_number blocks n + p.at) line ∙ ap (λ n. 0 + n) first in
-      first_held Backward (After e) Off
-      (none_before all e all_rising (subst (λ n. slice_get all n ≡ Some e) number at)))
+      first_held Backward (After e) (table_position false place)
+      (subst (λ q. IsFirst Backward (λ x. Contains all x × WalkMeets Backward (After e) x)
+      (table_position false q)) (sym off)
+      (none_before all e all_rising (subst (λ n. slice_get all n ≡ Some e) number at))))
 
   -- a block has an entry, so some stand before the block behind it
   some_before : (n : ℕ) → n < length lines → 1 ≤ first_number blocks (n + 1)

@@ -1,9 +1,8 @@
 use Rattle.std.proofs.Common.{◌≡◌, ◌+◌, ◌∙◌, ◌<◌, refl, ap, sym, subst, arith, IfSome, Some, length}
-use Rattle.std.proofs.Common.{Bool, true, false, IsTrue}
 use Rattle.std.specs.Rc.{rc_slice_items}
 use Rattle.table_files.specs.Reading.{keeps_files_itself}
 use Rattle.sorted_table.specs.TableCursors.{IsPlaceIn}
-use Rattle.sorted_table.proofs.CursorMoves.{cursor_moves, entered_or_none}
+use Rattle.sorted_table.proofs.CursorMoves.{cursor_moves, entered_or_none, when_false}
 use Rattle.sorted_table.proofs.CursorSteps.{ends_ahead, within_lines}
 use Rattle.sorted_table.proofs.TableFinds.{finds_next_block, finds_next_in, here_of}
 use Rattle.sorted_table.proofs.TablePlaces.{moved_in}
@@ -32,16 +31,11 @@ returns-then-advance-clause-finds g c = λ s.
     c.advance.new.self (sym c.take.ensures.value ∙ c.in-Some.is) s.1.here
     (c.if-advance.ensures.moved refl)
 
--- the cursor stood on the last entry of its block
-stood : (b : Bool) (P : Type 0) → b ≡ false → ((IsTrue b → ⊥) → P) → P
-stood true P is f = absurd cc
-stood false P is f = f (λ h. absurd cc)
-
 pub overflow_add-line : goal.overflow_add-line
 overflow_add-line g c =
     let p = c.in-Some.place in
     let old = c.args.self.now in
-    let last = stood c.advance.result _ c.if-advance.false c.advance.ensures.last in
+    let last = when_false c.advance.result _ c.if-advance.false c.advance.ensures.last in
     let within : p.line < length (rc_slice_items old.lines) =
     within_lines (rc_slice_items old.lines) p
     (old.bounded p (sym c.take.ensures.value ∙ c.in-Some.is)) in
@@ -58,7 +52,7 @@ returns-clause-moves g c =
 
 pub returns-clause-ends : goal.returns-clause-ends
 returns-clause-ends g c =
-    let last = stood c.advance.result _ c.if-advance.false c.advance.ensures.last in
+    let last = when_false c.advance.result _ c.if-advance.false c.advance.ensures.last in
     let old = c.args.self.now in
     let new = c.enter.new.self in
     ends_ahead c.enter.result (rc_slice_items old.lines) (rc_slice_items new.lines) old.place
@@ -68,7 +62,7 @@ returns-clause-ends g c =
 
 pub returns-clause-finds : goal.returns-clause-finds
 returns-clause-finds g c = λ s.
-    let last = stood c.advance.result _ c.if-advance.false c.advance.ensures.last in
+    let last = when_false c.advance.result _ c.if-advance.false c.advance.ensures.last in
     let old = c.args.self.now in
     let new = c.enter.new.self in
     finds_next_block _ _ s.1.table c.enter.result old.has_failed old.place c.in-Some.place
