@@ -9,28 +9,29 @@ use Rattle.std.proofs.lemmas.Bool.{cases_lt}
 use Rattle.std.proofs.lemmas.List.{take_more, take_all}
 use Rattle.std.proofs.lemmas.List.Elements.{Contains-append_left, Contains-push}
 use Rattle.std.proofs.lemmas.List.Elements.{Contains-push_cases}
-use Rattle.bloom.specs.Filters.{HasBit, IsProbeOf, IsProbe, IsFilter, probe, bytes_for}
+use Rattle.bloom.specs.Filters.{HasBit, IsProbeOf, IsProbe, IsFilter, probe_of, hashes_of}
+use Rattle.bloom.specs.Filters.{bytes_for}
 
--- p is one of the first n probes of a key
-abbrev pub IsEarly : ℕ → List ℕ → ℕ → ℕ → Type 0
-IsEarly bits key n p = (i : ℕ) × (i < n) × (p ≡ probe bits key i)
+-- p is one of the first n probes of a key with these hashes
+abbrev pub IsEarly : ℕ → ℕ × ℕ → ℕ → ℕ → Type 0
+IsEarly bits hashes n p = (i : ℕ) × (i < n) × (p ≡ probe_of bits hashes i)
 
--- the bits of a filter with the first n probes of a key
-abbrev pub HasPut : List ℕ → List ℕ → ℕ → List ℕ → Type 0
-HasPut old key n new = (p : ℕ) → p < 8 * length old →
-    HasBit new p ↔ (HasBit old p ⊎ IsEarly (8 * length old) key n p)
+-- the bits of a filter with the first n probes of a key with these hashes
+abbrev pub HasPut : List ℕ → ℕ × ℕ → ℕ → List ℕ → Type 0
+HasPut old hashes n new = (p : ℕ) → p < 8 * length old →
+    HasBit new p ↔ (HasBit old p ⊎ IsEarly (8 * length old) hashes n p)
 
-pub none_put : (old key : List ℕ) → HasPut old key 0 old
-none_put old key p within = (
+pub none_put : (old : List ℕ) (hashes : ℕ × ℕ) → HasPut old hashes 0 old
+none_put old hashes p within = (
   λ has. inl has,
   λ has. elim has [ inl was ↦ was | inr early ↦ absurd (omega (arith, early.1)) ],
 )
 
-pub one_put : (old new newer key : List ℕ) (n place : ℕ) → HasPut old key n new →
-    length new ≡ length old → place ≡ probe (8 * length old) key n →
+pub one_put : (old new newer : List ℕ) (hashes : ℕ × ℕ) (n place : ℕ) → HasPut old hashes n new →
+    length new ≡ length old → place ≡ probe_of (8 * length old) hashes n →
     ((p : ℕ) → p < 8 * length new → HasBit newer p ↔ (HasBit new p ⊎ (p ≡ place))) →
-    HasPut old key (n + 1) newer
-one_put old new newer key n place put len is set p within =
+    HasPut old hashes (n + 1) newer
+one_put old new newer hashes n place put len is set p within =
     let here = set p (omega (arith, within, len)) in
     let was = put p within in
     let bits = 8 * length old in (
@@ -47,7 +48,7 @@ one_put old new newer key n place put len is set p within =
           | inl low ↦ here.1 (inl (was.1 (inr (early.0, low, early.2))))
           | inr high ↦
               let last : early.0 ≡ n = omega (arith, early.1, high) in
-              here.1 (inr (early.2 ∙ ap (probe bits key) last ∙ sym is))
+              here.1 (inr (early.2 ∙ ap (probe_of bits hashes) last ∙ sym is))
         ]
       ],
     )
@@ -86,25 +87,34 @@ no_keys keys filter len zeros = record {
 }
 
 -- one key more
-module _ (keys : List (List ℕ)) (n : ℕ) (old new key : List ℕ) (within : n < length keys)
-    (is : key ≡ get_or keys n key) (had : HasKeys keys n old) (same : length new ≡ length old)
-    (put : (p : ℕ) → p < 8 * length old →
-    HasBit new p ↔ (HasBit old p ⊎ IsProbeOf (8 * length old) key p)) where
+module _ (keys : List (List ℕ)) (n : ℕ) (old new : List ℕ) (hashes : ℕ × ℕ)
+    (within : n < length keys) (is : hashes ≡ hashes_of (get_or keys n []))
+    (had : HasKeys keys n old) (same : length new ≡ length old)
+    (by : (p : ℕ) → p < 8 * length old →
+    HasBit new p ↔ (HasBit old p ⊎ IsProbeOf (8 * length old) hashes p)) where
+  abbrev key : List ℕ
+  key = get_or keys n []
+
   more : take (n + 1) keys ≡ take n keys ++ key ∷ []
-  more = take_more keys n key within ∙ ap (λ (k : List ℕ). take n keys ++ k ∷ []) (sym is)
+  more = take_more keys n [] within
+
+  put : (p : ℕ) → p < 8 * length old →
+      HasBit new p ↔ (HasBit old p ⊎ IsProbeOf (8 * length old) (hashes_of key) p)
+  put = subst (λ (h : ℕ × ℕ). (p : ℕ) → p < 8 * length old →
+      HasBit new p ↔ (HasBit old p ⊎ IsProbeOf (8 * length old) h p)) is by
 
   -- a probe of a key is one of the keys
-  to_more : (p : ℕ) → IsProbe (8 * length old) (take n keys) p ⊎ IsProbeOf (8 * length old) key p →
+  to_more : (p : ℕ) → IsProbe (8 * length old) (take n keys) p ⊎ IsProbeOf (8 * length old) (hashes_of key) p →
       IsProbe (8 * length old) (take n keys ++ key ∷ []) p
   to_more p (inl probe) =
       (probe.0, Contains-append_left (take n keys) (key ∷ []) probe.0 probe.1, probe.2)
   to_more p (inr probe) = (key, Contains-push (take n keys) key, probe)
 
   from_more : (p : ℕ) → IsProbe (8 * length old) (take n keys ++ key ∷ []) p →
-      IsProbe (8 * length old) (take n keys) p ⊎ IsProbeOf (8 * length old) key p
+      IsProbe (8 * length old) (take n keys) p ⊎ IsProbeOf (8 * length old) (hashes_of key) p
   from_more p probe = elim (Contains-push_cases (take n keys) key probe.0 probe.1) [
     | inl among ↦ inl (probe.0, among, probe.2)
-    | inr last ↦ inr (subst (λ (k : List ℕ). IsProbeOf (8 * length old) k p) (sym last) probe.2)
+    | inr last ↦ inr (subst (λ (k : List ℕ). IsProbeOf (8 * length old) (hashes_of k) p) (sym last) probe.2)
   ]
 
   exact : (p : ℕ) → p < 8 * length old →

@@ -32,13 +32,13 @@ HasBit bytes p = IsBitSet (get_or bytes (p / 8) 0) (p % 8)
 abbrev pub bytes_for : ℕ → ℕ
 bytes_for n = max 8 ((10 * n + 7) / 8)
 
--- p is one of the seven probes of a key
-abbrev pub IsProbeOf : ℕ → List ℕ → ℕ → Type 0
-IsProbeOf bits key p = (i : ℕ) × (i < 7) × (p ≡ probe bits key i)
+-- p is one of the seven probes of a key with these hashes
+abbrev pub IsProbeOf : ℕ → ℕ × ℕ → ℕ → Type 0
+IsProbeOf bits hashes p = (i : ℕ) × (i < 7) × (p ≡ probe_of bits hashes i)
 
 -- p is a probe of one of these keys
 abbrev pub IsProbe : ℕ → List (List ℕ) → ℕ → Type 0
-IsProbe bits keys p = (key : List ℕ) × Contains keys key × IsProbeOf bits key p
+IsProbe bits keys p = (key : List ℕ) × Contains keys key × IsProbeOf bits (hashes_of key) p
 
 -- the filter of these keys: its length follows from their number, and its set bits are exactly
 -- their probes

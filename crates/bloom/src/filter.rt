@@ -1,6 +1,6 @@
 // The filter of a list of keys: its construction and its lookup.
-ghost use Rattle.std.specs.Prelude.{◌≡◌, ◌⊎◌, ◌↔◌, ◌*◌, ◌<◌, ◌^◌, ℕ, length, IfOk, IsTrue};
-ghost use Rattle.bloom.specs.Filters.{HasBit, IsProbeOf, IsFilter, bytes_for};
+ghost use Rattle.std.specs.Prelude.{◌≡◌, ◌⊎◌, ◌↔◌, ◌*◌, ◌<◌, ◌^◌, ℕ, List, length, map, IfOk, IsTrue};
+ghost use Rattle.bloom.specs.Filters.{HasBit, IsProbeOf, IsFilter, bytes_for, hashes_of};
 ghost use Rattle.bloom.specs.Filters.{Covers, CoversAll, CoversHashed};
 
 use crate::BloomError;
@@ -20,14 +20,14 @@ fn bytes_for(keys: usize) -> usize
     (keys + keys.div_ceil(4)).max(8)
 }
 
-// Inserts a key into a filter.
-fn put(filter: &mut [u8], key: &[u8])
+// Inserts the key that has these hashes into a filter.
+fn put(filter: &mut [u8], hashes: KeyHashes)
     requires { 0 < length filter.old }
     ensures len { length filter.new ≡ length filter.old }
     ensures put { (p : ℕ) → p < 8 * length filter.old → HasBit filter.new p ↔
-        (HasBit filter.old p ⊎ IsProbeOf (8 * length filter.old) key.now p) }
+        (HasBit filter.old p ⊎ IsProbeOf (8 * length filter.old) hashes p) }
 {
-    let mut probes = Probes::first(KeyHashes::of(key), bits_of(filter));
+    let mut probes = Probes::first(hashes, bits_of(filter));
     for i in 0..PROBES {
         set_bit(filter, probes.place);
         probes.advance();
@@ -42,7 +42,20 @@ pub fn build(alloc: Global, keys: &[Key]) -> Result<Vec<u8>, BloomError>
 {
     let mut filter = vec![in alloc; 0u8; bytes_for(keys.len())]?;
     for key in keys {
-        put(&mut filter, key.as_bytes());
+        put(&mut filter, KeyHashes::of(key.as_bytes()));
+    }
+    Ok(filter)
+}
+
+/// `build` of the keys that have these hashes. Who collects keys for a filter needs to keep no more
+/// of each than its hashes, which are 16 bytes.
+pub fn build_hashed(alloc: Global, hashes: &[KeyHashes]) -> Result<Vec<u8>, BloomError>
+    ensures { (keys : List (List ℕ)) → hashes.now ≡ map hashes_of keys →
+        IfOk result (λ filter. IsFilter keys filter.items) }
+{
+    let mut filter = vec![in alloc; 0u8; bytes_for(hashes.len())]?;
+    for of_key in hashes {
+        put(&mut filter, *of_key);
     }
     Ok(filter)
 }

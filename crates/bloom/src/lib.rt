@@ -8,5 +8,5 @@ mod hashes;
 pub mod laws;
 
 pub use error::BloomError;
-pub use filter::{build, may_hold, may_hold_hashed};
+pub use filter::{build, build_hashed, may_hold, may_hold_hashed};
 pub use hashes::KeyHashes;

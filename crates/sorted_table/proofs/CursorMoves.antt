@@ -6,7 +6,7 @@ use Rattle.merge_iter.specs.{MoveKeeps}
 use Rattle.merge_iter.specs.declared.CursorError.{CursorError}
 use Rattle.table_format.specs.{TableRepresents}
 use Rattle.table_format.specs.declared.IndexLine.{IndexLine}
-use Rattle.table_files.specs.Reading.{KeepsFiles}
+use Rattle.table_files.specs.{KeepsFiles}
 use Rattle.sorted_table.specs.declared.block_place.BlockPlace.{BlockPlace}
 use Rattle.sorted_table.specs.LineSizes.{blocks_size}
 use Rattle.sorted_table.specs.TableCursors.{CursorServes, FileHolds, HasLines, IsPlaceIn}

@@ -13,7 +13,7 @@ use Rattle.table_format.specs.{block_lines}
 use Rattle.table_format.specs.declared.IndexLine.{IndexLine}
 use Rattle.table_format.specs.declared.TableError.{TableError}
 use Rattle.table_format.specs.declared.TableError.TheVariants as table
-use Rattle.table_files.specs.BlockReads.{BlockAnswer, known_block_answered}
+use Rattle.table_files.specs.{BlockAnswer, known_block_answered}
 use Rattle.sorted_table.specs.declared.block_place.BlockPlace.{BlockPlace}
 use Rattle.sorted_table.specs.BlockPlaces.{PlaceReads}
 use Rattle.sorted_table.specs.LineSizes.{IsBounded, block_size}

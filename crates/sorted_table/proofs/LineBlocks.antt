@@ -1,7 +1,7 @@
 -- The block of an index line, in the file and among the entries.
-use Rattle.std.proofs.Common.{◌≡◌, ℕ, ◌+◌, ◌≤◌, ◌<◌, ◌^◌, List, [], ◌∷◌, ◌++◌, length, take, drop, All, AllPairs}
+use Rattle.std.proofs.Common.{◌≡◌, ℕ, ◌+◌, ◌≤◌, List, [], ◌∷◌, ◌++◌, length, take, drop}
 use Rattle.std.proofs.Common.{refl, sym, ap, subst, ◌∙◌, arith, append_assoc, length-append, ◌⊎◌, inl, inr}
-use Rattle.std.specs.List.{flat_map, AllByRecursion}
+use Rattle.std.specs.List.{AllByRecursion}
 use Rattle.std.proofs.lemmas.List.{take_at, drop_at}
 use Rattle.std.proofs.lemmas.Grind.{flat_map-append}
 use Rattle.std.proofs.lemmas.List.Concat.{flat_map-cons}
@@ -12,7 +12,7 @@ use Rattle.merge_iter.specs.{EntryPrecedes, chain, spot}
 use Rattle.merge_iter.specs.declared.Direction.TheVariants.{Forward}
 use Rattle.table_format.proofs.Fronts.{IsSmall, few_entries, length-block_part, split_each}
 use Rattle.table_format.specs.{Block, IsBlock, IsTableEntry, TableRepresents, block_bytes, block_entries, block_line, block_lines}
-use Rattle.table_format.specs.{data_bytes, end_spot, entries_of_blocks, filter_part, footer_part, index_part, table_footer}
+use Rattle.table_format.specs.{data_bytes, entries_of_blocks, filter_part, footer_part, index_part, table_footer}
 use Rattle.table_format.specs.declared.IndexLine.{IndexLine}
 use Rattle.sorted_table.specs.Searches.{EndsEarlier, IsEarlier}
 
@@ -88,6 +88,8 @@ block_of place (b ∷ blocks) (x ∷ before) line after e =
     let first : block_line place b ≡ x = cc in
     let rest : block_lines (place + length (block_bytes b)) blocks ≡ before ++ line ∷ after = cc in
     let below = block_of (place + length (block_bytes b)) blocks before line after rest in
+    let at : place + length (block_bytes b) + length (data_bytes below.done)
+    ≡ place + length (data_bytes (b ∷ below.done)) = omega (arith, data_size b below.done) in
     record {
       done = b ∷ below.done;
       block = below.block;
@@ -95,8 +97,7 @@ block_of place (b ∷ blocks) (x ∷ before) line after e =
       split = ap (λ (l : List Block). b ∷ l) below.split;
       lines = ap (λ (l : IndexLine). l ∷ before) (sym first)
           ∙ ap (λ (l : List IndexLine). block_line place b ∷ l) below.lines;
-      is = below.is ∙ ap (λ (p : ℕ). block_line p below.block)
-          (omega (arith, data_size b below.done));
+      is = below.is ∙ ap (λ (p : ℕ). block_line p below.block) at;
     }
 
 -- the block of a line of a table: it is in the file, and its entries are among the table's

@@ -1,6 +1,6 @@
 -- The place of a spot among the lines of an index.
-use Rattle.std.proofs.Common.{◌≡◌, ◌⊎◌, inl, inr, ℕ, suc, ◌+◌, ◌≤◌, ◌<◌, Bool, true, false, List, [], ◌∷◌, ◌++◌, length, map}
-use Rattle.std.proofs.Common.{take, drop, get_or, All, AllPairs, Option, Some, None, refl, sym, ap, subst, ◌∙◌, arith, add-one}
+use Rattle.std.proofs.Common.{◌≡◌, ◌⊎◌, inl, inr, ℕ, suc, ◌≤◌, ◌<◌, Bool, true, false, List, ◌∷◌, ◌++◌, length, map}
+use Rattle.std.proofs.Common.{take, drop, get_or, Option, Some, None, refl, sym, ap, subst, ◌∙◌, arith}
 use Rattle.std.specs.List.Sorted.{IsPartitionedBy, IsPartitionPoint}
 use Rattle.std.specs.Ordering.{is_lt}
 use Rattle.std.specs.Option.{option_map}
@@ -13,7 +13,7 @@ use Rattle.merge_iter.specs.{EntryPrecedes, chain, entry_cmp}
 use Rattle.merge_iter.specs.declared.Direction.TheVariants.{Forward}
 use Rattle.table_format.specs.{AreRising, end_spot}
 use Rattle.table_format.specs.declared.IndexLine.{IndexLine}
-use Rattle.sorted_table.specs.Searches.{EndsEarlier, FindsFirstWithout, IsFirstWithout, IsLinePlace}
+use Rattle.sorted_table.specs.Searches.{EndsEarlier, FindsFirstWithout, IsLinePlace}
 use Rattle.sorted_table.proofs.SearchesLemmas.{early_by, late_by}
 
 -- whether the line ends before the spot

@@ -1,10 +1,10 @@
 -- What the first entry that does not come before a key and number says of a lookup.
-use Rattle.std.proofs.Common.{◌≡◌, ◌⊎◌, inl, inr, ℕ, ◌≤◌, ◌<◌, List, [], ◌∷◌, ◌++◌, Option, Some, None}
+use Rattle.std.proofs.Common.{◌≡◌, ◌⊎◌, inl, inr, ℕ, ◌≤◌, List, [], ◌∷◌, ◌++◌, Option, Some, None}
 use Rattle.std.proofs.Common.{Contains, AllPairs, All, refl, sym, ap, subst, ◌∙◌, arith}
 use Rattle.std.specs.Option.{option_map}
 use Rattle.kv_types.proofs.Ordered.{Among, Rises, rises_from_AllPairs, Contains-among, among_from_Contains, among_of_All}
 use Rattle.kv_types.specs.{Entry, IsNewest, IsUnseen}
-use Rattle.merge_iter.specs.EntryOrder.{cases, never}
+use Rattle.merge_iter.specs.EntryOrder.{cases}
 use Rattle.merge_iter.specs.EntryParts.{between, equal_parts, numbers_fall}
 use Rattle.merge_iter.specs.{EntryPrecedes, spot}
 use Rattle.merge_iter.specs.declared.Direction.TheVariants.{Forward}
@@ -80,15 +80,15 @@ newest_there entries entry key at rising f same =
       );
       newest = λ other seen e. elim (in_parts f.before f.after entry other
           (subst (Among other) f.split (among_from_Contains entries other seen.0))) [
-        | inl b ↦ absurd (seen_is_late other key at (e ∙ same) seen.1
-            (among_of_All (IsEarlier (spot key at)) f.before other f.with b))
-        | inr c ↦ elim c [
-          | inl is ↦ let n : entry.number ≡ other.number = ap (λ (z : Entry). z.number) is in
-              omega (arith, n)
-          | inr a ↦ let lt = numbers_fall entry other (behind f.before f.after entry other rises a)
-              (sym e) in omega (arith, lt)
-        ]
-      ];
+            | inl b ↦ absurd (seen_is_late other key at (e ∙ same) seen.1
+                (among_of_All (IsEarlier (spot key at)) f.before other f.with b))
+            | inr c ↦ elim c [
+              | inl is ↦ let n : entry.number ≡ other.number = ap (λ (z : Entry). z.number) is in
+                  omega (arith, n)
+              | inr a ↦ let lt = numbers_fall entry other (behind f.before f.after entry other rises a)
+                  (sym e) in omega (arith, lt)
+            ]
+          ];
     }
 
 -- the first late entry, where it has another key
@@ -164,19 +164,20 @@ lookup_up before mine after last key at (Some found) early there late rises s =
       seen = (Contains-among all entry (in_second before mine after entry here), s.seen.1);
       newest = λ other seen e.
           elim (in_three before mine after other (among_from_Contains all other seen.0)) [
-        | inl b ↦ absurd (seen_is_late other key at e seen.1 (early other b))
-        | inr c ↦ elim c [
-          | inl m ↦ s.newest other (Contains-among mine other m, seen.1) e
-          | inr a ↦ let lt = numbers_fall entry other (rises entry other here a) (sym e) in
-              omega (arith, lt)
-        ]
-      ];
+            | inl b ↦ absurd (seen_is_late other key at e seen.1 (early other b))
+            | inr c ↦ elim c [
+              | inl m ↦ s.newest other (Contains-among mine other m, seen.1) e
+              | inr a ↦ let lt = numbers_fall entry other (rises entry other here a) (sym e) in
+                  omega (arith, lt)
+            ]
+          ];
     }
   where
     second_left : (mine after : List Entry) (z : Entry) → Among z mine → Among z (mine ++ after)
     second_left [] after z a = absurd a
     second_left (x ∷ mine) after z (inl e) = inl e
     second_left (x ∷ mine) after z (inr a) = inr (second_left mine after z a)
+
     in_second : (before mine after : List Entry) (z : Entry) → Among z mine
         → Among z (before ++ (mine ++ after))
     in_second [] mine after z a = second_left mine after z a

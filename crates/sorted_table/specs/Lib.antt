@@ -9,5 +9,5 @@ pub mod TableCursorLaws
 pub mod TableCursors
 pub mod Tails
 -- What crates above name.
-pub use Rattle.sorted_table.specs.Open.{FileRepresents, LookupFinds, TableServes, found_entry}
-pub use Rattle.sorted_table.specs.Open.{table_file}
+pub use Rattle.sorted_table.specs.Open.{FileRepresents, FinishedTablesAreFiles, LookupFinds}
+pub use Rattle.sorted_table.specs.Open.{TableServes, found_entry, table_file, table_filter}

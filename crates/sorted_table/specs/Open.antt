@@ -4,6 +4,7 @@ use Rattle.std.specs.Option.{option_map}
 use Rattle.std.specs.Rc.{rc_slice_items}
 use Rattle.disk.specs.{Slot, seen}
 use Rattle.kv_types.specs.{Entry, IsNewest, IsUnseen}
+use Rattle.table_builder.specs.{HoldsTable}
 use Rattle.table_format.specs.{TableRepresents, block_lines}
 use Rattle.sorted_table.specs.declared.found.FoundVersion.{FoundVersion}
 use Rattle.sorted_table.specs.declared.table.Table.{Table}
@@ -13,6 +14,10 @@ use Rattle.sorted_table.specs.declared.table.Table.{Table}
 -- the file that the table is open on
 abbrev pub table_file : Table → ℕ
 table_file table = table.file
+
+-- the filter that the table keeps
+abbrev pub table_filter : Table → List ℕ
+table_filter table = table.filter.items
 
 -- a read of the file returns bytes that represent these entries
 abbrev pub FileRepresents : Slot → List Entry → Type 0
@@ -26,6 +31,11 @@ pub record TableServes (file : Slot) (table : Table) (entries : List Entry) : Ty
   pub represents : TableRepresents bytes entries
   pub lines : rc_slice_items table.lines ≡ block_lines 0 represents.blocks
   pub filter : table.filter.items ≡ represents.filter
+
+-- a file that a builder has finished represents the entries that were added
+abbrev pub FinishedTablesAreFiles : Type 0
+FinishedTablesAreFiles = (file : Slot) (entries : List Entry) → HoldsTable file entries →
+    FileRepresents file entries
 
 -- ---- lookups
 

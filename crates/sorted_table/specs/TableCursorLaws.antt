@@ -11,7 +11,7 @@ use Rattle.merge_iter.specs.{EntryPrecedes, IsApart, IsLawful, entry_cmp}
 use Rattle.table_format.specs.{AreRising, TableRepresents}
 use Rattle.table_format.specs.declared.IndexLine.{IndexLine}
 use Rattle.table_format.proofs.Tables.{table_is_unique}
-use Rattle.table_files.specs.Reading.{KeepsFiles, keeps_files_itself, keeps_files_through}
+use Rattle.table_files.specs.{KeepsFiles, keeps_files_itself, keeps_files_through}
 use Rattle.sorted_table.specs.declared.block_place.BlockPlace.{BlockPlace}
 use Rattle.sorted_table.specs.Open.{FileRepresents}
 use Rattle.sorted_table.specs.LineSizes.{IsBounded, blocks_size, steps_left}

@@ -1,5 +1,5 @@
 -- The tail of a table: its filter and its index, behind the blocks and before the footer.
-use Rattle.std.specs.Prelude.{◌≡◌, ◌+◌, ℕ, List, ◌++◌, length}
+use Rattle.std.specs.Prelude.{◌≡◌, ℕ, List, ◌++◌, length}
 use Rattle.table_format.specs.{Block, block_lines, data_bytes, filter_part, index_part}
 use Rattle.sorted_table.specs.declared.tail.Tail.{Tail}
 

@@ -4,6 +4,7 @@
 mod block;
 mod block_place;
 mod found;
+pub mod laws;
 mod lines;
 mod starts;
 mod table;
@@ -12,4 +13,6 @@ mod tail;
 
 pub use found::FoundVersion;
 pub use table::Table;
-pub use table_format::TableError;
+pub use table_builder::{Builder, Finished};
+pub use table_files::{Files, MAX_BLOCKS};
+pub use table_format::{LentEntry, TableError};

@@ -1,13 +1,20 @@
 //! Open tables.
 ghost use Rattle.std.specs.Prelude.{◌≡◌, List, IfOk, IfErr, MatchResult};
+ghost use Rattle.bloom.specs.{Covers, CoversHashed, hashes_of};
 ghost use Rattle.disk.specs.{IsSame, IsStill, KeepsDisk};
 ghost use Rattle.kv_types.specs.{Entry};
 ghost use Rattle.table_format.specs.{IsBuilderError, IsEnvironmentError, ReportsDevice};
 
+use crate::block::find_in;
+use crate::found::FoundVersion;
+use crate::lines::line_for;
 use crate::tail::{parts_of, read_tail};
+use bloom::laws::filters_cover;
+use bloom::{KeyHashes, may_hold_hashed};
 use disk::Disk;
 use std::alloc::Global;
 use std::rc::RcSlice;
+use table_files::Files;
 use table_format::{IndexLine, TableError};
 
 /// An open table. It keeps the lines of the index and the filter, and no block. Cursors share the
@@ -20,7 +27,8 @@ pub struct Table {
 }
 
 impl Table {
-    ghost use Rattle.sorted_table.specs.Open.{FileRepresents, TableServes, table_file};
+    ghost use Rattle.sorted_table.specs.Open.{FileRepresents, LookupFinds, TableServes, table_file};
+    ghost use Rattle.sorted_table.specs.Open.{table_filter};
 
     /// Opens the table of a file. It needs three device calls, reads no block, and takes no more
     /// memory than the file is long.
@@ -41,5 +49,56 @@ impl Table {
             lines,
             filter,
         })
+    }
+    /// The newest version of the key with at most this number, if the table has one. It reads no
+    /// block where the filter denies the key, and otherwise one, unless that is in the cache.
+    pub fn get<D: Disk + Drop>(
+        &self,
+        alloc: Global,
+        files: &mut Files<D>,
+        key: &[u8],
+        at: u64,
+    ) -> Result<Option<FoundVersion>, TableError>
+        ensures kept { KeepsDisk ⟦<Files<D> as Disk>⟧ files.old files.new (ReportsDevice result) ⊥
+            IsSame }
+        ensures found { (entries : List Entry) → ⟦<Files<D> as Disk>⟧.is_honest files.old →
+            TableServes (⟦<Files<D> as Disk>⟧.state files.old (table_file self.now)) self.now
+            entries → MatchResult result (LookupFinds entries key.now at) IsEnvironmentError }
+        ensures unread { (Covers (table_filter self.now) key.now → ⊥) → files.new ≡ files.old }
+        ensures refusals { IfErr result (λ e. IsBuilderError e → ⊥) }
+        ensures still { IsStill ⟦<Files<D> as Disk>⟧ files.old files.new }
+    {
+        self.get_hashed(alloc, files, key, KeyHashes::of(key), at)
+    }
+
+    /// `get` of the key that has these hashes. A lookup in many tables computes them once.
+    pub fn get_hashed<D: Disk + Drop>(
+        &self,
+        alloc: Global,
+        files: &mut Files<D>,
+        key: &[u8],
+        hashes: KeyHashes,
+        at: u64,
+    ) -> Result<Option<FoundVersion>, TableError>
+        requires { hashes ≡ hashes_of key.now }
+        ensures kept { KeepsDisk ⟦<Files<D> as Disk>⟧ files.old files.new (ReportsDevice result) ⊥
+            IsSame }
+        ensures found { (entries : List Entry) → ⟦<Files<D> as Disk>⟧.is_honest files.old →
+            TableServes (⟦<Files<D> as Disk>⟧.state files.old (table_file self.now)) self.now
+            entries → MatchResult result (LookupFinds entries key.now at) IsEnvironmentError }
+        ensures unread { (CoversHashed (table_filter self.now) hashes → ⊥) →
+            files.new ≡ files.old }
+        ensures refusals { IfErr result (λ e. IsBuilderError e → ⊥) }
+        ensures still { IsStill ⟦<Files<D> as Disk>⟧ files.old files.new }
+    {
+        if !may_hold_hashed(&self.filter, hashes) {
+            filters_cover(); // law: the filter of some keys covers each of them
+            return Ok(None);
+        }
+        let Some(line) = line_for(&self.lines, key, at) else {
+            return Ok(None);
+        };
+        let block = files.block(alloc, self.file, line.place, line.len as usize)?;
+        find_in(alloc, &block, key, at)
     }
 }

@@ -1,5 +1,12 @@
 pub mod Kept
 pub mod Caches
 pub mod BlockReads
-pub mod Reading
+pub mod LentFiles
 pub mod Disks
+-- What crates above name.
+pub use Rattle.table_files.specs.BlockReads.{BlockAnswer, IsBlockAt, IsPartAt}
+pub use Rattle.table_files.specs.BlockReads.{KnownBlocksAreAnswered, known_block_answered}
+pub use Rattle.table_files.specs.Disks.{inner_disk}
+pub use Rattle.table_files.specs.LentFiles.{KeepsFiles, ShowsNoFailure, keeps_files_after}
+pub use Rattle.table_files.specs.LentFiles.{keeps_files_by, keeps_files_itself}
+pub use Rattle.table_files.specs.LentFiles.{keeps_files_through}

@@ -1,5 +1,5 @@
 //! The cache of blocks.
-ghost use Rattle.std.specs.Prelude.{◌≡◌, ◌≢◌, ◌⊎◌, ℕ, List, None, Some, IfOk, IfSome, IsSome, OnOk};
+ghost use Rattle.std.specs.Prelude.{◌≡◌, ◌⊎◌, ℕ, List, IfOk, IfSome};
 ghost use Rattle.std.specs.Ordering.{nat_cmp};
 ghost use Rattle.std.specs.BTreeMap.{get};
 ghost use Rattle.std.specs.Rc.{rc_slice_items};
@@ -14,7 +14,7 @@ use std::rc::RcSlice;
 /// The blocks of files that were used last.
 ///
 /// Each file has a number of its own in the cache. To forget a file is to forget that number: no
-/// block is found under it any more, and those that are left are the first to be evicted.
+/// block is found under it any more, and newer ones push out those that are left.
 #[derive(Drop)]
 pub struct BlockCache {
     // The numbers of files, by their numbers on the disk.

@@ -18,13 +18,13 @@ pub const MAX_BLOCKS: usize = 65_536;
 
 /// A disk, and blocks that were read of it. As a disk it is the one inside.
 ///
-/// Each block that is kept stands in its file, and was checked when it was read. A call that may
-/// change a file first forgets its blocks.
+/// Each block that is kept is one that its file has, and was checked when it was read. A call that
+/// may change what a read of a file returns first forgets the blocks of that file.
 #[derive(Drop)]
 pub struct Files<D: Disk> {
     disk: D,
     cache: BlockCache,
-    ghost right: { D.is_honest disk → AreBlocksAt (D.state disk) cache },
+    ghost checked: { D.is_honest disk → AreBlocksAt (D.state disk) cache },
 }
 
 impl<D: Disk + Drop> Files<D> {
@@ -51,13 +51,19 @@ impl<D: Disk + Drop> Files<D> {
         self.disk
     }
 
+    /// The disk.
     pub fn disk(&self) -> &D
         ensures { result.now ≡ inner_disk self.now }
     {
         &self.disk
     }
 
-    /// The block that a file has from a place on, of this length in bytes.
+    /// The block that a file has from a place on, of this length in bytes. `Damaged` where the file
+    /// has no block there, `Disk` where the device failed, `Memory` where there is none for the
+    /// block.
+    ///
+    /// It needs one device call, and none where the block is kept. A block that was read is checked
+    /// and kept; where there is no memory for that, it is not kept.
     pub fn block(
         &mut self,
         alloc: Global,

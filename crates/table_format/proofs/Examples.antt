@@ -128,9 +128,9 @@ single_data : length (data_bytes (single put_a ∷ [])) ≡ 27
 single_data = ap length (flat_map-cons block_bytes (single put_a) [])
     ∙ ap length (append-nil (block_part (put_a ∷ []))) ∙ length-block_part (put_a ∷ [])
 
-stands_single : (filter : List ℕ) → IsFilter (different_keys (put_a ∷ [])) filter
+single_represented : (filter : List ℕ) → IsFilter (different_keys (put_a ∷ [])) filter
     → TableRepresents (single_table put_a filter) (put_a ∷ [])
-stands_single filter exact =
+single_represented filter exact =
     let len : length filter ≡ 8 = exact.len in
     record {
       blocks = single put_a ∷ [];
@@ -161,6 +161,6 @@ table_examples = record {
   deletion = λ bytes t. length-single bytes (of_a None) t;
   longer = λ bytes value len t.
       omega (arith, len, length-append value [], length-single bytes (of_a (Some value)) t);
-  stands = stands_single;
+  represented = single_represented;
   other_keys = refl;
 }

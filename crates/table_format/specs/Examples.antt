@@ -36,6 +36,6 @@ pub record TableExamples : Type 0 where
   pub deletion : (bytes : List ℕ) → TableRepresents bytes (of_a None ∷ []) → length bytes ≡ 131
   pub longer : (bytes value : List ℕ) → length value ≡ 200 →
       TableRepresents bytes (of_a (Some value) ∷ []) → length bytes ≡ 333
-  pub stands : (filter : List ℕ) → IsFilter (codes "a" ∷ []) filter →
+  pub represented : (filter : List ℕ) → IsFilter (codes "a" ∷ []) filter →
       TableRepresents (single_table put_a filter) (put_a ∷ [])
   pub other_keys : different_keys (put_a ∷ of_a None ∷ []) ≡ codes "a" ∷ []

@@ -7,13 +7,13 @@ use crate::part::{seal, unsealed};
 use byte_fields::{put_u32, read_u32};
 use std::alloc::{AllocError, Global};
 
-/// The part that holds the filter.
+/// The part that holds the filter, if that has less than 2^32 bytes.
 pub fn filter_part_of(alloc: Global, filter: &[u8]) -> Result<Vec<u8>, AllocError>
-    requires { length filter.now < 2 ^ 32 }
-    ensures { IfOk result (λ part. part.items ≡ filter_part filter.now) }
+    ensures { length filter.now < 2 ^ 32 →
+        IfOk result (λ part. part.items ≡ filter_part filter.now) }
 {
     let mut part = Vec::new(alloc);
-    put_u32(&mut part, filter.len() as u32)?;
+    put_u32(&mut part, filter.len().min(u32::MAX as usize) as u32)?;
     part.extend_from_slice(filter)?;
     seal(&mut part)?;
     Ok(part)

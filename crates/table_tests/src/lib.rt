@@ -9,6 +9,8 @@ mod memtables;
 #[cfg(test)]
 mod numbered;
 #[cfg(test)]
+mod parts;
+#[cfg(test)]
 mod plain;
 #[cfg(test)]
 mod sequence;

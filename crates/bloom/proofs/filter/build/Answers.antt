@@ -1,7 +1,7 @@
-use Rattle.std.proofs.Common.{◌≡◌, ◌⊎◌, ◌+◌, ◌*◌, ◌<◌, ℕ, List, length, get_or, ap, sym, subst, ◌∙◌}
+use Rattle.std.proofs.Common.{◌≡◌, ◌⊎◌, ◌+◌, ◌*◌, ◌<◌, ℕ, List, [], length, get_or, ap, sym, subst, ◌∙◌}
 use Rattle.std.specs.Prelude.{◌↔◌}
 use Rattle.std.proofs.lemmas.List.{get_or_default, with_items_is}
-use Rattle.bloom.specs.Filters.{HasBit, IsProbeOf}
+use Rattle.bloom.specs.Filters.{HasBit, IsProbeOf, hashes_of}
 use Rattle.bloom.proofs.Covering.{covers_each}
 use Rattle.bloom.proofs.Putting.{HasKeys, all_zero, no_keys, one_key, all_keys}
 use Rattle.bloom.proofs.filter.build.Goals as goal
@@ -21,16 +21,14 @@ loop-key-preserved c =
     let new = c.put.new.filter in
     let value : c.deref_mut.result.now ≡ old = c.deref_mut.ensures.value in
     let same : length new ≡ length old = c.put.ensures.len ∙ ap length value in
-    let key : c.as_bytes.result.now ≡ get_or keys i c.as_bytes.result.now =
-    c.as_bytes.ensures.bytes ∙ c.key-item.is ∙ get_or_default keys i c.key-item.result
-    c.as_bytes.result.now c.loop-key-test.true in
+    let key : c.as_bytes.result.now ≡ get_or keys i [] =
+    c.as_bytes.ensures.bytes ∙ c.key-item.is ∙ get_or_default keys i c.key-item.result [] c.loop-key-test.true in
     let put = subst (λ (b : List ℕ). (p : ℕ) → p < 8 * length b →
-    HasBit new p ↔ (HasBit b p ⊎ IsProbeOf (8 * length b) c.as_bytes.result.now p)) value
-    c.put.ensures.put in
+    HasBit new p ↔ (HasBit b p ⊎ IsProbeOf (8 * length b) c.of.result p)) value c.put.ensures.put in
     let whole = with_items_is c.loop-key.filter new (same ∙ sym c.loop-key.filter.ok.0) in
     subst (λ (f : List ℕ). HasKeys keys (i + 1) f) (sym whole)
-    (one_key keys i old new c.as_bytes.result.now c.loop-key-test.true key c.loop-key.invariant same
-    put)
+    (one_key keys i old new c.of.result c.loop-key-test.true
+    (c.of.ensures ∙ ap hashes_of key) c.loop-key.invariant same put)
 
 pub returns-clause-filter : goal.returns-clause-filter
 returns-clause-filter c =

@@ -4,7 +4,6 @@ use Rattle.std.proofs.lemmas.Slice.Eq.{bytes_eq-Decides}
 use Rattle.merge_iter.specs.{spot}
 use Rattle.table_format.proofs.Cases.{off, on}
 use Rattle.table_format.specs.{lent_entry}
-use Rattle.table_format.specs.declared.LentEntry.{LentEntry}
 use Rattle.sorted_table.specs.Searches.{FindsFirstWithout, IsEarlier}
 use Rattle.sorted_table.proofs.LookupsLemmas.{found_by, newest_there, unseen_all, unseen_there}
 use Rattle.sorted_table.proofs.block.find_in.Goals as goal

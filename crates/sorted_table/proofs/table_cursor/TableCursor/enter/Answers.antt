@@ -1,4 +1,4 @@
-use Rattle.table_files.specs.Reading.{keeps_files_itself}
+use Rattle.table_files.specs.{keeps_files_itself}
 use Rattle.sorted_table.proofs.TablePlaces.{moved_in}
 use Rattle.sorted_table.proofs.table_cursor.TableCursor.enter.Goals as goal
 

@@ -1,6 +1,6 @@
 use Rattle.std.proofs.Common.{◌≡◌, ◌+◌, ◌∙◌, ◌<◌, refl, ap, sym, subst, arith, IfSome, Some, length}
 use Rattle.std.specs.Rc.{rc_slice_items}
-use Rattle.table_files.specs.Reading.{keeps_files_itself}
+use Rattle.table_files.specs.{keeps_files_itself}
 use Rattle.sorted_table.specs.TableCursors.{IsPlaceIn}
 use Rattle.sorted_table.proofs.CursorMoves.{cursor_moves, entered_or_none, when_false}
 use Rattle.sorted_table.proofs.CursorSteps.{ends_ahead, within_lines}

@@ -14,41 +14,41 @@ returns-then-len-clause-still g c = λ honest. still _ _
 -- and adds no block
 pub invariant_of-self : goal.invariant_of-self
 invariant_of-self g c = record {
-  right = λ honest.
+  checked = λ honest.
       let old = c.args.self.now in
       let disk = g.D.Disk.state old.disk in
-      blocks_stay disk disk old.cache c.get.new.self (old.right honest) (λ file. refl)
+      blocks_stay disk disk old.cache c.get.new.self (old.checked honest) (λ file. refl)
       c.get.ensures.keeps;
 }
 
 pub invariant_of-self-then-len : goal.invariant_of-self-then-len
 invariant_of-self-then-len g c = record {
-  right = λ honest.
+  checked = λ honest.
       let old = c.args.self.now in
       let disk = g.D.Disk.state old.disk in
-      blocks_stay disk disk old.cache c.get.new.self (old.right honest) (λ file. refl)
+      blocks_stay disk disk old.cache c.get.new.self (old.checked honest) (λ file. refl)
       c.get.ensures.keeps;
 }
 
 -- a read changes nothing
 pub invariant_of-self-in-Break-branch-3 : goal.invariant_of-self-in-Break-branch-3
 invariant_of-self-in-Break-branch-3 g c = record {
-  right = λ honest.
+  checked = λ honest.
       let old = c.args.self.now in
       let was = c.read_block.ensures.kept.honest.0 honest in
       blocks_stay (g.D.Disk.state old.disk) (g.D.Disk.state c.read_block.new.disk) old.cache
-      c.get.new.self (old.right was) (c.read_block.ensures.kept.files was) c.get.ensures.keeps;
+      c.get.new.self (old.checked was) (c.read_block.ensures.kept.files was) c.get.ensures.keeps;
 }
 
 -- the block that was read stands there, and was checked
 pub invariant_of-self-2 : goal.invariant_of-self-2
 invariant_of-self-2 g c = record {
-  right = λ honest.
+  checked = λ honest.
       let old = c.args.self.now in
       let was = c.read_block.ensures.kept.honest.0 honest in
       let disk = g.D.Disk.state c.read_block.new.disk in
       let right = blocks_stay (g.D.Disk.state old.disk) disk old.cache c.get.new.self
-      (old.right was) (c.read_block.ensures.kept.files was) c.get.ensures.keeps in
+      (old.checked was) (c.read_block.ensures.kept.files was) c.get.ensures.keeps in
       let there = (c.in_ok-block-2.ensures.answers was).1 in
       let block = rc_slice_items c.in_ok-block-2.block in
       blocks_and_one disk c.get.new.self c.keep.new.self c.args.file c.args.place block right

@@ -3,5 +3,5 @@ use Rattle.table_files.proofs.files.FilesCrash.crash.Goals as goal
 -- no block is kept
 pub invariant_of-self : goal.invariant_of-self
 invariant_of-self g c = record {
-  right = λ honest file place part holds. absurd (c.clear.ensures file place part holds);
+  checked = λ honest file place part holds. absurd (c.clear.ensures file place part holds);
 }

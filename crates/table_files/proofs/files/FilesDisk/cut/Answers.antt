@@ -4,10 +4,10 @@ use Rattle.table_files.proofs.files.FilesDisk.cut.Goals as goal
 -- no block of the file is kept, and the other files are as they were
 pub invariant_of-self : goal.invariant_of-self
 invariant_of-self g c = record {
-  right = λ honest.
+  checked = λ honest.
       let old = c.args.self.now in
       let was = c.cut.ensures.kept.disk.honest.0 honest in
       blocks_beside (g.D.Disk.state old.disk) (g.D.Disk.state c.cut.new.self) old.cache
-      c.forget.new.self c.args.file (old.right was) (c.cut.ensures.kept.disk.files was)
+      c.forget.new.self c.args.file (old.checked was) (c.cut.ensures.kept.disk.files was)
       c.forget.ensures.keeps c.forget.ensures.gone;
 }

@@ -1,0 +1,86 @@
+-- A lookup in a table by the one block where a key and number would stand.
+use Rattle.std.proofs.Common.{◌≡◌, inr, ℕ, ◌+◌, ◌≤◌, List, ◌++◌, length, map, take, drop, All, Option, Contains}
+use Rattle.std.proofs.Common.{sym, subst, ◌∙◌, Result, Ok, Err, MatchResult}
+use Rattle.std.specs.List.{AllByRecursion}
+use Rattle.std.proofs.lemmas.List.Elements.{recursion_from_All}
+use Rattle.kv_types.proofs.Ordered.{All-among, Among, Rises, rises_from_AllPairs}
+use Rattle.kv_types.specs.{Entry, IsUnseen}
+use Rattle.merge_iter.specs.{EntryPrecedes, spot}
+use Rattle.merge_iter.specs.declared.Direction.TheVariants.{Forward}
+use Rattle.table_format.specs.{AreRising, IsBlock, IsEnvironmentError, TableRepresents, block_entries, block_lines}
+use Rattle.table_format.specs.{end_spot, entries_of_blocks}
+use Rattle.table_format.specs.declared.IndexLine.{IndexLine}
+use Rattle.table_format.specs.declared.TableError.{TableError}
+use Rattle.table_format.specs.declared.TableError.TheVariants.{Memory}
+use Rattle.sorted_table.specs.declared.found.FoundVersion.{FoundVersion}
+use Rattle.sorted_table.specs.Open.{LookupFinds}
+use Rattle.sorted_table.specs.Searches.{EndsEarlier, IsEarlier, IsFirstWithout}
+use Rattle.sorted_table.proofs.LineBlocks.{early_entries, last_there, line_block, rising_parts}
+use Rattle.sorted_table.proofs.LookupsLemmas.{lookup_up, unseen_all}
+use Rattle.sorted_table.proofs.TailsLemmas.{lines_rise}
+
+-- lines in memory that are those of a table rise
+rising_here : (bytes : List ℕ) (entries : List Entry) (s : TableRepresents bytes entries)
+    (lines : List IndexLine) → lines ≡ block_lines 0 s.blocks → AreRising (map end_spot lines)
+rising_here bytes entries s lines is =
+    subst (λ (l : List IndexLine). AreRising (map end_spot l)) (sym is) (lines_rise bytes entries s)
+
+-- all blocks end before the spot
+pub no_block : (bytes : List ℕ) (entries : List Entry) (s : TableRepresents bytes entries)
+    (lines : List IndexLine) (key : List ℕ) (at : ℕ) → lines ≡ block_lines 0 s.blocks
+    → (AreRising (map end_spot lines) → All (EndsEarlier (spot key at)) lines)
+    → IsUnseen at (Contains entries) key
+no_block bytes entries s lines key at is early =
+    let place = spot key at in
+    let ends = subst (All (EndsEarlier place)) is (early (rising_here bytes entries s lines is)) in
+    let rises = subst (Rises (EntryPrecedes Forward)) s.division
+    (rises_from_AllPairs (EntryPrecedes Forward) entries s.rising) in
+    unseen_all entries key at (All-among (IsEarlier place) entries (λ z a.
+    early_entries 0 s.blocks key at rises
+    (recursion_from_All (EndsEarlier place) (block_lines 0 s.blocks) ends) z
+    (subst (Among z) s.division a)))
+
+-- what a lookup finds in a block of the file it finds in the table
+pub record BlockForSpot (bytes : List ℕ) (entries : List Entry) (key : List ℕ) (at : ℕ)
+    (line : IndexLine) : Type 0 where
+  pub mine : List Entry
+  pub is_block : IsBlock (take line.len (drop line.place bytes)) mine
+  pub within : line.place + line.len ≤ length bytes
+  pub up : (found : Option FoundVersion) → LookupFinds mine key at found
+      → LookupFinds entries key at found
+
+pub block_for : (bytes : List ℕ) (entries : List Entry) (s : TableRepresents bytes entries)
+    (lines : List IndexLine) (key : List ℕ) (at : ℕ) (line : IndexLine)
+    → lines ≡ block_lines 0 s.blocks
+    → (AreRising (map end_spot lines) → IsFirstWithout (EndsEarlier (spot key at)) lines line)
+    → BlockForSpot bytes entries key at line
+block_for bytes entries s lines key at line is first =
+    let place = spot key at in
+    let f = first (rising_here bytes entries s lines is) in
+    let b = line_block bytes entries s f.before line f.after (sym is ∙ f.split) in
+    let mine = block_entries b.block in
+    let before = entries_of_blocks b.done in
+    let after = entries_of_blocks b.others in
+    let rises = subst (Rises (EntryPrecedes Forward)) b.split
+    (rises_from_AllPairs (EntryPrecedes Forward) entries s.rising) in
+    let parts = rising_parts before (mine ++ after) rises in
+    let late : IsEarlier place b.block.last → ⊥ =
+    subst (λ (l : IndexLine). EndsEarlier place l → ⊥) b.is f.without in
+    let early = subst (AllByRecursion (EndsEarlier place)) b.lines
+    (recursion_from_All (EndsEarlier place) f.before f.with) in
+    record {
+      mine = mine;
+      is_block = b.is_block;
+      within = b.within;
+      up = λ found here. subst (λ (l : List Entry). LookupFinds l key at found) (sym b.split)
+          (lookup_up before mine after b.block.last key at found
+          (early_entries 0 b.done key at parts.front early) (last_there b.block) late
+          (rising_parts mine after parts.back).across here);
+    }
+
+pub result_up : (bytes : List ℕ) (entries : List Entry) (key : List ℕ) (at : ℕ) (line : IndexLine)
+    (b : BlockForSpot bytes entries key at line) (result : Result (Option FoundVersion) TableError)
+    → MatchResult result (LookupFinds b.mine key at) (λ e. e ≡ Memory)
+    → MatchResult result (LookupFinds entries key at) IsEnvironmentError
+result_up bytes entries key at line b (Ok found) here = b.up found here
+result_up bytes entries key at line b (Err e) memory = inr memory

@@ -1,0 +1,42 @@
+use Rattle.std.proofs.Common.{◌≡◌, ap, ◌∙◌, Option, Some, None, refl, inr}
+use Rattle.std.proofs.lemmas.Result.{err_from_is_err_and}
+use Rattle.std.specs.Prelude.{IsSomeAnd}
+use Rattle.disk.specs.{seen}
+use Rattle.table_format.specs.{TableRepresents}
+use Rattle.sorted_table.proofs.table.Table.open.Goals as goal
+
+some_and : {A : Type 0} (P : A → Type 0) (o : Option A) → IsSomeAnd o P
+    → (a : A) × (o ≡ Some a) × P a
+some_and P None h = absurd h
+some_and P (Some a) h = (a, refl, h)
+
+-- the tail was not read
+pub returns-in_err-bytes-clause-opened : goal.returns-in_err-bytes-clause-opened
+returns-in_err-bytes-clause-opened g c = λ entries honest has.
+    let t = some_and (λ bytes. TableRepresents bytes entries) _ has in
+    let why = c.in_err-bytes.ensures.tail t.0 entries t.2 honest t.1 in
+    let p = err_from_is_err_and c.from_residual.result c.from_residual.ensures.1 in
+    rw (p.1, p.2) why
+
+-- the tail is not one
+pub returns-in_err-lines-clause-opened : goal.returns-in_err-lines-clause-opened
+returns-in_err-lines-clause-opened g c = λ entries honest has.
+    let t = some_and (λ bytes. TableRepresents bytes entries) _ has in
+    let tail = c.in_ok-bytes.ensures.tail t.0 entries t.2 honest t.1 in
+    let why = c.in_err-lines.ensures.parts t.0 entries t.2 (c.deref.ensures.value ∙ tail.0) tail.1 in
+    let p = err_from_is_err_and c.from_residual-in_err-lines.result
+    c.from_residual-in_err-lines.ensures.1 in
+    rw (p.1, p.2) (inr why)
+
+pub returns-clause-opened : goal.returns-clause-opened
+returns-clause-opened g c = λ entries honest has.
+    let t = some_and (λ bytes. TableRepresents bytes entries) _ has in
+    let tail = c.in_ok-bytes.ensures.tail t.0 entries t.2 honest t.1 in
+    let parts = c.in_ok-lines.ensures.parts t.0 entries t.2 (c.deref.ensures.value ∙ tail.0) tail.1 in
+    record {
+      bytes = t.0;
+      present = ap seen (c.read_tail.ensures.kept.files honest c.args.file) ∙ t.1;
+      represents = t.2;
+      lines = parts.0;
+      filter = parts.1;
+    }

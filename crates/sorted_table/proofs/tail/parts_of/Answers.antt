@@ -1,0 +1,37 @@
+use Rattle.std.proofs.Common.{◌≡◌, take, drop, sym, ap, ◌∙◌, rules}
+use Rattle.std.proofs.lemmas.List.{take_at, drop_at}
+use Rattle.std.proofs.lemmas.Result.{err_from_is_err_and}
+use Rattle.table_format.specs.{block_lines, filter_part, index_part}
+use Rattle.sorted_table.proofs.TailsLemmas.{filter_here, index_here, only_memory}
+use Rattle.sorted_table.proofs.tail.parts_of.Goals as goal
+
+pub returns-in_err-lines-clause-parts : goal.returns-in_err-lines-clause-parts
+returns-in_err-lines-clause-parts c = λ all entries s is t.
+    let len = c.args.tail.filter_len in
+    let lines = block_lines 0 s.blocks in
+    let back : c.split_at.result.1.now ≡ index_part lines =
+    c.split_at.ensures.back ∙ ap (drop len) is
+    ∙ drop_at (filter_part s.filter) (index_part lines) len (sym t.filter_len) in
+    let why = only_memory c.in_err-lines.field-0.0 c.split_at.result.1.now c.args.tail.place lines
+    c.in_err-lines.ensures
+    (index_here all entries s c.split_at.result.1.now c.args.tail.place back t.place) in
+    let p = err_from_is_err_and c.from_residual.result c.from_residual.ensures.1 in
+    rw (p.1, p.2) why
+
+pub returns-clause-parts : goal.returns-clause-parts
+returns-clause-parts c = λ all entries s is t.
+    let len = c.args.tail.filter_len in
+    let lines = block_lines 0 s.blocks in
+    let front : c.split_at.result.0.now ≡ filter_part s.filter =
+    c.split_at.ensures.front ∙ ap (take len) is
+    ∙ take_at (filter_part s.filter) (index_part lines) len (sym t.filter_len) in
+    let back : c.split_at.result.1.now ≡ index_part lines =
+    c.split_at.ensures.back ∙ ap (drop len) is
+    ∙ drop_at (filter_part s.filter) (index_part lines) len (sym t.filter_len) in
+    let filter : s.filter ≡ c.in-Some.filter.now =
+    c.in-Some.ensures.1 s.filter (filter_here all entries s c.split_at.result.0.now front) in
+    let copied : c.in_ok-to_vec.field-0.items ≡ c.in-Some.filter.now = search rules in (
+      c.in_ok-lines-2.ensures ∙ sym (c.in_ok-lines.ensures.1 lines
+          (index_here all entries s c.split_at.result.1.now c.args.tail.place back t.place)),
+      copied ∙ sym filter,
+    )

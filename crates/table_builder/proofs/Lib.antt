@@ -1,0 +1,6 @@
+mod FreshLemmas
+mod KeysLemmas
+mod DivisionsLemmas
+mod BuildersLemmas
+mod ClosingLemmas
+mod DeviceLemmas

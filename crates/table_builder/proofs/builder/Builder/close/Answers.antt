@@ -1,0 +1,26 @@
+use Rattle.std.proofs.Common.{◌≡◌, length, ap, ◌∙◌, arith}
+use Rattle.table_format.specs.{block_bytes}
+use Rattle.table_builder.proofs.DeviceLemmas.{not_own_on, passed_on, wants_memory, writes_as}
+use Rattle.table_builder.proofs.builder.Builder.close.Goals as goal
+
+pub returns-in_err-seal-clause-device : goal.returns-in_err-seal-clause-device
+returns-in_err-seal-clause-device g c =
+    wants_memory g.D.Disk c.args.self.now.file c.args.disk.now c.from_residual.result
+    c.from_residual.ensures.1
+
+pub returns-in_err-append-clause-device : goal.returns-in_err-append-clause-device
+returns-in_err-append-clause-device g c =
+    let called = c.append.result in
+    let e = c.in_err-append.field-0.0 in
+    let result = c.from_residual-in_err-append.result in
+    let told = c.from_residual-in_err-append.ensures.1 in
+    let device = c.append.ensures in
+    writes_as g.D.Disk c.args.self.now.file (passed_on called e result c.in_err-append.was told)
+    (not_own_on called e result c.in_err-append.was told device.not_own)
+    (λ out blocks one can.
+    let is : c.deref.result.now ≡ block_bytes one =
+    c.deref.ensures.value ∙ (c.in_ok-seal.ensures.sealed blocks one can).bytes in
+    let small = can.small in
+    let room = can.room in
+    absurd (omega (arith, out, ap length is, small, room, can.closed.written)))
+    (record { kept = device.kept; not_own = device.not_own; any_moment = device.any_moment })

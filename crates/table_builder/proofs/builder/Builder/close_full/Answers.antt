@@ -1,0 +1,34 @@
+use Rattle.std.proofs.Common.{◌≤◌, ◌++◌, ◌∷◌, [], length, sym, subst, arith, MatchResult}
+use Rattle.table_format.specs.declared.sizes.TheConstants.{BLOCK_SIZE}
+use Rattle.table_format.specs.{IsEnvironmentError, block_content, data_bytes}
+use Rattle.table_builder.specs.Builders.{HoldsDivision}
+use Rattle.table_builder.specs.Divisions.{Division}
+use Rattle.table_builder.specs.Fresh.{IsFresh}
+use Rattle.table_builder.proofs.ClosingLemmas.{on_ok_map}
+use Rattle.table_builder.proofs.DeviceLemmas.{writes_nothing}
+use Rattle.table_builder.proofs.DivisionsLemmas.{with_entry_full}
+use Rattle.table_builder.proofs.builder.Builder.close_full.Goals as goal
+
+pub returns-then-len-lt-BLOCK_SIZE-clause-device : goal.returns-then-len-lt-BLOCK_SIZE-clause-device
+returns-then-len-lt-BLOCK_SIZE-clause-device g c =
+    writes_nothing g.D.Disk c.args.self.now.file c.args.disk.now (λ fails. absurd cc) tt
+
+-- the entry filled its block
+pub returns-clause-closed : goal.returns-clause-closed
+returns-clause-closed g c = λ parts entry can.
+    let full : BLOCK_SIZE ≤ length (block_content (parts.opened ++ entry ∷ [])) =
+    omega (arith, c.len.ensures (parts.opened ++ entry ∷ []) can.entries, c.if-len-lt-BLOCK_SIZE.false) in
+    on_ok_map c.close.result
+    (λ closed. subst (HoldsDivision c.close.new.self) (sym (with_entry_full parts entry full))
+    (record { closed = closed.closed; block = closed.empty }))
+    (c.close.ensures.closed parts.closed (record { front = parts.opened; last = entry }) can)
+
+pub returns-clause-written : goal.returns-clause-written
+returns-clause-written g c = λ parts entry can honest fresh.
+    let full : BLOCK_SIZE ≤ length (block_content (parts.opened ++ entry ∷ [])) =
+    omega (arith, c.len.ensures (parts.opened ++ entry ∷ []) can.entries, c.if-len-lt-BLOCK_SIZE.false) in
+    subst (λ (it : Division). MatchResult c.close.result
+    (λ _. IsFresh (g.D.Disk.state c.close.new.disk c.args.self.now.file) (data_bytes it.closed))
+    IsEnvironmentError) (sym (with_entry_full parts entry full))
+    (c.close.ensures.written parts.closed (record { front = parts.opened; last = entry }) can honest
+    fresh)

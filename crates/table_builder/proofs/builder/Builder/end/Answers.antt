@@ -1,0 +1,65 @@
+use Rattle.std.proofs.Common.{◌≡◌, ◌++◌, ℕ, List, length, ap, sym, subst, ◌∙◌, arith, length-append}
+use Rattle.std.proofs.Common.{IfSome}
+use Rattle.std.specs.Prelude.{IsErrAnd}
+use Rattle.table_format.specs.declared.TableError.{TableError}
+use Rattle.table_format.specs.{TableRepresents, data_bytes, last_entry}
+use Rattle.table_builder.specs.Keys.{first_entry}
+use Rattle.table_builder.proofs.ClosingLemmas.{last_key}
+use Rattle.table_builder.proofs.DeviceLemmas.{not_own_on, passed_on, wants_memory, writes_as}
+use Rattle.table_builder.proofs.builder.Builder.end.Goals as goal
+
+pub returns-in_err-tail-clause-device : goal.returns-in_err-tail-clause-device
+returns-in_err-tail-clause-device g c =
+    let result = c.from_residual.result in
+    wants_memory g.D.Disk c.args.self.file c.args.disk.now result
+    (subst (λ (m : TableError). IsErrAnd result (λ s. s ≡ m)) c.in_err-tail.ensures.memory
+    c.from_residual.ensures.1)
+
+pub returns-in_err-append_last-clause-device : goal.returns-in_err-append_last-clause-device
+returns-in_err-append_last-clause-device g c =
+    let called = c.append_last.result in
+    let e = c.in_err-append_last.field-0.0 in
+    let result = c.from_residual-in_err-append_last.result in
+    let told = c.from_residual-in_err-append_last.ensures.1 in
+    let device = c.append_last.ensures in
+    writes_as g.D.Disk c.args.self.file (passed_on called e result c.in_err-append_last.was told)
+    (not_own_on called e result c.in_err-append_last.was told device.not_own)
+    (λ out blocks entries can.
+    let t = (c.in_ok-tail.ensures.tail blocks entries can).1 in
+    let size = can.size in
+    absurd (omega (arith, out, t, size, can.closed.written, ap length c.deref.ensures.value)))
+    (record { kept = device.kept; not_own = device.not_own; any_moment = device.any_moment })
+
+-- the file is durable, and represents the entries
+pub returns-clause-ended : goal.returns-clause-ended
+returns-clause-ended g c = λ blocks entries can honest fresh.
+    let it = c.args.self in
+    let tail = c.deref.result.now in
+    let value = c.deref.ensures.value in
+    let t = c.in_ok-tail.ensures.tail blocks entries can in
+    let keys = c.in_ok-tail.ensures.keys in
+    let size = can.size in
+    let least = c.key_from.ensures ∙ ap (λ k. k.least.items) keys in
+    let greatest = c.key_from-2.ensures ∙ ap (λ k. k.last.items) keys in
+    record {
+      holds = record {
+        bytes = data_bytes blocks ++ tail;
+        durable = c.in_ok-append_last.ensures.appended (data_bytes blocks) honest fresh can.closed.written;
+        represents = subst (λ (b : List ℕ). TableRepresents (data_bytes blocks ++ b) entries) (sym value) t.0;
+      };
+      len = omega (
+        arith,
+        c.saturating_add.ensures,
+        c.len.ensures,
+        c.in_ok-tail.tail.ok.0,
+        t.1,
+        size,
+        can.closed.written,
+        ap length value,
+        length-append (data_bytes blocks) tail,
+      );
+      least = subst (λ (b : List ℕ). IfSome (first_entry entries) (λ entry. b ≡ entry.key)) (sym least)
+          can.keys.least;
+      greatest = last_key (last_entry entries) it.keys.last.items c.key_from-2.result it.keys.number
+          greatest can.keys.last;
+    }
