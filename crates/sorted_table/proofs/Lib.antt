@@ -16,3 +16,4 @@ pub mod TablePlaces
 pub mod CursorMoves
 pub mod CursorSteps
 pub mod TableFinds
+pub mod TableSeeks

@@ -58,7 +58,7 @@ get_ahead [] ys i x at = absurd cc
 get_ahead (y ∷ xs) ys zero x at = at
 get_ahead (y ∷ xs) ys (suc i) x at = get_ahead xs ys i x at
 
-parts_at : (blocks : List Block) (n : ℕ) (block : Block) → slice_get blocks n ≡ Some block
+pub parts_at : (blocks : List Block) (n : ℕ) (block : Block) → slice_get blocks n ≡ Some block
     → entries_of_blocks blocks ≡ entries_of_blocks (take n blocks)
     ++ (block_entries block ++ entries_of_blocks (drop (suc n) blocks))
 parts_at blocks n block at =

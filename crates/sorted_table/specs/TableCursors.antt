@@ -61,6 +61,11 @@ abbrev pub HasEntered : List IndexLine → ℕ → Direction → Option BlockPla
 HasEntered lines line way None = length lines ≤ line
 HasEntered lines line way (Some place) = (place.line ≡ line) × IsAtEnd way place
 
+-- a cursor stands in the block of this line, or on none where there is no such line
+abbrev pub HasReached : List IndexLine → ℕ → Bool → Option BlockPlace → Type 0
+HasReached lines line has_failed None = (has_failed ≡ false) × (length lines ≤ line)
+HasReached lines line has_failed (Some place) = place.line ≡ line
+
 -- how a cursor reports the errors of tables
 abbrev pub move_error : TableError → CursorError
 move_error table.Disk = cursor.Disk

@@ -10,7 +10,7 @@ ghost use Rattle.table_files.specs.{BlockAnswer};
 ghost use Rattle.table_files.specs.{KeepsFiles};
 ghost use Rattle.sorted_table.specs.BlockPlaces.{PlaceReads};
 ghost use Rattle.sorted_table.specs.LineSizes.{IsBounded};
-ghost use Rattle.sorted_table.specs.TableCursors.{HasEntered, HasLines, IsPlaceIn, move_error};
+ghost use Rattle.sorted_table.specs.TableCursors.{HasEntered, HasLines, HasReached, IsPlaceIn, move_error};
 
 use crate::block_place::BlockPlace;
 use crate::lines::line_place;
@@ -134,6 +134,30 @@ impl<D: Disk + Drop> TableCursor<D> {
             Err(e) => Err(cursor_error(e)),
         }
     }
+
+    // Enters the block of a line, if there is such a line, unless the cursor stands in it.
+    fn reach(&mut self, files: &mut Files<D>, line: usize) -> Result<(), CursorError>
+        ensures table { (self.new.file ≡ self.old.file) × (self.new.lines ≡ self.old.lines) }
+        ensures keeps { KeepsFiles ⟦<Files<D> as Disk>⟧ files.old files.new }
+        ensures causes { ErrorCauses (⟦<Files<D> as Disk>⟧.is_honest files.old × HasLines
+            (⟦<Files<D> as Disk>⟧.state files.old self.old.file) (rc_slice_items self.old.lines)) ⊥
+            (⟦<Files<D> as Disk>⟧.failures files.old) (⟦<Files<D> as Disk>⟧.failures files.new)
+            result }
+        ensures refused { OnErr result ((self.new.place ≡ None) × (self.new.has_failed ≡ true)) }
+        ensures reached { OnOk result (HasReached (rc_slice_items self.old.lines) line
+            self.new.has_failed self.new.place) }
+        ensures reads { ⟦<Files<D> as Disk>⟧.is_honest files.old →
+            (table : HasLines (⟦<Files<D> as Disk>⟧.state files.old self.old.file)
+            (rc_slice_items self.old.lines)) →
+            IfSome self.old.place (IsPlaceIn table.represents.blocks) →
+            OnOk result (IfSome self.new.place (IsPlaceIn table.represents.blocks)) }
+    {
+        if self.has_block(line) {
+            return Ok(());
+        }
+        let starts = starts_of(self.alloc, self.place.take());
+        self.enter(files, line, Direction::Forward, starts)
+    }
 }
 
 impl<D: Disk + Drop> Cursor for TableCursor<D> {
@@ -219,10 +243,7 @@ impl<D: Disk + Drop> Cursor for TableCursor<D> {
         number: u64,
     ) -> Result<(), CursorError> {
         let line = line_place(&self.lines, key, number);
-        if !self.has_block(line) {
-            let starts = starts_of(self.alloc, self.place.take());
-            self.enter(files, line, Direction::Forward, starts)?;
-        }
+        self.reach(files, line)?;
         let Some(mut place) = self.place.take() else {
             return Ok(());
         };
