@@ -113,64 +113,82 @@ pub record LineBlock (bytes : List ℕ) (entries : List Entry) (before : List In
   pub is_block : IsBlock (take line.len (drop line.place bytes)) (block_entries block)
   pub within : line.place + line.len ≤ length bytes
 
+-- a block of a table, behind some and before some: it is in the file, and its entries are among the
+-- table's
+pub record BlockIn (bytes : List ℕ) (entries : List Entry) (done : List Block) (block : Block)
+    (others : List Block) : Type 0 where
+  pub split : entries
+      ≡ entries_of_blocks done ++ (block_entries block ++ entries_of_blocks others)
+  pub is_block : IsBlock
+      (take (length (block_bytes block)) (drop (length (data_bytes done)) bytes))
+      (block_entries block)
+  pub within : length (data_bytes done) + length (block_bytes block) ≤ length bytes
+
+pub block_in : (bytes : List ℕ) (entries : List Entry) (s : TableRepresents bytes entries)
+    (done : List Block) (block : Block) (others : List Block)
+    → s.blocks ≡ done ++ block ∷ others → BlockIn bytes entries done block others
+block_in bytes entries s done block others parted =
+    let one = block_entries block in
+    let text = block_bytes block in
+    let place = length (data_bytes done) in
+    let len = length text in
+    let tail = filter_part s.filter ++ (index_part (block_lines 0 s.blocks)
+    ++ footer_part (table_footer s.blocks s.filter)) in
+    let blocks : data_bytes s.blocks ≡ data_bytes done ++ (text ++ data_bytes others) =
+    ap data_bytes parted ∙ flat_map-append block_bytes done (block ∷ others)
+    ∙ ap (λ (l : List ℕ). data_bytes done ++ l) (flat_map-cons block_bytes block others) in
+    let spelled : bytes ≡ data_bytes done ++ (text ++ (data_bytes others ++ tail)) =
+    s.spelled ∙ ap (λ (l : List ℕ). l ++ tail) blocks
+    ∙ append_assoc (data_bytes done) (text ++ data_bytes others) tail
+    ∙ ap (λ (l : List ℕ). data_bytes done ++ l) (append_assoc text (data_bytes others) tail) in
+    let there : take len (drop place bytes) ≡ text =
+    ap (λ (b : List ℕ). take len (drop place b)) spelled
+    ∙ ap (take len) (drop_at (data_bytes done) (text ++ (data_bytes others ++ tail)) place refl)
+    ∙ take_at text (data_bytes others ++ tail) len refl in
+    let all : entries ≡ entries_of_blocks done ++ (one ++ entries_of_blocks others) =
+    s.division ∙ ap entries_of_blocks parted
+    ∙ flat_map-append block_entries done (block ∷ others)
+    ∙ ap (λ (l : List Entry). entries_of_blocks done ++ l)
+    (flat_map-cons block_entries block others) in
+    let rises = subst (Rises Up) all (rises_from_AllPairs Up entries s.rising) in
+    let back = (rising_parts (entries_of_blocks done) (one ++ entries_of_blocks others) rises).back in
+    let each = split_each IsTableEntry (entries_of_blocks done) (one ++ entries_of_blocks others)
+    (subst (AllByRecursion IsTableEntry) all (recursion_from_All IsTableEntry entries s.each)) in
+    let small = (split_each IsShortBlock done (block ∷ others) (subst (AllByRecursion IsShortBlock) parted
+    (recursion_from_All IsShortBlock s.blocks s.fits.each))).1.0 in
+    record {
+      split = all;
+      is_block = record {
+        spelled = there;
+        some = omega (arith, length-append block.front (block.last ∷ []));
+        few = omega (arith, few_entries one, length-block_part one, small);
+        each = All-from_recursion IsTableEntry one
+            (split_each IsTableEntry one (entries_of_blocks others) each.1).0;
+        rising = AllPairs-rises Up one (rising_parts one (entries_of_blocks others) back).front;
+      };
+      within = omega (arith, ap length spelled,
+          length-append (data_bytes done) (text ++ (data_bytes others ++ tail)),
+          length-append text (data_bytes others ++ tail));
+    }
+
 pub line_block : (bytes : List ℕ) (entries : List Entry) (s : TableRepresents bytes entries)
     (before : List IndexLine) (line : IndexLine) (after : List IndexLine)
     → block_lines 0 s.blocks ≡ before ++ line ∷ after → LineBlock bytes entries before line
 line_block bytes entries s before line after e =
     let p = block_of 0 s.blocks before line after e in
-    let one = block_entries p.block in
-    let text = block_bytes p.block in
-    let tail = filter_part s.filter ++ (index_part (block_lines 0 s.blocks)
-    ++ footer_part (table_footer s.blocks s.filter)) in
-    let blocks : data_bytes s.blocks ≡ data_bytes p.done ++ (text ++ data_bytes p.others) =
-    ap data_bytes p.split ∙ flat_map-append block_bytes p.done (p.block ∷ p.others)
-    ∙ ap (λ (l : List ℕ). data_bytes p.done ++ l) (flat_map-cons block_bytes p.block p.others) in
-    let spelled : bytes ≡ data_bytes p.done ++ (text ++ (data_bytes p.others ++ tail)) =
-    s.spelled ∙ ap (λ (l : List ℕ). l ++ tail) blocks
-    ∙ append_assoc (data_bytes p.done) (text ++ data_bytes p.others) tail
-    ∙ ap (λ (l : List ℕ). data_bytes p.done ++ l) (append_assoc text (data_bytes p.others) tail) in
-    let place : length (data_bytes p.done) ≡ line.place =
-    let e = ap (λ (l : IndexLine). l.place) p.is in omega (arith, e) in
-    let len : length text ≡ line.len = sym (ap (λ (l : IndexLine). l.len) p.is) in
-    let there : take line.len (drop line.place bytes) ≡ text =
-    ap (λ (b : List ℕ). take line.len (drop line.place b)) spelled
-    ∙ ap (take line.len)
-    (drop_at (data_bytes p.done) (text ++ (data_bytes p.others ++ tail)) line.place place)
-    ∙ take_at text (data_bytes p.others ++ tail) line.len len in
-    let all : entries ≡ entries_of_blocks p.done ++ (one ++ entries_of_blocks p.others) =
-    s.division ∙ ap entries_of_blocks p.split
-    ∙ flat_map-append block_entries p.done (p.block ∷ p.others)
-    ∙ ap (λ (l : List Entry). entries_of_blocks p.done ++ l)
-    (flat_map-cons block_entries p.block p.others) in
-    let rises = subst (Rises Up) all (rises_from_AllPairs Up entries s.rising) in
-    let back = (rising_parts (entries_of_blocks p.done) (one ++ entries_of_blocks p.others) rises).back in
-    let each = split_each IsTableEntry (entries_of_blocks p.done) (one ++ entries_of_blocks p.others)
-    (subst (AllByRecursion IsTableEntry) all (recursion_from_All IsTableEntry entries s.each)) in
-    let small = (split_each IsShortBlock p.done (p.block ∷ p.others) (subst (AllByRecursion IsShortBlock) p.split
-    (recursion_from_All IsShortBlock s.blocks s.fits.each))).1.0 in
+    let b = block_in bytes entries s p.done p.block p.others p.split in
+    let is : line ≡ block_line (length (data_bytes p.done)) p.block =
+    p.is ∙ ap (λ (n : ℕ). block_line n p.block) (omega arith) in
     record {
       done = p.done;
       block = p.block;
       others = p.others;
       lines = p.lines;
-      is = p.is ∙ ap (λ (n : ℕ). block_line n p.block) (omega arith);
-      split = all;
-      is_block = record {
-        spelled = there;
-        some = omega (arith, length-append p.block.front (p.block.last ∷ []));
-        few = omega (arith, few_entries one, length-block_part one, small);
-        each = All-from_recursion IsTableEntry one
-            (split_each IsTableEntry one (entries_of_blocks p.others) each.1).0;
-        rising = AllPairs-rises Up one (rising_parts one (entries_of_blocks p.others) back).front;
-      };
-      within = omega (
-        arith,
-        place,
-        len,
-        ap length spelled,
-        length-append (data_bytes p.done) (text ++ (data_bytes p.others ++ tail)),
-        length-append text (data_bytes p.others ++ tail),
-      );
+      is = is;
+      split = b.split;
+      is_block = subst (λ (l : IndexLine). IsBlock (take l.len (drop l.place bytes))
+          (block_entries p.block)) (sym is) b.is_block;
+      within = subst (λ (l : IndexLine). l.place + l.len ≤ length bytes) (sym is) b.within;
     }
 
 -- ---- blocks that end before a spot

@@ -2,10 +2,13 @@
 #![tactic(auto)]
 
 mod block;
+mod block_place;
 mod found;
 pub mod laws;
 mod lines;
+mod starts;
 mod table;
+mod table_cursor;
 mod tail;
 
 pub use found::FoundVersion;

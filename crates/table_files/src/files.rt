@@ -1,5 +1,6 @@
 //! A disk with a cache of its blocks.
-ghost use Rattle.std.specs.Prelude.{◌≡◌, ◌<◌, ◌≤◌, IfErr, IfOk};
+ghost use Rattle.std.specs.Prelude.{◌≡◌, ◌<◌, ◌≤◌, IfErr, IfOk, length};
+ghost use Rattle.std.specs.Rc.{rc_slice_items};
 ghost use Rattle.disk.specs.{IsSame, IsStill, KeepsDisk};
 ghost use Rattle.table_format.specs.{IsBuilderError, ReportsDevice};
 ghost use Rattle.table_files.specs.BlockReads.{AreBlocksAt, BlockAnswer};
@@ -74,6 +75,7 @@ impl<D: Disk + Drop> Files<D> {
             IsSame }
         ensures answers { ⟦<Files<D> as Disk>⟧.is_honest self.old →
             BlockAnswer (⟦<Files<D> as Disk>⟧.state self.old) file place len result }
+        ensures len { IfOk result (λ block. length (rc_slice_items block) ≡ len) }
         ensures refusals { IfErr result (λ e. IsBuilderError e → ⊥) }
         ensures still { IsStill ⟦<Files<D> as Disk>⟧ self.old self.new }
     {

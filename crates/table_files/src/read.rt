@@ -1,5 +1,6 @@
 //! Reading a block of a file.
-ghost use Rattle.std.specs.Prelude.{IfErr};
+ghost use Rattle.std.specs.Prelude.{◌≡◌, IfErr, IfOk, length};
+ghost use Rattle.std.specs.Rc.{rc_slice_items};
 ghost use Rattle.disk.specs.{IsSame, IsStill, KeepsDisk};
 ghost use Rattle.table_format.specs.{IsBuilderError, ReportsDevice};
 ghost use Rattle.table_files.specs.BlockReads.{BlockAnswer};
@@ -19,6 +20,7 @@ pub fn read_block<D: Disk>(
 ) -> Result<RcSlice<u8>, TableError>
     ensures kept { KeepsDisk D.Disk disk.old disk.new (ReportsDevice result) ⊥ IsSame }
     ensures answers { D.is_honest disk.old → BlockAnswer (D.state disk.old) file place len result }
+    ensures len { IfOk result (λ block. length (rc_slice_items block) ≡ len) }
     ensures refusals { IfErr result (λ e. IsBuilderError e → ⊥) }
     ensures still { IsStill D.Disk disk.old disk.new }
 {

@@ -1,0 +1,70 @@
+-- What every move of a cursor over a table keeps.
+use Rattle.std.proofs.Common.{◌≡◌, ◌↔◌, ℕ, List, Option, Some, None, IfSome, refl, sym, ap, subst, ◌∙◌}
+use Rattle.std.proofs.Common.{Result, Ok, Err, OnOk, OnErr, Bool, true, false, IsTrue}
+use Rattle.disk.specs.declared.Disk.{Ghosts}
+use Rattle.merge_iter.specs.{ErrorCauses, MoveKeeps}
+use Rattle.merge_iter.specs.declared.CursorError.TheVariants as cursor
+use Rattle.merge_iter.specs.declared.CursorError.{CursorError}
+use Rattle.table_format.specs.{TableRepresents}
+use Rattle.table_format.specs.declared.IndexLine.{IndexLine}
+use Rattle.table_files.specs.{KeepsFiles}
+use Rattle.sorted_table.specs.declared.block_place.BlockPlace.{BlockPlace}
+use Rattle.sorted_table.specs.LineSizes.{blocks_size}
+use Rattle.sorted_table.specs.TableCursors.{CursorServes, FileHolds, HasLines, IsPlaceIn}
+
+pub is_off : (b : Bool) → b ≡ false → IsTrue b → ⊥
+is_off true is h = absurd cc
+is_off false is h = absurd cc
+
+-- what follows where a test fails
+pub when_false : (b : Bool) (P : Type 0) → b ≡ false → ((IsTrue b → ⊥) → P) → P
+when_false true P is f = absurd cc
+when_false false P is f = f (λ h. absurd cc)
+
+-- a place that was entered, or none after a refusal
+pub entered_or_none : {A B : Type 0} {E : Type 0} (P : B → Type 0) (o : Option B) (Q : Type 0)
+    (result : Result A E) → OnOk result (IfSome o P) → OnErr result ((o ≡ None) × Q) → IfSome o P
+entered_or_none P o Q (Ok x) entered refused = entered
+entered_or_none P o Q (Err e) entered refused = subst (λ p. IfSome p P) (sym refused.0) tt
+
+-- a refusal that only an unsound cursor meets, behind calls that succeeded
+pub damaged_never : {R : Type 0} (sound all : Type 0) (before : ℕ) (x : R) (now : ℕ)
+    → ErrorCauses {R = R} all ⊥ before now (Ok x) → (sound → ⊥)
+    → ErrorCauses {R = R} sound ⊥ before now (Err cursor.Damaged)
+damaged_never sound all before x now causes never = record {
+  disk = λ e. absurd cc;
+  others = λ e. causes.others (λ d. absurd cc);
+  damaged = λ e s. never s;
+  failed = ((λ e. cc), (λ b. absurd b));
+}
+
+module _ {C S : Type 0} (g : Ghosts S) (file : C → ℕ) (lines : C → List IndexLine)
+    (place : C → Option BlockPlace) where
+  -- the table stays, and the place is one of its blocks, if the one before was
+  pub cursor_moves : (old new : C) (a b : S) → KeepsFiles g a b → file new ≡ file old
+      → lines new ≡ lines old
+      → (g.is_honest a → (t : HasLines (g.state a (file old)) (lines old))
+      → IfSome (place old) (IsPlaceIn t.represents.blocks)
+      → IfSome (place new) (IsPlaceIn t.represents.blocks))
+      → MoveKeeps (λ c s. FileHolds (g.state s (file c)))
+      (λ c s. g.is_honest s × CursorServes (g.state s (file c)) (lines c) (place c))
+      (KeepsFiles g) (λ c. blocks_size (lines c)) old a new b
+  cursor_moves old new a b keeps same_file same_lines moves = record {
+    source = keeps;
+    stays = λ s.
+        let slot : g.state a (file old) ≡ g.state b (file new) =
+            sym (keeps.same s.0 (file old)) ∙ ap (g.state b) (sym same_file) in (
+          (
+            keeps.honest.1 s.0,
+            subst (λ z. CursorServes z (lines new) (place new)) slot
+                (subst (λ l. CursorServes (g.state a (file old)) l (place new)) (sym same_lines)
+                (record {
+                  table = s.1.table;
+                  here = moves s.0 s.1.table s.1.here;
+                })),
+          ),
+          λ entry. subst (λ z. FileHolds z entry ↔ FileHolds (g.state a (file old)) entry) slot
+              ((λ h. h), (λ h. h)),
+        );
+    size = ap blocks_size same_lines;
+  }

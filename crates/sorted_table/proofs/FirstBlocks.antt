@@ -1,0 +1,105 @@
+-- The block of a line, as a read of the file answers.
+use Rattle.std.proofs.Common.{◌≡◌, ℕ, ◌+◌, ◌≤◌, ◌<◌, List, length, take, drop, get_or, Some, Result, Ok, Err}
+use Rattle.std.proofs.Common.{MatchResult, inl, inr, ◌⊎◌, refl, sym, ap, subst, ◌∙◌, arith, IfOk}
+use Rattle.std.specs.List.{slice_get}
+use Rattle.std.specs.Rc.{rc_slice_items}
+use Rattle.std.proofs.lemmas.Option.{slice_get_read}
+use Rattle.std.specs.Global.{Global}
+use Rattle.std.specs.declared.rc.RcSlice.{RcSlice}
+use Rattle.disk.specs.{State, seen}
+use Rattle.kv_types.specs.{Entry}
+use Rattle.table_format.specs.{IsBlock, IsEnvironmentError, TableRepresents, block_entries}
+use Rattle.table_format.specs.{block_lines}
+use Rattle.table_format.specs.declared.IndexLine.{IndexLine}
+use Rattle.table_format.specs.declared.TableError.{TableError}
+use Rattle.table_format.specs.declared.TableError.TheVariants as table
+use Rattle.table_files.specs.{BlockAnswer, known_block_answered}
+use Rattle.sorted_table.specs.declared.block_place.BlockPlace.{BlockPlace}
+use Rattle.sorted_table.specs.BlockPlaces.{PlaceReads}
+use Rattle.sorted_table.specs.LineSizes.{IsBounded, block_size}
+use Rattle.sorted_table.specs.TableCursors.{HasLines, IsPlaceIn}
+use Rattle.sorted_table.proofs.BlockNumbers.{BlockNumber, block_number, length-block_lines}
+
+-- the line that was read of the lines
+pub line_at : (lines given : List IndexLine) (n : ℕ) (line : IndexLine) → given ≡ lines
+    → n < length lines → line ≡ get_or given n line → slice_get lines n ≡ Some line
+line_at lines given n line same within is =
+    subst (λ l. slice_get l n ≡ Some line) same
+    (slice_get_read given (length given) n line refl (omega (arith, within, ap length same)) is)
+
+-- the block of a line of a table
+pub block_of_line : (disk : State) (file : ℕ) (lines : List IndexLine) (n : ℕ) (line : IndexLine)
+    (t : HasLines (disk file) lines) → n < length lines → slice_get lines n ≡ Some line
+    → BlockNumber t.bytes t.represents.blocks line n
+block_of_line disk file lines n line t within at =
+    block_number t.bytes t.entries t.represents n line
+    (omega (arith, within, ap length t.indexed, length-block_lines 0 t.represents.blocks))
+    (ap (λ l. slice_get l n) (sym t.indexed) ∙ at)
+
+pub block_answer : (disk : State) (file : ℕ) (lines : List IndexLine) (n : ℕ) (line : IndexLine)
+    (t : HasLines (disk file) lines) (b : BlockNumber t.bytes t.represents.blocks line n)
+    (result : Result (RcSlice ℕ Global) TableError)
+    → BlockAnswer disk file line.place line.len result
+    → MatchResult result (λ block. IsBlock (rc_slice_items block) (block_entries b.block))
+    IsEnvironmentError
+block_answer disk file lines n line t b (Ok block) answer =
+    let is = known_block_answered disk file line.place line.len (Ok block) t.bytes
+    (block_entries b.block) answer t.present b.within b.is_block in
+    subst (λ part. IsBlock part (block_entries b.block)) (sym is) b.is_block
+block_answer disk file lines n line t b (Err e) answer =
+    known_block_answered disk file line.place line.len (Err e) t.bytes
+    (block_entries b.block) answer t.present b.within b.is_block
+
+-- the place in the block
+pub place_in : (disk : State) (file : ℕ) (lines : List IndexLine) (n : ℕ) (line : IndexLine)
+    (t : HasLines (disk file) lines) (b : BlockNumber t.bytes t.represents.blocks line n)
+    (result : Result BlockPlace TableError)
+    → IfOk result (λ place. (place.line ≡ n) × (place.at ≡ 0))
+    → MatchResult result (λ place. PlaceReads place (block_entries b.block))
+    (λ e. e ≡ table.Memory)
+    → MatchResult result (IsPlaceIn t.represents.blocks) (λ e. e ≡ table.Memory)
+place_in disk file lines n line t b (Ok place) is reads =
+    record {
+      block = b.block;
+      present = ap (slice_get t.represents.blocks) is.0 ∙ b.present;
+      reads = reads;
+    }
+place_in disk file lines n line t b (Err e) is reads = reads
+
+-- ---- refusals
+
+-- the block of a line of a table is not damaged
+pub block_is_right : (disk : State) (file : ℕ) (lines : List IndexLine) (n : ℕ) (line : IndexLine)
+    (t : HasLines (disk file) lines) → BlockNumber t.bytes t.represents.blocks line n
+    → (result : Result (RcSlice ℕ Global) TableError) → result ≡ Err table.Damaged
+    → BlockAnswer disk file line.place line.len result → ⊥
+block_is_right disk file lines n line t b result is answer =
+    let there = block_answer disk file lines n line t b (Err table.Damaged)
+    (subst (BlockAnswer disk file line.place line.len) is answer) in
+    elim there [ inl e ↦ absurd cc | inr e ↦ absurd cc ]
+
+-- nor are its entries
+pub places_are_right : {A : Type 0} (P : A → Type 0) (result : Result A TableError)
+    → result ≡ Err table.Damaged → MatchResult result P (λ e. e ≡ table.Memory) → ⊥
+places_are_right P result is answer =
+    let e : table.Damaged ≡ table.Memory =
+    subst (λ r. MatchResult r P (λ e. e ≡ table.Memory)) is answer in
+    absurd cc
+
+pub ok_part : {A E : Type 0} (P : A → Type 0) (Q : E → Type 0) (result : Result A E)
+    → MatchResult result P Q → IfOk result P
+ok_part P Q (Ok x) m = m
+ok_part P Q (Err e) m = tt
+
+-- ---- what holds of any block
+
+pub first_place : (lines : List IndexLine) (n : ℕ) (line : IndexLine) (size : ℕ)
+    → slice_get lines n ≡ Some line → size ≡ line.len → (result : Result BlockPlace TableError)
+    → IfOk result (λ place. (place.line ≡ n) × (place.at ≡ 0))
+    → IfOk result (λ place. length place.starts.items ≤ size)
+    → IfOk result (λ place. (place.line ≡ n) × (place.at ≡ 0) × IsBounded lines place)
+first_place lines n line size at len (Ok place) first few =
+    let same : block_size (slice_get lines place.line) ≡ line.len =
+    ap (λ k. block_size (slice_get lines k)) first.0 ∙ ap block_size at in
+    (first.0, first.1, omega (arith, same, len, few))
+first_place lines n line size at len (Err e) first few = tt

@@ -1,0 +1,197 @@
+-- Entries of a block, read one behind the other, and again from their places.
+use Rattle.std.proofs.Common.{◌≡◌, ℕ, ◌+◌, ◌-◌, ◌≤◌, ◌<◌, ◌^◌, List, [], ◌∷◌, ◌++◌, length, map, take, drop}
+use Rattle.std.proofs.Common.{Option, Some, None, IsSome, All, refl, sym, ap, subst, ◌∙◌, arith}
+use Rattle.std.proofs.Common.{append_assoc, length-append, take-append-drop}
+use Rattle.std.specs.List.{flat_map, AllByRecursion}
+use Rattle.std.specs.Option.{option_map}
+use Rattle.std.specs.Int.{w32}
+use Rattle.std.proofs.lemmas.List.{drop_at, drop_all, length-map, map-append, length-take}
+use Rattle.std.proofs.lemmas.List.{take_all}
+use Rattle.std.proofs.lemmas.Grind.{flat_map-append}
+use Rattle.std.proofs.lemmas.List.Concat.{flat_map-cons}
+use Rattle.std.proofs.lemmas.List.Elements.{All-from_recursion, recursion_from_All}
+use Rattle.kv_types.specs.{Entry, text_at}
+use Rattle.kv_types.specs.FieldsLemmas.{IsBytes, some_is}
+use Rattle.byte_fields.specs.Readers.{number_at}
+use Rattle.table_format.specs.Blocks.{IsBlock, IsTableEntry, be32, block_content, block_part}
+use Rattle.table_format.specs.Blocks.{digest, entries_bytes, entry_bytes}
+use Rattle.table_format.specs.Reading.{key_at, table_entry_at}
+use Rattle.table_format.specs.EntriesLemmas.{entry_reads}
+use Rattle.table_format.specs.FrontsLemmas.{few_entries, entry_long, same_entries, split_each}
+use Rattle.table_format.specs.PartsLemmas.{length_reads}
+use Rattle.table_format.specs.PassedLemmas.{Passed, passed_next}
+use Rattle.sorted_table.specs.EntryReads.{AreRead, ReadsEntries, entry_read}
+
+-- ---- one entry
+
+nothing_read : table_entry_at [] ≡ None
+unfolding table_entry_at key_at text_at
+nothing_read = refl
+
+-- behind the end nothing is read
+pub none_behind : (bytes : List ℕ) (start : ℕ) → length bytes < start
+    → entry_read bytes start ≡ None
+none_behind bytes start past =
+    ap (λ (rest : List ℕ). option_map (λ x. x.0) (table_entry_at rest))
+    (drop_all start bytes (omega arith))
+    ∙ ap (option_map (λ x. x.0)) nothing_read
+
+-- ---- entries behind a head
+
+-- the entries that were read so far, of a block with this head
+pub record StartsWalked (block first rest starts : List ℕ) : Type 0 where
+  pub entries : List Entry
+  pub passed : Passed IsTableEntry entry_bytes first rest entries
+  pub again : ReadsEntries block starts entries
+  pub head : List ℕ
+  pub split : block ≡ head ++ first
+
+pub walk_begins : (block first : List ℕ) (count : ℕ) → IsBytes block
+    → number_at w32 block ≡ Some (count, first) → StartsWalked block first first []
+walk_begins block first count fits e =
+    let t = length_reads.takes block (count, first) fits e in
+    record {
+      entries = [];
+      passed = record { spelled = refl; each = tt; fits = t.0.rest_fits };
+      again = refl;
+      head = be32 count;
+      split = t.0.parts;
+    }
+
+-- as many entries as places
+pub count_read : (block starts : List ℕ) (entries : List Entry) → ReadsEntries block starts entries
+    → length starts ≡ length entries
+count_read block starts entries is =
+    sym (length-map starts (entry_read block)) ∙ ap length is ∙ length-map entries Some
+
+pub rest_within : (block first rest starts : List ℕ) → StartsWalked block first rest starts
+    → length starts + length rest ≤ length block
+rest_within block first rest starts w =
+    omega (
+      arith,
+      ap length w.split,
+      length-append w.head first,
+      ap length w.passed.spelled,
+      length-append (entries_bytes w.entries) rest,
+      few_entries w.entries,
+      count_read block starts w.entries w.again,
+    )
+
+-- the rest starts where it is read again
+place_of_rest : (block first rest starts : List ℕ) (w : StartsWalked block first rest starts)
+    → drop (length block - length rest) block ≡ rest
+place_of_rest block first rest starts w =
+    let front = w.head ++ entries_bytes w.entries in
+    let parts : block ≡ front ++ rest =
+    w.split ∙ ap (λ (t : List ℕ). w.head ++ t) w.passed.spelled
+    ∙ sym (append_assoc w.head (entries_bytes w.entries) rest) in
+    let len : length front ≡ length block - length rest =
+    omega (arith, ap length parts, length-append front rest) in
+    ap (drop (length block - length rest)) parts ∙ drop_at front rest _ len
+
+pub walk_goes_on : (block first rest starts : List ℕ) (entry : Entry) (behind : List ℕ)
+    → StartsWalked block first rest starts → table_entry_at rest ≡ Some (entry, behind)
+    → StartsWalked block first behind (starts ++ (length block - length rest) ∷ [])
+walk_goes_on block first rest starts entry behind w e =
+    let place = length block - length rest in
+    let here : entry_read block place ≡ Some entry =
+    ap (λ (t : List ℕ). option_map (λ x. x.0) (table_entry_at t))
+    (place_of_rest block first rest starts w) ∙ ap (option_map (λ x. x.0)) e in
+    record {
+      entries = w.entries ++ entry ∷ [];
+      passed = passed_next entry_reads first rest w.entries entry behind w.passed e;
+      again = map-append (entry_read block) starts (place ∷ [])
+          ∙ ap (λ (l : List (Option Entry)). l ++ entry_read block place ∷ []) w.again
+          ∙ ap (λ (o : Option Entry). map Some w.entries ++ o ∷ []) here
+          ∙ sym (map-append Some w.entries (entry ∷ []));
+      head = w.head;
+      split = w.split;
+    }
+
+-- ---- of a block
+
+-- what stands behind the count of a block
+pub record BlockBegins (block first : List ℕ) (count : ℕ) (entries : List Entry) : Type 0 where
+  pub number : count ≡ length entries
+  pub text : first ≡ entries_bytes entries ++ digest (block_content entries)
+
+pub block_begins : (block first : List ℕ) (count : ℕ) (entries : List Entry)
+    → number_at w32 block ≡ Some (count, first) → IsBlock block entries
+    → BlockBegins block first count entries
+block_begins block first count entries e b =
+    let text = entries_bytes entries in
+    let d = digest (block_content entries) in
+    let parts : block ≡ be32 (length entries) ++ (text ++ d) =
+    b.spelled ∙ append_assoc (be32 (length entries)) text d in
+    let two : (count, first) ≡ (length entries, text ++ d) =
+    some_is (count, first) (length entries, text ++ d)
+    (sym e ∙ ap (number_at w32) parts ∙ length_reads.again (length entries) (text ++ d) b.few) in
+    record {
+      number = ap (λ (p : ℕ × List ℕ). p.0) two;
+      text = ap (λ (p : ℕ × List ℕ). p.1) two;
+    }
+
+more_left : (back : List Entry) (rest d : List ℕ) → AllByRecursion IsTableEntry back
+    → 0 < length back → rest ≡ entries_bytes back ++ d → table_entry_at rest ≡ None → ⊥
+more_left [] rest d each some is none = omega arith
+more_left (x ∷ xs) rest d each some is none =
+    let read : table_entry_at rest ≡ Some (x, entries_bytes xs ++ d) =
+    ap table_entry_at (is ∙ ap (λ (t : List ℕ). t ++ d) (flat_map-cons entry_bytes x xs)
+    ∙ append_assoc (entry_bytes x) (entries_bytes xs) d)
+    ∙ entry_reads.again x (entries_bytes xs ++ d) each.0 in
+    absurd cc
+
+-- where fewer entries were read than the block has, one more is read
+pub no_entry : (block first rest starts : List ℕ) (count : ℕ) (entries : List Entry)
+    → StartsWalked block first rest starts → BlockBegins block first count entries
+    → All IsTableEntry entries → length starts < count → table_entry_at rest ≡ None → ⊥
+no_entry block first rest starts count entries w b each fewer none =
+    let i = length w.entries in
+    let size : length starts ≡ i = count_read block starts w.entries w.again in
+    let number = b.number in
+    let below : i < length entries = omega arith in
+    let front = take i entries in
+    let back = drop i entries in
+    let d = digest (block_content entries) in
+    let whole : entries ≡ front ++ back = sym (take-append-drop i entries) in
+    let both = split_each IsTableEntry front back
+    (subst (AllByRecursion IsTableEntry) whole (recursion_from_All IsTableEntry entries each)) in
+    let len : length w.entries ≡ length front = omega (arith, length-take i entries) in
+    let same : entries_bytes w.entries ++ rest
+        ≡ entries_bytes front ++ (entries_bytes back ++ d) =
+    sym w.passed.spelled ∙ b.text
+    ∙ ap (λ (l : List Entry). entries_bytes l ++ d) whole
+    ∙ ap (λ (t : List ℕ). t ++ d) (flat_map-append entry_bytes front back)
+    ∙ append_assoc (entries_bytes front) (entries_bytes back) d in
+    let left = (same_entries w.entries front rest (entries_bytes back ++ d) w.passed.each both.0 len
+    same).1 in
+    more_left back rest d both.1 (omega (arith, below, ap length whole, length-append front back,
+    length-take i entries)) left none
+
+-- where as many entries were read as the block has, they are its entries
+pub all_read : (block first rest starts : List ℕ) (count : ℕ) (entries : List Entry)
+    → StartsWalked block first rest starts → BlockBegins block first count entries
+    → All IsTableEntry entries → length starts ≡ count → ReadsEntries block starts entries
+all_read block first rest starts count entries w b each is =
+    let size : length starts ≡ length w.entries = count_read block starts w.entries w.again in
+    let number = b.number in
+    let same = (same_entries w.entries entries rest (digest (block_content entries)) w.passed.each
+    (recursion_from_All IsTableEntry entries each) (omega arith) (sym w.passed.spelled ∙ b.text)).0 in
+    w.again ∙ ap (map Some) same
+
+-- ---- all of them
+
+each_read : (block starts : List ℕ) (entries : List Entry) → ReadsEntries block starts entries
+    → AllByRecursion (λ start. IsSome (entry_read block start)) starts
+each_read block [] entries is = tt
+each_read block (s ∷ starts) [] is = absurd cc
+each_read block (s ∷ starts) (x ∷ entries) is =
+    let here : entry_read block s ≡ Some x = cc in
+    let others : map (entry_read block) starts ≡ map Some entries = cc in
+    (subst IsSome (sym here) refl, each_read block starts entries others)
+
+pub are_read : (block starts : List ℕ) (entries : List Entry) → ReadsEntries block starts entries
+    → AreRead block starts
+are_read block starts entries is =
+    All-from_recursion (λ start. IsSome (entry_read block start)) starts
+    (each_read block starts entries is)

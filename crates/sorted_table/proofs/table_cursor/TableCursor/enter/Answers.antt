@@ -1,0 +1,11 @@
+use Rattle.table_files.specs.{keeps_files_itself}
+use Rattle.sorted_table.proofs.TablePlaces.{moved_in}
+use Rattle.sorted_table.proofs.table_cursor.TableCursor.enter.Goals as goal
+
+pub returns-then-line-len-clause-keeps : goal.returns-then-line-len-clause-keeps
+returns-then-line-len-clause-keeps g c = keeps_files_itself _ c.args.files.now
+
+pub returns-in-Ok-clause-reads : goal.returns-in-Ok-clause-reads
+returns-in-Ok-clause-reads g c = λ honest t.
+    moved_in t.represents.blocks c.in-Ok.place c.at_end.result c.at_end.result.at
+    c.at_end.ensures.same (c.in-Ok.ensures.reads honest t)

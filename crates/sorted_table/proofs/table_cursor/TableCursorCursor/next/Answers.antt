@@ -1,0 +1,71 @@
+use Rattle.std.proofs.Common.{◌≡◌, ◌+◌, ◌∙◌, ◌<◌, refl, ap, sym, subst, arith, IfSome, Some, length}
+use Rattle.std.specs.Rc.{rc_slice_items}
+use Rattle.table_files.specs.{keeps_files_itself}
+use Rattle.sorted_table.specs.TableCursors.{IsPlaceIn}
+use Rattle.sorted_table.proofs.CursorMoves.{cursor_moves, entered_or_none, when_false}
+use Rattle.sorted_table.proofs.CursorSteps.{ends_ahead, within_lines}
+use Rattle.sorted_table.proofs.TableFinds.{finds_next_block, finds_next_in, here_of}
+use Rattle.sorted_table.proofs.TablePlaces.{moved_in}
+use Rattle.sorted_table.proofs.table_cursor.TableCursorCursor.next.Goals as goal
+
+pub returns-in_default-clause-moves : goal.returns-in_default-clause-moves
+returns-in_default-clause-moves g c =
+    cursor_moves _ (λ d. d.file) (λ d. rc_slice_items d.lines) (λ d. d.place) _ _
+    c.args.files.now c.args.files.now (keeps_files_itself _ c.args.files.now) refl refl
+    (λ honest t here.
+    subst (λ o. IfSome o (IsPlaceIn t.represents.blocks)) (sym c.take.ensures.after) tt)
+
+pub returns-then-advance-clause-moves : goal.returns-then-advance-clause-moves
+returns-then-advance-clause-moves g c =
+    cursor_moves _ (λ d. d.file) (λ d. rc_slice_items d.lines) (λ d. d.place) _ _
+    c.args.files.now c.args.files.now (keeps_files_itself _ c.args.files.now) refl refl
+    (λ honest t here.
+    let p = c.in-Some.place in
+    moved_in t.represents.blocks p c.advance.new.self (p.at + 1) (c.if-advance.ensures.moved refl)
+    (here_of (IsPlaceIn t.represents.blocks) c.args.self.now.place p
+    (sym c.take.ensures.value ∙ c.in-Some.is) here))
+
+pub returns-then-advance-clause-finds : goal.returns-then-advance-clause-finds
+returns-then-advance-clause-finds g c = λ s.
+    finds_next_in _ _ s.1.table c.args.self.now.has_failed c.args.self.now.place c.in-Some.place
+    c.advance.new.self (sym c.take.ensures.value ∙ c.in-Some.is) s.1.here
+    (c.if-advance.ensures.moved refl)
+
+pub overflow_add-line : goal.overflow_add-line
+overflow_add-line g c =
+    let p = c.in-Some.place in
+    let old = c.args.self.now in
+    let last = when_false c.advance.result _ c.if-advance.false c.advance.ensures.last in
+    let within : p.line < length (rc_slice_items old.lines) =
+    within_lines (rc_slice_items old.lines) p
+    (old.bounded p (sym c.take.ensures.value ∙ c.in-Some.is)) in
+    let small = old.lines.items.value.small in
+    let full = old.lines.items.value.ok in
+    omega (arith, within, small, full, c.line-line.ensures, last.0.line)
+
+pub returns-clause-moves : goal.returns-clause-moves
+returns-clause-moves g c =
+    cursor_moves _ (λ d. d.file) (λ d. rc_slice_items d.lines) (λ d. d.place) _ _
+    c.args.files.now c.enter.new.files c.enter.ensures.keeps c.enter.ensures.table.0
+    (ap rc_slice_items c.enter.ensures.table.1) (λ honest t here.
+    entered_or_none _ _ _ c.enter.result (c.enter.ensures.reads honest t) c.enter.ensures.refused)
+
+pub returns-clause-ends : goal.returns-clause-ends
+returns-clause-ends g c =
+    let last = when_false c.advance.result _ c.if-advance.false c.advance.ensures.last in
+    let old = c.args.self.now in
+    let new = c.enter.new.self in
+    ends_ahead c.enter.result (rc_slice_items old.lines) (rc_slice_items new.lines) old.place
+    c.in-Some.place (c.line-line.result + 1) new.has_failed new.place
+    (ap rc_slice_items c.enter.ensures.table.1) (sym c.take.ensures.value ∙ c.in-Some.is)
+    (ap (λ n. n + 1) (c.line-line.ensures ∙ last.0.line)) new.bounded c.enter.ensures.entered
+
+pub returns-clause-finds : goal.returns-clause-finds
+returns-clause-finds g c = λ s.
+    let last = when_false c.advance.result _ c.if-advance.false c.advance.ensures.last in
+    let old = c.args.self.now in
+    let new = c.enter.new.self in
+    finds_next_block _ _ s.1.table c.enter.result old.has_failed old.place c.in-Some.place
+    (c.line-line.result + 1) new.has_failed new.place (sym c.take.ensures.value ∙ c.in-Some.is)
+    s.1.here last.1 (ap (λ n. n + 1) (c.line-line.ensures ∙ last.0.line)) c.enter.ensures.entered
+    (c.enter.ensures.reads s.0 s.1.table)

@@ -1,0 +1,271 @@
+//! A cursor over a table.
+ghost use Rattle.std.specs.Prelude.{◌≡◌, ◌≢◌, ◌<◌, ◌≤◌, List, None, Some, IfErr, IfOk, IfSome, Err};
+ghost use Rattle.std.specs.Prelude.{IsTrue, OnErr, OnOk, true, false, length};
+ghost use Rattle.std.specs.Option.{ForSome};
+ghost use Rattle.std.specs.Rc.{rc_slice_items};
+ghost use Rattle.disk.specs.{IsSame, IsStill, KeepsDisk};
+ghost use Rattle.merge_iter.specs.{ErrorCauses};
+ghost use Rattle.table_format.specs.{IsBlock, IsBuilderError, ReportsDevice};
+ghost use Rattle.table_files.specs.{BlockAnswer};
+ghost use Rattle.table_files.specs.{KeepsFiles};
+ghost use Rattle.sorted_table.specs.BlockPlaces.{PlaceReads};
+ghost use Rattle.sorted_table.specs.LineSizes.{IsBounded};
+ghost use Rattle.sorted_table.specs.TableCursors.{HasEntered, HasLines, HasReached, IsPlaceIn, move_error};
+
+use crate::block_place::BlockPlace;
+use crate::lines::line_place;
+use disk::Disk;
+use merge_iter::{Cursor, CursorError, Direction};
+use std::alloc::Global;
+use std::marker::PhantomData;
+use std::rc::RcSlice;
+use table_files::Files;
+use table_format::{IndexLine, TableError};
+
+// How a cursor reports an error of a table.
+fn cursor_error(e: TableError) -> CursorError
+    ensures { result ≡ move_error e }
+{
+    match e {
+        TableError::Disk => CursorError::Disk,
+        TableError::Memory => CursorError::Memory,
+        TableError::Damaged
+        | TableError::Order
+        | TableError::TooLarge
+        | TableError::Failed => CursorError::Damaged,
+    }
+}
+
+// The memory that a place keeps the starts of entries in.
+fn starts_of(alloc: Global, place: Option<BlockPlace>) -> Vec<usize> {
+    match place {
+        Some(place) => place.into_starts(),
+        None => Vec::new(alloc),
+    }
+}
+
+// The first entry of the block of a line. The memory of `starts` is used again.
+fn first_of<D: Disk + Drop>(
+    alloc: Global,
+    files: &mut Files<D>,
+    file: u64,
+    lines: &RcSlice<IndexLine>,
+    line: usize,
+    starts: Vec<usize>,
+) -> Result<BlockPlace, TableError>
+    requires { line < length (rc_slice_items lines.now) }
+    ensures kept { KeepsDisk ⟦<Files<D> as Disk>⟧ files.old files.new (ReportsDevice result) ⊥
+        IsSame }
+    ensures first { IfOk result (λ place. (place.line ≡ line) × (place.at ≡ 0)
+        × IsBounded (rc_slice_items lines.now) place) }
+    ensures reads { ⟦<Files<D> as Disk>⟧.is_honest files.old →
+        (table : HasLines (⟦<Files<D> as Disk>⟧.state files.old file) (rc_slice_items lines.now)) →
+        IfOk result (IsPlaceIn table.represents.blocks) }
+    ensures damaged { result ≡ Err TableError.Damaged → ⟦<Files<D> as Disk>⟧.is_honest files.old →
+        HasLines (⟦<Files<D> as Disk>⟧.state files.old file) (rc_slice_items lines.now) → ⊥ }
+    ensures refusals { IfErr result (λ e. IsBuilderError e → ⊥) }
+    ensures still { IsStill ⟦<Files<D> as Disk>⟧ files.old files.new }
+{
+    let number = line;
+    let line = &lines[number];
+    let block = files.block(alloc, file, line.place, line.len as usize)?;
+    BlockPlace::new(number, block, starts)
+}
+
+/// A cursor over the entries of a table. It shares the lines of the index with its table, and
+/// keeps one block.
+#[derive(Drop)]
+pub struct TableCursor<D> {
+    alloc: Global,
+    file: u64,
+    lines: RcSlice<IndexLine>,
+    place: Option<BlockPlace>,
+    has_failed: bool,
+    of: PhantomData<D>,
+    ghost bounded: { ForSome place (IsBounded (rc_slice_items lines)) },
+}
+
+impl<D: Disk + Drop> TableCursor<D> {
+    // Whether the cursor stands in the block of this line.
+    fn has_block(&self, line: usize) -> bool
+        ensures { IsTrue result → IfSome self.now.place (λ place. place.line ≡ line)
+            × (self.now.place ≢ None) }
+    {
+        match &self.place {
+            Some(place) => place.line() == line,
+            None => false,
+        }
+    }
+
+    // Enters the block of a line, if there is such a line, by its first entry in this direction.
+    fn enter(
+        &mut self,
+        files: &mut Files<D>,
+        line: usize,
+        way: Direction,
+        starts: Vec<usize>,
+    ) -> Result<(), CursorError>
+        ensures table { (self.new.file ≡ self.old.file) × (self.new.lines ≡ self.old.lines) }
+        ensures keeps { KeepsFiles ⟦<Files<D> as Disk>⟧ files.old files.new }
+        ensures causes { ErrorCauses (⟦<Files<D> as Disk>⟧.is_honest files.old × HasLines
+            (⟦<Files<D> as Disk>⟧.state files.old self.old.file) (rc_slice_items self.old.lines)) ⊥
+            (⟦<Files<D> as Disk>⟧.failures files.old) (⟦<Files<D> as Disk>⟧.failures files.new)
+            result }
+        ensures refused { OnErr result ((self.new.place ≡ None) × (self.new.has_failed ≡ true)) }
+        ensures entered { OnOk result ((self.new.has_failed ≡ false)
+            × HasEntered (rc_slice_items self.old.lines) line way self.new.place) }
+        ensures reads { ⟦<Files<D> as Disk>⟧.is_honest files.old →
+            (table : HasLines (⟦<Files<D> as Disk>⟧.state files.old self.old.file)
+            (rc_slice_items self.old.lines)) →
+            OnOk result (IfSome self.new.place (IsPlaceIn table.represents.blocks)) }
+    {
+        self.place = None;
+        self.has_failed = true;
+        if line >= self.lines.len() {
+            self.has_failed = false;
+            return Ok(());
+        }
+        match first_of(self.alloc, files, self.file, &self.lines, line, starts) {
+            Ok(place) => {
+                self.place = Some(place.at_end(way));
+                self.has_failed = false;
+                Ok(())
+            }
+            Err(e) => Err(cursor_error(e)),
+        }
+    }
+
+    // Enters the block of a line, if there is such a line, unless the cursor stands in it.
+    fn reach(&mut self, files: &mut Files<D>, line: usize) -> Result<(), CursorError>
+        ensures table { (self.new.file ≡ self.old.file) × (self.new.lines ≡ self.old.lines) }
+        ensures keeps { KeepsFiles ⟦<Files<D> as Disk>⟧ files.old files.new }
+        ensures causes { ErrorCauses (⟦<Files<D> as Disk>⟧.is_honest files.old × HasLines
+            (⟦<Files<D> as Disk>⟧.state files.old self.old.file) (rc_slice_items self.old.lines)) ⊥
+            (⟦<Files<D> as Disk>⟧.failures files.old) (⟦<Files<D> as Disk>⟧.failures files.new)
+            result }
+        ensures refused { OnErr result ((self.new.place ≡ None) × (self.new.has_failed ≡ true)) }
+        ensures reached { OnOk result (HasReached (rc_slice_items self.old.lines) line
+            self.new.has_failed self.new.place) }
+        ensures reads { ⟦<Files<D> as Disk>⟧.is_honest files.old →
+            (table : HasLines (⟦<Files<D> as Disk>⟧.state files.old self.old.file)
+            (rc_slice_items self.old.lines)) →
+            IfSome self.old.place (IsPlaceIn table.represents.blocks) →
+            OnOk result (IfSome self.new.place (IsPlaceIn table.represents.blocks)) }
+    {
+        if self.has_block(line) {
+            return Ok(());
+        }
+        let starts = starts_of(self.alloc, self.place.take());
+        self.enter(files, line, Direction::Forward, starts)
+    }
+}
+
+impl<D: Disk + Drop> Cursor for TableCursor<D> {
+    ghost use Rattle.sorted_table.specs.LineSizes.{blocks_size, steps_left};
+    ghost use Rattle.sorted_table.specs.TableCursors.{CursorServes, FileHolds, table_position};
+    ghost use Rattle.sorted_table.specs.TableCursorLaws.{table_laws};
+
+    type Source = Files<D>;
+
+    ghost position = { λ c. table_position c.has_failed c.place };
+
+    ghost holds = { λ c files. FileHolds (⟦<Files<D> as Disk>⟧.state files c.file) };
+
+    ghost is_sound = { λ c files. ⟦<Files<D> as Disk>⟧.is_honest files
+        × CursorServes (⟦<Files<D> as Disk>⟧.state files c.file) (rc_slice_items c.lines)
+        c.place };
+
+    ghost keeps = { KeepsFiles ⟦<Files<D> as Disk>⟧ };
+
+    ghost failures = { ⟦<Files<D> as Disk>⟧.failures };
+
+    ghost left = { λ c. steps_left (rc_slice_items c.lines) c.place };
+
+    ghost most = { λ c. blocks_size (rc_slice_items c.lines) };
+
+    fn valid(&self) -> bool {
+        self.place.is_some()
+    }
+
+    fn key(&self) -> &[u8] {
+        match &self.place {
+            Some(place) => place.entry().key,
+            None => unreachable!(),
+        }
+    }
+
+    fn number(&self) -> u64 {
+        match &self.place {
+            Some(place) => place.entry().number,
+            None => unreachable!(),
+        }
+    }
+
+    fn value(&self) -> Option<&[u8]> {
+        match &self.place {
+            Some(place) => place.entry().value,
+            None => unreachable!(),
+        }
+    }
+
+    fn next(&mut self, files: &mut Files<D>) -> Result<(), CursorError> {
+        let Some(mut place) = self.place.take() else {
+            return Err(CursorError::Failed);
+        };
+        if place.advance() {
+            self.place = Some(place);
+            return Ok(());
+        }
+        let line = place.line() + 1;
+        self.enter(files, line, Direction::Forward, place.into_starts())
+    }
+
+    fn prev(&mut self, files: &mut Files<D>) -> Result<(), CursorError> {
+        let Some(mut place) = self.place.take() else {
+            return Err(CursorError::Failed);
+        };
+        if place.retreat() {
+            self.place = Some(place);
+            return Ok(());
+        }
+        let line = place.line();
+        if line == 0 {
+            self.has_failed = false;
+            return Ok(());
+        }
+        self.enter(files, line - 1, Direction::Backward, place.into_starts())
+    }
+
+    fn seek(
+        &mut self,
+        files: &mut Files<D>,
+        key: &[u8],
+        number: u64,
+    ) -> Result<(), CursorError> {
+        let line = line_place(&self.lines, key, number);
+        self.reach(files, line)?;
+        let Some(mut place) = self.place.take() else {
+            return Ok(());
+        };
+        if !place.seek(key, number) {
+            self.has_failed = true;
+            return Err(CursorError::Damaged);
+        }
+        self.place = Some(place);
+        Ok(())
+    }
+
+    fn first(&mut self, files: &mut Files<D>) -> Result<(), CursorError> {
+        let starts = starts_of(self.alloc, self.place.take());
+        self.enter(files, 0, Direction::Forward, starts)
+    }
+
+    fn last(&mut self, files: &mut Files<D>) -> Result<(), CursorError> {
+        let starts = starts_of(self.alloc, self.place.take());
+        let line = self.lines.len().saturating_sub(1);
+        self.enter(files, line, Direction::Backward, starts)
+    }
+
+    ghost laws = { table_laws ⟦<Files<D> as Disk>⟧ (λ c. c.file) (λ c. rc_slice_items c.lines)
+        (λ c. c.place) (λ c. c.bounded) };
+}
