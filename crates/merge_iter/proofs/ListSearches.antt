@@ -15,7 +15,7 @@ use Rattle.merge_iter.specs.ListEntries.{entry_of, position_of, position_at, Lis
 use Rattle.merge_iter.specs.ListEntries.{IsSortedList}
 use Rattle.merge_iter.specs.EntryOrder.{chain}
 use Rattle.merge_iter.specs.OrderLemmas.{less_iff}
-use Rattle.merge_iter.proofs.Lists.{apart, on_within, read_at, seek_of}
+use Rattle.merge_iter.specs.ListPlacesLemmas.{apart, on_within, read_at, seek_of}
 
 -- whether the entry comes before the place
 abbrev pub is_early : Entry → OwnedEntry → Bool

@@ -14,6 +14,7 @@ pub mod Searches
 pub mod AtNumbers
 pub mod Views
 pub mod OrderLemmas
+pub mod ListPlacesLemmas
 -- What crates above name.
 pub use Rattle.merge_iter.specs.EntryOrder.{chain, entry_total, never}
 pub use Rattle.merge_iter.specs.EntryParts.{equal_parts, numbers_fall}

@@ -17,3 +17,4 @@ pub mod CursorMoves
 pub mod CursorSteps
 pub mod TableFinds
 pub mod TableSeeks
+pub mod TableShares

@@ -9,7 +9,7 @@ use Rattle.merge_iter.specs.declared.Direction.{Direction}
 use Rattle.merge_iter.specs.declared.Direction.TheVariants.{Forward, Backward}
 use Rattle.merge_iter.specs.{EntryPrecedes, IsAlike, IsFirst, Off, On, Broken, Position, never}
 use Rattle.merge_iter.specs.EntryOrder.{not_both}
-use Rattle.merge_iter.proofs.Lists.{Earlier, off_empty, on_first, turned}
+use Rattle.merge_iter.specs.ListPlacesLemmas.{Earlier, off_empty, on_first, turned}
 use Rattle.table_format.specs.{AreRising}
 use Rattle.sorted_table.specs.EntryReads.{SplitsEntries}
 use Rattle.sorted_table.specs.RisingEntries.{at_contained, contained_at, in_order}

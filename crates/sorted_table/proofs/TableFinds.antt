@@ -15,7 +15,7 @@ use Rattle.table_format.specs.declared.IndexLine.{IndexLine}
 use Rattle.sorted_table.specs.declared.block_place.BlockPlace.{BlockPlace}
 use Rattle.sorted_table.specs.Open.{FileRepresents}
 use Rattle.sorted_table.specs.BlockPlaces.{IsMovedTo, place_entry}
-use Rattle.sorted_table.specs.TableCursorLaws.{same_entries}
+use Rattle.sorted_table.specs.TableCursorLaws.{one_list}
 use Rattle.sorted_table.specs.TableCursors.{FileHolds, HasEntered, HasLines, IsPlaceIn}
 use Rattle.sorted_table.specs.TableCursors.{entry_position, table_position}
 use Rattle.sorted_table.proofs.BlockNumbers.{length-block_lines, some_of}
@@ -58,7 +58,7 @@ module _ (file : Slot) (lines : List IndexLine) (t : HasLines file lines) where
   pub holds_all : (e : Entry) → Contains all e ↔ FileHolds file e
   holds_all e = (
     λ has. (all, has_all, has),
-    λ h. subst (λ l. Contains l e) (same_entries file h.0 all h.1 has_all) h.2,
+    λ h. subst (λ l. Contains l e) (one_list file h.0 all h.1 has_all) h.2,
   )
 
   pub all_lines : length lines ≡ length blocks

@@ -52,16 +52,16 @@ size_parts (l ∷ lines) (suc i) =
     omega (arith, below, sum_by-cons len_of l (take i lines), sum_by-cons len_of l lines)
 
 -- no more steps are left than all blocks have bytes
-pub left_within : (lines : List IndexLine) (place : BlockPlace) (way : Direction)
+pub place_left_within : (lines : List IndexLine) (place : BlockPlace) (way : Direction)
     → IsBounded lines place → place_left lines place way ≤ blocks_size lines
-left_within lines place Forward bounded =
+place_left_within lines place Forward bounded =
     omega (
       arith,
       bounded,
       size_from lines place.line (place.line + 1) refl,
       size_parts lines place.line,
     )
-left_within lines place Backward bounded =
+place_left_within lines place Backward bounded =
     let within = place.within in
     omega (
       arith,
@@ -74,4 +74,4 @@ left_within lines place Backward bounded =
 pub steps_within : (lines : List IndexLine) (place : Option BlockPlace) (way : Direction)
     → ForSome place (IsBounded lines) → steps_left lines place way ≤ blocks_size lines
 steps_within lines None way bounded = omega arith
-steps_within lines (Some place) way bounded = left_within lines place way (bounded place refl)
+steps_within lines (Some place) way bounded = place_left_within lines place way (bounded place refl)

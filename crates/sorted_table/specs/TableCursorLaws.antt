@@ -28,9 +28,9 @@ same_of None entries others a b = absurd a
 same_of (Some bytes) entries others a b = table_is_unique bytes entries others a b
 
 -- a file represents at most one list of entries
-pub same_entries : (file : Slot) (entries others : List Entry) → FileRepresents file entries
+pub one_list : (file : Slot) (entries others : List Entry) → FileRepresents file entries
     → FileRepresents file others → entries ≡ others
-same_entries file entries others a b = same_of (seen file) entries others a b
+one_list file entries others a b = same_of (seen file) entries others a b
 
 rising_of : (file : Option (List ℕ)) (entries : List Entry)
     → IsSomeAnd file (λ bytes. TableRepresents bytes entries) → AreRising entries
@@ -39,7 +39,7 @@ rising_of (Some bytes) entries a = a.rising
 
 pub files_apart : (file : Slot) → IsApart (FileHolds file)
 files_apart file a b p q e =
-    let same = same_entries file q.0 p.0 q.1 p.1 in
+    let same = one_list file q.0 p.0 q.1 p.1 in
     rising_apart p.0 (rising_of (seen file) p.0 p.1) a b p.2
     (subst (λ l. Contains l b) same q.2) e
 

@@ -1,17 +1,20 @@
 //! Open tables.
-ghost use Rattle.std.specs.Prelude.{◌≡◌, ◌↔◌, List, IfOk, IfErr, IsTrue, MatchResult};
+ghost use Rattle.std.specs.Prelude.{◌≡◌, ◌↔◌, List, IfOk, IfErr, IsTrue, MatchResult, Contains};
 ghost use Rattle.bloom.specs.{Covers, CoversHashed, hashes_of};
 ghost use Rattle.disk.specs.{IsSame, IsStill, KeepsDisk};
 ghost use Rattle.kv_types.specs.{Entry};
+ghost use Rattle.merge_iter.specs.{IsAlike, Off};
 ghost use Rattle.table_format.specs.{IsBuilderError, IsEnvironmentError, ReportsDevice};
 
 use crate::block::find_in;
 use crate::found::FoundVersion;
 use crate::lines::line_for;
+use crate::table_cursor::TableCursor;
 use crate::tail::{parts_of, read_tail};
 use bloom::laws::filters_cover;
 use bloom::{KeyHashes, may_hold_hashed};
 use disk::Disk;
+use merge_iter::Cursor;
 use std::alloc::Global;
 use std::rc::RcSlice;
 use table_files::Files;
@@ -107,5 +110,20 @@ impl Table {
         };
         let block = files.block(alloc, self.file, line.place, line.len as usize)?;
         find_in(alloc, &block, key, at)
+    }
+
+    /// A cursor over all entries of the table, which stands on none. It shares the lines of the
+    /// index, and so it may outlive the table.
+    pub fn cursor<D: Disk + Drop>(&self, alloc: Global) -> Result<TableCursor<D>, TableError>
+        ensures off { IfOk result (λ cursor.
+            ⟦<TableCursor<D> as Cursor>⟧.position cursor ≡ Off) }
+        ensures serves { IfOk result (λ cursor. (files : _) (entries : List Entry) →
+            ⟦<Files<D> as Disk>⟧.is_honest files →
+            TableServes (⟦<Files<D> as Disk>⟧.state files (table_file self.now)) self.now entries →
+            ⟦<TableCursor<D> as Cursor>⟧.is_sound cursor files
+            × IsAlike (⟦<TableCursor<D> as Cursor>⟧.holds cursor files) (Contains entries)) }
+        ensures memory { IfErr result (λ e. e ≡ TableError.Memory) }
+    {
+        Ok(TableCursor::new(alloc, self.file, self.lines.clone()?))
     }
 }

@@ -86,6 +86,21 @@ pub struct TableCursor<D> {
 }
 
 impl<D: Disk + Drop> TableCursor<D> {
+    /// A cursor over the table of a file that has these lines. It stands on none.
+    pub fn new(alloc: Global, file: u64, lines: RcSlice<IndexLine>) -> TableCursor<D>
+        ensures table { (result.file ≡ file) × (result.lines ≡ lines) }
+        ensures off { (result.place ≡ None) × (result.has_failed ≡ false) }
+    {
+        TableCursor {
+            alloc,
+            file,
+            lines,
+            place: None,
+            has_failed: false,
+            of: PhantomData,
+        }
+    }
+
     // Whether the cursor stands in the block of this line.
     fn has_block(&self, line: usize) -> bool
         ensures { IsTrue result → IfSome self.now.place (λ place. place.line ≡ line)
