@@ -107,10 +107,10 @@ first_of xs rising = stands_first Forward xs (λ entry. ListHolds xs entry × Un
     ))
 
 -- the greatest place
-pub last_of : (xs : List OwnedEntry) (n : ℕ) → IsSortedList xs
+pub last_found : (xs : List OwnedEntry) (n : ℕ) → IsSortedList xs
     → ((length xs ≡ 0) ⊎ (n + 1 ≡ length xs)) → IsFirst Backward (λ entry. ListHolds xs entry
     × Unit {0}) (position_at xs n)
-last_of xs n rising end =
+last_found xs n rising end =
     stands_first Backward xs (λ entry. ListHolds xs entry × Unit {0}) n rising
     (λ entry e. ((n, e), tt))
     (λ entry p. let i = p.0.0 in let w : i < length xs = on_within xs i entry p.0.1 in

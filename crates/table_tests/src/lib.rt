@@ -18,6 +18,8 @@ mod plain;
 #[cfg(test)]
 mod sequence;
 #[cfg(test)]
+mod table_walks;
+#[cfg(test)]
 mod tables;
 #[cfg(test)]
 mod walks;
