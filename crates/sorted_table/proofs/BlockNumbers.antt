@@ -34,7 +34,7 @@ line_of place (b ∷ blocks) zero block at =
     ∙ ap (λ p. Some (block_line p block)) (omega arith)
 line_of place (b ∷ blocks) (suc n) block at =
     let size : length (data_bytes (b ∷ take n blocks))
-        ≡ length (block_bytes b) + length (data_bytes (take n blocks)) =
+    ≡ length (block_bytes b) + length (data_bytes (take n blocks)) =
     ap length (flat_map-cons block_bytes b (take n blocks))
     ∙ length-append (block_bytes b) (data_bytes (take n blocks)) in
     line_of (place + length (block_bytes b)) blocks n block at

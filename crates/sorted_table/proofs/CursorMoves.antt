@@ -53,7 +53,7 @@ module _ {C S : Type 0} (g : Ghosts S) (file : C → ℕ) (lines : C → List In
     source = keeps;
     stays = λ s.
         let slot : g.state a (file old) ≡ g.state b (file new) =
-            sym (keeps.same s.0 (file old)) ∙ ap (g.state b) (sym same_file) in (
+        sym (keeps.same s.0 (file old)) ∙ ap (g.state b) (sym same_file) in (
           (
             keeps.honest.1 s.0,
             subst (λ z. CursorServes z (lines new) (place new)) slot

@@ -166,9 +166,12 @@ block_in bytes entries s done block others parted =
             (split_each IsTableEntry one (entries_of_blocks others) each.1).0;
         rising = AllPairs-rises Up one (rising_parts one (entries_of_blocks others) back).front;
       };
-      within = omega (arith, ap length spelled,
-          length-append (data_bytes done) (text ++ (data_bytes others ++ tail)),
-          length-append text (data_bytes others ++ tail));
+      within = omega (
+        arith,
+        ap length spelled,
+        length-append (data_bytes done) (text ++ (data_bytes others ++ tail)),
+        length-append text (data_bytes others ++ tail),
+      );
     }
 
 pub line_block : (bytes : List ℕ) (entries : List Entry) (s : TableRepresents bytes entries)

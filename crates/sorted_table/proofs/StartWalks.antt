@@ -158,15 +158,20 @@ no_entry block first rest starts count entries w b each fewer none =
     (subst (AllByRecursion IsTableEntry) whole (recursion_from_All IsTableEntry entries each)) in
     let len : length w.entries ≡ length front = omega (arith, length-take i entries) in
     let same : entries_bytes w.entries ++ rest
-        ≡ entries_bytes front ++ (entries_bytes back ++ d) =
+    ≡ entries_bytes front ++ (entries_bytes back ++ d) =
     sym w.passed.spelled ∙ b.text
     ∙ ap (λ (l : List Entry). entries_bytes l ++ d) whole
     ∙ ap (λ (t : List ℕ). t ++ d) (flat_map-append entry_bytes front back)
     ∙ append_assoc (entries_bytes front) (entries_bytes back) d in
     let left = (same_entries w.entries front rest (entries_bytes back ++ d) w.passed.each both.0 len
     same).1 in
-    more_left back rest d both.1 (omega (arith, below, ap length whole, length-append front back,
-    length-take i entries)) left none
+    more_left back rest d both.1 (omega (
+      arith,
+      below,
+      ap length whole,
+      length-append front back,
+      length-take i entries,
+    )) left none
 
 -- where as many entries were read as the block has, they are its entries
 pub all_read : (block first rest starts : List ℕ) (count : ℕ) (entries : List Entry)

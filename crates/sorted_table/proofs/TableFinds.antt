@@ -151,8 +151,8 @@ module _ (file : Slot) (lines : List IndexLine) (t : HasLines file lines) where
       let line = m.line in
       let step = m.at_number in
       let number : number_of blocks new ≡ number_of blocks p + 1 =
-          ap (λ n. first_number blocks n + new.at) line
-          ∙ omega (arith, step) in
+      ap (λ n. first_number blocks n + new.at) line
+      ∙ omega (arith, step) in
       first_at Forward (After e) (entry_position (place_entry new)) (number_of blocks p + 1)
       (position_at blocks new (moved_in blocks p new (p.at + 1) m there)
       ∙ ap (λ n. entry_position (slice_get all n)) number)
@@ -172,7 +172,7 @@ module _ (file : Slot) (lines : List IndexLine) (t : HasLines file lines) where
       let count = count_of blocks p there in
       let behind = number_behind blocks p.line n there.block line there.present in
       let number : first_number blocks n ≡ number_of blocks p + 1 =
-          omega (arith, behind, count, last) in
+      omega (arith, behind, count, last) in
       both_ok result _ _ _ entered reads (λ f r.
       first_at Forward (After e) (table_position failed place) (number_of blocks p + 1)
       (entered_forward blocks lines n failed place t.indexed f.0 f.1 r
@@ -188,8 +188,8 @@ module _ (file : Slot) (lines : List IndexLine) (t : HasLines file lines) where
       on_place failed o p is here _ (λ there e at.
       let step = m.at_number in
       let number : number_of blocks new + 1 ≡ number_of blocks p =
-          ap (λ n. first_number blocks n + new.at + 1) m.line
-          ∙ omega (arith, step, some) in
+      ap (λ n. first_number blocks n + new.at + 1) m.line
+      ∙ omega (arith, step, some) in
       first_at Backward (After e) (entry_position (place_entry new)) (number_of blocks new)
       (position_at blocks new (moved_in blocks p new (p.at - 1) m there))
       (prev_of all (number_of blocks new) e all_rising
@@ -204,7 +204,7 @@ module _ (file : Slot) (lines : List IndexLine) (t : HasLines file lines) where
   finds_none_before failed o p place is here line first off =
       on_place failed o p is here _ (λ there e at.
       let number : number_of blocks p ≡ 0 =
-          ap (λ n. first_number blocks n + p.at) line ∙ ap (λ n. 0 + n) first in
+      ap (λ n. first_number blocks n + p.at) line ∙ ap (λ n. 0 + n) first in
       first_held Backward (After e) (table_position false place)
       (subst (λ q. IsFirst Backward (λ x. Contains all x × WalkMeets Backward (After e) x)
       (table_position false q)) (sym off)
@@ -236,7 +236,7 @@ module _ (file : Slot) (lines : List IndexLine) (t : HasLines file lines) where
       let some = some_before n before in
       let m = first_number blocks (n + 1) - 1 in
       let number : number_of blocks p ≡ m + 1 =
-          ap (λ k. first_number blocks k + p.at) line ∙ omega (arith, first, some) in
+      ap (λ k. first_number blocks k + p.at) line ∙ omega (arith, first, some) in
       both_ok result _ _ _ entered reads (λ f r.
       first_at Backward (After e) (table_position failed place) m
       (entered_backward blocks lines n m failed place t.indexed before f.1 r (omega (arith, some)))

@@ -27,8 +27,7 @@ pub shared : (file of : Slot) (table : Table) (entries : List Entry) (lines : Li
 shared file of table entries lines place s same shares off =
     let rep : FileRepresents file entries =
     represented (seen file) s.bytes entries s.present s.represents in
-    subst (λ f. CursorServes f lines place × IsAlike (FileHolds f) (Contains entries)) (sym same)
-    (
+    subst (λ f. CursorServes f lines place × IsAlike (FileHolds f) (Contains entries)) (sym same) (
       subst (λ o. CursorServes file lines o) (sym off)
           (record {
             table = record {

@@ -47,22 +47,22 @@ files_apart file a b p q e =
 
 module _ {C S : Type 0} (g : Ghosts S) (file : C → ℕ) (lines : C → List IndexLine)
     (place : C → Option BlockPlace) (bounded : (c : C) → ForSome (place c) (IsBounded (lines c)))
-    where
-  pub table_laws : IsLawful {C = C} {S = S} (λ c s. FileHolds (g.state s (file c)))
-      (λ c s. g.is_honest s × CursorServes (g.state s (file c)) (lines c) (place c))
-      (KeepsFiles g) (λ c. steps_left (lines c) (place c)) (λ c. blocks_size (lines c))
-  table_laws = record {
-    itself = keeps_files_itself g;
-    through = keeps_files_through g;
-    stays = λ c a b k s.
-        let same = sym (k.same s.0 (file c)) in (
-          (
-            k.honest.1 s.0,
-            subst (λ slot. CursorServes slot (lines c) (place c)) same s.1,
-          ),
-          λ entry. subst (λ slot. FileHolds slot entry ↔ FileHolds (g.state a (file c)) entry) same
-              ((λ h. h), (λ h. h)),
-        );
-    apart = λ c a s. files_apart (g.state a (file c));
-    within = λ c way. steps_within (lines c) (place c) way (bounded c);
-  }
+  where
+    pub table_laws : IsLawful {C = C} {S = S} (λ c s. FileHolds (g.state s (file c)))
+        (λ c s. g.is_honest s × CursorServes (g.state s (file c)) (lines c) (place c))
+        (KeepsFiles g) (λ c. steps_left (lines c) (place c)) (λ c. blocks_size (lines c))
+    table_laws = record {
+      itself = keeps_files_itself g;
+      through = keeps_files_through g;
+      stays = λ c a b k s.
+          let same = sym (k.same s.0 (file c)) in (
+            (
+              k.honest.1 s.0,
+              subst (λ slot. CursorServes slot (lines c) (place c)) same s.1,
+            ),
+            λ entry. subst (λ slot. FileHolds slot entry ↔ FileHolds (g.state a (file c)) entry) same
+                ((λ h. h), (λ h. h)),
+          );
+      apart = λ c a s. files_apart (g.state a (file c));
+      within = λ c way. steps_within (lines c) (place c) way (bounded c);
+    }

@@ -13,7 +13,7 @@ mod tail;
 
 pub use found::FoundVersion;
 pub use table::Table;
-pub use table_cursor::TableCursor;
 pub use table_builder::{Builder, Finished};
+pub use table_cursor::TableCursor;
 pub use table_files::{Files, MAX_BLOCKS};
 pub use table_format::{LentEntry, TableError};

@@ -29,10 +29,8 @@ fn cursor_error(e: TableError) -> CursorError
     match e {
         TableError::Disk => CursorError::Disk,
         TableError::Memory => CursorError::Memory,
-        TableError::Damaged
-        | TableError::Order
-        | TableError::TooLarge
-        | TableError::Failed => CursorError::Damaged,
+        TableError::Damaged | TableError::Order | TableError::TooLarge | TableError::Failed =>
+            CursorError::Damaged,
     }
 }
 
@@ -251,12 +249,7 @@ impl<D: Disk + Drop> Cursor for TableCursor<D> {
         self.enter(files, line - 1, Direction::Backward, place.into_starts())
     }
 
-    fn seek(
-        &mut self,
-        files: &mut Files<D>,
-        key: &[u8],
-        number: u64,
-    ) -> Result<(), CursorError> {
+    fn seek(&mut self, files: &mut Files<D>, key: &[u8], number: u64) -> Result<(), CursorError> {
         let line = line_place(&self.lines, key, number);
         self.reach(files, line)?;
         let Some(mut place) = self.place.take() else {
