@@ -25,7 +25,9 @@ fn met_forward<C: Cursor>(
             return Ok(count);
         }
         count = count.wrapping_add(1);
-        cursor.next(source)?;
+        if cursor.valid() {
+            cursor.next(source)?;
+        }
     }
     Ok(if cursor.valid() { 0 } else { count })
 }
@@ -43,7 +45,9 @@ fn met_back<C: Cursor>(
             return Ok(count);
         }
         count = count.wrapping_add(1);
-        cursor.prev(source)?;
+        if cursor.valid() {
+            cursor.prev(source)?;
+        }
     }
     Ok(if cursor.valid() { 0 } else { count })
 }
