@@ -1,14 +1,14 @@
 -- The blocks of a table, by their numbers.
 use Rattle.std.proofs.Common.{◌≡◌, ℕ, zero, suc, ◌+◌, ◌≤◌, ◌<◌, List, [], ◌∷◌, ◌++◌, length, take, drop}
-use Rattle.std.proofs.Common.{Some, None, refl, sym, ap, subst, ◌∙◌, arith, length-append}
-use Rattle.std.specs.List.{slice_get, flat_map}
+use Rattle.std.proofs.Common.{Some, refl, sym, ap, subst, ◌∙◌, arith, length-append}
+use Rattle.std.specs.List.{slice_get}
 use Rattle.std.proofs.lemmas.List.Concat.{flat_map-cons}
 use Rattle.kv_types.specs.FieldsLemmas.{some_is}
 use Rattle.kv_types.specs.{Entry}
 use Rattle.table_format.specs.{Block, IsBlock, TableRepresents, block_bytes, block_entries}
-use Rattle.table_format.specs.{block_line, block_lines, data_bytes, entries_of_blocks}
+use Rattle.table_format.specs.{block_line, block_lines, data_bytes}
 use Rattle.table_format.specs.declared.IndexLine.{IndexLine}
-use Rattle.sorted_table.proofs.LineBlocks.{BlockIn, block_in}
+use Rattle.sorted_table.proofs.LineBlocks.{block_in}
 
 -- an element, and those around it
 pub around : {A : Type 0} (xs : List A) (n : ℕ) (x : A) → slice_get xs n ≡ Some x

@@ -1,11 +1,9 @@
 -- What every move of a cursor over a table keeps.
-use Rattle.std.proofs.Common.{◌≡◌, ◌↔◌, ℕ, List, Option, Some, None, IfSome, refl, sym, ap, subst, ◌∙◌}
+use Rattle.std.proofs.Common.{◌≡◌, ◌↔◌, ℕ, List, Option, None, IfSome, sym, ap, subst, ◌∙◌}
 use Rattle.std.proofs.Common.{Result, Ok, Err, OnOk, OnErr, Bool, true, false, IsTrue}
 use Rattle.disk.specs.declared.Disk.{Ghosts}
 use Rattle.merge_iter.specs.{ErrorCauses, MoveKeeps}
 use Rattle.merge_iter.specs.declared.CursorError.TheVariants as cursor
-use Rattle.merge_iter.specs.declared.CursorError.{CursorError}
-use Rattle.table_format.specs.{TableRepresents}
 use Rattle.table_format.specs.declared.IndexLine.{IndexLine}
 use Rattle.table_files.specs.{KeepsFiles}
 use Rattle.sorted_table.specs.declared.block_place.BlockPlace.{BlockPlace}

@@ -1,15 +1,13 @@
 -- The block of a line, as a read of the file answers.
-use Rattle.std.proofs.Common.{◌≡◌, ℕ, ◌+◌, ◌≤◌, ◌<◌, List, length, take, drop, get_or, Some, Result, Ok, Err}
-use Rattle.std.proofs.Common.{MatchResult, inl, inr, ◌⊎◌, refl, sym, ap, subst, ◌∙◌, arith, IfOk}
+use Rattle.std.proofs.Common.{◌≡◌, ℕ, ◌≤◌, ◌<◌, List, length, get_or, Some, Result, Ok, Err}
+use Rattle.std.proofs.Common.{MatchResult, inl, inr, refl, sym, ap, subst, ◌∙◌, arith, IfOk}
 use Rattle.std.specs.List.{slice_get}
 use Rattle.std.specs.Rc.{rc_slice_items}
 use Rattle.std.proofs.lemmas.Option.{slice_get_read}
 use Rattle.std.specs.Global.{Global}
 use Rattle.std.specs.declared.rc.RcSlice.{RcSlice}
-use Rattle.disk.specs.{State, seen}
-use Rattle.kv_types.specs.{Entry}
-use Rattle.table_format.specs.{IsBlock, IsEnvironmentError, TableRepresents, block_entries}
-use Rattle.table_format.specs.{block_lines}
+use Rattle.disk.specs.{State}
+use Rattle.table_format.specs.{IsBlock, IsEnvironmentError, block_entries}
 use Rattle.table_format.specs.declared.IndexLine.{IndexLine}
 use Rattle.table_format.specs.declared.TableError.{TableError}
 use Rattle.table_format.specs.declared.TableError.TheVariants as table

@@ -1,13 +1,13 @@
 -- Positions at places of a rising list of entries.
-use Rattle.std.proofs.Common.{◌≡◌, ◌↔◌, ℕ, zero, suc, ◌+◌, ◌⊎◌, inl, inr, ◌<◌, ◌≤◌, List, length, Some, None}
-use Rattle.std.proofs.Common.{Contains, refl, sym, ap, ◌∙◌, subst, arith}
+use Rattle.std.proofs.Common.{◌≡◌, ◌↔◌, ℕ, ◌+◌, inl, inr, ◌<◌, ◌≤◌, List, length, Some}
+use Rattle.std.proofs.Common.{Contains, sym, ap, ◌∙◌, subst, arith}
 use Rattle.std.specs.List.{slice_get}
-use Rattle.std.proofs.lemmas.Option.{slice_get_cases, slice_get_past, slice_get_within}
+use Rattle.std.proofs.lemmas.Option.{slice_get_cases, slice_get_within}
 use Rattle.kv_types.specs.FieldsLemmas.{some_is}
 use Rattle.kv_types.specs.{Entry}
 use Rattle.merge_iter.specs.declared.Direction.{Direction}
 use Rattle.merge_iter.specs.declared.Direction.TheVariants.{Forward, Backward}
-use Rattle.merge_iter.specs.{EntryPrecedes, IsAlike, IsFirst, Off, On, Broken, Position, never}
+use Rattle.merge_iter.specs.{EntryPrecedes, IsFirst, Off, On, Broken, Position, never}
 use Rattle.merge_iter.specs.EntryOrder.{not_both}
 use Rattle.merge_iter.specs.ListPlacesLemmas.{Earlier, off_empty, on_first, turned}
 use Rattle.table_format.specs.{AreRising}

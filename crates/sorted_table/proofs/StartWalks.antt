@@ -1,23 +1,22 @@
 -- Entries of a block, read one behind the other, and again from their places.
-use Rattle.std.proofs.Common.{◌≡◌, ℕ, ◌+◌, ◌-◌, ◌≤◌, ◌<◌, ◌^◌, List, [], ◌∷◌, ◌++◌, length, map, take, drop}
+use Rattle.std.proofs.Common.{◌≡◌, ℕ, ◌+◌, ◌-◌, ◌≤◌, ◌<◌, List, [], ◌∷◌, ◌++◌, length, map, take, drop}
 use Rattle.std.proofs.Common.{Option, Some, None, IsSome, All, refl, sym, ap, subst, ◌∙◌, arith}
 use Rattle.std.proofs.Common.{append_assoc, length-append, take-append-drop}
-use Rattle.std.specs.List.{flat_map, AllByRecursion}
+use Rattle.std.specs.List.{AllByRecursion}
 use Rattle.std.specs.Option.{option_map}
 use Rattle.std.specs.Int.{w32}
 use Rattle.std.proofs.lemmas.List.{drop_at, drop_all, length-map, map-append, length-take}
-use Rattle.std.proofs.lemmas.List.{take_all}
 use Rattle.std.proofs.lemmas.Grind.{flat_map-append}
 use Rattle.std.proofs.lemmas.List.Concat.{flat_map-cons}
 use Rattle.std.proofs.lemmas.List.Elements.{All-from_recursion, recursion_from_All}
 use Rattle.kv_types.specs.{Entry, text_at}
 use Rattle.kv_types.specs.FieldsLemmas.{IsBytes, some_is}
 use Rattle.byte_fields.specs.Readers.{number_at}
-use Rattle.table_format.specs.Blocks.{IsBlock, IsTableEntry, be32, block_content, block_part}
+use Rattle.table_format.specs.Blocks.{IsBlock, IsTableEntry, be32, block_content}
 use Rattle.table_format.specs.Blocks.{digest, entries_bytes, entry_bytes}
 use Rattle.table_format.specs.Reading.{key_at, table_entry_at}
 use Rattle.table_format.specs.EntriesLemmas.{entry_reads}
-use Rattle.table_format.specs.FrontsLemmas.{few_entries, entry_long, same_entries, split_each}
+use Rattle.table_format.specs.FrontsLemmas.{few_entries, same_entries, split_each}
 use Rattle.table_format.specs.PartsLemmas.{length_reads}
 use Rattle.table_format.specs.PassedLemmas.{Passed, passed_next}
 use Rattle.sorted_table.specs.EntryReads.{AreRead, ReadsEntries, entry_read}

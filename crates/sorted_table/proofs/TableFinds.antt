@@ -1,14 +1,14 @@
 -- What moves of a cursor over a table find.
 use Rattle.std.proofs.Common.{◌≡◌, ◌↔◌, ℕ, ◌+◌, ◌-◌, ◌≤◌, ◌<◌, List, length, Option, Some, None, IfSome, IsSomeAnd}
 use Rattle.std.proofs.Common.{Bool, false, Contains, Result, Ok, Err, OnOk, refl, sym, ap, subst, ◌∙◌, arith}
-use Rattle.std.proofs.Common.{◌⊎◌, inl, inr, zero, suc, [], ◌∷◌, length-append}
+use Rattle.std.proofs.Common.{zero, suc, [], ◌∷◌, length-append}
 use Rattle.std.specs.List.{slice_get}
 use Rattle.disk.specs.{Slot, seen}
 use Rattle.kv_types.specs.{Entry}
 use Rattle.merge_iter.specs.declared.CursorError.{CursorError}
 use Rattle.merge_iter.specs.declared.Direction.{Direction}
 use Rattle.merge_iter.specs.declared.Direction.TheVariants.{Forward, Backward}
-use Rattle.merge_iter.specs.{After, At, AtEnd, IfOn, IsFirst, MoveFinds, Off, Position, WalkMeets}
+use Rattle.merge_iter.specs.{After, AtEnd, IfOn, IsFirst, MoveFinds, Position, WalkMeets}
 use Rattle.merge_iter.specs.{WalkStart}
 use Rattle.table_format.specs.{AreRising, Block, TableRepresents, entries_of_blocks}
 use Rattle.table_format.specs.declared.IndexLine.{IndexLine}
@@ -20,7 +20,7 @@ use Rattle.sorted_table.specs.TableCursors.{FileHolds, HasEntered, HasLines, IsP
 use Rattle.sorted_table.specs.TableCursors.{entry_position, table_position}
 use Rattle.sorted_table.proofs.BlockNumbers.{length-block_lines, some_of}
 use Rattle.sorted_table.proofs.ListPositions.{first_alike, first_of_all, last_of_all, next_of}
-use Rattle.sorted_table.proofs.ListPositions.{none_at_all, none_before, prev_of}
+use Rattle.sorted_table.proofs.ListPositions.{none_before, prev_of}
 use Rattle.sorted_table.proofs.TablePlaces.{count_of, entered_backward, entered_forward, entry_at}
 use Rattle.sorted_table.proofs.TablePlaces.{first_number, moved_in, number_at_end, number_behind}
 use Rattle.sorted_table.proofs.TablePlaces.{number_of, position_at}

@@ -1,24 +1,21 @@
 -- Places in the blocks of a table, and which of the table's entries stand there.
-use Rattle.std.proofs.Common.{◌≡◌, ℕ, zero, suc, ◌+◌, ◌-◌, ◌≤◌, ◌<◌, List, [], ◌∷◌, ◌++◌, length, take, drop}
-use Rattle.std.proofs.Common.{Option, Some, None, IfSome, Bool, true, false, refl, sym, ap, subst, ◌∙◌}
-use Rattle.std.proofs.Common.{arith, length-append, ◌⊎◌, inl, inr}
+use Rattle.std.proofs.Common.{◌≡◌, ℕ, zero, suc, ◌+◌, ◌≤◌, ◌<◌, List, [], ◌∷◌, ◌++◌, length, take, drop}
+use Rattle.std.proofs.Common.{Option, Some, None, IfSome, Bool, false, sym, ap, subst, ◌∙◌}
+use Rattle.std.proofs.Common.{arith, length-append, inl, inr}
 use Rattle.std.specs.List.{slice_get}
-use Rattle.std.specs.Option.{option_map}
 use Rattle.std.specs.Rc.{rc_slice_items}
 use Rattle.std.proofs.lemmas.List.{take_all}
 use Rattle.std.proofs.lemmas.List.Concat.{flat_map-cons}
 use Rattle.std.proofs.lemmas.Grind.{flat_map-append}
-use Rattle.std.proofs.lemmas.Option.{slice_get_cases, slice_get_past, slice_get_within}
+use Rattle.std.proofs.lemmas.Option.{slice_get_cases, slice_get_past}
 use Rattle.kv_types.specs.{Entry, ◌>>=◌}
-use Rattle.disk.specs.{Slot}
-use Rattle.merge_iter.specs.{On, Position}
 use Rattle.merge_iter.specs.declared.Direction.TheVariants.{Forward, Backward}
 use Rattle.table_format.specs.{Block, block_entries, block_lines, entries_of_blocks}
 use Rattle.table_format.specs.declared.IndexLine.{IndexLine}
 use Rattle.sorted_table.specs.declared.block_place.BlockPlace.{BlockPlace}
 use Rattle.sorted_table.specs.EntryReads.{ReadsEntries, entry_read}
-use Rattle.sorted_table.specs.BlockPlaces.{IsAtEnd, IsMovedTo, PlaceReads, place_entry}
-use Rattle.sorted_table.specs.TableCursors.{HasEntered, HasLines, IsPlaceIn, entry_position}
+use Rattle.sorted_table.specs.BlockPlaces.{IsMovedTo, place_entry}
+use Rattle.sorted_table.specs.TableCursors.{HasEntered, IsPlaceIn, entry_position}
 use Rattle.sorted_table.specs.TableCursors.{table_position}
 use Rattle.sorted_table.proofs.BlockNumbers.{around, length-block_lines}
 use Rattle.sorted_table.proofs.StartSearches.{entry_of_start}

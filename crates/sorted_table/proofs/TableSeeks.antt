@@ -1,19 +1,18 @@
 -- Seeks of a cursor over a table.
-use Rattle.std.proofs.Common.{◌≡◌, ℕ, zero, suc, ◌+◌, ◌-◌, ◌≤◌, ◌<◌, List, [], ◌∷◌, ◌++◌, length, map, take, drop}
-use Rattle.std.proofs.Common.{Option, Some, None, Bool, false, All, Result, Ok, refl, sym, ap, subst, ◌∙◌, arith}
+use Rattle.std.proofs.Common.{◌≡◌, ℕ, zero, suc, ◌+◌, ◌≤◌, ◌<◌, List, [], ◌∷◌, ◌++◌, length, map, take, drop}
+use Rattle.std.proofs.Common.{Option, Some, None, Bool, false, All, Ok, refl, sym, ap, subst, ◌∙◌, arith}
 use Rattle.std.proofs.Common.{◌⊎◌, inl, inr, get_or, length-append, take-append-drop}
 use Rattle.std.proofs.lemmas.Grind.{flat_map-append}
-use Rattle.std.specs.List.{slice_get, AllByRecursion}
+use Rattle.std.specs.List.{slice_get}
 use Rattle.std.proofs.lemmas.List.{get_or-take, length-take, take_all}
 use Rattle.std.proofs.lemmas.List.Elements.{recursion_from_All}
-use Rattle.std.proofs.lemmas.Option.{get_or_from_slice_get, slice_get_past, slice_get_within, slice_get-get_or}
+use Rattle.std.proofs.lemmas.Option.{get_or_from_slice_get, slice_get_past, slice_get_within}
 use Rattle.disk.specs.{Slot}
 use Rattle.kv_types.specs.FieldsLemmas.{some_is}
-use Rattle.kv_types.specs.OrderLemmas.{Among, Rises, among_at, rises_from_AllPairs}
+use Rattle.kv_types.specs.OrderLemmas.{Among, Rises, rises_from_AllPairs}
 use Rattle.kv_types.specs.{Entry}
-use Rattle.merge_iter.specs.declared.CursorError.{CursorError}
 use Rattle.merge_iter.specs.declared.Direction.TheVariants.{Forward}
-use Rattle.merge_iter.specs.{At, EntryPrecedes, IsFirst, MoveFinds, chain, spot}
+use Rattle.merge_iter.specs.{At, EntryPrecedes, MoveFinds, chain, spot}
 use Rattle.table_format.specs.{AreRising, Block, block_bytes, block_entries, block_line, block_lines}
 use Rattle.table_format.specs.{data_bytes, end_spot, entries_of_blocks}
 use Rattle.table_format.specs.declared.IndexLine.{IndexLine}
@@ -24,11 +23,11 @@ use Rattle.sorted_table.specs.RisingEntries.{in_order}
 use Rattle.sorted_table.specs.Searches.{EndsEarlier, IsLinePlace}
 use Rattle.sorted_table.specs.TableCursors.{FileHolds, HasLines, IsPlaceIn, entry_position}
 use Rattle.sorted_table.specs.TableCursors.{table_position}
-use Rattle.sorted_table.proofs.BlockNumbers.{around, length-block_lines, line_of, some_of}
+use Rattle.sorted_table.proofs.BlockNumbers.{around, line_of, some_of}
 use Rattle.sorted_table.proofs.LineBlocks.{block_in, early_entries, rising_parts}
 use Rattle.sorted_table.proofs.ListPositions.{sought_of}
 use Rattle.sorted_table.proofs.TableFinds.{all, all_lines, all_rising, blocks, first_at}
-use Rattle.sorted_table.proofs.TablePlaces.{count_of, entry_in, first_number, get_ahead, get_behind}
+use Rattle.sorted_table.proofs.TablePlaces.{count_of, entry_in, first_number, get_behind}
 use Rattle.sorted_table.proofs.TablePlaces.{moved_in, number_of, parts_at, position_at}
 use Rattle.sorted_table.proofs.TailsLemmas.{lines_rise}
 

@@ -1,5 +1,5 @@
 -- What a table gives its cursors.
-use Rattle.std.proofs.Common.{◌≡◌, ℕ, List, Option, Some, None, IfSome, IsSomeAnd, Contains, refl, sym}
+use Rattle.std.proofs.Common.{◌≡◌, ℕ, List, Option, Some, None, IsSomeAnd, Contains, sym}
 use Rattle.std.proofs.Common.{◌∙◌, subst}
 use Rattle.std.specs.Rc.{rc_slice_items}
 use Rattle.disk.specs.{Slot, seen}
@@ -11,7 +11,7 @@ use Rattle.sorted_table.specs.declared.block_place.BlockPlace.{BlockPlace}
 use Rattle.sorted_table.specs.declared.table.Table.{Table}
 use Rattle.sorted_table.specs.Open.{FileRepresents, TableServes}
 use Rattle.sorted_table.specs.TableCursorLaws.{one_list}
-use Rattle.sorted_table.specs.TableCursors.{CursorServes, FileHolds, IsPlaceIn}
+use Rattle.sorted_table.specs.TableCursors.{CursorServes, FileHolds}
 
 represented : (file : Option (List ℕ)) (bytes : List ℕ) (entries : List Entry)
     → file ≡ Some bytes → TableRepresents bytes entries

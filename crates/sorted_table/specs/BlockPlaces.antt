@@ -1,8 +1,7 @@
 -- Places in blocks.
-use Rattle.std.specs.Prelude.{◌≡◌, ℕ, ◌+◌, List, length, Option, Some, None, slice_get}
+use Rattle.std.specs.Prelude.{◌≡◌, ℕ, ◌+◌, List, length, Option, slice_get}
 use Rattle.std.specs.Rc.{rc_slice_items}
 use Rattle.kv_types.specs.{Entry, ◌>>=◌}
-use Rattle.merge_iter.specs.{Position, On, Off}
 use Rattle.merge_iter.specs.declared.Direction.{Direction}
 use Rattle.merge_iter.specs.declared.Direction.TheVariants.{Forward, Backward}
 use Rattle.sorted_table.specs.declared.block_place.BlockPlace.{BlockPlace}

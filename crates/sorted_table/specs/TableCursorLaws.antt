@@ -1,13 +1,11 @@
 -- A cursor over a table keeps what every cursor keeps.
-use Rattle.std.proofs.Common.{◌≡◌, ◌↔◌, ℕ, ◌⊎◌, inl, inr, ◌<◌, List, Option, Some, None, refl, sym, ap}
-use Rattle.std.proofs.Common.{◌∙◌, subst, arith, IsSomeAnd, Contains, get_or}
+use Rattle.std.proofs.Common.{◌≡◌, ◌↔◌, ℕ, List, Option, Some, None, sym}
+use Rattle.std.proofs.Common.{subst, IsSomeAnd, Contains}
 use Rattle.std.specs.Option.{ForSome}
 use Rattle.disk.specs.declared.Disk.{Ghosts}
 use Rattle.disk.specs.{Slot, seen}
 use Rattle.kv_types.specs.{Entry}
-use Rattle.merge_iter.specs.declared.Direction.{Direction}
-use Rattle.merge_iter.specs.declared.Direction.TheVariants.{Forward}
-use Rattle.merge_iter.specs.{EntryPrecedes, IsApart, IsLawful, entry_cmp}
+use Rattle.merge_iter.specs.{IsApart, IsLawful}
 use Rattle.table_format.specs.{AreRising, TableRepresents}
 use Rattle.table_format.specs.declared.IndexLine.{IndexLine}
 use Rattle.table_format.specs.TablesLemmas.{table_is_unique}

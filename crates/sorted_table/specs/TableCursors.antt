@@ -1,5 +1,5 @@
 -- Where a cursor over a table stands, and over which entries.
-use Rattle.std.specs.Prelude.{◌≡◌, ℕ, ◌+◌, ◌≤◌, List, length, slice_get, Contains}
+use Rattle.std.specs.Prelude.{◌≡◌, ℕ, ◌≤◌, List, length, slice_get, Contains}
 use Rattle.std.specs.Prelude.{Option, Some, None, IfSome, Bool, true, false}
 use Rattle.disk.specs.{Slot, seen}
 use Rattle.kv_types.specs.{Entry}

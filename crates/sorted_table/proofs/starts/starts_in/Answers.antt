@@ -1,4 +1,4 @@
-use Rattle.std.proofs.Common.{◌≡◌, ◌-◌, ◌≤◌, ◌+◌, ℕ, List, length, subst, sym, arith, ◌∙◌, ap}
+use Rattle.std.proofs.Common.{length, subst, sym, arith, ap}
 use Rattle.table_format.specs.{lent_entry}
 use Rattle.sorted_table.proofs.StartWalks.{StartsWalked, all_read, are_read, block_begins}
 use Rattle.sorted_table.proofs.StartWalks.{no_entry, rest_within, walk_begins, walk_goes_on}

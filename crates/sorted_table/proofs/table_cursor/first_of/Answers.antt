@@ -1,4 +1,4 @@
-use Rattle.std.proofs.Common.{◌≡◌, refl, sym, ◌∙◌, Err, Ok, Some}
+use Rattle.std.proofs.Common.{◌≡◌, Err, Ok, Some}
 use Rattle.std.specs.Rc.{rc_slice_items}
 use Rattle.std.specs.List.{slice_get}
 use Rattle.std.proofs.lemmas.Result.{err_from_is_err_and}

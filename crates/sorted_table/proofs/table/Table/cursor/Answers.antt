@@ -1,4 +1,4 @@
-use Rattle.std.proofs.Common.{◌∙◌, ap, sym}
+use Rattle.std.proofs.Common.{◌∙◌, ap}
 use Rattle.std.specs.Rc.{rc_slice_items}
 use Rattle.sorted_table.proofs.TableShares.{shared}
 use Rattle.sorted_table.proofs.table.Table.cursor.Goals as goal

@@ -1,4 +1,4 @@
-use Rattle.std.proofs.Common.{◌≡◌, ◌+◌, ◌∙◌, ◌<◌, refl, ap, sym, subst, arith, IfSome, Some, length}
+use Rattle.std.proofs.Common.{◌+◌, ◌∙◌, ◌<◌, refl, ap, sym, subst, arith, IfSome, length}
 use Rattle.std.specs.Rc.{rc_slice_items}
 use Rattle.table_files.specs.{keeps_files_itself}
 use Rattle.sorted_table.specs.TableCursors.{IsPlaceIn}

@@ -1,4 +1,4 @@
-use Rattle.std.proofs.Common.{◌≡◌, ◌∙◌, refl, ap, sym, subst, arith, IfSome, Some, None, length}
+use Rattle.std.proofs.Common.{◌≡◌, ◌∙◌, refl, ap, sym, subst, arith, IfSome}
 use Rattle.std.specs.Rc.{rc_slice_items}
 use Rattle.table_format.specs.{block_entries}
 use Rattle.sorted_table.specs.TableCursors.{HasReached, IsPlaceIn}
