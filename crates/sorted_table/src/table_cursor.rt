@@ -85,7 +85,7 @@ pub struct TableCursor<D> {
 
 impl<D: Disk + Drop> TableCursor<D> {
     /// A cursor over the table of a file that has these lines. It stands on none.
-    pub fn new(alloc: Global, file: u64, lines: RcSlice<IndexLine>) -> TableCursor<D>
+    pub(crate) fn new(alloc: Global, file: u64, lines: RcSlice<IndexLine>) -> TableCursor<D>
         ensures table { (result.file ≡ file) × (result.lines ≡ lines) }
         ensures off { (result.place ≡ None) × (result.has_failed ≡ false) }
     {

@@ -20,6 +20,8 @@ mod plain;
 #[cfg(test)]
 mod sequence;
 #[cfg(test)]
+mod table_cursors;
+#[cfg(test)]
 mod table_walks;
 #[cfg(test)]
 mod tables;
