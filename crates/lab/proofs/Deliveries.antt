@@ -18,6 +18,7 @@ use Rattle.chain_core.specs.declared.Input.TheVariants as input
 use Rattle.chain_core.specs.{frame_as}
 use Rattle.node.specs.declared.Stop.TheVariants.{Disk}
 use Rattle.node.specs.{replies_to_response}
+use Rattle.disk.specs.declared.Disk.{Ghosts}
 use Rattle.lab.specs.declared.input.NodeInput.{NodeInput}
 use Rattle.lab.specs.declared.input.StepOutcome.{StepOutcome}
 use Rattle.lab.specs.declared.event.EventKind.{EventKind}
@@ -77,8 +78,8 @@ tick_replies x (Response.Opened j s) = refl
 tick_replies x (Response.Closed j s) = refl
 tick_replies x (Response.Refused j why) = refl
 
-module _ (cs : Configurations) (w : SystemState BatchContent) (i x : ℕ) (it : Fault)
-    (struck : Bool) (new : NodeState Slots) (did : StepOutcome)
+module _ {g : Ghosts Slots} (cs : Configurations) (w : SystemState BatchContent) (i x : ℕ)
+    (it : Fault) (struck : Bool) (new : NodeState Slots g) (did : StepOutcome)
   where
     -- the choice in a step that the node does not stop by itself
     abbrev plain : Choice

@@ -13,6 +13,7 @@ use Rattle.chain_core.specs.{Machine}
 use Rattle.node.specs.declared.Stop.{Stop as Cause}
 use Rattle.node.specs.declared.Stop.TheVariants.{Disk, Damaged, Memory, NotCreated}
 use Rattle.node.specs.{HasLongFile}
+use Rattle.disk.specs.declared.Disk.{Ghosts}
 use Rattle.lab.specs.declared.input.StepOutcome.{StepOutcome}
 use Rattle.lab.specs.declared.input.StepOutcome.TheVariants as done
 use Rattle.lab.specs.declared.event.Event.{Event}
@@ -34,7 +35,7 @@ MayRise disk = failures disk < 2 ^ 64 - 1
 
 -- ---- one disk
 
-crash_of : (junk : Junk) (old : Slots) (new : NodeState Slots) →
+crash_of : {g : Ghosts Slots} (junk : Junk) (old : Slots) (new : NodeState Slots g) →
     HasCrashed state failures calls junk old new →
     IsCrashOf state failures calls junk old (disk_in new)
 crash_of junk old (Up node) crashed = absurd crashed
@@ -64,8 +65,8 @@ at_end junk Damaged old new left may = omega (arith, left.others (λ e. cc))
 at_end junk Memory old new left may = omega (arith, left.others (λ e. cc))
 at_end junk NotCreated old new left may = omega (arith, left.others (λ e. cc))
 
-pub at_most_one : (junk : Option Junk) (it : Fault) (struck : Bool) (did : StepOutcome)
-    (old : Slots) (new : NodeState Slots) →
+pub at_most_one : {g : Ghosts Slots} (junk : Option Junk) (it : Fault) (struck : Bool)
+    (did : StepOutcome) (old : Slots) (new : NodeState Slots g) →
     DiskFits state failures calls junk it struck did old new → MayRise old →
     failures (disk_in new) ≤ failures old + 1
 at_most_one junk it struck (done.Answered output) old new left may = omega (arith, left.count)
@@ -78,7 +79,7 @@ at_most_one (Some junk) it struck (done.Stopped None) old new left may =
 at_most_one junk it struck (done.Stopped (Some cause)) old new left may =
     at_end (junk_at_end it struck) cause old (disk_in new) left may
 
-module _ (old : Slots) (new : NodeState Slots) (may : MayRise old) where
+module _ {g : Ghosts Slots} (old : Slots) (new : NodeState Slots g) (may : MayRise old) where
   -- a node stopped by itself for the cause that was chosen, whatever of it was told
   ended_by : (it : Fault) (choice : Choice) (traced : Option Cause) →
       told_cause it choice.struck choice.cause ≡ traced →
@@ -140,7 +141,7 @@ module _ (old : Slots) (new : NodeState Slots) (may : MayRise old) where
       ended_by it choice traced is device left why
 
   -- a state that refines a machine which does not run is down
-  rests_so : (m : NodeState Slots) (x : ℕ) (n : Machine) → StateRefines is_honest state m x n →
+  rests_so : (m : NodeState Slots g) (x : ℕ) (n : Machine) → StateRefines is_honest state m x n →
       n.running ≡ false → IsDown m
   rests_so (Up node) x n is off = absurd (false≢true (sym off ∙ is.core.running))
   rests_so (Down disk) x n is off = tt

@@ -15,17 +15,17 @@ use Rattle.lab.specs.SimNodes.{StateIsReady, StateRefines, calls_of, disk_in}
 use Rattle.lab.proofs.Faults.{idle}
 
 -- a node that is up is ready where it says so, and one that is down is
-pub ready_up : {D : Type 0} (node : Node D) → IsReady node → StateIsReady (Up node)
+pub ready_up : {D : Type 0} {g : Ghosts D} (node : Node D g) → IsReady node → StateIsReady (Up node)
 ready_up node ready other same =
     let is : node ≡ other = cc in
-    subst (λ (it : Node _). IsReady it) is ready
+    subst (λ (it : Node _ _). IsReady it) is ready
 
-pub ready_down : {D : Type 0} (disk : D) → StateIsReady (Down disk)
-ready_down disk other same = absurd cc
+pub ready_down : {D : Type 0} (g : Ghosts D) (disk : D) → StateIsReady {g = g} (Down disk)
+ready_down g disk other same = absurd cc
 
 -- a node that answered and did nothing else has taken its input
 pub answered_only : {D : Type 0} (g : Ghosts D) (it : Fault) (node_input : NodeInput)
-    (old : NodeState D) (output : Output) → StateIsReady old →
+    (old : NodeState D g) (output : Output) → StateIsReady old →
     ((x : ℕ) (n : Machine) → StateRefines g.is_honest g.state old x n →
     OutcomeRefines g.is_honest g.state it (has_struck_in (calls_of g) it (disk_in old) old) x n
     node_input old (done.Answered output)) →

@@ -108,7 +108,7 @@ module _ {D : Type 0} (g : Ghosts D) (it : Fault) (old : D) where
   -- ---- a step that stopped the node
 
   -- what a crash leaves has had as many calls
-  after_crash : (junk : Junk) (left : D) (new : NodeState D) →
+  after_crash : (junk : Junk) (left : D) (new : NodeState D g) →
       HasCrashed g.state g.failures (calls_of g) junk left new →
       struck_at left ≡ has_struck_in (calls_of g) it old new
   after_crash junk left (Up node) crashed = absurd crashed
@@ -116,7 +116,7 @@ module _ {D : Type 0} (g : Ghosts D) (it : Fault) (old : D) where
       ap (λ (n : ℕ). has_reached (struck_call it) (calls_of g old) n) (sym crashed.none_made)
 
   -- a node stopped by itself and left this disk, which then crashed
-  ends_by : (junk : Junk) (cause : Cause) (left : D) (new : NodeState D) →
+  ends_by : (junk : Junk) (cause : Cause) (left : D) (new : NodeState D g) →
       HasCrashed g.state g.failures (calls_of g) junk left new →
       (cause ≡ Disk → RisesByOne (g.failures old) (g.failures left)) →
       ((cause ≡ Disk → ⊥) → g.failures left ≡ g.failures old) →
@@ -130,7 +130,7 @@ module _ {D : Type 0} (g : Ghosts D) (it : Fault) (old : D) where
   }
 
   -- .. and tells what the fault lets it tell
-  tells : (fault_of : Fault) (struck : Bool) (stop : Cause) (new : NodeState D) →
+  tells : (fault_of : Fault) (struck : Bool) (stop : Cause) (new : NodeState D g) →
       (struck ≡ true → stop ≡ Disk) →
       DiskEnds g.state g.failures (junk_at_end fault_of struck) stop old (disk_in new) →
       DiskFits g.state g.failures (calls_of g) None fault_of struck
@@ -149,7 +149,7 @@ module _ {D : Type 0} (g : Ghosts D) (it : Fault) (old : D) where
   same_cause (fault.Stop call junk) false stop cause is = cc
   same_cause (fault.Stop call junk) true stop cause is = absurd (cc)
 
-  module _ (left : D) (stop : Cause) (new : NodeState D) (did : StepOutcome)
+  module _ (left : D) (stop : Cause) (new : NodeState D g) (did : StepOutcome)
       (has_failed cause : Type 0)
       (was : IsSpent g (struck_at left) has_failed cause old left) (to : has_failed → stop ≡ Disk)
       (from : stop ≡ Disk → has_failed)

@@ -25,6 +25,7 @@ use Rattle.node.specs.declared.Reply.{Reply}
 use Rattle.node.specs.declared.Stop.{Stop as Cause}
 use Rattle.node.specs.declared.Stop.TheVariants.{Disk}
 use Rattle.node.specs.{replies_of, replies_to_response, IsEnvironmental}
+use Rattle.disk.specs.declared.Disk.{Ghosts}
 use Rattle.lab.specs.declared.input.StepOutcome.{StepOutcome}
 use Rattle.lab.specs.declared.input.StepOutcome.TheVariants as done
 use Rattle.lab.specs.declared.event.Event.{Event}
@@ -129,8 +130,8 @@ with_fault kind it = record { kind = kind; fault = it }
 
 -- an event's outcome with its lines: the node that it was for, and the state of that node now,
 -- where the fault struck or did not
-pub record IsOutcome (cs : Configurations) (w : SystemState BatchContent) (i x : ℕ)
-    (kind : EventKind) (it : Fault) (struck : Bool) (new : NodeState Slots) (did : StepOutcome)
+pub record IsOutcome {g : Ghosts Slots} (cs : Configurations) (w : SystemState BatchContent) (i x : ℕ)
+    (kind : EventKind) (it : Fault) (struck : Bool) (new : NodeState Slots g) (did : StepOutcome)
     : Type 0 where
   pub choice : Choice
   pub chose : choice.struck ≡ struck
@@ -158,8 +159,8 @@ pub record IsTraced (x : ℕ) (event : Event) (choice : Choice) (did : StepOutco
 abbrev pub chosen : StepResult → Bool → Cause → Choice
 chosen went struck cause = record { went = went; struck = struck; cause = cause }
 
-module _ (cs : Configurations) (w : SystemState BatchContent) (i x : ℕ) (kind : EventKind)
-    (it : Fault) (new : NodeState Slots) (did : StepOutcome) where
+module _ {g : Ghosts Slots} (cs : Configurations) (w : SystemState BatchContent) (i x : ℕ)
+    (kind : EventKind) (it : Fault) (new : NodeState Slots g) (did : StepOutcome) where
   -- with this choice the outcome is this one
   pub as_chosen : (choice : Choice) (o : Outcome BatchContent) (n : Machine) →
       outcome w cs (modelled i kind choice) ≡ o → o.acted_on ≡ Some (x, n) →
@@ -276,8 +277,8 @@ shows_so inp kind (r ∷ replies) each =
     (replies_of inp replies))
 
 -- an input, as the model has it
-module _ (cs : Configurations) (w : SystemState BatchContent) (i x : ℕ) (kind : EventKind)
-    (it : Fault) (struck : Bool) (inp : Input) (new : NodeState Slots) (did : StepOutcome)
+module _ {g : Ghosts Slots} (cs : Configurations) (w : SystemState BatchContent) (i x : ℕ)
+    (kind : EventKind) (it : Fault) (struck : Bool) (inp : Input) (new : NodeState Slots g) (did : StepOutcome)
     (at : (choice : Choice) → outcome w cs (modelled i kind choice)
     ≡ cond (w.nodes x).running
     (as_completed x (w.nodes x) (answer_to x (w.nodes x) inp) choice.went)

@@ -9,6 +9,7 @@ use Rattle.chain_model.specs.{Configurations, has, last_of, ResponseAgrees, OneL
 use Rattle.chain_model.specs.{IsPrefix, RunIsOutcomes, Response, Outcome, SystemEvent as ModelEvent}
 use Rattle.chain_model.specs.{outcomes, first_state, reached, node_of}
 use Rattle.chain_core.specs.{Machine}
+use Rattle.disk.specs.declared.Disk.{Ghosts}
 use Rattle.node.specs.declared.Node.{Node}
 use Rattle.node.specs.{NodeRefines, DiskAlwaysRefines, disk_of}
 use Rattle.lab.specs.declared.event.Event.{Event}
@@ -71,6 +72,14 @@ one_of state failures calls id disk cs events choices steps nodes trace disks on
           )) nodes disks.each;
     }
 
+-- the disk of a node represents its machine, up or down, where that of each node that is up does
+pub disk_represents : {g : Ghosts Slots} → ((node : Node Slots g) (x : ℕ) (n : Machine) →
+    NodeRefines is_honest state node x n → DiskAlwaysRefines (state (disk_of node)) x n) →
+    (new : NodeState Slots g) (x : ℕ) (n : Machine) → StateRefines is_honest state new x n →
+    DiskAlwaysRefines (state (disk_in new)) x n
+disk_represents law (Up node) x n is = law node x n is
+disk_represents law (Down disk) x n is = is.1
+
 module _ (sims : List SimNode) (posted : List Posted) (cs : Configurations) (events : List Event)
     (steps : List (List Line)) (made : RunRefines sims posted cs events steps) where
   -- what is left of a world's nodes is a run
@@ -110,9 +119,9 @@ module _ (sims : List SimNode) (posted : List Posted) (cs : Configurations) (eve
       (made.unarmed sim.id)) sims made.each
 
   -- and the disks of its nodes are those that its run left so far
-  pub disks_so_far : ((node : Node Slots) (x : ℕ) (n : Machine) → NodeRefines is_honest state node x
-      n →
-      DiskAlwaysRefines (state (disk_of node)) x n) →
+  pub disks_so_far : ((sim : SimNode) (x : ℕ) (n : Machine) →
+      StateRefines is_honest state sim.state x n →
+      DiskAlwaysRefines (state (disk_in sim.state)) x n) →
       HaveDisks state failures calls (λ (sim : SimNode). sim.id)
       (λ (sim : SimNode). disk_in sim.state) cs
       events made.choices sims
@@ -127,12 +136,6 @@ module _ (sims : List SimNode) (posted : List Posted) (cs : Configurations) (eve
             (made.disks sim.id))
             (λ sim refined_at. record {
               same = refined_at.disk;
-              stands = stands sim.state sim.id (machines sim.id) refined_at.is;
+              stands = law sim sim.id (machines sim.id) refined_at.is;
             }) sims made.each;
       }
-    where
-      stands : (new : NodeState Slots) (x : ℕ) (n : Machine) →
-          StateRefines is_honest state new x n →
-          DiskAlwaysRefines (state (disk_in new)) x n
-      stands (Up node) x n is = law node x n is
-      stands (Down disk) x n is = is.1

@@ -19,6 +19,7 @@ use Rattle.chain_model.specs.{Configurations, Lawful, AllDifferent, has, at_epoc
 use Rattle.chain_model.specs.{Message as ModelFrame, InOrder, SystemEvent as ModelEvent}
 use Rattle.chain_model.specs.{SystemState, Outcome, Answered, reached, first_state, outcome}
 use Rattle.chain_model.specs.{state_after, after, nothing}
+use Rattle.disk.specs.declared.Disk.{Ghosts}
 use Rattle.node.specs.declared.Node.{Node}
 use Rattle.node.specs.declared.Stop.TheVariants.{Disk}
 use Rattle.node.specs.{disk_of}
@@ -86,14 +87,14 @@ place_of world cs events steps run n i long fits is = record {
 }
 
 -- a running node that was stopped is down, and its disk is a crash of the one that it had
-crash_of : (junk : Junk) (own : Node Slots) (old new : NodeState Slots) → old ≡ Up own →
+crash_of : {g : Ghosts Slots} (junk : Junk) (own : Node Slots g) (old new : NodeState Slots g) → old ≡ Up own →
     StateFollows is_honest state failures calls old (to_node.Stop junk) new →
     IsCrashOf state failures calls junk (disk_of own) (disk_in new)
-crash_of junk own old new runs follows =
-    crashed new (subst (λ (m : NodeState Slots). StateFollows is_honest state failures calls m
+crash_of {g = g} junk own old new runs follows =
+    crashed new (subst (λ (m : NodeState Slots g). StateFollows is_honest state failures calls m
     (to_node.Stop junk) new) runs follows tt)
   where
-    crashed : (left : NodeState Slots) → HasCrashed state failures calls junk (disk_of own) left →
+    crashed : (left : NodeState Slots g) → HasCrashed state failures calls junk (disk_of own) left →
         IsCrashOf state failures calls junk (disk_of own) (disk_in left)
     crashed (Up other) has = absurd has
     crashed (Down disk) has = has

@@ -68,7 +68,7 @@ HasAnswered did P = (output : Output) × (did ≡ done.Answered output) × P out
 -- ---- the fault of an event
 
 -- whether the fault struck a call of a node's disk
-abbrev pub has_struck_in : {D : Type 0} → (D → ℕ) → Fault → D → NodeState D → Bool
+abbrev pub has_struck_in : {D : Type 0} {g : Ghosts D} → (D → ℕ) → Fault → D → NodeState D g → Bool
 has_struck_in calls fault old new =
     has_reached (struck_call fault) (calls old) (calls (disk_in new))
 
@@ -88,8 +88,8 @@ IsExplained disk struck did = did ≡ done.Stopped (Some Disk) → (struck ≡ t
 
 -- an input of a step: the node ran and answered; or it stopped by itself, as before the step or as
 -- after it; or it is down
-pub data HasHandled {D : Type 0} (is_honest : D → Type 0) (state : D → State) (fault : Fault)
-    (struck : Bool) (x : ℕ) (n : Machine) (inp : Input) (new : NodeState D) (did : StepOutcome)
+pub data HasHandled {D : Type 0} {g : Ghosts D} (is_honest : D → Type 0) (state : D → State) (fault : Fault)
+    (struck : Bool) (x : ℕ) (n : Machine) (inp : Input) (new : NodeState D g) (did : StepOutcome)
     : Type 0 where
   Answers : n.running ≡ true → StateRefines is_honest state new x (answer_to x n inp).node
       → HasAnswered did (IsAnswer inp (answer_to x n inp))
@@ -103,8 +103,8 @@ pub data HasHandled {D : Type 0} (is_honest : D → Type 0) (state : D → State
       → HasHandled is_honest state fault struck x n inp new did
 
 -- a node was started: it runs as the machine that was started, or stopped by itself; or it ran
-pub data HasStarted {D : Type 0} (is_honest : D → Type 0) (state : D → State) (fault : Fault)
-    (struck : Bool) (x : ℕ) (n : Machine) (new : NodeState D) (did : StepOutcome) : Type 0 where
+pub data HasStarted {D : Type 0} {g : Ghosts D} (is_honest : D → Type 0) (state : D → State) (fault : Fault)
+    (struck : Bool) (x : ℕ) (n : Machine) (new : NodeState D g) (did : StepOutcome) : Type 0 where
   Starts : n.running ≡ false → StateRefines is_honest state new x (started x n)
       → did ≡ done.Started n.epoch (length n.list) (started x n).committed
       → HasStarted is_honest state fault struck x n new did
@@ -116,8 +116,8 @@ pub data HasStarted {D : Type 0} (is_honest : D → Type 0) (state : D → State
       → HasStarted is_honest state fault struck x n new did
 
 -- a node was stopped: it is down, or was
-pub data HasStopped {D : Type 0} (is_honest : D → Type 0) (state : D → State) (x : ℕ)
-    (n : Machine) (new : NodeState D) (did : StepOutcome) : Type 0 where
+pub data HasStopped {D : Type 0} {g : Ghosts D} (is_honest : D → Type 0) (state : D → State) (x : ℕ)
+    (n : Machine) (new : NodeState D g) (did : StepOutcome) : Type 0 where
   Stops : n.running ≡ true → StateRefines is_honest state new x (stopped n) →
       did ≡ done.Stopped None
       → HasStopped is_honest state x n new did
@@ -126,8 +126,8 @@ pub data HasStopped {D : Type 0} (is_honest : D → Type 0) (state : D → State
       → HasStopped is_honest state x n new did
 
 -- what is no frame between nodes is dropped, for this reason if the node runs
-pub data HasDropped {D : Type 0} (is_honest : D → Type 0) (state : D → State) (x : ℕ) (n : Machine)
-    (why : DropReason) (new : NodeState D) (did : StepOutcome) : Type 0 where
+pub data HasDropped {D : Type 0} {g : Ghosts D} (is_honest : D → Type 0) (state : D → State) (x : ℕ) (n : Machine)
+    (why : DropReason) (new : NodeState D g) (did : StepOutcome) : Type 0 where
   Drops : n.running ≡ true → StateRefines is_honest state new x n → HasAnswered did (IsDrop why)
       → HasDropped is_honest state x n why new did
   DropsResting : n.running ≡ false → StateRefines is_honest state new x n
@@ -136,8 +136,8 @@ pub data HasDropped {D : Type 0} (is_honest : D → Type 0) (state : D → State
 
 -- this input left node x, which was machine n, in this state with this outcome, where a fault
 -- struck or did not
-abbrev pub OutcomeRefines : {D : Type 0} → (D → Type 0) → (D → State) → Fault → Bool → ℕ → Machine
-    → NodeInput → NodeState D → StepOutcome → Type 0
+abbrev pub OutcomeRefines : {D : Type 0} {g : Ghosts D} → (D → Type 0) → (D → State) → Fault → Bool → ℕ → Machine
+    → NodeInput → NodeState D g → StepOutcome → Type 0
 OutcomeRefines is_honest state fault struck x n (to_node.Step inp) new did =
     HasHandled is_honest state fault struck x n inp new did
 OutcomeRefines is_honest state fault struck x n (to_node.BadFrame why) new did =
@@ -157,14 +157,14 @@ input_junk (to_node.BadFrame why) = None
 input_junk to_node.Start = None
 
 -- no call of the disk failed, so no fault struck, and a node that is down has the same one
-pub record DiskStays {D : Type 0} (failures : D → ℕ) (struck : Bool) (old : D) (new : NodeState D)
+pub record DiskStays {D : Type 0} {g : Ghosts D} (failures : D → ℕ) (struck : Bool) (old : D) (new : NodeState D g)
     : Type 0 where
   pub spared : struck ≡ false
   pub count : failures (disk_in new) ≡ failures old
   pub same : IsDown new → disk_in new ≡ old
 
 -- a node that was stopped is down, and its disk crashed with this junk
-abbrev pub HasCrashed : {D : Type 0} → (D → State) → (D → ℕ) → (D → ℕ) → Junk → D → NodeState D
+abbrev pub HasCrashed : {D : Type 0} {g : Ghosts D} → (D → State) → (D → ℕ) → (D → ℕ) → Junk → D → NodeState D g
     → Type 0
 HasCrashed state failures calls junk old (Up node) = ⊥
 HasCrashed state failures calls junk old (Down disk) = IsCrashOf state failures calls junk old disk
@@ -179,16 +179,16 @@ pub record DiskEnds {D : Type 0} (state : D → State) (failures : D → ℕ) (j
   pub crashes : CrashOutcome junk left (state new)
 
 -- a node stopped and tells no cause: the event stopped it with its junk, or else the fault did
-abbrev pub HasCrashedWith : {D : Type 0} → (D → State) → (D → ℕ) → (D → ℕ) → Option Junk → Fault
-    → Bool → D → NodeState D → Type 0
+abbrev pub HasCrashedWith : {D : Type 0} {g : Ghosts D} → (D → State) → (D → ℕ) → (D → ℕ) → Option Junk → Fault
+    → Bool → D → NodeState D g → Type 0
 HasCrashedWith state failures calls (Some junk) fault struck old new =
     HasCrashed state failures calls junk old new
 HasCrashedWith state failures calls None fault struck old new =
     DiskEnds state failures (junk_at_end fault struck) Disk old (disk_in new)
 
 -- the disk that a node had and the one behind its outcome
-abbrev pub DiskFits : {D : Type 0} → (D → State) → (D → ℕ) → (D → ℕ) → Option Junk → Fault → Bool
-    → StepOutcome → D → NodeState D → Type 0
+abbrev pub DiskFits : {D : Type 0} {g : Ghosts D} → (D → State) → (D → ℕ) → (D → ℕ) → Option Junk → Fault → Bool
+    → StepOutcome → D → NodeState D g → Type 0
 DiskFits state failures calls junk fault struck (done.Answered output) old new =
     DiskStays failures struck old new
 DiskFits state failures calls junk fault struck (done.Started epoch count committed) old new =
@@ -202,8 +202,8 @@ DiskFits state failures calls junk fault struck (done.Stopped (Some cause)) old 
 
 -- an input that the node ignores leaves its state as it was, and one that stops a running node
 -- leaves a crash of its disk with the junk
-abbrev pub StateFollows : {D : Type 0} → (D → Type 0) → (D → State) → (D → ℕ) → (D → ℕ)
-    → NodeState D → NodeInput → NodeState D → Type 0
+abbrev pub StateFollows : {D : Type 0} {g : Ghosts D} → (D → Type 0) → (D → State) → (D → ℕ) → (D → ℕ)
+    → NodeState D g → NodeInput → NodeState D g → Type 0
 StateFollows is_honest state failures calls (Up node) (to_node.Step inp) new = Unit {0}
 StateFollows is_honest state failures calls (Up node) (to_node.BadFrame why) new = new ≡ Up node
 StateFollows is_honest state failures calls (Up node) to_node.Start new = new ≡ Up node
@@ -218,7 +218,7 @@ StateFollows is_honest state failures calls (Down disk) (to_node.Stop junk) new 
 
 -- a node in the old state took this input, with this fault armed: its new state and its outcome
 pub record HasDispatched {D : Type 0} (g : Ghosts D) (fault : Fault) (node_input : NodeInput)
-    (old new : NodeState D) (did : StepOutcome) : Type 0 where
+    (old new : NodeState D g) (did : StepOutcome) : Type 0 where
   pub ready : StateIsReady new
   pub refines : (x : ℕ) (n : Machine) → StateRefines g.is_honest g.state old x n →
       OutcomeRefines g.is_honest g.state fault

@@ -11,26 +11,29 @@ use Rattle.lab.specs.declared.node_state.NodeState.{NodeState}
 use Rattle.lab.specs.declared.node_state.NodeState.TheVariants.{Up, Down}
 
 -- the disk that a node owns, or that is left of one that is down
-abbrev pub disk_in : {D : Type 0} → NodeState D → D
+abbrev pub disk_in : {D : Type 0} {g : Ghosts D} → NodeState D g → D
 disk_in (Up node) = disk_of node
 disk_in (Down disk) = disk
 
 -- the node is down
-abbrev pub IsDown : {D : Type 0} → NodeState D → Type 0
+abbrev pub IsDown : {D : Type 0} {g : Ghosts D} → NodeState D g → Type 0
 IsDown (Up node) = ⊥
 IsDown (Down disk) = Unit {0}
 
 -- a step of it may follow, if it is up
-abbrev pub StateIsReady : {D : Type 0} → NodeState D → Type 0
-StateIsReady {D} new = (node : Node D) → new ≡ Up node → IsReady node
+abbrev pub StateIsReady : {D : Type 0} {g : Ghosts D} → NodeState D g → Type 0
+StateIsReady {D} {g} new = (node : Node D g) → new ≡ Up node → IsReady node
 
--- a running node refines machine n as node x; the disk of one that is down is honest and
--- represents it
-abbrev pub StateRefines : {D : Type 0} → (D → Type 0) → (D → State) → NodeState D → ℕ → Machine
-    → Type 0
-StateRefines is_honest state (Up node) x n = NodeRefines is_honest state node x n
-StateRefines is_honest state (Down disk) x n =
+-- the disk of a node that is down is honest, and represents machine n as node x
+abbrev pub DownRefines : {D : Type 0} → (D → Type 0) → (D → State) → D → ℕ → Machine → Type 0
+DownRefines is_honest state disk x n =
     is_honest disk × DiskAlwaysRefines (state disk) x n × (n.running ≡ false)
+
+-- a running node refines machine n as node x, or the disk of one that is down does
+abbrev pub StateRefines : {D : Type 0} {g : Ghosts D} → (D → Type 0) → (D → State) → NodeState D g
+    → ℕ → Machine → Type 0
+StateRefines is_honest state (Up node) x n = NodeRefines is_honest state node x n
+StateRefines is_honest state (Down disk) x n = DownRefines is_honest state disk x n
 
 -- what the code may choose in a step: how it went, whether the event's fault struck in it, and why
 -- the node stopped if it did

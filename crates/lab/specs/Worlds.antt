@@ -155,7 +155,7 @@ pub record IsStopped (old new : List SimNode) (x : ℕ) (junk : Junk) : Type 0 w
   pub at : IsIndexOf old index x
   pub sim : SimNode
   pub others : new ≡ slice_set old index sim
-  pub crashes : (node : Node Slots) → (get_or old index sim).state ≡ Up node →
+  pub crashes : (node : Node Slots _) → (get_or old index sim).state ≡ Up node →
       IsCrashOf state failures calls junk (disk_of node) (disk_in sim.state)
 
 -- a stop event stops the node that it names, with its junk

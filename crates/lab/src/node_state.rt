@@ -7,7 +7,7 @@ ghost use Rattle.chain_core.specs.{Machine};
 ghost use Rattle.node.specs.{DiskAlwaysRefines, IsReady, NodeRefines, StopRefines, disk_of};
 ghost use Rattle.lab.specs.Disks.{junk_at_end};
 ghost use Rattle.lab.specs.Events.{told_cause};
-ghost use Rattle.lab.specs.SimNodes.{StateRefines, StateIsReady, calls_of, disk_in};
+ghost use Rattle.lab.specs.SimNodes.{DownRefines, StateRefines, StateIsReady, calls_of, disk_in};
 ghost use Rattle.lab.specs.Outcomes.{DiskFits, HasCrashed, HasHandled, HasStarted, HasDispatched};
 ghost use Rattle.lab.specs.Outcomes.{IsExplained, has_struck_in};
 
@@ -75,7 +75,7 @@ fn start<D: Crash + Drop>(
 ) -> (NodeState<D>, StepOutcome)
     ensures ready { StateIsReady result.0 }
     ensures refines { (x : ℕ) (n : Machine) →
-        StateRefines D.is_honest D.state (NodeState.Down disk) x n →
+        DownRefines D.is_honest D.state disk x n →
         HasStarted D.is_honest D.state fault
         (has_struck_in (calls_of D.Disk) fault disk result.0) x n result.0 result.1 }
     ensures disk { D.is_honest disk →

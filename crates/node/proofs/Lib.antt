@@ -1,10 +1,2 @@
-pub mod Identities
-pub mod Records
-pub mod Causes
-pub mod Keeping
-pub mod Engines
-pub mod Opens
-pub mod Blank
 pub mod Outputs
 pub mod Running
-pub mod Steps

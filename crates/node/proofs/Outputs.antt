@@ -92,10 +92,10 @@ tells_read n (asked.Forward epoch from number batch) request at key result read 
 tells_read n (asked.Ack epoch from committed have) request at key result read tells = absurd read
 tells_read n asked.Tick request at key result read tells = absurd read
 
--- a read is at the floor or above
+-- a read is at a number from the floor to the committed number
 pub readable : (n : Machine) (input : Input) (request at : ℕ) (key : List ℕ) →
-    IsReadOf n input (decision.Read request key at) → n.floor ≤ at
-readable n (asked.Get other asked_key number) request at key read = read.1
+    IsReadOf n input (decision.Read request key at) → (n.floor ≤ at) × (at ≤ n.committed)
+readable n (asked.Get other asked_key number) request at key read = (read.1, read.2)
 readable n (asked.Submit other batch) request at key read = absurd read
 readable n (asked.Forward epoch from number batch) request at key read = absurd read
 readable n (asked.Ack epoch from committed have) request at key read = absurd read

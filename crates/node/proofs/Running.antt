@@ -1,15 +1,21 @@
 -- A running node after its store's part and after a start, and what its disk leaves.
-use Rattle.std.proofs.Common.{◌≡◌, ℕ, ◌+◌, List, [], ◌∷◌, ◌++◌, length, true, inl, inr}
+use Rattle.std.proofs.Common.{◌≡◌, ◌↔◌, ℕ, ◌+◌, ◌<◌, ◌≤◌, List, [], ◌∷◌, ◌++◌, length, true, inl, inr}
 use Rattle.std.proofs.Common.{suc, arith, map, Option, Some, None, refl, sym, ap, subst, ◌∙◌}
 use Rattle.std.proofs.Common.{replicate, length-append}
-use Rattle.std.specs.Prelude.{◌⊎◌, Result, Ok, Err, IfOk, IfErr}
+use Rattle.std.specs.Prelude.{◌⊎◌, Result, Ok, Err, IfOk, IfErr, IsErrAnd, MatchResult, OnOk}
 use Rattle.std.proofs.lemmas.List.{length-replicate}
 use Rattle.kv_types.specs.{BatchContent}
 use Rattle.disk.specs.declared.Disk.{Ghosts}
-use Rattle.disk.specs.{AlwaysLeaves, Contents, DurableIsLeft, IsCrashOutcome, State, contents}
+use Rattle.disk.specs.{AlwaysLeaves, Contents, IsCrashOutcome, KeepsDisk, State, contents}
 use Rattle.disk.specs.MomentsLemmas.{weaker}
 use Rattle.disk.specs.StillLemmas.{still}
-use Rattle.chain_model.specs.{successor, place, Answer, started, Message}
+use Rattle.engine.specs.declared.Engine.{Engine}
+use Rattle.engine.specs.{EngineHolds, Facts, FailsDevice, FilesRepresent, IsOfMachine, IsOneOf, engine_disk}
+use Rattle.engine.specs.{LookUps, TellsReadable, facts_of, look_ups}
+use Rattle.engine.specs.declared.EngineError.TheVariants as engine
+use Rattle.kv_types.specs.declared.bounds.TheConstants.{MAX_NUMBER}
+use Rattle.engine.specs.declared.EngineError.{EngineError}
+use Rattle.chain_model.specs.{place, Answer, created, started, Message}
 use Rattle.chain_core.specs.declared.Done.{Done}
 use Rattle.chain_core.specs.declared.Done.TheVariants as done
 use Rattle.chain_core.specs.declared.Input.{Input}
@@ -19,28 +25,17 @@ use Rattle.chain_core.specs.{StepsLeave, StandsLast, list_after, epoch_after, id
 use Rattle.chain_core.specs.{floor_after, kept_after, frames_after}
 use Rattle.chain_core.specs as core
 use Rattle.chain_core.specs.declared.Decision.{Decision}
-use Rattle.node.specs.declared.engine.Engine.{Engine}
 use Rattle.node.specs.declared.node.Node.{Node}
 use Rattle.node.specs.declared.output.Output.{Output}
 use Rattle.node.specs.declared.stop.Stop.{Stop}
 use Rattle.node.specs.declared.stop.Stop.TheVariants as stop
-use Rattle.node.specs.declared.layout.Identity.{Identity}
-use Rattle.node.specs.Engines.{EngineHolds, HasNumbersOf, IsOpened}
-use Rattle.node.specs.Files.{DiskRepresents, IsOneOf}
-use Rattle.node.specs.Starts.{IsStarted}
-use Rattle.node.specs.Steps.{DiskRefines, NodeRefines, DiskAlwaysRefines, StepRefines}
-use Rattle.node.specs.Stops.{IsEnvironmental}
+use Rattle.node.specs.Steps.{DiskRefines, NodeRefines, DiskAlwaysRefines, StepRefines, disk_of}
+use Rattle.node.specs.Starts.{IsStarted, StartRefusal, disk_behind}
+use Rattle.node.specs.Steps.{HasNumbersOf, facts_for}
+use Rattle.node.specs.Stops.{IsDeviceStop, IsEnvironmental, engine_stop}
 use Rattle.node.proofs.Outputs.{tells_rule}
 use Rattle.node.specs.Outputs.{OutputHas, OutputRefines, committed_reply, NodeFollows, CallRefines}
-use Rattle.node.specs.Outputs.{AlwaysRefines, HasAppended, IsCopyFor}
-use Rattle.node.proofs.Engines.{has_numbers_of, holds_as, represented}
-
--- a node after a call of its engine, and one that knows other numbers
-abbrev pub with_engine : {D : Type 0} → Node D → D → Engine → Node D
-with_engine node disk engine = record node { disk = disk; engine = engine }
-
-abbrev pub with_core : {D : Type 0} → Node D → Core → Node D
-with_core node core = record node { core = core }
+use Rattle.node.specs.Outputs.{AlwaysRefines, HasAppended}
 
 -- a machine with these numbers, and as many batches as they count
 abbrev pub machine_with : Core → Machine
@@ -118,55 +113,101 @@ keeps_kept law old new d due after =
     let n = machine_with old in
     sym (after n [] (has_numbers old)).is.kept ∙ (law old.id n [] d).kept ∙ same_kept n d
 
--- an engine that has one batch more holds what the step leaves
-pub holds_appended : (disk : State) (engine : Engine) (x : ℕ) (n : Machine) (batch : BatchContent)
-    (d : Done) → HasAppended d →
-    EngineHolds disk engine x n.epoch n.ids (n.list ++ batch ∷ []) n.floor n.kept →
-    EngineHolds disk engine x (epoch_after n d) (ids_after n d) (list_after n batch d)
-    (floor_after n d) (kept_after n d)
-holds_appended disk engine x n batch (done.Accepted request) has holds = holds
-holds_appended disk engine x n batch done.Appended has holds = holds
-holds_appended disk engine x n batch (done.Acked committed have) has holds = absurd has
+-- a property of every result holds of an answer
+pub on_ok : {T E P : Type 0} (result : Result T E) → P → OnOk result P
+on_ok (Ok x) p = p
+on_ok (Err e) p = tt
 
--- a disk with one batch more represents what the step leaves
-represents_appended : (left : Contents) (x : ℕ) (n : Machine) (batch : BatchContent) (d : Done) →
-    HasAppended d →
-    DiskRepresents left x n.epoch n.ids (n.list ++ batch ∷ []) n.floor n.kept →
-    DiskRepresents left x (epoch_after n d) (ids_after n d) (list_after n batch d)
-    (floor_after n d) (kept_after n d)
-represents_appended left x n batch (done.Accepted request) has it = it
-represents_appended left x n batch done.Appended has it = it
-represents_appended left x n batch (done.Acked committed have) has it = absurd has
+-- ---- causes
 
--- the state that a disk represents, for equal numbers
-represents_as : (left : Contents) (x e d : ℕ) (ids js : List ℕ) (list more : List BatchContent)
-    (f g k h : ℕ) → d ≡ e → js ≡ ids → more ≡ list → g ≡ f → h ≡ k →
-    DiskRepresents left x e ids list f k → DiskRepresents left x d js more g h
-represents_as left x e d ids js list more f g k h of_epoch of_ids of_list of_floor of_kept it =
-    rw (of_epoch, of_ids, of_list, of_floor, of_kept) it
+-- an answer is no failure of the device
+pub done_told : {T : Type 0} {x : T} → IsDeviceStop (Ok x) → ⊥
+done_told fails = cc
 
--- a disk that represents the batches before an append or after it is that of the machine before or
--- after
-pub one_of_machines : (x : ℕ) (n : Machine) (batch : BatchContent) (d : Done)
-    (a : Answer BatchContent) → StepLeaves x n batch d a → HasAppended d → (left : Contents) →
-    IsOneOf x n.epoch n.ids n.list (n.list ++ batch ∷ []) n.floor n.kept left →
-    DiskRefines left x n ⊎ DiskRefines left x a.node
-one_of_machines x n batch d a leaves has left (inl old) = inl old
-one_of_machines x n batch d a leaves has left (inr new) =
-    let m = a.node in
-    inr (represents_as left x (epoch_after n d) m.epoch (ids_after n d) m.ids
-    (list_after n batch d) m.list (floor_after n d) m.floor (kept_after n d) m.kept
-    leaves.epoch leaves.ids leaves.list leaves.floor leaves.kept
-    (represents_appended left x n batch d has new))
+-- nor is want of memory
+pub memory_told : {U : Type 0} (result : Result U Stop) →
+    IsErrAnd result (λ s. s ≡ stop.Memory) → IsDeviceStop result → ⊥
+memory_told (Ok x) told fails = absurd told
+memory_told (Err s) told fails = cc
 
--- a copy for the successor is one after a step, which leaves id and configuration
-pub copy_after : (old new : Core) (n m : Machine) (x : ℕ) (batch : BatchContent)
-    (copy : Option BatchContent) → CoreRefines old n → m.ids ≡ n.ids → old.id ≡ x → new.id ≡ x →
-    IsCopyFor (successor old.ids old.id) batch copy → IsCopyFor (successor m.ids new.id) batch copy
-copy_after old new n m x batch copy is ids old_id new_id copied =
-    let same_ids : m.ids ≡ old.ids = ids ∙ is.ids in
-    let same_id : new.id ≡ old.id = new_id ∙ sym old_id in
-    rw (same_ids, same_id) copied
+-- a refusal of the engine is passed on
+pub stop_passed : {T U : Type 0} (called : Result T EngineError) (e : EngineError)
+    (result : Result U Stop) → called ≡ Err e → IsErrAnd result (λ s. s ≡ engine_stop e) →
+    FailsDevice called ↔ IsDeviceStop result
+stop_passed called e (Ok x) is told = absurd told
+stop_passed called engine.Disk (Err s) is told = (λ f. ap (λ d. Err d) told, λ f. is)
+stop_passed called engine.Damaged (Err s) is told = (λ f. cc, λ f. cc)
+stop_passed called engine.Memory (Err s) is told = (λ f. cc, λ f. cc)
+stop_passed called engine.NotCreated (Err s) is told = (λ f. cc, λ f. cc)
+stop_passed called engine.Failed (Err s) is told = (λ f. cc, λ f. cc)
+stop_passed called engine.TooOld (Err s) is told = (λ f. cc, λ f. cc)
+stop_passed called engine.NotCommitted (Err s) is told = (λ f. cc, λ f. cc)
+stop_passed called engine.Exhausted (Err s) is told = (λ f. cc, λ f. cc)
+
+-- what holds of the cause holds of the refusal that tells it
+pub refuses : {T E : Type 0} (result : Result T E) {e : E} (P : T → Type 0) (Q : E → Type 0) →
+    IsErrAnd result (λ s. s ≡ e) → Q e → MatchResult result P Q
+refuses (Ok x) P Q told q = absurd told
+refuses (Err s) P Q told q = subst Q (sym told) q
+
+-- an engine that answered works on
+pub still_works : {ended was told : Type 0} → ended ↔ (was ⊎ told) → (was → ⊥) → ended → told
+still_works iff works ended = elim (iff.0 ended) [ inl before ↦ absurd (works before) | inr now ↦ now ]
+
+-- what the machine refuses an engine is a cause of the environment
+pub env_of : (e : EngineError) → IsOfMachine e → IsEnvironmental (engine_stop e)
+env_of e (inl is) = inl (ap engine_stop is)
+env_of e (inr is) = inr (ap engine_stop is)
+
+-- a read of a number that the engine can read is refused for such a cause alone
+pub read_env : (T : Type 0) (told : LookUps) (at : ℕ) (e : EngineError) →
+    TellsReadable {T = T} told at (Err e) → (e ≡ engine.Damaged → ⊥) → (e ≡ engine.Failed → ⊥) →
+    told.facts.floor ≤ at → at ≤ told.committed → IsOfMachine e
+read_env T told at engine.Disk tells whole works above known = inl refl
+read_env T told at engine.Damaged tells whole works above known = absurd (whole refl)
+read_env T told at engine.Memory tells whole works above known = inr refl
+read_env T told at engine.NotCreated tells whole works above known = absurd tells
+read_env T told at engine.Failed tells whole works above known = absurd (works refl)
+read_env T told at engine.TooOld tells whole works above known =
+    absurd (omega (arith, tells, above))
+read_env T told at engine.NotCommitted tells whole works above known =
+    absurd (omega (arith, tells, known))
+read_env T told at engine.Exhausted tells whole works above known = absurd tells
+
+-- an append is refused for such a cause, where a number is left
+pub append_env : (e : EngineError) (count : ℕ) → IsOfMachine e ⊎ ((e ≡ engine.Exhausted)
+    × (MAX_NUMBER ≤ count)) → count < MAX_NUMBER → IsOfMachine e
+append_env e count (inl of_machine) room = of_machine
+append_env e count (inr full) room = absurd (omega (arith, full.1, room))
+
+-- ---- facts
+
+abbrev facts_with : (x e : ℕ) → List ℕ → (f k : ℕ) → Facts
+facts_with x e ids f k = record { id = x; epoch = e; ids = ids; floor = f; kept = k }
+
+-- equal numbers are equal facts
+facts_as : (x d e f h k l : ℕ) (ids js : List ℕ) → d ≡ e → ids ≡ js → f ≡ h → k ≡ l →
+    facts_with x d ids f k ≡ facts_with x e js h l
+facts_as x d e f h k l ids js of_epoch of_ids of_floor of_kept =
+    rw (of_epoch, of_ids, of_floor, of_kept) refl
+
+-- a step leaves the facts
+pub same_facts : (x : ℕ) (n : Machine) (batch : BatchContent) (d : Done)
+    (a : Answer BatchContent) → StepLeaves x n batch d a → facts_for x a.node ≡ facts_for x n
+same_facts x n batch (done.Accepted request) a leaves =
+    facts_as x a.node.epoch n.epoch a.node.floor n.floor a.node.kept n.kept a.node.ids n.ids
+    leaves.epoch leaves.ids leaves.floor leaves.kept
+same_facts x n batch done.Appended a leaves =
+    facts_as x a.node.epoch n.epoch a.node.floor n.floor a.node.kept n.kept a.node.ids n.ids
+    leaves.epoch leaves.ids leaves.floor leaves.kept
+same_facts x n batch (done.Acked committed have) a leaves =
+    facts_as x a.node.epoch n.epoch a.node.floor n.floor a.node.kept n.kept a.node.ids n.ids
+    leaves.epoch leaves.ids leaves.floor leaves.kept
+
+-- and one batch more, where one was appended
+pub list_is : (x : ℕ) (n : Machine) (batch : BatchContent) (d : Done) (a : Answer BatchContent) →
+    StepLeaves x n batch d a → HasAppended d → a.node.list ≡ n.list ++ batch ∷ []
+list_is x n batch d a leaves has = leaves.list ∙ appended_list n batch d has
 
 -- the number of an appended batch
 pub number_taken : (x : ℕ) (n : Machine) (batch : BatchContent) (d : Done)
@@ -190,67 +231,174 @@ taken_stands law x n batch d a count leaves has number =
 
 module _ {D : Type 0} (g : Ghosts D) where
   -- every crash outcome of its disk represents the node
-  pub rests : DurableIsLeft → (node : Node D) (x : ℕ) (n : Machine) →
-      NodeRefines g.is_honest g.state node x n → DiskAlwaysRefines (g.state node.disk) x n
-  rests law node x n r left leaves =
-      represented law (g.state node.disk) node.engine x n.epoch n.ids n.list n.floor n.kept r.store
-      left leaves
+  pub rests : (node : Node D g) (x : ℕ) (n : Machine) →
+      NodeRefines g.is_honest g.state node x n → DiskAlwaysRefines (g.state (disk_of node)) x n
+  rests node x n r left leaves =
+      subst (λ (f : Facts). FilesRepresent f n.list left) r.facts (r.store.crash left leaves)
 
   -- calls that leave nothing new leave its disk
-  pub still_refines : DurableIsLeft → (old : Node D) (new : D) (x : ℕ) (n m : Machine) →
-      NodeRefines g.is_honest g.state old x n → AlwaysLeaves g old.disk new
-      (IsCrashOutcome (g.state old.disk)) → AlwaysRefines g old.disk new x n m
-  still_refines law old new x n m r run =
-      weaker (IsCrashOutcome (g.state old.disk))
-      (λ left. DiskRefines left x n ⊎ DiskRefines left x m) (g.state old.disk) (g.past old.disk)
-      (g.state new) (g.past new) (λ left leaves. inl (rests law old x n r left leaves)) run
+  pub still_refines : (old : Node D g) (new : D) (x : ℕ) (n m : Machine) →
+      NodeRefines g.is_honest g.state old x n → AlwaysLeaves g (disk_of old) new
+      (IsCrashOutcome (g.state (disk_of old))) → AlwaysRefines g (disk_of old) new x n m
+  still_refines old new x n m r run =
+      weaker (IsCrashOutcome (g.state (disk_of old)))
+      (λ left. DiskRefines left x n ⊎ DiskRefines left x m) (g.state (disk_of old))
+      (g.past (disk_of old)) (g.state new) (g.past new)
+      (λ left leaves. inl (rests old x n r left leaves)) run
 
   -- no call leaves it
-  pub at_rest : DurableIsLeft → (old : Node D) (x : ℕ) (n m : Machine) →
-      NodeRefines g.is_honest g.state old x n → AlwaysRefines g old.disk old.disk x n m
-  at_rest law old x n m r =
-      still_refines law old old.disk x n m r (still (g.state old.disk) (g.past old.disk))
+  pub at_rest : (old : Node D g) (x : ℕ) (n m : Machine) →
+      NodeRefines g.is_honest g.state old x n → AlwaysRefines g (disk_of old) (disk_of old) x n m
+  at_rest old x n m r =
+      still_refines old (disk_of old) x n m r
+      (still (g.state (disk_of old)) (g.past (disk_of old)))
 
   -- an append leaves it before or after
-  pub appends : (old new : D) (x : ℕ) (n : Machine) (batch : BatchContent) (d : Done)
+  pub appends : (old : Node D g) (new : D) (x : ℕ) (n : Machine) (batch : BatchContent) (d : Done)
       (a : Answer BatchContent) → StepLeaves x n batch d a → HasAppended d →
-      AlwaysLeaves g old new
-      (IsOneOf x n.epoch n.ids n.list (n.list ++ batch ∷ []) n.floor n.kept) →
-      AlwaysRefines g old new x n a.node
-  appends old new x n batch d a leaves has run =
-      weaker (IsOneOf x n.epoch n.ids n.list (n.list ++ batch ∷ []) n.floor n.kept)
-      (λ left. DiskRefines left x n ⊎ DiskRefines left x a.node) (g.state old) (g.past old)
-      (g.state new) (g.past new) (one_of_machines x n batch d a leaves has) run
+      NodeRefines g.is_honest g.state old x n →
+      AlwaysLeaves g (disk_of old) new (IsOneOf (facts_of old.engine) n.list (facts_of old.engine)
+      (n.list ++ batch ∷ [])) → AlwaysRefines g (disk_of old) new x n a.node
+  appends old new x n batch d a leaves has r run =
+      weaker (IsOneOf (facts_of old.engine) n.list (facts_of old.engine) (n.list ++ batch ∷ []))
+      (λ left. DiskRefines left x n ⊎ DiskRefines left x a.node) (g.state (disk_of old))
+      (g.past (disk_of old)) (g.state new) (g.past new) one_of run
+    where
+      after : (left : Contents) → FilesRepresent (facts_of old.engine) (n.list ++ batch ∷ []) left →
+          DiskRefines left x a.node
+      after left it =
+          subst (λ (l : List BatchContent). FilesRepresent (facts_for x a.node) l left)
+          (sym (list_is x n batch d a leaves has))
+          (subst (λ (f : Facts). FilesRepresent f (n.list ++ batch ∷ []) left)
+          (r.facts ∙ sym (same_facts x n batch d a leaves)) it)
+
+      one_of : (left : Contents) → IsOneOf (facts_of old.engine) n.list (facts_of old.engine)
+          (n.list ++ batch ∷ []) left → DiskRefines left x n ⊎ DiskRefines left x a.node
+      one_of left (inl it) =
+          inl (subst (λ (f : Facts). FilesRepresent f n.list left) r.facts it)
+      one_of left (inr it) = inr (after left it)
 
   -- a node whose engine holds what it held runs on
-  pub still_runs : (node : Node D) (disk : D) (engine : Engine) (x : ℕ) (n : Machine) →
-      NodeRefines g.is_honest g.state node x n → g.is_honest disk →
-      EngineHolds (g.state disk) engine x n.epoch n.ids n.list n.floor n.kept →
-      NodeRefines g.is_honest g.state (with_engine node disk engine) x n
-  still_runs node disk engine x n r honest holds =
-      record { honest = honest; store = holds; core = r.core; id = r.id }
+  pub still_runs : (old new : Node D g) (x : ℕ) (n : Machine) →
+      NodeRefines g.is_honest g.state old x n → EngineHolds g new.engine n.list →
+      facts_of new.engine ≡ facts_of old.engine → new.core ≡ old.core →
+      NodeRefines g.is_honest g.state new x n
+  still_runs old new x n r holds facts same = record {
+    honest = holds.reads.honest;
+    store = holds;
+    facts = facts ∙ r.facts;
+    core = subst (λ (k : Core). CoreRefines k n) (sym same) r.core;
+    id = ap (λ (k : Core). k.id) same ∙ r.id;
+  }
 
   -- a node that did its store's part runs as the machine after the rule
-  pub goes_on : (node : Node D) (x : ℕ) (n : Machine) (batch : BatchContent) (d : Done)
-      (a : Answer BatchContent) → StepLeaves x n batch d a → g.is_honest node.disk →
-      EngineHolds (g.state node.disk) node.engine x (epoch_after n d) (ids_after n d)
-      (list_after n batch d) (floor_after n d) (kept_after n d) → CoreRefines node.core a.node →
-      node.core.id ≡ x → NodeRefines g.is_honest g.state node x a.node
-  goes_on node x n batch d a leaves honest holds is id =
-      let m = a.node in
-      record {
-        honest = honest;
-        store = holds_as (g.state node.disk) node.engine x (epoch_after n d) m.epoch (ids_after n d)
-            m.ids (list_after n batch d) m.list (floor_after n d) m.floor (kept_after n d) m.kept
-            leaves.epoch leaves.ids leaves.list leaves.floor leaves.kept holds;
-        core = is;
-        id = id;
-      }
+  pub goes_on : (old new : Node D g) (x : ℕ) (n : Machine) (batch : BatchContent) (d : Done)
+      (a : Answer BatchContent) → StepLeaves x n batch d a →
+      NodeRefines g.is_honest g.state old x n → EngineHolds g new.engine (list_after n batch d) →
+      facts_of new.engine ≡ facts_of old.engine → CoreRefines new.core a.node →
+      new.core.id ≡ x → NodeRefines g.is_honest g.state new x a.node
+  goes_on old new x n batch d a leaves r holds facts is id = record {
+    honest = holds.reads.honest;
+    store = subst (λ (l : List BatchContent). EngineHolds g new.engine l) (sym leaves.list) holds;
+    facts = facts ∙ r.facts ∙ sym (same_facts x n batch d a leaves);
+    core = is;
+    id = id;
+  }
+
+  -- an engine with one batch more holds what the step leaves
+  pub list_after_is : (engine : Engine D g) (n : Machine) (batch : BatchContent) (d : Done) →
+      HasAppended d → EngineHolds g engine (n.list ++ batch ∷ []) →
+      EngineHolds g engine (list_after n batch d)
+  list_after_is engine n batch d has holds =
+      subst (λ (l : List BatchContent). EngineHolds g engine l) (sym (appended_list n batch d has))
+      holds
+
+  -- what is kept of a disk is kept of the same disk
+  pub kept_on : {failed cause : Type 0} {R : State → State → Type 0} {old new same : D} →
+      new ≡ same → KeepsDisk g old new failed cause R → KeepsDisk g old same failed cause R
+  kept_on {failed = failed} {cause = cause} {R = R} {old = old} is kept =
+      subst (λ (d : D). KeepsDisk g old d failed cause R) is kept
+
+  -- ---- starts
+
+  -- the node of an engine that was opened, which holds the machine's list
+  pub runs_opened : (node : Node D g) (x : ℕ) (n : Machine) →
+      EngineHolds g node.engine n.list → facts_of node.engine ≡ facts_for x n →
+      CoreRefines node.core (started x n) → node.core.id ≡ x →
+      NodeRefines g.is_honest g.state node x (started x n)
+  runs_opened node x n holds facts is id = record {
+    honest = holds.reads.honest;
+    store = holds;
+    facts = facts;
+    core = is;
+    id = id;
+  }
+
+  -- the numbers of an engine are those of a machine with its facts and its list
+  pub numbers_of : (engine : Engine D g) (x : ℕ) (n : Machine) → EngineHolds g engine n.list →
+      facts_of engine ≡ facts_for x n → HasNumbersOf (look_ups engine) n
+  numbers_of engine x n holds facts = record {
+    epoch = sym (ap (λ (f : Facts). f.epoch) facts);
+    count = sym holds.reads.count;
+    floor = sym (ap (λ (f : Facts). f.floor) facts);
+    kept = sym (ap (λ (f : Facts). f.kept) facts);
+  }
+
+  -- an engine that holds a machine's list leaves its disk so
+  pub engine_rests : (engine : Engine D g) (x : ℕ) (n : Machine) → EngineHolds g engine n.list →
+      facts_of engine ≡ facts_for x n → DiskAlwaysRefines (g.state (engine_disk engine)) x n
+  engine_rests engine x n holds facts left leaves =
+      subst (λ (f : Facts). FilesRepresent f n.list left) facts (holds.crash left leaves)
+
+  -- the node runs, or the disk is returned for want of memory
+  pub started_or_back : (result : Result (Node D g) (Stop × D)) (engine : Engine D g) (x : ℕ)
+      (n : Machine) →
+      IfOk result (λ node. NodeRefines g.is_honest g.state node x (started x n)) →
+      IfErr result (λ refused. refused.0 ≡ stop.Memory) →
+      disk_behind result ≡ engine_disk engine → EngineHolds g engine n.list →
+      facts_of engine ≡ facts_for x n →
+      MatchResult result (λ node. NodeRefines g.is_honest g.state node x (started x n))
+      (λ refused. IsEnvironmental refused.0 × DiskAlwaysRefines (g.state refused.1) x n)
+  started_or_back (Ok node) engine x n runs memory back holds facts = runs
+  started_or_back (Err refused) engine x n runs memory back holds facts = (
+    inr memory,
+    subst (λ (d : D). DiskAlwaysRefines (g.state d) x n) (sym back)
+        (engine_rests engine x n holds facts),
+  )
+
+  -- the machine of an engine's facts and a list
+  abbrev pub machine_of : Engine D g → List BatchContent → Machine
+  machine_of engine list = record (created (facts_of engine).ids) {
+    list = list;
+    epoch = (facts_of engine).epoch;
+    floor = (facts_of engine).floor;
+    kept = (facts_of engine).kept;
+  }
+
+  -- the node that runs is one that the disk represented
+  pub started_from : (result : Result (Node D g) (Stop × D)) (disk : D) (engine : Engine D g)
+      (list : List BatchContent) →
+      FilesRepresent (facts_of engine) list (contents (g.state disk)) →
+      IfOk result (λ node. NodeRefines g.is_honest g.state node (facts_of engine).id
+      (started (facts_of engine).id (machine_of engine list))) →
+      IfErr result (λ refused. refused.0 ≡ stop.Memory) →
+      MatchResult result (IsStarted g.is_honest g.state disk)
+      (λ refused. StartRefusal refused.0 (contents (g.state disk)))
+  started_from (Ok node) disk engine list had runs memory = record {
+    x = (facts_of engine).id;
+    n = machine_of engine list;
+    stood = had;
+    runs = runs;
+  }
+  started_from (Err refused) disk engine list had runs memory =
+      subst (λ (e : Stop). StartRefusal e (contents (g.state disk))) (sym memory) tt
+
+  -- ---- ends of steps
 
   -- the output is the machine's answer, and for want of memory the node stops
-  pub ends : (old node : Node D) (x : ℕ) (n : Machine) (input : Input)
+  pub ends : (old node : Node D g) (x : ℕ) (n : Machine) (input : Input)
       (a : Answer BatchContent) (result : Result Output Stop) →
-      AlwaysRefines g old.disk node.disk x n a.node →
+      AlwaysRefines g (disk_of old) (disk_of node) x n a.node →
       NodeRefines g.is_honest g.state node x a.node →
       IfOk result (OutputRefines input a) → IfErr result (λ e. e ≡ stop.Memory) →
       CallRefines g old node x n a (StepRefines g.is_honest g.state node x input a) result
@@ -271,7 +419,7 @@ module _ {D : Type 0} (g : Ghosts D) where
   }
 
   -- the rule is that of the decision
-  pub ends_as : (old node : Node D) (x : ℕ) (n : Machine) (input : Input) (decision known :
+  pub ends_as : (old node : Node D g) (x : ℕ) (n : Machine) (input : Input) (decision known :
       Decision)
       (result : Result Output Stop) → decision ≡ known →
       CallRefines g old node x n (rule_of x n known)
@@ -283,10 +431,10 @@ module _ {D : Type 0} (g : Ghosts D) where
       (StepRefines g.is_honest g.state node x input (rule_of x n d)) result) (sym is) done
 
   -- the rule is that of the decision, also after the store's part
-  pub ends_rule : (old node : Node D) (x : ℕ) (n : Machine) (input : Input)
+  pub ends_rule : (old node : Node D g) (x : ℕ) (n : Machine) (input : Input)
       (batch : BatchContent) (d : Done) (a : Answer BatchContent) (due told : List PendingSubmit)
       (sent : ℕ → List (Message BatchContent)) (result : Result Output Stop) →
-      AlwaysRefines g old.disk node.disk x n a.node →
+      AlwaysRefines g (disk_of old) (disk_of node) x n a.node →
       StepLeaves x n batch d a → NodeFollows g.is_honest g.state node x a due → told ≡ due →
       sent x ≡ frames_after x n d a.node →
       IfOk result (OutputHas None (sent node.core.id) (map committed_reply told)) →
@@ -304,40 +452,11 @@ module _ {D : Type 0} (g : Ghosts D) where
       memory
 
   -- a call that stops
-  pub ends_stopped : {T : Type 0} (old node : Node D) (x : ℕ) (n : Machine) (a : Answer
+  pub ends_stopped : {T : Type 0} (old node : Node D g) (x : ℕ) (n : Machine) (a : Answer
       BatchContent)
       (IsDone : T → Type 0) (result : Result T Stop) (e : Stop) → result ≡ Err e →
-      IsEnvironmental e → g.is_honest node.disk →
-      AlwaysRefines g old.disk node.disk x n a.node →
+      IsEnvironmental e → g.is_honest (disk_of node) →
+      AlwaysRefines g (disk_of old) (disk_of node) x n a.node →
       CallRefines g old node x n a IsDone result
   ends_stopped old node x n a IsDone result e is machine honest moments =
       rw is (record { done = machine; honest = honest; any_moment = moments })
-
-  -- the node of an opened engine refines the machine that was started
-  module _ (node : Node D) (identity : Identity)
-      (is : (n : Machine) → HasNumbersOf node.engine n → n.ids ≡ identity.config →
-      CoreRefines node.core (started identity.id n)) where
-    pub runs_opened : (x : ℕ) (n : Machine) → g.is_honest node.disk →
-        IsOpened (g.state node.disk) identity node.engine x n.epoch n.ids n.list n.floor n.kept →
-        node.core.id ≡ identity.id → NodeRefines g.is_honest g.state node x (started x n)
-    runs_opened x n honest opened id =
-        let numbers = has_numbers_of (g.state node.disk) node.engine x n opened.holds in
-        record {
-          honest = honest;
-          store = opened.holds;
-          core = subst (λ (y : ℕ). CoreRefines node.core (started y n)) opened.id
-              (is n numbers (sym opened.config));
-          id = id ∙ opened.id;
-        }
-
-    -- the started node is one that its disk represented
-    pub starts : (old : D) (n : Machine) → n.ids ≡ identity.config →
-        DiskRefines (contents (g.state old)) identity.id n → g.is_honest node.disk →
-        IsOpened (g.state node.disk) identity node.engine identity.id n.epoch n.ids n.list n.floor
-        n.kept → node.core.id ≡ identity.id → IsStarted g.is_honest g.state old node
-    starts old n ids had honest opened id = record {
-      x = identity.id;
-      n = n;
-      stood = had;
-      runs = runs_opened identity.id n honest opened id;
-    }

@@ -1,9 +1,10 @@
 -- The end of a step and the state that it keeps, and the contracts of private functions on its
 -- answer.
-use Rattle.std.specs.Prelude.{◌≡◌, ◌⊎◌, ℕ, List, Option, Some, None, Result, MatchResult, OnOk}
+use Rattle.std.specs.Prelude.{◌≡◌, ◌⊎◌, ℕ, List, Option, Result, MatchResult, OnOk}
 use Rattle.kv_types.specs.{BatchContent}
 use Rattle.disk.specs.declared.Disk.{Ghosts}
 use Rattle.disk.specs.{AlwaysLeaves, KeepsDisk, State}
+use Rattle.engine.specs.{IsNearlyFull, KeepsOthers}
 use Rattle.chain_model.specs.{Message, Answer}
 use Rattle.chain_model.specs.declared.DropReason.{DropReason}
 use Rattle.chain_core.specs.declared.Done.{Done}
@@ -17,7 +18,6 @@ use Rattle.node.specs.declared.output.Output.{Output}
 use Rattle.node.specs.declared.output.Reply.{Reply}
 use Rattle.node.specs.declared.output.Reply.TheVariants as reply
 use Rattle.node.specs.declared.stop.Stop.{Stop}
-use Rattle.node.specs.Engines.{IsNearlyFull, KeepsOthersOf}
 use Rattle.node.specs.Steps.{DiskRefines, StepRefines, IsReady, NodeRefines, disk_of, engine_of}
 use Rattle.node.specs.Steps.{replies_of}
 use Rattle.node.specs.Stops.{IsEnvironmental, IsDeviceStop}
@@ -37,11 +37,6 @@ pub record OutputHas (dropped_for : Option DropReason) (sent : List (Message Bat
 abbrev pub OutputRefines : Input → Answer BatchContent → Output → Type 0
 OutputRefines input a = OutputHas a.dropped a.frames (replies_of input a.replies)
 
--- a copy of a batch for the successor, if there is one
-abbrev pub IsCopyFor : Option ℕ → BatchContent → Option BatchContent → Type 0
-IsCopyFor successor batch None = successor ≡ None
-IsCopyFor successor batch (Some copy) = copy ≡ batch
-
 -- the store's part appended a batch
 abbrev pub HasAppended : Done → Type 0
 HasAppended (done.Accepted request) = Unit {0}
@@ -49,8 +44,8 @@ HasAppended done.Appended = Unit {0}
 HasAppended (done.Acked committed have) = ⊥
 
 -- after the store's part, the node refines the machine of the rule, and these requests are due
-pub record NodeFollows {D : Type 0} (is_honest : D → Type 0) (state : D → State) (new : Node D)
-    (x : ℕ) (a : Answer BatchContent) (due : List PendingSubmit) : Type 0 where
+pub record NodeFollows {D : Type 0} {g : Ghosts D} (is_honest : D → Type 0) (state : D → State)
+    (new : Node D g) (x : ℕ) (a : Answer BatchContent) (due : List PendingSubmit) : Type 0 where
   pub runs : NodeRefines is_honest state new x a.node
   pub replied : a.replies ≡ core.committed_responses due
 
@@ -61,21 +56,21 @@ AlwaysRefines g old new x n m =
 
 -- A call that leads machine n to this answer is done, or it ends in a stop. A crash at any moment
 -- since it began leaves the disk of the machine before the answer or of the one after it.
-pub record CallRefines {D T : Type 0} (g : Ghosts D) (old new : Node D) (x : ℕ) (n : Machine)
+pub record CallRefines {D T : Type 0} (g : Ghosts D) (old new : Node D g) (x : ℕ) (n : Machine)
     (a : Answer BatchContent) (IsDone : T → Type 0) (result : Result T Stop) : Type 0 where
   pub done : MatchResult result IsDone IsEnvironmental
   pub honest : g.is_honest (disk_of new)
   pub any_moment : AlwaysRefines g (disk_of old) (disk_of new) x n a.node
 
 -- node x, which refined machine n, ends a step as the machine does in this answer to an input
-abbrev pub StepEnds : {D : Type 0} → Ghosts D → (old new : Node D) → Result Output Stop → ℕ →
+abbrev pub StepEnds : {D : Type 0} → (g : Ghosts D) → (old new : Node D g) → Result Output Stop → ℕ →
     Machine → Input → Answer BatchContent → Type 0
 StepEnds g old new result x n input a = NodeRefines g.is_honest g.state old x n →
     CallRefines g old new x n a (StepRefines g.is_honest g.state new x input a) result
 
 -- the step keeps the node's disk and, if it ends with an answer, the node is ready for another step
-pub record KeepsNode {D T : Type 0} (g : Ghosts D) (old new : Node D) (result : Result T Stop) :
+pub record KeepsNode {D T : Type 0} (g : Ghosts D) (old new : Node D g) (result : Result T Stop) :
     Type 0 where
   pub disk : KeepsDisk g (disk_of old) (disk_of new) (IsDeviceStop result)
-      (IsNearlyFull (engine_of old)) (KeepsOthersOf (engine_of old))
+      (IsNearlyFull (engine_of old)) KeepsOthers
   pub works : OnOk result (IsReady new)

@@ -5,13 +5,14 @@ use Rattle.chain_model.specs.{started}
 use Rattle.node.specs.declared.node.Node.{Node}
 use Rattle.node.specs.declared.stop.Stop.{Stop}
 use Rattle.node.specs.declared.stop.Stop.TheVariants as stop
-use Rattle.node.specs.Files.{IsBlank, IsDamaged}
+use Rattle.disk.specs.declared.Disk.{Ghosts}
+use Rattle.engine.specs.{IsBlank, IsDamaged}
 use Rattle.chain_core.specs.{Machine}
-use Rattle.node.specs.Steps.{DiskRefines, NodeRefines}
+use Rattle.node.specs.Steps.{DiskRefines, NodeRefines, disk_of}
 
 -- the started node refines a machine that its disk represented
-pub record IsStarted {D : Type 0} (is_honest : D → Type 0) (state : D → State) (disk : D)
-    (node : Node D) : Type 0 where
+pub record IsStarted {D : Type 0} {g : Ghosts D} (is_honest : D → Type 0) (state : D → State)
+    (disk : D) (node : Node D g) : Type 0 where
   pub x : ℕ
   pub n : Machine
   pub stood : DiskRefines (contents (state disk)) x n
@@ -25,6 +26,6 @@ StartRefusal stop.Memory left = Unit {0}
 StartRefusal stop.NotCreated left = IsBlank left
 
 -- the disk that a call received: the node has it, or the refusal returns it
-abbrev pub disk_behind : {D : Type 0} → Result (Node D) (Stop × D) → D
-disk_behind (Ok node) = node.disk
+abbrev pub disk_behind : {D : Type 0} {g : Ghosts D} → Result (Node D g) (Stop × D) → D
+disk_behind (Ok node) = disk_of node
 disk_behind (Err refused) = refused.1

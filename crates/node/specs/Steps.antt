@@ -1,21 +1,35 @@
 -- Refinement of the chain's model by a running node and by a stopped node's disk, and the answers
 -- of a step.
-use Rattle.std.specs.Prelude.{◌≡◌, ◌⊎◌, ℕ, List, [], ◌∷◌}
+use Rattle.std.specs.Prelude.{◌≡◌, ◌⊎◌, ℕ, List, [], ◌∷◌, length}
 use Rattle.std.specs.List.{flat_map}
 use Rattle.kv_types.specs.{BatchContent, map_of}
+use Rattle.disk.specs.declared.Disk.{Ghosts}
 use Rattle.disk.specs.{State, Contents, IsCrashOutcome}
 use Rattle.chain_model.specs.{Response}
 use Rattle.chain_model.specs as model
 use Rattle.chain_core.specs.declared.Input.{Input}
 use Rattle.chain_core.specs.declared.Input.TheVariants as input
 use Rattle.chain_core.specs.{Machine, CoreRefines, AreFrames}
-use Rattle.node.specs.declared.engine.Engine.{Engine}
+use Rattle.engine.specs.declared.Engine.{Engine}
+use Rattle.engine.specs.{EngineHolds, Facts, FilesRepresent, HasEnded, LookUps, engine_disk}
+use Rattle.engine.specs.{facts_of, look_ups}
 use Rattle.node.specs.declared.node.Node.{Node}
 use Rattle.node.specs.declared.output.Output.{Output}
 use Rattle.node.specs.declared.output.Reply.{Reply}
 use Rattle.node.specs.declared.output.Reply.TheVariants as reply
-use Rattle.node.specs.Files.{DiskRepresents}
-use Rattle.node.specs.Engines.{EngineHolds, IsUsable, engine_count, engine_kept}
+
+-- the disk's content represents node x: its configuration, number `epoch` in the list of
+-- configurations, its batches, its floor and its kept number
+abbrev pub DiskRepresents : Contents → (x epoch : ℕ) → List ℕ → List BatchContent →
+    (floor kept : ℕ) → Type 0
+DiskRepresents left x epoch ids list floor kept =
+    FilesRepresent (record { id = x; epoch = epoch; ids = ids; floor = floor; kept = kept }) list
+    left
+
+-- the facts of node x with this machine
+abbrev pub facts_for : ℕ → Machine → Facts
+facts_for x n =
+    record { id = x; epoch = n.epoch; ids = n.ids; floor = n.floor; kept = n.kept }
 
 -- the disk's content represents node x with this machine's configuration, batches and numbers
 abbrev pub DiskRefines : Contents → ℕ → Machine → Type 0
@@ -25,28 +39,38 @@ DiskRefines left x n = DiskRepresents left x n.epoch n.ids n.list n.floor n.kept
 abbrev pub DiskAlwaysRefines : State → ℕ → Machine → Type 0
 DiskAlwaysRefines disk x n = (left : Contents) → IsCrashOutcome disk left → DiskRefines left x n
 
--- the disk that a node owns
-abbrev pub disk_of : {D : Type 0} → Node D → D
-disk_of node = node.disk
+module _ {D : Type 0} {g : Ghosts D} where
+  -- the engine of a node
+  abbrev pub engine_of : Node D g → Engine D g
+  engine_of node = node.engine
 
--- the engine over it
-abbrev pub engine_of : {D : Type 0} → Node D → Engine
-engine_of node = node.engine
+  -- the disk that it owns
+  abbrev pub disk_of : Node D g → D
+  disk_of node = engine_disk node.engine
+
+-- a machine has the numbers of an engine
+pub record HasNumbersOf (told : LookUps) (n : Machine) : Type 0 where
+  pub epoch : n.epoch ≡ told.facts.epoch
+  pub count : length n.list ≡ told.count
+  pub floor : n.floor ≡ told.facts.floor
+  pub kept : n.kept ≡ told.facts.kept
 
 -- The running node is node x and refines this machine: it has its numbers, and its batches are on
 -- its disk.
-pub record NodeRefines {D : Type 0} (is_honest : D → Type 0) (state : D → State) (node : Node D)
-    (x : ℕ) (n : Machine) : Type 0 where
-  pub honest : is_honest node.disk
-  pub store : EngineHolds (state node.disk) node.engine x n.epoch n.ids n.list n.floor n.kept
+pub record NodeRefines {D : Type 0} {g : Ghosts D} (is_honest : D → Type 0) (state : D → State)
+    (node : Node D g) (x : ℕ) (n : Machine) : Type 0 where
+  pub honest : is_honest (disk_of node)
+  pub store : EngineHolds g node.engine n.list
+  pub facts : facts_of node.engine ≡ facts_for x n
   pub core : CoreRefines node.core n
   pub id : node.core.id ≡ x
 
--- its engine is usable and has the numbers of the node's state, so another step can follow
-pub record IsReady {D : Type 0} (node : Node D) : Type 0 where
-  pub usable : IsUsable node.engine
-  pub count : node.core.count ≡ engine_count node.engine
-  pub kept : node.core.kept ≡ engine_kept node.engine
+-- its engine works and has the numbers of the node's state, so another step can follow
+pub record IsReady {D : Type 0} {g : Ghosts D} (node : Node D g) : Type 0 where
+  pub works : HasEnded node.engine → ⊥
+  pub count : node.core.count ≡ (look_ups node.engine).count
+  pub kept : node.core.kept ≡ (look_ups node.engine).facts.kept
+  pub committed : node.core.committed ≡ (look_ups node.engine).committed
 
 -- the reply to a client's read: the value of its key in the map of these batches
 abbrev pub value_for : Input → ℕ → ℕ → List BatchContent → List Reply
@@ -74,8 +98,8 @@ AreReplies input of_machine replies = replies ≡ replies_of input of_machine
 
 -- A node that answered refines the machine after the step. Its drop, frames and replies are those
 -- of the machine.
-pub record StepRefines {D : Type 0} (is_honest : D → Type 0) (state : D → State) (new : Node D)
-    (x : ℕ) (input : Input) (a : model.Answer BatchContent) (output : Output) : Type 0 where
+pub record StepRefines {D : Type 0} {g : Ghosts D} (is_honest : D → Type 0) (state : D → State)
+    (new : Node D g) (x : ℕ) (input : Input) (a : model.Answer BatchContent) (output : Output) : Type 0 where
   pub runs : NodeRefines is_honest state new x a.node
   pub dropped : output.dropped ≡ a.dropped
   pub frames : AreFrames output.frames.items a.frames

@@ -1,9 +1,7 @@
 //! One node of a chain: a store on a disk, and the rules of a step over it.
 #![tactic(auto)]
 
-mod engine;
 pub mod laws;
-mod layout;
 mod node;
 mod output;
 mod replying;

@@ -1,60 +1,56 @@
 // A running node: its store, and the rules of a step over it.
-ghost use Rattle.std.specs.Prelude.{◌≡◌, ℕ, ◌+◌, ◌-◌, length, replicate};
+ghost use Rattle.std.specs.Prelude.{◌≡◌, ◌↔◌, ℕ, length, replicate};
 ghost use Rattle.std.specs.Prelude.{◌<◌, ◌≤◌, suc, OnOk, IfOk, IfErr, MatchResult, IsErrAnd};
 ghost use Rattle.kv_types.specs.declared.bounds.TheConstants.{MAX_NUMBER};
-ghost use Rattle.disk.specs.{contents, IsArmed, IsStill, KeepsDisk};
+ghost use Rattle.disk.specs.{contents, IsArmed, IsSame, IsStill, KeepsDisk};
 ghost use Rattle.chain_model.specs.{created, started, accept, append, forwards, on_ack, resend};
 ghost use Rattle.chain_model.specs.{reply_read};
-ghost use Rattle.node.specs.Engines.{EngineHolds, HasNumbersOf, IsUsable};
-ghost use Rattle.node.specs.Engines.{KeepsStore, engine_count, engine_kept};
-ghost use Rattle.node.specs.Files.{IsRecovered, KeepsOthers};
+ghost use Rattle.engine.specs.{EngineHolds, HasEnded, IsJustOpened, IsNearlyFull, IsRecovered};
+ghost use Rattle.engine.specs.{KeepsOthers, engine_disk, facts_of, look_ups};
 ghost use Rattle.node.specs.Starts.{IsStarted, StartRefusal, disk_behind};
 ghost use Rattle.chain_core.specs.{Machine, CoreRefines, answer_to, done_of, rule_of, AreFrames};
 ghost use Rattle.chain_core.specs.{DecisionFitsCount, IsReadOf};
 ghost use Rattle.chain_core.specs.declared.Decision.{Decision};
 ghost use Rattle.node.specs.Steps.{NodeRefines, DiskAlwaysRefines, IsReady, disk_of, engine_of};
+ghost use Rattle.node.specs.Steps.{HasNumbersOf, facts_for};
 ghost use Rattle.node.specs.Outputs.{CallRefines, StepEnds, NodeFollows, HasAppended, KeepsNode};
 ghost use Rattle.node.specs.Stops.{IsDeviceStop, IsEnvironmental};
 
-use crate::engine::Engine;
-use crate::layout::Identity;
 use crate::replying::{
-    ack_duplicate, copy_for_successor, output_of, output_of_append, output_of_drop, push_some,
-    refuse, value_output,
+    ack_duplicate, output_of, output_of_append, output_of_drop, push_some, refuse, value_output,
 };
 use crate::{Output, Stop};
 use chain_core::laws::{one_by_one, stands_last, steps_leave};
 use chain_core::{CoreState, Decision, Done, Input, PendingSubmit, PersistentState, Sent, decide};
 use configurations::{Config, Epoch, NodeId};
-use disk::laws::durable_is_left;
+use disk::laws::reads_are_outcomes;
 use disk::{Crash, Disk, Fault};
+use engine::Engine;
 use kv_types::{Batch, Key, Limits, Number};
 use std::alloc::Global;
 
-/// A running node of a chain, and its disk.
+/// A running node of a chain, with its store.
 #[derive(Drop)]
 pub struct Node<D: Disk + Drop> {
-    disk: D,
-    engine: Engine,
+    engine: Engine<D>,
     core: CoreState,
-    limits: Limits,
 }
 
-// The state of a node that starts with an engine.
-fn core_of(alloc: Global, identity: Identity, engine: &Engine) -> CoreState
-    requires { IsUsable engine.now }
-    ensures id { result.id ≡ identity.id }
-    ensures count { result.count ≡ engine_count engine.now }
-    ensures kept { result.kept ≡ engine_kept engine.now }
-    ensures is { (n : Machine) → HasNumbersOf engine.now n → n.ids ≡ identity.config →
-        CoreRefines result (started identity.id n) }
+// The state of a node that starts with an engine, whose configuration this is.
+fn core_of<D: Disk + Drop>(alloc: Global, engine: &Engine<D>, config: Config) -> CoreState
+    ensures id { result.id ≡ (look_ups engine.now).facts.id }
+    ensures is { (n : Machine) → HasNumbersOf (look_ups engine.now) n → n.ids ≡ config →
+        CoreRefines result (started (look_ups engine.now).facts.id n) }
+    ensures count { result.count ≡ (look_ups engine.now).count }
+    ensures kept { result.kept ≡ (look_ups engine.now).facts.kept }
+    ensures rises { (look_ups engine.now).facts.floor ≤ result.committed }
 {
     CoreState::started(
         alloc,
         PersistentState {
-            id: identity.id,
+            id: engine.id(),
             epoch: engine.epoch(),
-            config: identity.config,
+            config,
             count: engine.count(),
             floor: engine.floor(),
             kept: engine.kept(),
@@ -62,41 +58,60 @@ fn core_of(alloc: Global, identity: Identity, engine: &Engine) -> CoreState
     )
 }
 
+// The node of an engine that was opened. A refusal for want of memory returns the disk.
+fn run_opened<D: Disk + Drop>(alloc: Global, mut engine: Engine<D>) -> Result<Node<D>, (Stop, D)>
+    requires { IsJustOpened engine }
+    ensures disk { disk_behind result ≡ engine_disk engine }
+    ensures runs { (x : ℕ) (n : Machine) → EngineHolds D.Disk engine n.list →
+        facts_of engine ≡ facts_for x n →
+        IfOk result (λ node. NodeRefines D.is_honest D.state node x (started x n)) }
+    ensures memory { IfErr result (λ refused. refused.0 ≡ Stop.Memory) }
+    ensures works { IfOk result IsReady }
+{
+    let Ok(config) = engine.config().clone() else {
+        return Err((Stop::Memory, engine.into_disk()));
+    };
+    let core = core_of(alloc, &engine, config);
+    engine.set_committed(core.committed());
+    Ok(Node { engine, core })
+}
+
 // The batches that a tick sends again, for the successor.
-fn resent<D: Disk>(
+fn resent<D: Disk + Drop>(
     alloc: Global,
     core: &CoreState,
-    engine: &Engine,
-    disk: &mut D,
+    engine: &mut Engine<D>,
 ) -> Result<Vec<Sent>, Stop>
-    requires usable { IsUsable engine.now }
-    requires count { core.now.count ≡ engine_count engine.now }
-    requires kept { core.now.kept ≡ engine_kept engine.now }
-    ensures kept { KeepsDisk D.Disk disk.old disk.new (IsDeviceStop result) ⊥
-        (KeepsStore engine.now) }
-    ensures sent { (x : ℕ) (n : Machine) → CoreRefines core.now n → D.is_honest disk.old →
-        EngineHolds (D.state disk.old) engine.now x n.epoch n.ids n.list n.floor n.kept →
-        MatchResult result (λ sent. AreFrames sent.items
-        (forwards core.now.id n n.successor_has 16)) IsEnvironmental }
-    ensures still { IsStill D.Disk disk.old disk.new }
+    requires works { HasEnded engine.old → ⊥ }
+    requires count { core.now.count ≡ (look_ups engine.old).count }
+    requires kept { core.now.kept ≡ (look_ups engine.old).facts.kept }
+    ensures keeps { KeepsDisk D.Disk (engine_disk engine.old) (engine_disk engine.new)
+        (IsDeviceStop result) ⊥ IsSame }
+    ensures told { look_ups engine.new ≡ look_ups engine.old }
+    ensures works { OnOk result (HasEnded engine.new → ⊥) }
+    ensures sent { (n : Machine) → CoreRefines core.now n →
+        EngineHolds D.Disk engine.old n.list →
+        MatchResult result (λ sent. EngineHolds D.Disk engine.new n.list
+        × AreFrames sent.items (forwards core.now.id n n.successor_has 16)) IsEnvironmental }
+    ensures still { IsStill D.Disk (engine_disk engine.old) (engine_disk engine.new) }
 {
     one_by_one(); // law: frames are sent one by one
     let numbers = core.resends();
     let mut sent = Vec::new(alloc);
     for number in numbers.start..numbers.end {
         let number = Number::new(number).unwrap();
-        let batch = engine.batch(disk, number)?;
+        let batch = engine.batch(alloc, number)?;
         push_some(&mut sent, core.forward(number, batch))?;
     }
     Ok(sent)
 }
 
 impl<D: Disk + Drop> Node<D> {
-    /// Creates a node's files on a disk, or overwrites existing ones, and runs the node. A refusal
-    /// returns the disk, with none, one or both of the files begun.
+    /// Creates a node's store on a disk, or overwrites an existing one, and runs the node. A
+    /// refusal returns the disk, with none or some of the files begun.
     pub fn create(
         alloc: Global,
-        mut disk: D,
+        disk: D,
         id: NodeId,
         config: &Config,
         limits: &Limits,
@@ -109,22 +124,20 @@ impl<D: Disk + Drop> Node<D> {
             (λ refused. IsEnvironmental refused.0) }
         ensures works { IfOk result IsReady }
     {
-        let Ok(known) = config.clone() else {
+        let (Ok(known), Ok(stored)) = (config.clone(), config.clone()) else {
             return Err((Stop::Memory, disk));
         };
-        match Engine::create(alloc, &mut disk, id, config) {
+        match Engine::create(alloc, disk, id, stored, limits) {
             Ok(engine) => Ok(Node {
-                disk,
                 engine,
                 core: CoreState::created(alloc, id, known),
-                limits: *limits,
             }),
-            Err(stop) => Err((stop, disk)),
+            Err((e, disk)) => Err((Stop::from(e), disk)),
         }
     }
 
     /// Runs the node of the disk. A refusal returns the disk.
-    pub fn start(alloc: Global, mut disk: D, limits: &Limits) -> Result<Node<D>, (Stop, D)>
+    pub fn start(alloc: Global, disk: D, limits: &Limits) -> Result<Node<D>, (Stop, D)>
         ensures kept { KeepsDisk D.Disk disk (disk_behind result)
             (IsErrAnd result (λ refused. refused.0 ≡ Stop.Disk)) ⊥ IsRecovered }
         ensures started { (x : ℕ) (n : Machine) → D.is_honest disk →
@@ -137,14 +150,10 @@ impl<D: Disk + Drop> Node<D> {
         ensures works { IfOk result IsReady }
         ensures still { IsStill D.Disk disk (disk_behind result) }
     {
-        match Engine::open(alloc, &mut disk) {
-            Ok((identity, engine)) => Ok(Node {
-                disk,
-                core: core_of(alloc, identity, &engine),
-                engine,
-                limits: *limits,
-            }),
-            Err(stop) => Err((stop, disk)),
+        reads_are_outcomes(); // law: what a disk reads is an outcome of a crash
+        match Engine::open(alloc, disk, limits) {
+            Ok(engine) => run_opened(alloc, engine),
+            Err((e, disk)) => Err((Stop::from(e), disk)),
         }
     }
 
@@ -152,7 +161,7 @@ impl<D: Disk + Drop> Node<D> {
     fn append_batch(
         &mut self,
         alloc: Global,
-        batch: Batch,
+        batch: &Batch,
         done: Done,
     ) -> Result<Vec<PendingSubmit>, Stop>
         requires may { IsReady self.old }
@@ -160,12 +169,14 @@ impl<D: Disk + Drop> Node<D> {
         requires done { HasAppended done }
         ensures kept { KeepsNode D.Disk self.old self.new result }
         ensures ends { (x : ℕ) (n : Machine) → NodeRefines D.is_honest D.state self.old x n →
-            let a = done_of x n batch done in CallRefines D.Disk self.old self.new x n a
+            let a = done_of x n batch.now done in CallRefines D.Disk self.old self.new x n a
             (λ due. NodeFollows D.is_honest D.state self.new x a due.items) result }
     {
         steps_leave(); // law: what a step leaves of the machine
-        self.engine.append(alloc, &mut self.disk, batch)?;
-        Ok(self.core.after(alloc, done)?)
+        self.engine.append(alloc, batch)?;
+        let due = self.core.after(alloc, done)?;
+        self.engine.set_committed(self.core.committed());
+        Ok(due)
     }
 
     // Accepts a client's batch at the head: it is durable before it is forwarded or acknowledged.
@@ -178,10 +189,8 @@ impl<D: Disk + Drop> Node<D> {
     {
         steps_leave(); // law: what a step leaves of the machine
         stands_last();
-        durable_is_left(); // law: a crash leaves what is durable
-        let copy = copy_for_successor(&self.core, &batch)?;
-        let due = self.append_batch(alloc, batch, Done::Accepted { request })?;
-        output_of_append(alloc, &self.core, copy, false, &due)
+        let due = self.append_batch(alloc, &batch, Done::Accepted { request })?;
+        output_of_append(alloc, &self.core, batch, false, &due)
     }
 
     // Appends the next batch of the predecessor. A tail commits it, and acknowledges it.
@@ -195,10 +204,8 @@ impl<D: Disk + Drop> Node<D> {
     {
         steps_leave(); // law: what a step leaves of the machine
         stands_last();
-        durable_is_left(); // law: a crash leaves what is durable
-        let copy = copy_for_successor(&self.core, &batch)?;
-        let due = self.append_batch(alloc, batch, Done::Appended)?;
-        output_of_append(alloc, &self.core, copy, self.core.is_tail(), &due)
+        let due = self.append_batch(alloc, &batch, Done::Appended)?;
+        output_of_append(alloc, &self.core, batch, self.core.is_tail(), &due)
     }
 
     // Applies the successor's report, and reports to the predecessor if more is committed.
@@ -212,9 +219,9 @@ impl<D: Disk + Drop> Node<D> {
         ensures works { OnOk result (IsReady self.new) }
     {
         steps_leave(); // law: what a step leaves of the machine
-        durable_is_left();
         let grows = committed > self.core.committed();
         let due = self.core.after(alloc, Done::Acked { committed, have })?;
+        self.engine.set_committed(self.core.committed());
         output_of(alloc, &self.core, Vec::new(alloc), grows, &due)
     }
 
@@ -225,8 +232,7 @@ impl<D: Disk + Drop> Node<D> {
         ensures ends { (x : ℕ) (n : Machine) (input : Input) →
             StepEnds D.Disk self.old self.new result x n input (resend x n) }
     {
-        durable_is_left(); // law: a crash leaves what is durable
-        let sent = resent(alloc, &self.core, &self.engine, &mut self.disk)?;
+        let sent = resent(alloc, &self.core, &mut self.engine)?;
         output_of(alloc, &self.core, sent, true, &[])
     }
 
@@ -238,8 +244,7 @@ impl<D: Disk + Drop> Node<D> {
             IsReadOf n input (Decision.Read request key at) →
             StepEnds D.Disk self.old self.new result x n input (reply_read n request at) }
     {
-        durable_is_left(); // law: a crash leaves what is durable
-        let value = self.engine.get(&mut self.disk, at, &key)?;
+        let value = self.engine.get(at, &key)?;
         value_output(alloc, request, at, value)
     }
 
@@ -251,7 +256,6 @@ impl<D: Disk + Drop> Node<D> {
         ensures ends { (x : ℕ) (n : Machine) (input : Input) → IsReadOf n input decision →
             StepEnds D.Disk self.old self.new result x n input (rule_of x n decision) }
     {
-        durable_is_left(); // law: a crash leaves what is durable
         match decision {
             Decision::Accept { request, batch } => self.accept(alloc, request, batch),
             Decision::Append { batch } => self.append(alloc, batch),
@@ -336,7 +340,7 @@ impl<D: Disk + Drop> Node<D> {
     pub fn tables(&self) -> [u64; 7]
         ensures { result ≡ replicate 7 0 }
     {
-        [0; 7]
+        self.engine.tables()
     }
 
     /// Returns the disk of a node that has ended.
@@ -345,14 +349,11 @@ impl<D: Disk + Drop> Node<D> {
         ensures rests { (x : ℕ) (n : Machine) → NodeRefines D.is_honest D.state self x n →
             DiskAlwaysRefines (D.state result) x n }
     {
-        durable_is_left(); // law: a crash leaves what is durable
         let Node {
-            disk,
-            engine: _engine,
+            engine,
             core: _core,
-            limits: _limits,
         } = self;
-        disk
+        engine.into_disk()
     }
 }
 
@@ -363,8 +364,8 @@ impl<D: Crash + Drop> Node<D> {
         ensures refines { (x : ℕ) (n : Machine) → NodeRefines D.is_honest D.state self.old x n →
             NodeRefines D.is_honest D.state self.new x n }
         ensures ready { IsReady self.old → IsReady self.new }
-        ensures engine { engine_of self.new ≡ engine_of self.old }
+        ensures full { IsNearlyFull (engine_of self.new) ↔ IsNearlyFull (engine_of self.old) }
     {
-        self.disk.arm(fault);
+        self.engine.arm(fault);
     }
 }

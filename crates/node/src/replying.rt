@@ -5,7 +5,7 @@ ghost use Rattle.kv_types.specs.{BatchContent, map_of};
 ghost use Rattle.chain_model.specs.{successor, Message, place, dropped_for, refused, ack, forward};
 ghost use Rattle.chain_model.specs.{reply_read, ack_duplicate};
 ghost use Rattle.chain_core.specs.{Machine, CoreRefines, AreFrames};
-ghost use Rattle.node.specs.Outputs.{IsCopyFor, OutputHas, OutputRefines, committed_reply};
+ghost use Rattle.node.specs.Outputs.{OutputHas, OutputRefines, committed_reply};
 
 use crate::{Output, Reply, Stop};
 use chain_core::{CoreState, DropReason, Input, PendingSubmit, Sent};
@@ -22,19 +22,6 @@ pub(crate) fn push_some(frames: &mut Vec<Sent>, sent: Option<Sent>) -> Result<()
     Ok(())
 }
 
-/// A copy of a batch for the successor, if there is one.
-pub(crate) fn copy_for_successor(
-    core: &CoreState,
-    batch: &Batch,
-) -> Result<Option<Batch>, AllocError>
-    ensures { IfOk result (IsCopyFor (successor core.now.ids core.now.id) batch.now) }
-{
-    if core.successor().is_none() {
-        return Ok(None);
-    }
-    Ok(Some(batch.clone()?))
-}
-
 fn ack_where(core: &CoreState, acks: bool) -> Option<Sent>
     ensures { (n : Machine) → CoreRefines core.now n →
         AreFrames (option_to_list result) (if acks then ack core.now.id n else []) }
@@ -42,14 +29,13 @@ fn ack_where(core: &CoreState, acks: bool) -> Option<Sent>
     if acks { core.ack() } else { None }
 }
 
-// The frame of the last batch for the successor, if this is a copy of it.
-fn forward_last(core: &CoreState, copy: Option<Batch>) -> Option<Sent>
-    ensures { (n : Machine) (batch : BatchContent) → CoreRefines core.now n →
+// The frame of the last batch for the successor, if there is one.
+fn forward_last(core: &CoreState, batch: Batch) -> Option<Sent>
+    ensures { (n : Machine) → CoreRefines core.now n →
         place n.list core.now.count ≡ Some batch →
-        IsCopyFor (successor n.ids core.now.id) batch copy →
         AreFrames (option_to_list result) (forward core.now.id n core.now.count) }
 {
-    core.forward(core.count(), copy?)
+    core.forward(core.count(), batch)
 }
 
 // The acknowledgements of these requests, whose batches are committed.
@@ -103,23 +89,22 @@ pub(crate) fn output_of(
     })
 }
 
-/// The output after an append: the batch is forwarded, if this is a copy of it.
+/// The output after an append: the batch is forwarded.
 pub(crate) fn output_of_append(
     alloc: Global,
     core: &CoreState,
-    copy: Option<Batch>,
+    batch: Batch,
     acks: bool,
     due: &[PendingSubmit],
 ) -> Result<Output, Stop>
-    ensures says { (n : Machine) (batch : BatchContent) → CoreRefines core.now n →
+    ensures says { (n : Machine) → CoreRefines core.now n →
         place n.list core.now.count ≡ Some batch →
-        IsCopyFor (successor n.ids core.now.id) batch copy →
         IfOk result (OutputHas None (forward core.now.id n core.now.count
         ++ (if acks then ack core.now.id n else [])) (map committed_reply due.now)) }
     ensures memory { IfErr result (λ e. e ≡ Stop.Memory) }
 {
     let mut sent = Vec::new(alloc);
-    push_some(&mut sent, forward_last(core, copy))?;
+    push_some(&mut sent, forward_last(core, batch))?;
     output_of(alloc, core, sent, acks, due)
 }
 

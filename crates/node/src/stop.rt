@@ -1,11 +1,10 @@
 // The causes for which a node ends.
 ghost use Rattle.std.specs.Prelude.{◌≡◌};
 ghost use Rattle.node.specs.declared.stop.Stop.TheVariants.{Memory};
-ghost use Rattle.node.specs.Stops.{disk_stop, log_stop};
+ghost use Rattle.node.specs.Stops.{engine_stop};
 
 use chain_core::CoreError;
-use disk::DiskError;
-use record_log::LogError;
+use engine::EngineError;
 use std::alloc::{AllocError, AllocFailed};
 use thiserror::Error;
 
@@ -24,26 +23,20 @@ pub enum Stop {
     NotCreated,
 }
 
-impl From<DiskError> for Stop {
-    ghost from_gives = { λ d e. e ≡ disk_stop d };
+impl From<EngineError> for Stop {
+    ghost from_gives = { λ cause e. e ≡ engine_stop cause };
 
-    fn from(e: DiskError) -> Stop {
+    // A node asks its engine for what it has alone, so the last four are not met.
+    fn from(e: EngineError) -> Stop {
         match e {
-            DiskError::Failed => Stop::Disk,
-            DiskError::NoFile | DiskError::Short => Stop::Damaged,
-            DiskError::Memory => Stop::Memory,
-        }
-    }
-}
-
-impl From<LogError> for Stop {
-    ghost from_gives = { λ l e. e ≡ log_stop l };
-
-    fn from(e: LogError) -> Stop {
-        match e {
-            LogError::Disk(e) => Stop::from(e),
-            LogError::Memory => Stop::Memory,
-            LogError::TooLong | LogError::Failed => Stop::Damaged,
+            EngineError::Disk => Stop::Disk,
+            EngineError::Damaged => Stop::Damaged,
+            EngineError::Memory => Stop::Memory,
+            EngineError::NotCreated => Stop::NotCreated,
+            EngineError::Failed
+            | EngineError::TooOld
+            | EngineError::NotCommitted
+            | EngineError::Exhausted => Stop::Damaged,
         }
     }
 }

@@ -53,8 +53,11 @@ impl Start {
 
     // Whether the start ends so. Want of memory fails the test.
     fn holds(&self, alloc: Global) -> Result<bool, Stop> {
+        let Ok(disk) = self.disk(alloc) else {
+            return Err(Stop::Memory);
+        };
         let mut running = Running::none();
-        let started = running.start(alloc, self.disk(alloc)?);
+        let started = running.start(alloc, disk);
         let has_count = self.has_count(&running);
         drop(running);
         match started {

@@ -13,7 +13,7 @@ returns-in-Step g c =
     subst (λ (k : NodeInput). HasDispatched g.D.Disk c.args.fault k (Down c.args.disk)
     (Down c.args.disk) (done.Answered output.output)) (sym c.in-Step.is)
     (answered_only g.D.Disk c.args.fault (to_node.Step c.in-Step.input) (Down c.args.disk)
-    output.output (ready_down c.args.disk)
+    output.output (ready_down g.D.Disk c.args.disk)
     (λ x n r. Rests r.2 r (output.output, refl, output.ensures n)) refl)
 
 pub returns-in-Start : goal.returns-in-Start
@@ -37,11 +37,11 @@ returns g c =
       | inl bad ↦ subst (λ (k : NodeInput). HasDispatched g.D.Disk c.args.fault k (Down c.args.disk)
           (Down c.args.disk) (done.Answered output.result)) (sym bad.1)
           (answered_only g.D.Disk c.args.fault (to_node.BadFrame bad.0) (Down c.args.disk)
-          output.result (ready_down c.args.disk)
+          output.result (ready_down g.D.Disk c.args.disk)
           (λ x n r. DropsResting r.2 r (output.result, refl, output.ensures)) refl)
       | inr stops ↦ subst (λ (k : NodeInput). HasDispatched g.D.Disk c.args.fault k
           (Down c.args.disk) (Down c.args.disk) (done.Answered output.result)) (sym stops.1)
           (answered_only g.D.Disk c.args.fault (to_node.Stop stops.0) (Down c.args.disk)
-          output.result (ready_down c.args.disk)
+          output.result (ready_down g.D.Disk c.args.disk)
           (λ x n r. RestsOn r.2 r (output.result, refl, output.ensures)) refl)
     ]

@@ -7,6 +7,7 @@ use Rattle.lab.specs.declared.node_state.NodeState.TheVariants.{Up}
 use Rattle.lab.specs.SimNodes.{StateRefines, calls_of}
 use Rattle.lab.specs.Outcomes.{Drops, HasCrashed, HasDispatched, RunsOn, Stops}
 use Rattle.lab.proofs.Dispatching.{answered_only, ready_up}
+use Rattle.node.specs.{disk_of}
 use Rattle.lab.proofs.node_state.dispatch_up.Goals as goal
 
 pub returns-in-Step : goal.returns-in-Step
@@ -47,7 +48,7 @@ returns-in-Stop g c =
     let e = c.crash-state.ensures in
     let new = c.crash-state.result in
     let junk = c.in-Stop.junk in
-    let crashed = λ (honest : g.D.Disk.is_honest c.args.node.disk).
+    let crashed = λ (honest : g.D.Disk.is_honest (disk_of c.args.node)).
     subst (λ d. HasCrashed g.D.Disk.state g.D.Disk.failures (calls_of g.D.Disk) junk d new)
     c.into_disk.ensures.disk (e.crashes (subst g.D.Disk.is_honest same honest)) in
     subst (λ (k : NodeInput). HasDispatched g.D.Disk c.args.fault k (Up c.args.node) new

@@ -7,11 +7,11 @@ use Rattle.lab.proofs.world.left_of.Goals as goal
 pub returns-in-Up-clause-left : goal.returns-in-Up-clause-left
 returns-in-Up-clause-left c = λ n disk is own.
     let x = c.args.node.id in
-    let r = subst (λ (m : NodeState Slots). StateRefines is_honest state m x n) c.in-Up.is is in
+    let r = subst (λ (m : NodeState Slots _). StateRefines is_honest state m x n) c.in-Up.is is in
     record {
       disk = record {
         same = c.into_disk-disk.ensures.disk
-            ∙ (ap (λ (m : NodeState Slots). disk_in m) (sym c.in-Up.is) ∙ own);
+            ∙ (ap (λ (m : NodeState Slots _). disk_in m) (sym c.in-Up.is) ∙ own);
         stands = c.into_disk-disk.ensures.rests x n r;
       };
       numbers = (

@@ -15,19 +15,19 @@ resting ids epoch count floor kept = record (created ids) {
 
 -- it counts as many as a machine of so many batches has
 pub returns-clause-count : goal.returns-clause-count
-returns-clause-count c =
+returns-clause-count g c =
     let count = c.count.result in
-    let n = resting c.args.identity.config c.epoch.result count c.floor.result c.kept.result in
+    let n = resting c.args.config c.epoch.result count c.floor.result c.kept.result in
     let size = length-replicate count [] in
     let is = c.started.ensures.is n
     (record { epoch = refl; ids = refl; count = size; floor = refl; kept = refl }) in
-    sym is.count ∙ size ∙ c.count.ensures
+    sym is.count ∙ size ∙ c.count.ensures.count
 
 -- the state has the same number of trimmed batches
 pub returns-clause-kept : goal.returns-clause-kept
-returns-clause-kept c =
+returns-clause-kept g c =
     let count = c.count.result in
-    let n = resting c.args.identity.config c.epoch.result count c.floor.result c.kept.result in
+    let n = resting c.args.config c.epoch.result count c.floor.result c.kept.result in
     let size = length-replicate count [] in
     let is = c.started.ensures.is n
     (record { epoch = refl; ids = refl; count = size; floor = refl; kept = refl }) in

@@ -1,59 +1,90 @@
-use Rattle.std.proofs.Common.{rules, ◌≡◌, ◌+◌, ◌-◌, ◌++◌, suc, ap, ◌∙◌, sym, subst, arith, inr}
+use Rattle.std.proofs.Common.{rules, ◌≡◌, ◌+◌, ◌-◌, ◌<◌, ◌++◌, suc, ap, ◌∙◌, sym, subst, arith, inr}
 use Rattle.std.proofs.Common.{refl}
 use Rattle.std.specs.Prelude.{option_to_list}
 use Rattle.chain_model.specs.{forward, forwards}
 use Rattle.chain_core.specs.{AreFrames}
+use Rattle.engine.specs.KeepingLemmas.{answered, kept_as, kept_behind, neither, same_files}
+use Rattle.engine.specs.KeepingLemmas.{same_then_same, unchanged}
+use Rattle.engine.specs.{LookUps}
 use Rattle.node.specs.Stops.{IsEnvironmental}
-use Rattle.node.proofs.Causes.{refuses}
-use Rattle.node.proofs.Engines.{kept_on, same_store}
-use Rattle.node.proofs.Keeping.{answered, done, kept_as, kept_behind, memory_told, neither}
-use Rattle.node.proofs.Keeping.{stop_passed, unchanged}
+use Rattle.node.proofs.Running.{done_told, env_of, memory_told, refuses, still_works, stop_passed}
 use Rattle.node.proofs.Outputs.{both_sent, made_of}
 use Rattle.disk.specs.StillLemmas.{still, still_more}
 use Rattle.node.proofs.node.resent.Goals as goal
 
+-- the log has the batch
+pub batch-requires : goal.batch-requires
+batch-requires g c =
+    let was = c.loop-number.invariant in
+    let numbers = c.resends-numbers in
+    let at = c.loop-number.number in
+    let made = made_of c.new.result _ at c.unwrap-number.result c.new.ensures
+    c.unwrap-number.ensures in
+    let inside : numbers.result.start < numbers.result.end =
+    omega (arith, c.loop-number.auto.number, c.loop-number-test.true) in
+    let count = ap (λ (l : LookUps). l.count) was.told in
+    let trimmed = ap (λ (l : LookUps). l.facts.kept) was.told in (
+      omega (
+        arith,
+        made,
+        numbers.ensures.kept inside,
+        trimmed,
+        c.requires.kept,
+        c.loop-number.auto.number,
+      ),
+      omega (
+        arith,
+        made,
+        numbers.ensures.there inside,
+        count,
+        c.requires.count,
+        c.loop-number-test.true,
+      ),
+    )
+
 -- a batch that could not be had is wanted for the engine's cause
 pub returns-in_err-batch-clause-sent : goal.returns-in_err-batch-clause-sent
-returns-in_err-batch-clause-sent g c = λ x n is honest s.
+returns-in_err-batch-clause-sent g c = λ n is holds.
     let was = c.loop-number.invariant in
     refuses c.from_residual.result _ IsEnvironmental c.from_residual.ensures.1
-    (c.in_err-batch.ensures.found x n.epoch n.ids n.list n.floor n.kept
-    (was.kept.honest.1 honest) ((was.kept.files honest).holds x n.epoch n.ids n.list n.floor n.kept
-    s))
+    (env_of c.in_err-batch.field-0.0
+    (c.in_err-batch.ensures.found n.list (was.sent n is holds).0.reads))
 
 pub returns-in_err-push_some-clause-sent : goal.returns-in_err-push_some-clause-sent
-returns-in_err-push_some-clause-sent g c = λ x n is honest s.
+returns-in_err-push_some-clause-sent g c = λ n is holds.
     refuses c.from_residual-in_err-push_some.result _ IsEnvironmental
     c.from_residual-in_err-push_some.ensures.1 (inr refl)
 
--- the engine holds what it held
-pub returns-in_err-batch-clause-kept : goal.returns-in_err-batch-clause-kept
-returns-in_err-batch-clause-kept g c =
+-- the files are the same
+pub returns-in_err-batch-clause-keeps : goal.returns-in_err-batch-clause-keeps
+returns-in_err-batch-clause-keeps g c =
     let failed = stop_passed c.batch.result c.in_err-batch.field-0.0 c.from_residual.result
     c.in_err-batch.was c.from_residual.ensures.1 in
-    kept_behind g.D.Disk kept_on c.loop-number.invariant.kept (λ fails. fails)
-    (kept_as g.D.Disk failed (λ a b kept. kept) c.batch.ensures.kept)
+    kept_behind g.D.Disk same_then_same c.loop-number.invariant.keeps (λ fails. fails)
+    (kept_as g.D.Disk failed (λ a b same. same) c.batch.ensures.keeps.disk)
 
-pub returns-in_err-push_some-clause-kept : goal.returns-in_err-push_some-clause-kept
-returns-in_err-push_some-clause-kept g c =
+pub returns-in_err-push_some-clause-keeps : goal.returns-in_err-push_some-clause-keeps
+returns-in_err-push_some-clause-keeps g c =
     let told = memory_told c.from_residual-in_err-push_some.result
     c.from_residual-in_err-push_some.ensures.1 in
-    kept_behind g.D.Disk kept_on c.loop-number.invariant.kept (λ fails. fails)
+    kept_behind g.D.Disk same_then_same c.loop-number.invariant.keeps (λ fails. fails)
     (kept_as g.D.Disk (neither (answered c.batch.result c.in_ok-batch.was) told)
-    (λ a b kept. kept) c.batch.ensures.kept)
+    (λ a b same. same) c.batch.ensures.keeps.disk)
 
-pub returns-clause-kept : goal.returns-clause-kept
-returns-clause-kept g c =
-    kept_as g.D.Disk (neither (λ fails. fails) done) (λ a b kept. kept)
-    c.loop-number.invariant.kept
+pub returns-clause-keeps : goal.returns-clause-keeps
+returns-clause-keeps g c =
+    kept_as g.D.Disk (neither (λ fails. fails) done_told) (λ a b same. same)
+    c.loop-number.invariant.keeps
 
 -- none was sent
 pub loop-number-init : goal.loop-number-init
 loop-number-init g c = record {
   reached = search rules;
+  told = refl;
+  works = c.requires.works;
   still = λ honest. still _ _;
-  kept = unchanged g.D.Disk same_store;
-  sent = search rules;
+  keeps = unchanged g.D.Disk same_files;
+  sent = λ n is holds. (holds, search rules);
 }
 
 -- the batch of one number more was sent
@@ -71,51 +102,55 @@ loop-number-preserved g c =
     let more : at + 1 - start ≡ suc m = omega (arith, c.loop-number.auto.number) in
     record {
       reached = search rules;
+      told = c.in_ok-batch.ensures.told ∙ was.told;
+      works = λ ended. still_works c.in_ok-batch.ensures.keeps.ends was.works ended;
       still = λ honest.
-          still_more (was.still honest) (c.batch.ensures.still (was.kept.honest.1 honest));
-      kept = kept_behind g.D.Disk kept_on was.kept (λ fails. fails)
+          still_more (was.still honest) (c.batch.ensures.still (was.keeps.honest.1 honest));
+      keeps = kept_behind g.D.Disk same_then_same was.keeps (λ fails. fails)
           (kept_as g.D.Disk (neither (answered c.batch.result c.in_ok-batch.was) (λ fails. fails))
-          (λ a b kept. kept) c.batch.ensures.kept);
-      sent = λ y n is honest s.
+          (λ a b same. same) c.batch.ensures.keeps.disk);
+      sent = λ n is holds.
+          let before = was.sent n is holds in
           let made = made_of c.new.result _ at c.unwrap-number.result c.new.ensures
           c.unwrap-number.ensures in
-          let there = c.in_ok-batch.ensures.found y n.epoch n.ids n.list n.floor n.kept
-          (was.kept.honest.1 honest)
-          ((was.kept.files honest).holds y n.epoch n.ids n.list n.floor n.kept s) in
+          let there = c.in_ok-batch.ensures.found n.list before.0.reads in
           let frame = option_to_list c.forward.result in
           let one = subst (λ i. AreFrames frame (forward x n i)) made
           (c.forward.ensures n is there) in
           let passed : forwards x n k (at + 1 - start) ≡ forwards x n k m ++ forward x n at
           = ap (forwards x n k) more ∙ c.one_by_one.ensures x n k m
           ∙ ap (λ i. forwards x n k m ++ forward x n i) (sym number) in
-          let sent = both_sent _ _ _ _ (was.sent y n is honest s) one in
-          rw (passed, c.in_ok-push_some.ensures) sent;
+          let sent = both_sent _ _ _ _ before.1 one in (
+            (c.in_ok-batch.ensures.kept n.list).holds before.0,
+            rw (passed, c.in_ok-push_some.ensures) sent,
+          );
     }
 
 -- all of them were sent
 pub returns-clause-sent : goal.returns-clause-sent
-returns-clause-sent g c = λ x n is honest s.
+returns-clause-sent g c = λ n is holds.
     let core = c.args.core.now in
     let numbers = c.resends-numbers.result in
     let at = c.loop-number in
+    let was = at.invariant.sent n is holds in
     let all : at.number - numbers.start ≡ numbers.end - numbers.start =
     omega (arith, c.loop-number-test.false, at.invariant.reached) in
     let sent = subst (λ m. AreFrames at.sent.items (forwards core.id n core.successor_has m)) all
-    (at.invariant.sent x n is honest s) in
+    was.1 in
     let whole = c.resends-numbers.ensures.all n is
     ∙ ap (λ k. forwards core.id n k (numbers.end - numbers.start)) is.successor_has in
-    subst (AreFrames at.sent.items) (sym whole) sent
+    (was.0, subst (AreFrames at.sent.items) (sym whole) sent)
 
 -- each batch leaves nothing new
 pub returns-in_err-batch-clause-still : goal.returns-in_err-batch-clause-still
 returns-in_err-batch-clause-still g c = λ honest.
     let was = c.loop-number.invariant in
-    still_more (was.still honest) (c.batch.ensures.still (was.kept.honest.1 honest))
+    still_more (was.still honest) (c.batch.ensures.still (was.keeps.honest.1 honest))
 
 pub returns-in_err-push_some-clause-still : goal.returns-in_err-push_some-clause-still
 returns-in_err-push_some-clause-still g c = λ honest.
     let was = c.loop-number.invariant in
-    still_more (was.still honest) (c.batch.ensures.still (was.kept.honest.1 honest))
+    still_more (was.still honest) (c.batch.ensures.still (was.keeps.honest.1 honest))
 
 pub returns-clause-still : goal.returns-clause-still
 returns-clause-still g c = λ honest. c.loop-number.invariant.still honest

@@ -4,7 +4,7 @@ use Rattle.lab.specs.declared.sim_node.SimNode.{SimNode}
 use Rattle.lab.specs.SimNodes.{disk_in, state, failures, calls}
 use Rattle.lab.specs.Traces.{modelled_from, IsTrace}
 use Rattle.lab.specs.Worlds.{HasHistory}
-use Rattle.lab.proofs.Reports.{one_of, disks_so_far, unarmed_so_far}
+use Rattle.lab.proofs.Reports.{disk_represents, disks_so_far, one_of, unarmed_so_far}
 use Rattle.lab.proofs.world.World.report.Goals as goal
 
 pub returns-clause-run : goal.returns-clause-run
@@ -16,7 +16,7 @@ returns-clause-run c = λ cs events steps run.
       trace = subst (λ (l : List (List Line)). IsTrace cs events made.choices l)
           (sym (c.deref.ensures.value ∙ run.kept)) made.trace;
       disks = disks_so_far self.nodes.items self.frames.items cs events steps made
-          c.disks_represent.ensures;
+          (λ sim. disk_represents c.disks_represent.ensures sim.state);
       unarmed = unarmed_so_far self.nodes.items self.frames.items cs events steps made;
     }
 
@@ -30,5 +30,5 @@ returns-clause-history c = λ cs events steps run.
     (one_of state failures calls (λ (sim : SimNode). sim.id) (λ (sim : SimNode). disk_in sim.state)
     cs events made.choices steps self.nodes.items made.trace
     (disks_so_far self.nodes.items self.frames.items cs events steps made
-    c.disks_represent.ensures) (c.one_history.ensures cs es made.lawful)
+    (λ sim. disk_represents c.disks_represent.ensures sim.state)) (c.one_history.ensures cs es made.lawful)
     (c.run_is_outcomes.ensures cs es))

@@ -5,26 +5,16 @@ use Rattle.kv_types.specs.{BatchContent}
 use Rattle.chain_model.specs.{is_tail, Message, ack, append, forward}
 use Rattle.chain_core.specs.declared.Done.TheVariants as done
 use Rattle.node.specs.Stops.{IsEnvironmental}
-use Rattle.node.proofs.Running.{at_rest, ends_rule, ends_stopped}
-use Rattle.node.proofs.Running.{copy_after, number_taken, taken_stands}
-use Rattle.node.proofs.Steps.{node_goes_on, node_stays, node_stops}
+use Rattle.node.proofs.Running.{ends_rule, ends_stopped}
+use Rattle.node.proofs.Running.{number_taken, taken_stands}
 use Rattle.node.proofs.node.Node.append.Goals as goal
-
--- nothing has changed
-pub returns-in_err-copy-clause-ends : goal.returns-in_err-copy-clause-ends
-returns-in_err-copy-clause-ends g c = λ x n input r.
-    let a = append x n (suc (length n.list)) c.args.batch in
-    let p = err_from_is_err_and c.from_residual.result c.from_residual.ensures.1 in
-    let old = c.args.self.now in
-    ends_stopped g.D.Disk old old x n a _ c.from_residual.result p.0 p.1 (inr p.2) r.honest
-    (at_rest g.D.Disk c.durable_is_left.ensures old x n a.node r)
 
 -- it stops as the store's part does
 pub returns-in_err-due-clause-ends : goal.returns-in_err-due-clause-ends
 returns-in_err-due-clause-ends g c = λ x n input r.
     let a = append x n (suc (length n.list)) c.args.batch in
-    let result = c.from_residual-in_err-due.result in
-    let p = err_from_is_err_and result c.from_residual-in_err-due.ensures.1 in
+    let result = c.from_residual.result in
+    let p = err_from_is_err_and result c.from_residual.ensures.1 in
     let e = c.in_err-due.ensures.ends x n r in
     ends_stopped g.D.Disk c.args.self.now c.append_batch.new.self x n a _ result p.0 p.1
     (subst IsEnvironmental (sym p.2) e.done) e.honest e.any_moment
@@ -38,14 +28,11 @@ returns-clause-ends g c = λ x n input r.
     let leaves = c.steps_leave.ensures x n batch d in
     let e = c.in_ok-due.ensures.ends x n r in
     let follows = e.done in
-    let old = c.args.self.now.core in
     let new = c.append_batch.new.self.core in
     let number : new.count ≡ suc (length n.list) =
     sym follows.runs.core.count ∙ number_taken x n batch d a leaves tt in
     let there = taken_stands c.stands_last.ensures x n batch d a new.count leaves tt number in
-    let copied = copy_after old new n a.node x batch c.in_ok-copy.copy r.core leaves.ids r.id
-    follows.runs.id c.in_ok-copy.ensures in
-    let says = c.output_of_append.ensures.says a.node batch follows.runs.core there copied in
+    let says = c.output_of_append.ensures.says a.node follows.runs.core there in
     let told : Bool → List (Message BatchContent) = λ acks. if acks then ack x a.node else [] in
     let acks = c.is_tail.result in
     let sent : ℕ → List (Message BatchContent) = λ y.
@@ -59,21 +46,3 @@ returns-clause-ends g c = λ x n input r.
     c.in_ok-due.due.items c.deref.result.now sent c.output_of_append.result e.any_moment leaves
     follows
     c.deref.ensures.value both says c.output_of_append.ensures.memory
-
--- the store's part keeps the node
-pub returns-in_err-copy-clause-kept : goal.returns-in_err-copy-clause-kept
-returns-in_err-copy-clause-kept g c =
-    node_stays g.D.Disk c.from_residual.result c.args.self.now c.from_residual.ensures.1
-
-pub returns-in_err-due-clause-kept : goal.returns-in_err-due-clause-kept
-returns-in_err-due-clause-kept g c =
-    let told = c.from_residual-in_err-due.ensures in
-    node_stops g.D.Disk c.from_residual-in_err-due.result c.append_batch.result c.args.self.now
-    c.append_batch.new.self c.in_err-due.field-0.0 c.in_err-due.was told.0 told.1
-    c.append_batch.ensures.kept
-
-pub returns-clause-kept : goal.returns-clause-kept
-returns-clause-kept g c =
-    node_goes_on g.D.Disk c.output_of_append.result c.append_batch.result c.args.self.now
-    c.append_batch.new.self c.in_ok-due.was c.output_of_append.ensures.memory
-    c.append_batch.ensures.kept

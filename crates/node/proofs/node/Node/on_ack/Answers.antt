@@ -1,4 +1,4 @@
-use Rattle.std.proofs.Common.{◌≡◌, ℕ, List, [], refl}
+use Rattle.std.proofs.Common.{◌≡◌, ◌≤◌, ℕ, List, [], arith, refl}
 use Rattle.std.proofs.Common.{Bool, nat_lt, if◌then◌else◌, ap, subst, sym, ◌∙◌, inr}
 use Rattle.std.proofs.lemmas.Result.{err_from_is_err_and}
 use Rattle.kv_types.specs.{BatchContent}
@@ -6,10 +6,12 @@ use Rattle.chain_model.specs.{Message, ack, on_ack}
 use Rattle.chain_core.specs.declared.Done.TheVariants as done
 use Rattle.chain_core.specs as core
 use Rattle.chain_core.specs.{AreFrames, done_of}
+use Rattle.engine.specs.{LookUps, engine_disk, look_ups}
+use Rattle.node.specs.Outputs.{AlwaysRefines}
+use Rattle.node.specs.Steps.{disk_of}
 use Rattle.node.proofs.Outputs.{greater}
-use Rattle.node.proofs.Running.{at_rest, ends_rule, ends_stopped, goes_on}
-use Rattle.node.proofs.Running.{with_core, counts_told, keeps_kept}
-use Rattle.node.proofs.Causes.{on_ok}
+use Rattle.node.proofs.Running.{at_rest, counts_told, ends_rule, ends_stopped, goes_on}
+use Rattle.node.proofs.Running.{keeps_kept, on_ok}
 use Rattle.node.proofs.node.Node.on_ack.Goals as goal
 
 -- nothing has changed
@@ -18,9 +20,20 @@ returns-in_err-due-clause-ends g c = λ x n input r.
     let a = on_ack x n c.args.committed c.args.have in
     let p = err_from_is_err_and c.from_residual.result c.from_residual.ensures.1 in
     let old = c.args.self.now in
-    let node = with_core old c.after.new.self in
-    ends_stopped g.D.Disk old node x n a _ c.from_residual.result p.0 p.1 (inr p.2) r.honest
-    (at_rest g.D.Disk c.durable_is_left.ensures old x n a.node r)
+    ends_stopped g.D.Disk old _ x n a _ c.from_residual.result p.0 p.1 (inr p.2) r.honest
+    (at_rest g.D.Disk old x n a.node r)
+
+-- no fewer batches are committed, and no more than there are
+pub set_committed-requires : goal.set_committed-requires
+set_committed-requires g c =
+    let may = c.requires.may in
+    let old = c.args.self.now.core in
+    let count = counts_told c.steps_leave.ensures old c.after.new.self c.args.committed c.args.have
+    c.in_ok-due.due.items c.in_ok-due.ensures.after in
+    let ordered = c.committed-2.ensures.ordered.committed in (
+      omega (arith, may.committed, c.in_ok-due.ensures.rises, c.committed-2.ensures.same),
+      omega (arith, ordered, c.committed-2.ensures.same, count, may.count),
+    )
 
 -- as many batches are counted as before, and none was given up
 pub returns-clause-works : goal.returns-clause-works
@@ -32,8 +45,13 @@ returns-clause-works g c =
     due c.in_ok-due.ensures.after in
     let kept = keeps_kept c.steps_leave.ensures old c.after.new.self
     (done.Acked c.args.committed c.args.have) due c.in_ok-due.ensures.after in
-    on_ok c.output_of.result
-    (record { usable = may.usable; count = count ∙ may.count; kept = kept ∙ may.kept })
+    let told = c.set_committed.ensures.told in
+    on_ok c.output_of.result (record {
+      works = λ ended. may.works (c.set_committed.ensures.ended.0 ended);
+      count = count ∙ may.count ∙ sym (ap (λ (l : LookUps). l.count) told);
+      kept = kept ∙ may.kept ∙ sym (ap (λ (l : LookUps). l.facts.kept) told);
+      committed = sym c.committed-2.ensures.same ∙ sym (ap (λ (l : LookUps). l.committed) told);
+    })
 
 -- the successor's report is passed on where more is committed
 pub returns-clause-ends : goal.returns-clause-ends
@@ -43,11 +61,12 @@ returns-clause-ends g c = λ x n input r.
     let a = on_ack x n c.args.committed c.args.have in
     let leaves = c.steps_leave.ensures x n [] d in
     let due = c.in_ok-due.due.items in
-    let node = with_core old c.after.new.self in
-    let follows = subst (λ (y : ℕ). core.CoreFollows node.core (done_of y n [] d) due) r.id
+    let follows = subst (λ (y : ℕ). core.CoreFollows c.after.new.self (done_of y n [] d) due) r.id
     (c.in_ok-due.ensures.after n [] r.core) in
-    let runs = goes_on g.D.Disk node x n [] d a leaves r.honest
-    r.store follows.is (c.in_ok-due.ensures.same ∙ r.id) in
+    let runs = goes_on g.D.Disk old _ x n [] d a leaves r
+    (c.set_committed.ensures.holds n.list r.store)
+    (ap (λ (l : LookUps). l.facts) c.set_committed.ensures.told) follows.is
+    (c.in_ok-due.ensures.same ∙ r.id) in
     let told : Bool → List (Message BatchContent) = λ acks. if acks then ack x a.node else [] in
     let sent : ℕ → List (Message BatchContent) =
     λ y. if c.gt-grows.result then ack y a.node else [] in
@@ -55,10 +74,9 @@ returns-clause-ends g c = λ x n input r.
     let grows : c.gt-grows.result ≡ nat_lt n.committed c.args.committed =
     c.gt-grows.ensures ∙ greater c.args.committed c.committed.result
     ∙ ap (λ k. nat_lt k c.args.committed) (c.committed.ensures.same ∙ sym r.core.committed) in
-    ends_rule g.D.Disk old node x n input [] d a due c.deref.result.now sent c.output_of.result
-    (at_rest g.D.Disk c.durable_is_left.ensures old x n a.node r) leaves (record {
-      runs = runs;
-      replied = follows.replied;
-    })
+    let moments = subst (λ disk. AlwaysRefines g.D.Disk (disk_of old) disk x n a.node)
+    (sym c.set_committed.ensures.disk) (at_rest g.D.Disk old x n a.node r) in
+    ends_rule g.D.Disk old _ x n input [] d a due c.deref.result.now sent c.output_of.result
+    moments leaves (record { runs = runs; replied = follows.replied })
     c.deref.ensures.value (ap told grows)
     (c.output_of.ensures.says a.node [] runs.core none) c.output_of.ensures.memory

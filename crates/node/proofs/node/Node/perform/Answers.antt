@@ -5,9 +5,6 @@ use Rattle.chain_core.specs.{IsReadOf, rule_of}
 use Rattle.chain_core.specs.declared.Decision.TheVariants as decision
 use Rattle.node.specs.Outputs.{OutputRefines}
 use Rattle.node.proofs.Running.{at_rest, ends, ends_as}
-use Rattle.std.proofs.Common.{refl}
-use Rattle.node.proofs.Causes.{on_ok}
-use Rattle.node.proofs.Steps.{node_answers}
 use Rattle.node.proofs.node.Node.perform.Goals as goal
 
 pub returns-in-Accept-clause-ends : goal.returns-in-Accept-clause-ends
@@ -37,7 +34,7 @@ returns-in-AckDuplicate-clause-ends g c = λ x n input read r.
     ends_as g.D.Disk c.args.self.now c.args.self.now x n input c.args.decision
     decision.AckDuplicate c.ack_duplicate.result c.in-AckDuplicate.is
     (ends g.D.Disk c.args.self.now c.args.self.now x n input (ack_duplicate x n)
-    c.ack_duplicate.result (at_rest g.D.Disk c.durable_is_left.ensures c.args.self.now x n n r) r
+    c.ack_duplicate.result (at_rest g.D.Disk c.args.self.now x n n r) r
     tells c.ack_duplicate.ensures.memory)
 
 pub returns-in-Read-clause-ends : goal.returns-in-Read-clause-ends
@@ -59,7 +56,7 @@ returns-in-Refuse-clause-ends g c = λ x n input read r.
     ends_as g.D.Disk c.args.self.now c.args.self.now x n input c.args.decision known
     c.refuse.result c.in-Refuse.is (ends g.D.Disk c.args.self.now c.args.self.now x n input
     (rule_of x n known) c.refuse.result
-    (at_rest g.D.Disk c.durable_is_left.ensures c.args.self.now x n n r) r
+    (at_rest g.D.Disk c.args.self.now x n n r) r
     (c.refuse.ensures.tells n input) c.refuse.ensures.memory)
 
 pub returns-in-Drop-clause-ends : goal.returns-in-Drop-clause-ends
@@ -69,40 +66,5 @@ returns-in-Drop-clause-ends g c = λ x n input read r.
     (Ok c.output_of_drop.result) c.in-Drop.is (ends g.D.Disk c.args.self.now c.args.self.now x n
     input
     (rule_of x n known) (Ok c.output_of_drop.result)
-    (at_rest g.D.Disk c.durable_is_left.ensures c.args.self.now x n n r) r
+    (at_rest g.D.Disk c.args.self.now x n n r) r
     (c.output_of_drop.ensures n input) tt)
-
--- each part keeps the node
-pub returns-in-Accept-clause-kept : goal.returns-in-Accept-clause-kept
-returns-in-Accept-clause-kept g c = c.accept.ensures.kept
-
-pub returns-in-Append-clause-kept : goal.returns-in-Append-clause-kept
-returns-in-Append-clause-kept g c = c.append.ensures.kept
-
-pub returns-in-AckDuplicate-clause-kept : goal.returns-in-AckDuplicate-clause-kept
-returns-in-AckDuplicate-clause-kept g c =
-    let old = c.args.self.now in
-    node_answers g.D.Disk c.ack_duplicate.result old old refl c.ack_duplicate.ensures.memory
-    (on_ok c.ack_duplicate.result c.requires.may)
-
-pub returns-in-OnAck-clause-kept : goal.returns-in-OnAck-clause-kept
-returns-in-OnAck-clause-kept g c =
-    let e = c.on_ack.ensures in
-    node_answers g.D.Disk c.on_ack.result c.args.self.now c.on_ack.new.self e.disk e.memory e.works
-
-pub returns-in-Read-clause-kept : goal.returns-in-Read-clause-kept
-returns-in-Read-clause-kept g c = c.read.ensures.kept
-
-pub returns-in-Resend-clause-kept : goal.returns-in-Resend-clause-kept
-returns-in-Resend-clause-kept g c = c.resend.ensures.kept
-
-pub returns-in-Refuse-clause-kept : goal.returns-in-Refuse-clause-kept
-returns-in-Refuse-clause-kept g c =
-    let old = c.args.self.now in
-    node_answers g.D.Disk c.refuse.result old old refl c.refuse.ensures.memory
-    (on_ok c.refuse.result c.requires.may)
-
-pub returns-in-Drop-clause-kept : goal.returns-in-Drop-clause-kept
-returns-in-Drop-clause-kept g c =
-    let old = c.args.self.now in
-    node_answers g.D.Disk (Ok c.output_of_drop.result) old old refl tt c.requires.may

@@ -1,0 +1,73 @@
+-- Causes of a refusal, by the errors of the layers below.
+use Rattle.std.proofs.Common.{◌≡◌, ◌⊎◌, ℕ, ◌≤◌, List, length, Result, Ok, Err, inl, inr, ap, arith, refl}
+use Rattle.std.proofs.Common.{subst, sym}
+use Rattle.std.specs.Prelude.{IfErr, IsErrAnd, MatchResult, OnErr, OnOk, IsErrOf}
+use Rattle.record_log.specs.declared.LogError.{LogError}
+use Rattle.record_log.specs.declared.LogError.TheVariants as log
+use Rattle.record_log.specs.declared.Log.{Log}
+use Rattle.record_log.specs as log_stands
+use Rattle.memtable.specs.declared.MemtableError.{MemtableError}
+use Rattle.memtable.specs.declared.MemtableError.TheVariants as table
+use Rattle.engine.specs.declared.error.EngineError.{EngineError}
+use Rattle.engine.specs.declared.error.EngineError.TheVariants as engine
+use Rattle.engine.specs.Errors.{error_of_log, error_of_memtable, IsOfMachine}
+
+-- a log that works on its own file reports errors of the machine alone
+pub of_machine : (e : LogError) → log_stands.IsExternal e → IsOfMachine (error_of_log e)
+of_machine e (inl failed) = inl (ap error_of_log failed)
+of_machine e (inr memory) = inr (ap error_of_log memory)
+
+pub working_log : (e : LogError) → log_stands.IsExternal e ⊎ (e ≡ log.Failed) →
+    (e ≡ log.Failed → ⊥) → IsOfMachine (error_of_log e)
+working_log e (inl machine) works = of_machine e machine
+working_log e (inr failed) works = absurd (works failed)
+
+-- a refusal that is no damage is of the machine
+pub undamaged : {T : Type 0} (result : Result T EngineError) →
+    IfErr result (λ e. (e ≡ engine.Damaged) ⊎ (e ≡ engine.Memory)) →
+    (IsErrOf result engine.Damaged → ⊥) → IfErr result IsOfMachine
+undamaged (Ok x) only whole = tt
+undamaged (Err e) (inl damaged) whole = absurd (whole (ap (λ d. Err d) damaged))
+undamaged (Err e) (inr memory) whole = inr memory
+
+-- a log that works, with a record that fits, reports errors of the machine alone
+pub met : (limit : ℕ) (e : LogError) (old new : Log) (one : List ℕ) →
+    log_stands.AppendOutcome {T = Unit {0}} limit (Err e) old new one → length one ≤ limit →
+    (log_stands.HasFailed old → ⊥) → log_stands.IsExpected e → IsOfMachine (error_of_log e)
+met limit e old new one tells fits works (inl machine) = of_machine e machine
+met limit (log.Disk e) old new one tells fits works (inr own) =
+    elim own [ inl long ↦ absurd cc | inr failed ↦ absurd cc ]
+met limit log.Memory old new one tells fits works (inr own) =
+    elim own [ inl long ↦ absurd cc | inr failed ↦ absurd cc ]
+met limit log.TooLong old new one tells fits works (inr own) =
+    let long = tells.1 in
+    absurd (omega (arith, long, fits))
+met limit log.Failed old new one tells fits works (inr own) = absurd (works tells.0)
+
+-- want of memory is no damage
+pub memory_undamaged : {T : Type 0} (result : Result T EngineError) →
+    IfErr result (λ e. e ≡ engine.Memory) → IsErrOf result engine.Damaged → ⊥
+memory_undamaged (Ok x) only damaged = cc
+memory_undamaged (Err e) only damaged = cc
+
+-- a memtable that works refuses for want of memory alone
+pub table_met : {T : Type 0} (result : Result T MemtableError) (e : MemtableError) →
+    result ≡ Err e → (IsErrOf result table.Failed → ⊥) → error_of_memtable e ≡ engine.Memory
+table_met result table.Memory is works = refl
+table_met result table.Failed is works = absurd (works is)
+
+-- a property of every result holds of a refusal
+pub on_err : {T E P : Type 0} (result : Result T E) → P → OnErr result P
+on_err (Ok x) p = tt
+on_err (Err e) p = p
+
+-- a property of every result holds of an answer
+pub on_ok : {T E P : Type 0} (result : Result T E) → P → OnOk result P
+on_ok (Ok x) p = p
+on_ok (Err e) p = tt
+
+-- what holds of the cause holds of the refusal that tells it
+pub refuses : {T E : Type 0} (result : Result T E) {e : E} (P : T → Type 0) (Q : E → Type 0) →
+    IsErrAnd result (λ s. s ≡ e) → Q e → MatchResult result P Q
+refuses (Ok x) P Q told q = absurd told
+refuses (Err s) P Q told q = subst Q (sym told) q

@@ -1,0 +1,147 @@
+-- The entries of a list of batches, and of one batch more.
+use Rattle.std.proofs.Common.{◌≡◌, ◌↔◌, ◌⊎◌, ℕ, zero, suc, ◌+◌, ◌≤◌, ◌<◌, List, [], ◌∷◌, ◌++◌}
+use Rattle.std.proofs.Common.{length, Some, None, inl, inr, refl, sym, ap, subst, ◌∙◌, arith}
+use Rattle.std.specs.Prelude.{slice_get, take, Option}
+use Rattle.kv_types.specs.{BatchContent, Entry, IsNewest, IsUnseen, ViewShows}
+use Rattle.kv_types.specs.{all_entries, entries_of, map_of}
+use Rattle.kv_types.specs.Entries.{ViewsAreMaps}
+use Rattle.memtable.specs.declared.Found.{Found}
+use Rattle.memtable.specs.declared.Found.TheVariants as lookup
+use Rattle.memtable.specs.declared.Memtable.{Memtable}
+use Rattle.memtable.specs.{HasFailedAdd, IsFoundAt, IsNewNumber, TableHolds}
+use Rattle.engine.specs.Stores.{HasEntriesOf, IsNumberedTo}
+
+-- ---- the places of a list with one batch more
+
+at_front : (list : List BatchContent) (x : BatchContent) (i : ℕ) (b : BatchContent) →
+    slice_get list i ≡ Some b → slice_get (list ++ x ∷ []) i ≡ Some b
+at_front [] x i b got = absurd cc
+at_front (y ∷ l) x zero b got = got
+at_front (y ∷ l) x (suc i) b got = at_front l x i b got
+
+at_end : (list : List BatchContent) (x : BatchContent) →
+    slice_get (list ++ x ∷ []) (length list) ≡ Some x
+at_end [] x = refl
+at_end (y ∷ l) x = at_end l x
+
+at_either : (list : List BatchContent) (x : BatchContent) (i : ℕ) (b : BatchContent) →
+    slice_get (list ++ x ∷ []) i ≡ Some b →
+    (slice_get list i ≡ Some b) ⊎ ((i ≡ length list) × (x ≡ b))
+at_either [] x zero b got =
+    let same : x ≡ b = cc in
+    inr (refl, same)
+at_either [] x (suc i) b got = absurd cc
+at_either (y ∷ l) x zero b got = inl got
+at_either (y ∷ l) x (suc i) b got =
+    elim (at_either l x i b got) as
+    (λ _. (slice_get l i ≡ Some b) ⊎ ((suc i ≡ suc (length l)) × (x ≡ b))) [
+      | inl before ↦ inl before
+      | inr last ↦ inr (ap suc last.0, last.1)
+    ]
+
+-- ---- memtables
+
+none_at : {P : Type 0} (i : ℕ) (b : BatchContent) → slice_get [] i ≡ Some b → P
+none_at i b got = absurd cc
+
+-- an empty memtable has the entries of no batch
+pub none_have : (table : Memtable) → ((entry : Entry) → TableHolds table entry → ⊥) →
+    HasEntriesOf table []
+none_have table empty entry = (λ holds. absurd (empty entry holds), λ among. none_at among.0 among.1 among.2)
+
+-- what an addition does: the entries of this batch are added under this number
+abbrev pub Adds : Memtable → Memtable → ℕ → BatchContent → Type 0
+Adds old new number batch = (entry : Entry) →
+    TableHolds new entry ↔ (TableHolds old entry ⊎ entries_of number batch entry)
+
+-- one batch more
+pub one_more_has : (old new : Memtable) (list : List BatchContent) (batch : BatchContent)
+    (number : ℕ) → HasEntriesOf old list → number ≡ suc (length list) → Adds old new number batch →
+    HasEntriesOf new (list ++ batch ∷ [])
+one_more_has old new list batch number has is adds entry = (to, back)
+  where
+    to : TableHolds new entry → all_entries (list ++ batch ∷ []) entry
+    to holds = elim ((adds entry).0 holds) as (λ _. all_entries (list ++ batch ∷ []) entry) [
+      | inl before ↦ (
+        ((has entry).0 before).0,
+        ((has entry).0 before).1,
+        at_front list batch ((has entry).0 before).0 ((has entry).0 before).1
+            ((has entry).0 before).2,
+        ((has entry).0 before).3,
+      )
+      | inr among ↦ (
+        length list,
+        batch,
+        at_end list batch,
+        subst (λ (n : ℕ). entries_of n batch entry) is among,
+      )
+    ]
+
+    back : all_entries (list ++ batch ∷ []) entry → TableHolds new entry
+    back among = (adds entry).1 (elim (at_either list batch among.0 among.1 among.2) as
+        (λ _. TableHolds old entry ⊎ entries_of number batch entry) [
+          | inl before ↦ inl ((has entry).1 (among.0, among.1, before, among.3))
+          | inr last ↦ inr (subst (λ (n : ℕ). entries_of n batch entry)
+              (ap suc last.0 ∙ sym is)
+              (subst (λ (b : BatchContent). entries_of (suc among.0) b entry) (sym last.1) among.3))
+        ])
+
+-- no entry has a number yet
+pub none_numbered : (table : Memtable) → (HasFailedAdd table → ⊥) →
+    ((entry : Entry) → TableHolds table entry → ⊥) → (count : ℕ) → IsNumberedTo table count
+none_numbered table works empty count =
+    record { works = works; below = λ entry holds. absurd (empty entry holds) }
+
+-- the next number is new
+pub next_is_new : (table : Memtable) (count number : ℕ) → IsNumberedTo table count →
+    number ≡ count + 1 → IsNewNumber table number
+next_is_new table count number numbered is works entry holds =
+    let le = numbered.below entry holds in
+    omega (arith, le, is)
+
+-- and is the greatest of the memtable that was added to
+pub next_numbered : (old new : Memtable) (batch : BatchContent) (count number : ℕ) →
+    IsNumberedTo old count → number ≡ count + 1 → (HasFailedAdd new → ⊥) →
+    Adds old new number batch → (next : ℕ) → next ≡ count + 1 → IsNumberedTo new next
+next_numbered old new batch count number numbered is works adds next next_is = record {
+  works = works;
+  below = λ entry holds. elim ((adds entry).0 holds) as (λ _. entry.number ≤ next) [
+    | inl before ↦ omega (arith, numbered.below entry before, next_is)
+    | inr among ↦ omega (arith, among.0, is, next_is)
+  ];
+}
+
+-- ---- what a lookup finds
+
+module _ (at : ℕ) (A B : Entry → Type 0) (same : (entry : Entry) → A entry ↔ B entry) where
+  newest_in : (entry : Entry) → IsNewest at A entry → IsNewest at B entry
+  newest_in entry h = record {
+    seen = ((same entry).0 h.seen.0, h.seen.1);
+    newest = λ other seen key. h.newest other ((same other).1 seen.0, seen.1) key;
+  }
+
+  unseen_in : (key : List ℕ) → IsUnseen at A key → IsUnseen at B key
+  unseen_in key none other seen = none other ((same other).1 seen.0, seen.1)
+
+-- what it says of a value
+abbrev pub TellsOf : Found → Option (List ℕ) → Type 0
+TellsOf (lookup.Value v) value = value ≡ Some v.now
+TellsOf lookup.Deleted value = value ≡ None
+TellsOf lookup.None value = value ≡ None
+
+-- it shows the map of so many first batches
+pub found_shows : ViewsAreMaps → (table : Memtable) (list : List BatchContent) (key : List ℕ)
+    (at : ℕ) (found : Found) (value : Option (List ℕ)) → HasEntriesOf table list →
+    IsFoundAt table key at found → TellsOf found value → value ≡ map_of (take at list) key
+found_shows law table list key at (lookup.Value v) value has found is =
+    let shows : ViewShows at (all_entries list) key (Some v.now) =
+    inl (found.0, newest_in at (TableHolds table) (all_entries list) has _ found.1) in
+    is ∙ sym ((law list at key (Some v.now)).0 shows)
+found_shows law table list key at lookup.Deleted value has found is =
+    let shows : ViewShows at (all_entries list) key None =
+    inl (found.0, newest_in at (TableHolds table) (all_entries list) has _ found.1) in
+    is ∙ sym ((law list at key None).0 shows)
+found_shows law table list key at lookup.None value has found is =
+    let shows : ViewShows at (all_entries list) key None =
+    inr (unseen_in at (TableHolds table) (all_entries list) has key found, refl) in
+    is ∙ sym ((law list at key None).0 shows)

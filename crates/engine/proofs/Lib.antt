@@ -1,0 +1,9 @@
+pub mod Identities
+pub mod Entries
+pub mod Records
+pub mod Causes
+pub mod Keeping
+pub mod Held
+pub mod Opens
+pub mod Blank
+pub mod Engines

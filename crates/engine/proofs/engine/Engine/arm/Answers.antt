@@ -1,0 +1,23 @@
+use Rattle.std.proofs.Common.{refl}
+use Rattle.engine.proofs.Engines.{holds_of, reads_on}
+use Rattle.engine.proofs.engine.Engine.arm.Goals as goal
+
+-- the files and the store stay
+pub returns-clause-reads : goal.returns-clause-reads
+returns-clause-reads g c = λ list r.
+    reads_on g.D.Disk c.durable_is_left.ensures c.args.self.now _ list (record {
+      facts = refl;
+      store = refl;
+      honest = c.arm.ensures.honest.1;
+      same = c.arm.ensures.same;
+    }) r.works r
+
+pub returns-clause-holds : goal.returns-clause-holds
+returns-clause-holds g c = λ list h.
+    holds_of g.D.Disk c.durable_is_left.ensures _ list
+    (reads_on g.D.Disk c.durable_is_left.ensures c.args.self.now _ list (record {
+      facts = refl;
+      store = refl;
+      honest = c.arm.ensures.honest.1;
+      same = c.arm.ensures.same;
+    }) h.reads.works h.reads)

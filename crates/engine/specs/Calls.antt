@@ -1,0 +1,104 @@
+-- What the calls of an engine answer, and what they make of its disk.
+use Rattle.std.specs.Prelude.{◌≡◌, ◌⊎◌, ◌↔◌, ℕ, ◌<◌, ◌≤◌, List, Result, Ok, Err, IsErrOf, OnOk}
+use Rattle.std.specs.Prelude.{IsErrAnd}
+use Rattle.kv_types.specs.{BatchContent}
+use Rattle.disk.specs.declared.Disk.{Ghosts}
+use Rattle.disk.specs.{AlwaysLeaves, Contents, KeepsDisk, State, contents}
+use Rattle.engine.specs.declared.engine.Engine.{Engine}
+use Rattle.engine.specs.declared.error.EngineError.{EngineError}
+use Rattle.engine.specs.declared.error.EngineError.TheVariants as engine
+use Rattle.engine.specs.Engines.{EngineHolds, LookUps, EngineReads, HasEnded, engine_disk, facts_of, look_ups}
+use Rattle.engine.specs.Errors.{EndsEngine, FailsDevice, IsEnd}
+use Rattle.engine.specs.Files.{Facts}
+use Rattle.engine.specs.Files.{FilesRepresent, IsBlank, IsDamaged, IsOneOf}
+
+-- ---- which reads are refused
+
+-- a number is readable from the floor to the committed number
+abbrev pub TellsReadable : {T : Type 0} → LookUps → ℕ → Result T EngineError → Type 0
+TellsReadable told at (Ok x) = (told.facts.floor ≤ at) × (at ≤ told.committed)
+TellsReadable told at (Err engine.TooOld) = at < told.facts.floor
+TellsReadable told at (Err engine.NotCommitted) = told.committed < at
+TellsReadable told at (Err engine.Disk) = Unit {0}
+TellsReadable told at (Err engine.Damaged) = Unit {0}
+TellsReadable told at (Err engine.Memory) = Unit {0}
+TellsReadable told at (Err engine.Failed) = Unit {0}
+TellsReadable told at (Err engine.NotCreated) = ⊥
+TellsReadable told at (Err engine.Exhausted) = ⊥
+
+-- files that represent a list are not damaged
+abbrev pub IsNoDamage : {T : Type 0} → Result T EngineError → Type 0
+IsNoDamage result = IsErrOf result engine.Damaged → ⊥
+
+-- ---- what a call keeps
+
+-- An engine that has ended answers `Failed`, and no other does. The refusals of the machine and of
+-- the files end it, and no others do; those others change nothing.
+pub record KeepsEngine {D T : Type 0} (g : Ghosts D) (old new : Engine D g)
+    (result : Result T EngineError) (cause : Type 0) (IsKept : State → State → Type 0) : Type 0 where
+  pub disk : KeepsDisk g (engine_disk old) (engine_disk new) (FailsDevice result) cause IsKept
+  pub closed : IsErrOf result engine.Failed ↔ HasEnded old
+  pub ends : HasEnded new ↔ (HasEnded old ⊎ EndsEngine result)
+  pub refusal : IsErrAnd result (λ e. IsEnd e → ⊥) → new ≡ old
+
+-- the disk represents this list after the call, where it represented that one before
+pub record Goes {D T : Type 0} (g : Ghosts D) (old new : Engine D g) (list more : List BatchContent)
+    (result : Result T EngineError) : Type 0 where
+  pub reads : EngineReads g old list → OnOk result (EngineReads g new more)
+  pub holds : EngineHolds g old list → OnOk result (EngineHolds g new more)
+
+-- a crash at any moment since the call began leaves files of one of two stores
+abbrev pub IsOldOrNewSince : {D : Type 0} → Ghosts D → D → D → Facts → List BatchContent → Facts →
+    List BatchContent → Type 0
+IsOldOrNewSince g old new facts list facts' list' =
+    AlwaysLeaves g old new (IsOneOf facts list facts' list')
+
+-- ---- the calls that are given a disk
+
+-- the disk that such a call has handed on, or back
+abbrev pub disk_after : {D : Type 0} {g : Ghosts D} → Result (Engine D g) (EngineError × D) → D
+disk_after (Ok engine) = engine_disk engine
+disk_after (Err refused) = refused.1
+
+-- it was refused because the device failed
+abbrev pub RefusedByDevice : {D : Type 0} {g : Ghosts D} → Result (Engine D g) (EngineError × D) →
+    Type 0
+RefusedByDevice result = IsErrAnd result (λ refused. refused.0 ≡ engine.Disk)
+
+-- a store without batches, of node x in the first configuration
+pub record IsNewEngine {D : Type 0} {g : Ghosts D} (x : ℕ) (ids : List ℕ) (engine : Engine D g) : Type 0
+  where
+    pub works : HasEnded engine → ⊥
+    pub told : look_ups engine ≡ record {
+      facts = record { id = x; epoch = 0; ids = ids; floor = 0; kept = 0 };
+      count = 0;
+      committed = 0;
+    }
+
+-- an opened engine knows only the batches below the floor to be committed
+pub record IsJustOpened {D : Type 0} {g : Ghosts D} (engine : Engine D g) : Type 0 where
+  pub works : HasEnded engine → ⊥
+  pub committed : (look_ups engine).committed ≡ (look_ups engine).facts.floor
+
+-- the engine tells these facts, and its disk represents them and the list
+pub record IsEngineOf {D : Type 0} (g : Ghosts D) (told : Facts) (list : List BatchContent)
+    (engine : Engine D g) : Type 0 where
+  pub facts : facts_of engine ≡ told
+  pub holds : EngineHolds g engine list
+
+-- the engine is that of a list which its files represented
+pub record IsOpened {D : Type 0} (g : Ghosts D) (old : State) (engine : Engine D g) : Type 0 where
+  pub list : List BatchContent
+  pub had : FilesRepresent (facts_of engine) list (contents old)
+  pub holds : EngineHolds g engine list
+
+-- why a store was not opened, by its files
+abbrev pub ExplainsRefusal : EngineError → Contents → Type 0
+ExplainsRefusal engine.Disk left = Unit {0}
+ExplainsRefusal engine.Damaged left = IsDamaged left
+ExplainsRefusal engine.Memory left = Unit {0}
+ExplainsRefusal engine.NotCreated left = IsBlank left
+ExplainsRefusal engine.Failed left = ⊥
+ExplainsRefusal engine.TooOld left = ⊥
+ExplainsRefusal engine.NotCommitted left = ⊥
+ExplainsRefusal engine.Exhausted left = ⊥

@@ -1,0 +1,86 @@
+-- An engine and the list of batches that its disk represents.
+use Rattle.std.specs.Prelude.{◌≡◌, ℕ, ◌+◌, ◌≤◌, List, length, IsTrue, IsSomeAnd}
+use Rattle.kv_types.specs.declared.bounds.TheConstants.{MAX_NUMBER}
+use Rattle.kv_types.specs.{BatchContent}
+use Rattle.disk.specs.declared.Disk.{Ghosts}
+use Rattle.disk.specs.{State, EndsOutOfRange, OnlyLeaves, contents, seen}
+use Rattle.record_log.specs.declared.log.TheConstants.{MAX_RECORD}
+use Rattle.table_files.specs.{inner_disk}
+use Rattle.engine.specs.declared.engine.Engine.{Engine}
+use Rattle.engine.specs.Files.{Facts}
+use Rattle.engine.specs.Files.{FilesRepresent}
+use Rattle.engine.specs.Stores.{IsFullLog, IsUsable, StoreHolds, plain_facts, store_count}
+
+-- ---- what an engine tells
+
+-- what the look-ups tell: the facts of its files, the number of batches, and of the committed ones
+pub record LookUps : Type 0 where
+  pub facts : Facts
+  pub count : ℕ
+  pub committed : ℕ
+
+module _ {D : Type 0} {g : Ghosts D} where
+  abbrev pub facts_of : Engine D g → Facts
+  facts_of engine = plain_facts engine.id engine.config
+
+  abbrev pub look_ups : Engine D g → LookUps
+  look_ups engine = record {
+    facts = facts_of engine;
+    count = store_count engine.store;
+    committed = engine.committed;
+  }
+
+  -- the disk that it owns
+  abbrev pub engine_disk : Engine D g → D
+  engine_disk engine = inner_disk engine.files
+
+  -- an earlier call ended it
+  abbrev pub HasEnded : Engine D g → Type 0
+  HasEnded engine = IsTrue engine.has_ended
+
+  -- its log is so long that the next append may end past the greatest place of a file
+  abbrev pub IsNearlyFull : Engine D g → Type 0
+  IsNearlyFull engine = IsFullLog engine.store
+
+-- one batch more
+abbrev pub with_one_more : LookUps → LookUps
+with_one_more told = record told { count = told.count + 1 }
+
+-- these are committed
+abbrev pub with_committed : LookUps → ℕ → LookUps
+with_committed told committed = record told { committed = committed }
+
+-- the committed number lies between the floor and the count
+pub record AreOrdered (told : LookUps) : Type 0 where
+  pub kept : told.facts.kept ≤ told.facts.floor
+  pub floor : told.facts.floor ≤ told.committed
+  pub committed : told.committed ≤ told.count
+  pub few : told.count ≤ MAX_NUMBER
+
+-- ---- what an engine holds
+
+-- what the engine has in memory is what its files say
+unfoldable pub IsInMemory : {D : Type 0} (g : Ghosts D) → Engine D g → List BatchContent → Type 0
+IsInMemory g engine list =
+    StoreHolds (g.state (engine_disk engine)) engine.store (facts_of engine) list
+
+-- The engine works, and what its disk reads represents the list and what the engine tells.
+pub record EngineReads {D : Type 0} (g : Ghosts D) (engine : Engine D g) (list : List BatchContent)
+    : Type 0 where
+  pub honest : g.is_honest (engine_disk engine)
+  pub works : HasEnded engine → ⊥
+  pub represents : FilesRepresent (facts_of engine) list (contents (g.state (engine_disk engine)))
+  pub count : (look_ups engine).count ≡ length list
+  pub inside : IsInMemory g engine list
+
+-- And so does whatever a crash now leaves.
+pub record EngineHolds {D : Type 0} (g : Ghosts D) (engine : Engine D g) (list : List BatchContent)
+    : Type 0 where
+  pub reads : EngineReads g engine list
+  pub crash : OnlyLeaves (FilesRepresent (facts_of engine) list) (g.state (engine_disk engine))
+
+-- a file of the disk is so long that one more record of the greatest length behind it would end past
+-- the greatest place of a file
+abbrev pub HasLongFile : State → Type 0
+HasLongFile disk =
+    (file : ℕ) × IsSomeAnd (seen (disk file)) (λ it. EndsOutOfRange (length it) (MAX_RECORD + 6))

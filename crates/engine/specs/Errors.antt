@@ -1,0 +1,62 @@
+-- What the refusals of an engine say.
+use Rattle.std.specs.Prelude.{◌≡◌, ◌⊎◌, Result, Ok, Err}
+use Rattle.disk.specs.declared.DiskError.{DiskError}
+use Rattle.disk.specs.declared.DiskError.TheVariants as disk
+use Rattle.memtable.specs.declared.MemtableError.{MemtableError}
+use Rattle.memtable.specs.declared.MemtableError.TheVariants as table
+use Rattle.record_log.specs.declared.LogError.{LogError}
+use Rattle.record_log.specs.declared.LogError.TheVariants as log
+use Rattle.engine.specs.declared.error.EngineError.{EngineError}
+use Rattle.engine.specs.declared.error.EngineError.TheVariants as engine
+
+-- a named file that is absent or too short is damage
+abbrev pub error_of_disk : DiskError → EngineError
+error_of_disk disk.Failed = engine.Disk
+error_of_disk disk.NoFile = engine.Damaged
+error_of_disk disk.Short = engine.Damaged
+error_of_disk disk.Memory = engine.Memory
+
+abbrev pub error_of_log : LogError → EngineError
+error_of_log (log.Disk e) = error_of_disk e
+error_of_log log.Memory = engine.Memory
+error_of_log log.TooLong = engine.Damaged
+error_of_log log.Failed = engine.Damaged
+
+abbrev pub error_of_memtable : MemtableError → EngineError
+error_of_memtable table.Memory = engine.Memory
+error_of_memtable table.Failed = engine.Failed
+
+-- the refusals that say nothing of the files: the device failed, or memory is out
+abbrev pub IsOfMachine : EngineError → Type 0
+IsOfMachine e = (e ≡ engine.Disk) ⊎ (e ≡ engine.Memory)
+
+-- the call was refused because the device failed
+abbrev pub FailsDevice : {T : Type 0} → Result T EngineError → Type 0
+FailsDevice result = result ≡ Err engine.Disk
+
+-- a refusal of what the machine or the files did, after which an engine has to be opened again
+abbrev pub IsEnd : EngineError → Type 0
+IsEnd engine.Disk = Unit {0}
+IsEnd engine.Damaged = Unit {0}
+IsEnd engine.Memory = Unit {0}
+IsEnd engine.NotCreated = ⊥
+IsEnd engine.Failed = ⊥
+IsEnd engine.TooOld = ⊥
+IsEnd engine.NotCommitted = ⊥
+IsEnd engine.Exhausted = ⊥
+
+-- the call ended the engine
+abbrev pub EndsEngine : {T : Type 0} → Result T EngineError → Type 0
+EndsEngine (Ok x) = ⊥
+EndsEngine (Err e) = IsEnd e
+
+-- what a refusal says about whether a store was ever created on a disk
+abbrev pub MatchesBlank : EngineError → Type 0 → Type 0
+MatchesBlank engine.Disk is_blank = Unit {0}
+MatchesBlank engine.Damaged is_blank = is_blank → ⊥
+MatchesBlank engine.Memory is_blank = Unit {0}
+MatchesBlank engine.NotCreated is_blank = is_blank
+MatchesBlank engine.Failed is_blank = ⊥
+MatchesBlank engine.TooOld is_blank = ⊥
+MatchesBlank engine.NotCommitted is_blank = ⊥
+MatchesBlank engine.Exhausted is_blank = ⊥

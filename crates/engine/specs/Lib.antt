@@ -1,0 +1,18 @@
+pub mod Errors
+pub mod Layout
+pub mod Files
+pub mod Stores
+pub mod Engines
+pub mod Calls
+pub mod KeepingLemmas
+-- What crates above name.
+pub use Rattle.engine.specs.Calls.{Goes, IsNewEngine, IsEngineOf, IsJustOpened, IsOldOrNewSince, IsOpened}
+pub use Rattle.engine.specs.Calls.{KeepsEngine, ExplainsRefusal, RefusedByDevice, TellsReadable}
+pub use Rattle.engine.specs.Calls.{disk_after}
+pub use Rattle.engine.specs.Engines.{AreOrdered, HasEnded, HasLongFile, EngineHolds, IsNearlyFull}
+pub use Rattle.engine.specs.Engines.{LookUps, EngineReads, engine_disk, facts_of, look_ups}
+pub use Rattle.engine.specs.Engines.{with_one_more, with_committed}
+pub use Rattle.engine.specs.Errors.{EndsEngine, FailsDevice, IsEnd, IsOfMachine}
+pub use Rattle.engine.specs.Files.{Facts}
+pub use Rattle.engine.specs.Files.{FilesRepresent, IsBlank, IsDamaged, IsOneOf, IsRecovered}
+pub use Rattle.engine.specs.Files.{KeepsOthers}

@@ -1,0 +1,328 @@
+//! One node's store.
+ghost use Rattle.std.specs.Prelude.{◌≡◌, IfOk, IfErr, false};
+ghost use Rattle.table_files.specs.{inner_disk};
+ghost use Rattle.engine.specs.Stores.{AreCounted, IsUsable};
+
+use crate::EngineError;
+use crate::recovery::recover;
+use crate::store::Store;
+use configurations::{Config, Epoch, NodeId};
+use disk::laws::durable_is_left;
+use disk::{Crash, Disk, Fault};
+use kv_types::{Batch, Key, Limits, Number, Value};
+use std::alloc::Global;
+use table_files::Files;
+
+/// A store of batches on a disk, which it owns. The batches are numbered from 1.
+///
+/// Files represent a list of batches and facts beside it (`FilesRepresent`); an engine holds that
+/// list (`EngineHolds`), of which the code keeps the entries alone.
+#[derive(Drop)]
+pub struct Engine<D: Disk + Drop> {
+    files: Files<D>,
+    id: NodeId,
+    config: Config,
+    store: Store,
+    committed: Number,
+    has_ended: bool,
+    ghost counted: { AreCounted store committed },
+    ghost usable: { has_ended ≡ false → IsUsable store },
+}
+
+// The disk with its cache of blocks; a refusal returns the disk.
+fn files_over<D: Disk + Drop>(
+    alloc: Global,
+    disk: D,
+    limits: &Limits,
+) -> Result<Files<D>, (EngineError, D)>
+    ensures files { IfOk result (λ files. inner_disk files ≡ disk) }
+    ensures refused { IfErr result (λ refused.
+        (refused.0 ≡ EngineError.Memory) × (refused.1 ≡ disk)) }
+{
+    match Files::new(alloc, disk, limits.cache as usize) {
+        Ok(files) => Ok(files),
+        Err(refused) => Err((EngineError::Memory, refused.value)),
+    }
+}
+
+impl<D: Disk + Drop> Engine<D> {
+    ghost use Rattle.std.specs.Prelude.{◌≡◌, ◌⊎◌, ◌↔◌, ℕ, ◌<◌, ◌≤◌, [], ◌∷◌, ◌++◌, List, take};
+    ghost use Rattle.std.specs.Prelude.{IfOk, IfErr, IsErrOf, OnOk, MatchResult, replicate, Some};
+    ghost use Rattle.kv_types.specs.declared.bounds.TheConstants.{MAX_NUMBER};
+    ghost use Rattle.kv_types.specs.{BatchContent, map_of};
+    ghost use Rattle.disk.specs.{contents, IsSame, IsStill, KeepsDisk};
+    ghost use Rattle.chain_model.specs.{place};
+    ghost use Rattle.engine.specs.Calls.{ExplainsRefusal, Goes, IsEngineOf, IsJustOpened};
+    ghost use Rattle.engine.specs.Calls.{IsNewEngine, IsNoDamage, IsOldOrNewSince, IsOpened};
+    ghost use Rattle.engine.specs.Calls.{KeepsEngine, RefusedByDevice, TellsReadable, disk_after};
+    ghost use Rattle.engine.specs.Engines.{AreOrdered, EngineHolds, EngineReads, HasEnded};
+    ghost use Rattle.engine.specs.Engines.{IsNearlyFull, engine_disk, facts_of, look_ups};
+    ghost use Rattle.engine.specs.Engines.{with_one_more, with_committed};
+    ghost use Rattle.engine.specs.Errors.{IsOfMachine};
+    ghost use Rattle.engine.specs.Files.{Facts};
+    ghost use Rattle.engine.specs.Files.{FilesRepresent, IsRecovered, KeepsOthers};
+
+    /// Creates a store without batches on a disk, or overwrites an existing one. A refusal returns
+    /// the disk, with none, one or both of the files begun.
+    pub fn create(
+        alloc: Global,
+        disk: D,
+        id: NodeId,
+        config: Config,
+        limits: &Limits,
+    ) -> Result<Engine<D>, (EngineError, D)>
+        ensures kept { KeepsDisk D.Disk disk (disk_after result) (RefusedByDevice result) ⊥
+            KeepsOthers }
+        ensures created { D.is_honest disk →
+            MatchResult result (λ engine. EngineHolds D.Disk engine [])
+            (λ refused. IsOfMachine refused.0) }
+        ensures begun { IfOk result (IsNewEngine id config) }
+    {
+        durable_is_left(); // law: a crash leaves what is durable
+        let mut files = files_over(alloc, disk, limits)?;
+        match Store::create(alloc, &mut files, id, &config) {
+            Ok(store) => Ok(Engine {
+                files,
+                id,
+                config,
+                store,
+                committed: Number::ZERO,
+                has_ended: false,
+            }),
+            Err(e) => Err((e, files.into_disk())),
+        }
+    }
+
+    /// Opens the store of a disk: its files are synced, and its log is read. A refusal returns the
+    /// disk.
+    pub fn open(alloc: Global, disk: D, limits: &Limits) -> Result<Engine<D>, (EngineError, D)>
+        ensures kept { KeepsDisk D.Disk disk (disk_after result) (RefusedByDevice result) ⊥
+            IsRecovered }
+        ensures opened { (facts : Facts) (list : List BatchContent) → D.is_honest disk →
+            FilesRepresent facts list (contents (D.state disk)) →
+            MatchResult result (IsEngineOf D.Disk facts list)
+            (λ refused. IsOfMachine refused.0) }
+        ensures told { D.is_honest disk →
+            MatchResult result (IsOpened D.Disk (D.state disk))
+            (λ refused. ExplainsRefusal refused.0 (contents (D.state disk))) }
+        ensures fresh { IfOk result IsJustOpened }
+        ensures still { IsStill D.Disk disk (disk_after result) }
+    {
+        durable_is_left(); // law: a crash leaves what is durable
+        let mut files = files_over(alloc, disk, limits)?;
+        match recover(alloc, &mut files) {
+            Ok((identity, store)) => Ok(Engine {
+                files,
+                id: identity.id,
+                config: identity.config,
+                store,
+                committed: Number::ZERO,
+                has_ended: false,
+            }),
+            Err(e) => Err((e, files.into_disk())),
+        }
+    }
+
+    // The number of the next batch.
+    fn next_number(&self) -> Result<Number, EngineError>
+        ensures next { IfOk result (λ n. n ≡ (with_one_more (look_ups self.now)).count) }
+        ensures closed { IsErrOf result EngineError.Failed ↔ HasEnded self.now }
+        ensures usable { OnOk result (IsUsable self.now.store) }
+        ensures only { IfErr result (λ e. (e ≡ EngineError.Failed)
+            ⊎ ((e ≡ EngineError.Exhausted) × (MAX_NUMBER ≤ (look_ups self.now).count))) }
+    {
+        if self.has_ended {
+            return Err(EngineError::Failed);
+        }
+        self.count().next().ok_or(EngineError::Exhausted)
+    }
+
+    /// Appends a batch, and returns its number. It needs four device calls: after them the batch is
+    /// durable.
+    pub fn append(&mut self, alloc: Global, batch: &Batch) -> Result<Number, EngineError>
+        ensures keeps { KeepsEngine D.Disk self.old self.new result (IsNearlyFull self.old)
+            KeepsOthers }
+        ensures told { MatchResult result
+            (λ n. (look_ups self.new ≡ with_one_more (look_ups self.old))
+            × (n ≡ (look_ups self.new).count))
+            (λ _. look_ups self.new ≡ look_ups self.old) }
+        ensures appended { (list : List BatchContent) →
+            Goes D.Disk self.old self.new list (list ++ batch.now ∷ []) result }
+        ensures met { (list : List BatchContent) → EngineReads D.Disk self.old list →
+            IfErr result (λ e. IsOfMachine e
+            ⊎ ((e ≡ EngineError.Exhausted) × (MAX_NUMBER ≤ (look_ups self.old).count))) }
+
+        // A crash at any moment since the call began, whatever it answers, leaves the old batches,
+        // with or without the new one.
+        ensures any_moment { (list : List BatchContent) → EngineHolds D.Disk self.old list →
+            IsOldOrNewSince D.Disk (engine_disk self.old) (engine_disk self.new)
+            (facts_of self.old) list (facts_of self.old) (list ++ batch.now ∷ []) }
+    {
+        durable_is_left(); // law: a crash leaves what is durable
+        let number = self.next_number()?;
+        self.has_ended = true;
+        self.store.append(alloc, &mut self.files, number, batch)?;
+        self.has_ended = false;
+        Ok(number)
+    }
+
+    // Whether a read at the number may be answered.
+    fn may_read(&self, at: Number) -> Result<(), EngineError>
+        ensures readable { TellsReadable (look_ups self.now) at result }
+        ensures closed { IsErrOf result EngineError.Failed ↔ HasEnded self.now }
+        ensures only { IfErr result (λ e. (e ≡ EngineError.Failed)
+            ⊎ (e ≡ EngineError.TooOld) ⊎ (e ≡ EngineError.NotCommitted)) }
+        ensures usable { OnOk result (IsUsable self.now.store) }
+    {
+        if self.has_ended {
+            return Err(EngineError::Failed);
+        }
+        if at < self.floor() {
+            return Err(EngineError::TooOld);
+        }
+        if at > self.committed {
+            return Err(EngineError::NotCommitted);
+        }
+        Ok(())
+    }
+
+    /// The value of a key in the map of the first `at` batches.
+    pub fn get(&mut self, at: Number, key: &Key) -> Result<Option<Value>, EngineError>
+        ensures keeps { KeepsEngine D.Disk self.old self.new result ⊥ IsSame }
+        ensures told { look_ups self.new ≡ look_ups self.old }
+        ensures readable { TellsReadable (look_ups self.old) at result }
+        ensures found { (list : List BatchContent) → EngineReads D.Disk self.old list →
+            IfOk result (λ value. value ≡ map_of (take at list) key.now) × IsNoDamage result }
+        ensures kept { (list : List BatchContent) → Goes D.Disk self.old self.new list list result }
+        ensures still { IsStill D.Disk (engine_disk self.old) (engine_disk self.new) }
+    {
+        durable_is_left(); // law: a crash leaves what is durable
+        self.may_read(at)?;
+        let answer = self.store.get(at, key);
+        self.has_ended = answer.is_err();
+        answer
+    }
+
+    /// The batch of a number that the log has, read from the disk.
+    pub fn batch(&mut self, alloc: Global, number: Number) -> Result<Batch, EngineError>
+        requires { ((look_ups self.old).facts.kept < number)
+            × (number ≤ (look_ups self.old).count) }
+        ensures keeps { KeepsEngine D.Disk self.old self.new result ⊥ IsSame }
+        ensures told { look_ups self.new ≡ look_ups self.old }
+        ensures found { (list : List BatchContent) → EngineReads D.Disk self.old list →
+            MatchResult result (λ batch. place list number ≡ Some batch) IsOfMachine }
+        ensures kept { (list : List BatchContent) → Goes D.Disk self.old self.new list list result }
+        ensures still { IsStill D.Disk (engine_disk self.old) (engine_disk self.new) }
+    {
+        durable_is_left(); // law: a crash leaves what is durable
+        if self.has_ended {
+            return Err(EngineError::Failed);
+        }
+        let answer = self.store.batch(alloc, &mut self.files, number);
+        self.has_ended = answer.is_err();
+        answer
+    }
+
+    /// Tells the engine that the batches up to this number are committed.
+    pub fn set_committed(&mut self, number: Number)
+        requires { ((look_ups self.old).committed ≤ number)
+            × (number ≤ (look_ups self.old).count) }
+        ensures told { look_ups self.new ≡ with_committed (look_ups self.old) number }
+        ensures disk { engine_disk self.new ≡ engine_disk self.old }
+        ensures ended { HasEnded self.new ↔ HasEnded self.old }
+        ensures reads { (list : List BatchContent) → EngineReads D.Disk self.old list →
+            EngineReads D.Disk self.new list }
+        ensures holds { (list : List BatchContent) → EngineHolds D.Disk self.old list →
+            EngineHolds D.Disk self.new list }
+    {
+        durable_is_left(); // law: a crash leaves what is durable
+        self.committed = number;
+    }
+
+    /// The node of the store.
+    pub fn id(&self) -> NodeId
+        ensures { result ≡ (look_ups self.now).facts.id }
+    {
+        self.id
+    }
+
+    /// The place of the configuration in the list of configurations.
+    pub fn epoch(&self) -> Epoch
+        ensures { result ≡ (look_ups self.now).facts.epoch }
+    {
+        Epoch::FIRST
+    }
+
+    /// The configuration.
+    pub fn config(&self) -> &Config
+        ensures { result.now ≡ (look_ups self.now).facts.ids }
+    {
+        &self.config
+    }
+
+    /// The number of batches.
+    pub fn count(&self) -> Number
+        ensures count { result ≡ (look_ups self.now).count }
+        ensures ordered { AreOrdered (look_ups self.now) }
+    {
+        Number::new(self.store.log.len() as u64).unwrap()
+    }
+
+    /// The number of batches that it knows to be committed.
+    pub fn committed(&self) -> Number
+        ensures { result ≡ (look_ups self.now).committed }
+    {
+        self.committed
+    }
+
+    /// The least number at which the store can be read.
+    pub fn floor(&self) -> Number
+        ensures { result ≡ (look_ups self.now).facts.floor }
+    {
+        Number::ZERO
+    }
+
+    /// The number of batches trimmed from the front of the logs.
+    pub fn kept(&self) -> Number
+        ensures { result ≡ (look_ups self.now).facts.kept }
+    {
+        Number::ZERO
+    }
+
+    /// The number of tables of each level: there are none in this layout.
+    pub fn tables(&self) -> [u64; 7]
+        ensures { result ≡ replicate 7 0 }
+    {
+        [0; 7]
+    }
+
+    /// The disk. What is in memory is freed.
+    pub fn into_disk(self) -> D
+        ensures { result ≡ engine_disk self }
+    {
+        self.files.into_disk()
+    }
+}
+
+impl<D: Crash + Drop> Engine<D> {
+    ghost use Rattle.std.specs.Prelude.{◌≡◌, ◌↔◌, List};
+    ghost use Rattle.kv_types.specs.{BatchContent};
+    ghost use Rattle.disk.specs.{IsArmed};
+    ghost use Rattle.engine.specs.Engines.{EngineHolds, EngineReads, HasEnded, IsNearlyFull};
+    ghost use Rattle.engine.specs.Engines.{engine_disk, look_ups};
+
+    /// Arms the disk with a fault at one of its next calls, or with none.
+    pub fn arm(&mut self, fault: &Fault)
+        ensures armed { IsArmed D.Disk fault.now (engine_disk self.old) (engine_disk self.new) }
+        ensures told { look_ups self.new ≡ look_ups self.old }
+        ensures ended { HasEnded self.new ↔ HasEnded self.old }
+        ensures full { IsNearlyFull self.new ↔ IsNearlyFull self.old }
+        ensures reads { (list : List BatchContent) → EngineReads D.Disk self.old list →
+            EngineReads D.Disk self.new list }
+        ensures holds { (list : List BatchContent) → EngineHolds D.Disk self.old list →
+            EngineHolds D.Disk self.new list }
+    {
+        durable_is_left(); // law: a crash leaves what is durable
+        self.files.arm(fault);
+    }
+}

@@ -1,0 +1,12 @@
+//! One node's store: a list of batches on a disk, and reads of the maps of its beginnings.
+#![tactic(auto)]
+
+mod engine;
+mod error;
+pub mod laws;
+mod layout;
+mod recovery;
+mod store;
+
+pub use engine::Engine;
+pub use error::EngineError;
