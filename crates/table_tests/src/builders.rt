@@ -1,19 +1,12 @@
 // Builders under way: refused entries, data sizes, and the blocks of a long table.
-use disk::{Disk, DiskError, MemDisk};
+use crate::tables::bytes_of;
+use disk::MemDisk;
 use std::alloc::Global;
-use std::test::Fail;
-use table_builder::Builder;
-use table_format::{LentEntry, TableError, entries_of, footer_of, lines_of};
+use std::process::Abort;
+use table_builder::{Builder, Finished};
+use table_format::{IndexLine, LentEntry, TableError, entries_of, footer_of, lines_of};
 
 const FILE: u64 = 9;
-
-/// The bytes of the file.
-fn bytes_of(alloc: Global, disk: &mut MemDisk) -> Result<Vec<u8>, DiskError> {
-    let len = disk.length(FILE)?;
-    let mut bytes = vec![in alloc; 0u8; len as usize]?;
-    disk.read(FILE, 0, &mut bytes)?;
-    Ok(bytes)
-}
 
 /// Adds `a` at this number.
 fn add_a(
@@ -30,77 +23,95 @@ fn add_a(
     builder.add(alloc, disk, entry)
 }
 
-#[test]
-fn a_refused_entry_leaves_the_builder(rt: HostRuntime) -> Result<(), Fail> {
-    let alloc = rt.alloc();
-    let mut disk = MemDisk::new(alloc);
-    let mut builder = Builder::new(alloc, FILE);
-    add_a(alloc, &mut builder, &mut disk, 2)?;
+/// Whether the builder has so many entries, and this data size.
+fn has(builder: &Builder, len: u64, size: u64) -> bool {
+    builder.len() == len && builder.data_size() == size
+}
+
+/// Adds `a` at 2, fails the test unless it is refused at 2 and at 3, and adds it at 1.
+fn refuse_and_go_on(rt: &impl Abort, alloc: Global, builder: &mut Builder, disk: &mut MemDisk) {
+    add_a(alloc, builder, disk, 2).expect(rt, "an entry");
     for number in [2, 3] {
-        let refused = add_a(alloc, &mut builder, &mut disk, number);
+        let refused = add_a(alloc, builder, disk, number);
         assert!(rt; refused == Err(TableError::Order));
     }
-    assert!(rt; builder.len() == 1 && builder.data_size() == 24);
-    add_a(alloc, &mut builder, &mut disk, 1)?;
-    assert!(rt; builder.len() == 2 && builder.data_size() == 36);
-    Ok(())
+    assert!(rt; has(builder, 1, 24));
+    add_a(alloc, builder, disk, 1).expect(rt, "an entry");
+    assert!(rt; has(builder, 2, 36));
+}
+
+#[test]
+fn a_refused_entry_leaves_the_builder(rt: HostRuntime) {
+    let alloc = rt.alloc();
+    let mut builder = Builder::new(alloc, FILE);
+    refuse_and_go_on(&rt, alloc, &mut builder, &mut MemDisk::new(alloc));
 }
 
 /// Adds 1,000 keys, each at number 1.
-fn fill(alloc: Global, builder: &mut Builder, disk: &mut MemDisk) -> Result<(), TableError> {
+fn fill(rt: &impl Abort, alloc: Global, builder: &mut Builder, disk: &mut MemDisk) {
     for i in 0..1000u16 {
         let entry = LentEntry {
             key: &i.to_be_bytes(),
             number: 1,
             value: Some(&[7; 100]),
         };
-        builder.add(alloc, disk, entry)?;
+        builder.add(alloc, disk, entry).expect(rt, "an entry");
     }
-    Ok(())
+}
+
+/// The index of the table, and the place where its filter begins.
+fn index_of(table: &[u8]) -> Option<(&[u8], u64)> {
+    let front = table.len().checked_sub(52)?;
+    let footer = footer_of(&table[front..])?;
+    let index = table.get(footer.index as usize..front)?;
+    Some((index, footer.filter))
+}
+
+/// Whether the line is that of a good block of the table.
+fn is_good(table: &[u8], line: &IndexLine) -> bool {
+    let from = line.place as usize;
+    match table.get(from..from.saturating_add(line.len as usize)) {
+        Some(part) => entries_of(part).is_some(),
+        None => false,
+    }
 }
 
 /// How many lines and how many good blocks the table has.
-fn counts(alloc: Global, table: &[u8]) -> Result<(usize, usize), TableError> {
-    let Some(front) = table.len().checked_sub(52) else {
-        return Ok((0, 0));
-    };
-    let Some(footer) = footer_of(&table[front..]) else {
-        return Ok((0, 0));
-    };
-    let Some(index) = table.get(footer.index as usize..front) else {
-        return Ok((0, 0));
-    };
-    let lines = lines_of(alloc, index, footer.filter)?;
+fn counts(rt: &impl Abort, alloc: Global, table: &[u8]) -> (usize, usize) {
+    let (index, filter) = index_of(table).expect(rt, "an index");
+    let lines = lines_of(alloc, index, filter).expect(rt, "lines");
     let mut good = 0usize;
     for line in &lines {
-        let from = line.place as usize;
-        let part = table.get(from..from.saturating_add(line.len as usize));
-        if let Some(part) = part {
-            if entries_of(part).is_some() {
-                good = good.saturating_add(1);
-            }
+        if is_good(table, line) {
+            good = good.saturating_add(1);
         }
     }
-    Ok((lines.len(), good))
+    (lines.len(), good)
+}
+
+/// The table of those keys. 36 entries of 115 bytes fill a block: 27 full blocks, and one of 28
+/// entries.
+fn finished(rt: &impl Abort, alloc: Global, disk: &mut MemDisk) -> Finished {
+    let mut builder = Builder::new(alloc, FILE);
+    fill(rt, alloc, &mut builder, disk);
+    assert!(rt; builder.data_size() == 115_000 + 28 * 12);
+    assert!(rt; builder.len() == 1000);
+    builder.finish(alloc, disk).expect(rt, "a table")
+}
+
+/// Whether the builder reports the first key, the last, and this length.
+fn is_reported(finished: &Finished, len: usize) -> bool {
+    finished.least.as_bytes() == [0, 0].as_slice()
+        && finished.greatest.as_bytes() == [3, 231].as_slice()
+        && finished.length == len as u64
 }
 
 #[test]
-fn many_blocks(rt: HostRuntime) -> Result<(), Fail> {
+fn many_blocks(rt: HostRuntime) {
     let alloc = rt.alloc();
     let mut disk = MemDisk::new(alloc);
-    let mut builder = Builder::new(alloc, FILE);
-    fill(alloc, &mut builder, &mut disk)?;
-    let size = builder.data_size();
-    // 36 entries of 115 bytes fill a block: 27 full blocks, and one of 28 entries.
-    assert!(rt; size == 115_000 + 28 * 12);
-    if builder.len() == 1000 {
-        let finished = builder.finish(alloc, &mut disk)?;
-        assert!(rt; finished.least.as_bytes() == [0, 0].as_slice());
-        assert!(rt; finished.greatest.as_bytes() == [3, 231].as_slice());
-        let table = bytes_of(alloc, &mut disk)?;
-        assert!(rt; finished.length == table.len() as u64);
-        let counts = counts(alloc, &table)?;
-        assert!(rt; counts == (28, 28));
-    }
-    Ok(())
+    let finished = finished(&rt, alloc, &mut disk);
+    let table = bytes_of(&rt, alloc, &mut disk, FILE);
+    assert!(rt; is_reported(&finished, table.len()));
+    assert!(rt; counts(&rt, alloc, &table) == (28, 28));
 }

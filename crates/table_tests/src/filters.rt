@@ -1,15 +1,16 @@
 // The bytes of complete filters, and the keys that they deny.
+use crate::sequence::key_of;
 use bloom::{BloomError, KeyHashes, build, may_hold, may_hold_hashed};
-use kv_types::{Key, KvError};
+use kv_types::Key;
 use std::alloc::Global;
-use std::test::Fail;
+use std::process::Abort;
 
-fn keys_of(alloc: Global, texts: &[&[u8]]) -> Result<Vec<Key>, KvError> {
+fn keys_of(rt: &impl Abort, alloc: Global, texts: &[&[u8]]) -> Vec<Key> {
     let mut keys = Vec::new(alloc);
     for text in texts {
-        keys.push(Key::new(text.to_vec(alloc)?)?)?;
+        keys.push(key_of(rt, alloc, *text)).expect(rt, "memory");
     }
-    Ok(keys)
+    keys
 }
 
 /// Keys, and the bytes of their filter.
@@ -23,18 +24,17 @@ static FILTERS: [(&[&[u8]], &[u8]); 3] = [
 ];
 
 /// Whether the keys have this filter.
-fn is_filter(alloc: Global, texts: &[&[u8]], want: &[u8]) -> Result<bool, Fail> {
-    let filter = build(alloc, &keys_of(alloc, texts)?)?;
-    Ok(filter.as_slice() == want)
+fn is_filter(rt: &impl Abort, alloc: Global, texts: &[&[u8]], want: &[u8]) -> bool {
+    let filter = build(alloc, &keys_of(rt, alloc, texts)).expect(rt, "memory");
+    filter.as_slice() == want
 }
 
 #[test]
-fn filters_in_bytes(rt: HostRuntime) -> Result<(), Fail> {
+fn filters_in_bytes(rt: HostRuntime) {
     for (texts, want) in &FILTERS {
-        let is_so = is_filter(rt.alloc(), *texts, *want)?;
+        let is_so = is_filter(&rt, rt.alloc(), *texts, *want);
         assert!(rt; is_so, "{texts:?}");
     }
-    Ok(())
 }
 
 /// A key, and whether the last of these filters may hold it.
@@ -55,15 +55,16 @@ static HELD: [(&[u8], bool); 14] = [
     (b"n", false),
 ];
 
+/// Whether a filter says so of the key, by its bytes and by its hashes.
+fn is_answer(filter: &[u8], key: &[u8], is_held: bool) -> bool {
+    may_hold(filter, key) == is_held && may_hold_hashed(filter, KeyHashes::of(key)) == is_held
+}
+
 #[test]
 fn what_was_put_in_is_not_denied(rt: HostRuntime) {
     let (_, filter) = FILTERS[2];
     for (key, is_held) in &HELD {
-        assert!(rt; may_hold(filter, *key) == *is_held, "{key:?}");
-        assert!(rt;
-            may_hold_hashed(filter, KeyHashes::of(*key)) == *is_held,
-            "{key:?}"
-        );
+        assert!(rt; is_answer(filter, *key, *is_held), "{key:?}");
     }
     assert!(rt; may_hold(&[], b"h"));
 }

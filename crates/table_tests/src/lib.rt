@@ -6,6 +6,8 @@
 #[cfg(test)]
 mod builders;
 #[cfg(test)]
+mod counts;
+#[cfg(test)]
 mod files;
 #[cfg(test)]
 mod filters;

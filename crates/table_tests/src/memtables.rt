@@ -1,48 +1,52 @@
 //! A memtable of many batches, against the map of so many first batches.
 
+use crate::counts::is_count;
 use crate::numbered::Numbered;
 use crate::sequence::{Sequence, batch_of, change_of, key_of};
-use kv_types::{Batch, Key, KvError, Number, Value, value_at};
-use memtable::{Found, Memtable, MemtableError};
+use kv_types::{Batch, Key, Number, Value, value_at};
+use memtable::{Found, Memtable};
 use std::alloc::Global;
-use std::test::Fail;
+use std::process::Abort;
 
 const BATCHES: u16 = 10_000;
 
 const KEYS: u8 = 30;
 
-/// Batches of two changes each.
-fn batches(alloc: Global) -> Result<Vec<Batch>, KvError> {
+/// The next batch, of two changes.
+fn next_batch(rt: &impl Abort, alloc: Global, sequence: &mut Sequence) -> Batch {
+    let changes = [change_of(sequence, KEYS), change_of(sequence, KEYS)];
+    batch_of(rt, alloc, &changes)
+}
+
+fn batches(rt: &impl Abort, alloc: Global) -> Vec<Batch> {
     let mut sequence = Sequence::new(1);
     let mut batches = Vec::new(alloc);
     for _ in 0..BATCHES {
-        let changes = [
-            change_of(&mut sequence, KEYS),
-            change_of(&mut sequence, KEYS),
-        ];
-        batches.push(batch_of(alloc, &changes)?)?;
+        let batch = next_batch(rt, alloc, &mut sequence);
+        batches.push(batch).expect(rt, "memory");
     }
-    Ok(batches)
+    batches
 }
 
-fn table_of(alloc: Global, batches: &[Batch]) -> Result<Numbered, MemtableError> {
+fn table_of(rt: &impl Abort, alloc: Global, batches: &[Batch]) -> Numbered {
     let mut table = Numbered::new(alloc);
     let mut number = 0u64;
     for batch in batches {
         number = number.wrapping_add(1);
-        table.add(number, batch)?;
+        table.add(rt, number, batch);
     }
-    Ok(table)
+    table
 }
 
 /// Every key that a change may have, and one that none has.
-fn keys(alloc: Global) -> Result<Vec<Key>, KvError> {
+fn keys(rt: &impl Abort, alloc: Global) -> Vec<Key> {
     let mut keys = Vec::new(alloc);
     for i in 0..=u16::from(KEYS) {
-        keys.push(key_of(alloc, i * 2)?)?;
+        let key = key_of(rt, alloc, &(i * 2).to_be_bytes());
+        keys.push(key).expect(rt, "memory");
     }
-    keys.push(key_of(alloc, 1)?)?;
-    Ok(keys)
+    keys.push(key_of(rt, alloc, &[0, 1])).expect(rt, "memory");
+    keys
 }
 
 fn is_found(found: &Found, want: Option<&Value>) -> bool {
@@ -53,32 +57,49 @@ fn is_found(found: &Found, want: Option<&Value>) -> bool {
     }
 }
 
+/// Whether the memtable has the key as this value at the number.
+fn agrees(rt: &impl Abort, table: &Memtable, key: &Key, at: Number, want: Option<&Value>) -> bool {
+    is_found(&table.get(key, at).expect(rt, "memory"), want)
+}
+
 /// How many of these keys the memtable has as these batches leave them.
-fn agreeing(table: &Memtable, batches: &[Batch], keys: &[Key]) -> Result<usize, MemtableError> {
+fn agreeing(rt: &impl Abort, table: &Memtable, batches: &[Batch], keys: &[Key]) -> usize {
     let Some(at) = Number::new(batches.len() as u64) else {
-        return Ok(0);
+        return 0;
     };
     let mut count = 0usize;
     for key in keys {
-        if is_found(&table.get(key, at)?, value_at(batches, key)) {
+        if agrees(rt, table, key, at, value_at(batches, key)) {
             count = count.wrapping_add(1);
         }
     }
-    Ok(count)
+    count
 }
 
-#[test]
-fn ten_thousand_batches_at_a_hundred_numbers(rt: HostRuntime) -> Result<(), Fail> {
-    let alloc = rt.alloc();
-    let (batches, keys) = (batches(alloc)?, keys(alloc)?);
-    let table = table_of(alloc, &batches)?;
+/// The same for each hundred of batches, added up.
+fn agreeing_at_hundreds(
+    rt: &impl Abort,
+    table: &Memtable,
+    batches: &[Batch],
+    keys: &[Key],
+) -> usize {
     let mut count = 0usize;
     for i in 1..=100usize {
         let Some(first) = batches.get(..i * 100) else {
-            break;
+            return count;
         };
-        count = count.wrapping_add(agreeing(table.table(), first, &keys)?);
+        count = count.wrapping_add(agreeing(rt, table, first, keys));
     }
-    assert!(rt; count == 3_200, "{count}");
-    Ok(())
+    count
+}
+
+fn agreeing_in_all(rt: &impl Abort, alloc: Global) -> usize {
+    let batches = batches(rt, alloc);
+    let table = table_of(rt, alloc, &batches);
+    agreeing_at_hundreds(rt, table.table(), &batches, &keys(rt, alloc))
+}
+
+#[test]
+fn ten_thousand_batches_at_a_hundred_numbers(rt: HostRuntime) {
+    is_count(&rt, agreeing_in_all(&rt, rt.alloc()), 3_200);
 }

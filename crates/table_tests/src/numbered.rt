@@ -4,8 +4,9 @@ ghost use Rattle.std.specs.Prelude.{◌+◌};
 ghost use Rattle.memtable.specs.{IsNewNumber};
 
 use kv_types::{Batch, Number};
-use memtable::{Memtable, MemtableError};
+use memtable::Memtable;
 use std::alloc::Global;
+use std::process::Abort;
 
 /// A memtable, and the greatest number that was added.
 #[derive(Drop)]
@@ -28,15 +29,15 @@ impl Numbered {
     }
 
     /// Adds a batch, and says whether its number was above the last.
-    pub fn add(&mut self, number: u64, batch: &Batch) -> Result<bool, MemtableError> {
+    pub fn add(&mut self, rt: &impl Abort, number: u64, batch: &Batch) -> bool {
         let Some(next) = Number::new(number) else {
-            return Ok(false);
+            return false;
         };
         if number <= self.last {
-            return Ok(false);
+            return false;
         }
-        self.table.add(next, batch)?;
+        self.table.add(next, batch).expect(rt, "memory");
         self.last = number;
-        Ok(true)
+        true
     }
 }

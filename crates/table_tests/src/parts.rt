@@ -1,10 +1,10 @@
 // The parts of the smallest table, written and read, and each of their bytes damaged.
-use kv_types::{Key, KvError};
+use crate::sequence::{copy_of, key_of};
 use std::alloc::Global;
-use std::test::Fail;
+use std::process::Abort;
 use table_format::{
-    Footer, IndexLine, LentEntry, TableError, entries_of, entry_at, filter_of, filter_part_of,
-    footer_of, footer_part_of, lines_of, put_entry, put_line, seal, starts_of,
+    Footer, IndexLine, LentEntry, entries_of, entry_at, filter_of, filter_part_of, footer_of,
+    footer_part_of, lines_of, put_entry, put_line, seal, starts_of,
 };
 
 /// The block of one entry: `1` was put at `a` by the batch with number 1.
@@ -30,38 +30,40 @@ pub static FOOTER: [u8; 52] = [
 ];
 
 /// A part with its count of one item.
-fn part_of_one(alloc: Global) -> Result<Vec<u8>, TableError> {
-    let mut part = Vec::new(alloc);
-    part.extend_from_slice(&[0, 0, 0, 1])?;
-    Ok(part)
+fn part_of_one(rt: &impl Abort, alloc: Global) -> Vec<u8> {
+    copy_of(rt, alloc, &[0, 0, 0, 1])
 }
 
-fn block(alloc: Global) -> Result<Vec<u8>, TableError> {
-    let mut part = part_of_one(alloc)?;
+/// The part with its digest.
+fn sealed(rt: &impl Abort, mut part: Vec<u8>) -> Vec<u8> {
+    seal(&mut part).expect(rt, "memory");
+    part
+}
+
+fn block(rt: &impl Abort, alloc: Global) -> Vec<u8> {
+    let mut part = part_of_one(rt, alloc);
     let entry = LentEntry {
         key: b"a",
         number: 1,
         value: Some(b"1"),
     };
-    put_entry(&mut part, entry)?;
-    seal(&mut part)?;
-    Ok(part)
+    put_entry(&mut part, entry).expect(rt, "memory");
+    sealed(rt, part)
 }
 
-fn line(alloc: Global) -> Result<IndexLine, KvError> {
-    Ok(IndexLine {
+fn line(rt: &impl Abort, alloc: Global) -> IndexLine {
+    IndexLine {
         place: 0,
         len: 27,
-        key: Key::new(b"a".to_vec(alloc)?)?,
+        key: key_of(rt, alloc, b"a"),
         number: 1,
-    })
+    }
 }
 
-fn index(alloc: Global, line: &IndexLine) -> Result<Vec<u8>, TableError> {
-    let mut part = part_of_one(alloc)?;
-    put_line(&mut part, line)?;
-    seal(&mut part)?;
-    Ok(part)
+fn index(rt: &impl Abort, alloc: Global) -> Vec<u8> {
+    let mut part = part_of_one(rt, alloc);
+    put_line(&mut part, &line(rt, alloc)).expect(rt, "a line");
+    sealed(rt, part)
 }
 
 fn footer() -> Footer {
@@ -74,42 +76,42 @@ fn footer() -> Footer {
     }
 }
 
+/// The content of the filter of the key `a`.
+const BITS: [u8; 8] = [0, 12, 128, 1, 16, 0, 2, 64];
+
 #[test]
-fn parts_are_written(rt: HostRuntime) -> Result<(), Fail> {
+fn parts_are_written(rt: HostRuntime) {
     let alloc = rt.alloc();
-    let block = block(alloc)?;
-    assert!(rt; block.as_slice() == BLOCK.as_slice());
-    let filter = filter_part_of(alloc, &[0, 12, 128, 1, 16, 0, 2, 64])?;
+    assert!(rt; block(&rt, alloc).as_slice() == BLOCK.as_slice());
+    let filter = filter_part_of(alloc, &BITS).expect(&rt, "memory");
     assert!(rt; filter.as_slice() == FILTER.as_slice());
-    let index = index(alloc, &line(alloc)?)?;
-    assert!(rt; index.as_slice() == INDEX.as_slice());
-    let footer = footer_part_of(alloc, footer())?;
+    assert!(rt; index(&rt, alloc).as_slice() == INDEX.as_slice());
+    let footer = footer_part_of(alloc, footer()).expect(&rt, "memory");
     assert!(rt; footer.as_slice() == FOOTER.as_slice());
-    Ok(())
+}
+
+/// Whether the text of a block has that one entry at place 0, and how many places it has.
+fn is_entry(text: &[u8], places: usize) -> bool {
+    let Some(entry) = entry_at(text, 0) else {
+        return false;
+    };
+    places == 1 && entry.key == b"a".as_slice() && entry.number == 1 && entry.value.is_some()
 }
 
 /// Whether the block has that one entry, at place 0.
-fn is_block(alloc: Global, part: &[u8]) -> Result<bool, TableError> {
+fn is_block(rt: &impl Abort, alloc: Global, part: &[u8]) -> bool {
     let Some(text) = entries_of(part) else {
-        return Ok(false);
+        return false;
     };
-    let starts = starts_of(alloc, text)?;
-    let Some(entry) = entry_at(text, 0) else {
-        return Ok(false);
-    };
-    Ok(
-        starts.len() == 1
-            && entry.key == b"a".as_slice()
-            && entry.number == 1
-            && entry.value.is_some(),
-    )
+    let places = starts_of(alloc, text).expect(rt, "the places").len();
+    is_entry(text, places)
 }
 
 fn is_filter(part: &[u8]) -> bool {
     let Some(filter) = filter_of(part) else {
         return false;
     };
-    filter == [0, 12, 128, 1, 16, 0, 2, 64].as_slice()
+    filter == BITS.as_slice()
 }
 
 /// Whether it is the index of one block of 27 bytes that ends with `a` at 1.
@@ -131,45 +133,59 @@ fn is_footer(part: &[u8]) -> bool {
 }
 
 #[test]
-fn parts_are_read(rt: HostRuntime) -> Result<(), Fail> {
-    let is_so = is_block(rt.alloc(), &BLOCK)?;
-    assert!(rt; is_so);
+fn parts_are_read(rt: HostRuntime) {
+    assert!(rt; is_block(&rt, rt.alloc(), &BLOCK));
     assert!(rt; is_filter(&FILTER));
     assert!(rt; is_index(rt.alloc(), &INDEX));
     assert!(rt; is_footer(&FOOTER));
-    Ok(())
+}
+
+/// The kinds of a part.
+#[derive(Clone, Copy)]
+enum Kind {
+    Block,
+    Filter,
+    Index,
+    Footer,
+}
+
+impl Kind {
+    /// Whether the bytes are no part of this kind.
+    fn refuses(self, alloc: Global, bytes: &[u8]) -> bool {
+        match self {
+            Kind::Block => entries_of(bytes).is_none(),
+            Kind::Filter => filter_of(bytes).is_none(),
+            Kind::Index => lines_of(alloc, bytes, 27).is_err(),
+            Kind::Footer => footer_of(bytes).is_none(),
+        }
+    }
 }
 
 /// The part with one bit of a byte turned.
-fn damaged(alloc: Global, part: &[u8], at: usize) -> Result<Vec<u8>, TableError> {
-    let mut bytes = part.to_vec(alloc)?;
+fn damaged(rt: &impl Abort, alloc: Global, part: &[u8], at: usize) -> Vec<u8> {
+    let mut bytes = copy_of(rt, alloc, part);
     if let Some(byte) = bytes.get_mut(at) {
         *byte ^= 1;
     }
-    Ok(bytes)
+    bytes
+}
+
+/// Fails the test unless damage of each byte of the part is found.
+fn all_is_found(rt: &impl Abort, alloc: Global, kind: Kind, part: &[u8], name: &str) {
+    for at in 0..part.len() {
+        let is_found = kind.refuses(alloc, &damaged(rt, alloc, part, at));
+        assert!(rt; is_found, "byte {at} of the {name}");
+    }
 }
 
 #[test]
-fn damage_of_each_byte_is_found(rt: HostRuntime) -> Result<(), Fail> {
-    let alloc = rt.alloc();
-    for at in 0..BLOCK.len() {
-        let bytes = damaged(alloc, &BLOCK, at)?;
-        assert!(rt; entries_of(&bytes).is_none(), "byte {at} of the block");
+fn damage_of_each_byte_is_found(rt: HostRuntime) {
+    for (kind, part, name) in [
+        (Kind::Block, BLOCK.as_slice(), "block"),
+        (Kind::Filter, &FILTER, "filter"),
+        (Kind::Index, &INDEX, "index"),
+        (Kind::Footer, &FOOTER, "footer"),
+    ] {
+        all_is_found(&rt, rt.alloc(), kind, part, name);
     }
-    for at in 0..FILTER.len() {
-        let bytes = damaged(alloc, &FILTER, at)?;
-        assert!(rt; filter_of(&bytes).is_none(), "byte {at} of the filter");
-    }
-    for at in 0..INDEX.len() {
-        let bytes = damaged(alloc, &INDEX, at)?;
-        assert!(rt;
-            lines_of(alloc, &bytes, 27).is_err(),
-            "byte {at} of the index"
-        );
-    }
-    for at in 0..FOOTER.len() {
-        let bytes = damaged(alloc, &FOOTER, at)?;
-        assert!(rt; footer_of(&bytes).is_none(), "byte {at} of the footer");
-    }
-    Ok(())
 }

@@ -1,7 +1,8 @@
 //! Entries as a plain sorted list, and a walk over it: what cursors are compared with.
 
 use crate::sequence::{Change, Sequence};
-use std::alloc::{AllocError, Global};
+use std::alloc::Global;
+use std::process::Abort;
 
 /// An entry: keys rise, and in one key numbers fall.
 #[derive(Clone, Copy)]
@@ -28,44 +29,44 @@ fn place_of(entries: &[PlainEntry], key: u16, number: u64) -> usize {
     entries.len()
 }
 
+/// Adds an entry in its place, or puts it in place of the one there.
+fn add(rt: &impl Abort, entries: &mut Vec<PlainEntry>, entry: PlainEntry) {
+    let place = place_of(entries, entry.key, entry.number);
+    if place >= entries.len() {
+        entries.push(entry).expect(rt, "memory");
+    } else if entries[place].key == entry.key && entries[place].number == entry.number {
+        entries[place] = entry;
+    } else {
+        entries.insert(place, entry).expect(rt, "memory");
+    }
+}
+
 /// Adds the entries of a numbered batch: the last change of each key.
-pub fn add_all(
-    entries: &mut Vec<PlainEntry>,
-    number: u64,
-    changes: &[Change],
-) -> Result<(), AllocError> {
+pub fn add_all(rt: &impl Abort, entries: &mut Vec<PlainEntry>, number: u64, changes: &[Change]) {
     for change in changes {
         let Change { key, value } = *change;
-        let entry = PlainEntry { key, number, value };
-        let place = place_of(entries, key, number);
-        if place >= entries.len() {
-            entries.push(entry)?;
-        } else if entries[place].key == key && entries[place].number == number {
-            entries[place] = entry;
-        } else {
-            entries.insert(place, entry)?;
-        }
+        add(rt, entries, PlainEntry { key, number, value });
     }
-    Ok(())
 }
 
 /// Of each key the newest entry with at most this number, unless it is a deletion.
 pub fn shown_at(
+    rt: &impl Abort,
     alloc: Global,
     entries: &[PlainEntry],
     at: u64,
-) -> Result<Vec<PlainEntry>, AllocError> {
+) -> Vec<PlainEntry> {
     let mut shown = Vec::new(alloc);
     let mut last = None;
     for entry in entries {
         if entry.number <= at && last != Some(entry.key) {
             last = Some(entry.key);
             if entry.value.is_some() {
-                shown.push(*entry)?;
+                shown.push(*entry).expect(rt, "memory");
             }
         }
     }
-    Ok(shown)
+    shown
 }
 
 /// One move of a cursor.
@@ -106,7 +107,10 @@ impl<'a> PlainWalk<'a> {
 
     /// The entry that it stands on.
     pub fn entry(&self) -> Option<PlainEntry> {
-        Some(*self.entries.get(self.at?)?)
+        match self.at {
+            Some(at) => self.entries.get(at).copied(),
+            None => None,
+        }
     }
 
     pub fn apply(&mut self, step: Move) {

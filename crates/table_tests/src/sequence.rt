@@ -1,7 +1,8 @@
 //! Numbers that look random and are always the same, and batches made of them.
 
-use kv_types::{Batch, Edit, Key, KvError, Value};
+use kv_types::{Batch, Edit, Key, Value};
 use std::alloc::Global;
+use std::process::Abort;
 
 /// A linear congruential sequence, with Knuth's constants.
 #[derive(Drop)]
@@ -41,24 +42,33 @@ pub fn change_of(sequence: &mut Sequence, keys: u8) -> Change {
     }
 }
 
-/// A key in two bytes, so that keys are in the order of their numbers.
-pub fn key_of(alloc: Global, key: u16) -> Result<Key, KvError> {
-    Key::new(key.to_be_bytes().to_vec(alloc)?)
+/// A copy of these bytes.
+pub fn copy_of(rt: &impl Abort, alloc: Global, bytes: &[u8]) -> Vec<u8> {
+    bytes.to_vec(alloc).expect(rt, "memory")
 }
 
-fn edit_of(alloc: Global, change: Change) -> Result<Edit, KvError> {
-    let key = key_of(alloc, change.key)?;
+pub fn key_of(rt: &impl Abort, alloc: Global, bytes: &[u8]) -> Key {
+    Key::new(copy_of(rt, alloc, bytes)).expect(rt, "a key")
+}
+
+fn value_of(rt: &impl Abort, alloc: Global, value: u16) -> Value {
+    Value::new(copy_of(rt, alloc, &value.to_be_bytes())).expect(rt, "a value")
+}
+
+/// An edit of a key in two bytes, so that keys are in the order of their numbers.
+fn edit_of(rt: &impl Abort, alloc: Global, change: Change) -> Edit {
+    let key = key_of(rt, alloc, &change.key.to_be_bytes());
     match change.value {
-        Some(value) => Ok(Edit::Put(key, Value::new(value.to_be_bytes().to_vec(alloc)?)?)),
-        None => Ok(Edit::Delete(key)),
+        Some(value) => Edit::Put(key, value_of(rt, alloc, value)),
+        None => Edit::Delete(key),
     }
 }
 
 /// The batch of these changes.
-pub fn batch_of(alloc: Global, changes: &[Change]) -> Result<Batch, KvError> {
+pub fn batch_of(rt: &impl Abort, alloc: Global, changes: &[Change]) -> Batch {
     let mut edits = Vec::new(alloc);
     for change in changes {
-        edits.push(edit_of(alloc, *change)?)?;
+        edits.push(edit_of(rt, alloc, *change)).expect(rt, "memory");
     }
-    Batch::new(edits)
+    Batch::new(edits).expect(rt, "a batch")
 }

@@ -3,13 +3,15 @@
 ghost use Rattle.std.specs.Prelude.{IfSome};
 ghost use Rattle.table_format.specs.{IsTableEntry, lent_entry};
 
+use crate::counts::is_count;
 use crate::parts::{BLOCK, FILTER, FOOTER, INDEX};
+use crate::sequence::copy_of;
 use disk::{Crash, Disk, Fault, MemDisk};
 use kv_types::bounds::{MAX_KEY, MAX_NUMBER, MAX_VALUE};
 use merge_iter::OwnedEntry;
 use sorted_table::{Table, TableError};
-use std::alloc::{AllocError, Global};
-use std::test::Fail;
+use std::alloc::Global;
+use std::process::Abort;
 use table_builder::{Builder, Finished};
 use table_files::Files;
 use table_format::LentEntry;
@@ -35,143 +37,167 @@ fn lent(entry: &OwnedEntry) -> Option<LentEntry<'_>>
     })
 }
 
+/// Adds these entries.
+fn add_all<D: Disk>(
+    rt: &impl Abort,
+    alloc: Global,
+    builder: &mut Builder,
+    disk: &mut D,
+    entries: &[OwnedEntry],
+) {
+    for entry in entries {
+        let entry = lent(entry).expect(rt, "an entry within the limits");
+        builder.add(alloc, disk, entry).expect(rt, "an entry");
+    }
+}
+
 /// Builds the table of these entries in a file.
 pub fn build<D: Disk>(
+    rt: &impl Abort,
     alloc: Global,
     disk: &mut D,
     file: u64,
     entries: &[OwnedEntry],
-) -> Result<Finished, Fail> {
+) -> Finished {
     let mut builder = Builder::new(alloc, file);
-    for entry in entries {
-        let Some(entry) = lent(entry) else {
-            return Err("an entry is past the limits".into());
-        };
-        builder.add(alloc, disk, entry)?;
+    add_all(rt, alloc, &mut builder, disk, entries);
+    assert!(rt; builder.len() > 0, "no entries");
+    builder.finish(alloc, disk).expect(rt, "a table")
+}
+
+/// A copy of the bytes, if there are any.
+fn copy_of_some(rt: &impl Abort, alloc: Global, bytes: Option<&[u8]>) -> Option<Vec<u8>> {
+    match bytes {
+        Some(bytes) => Some(copy_of(rt, alloc, bytes)),
+        None => None,
     }
-    if builder.len() == 0 {
-        return Err("no entries".into());
-    }
-    Ok(builder.finish(alloc, disk)?)
 }
 
 /// An entry with a copy of these bytes.
 pub fn entry_of(
+    rt: &impl Abort,
     alloc: Global,
     key: &[u8],
     number: u64,
     value: Option<&[u8]>,
-) -> Result<OwnedEntry, AllocError> {
-    let value = match value {
-        Some(value) => Some(value.to_vec(alloc)?),
-        None => None,
-    };
-    Ok(OwnedEntry {
-        key: key.to_vec(alloc)?,
+) -> OwnedEntry {
+    OwnedEntry {
+        key: copy_of(rt, alloc, key),
         number,
-        value,
-    })
+        value: copy_of_some(rt, alloc, value),
+    }
 }
 
 /// The disk with a cache of so many blocks.
-fn with_cache(alloc: Global, disk: MemDisk, blocks: usize) -> Result<Files<MemDisk>, TableError> {
-    Ok(Files::new(alloc, disk, blocks.clamp(1, 65_536))?)
+fn with_cache(rt: &impl Abort, alloc: Global, disk: MemDisk, blocks: usize) -> Files<MemDisk> {
+    Files::new(alloc, disk, blocks.clamp(1, 65_536)).expect(rt, "memory for the cache")
 }
 
 /// A disk with the table of these entries, and a cache of so many blocks.
 pub fn files_of(
+    rt: &impl Abort,
     alloc: Global,
     entries: &[OwnedEntry],
     blocks: usize,
-) -> Result<Files<MemDisk>, Fail> {
+) -> Files<MemDisk> {
     let mut disk = MemDisk::new(alloc);
-    build(alloc, &mut disk, FILE, entries)?;
-    Ok(with_cache(alloc, disk, blocks)?)
+    build(rt, alloc, &mut disk, FILE, entries);
+    with_cache(rt, alloc, disk, blocks)
+}
+
+/// The table of the file.
+pub fn table_in(rt: &impl Abort, alloc: Global, files: &mut Files<MemDisk>, file: u64) -> Table {
+    Table::open(alloc, files, file).expect(rt, "a table")
 }
 
 /// All bytes of the file.
-fn bytes_of<D: Disk>(alloc: Global, disk: &mut D, file: u64) -> Result<Vec<u8>, Fail> {
-    let len = disk.length(file)?;
-    let mut bytes = vec![in alloc; 0u8; len as usize]?;
-    disk.read(file, 0, &mut bytes)?;
-    Ok(bytes)
+pub fn bytes_of<D: Disk>(rt: &impl Abort, alloc: Global, disk: &mut D, file: u64) -> Vec<u8> {
+    let len = disk.length(file).expect(rt, "a file");
+    let mut bytes = vec![in alloc; 0u8; len as usize].expect(rt, "memory");
+    disk.read(file, 0, &mut bytes).expect(rt, "the bytes");
+    bytes
 }
 
 // ---- bytes
 
 /// The table in which `1` was put at `a` by the batch with number 1.
-fn smallest(alloc: Global) -> Result<Vec<u8>, AllocError> {
+fn smallest(rt: &impl Abort, alloc: Global) -> Vec<u8> {
     let mut bytes = Vec::new(alloc);
     for part in [BLOCK.as_slice(), &FILTER, &INDEX, &FOOTER] {
-        bytes.extend_from_slice(part)?;
+        bytes.extend_from_slice(part).expect(rt, "memory");
     }
-    Ok(bytes)
+    bytes
+}
+
+/// Whether the builder reports a table of this length whose least key is `a`.
+fn is_reported(finished: &Finished, len: usize) -> bool {
+    finished.length == len as u64 && finished.least.as_bytes() == b"a".as_slice()
 }
 
 /// The bytes of the table of one entry of the key `a` with number 1.
-fn table_of_a(alloc: Global, value: Option<&[u8]>) -> Result<Vec<u8>, Fail> {
+fn table_of_a(rt: &impl Abort, alloc: Global, value: Option<&[u8]>) -> Vec<u8> {
     let mut disk = MemDisk::new(alloc);
-    let entry = entry_of(alloc, b"a", 1, value)?;
-    let finished = build(alloc, &mut disk, FILE, &[entry])?;
-    let bytes = bytes_of(alloc, &mut disk, FILE)?;
-    if finished.length != bytes.len() as u64 || finished.least.as_bytes() != b"a".as_slice() {
-        return Err("the builder reports another table".into());
-    }
-    Ok(bytes)
+    let entries = [entry_of(rt, alloc, b"a", 1, value)];
+    let finished = build(rt, alloc, &mut disk, FILE, &entries);
+    let bytes = bytes_of(rt, alloc, &mut disk, FILE);
+    assert!(rt;
+        is_reported(&finished, bytes.len()),
+        "the builder reports another table"
+    );
+    bytes
+}
+
+fn len_of_a(rt: &impl Abort, alloc: Global, value: Option<&[u8]>) -> usize {
+    table_of_a(rt, alloc, value).len()
+}
+
+fn is_smallest(rt: &impl Abort, alloc: Global) -> bool {
+    table_of_a(rt, alloc, Some(b"1")) == smallest(rt, alloc)
 }
 
 #[test]
-fn bytes_of_the_smallest_tables(rt: HostRuntime) -> Result<(), Fail> {
+fn bytes_of_the_smallest_tables(rt: HostRuntime) {
     let alloc = rt.alloc();
-    let put = table_of_a(alloc, Some(b"1"))?;
-    let want = smallest(alloc)?;
-    assert!(rt; put == want);
-    assert_eq!(rt; table_of_a(alloc, None)?.len(), 131);
-    assert_eq!(rt; table_of_a(alloc, Some(&[7; 200]))?.len(), 333);
-    Ok(())
+    assert!(rt; is_smallest(&rt, alloc));
+    is_count(&rt, len_of_a(&rt, alloc, None), 131);
+    is_count(&rt, len_of_a(&rt, alloc, Some(&[7; 200])), 333);
 }
 
 // ---- lookups
 
-/// Whether a lookup finds this entry.
+/// Whether a lookup of the key finds this entry, or none.
 fn finds(
+    rt: &impl Abort,
     alloc: Global,
     table: &Table,
     files: &mut Files<MemDisk>,
-    at: u64,
-    want: &OwnedEntry,
-) -> Result<bool, TableError> {
-    match table.get(alloc, files, &want.key, at)? {
-        Some(found) => Ok(found.number == want.number && found.value == want.value),
-        None => Ok(false),
+    (key, at): (&[u8], u64),
+    want: Option<&OwnedEntry>,
+) -> bool {
+    let found = table.get(alloc, files, key, at).expect(rt, "a lookup");
+    match (&found, want) {
+        (Some(found), Some(want)) => found.number == want.number && found.value == want.value,
+        (None, None) => true,
+        _ => false,
     }
 }
 
-/// Whether a lookup finds none.
-fn finds_none(
-    alloc: Global,
-    table: &Table,
-    files: &mut Files<MemDisk>,
-    key: &[u8],
-    at: u64,
-) -> Result<bool, TableError> {
-    Ok(table.get(alloc, files, key, at)?.is_none())
-}
-
 /// The entries of a key of one byte, and of the longest key with three numbers.
-fn few(alloc: Global) -> Result<Vec<OwnedEntry>, AllocError> {
+fn few(rt: &impl Abort, alloc: Global) -> [OwnedEntry; 4] {
     let longest = [b'k'; 1_024];
-    let mut entries = Vec::new(alloc);
-    entries.push(entry_of(alloc, b"@", 5, Some(b""))?)?;
-    entries.push(entry_of(alloc, &longest, 9, Some(b"new"))?)?;
-    entries.push(entry_of(alloc, &longest, 6, None)?)?;
-    entries.push(entry_of(alloc, &longest, 2, Some(b"old"))?)?;
-    Ok(entries)
+    [
+        entry_of(rt, alloc, b"@", 5, Some(b"")),
+        entry_of(rt, alloc, &longest, 9, Some(b"new")),
+        entry_of(rt, alloc, &longest, 6, None),
+        entry_of(rt, alloc, &longest, 2, Some(b"old")),
+    ]
 }
 
 /// A number at which a lookup is made, and the place of the entry that it finds for the key of the
 /// entry at another place.
-static LOOKUPS: [(u64, usize, Option<usize>); 10] = [
+type Lookup = (u64, usize, Option<usize>);
+
+static LOOKUPS: [Lookup; 10] = [
     (5, 0, Some(0)),
     (4, 0, None),
     (u64::MAX, 0, Some(0)),
@@ -184,59 +210,100 @@ static LOOKUPS: [(u64, usize, Option<usize>); 10] = [
     (u64::MAX, 1, Some(1)),
 ];
 
-#[test]
-fn lookups_at_each_number(rt: HostRuntime) -> Result<(), Fail> {
-    let alloc = rt.alloc();
-    let entries = few(alloc)?;
-    let mut files = files_of(alloc, &entries, 1)?;
-    let table = Table::open(alloc, &mut files, FILE)?;
-    for (at, key, found) in &LOOKUPS {
-        let Some(entry) = entries.get(*key) else {
-            return Err("no such key".into());
-        };
-        let is_so = match found.and_then(|place| entries.get(place)) {
-            Some(want) => finds(alloc, &table, &mut files, *at, want)?,
-            None => finds_none(alloc, &table, &mut files, &entry.key, *at)?,
-        };
-        assert!(rt; is_so, "key {key} at {at}");
+/// Whether the lookup finds what it is to find.
+fn is_found(
+    rt: &impl Abort,
+    alloc: Global,
+    table: &Table,
+    files: &mut Files<MemDisk>,
+    entries: &[OwnedEntry],
+    (at, key, found): Lookup,
+) -> bool {
+    let Some(entry) = entries.get(key) else {
+        return false;
+    };
+    let want = match found {
+        Some(place) => entries.get(place),
+        None => None,
+    };
+    finds(rt, alloc, table, files, (&entry.key, at), want)
+}
+
+fn all_are_found(
+    rt: &impl Abort,
+    alloc: Global,
+    files: &mut Files<MemDisk>,
+    entries: &[OwnedEntry],
+) {
+    let table = table_in(rt, alloc, files, FILE);
+    for row in &LOOKUPS {
+        let is_so = is_found(rt, alloc, &table, files, entries, *row);
+        assert!(rt; is_so, "key {} at {}", row.1, row.0);
     }
-    Ok(())
+}
+
+#[test]
+fn lookups_at_each_number(rt: HostRuntime) {
+    let alloc = rt.alloc();
+    let entries = few(&rt, alloc);
+    all_are_found(&rt, alloc, &mut files_of(&rt, alloc, &entries, 1), &entries);
 }
 
 // ---- calls of the device
 
+/// A disk with the table of those entries, and a cache of one block.
+fn files_of_few(rt: &impl Abort, alloc: Global) -> Files<MemDisk> {
+    files_of(rt, alloc, &few(rt, alloc), 1)
+}
+
 /// Whether a call of the device that comes so late is made by an opening.
-fn opening_reaches(alloc: Global, call: u64) -> Result<bool, Fail> {
-    let mut files = files_of(alloc, &few(alloc)?, 1)?;
+fn opening_reaches(rt: &impl Abort, alloc: Global, call: u64) -> bool {
+    let mut files = files_of_few(rt, alloc);
     files.arm(&Fault::Fail(call));
     let is_open = Table::open(alloc, &mut files, FILE).is_ok();
-    if is_open == files.has_struck() {
-        return Err("an opening hides a failure".into());
-    }
-    Ok(!is_open)
+    assert!(rt; is_open != files.has_struck(), "an opening hides a failure");
+    !is_open
+}
+
+/// Whether two lookups of one key both answer.
+fn both_answer(alloc: Global, table: &Table, files: &mut Files<MemDisk>) -> bool {
+    let first = table.get(alloc, files, b"@", 5).is_ok();
+    let second = table.get(alloc, files, b"@", 5).is_ok();
+    first && second
 }
 
 /// Whether such a call is made by two lookups of one key.
-fn lookups_reach(alloc: Global, call: u64) -> Result<bool, Fail> {
-    let mut files = files_of(alloc, &few(alloc)?, 1)?;
-    let table = Table::open(alloc, &mut files, FILE)?;
+fn lookups_reach(rt: &impl Abort, alloc: Global, call: u64) -> bool {
+    let mut files = files_of_few(rt, alloc);
+    let table = table_in(rt, alloc, &mut files, FILE);
     files.arm(&Fault::Fail(call));
-    let first = table.get(alloc, &mut files, b"@", 5).is_ok();
-    let second = table.get(alloc, &mut files, b"@", 5).is_ok();
-    if (first && second) == files.has_struck() {
-        return Err("a lookup hides a failure".into());
-    }
-    Ok(!(first && second))
+    let both_answer = both_answer(alloc, &table, &mut files);
+    assert!(rt;
+        both_answer != files.has_struck(),
+        "a lookup hides a failure"
+    );
+    !both_answer
+}
+
+/// Fails the test unless the first of two calls is made, and the second is not.
+fn is_last(rt: &impl Abort, made: (bool, bool)) {
+    assert!(rt; made == (true, false), "{made:?}");
 }
 
 #[test]
-fn an_opening_makes_three_calls_and_a_lookup_one(rt: HostRuntime) -> Result<(), Fail> {
+fn an_opening_makes_three_calls_and_a_lookup_one(rt: HostRuntime) {
     let alloc = rt.alloc();
-    let opening = (opening_reaches(alloc, 3)?, opening_reaches(alloc, 4)?);
-    assert!(rt; opening == (true, false), "{opening:?}");
-    let lookups = (lookups_reach(alloc, 1)?, lookups_reach(alloc, 2)?);
-    assert!(rt; lookups == (true, false), "{lookups:?}");
-    Ok(())
+    is_last(
+        &rt,
+        (
+            opening_reaches(&rt, alloc, 3),
+            opening_reaches(&rt, alloc, 4),
+        ),
+    );
+    is_last(
+        &rt,
+        (lookups_reach(&rt, alloc, 1), lookups_reach(&rt, alloc, 2)),
+    );
 }
 
 // ---- many blocks
@@ -244,7 +311,7 @@ fn an_opening_makes_three_calls_and_a_lookup_one(rt: HostRuntime) -> Result<(), 
 const ENTRIES: u16 = 10_000;
 
 /// Entry `i` of many: two of each key, values of 100 bytes, and some deletions.
-fn one_of_many(alloc: Global, i: u16) -> Result<OwnedEntry, AllocError> {
+fn one_of_many(rt: &impl Abort, alloc: Global, i: u16) -> OwnedEntry {
     let mut key = [0u8; 16];
     let [high, low] = (i / 2).to_be_bytes();
     (key[6], key[7]) = (high, low);
@@ -254,164 +321,167 @@ fn one_of_many(alloc: Global, i: u16) -> Result<OwnedEntry, AllocError> {
     } else {
         Some(value.as_slice())
     };
-    entry_of(alloc, &key, u64::from(u16::MAX - i), value)
+    entry_of(rt, alloc, &key, u64::from(u16::MAX - i), value)
 }
 
-pub fn many(alloc: Global) -> Result<Vec<OwnedEntry>, AllocError> {
+pub fn many(rt: &impl Abort, alloc: Global) -> Vec<OwnedEntry> {
     let mut entries = Vec::new(alloc);
     for i in 0..ENTRIES {
-        entries.push(one_of_many(alloc, i)?)?;
+        entries.push(one_of_many(rt, alloc, i)).expect(rt, "memory");
     }
-    Ok(entries)
+    entries
 }
 
 /// How many of the entries lookups find at their own numbers.
 fn found_of(
+    rt: &impl Abort,
     alloc: Global,
     files: &mut Files<MemDisk>,
     entries: &[OwnedEntry],
-) -> Result<usize, TableError> {
-    let table = Table::open(alloc, files, FILE)?;
+) -> usize {
+    let table = table_in(rt, alloc, files, FILE);
     let mut count = 0usize;
     for entry in entries {
-        if finds(alloc, &table, files, entry.number, entry)? {
+        if finds(
+            rt,
+            alloc,
+            &table,
+            files,
+            (&entry.key, entry.number),
+            Some(entry),
+        ) {
             count = count.wrapping_add(1);
         }
     }
-    Ok(count)
+    count
 }
 
 #[test]
-fn lookups_in_many_blocks(rt: HostRuntime) -> Result<(), Fail> {
+fn lookups_in_many_blocks(rt: HostRuntime) {
     let alloc = rt.alloc();
-    let entries = many(alloc)?;
-    let mut files = files_of(alloc, &entries, 8)?;
-    let count = found_of(alloc, &mut files, &entries)?;
-    assert!(rt; count == 10_000, "{count}");
-    Ok(())
+    let entries = many(&rt, alloc);
+    let found = found_of(&rt, alloc, &mut files_of(&rt, alloc, &entries, 8), &entries);
+    is_count(&rt, found, 10_000);
 }
 
 // ---- damage
 
 /// A disk with a file of these bytes, and a cache of one block.
-fn files_with(alloc: Global, bytes: &[u8]) -> Result<Files<MemDisk>, TableError> {
+fn files_with(rt: &impl Abort, alloc: Global, bytes: &[u8]) -> Files<MemDisk> {
     let mut disk = MemDisk::new(alloc);
-    disk.write_at(FILE, 0, bytes)?;
-    with_cache(alloc, disk, 1)
+    disk.write_at(FILE, 0, bytes).expect(rt, "a file");
+    with_cache(rt, alloc, disk, 1)
 }
 
-/// Opens the table of the file, and looks its only key up.
-fn read(alloc: Global, files: &mut Files<MemDisk>) -> Result<(), TableError> {
-    let table = Table::open(alloc, files, FILE)?;
-    table.get(alloc, files, b"a", 1)?;
-    Ok(())
+/// Opens the table of the file, looks its only key up, and answers the refusal.
+fn refusal_of(alloc: Global, files: &mut Files<MemDisk>) -> Option<TableError> {
+    match Table::open(alloc, files, FILE) {
+        Ok(table) => table.get(alloc, files, b"a", 1).err(),
+        Err(e) => Some(e),
+    }
 }
 
 /// Whether the opening or a lookup says that these bytes are damaged.
-fn is_damaged(alloc: Global, bytes: &[u8]) -> Result<bool, TableError> {
-    let mut files = files_with(alloc, bytes)?;
-    Ok(read(alloc, &mut files).err() == Some(TableError::Damaged))
+fn is_damaged(rt: &impl Abort, alloc: Global, bytes: &[u8]) -> bool {
+    refusal_of(alloc, &mut files_with(rt, alloc, bytes)) == Some(TableError::Damaged)
 }
 
 /// The smallest table with a bit of one byte turned.
-fn turned(alloc: Global, at: usize) -> Result<Vec<u8>, AllocError> {
-    let mut bytes = smallest(alloc)?;
+fn turned(rt: &impl Abort, alloc: Global, at: usize) -> Vec<u8> {
+    let mut bytes = smallest(rt, alloc);
     if let Some(byte) = bytes.get_mut(at) {
         *byte ^= 1;
     }
-    Ok(bytes)
+    bytes
+}
+
+/// Fails the test unless the byte at a place is missed, both where a bit of it is turned and where
+/// the file ends before it.
+fn is_missed(rt: &impl Abort, alloc: Global, whole: &[u8], at: usize) {
+    let is_so = is_damaged(rt, alloc, &turned(rt, alloc, at));
+    assert!(rt; is_so, "byte {at}");
+    let is_so = is_damaged(rt, alloc, whole.get(..at).unwrap_or_default());
+    assert!(rt; is_so, "the first {at} bytes");
 }
 
 #[test]
-fn damage_and_short_files_are_found(rt: HostRuntime) -> Result<(), Fail> {
+fn damage_and_short_files_are_found(rt: HostRuntime) {
     let alloc = rt.alloc();
-    let whole = smallest(alloc)?;
-    let is_so = is_damaged(alloc, &whole)?;
-    assert!(rt; !is_so, "the sound table");
+    let whole = smallest(&rt, alloc);
+    assert!(rt; !is_damaged(&rt, alloc, &whole), "the sound table");
     for at in 0..134 {
-        let is_so = is_damaged(alloc, &turned(alloc, at)?)?;
-        assert!(rt; is_so, "byte {at}");
-        let is_so = is_damaged(alloc, whole.get(..at).unwrap_or_default())?;
-        assert!(rt; is_so, "the first {at} bytes");
+        is_missed(&rt, alloc, &whole, at);
     }
-    Ok(())
 }
 
-/// Whether a lookup of `a` says that the block is damaged, twice, in a table that opens.
-fn is_found_late(alloc: Global, at: usize) -> Result<bool, TableError> {
-    let mut files = files_with(alloc, &turned(alloc, at)?)?;
-    let table = Table::open(alloc, &mut files, FILE)?;
-    let first = table.get(alloc, &mut files, b"a", 1).err();
-    let second = table.get(alloc, &mut files, b"a", 1).err();
-    Ok((first, second) == (Some(TableError::Damaged), Some(TableError::Damaged)))
+/// Whether a lookup of `a` says that the block is damaged, twice.
+fn is_refused_twice(alloc: Global, table: &Table, files: &mut Files<MemDisk>) -> bool {
+    let first = table.get(alloc, files, b"a", 1).err();
+    let second = table.get(alloc, files, b"a", 1).err();
+    first == Some(TableError::Damaged) && second == Some(TableError::Damaged)
+}
+
+/// Whether it does in a table that opens.
+fn is_found_late(rt: &impl Abort, alloc: Global, at: usize) -> bool {
+    let mut files = files_with(rt, alloc, &turned(rt, alloc, at));
+    let table = table_in(rt, alloc, &mut files, FILE);
+    is_refused_twice(alloc, &table, &mut files)
 }
 
 #[test]
-fn damage_of_a_block_is_found_by_its_first_read(rt: HostRuntime) -> Result<(), Fail> {
+fn damage_of_a_block_is_found_by_its_first_read(rt: HostRuntime) {
     for at in [0, 6, 18, 26] {
-        let is_so = is_found_late(rt.alloc(), at)?;
+        let is_so = is_found_late(&rt, rt.alloc(), at);
         assert!(rt; is_so, "byte {at}");
     }
-    Ok(())
 }
 
 // ---- two tables
 
-/// Two tables of one key, whose first blocks differ at one place.
-fn two_tables(alloc: Global, blocks: usize) -> Result<Files<MemDisk>, Fail> {
-    let mut disk = MemDisk::new(alloc);
-    build(
-        alloc,
-        &mut disk,
-        3,
-        &[entry_of(alloc, b"a", 1, Some(b"1"))?],
-    )?;
-    build(
-        alloc,
-        &mut disk,
-        4,
-        &[entry_of(alloc, b"a", 1, Some(b"2"))?],
-    )?;
-    Ok(with_cache(alloc, disk, blocks)?)
+/// Builds the table of `a` with this value, by the batch with number 1.
+fn build_a(rt: &impl Abort, alloc: Global, disk: &mut MemDisk, file: u64, value: &[u8]) {
+    let entries = [entry_of(rt, alloc, b"a", 1, Some(value))];
+    build(rt, alloc, disk, file, &entries);
 }
 
-/// Whether the table of the file has this value at the key `a`.
-fn has_value(
+/// Two tables of one key, whose first blocks differ at one place.
+fn two_tables(rt: &impl Abort, alloc: Global, blocks: usize) -> Files<MemDisk> {
+    let mut disk = MemDisk::new(alloc);
+    build_a(rt, alloc, &mut disk, 3, b"1");
+    build_a(rt, alloc, &mut disk, 4, b"2");
+    with_cache(rt, alloc, disk, blocks)
+}
+
+/// 1 where the table of the file has this value at the key `a`, or else 0.
+fn value_count(
+    rt: &impl Abort,
     alloc: Global,
     table: &Table,
     files: &mut Files<MemDisk>,
-    value: &'static [u8],
-) -> Result<bool, TableError> {
-    match table.get(alloc, files, b"a", 1)? {
-        Some(found) => Ok(found.value.as_deref() == Some(value)),
-        None => Ok(false),
+    value: &[u8],
+) -> usize {
+    match table.get(alloc, files, b"a", 1).expect(rt, "a lookup") {
+        Some(found) => (found.value.as_deref() == Some(value)) as usize,
+        None => 0,
     }
 }
 
 /// How many of ten lookups in turn find the table's own value.
-fn own_values(alloc: Global, blocks: usize) -> Result<usize, Fail> {
-    let mut files = two_tables(alloc, blocks)?;
-    let (one, two) = (
-        Table::open(alloc, &mut files, 3)?,
-        Table::open(alloc, &mut files, 4)?,
-    );
+fn own_values(rt: &impl Abort, alloc: Global, files: &mut Files<MemDisk>) -> usize {
+    let one = table_in(rt, alloc, files, 3);
+    let two = table_in(rt, alloc, files, 4);
     let mut own = 0usize;
     for _ in 0..5 {
-        if has_value(alloc, &one, &mut files, b"1")? {
-            own = own.wrapping_add(1);
-        }
-        if has_value(alloc, &two, &mut files, b"2")? {
-            own = own.wrapping_add(1);
-        }
+        own = own.wrapping_add(value_count(rt, alloc, &one, files, b"1"));
+        own = own.wrapping_add(value_count(rt, alloc, &two, files, b"2"));
     }
-    Ok(own)
+    own
 }
 
 #[test]
-fn each_table_answers_its_own_value(rt: HostRuntime) -> Result<(), Fail> {
+fn each_table_answers_its_own_value(rt: HostRuntime) {
     for blocks in [1, 2] {
-        let own = own_values(rt.alloc(), blocks)?;
+        let own = own_values(&rt, rt.alloc(), &mut two_tables(&rt, rt.alloc(), blocks));
         assert!(rt; own == 10, "{blocks} blocks: {own}");
     }
-    Ok(())
 }

@@ -1,13 +1,15 @@
 //! Walks of 2,000 moves over unions of five cursors, and over the view at every number, against
 //! plain lists.
 
+use crate::counts::is_count;
 use crate::numbered::Numbered;
 use crate::plain::{Move, PlainEntry, PlainWalk, add_all, move_of, shown_at};
 use crate::sequence::{Change, Sequence, batch_of, change_of};
-use memtable::{MemCursor, MemtableError};
+use crate::tables::entry_of;
+use memtable::MemCursor;
 use merge_iter::{AtNumber, Cursor, CursorError, ListCursor, Merged, OwnedEntry};
-use std::alloc::{AllocError, Global};
-use std::test::Fail;
+use std::alloc::Global;
+use std::process::Abort;
 
 const CHILDREN: usize = 5;
 
@@ -17,92 +19,116 @@ const MOVES: u16 = 2_000;
 
 const NUMBERS: u8 = 100;
 
+/// The next changes, so many.
+pub fn changes_of(
+    rt: &impl Abort,
+    alloc: Global,
+    sequence: &mut Sequence,
+    count: u16,
+) -> Vec<Change> {
+    let mut changes = Vec::new(alloc);
+    for _ in 0..count {
+        changes.push(change_of(sequence, KEYS)).expect(rt, "memory");
+    }
+    changes
+}
+
 /// The changes of each batch: from one to three.
-fn histories(alloc: Global) -> Result<Vec<Vec<Change>>, AllocError> {
+fn histories(rt: &impl Abort, alloc: Global) -> Vec<Vec<Change>> {
     let mut sequence = Sequence::new(7);
     let mut histories = Vec::new(alloc);
     for _ in 0..NUMBERS {
-        let mut changes = Vec::new(alloc);
-        for _ in 0..=sequence.next() % 3 {
-            changes.push(change_of(&mut sequence, KEYS))?;
-        }
-        histories.push(changes)?;
+        let count = sequence.next() % 3 + 1;
+        let changes = changes_of(rt, alloc, &mut sequence, count);
+        histories.push(changes).expect(rt, "memory");
     }
-    Ok(histories)
+    histories
 }
 
 /// All entries in order.
-fn entries_of(alloc: Global, histories: &[Vec<Change>]) -> Result<Vec<PlainEntry>, AllocError> {
+fn entries_of(rt: &impl Abort, alloc: Global, histories: &[Vec<Change>]) -> Vec<PlainEntry> {
     let mut entries = Vec::new(alloc);
     let mut number = 0u64;
     for changes in histories {
         number = number.wrapping_add(1);
-        add_all(&mut entries, number, changes)?;
+        add_all(rt, &mut entries, number, changes);
     }
-    Ok(entries)
+    entries
+}
+
+/// Adds the batch of these changes.
+fn add(rt: &impl Abort, alloc: Global, table: &mut Numbered, place: usize, changes: &[Change]) {
+    let number = (place as u64).wrapping_add(1);
+    table.add(rt, number, &batch_of(rt, alloc, changes));
 }
 
 /// A memtable with every fifth batch.
-fn table_of(alloc: Global, histories: &[Vec<Change>], which: usize) -> Result<Numbered, Fail> {
+fn table_of(rt: &impl Abort, alloc: Global, histories: &[Vec<Change>], which: usize) -> Numbered {
     let mut table = Numbered::new(alloc);
     for (i, changes) in histories.iter().enumerate() {
         if i % CHILDREN == which {
-            table.add((i as u64).wrapping_add(1), &batch_of(alloc, changes)?)?;
+            add(rt, alloc, &mut table, i, changes);
         }
     }
-    Ok(table)
+    table
 }
 
-fn tables_of(alloc: Global, histories: &[Vec<Change>]) -> Result<Vec<Numbered>, Fail> {
+fn tables_of(rt: &impl Abort, alloc: Global, histories: &[Vec<Change>]) -> Vec<Numbered> {
     let mut tables = Vec::new(alloc);
     for which in 0..CHILDREN {
-        tables.push(table_of(alloc, histories, which)?)?;
+        let table = table_of(rt, alloc, histories, which);
+        tables.push(table).expect(rt, "memory");
     }
-    Ok(tables)
+    tables
 }
 
 /// The union of the memtables.
-fn union_of<'a>(
-    alloc: Global,
-    tables: &'a [Numbered],
-) -> Result<Merged<MemCursor<'a>>, MemtableError> {
+fn union_of<'a>(rt: &impl Abort, alloc: Global, tables: &'a [Numbered]) -> Merged<MemCursor<'a>> {
     let mut children = Vec::new(alloc);
     for table in tables {
-        children.push(table.table().cursor()?)?;
+        let cursor = table.table().cursor().expect(rt, "memory");
+        children.push(cursor).expect(rt, "memory");
     }
-    Ok(Merged::new(children))
+    Merged::new(children)
 }
 
-fn owned(alloc: Global, entry: PlainEntry) -> Result<OwnedEntry, AllocError> {
-    let value = match entry.value {
-        Some(value) => Some(value.to_be_bytes().to_vec(alloc)?),
-        None => None,
-    };
-    Ok(OwnedEntry {
-        key: entry.key.to_be_bytes().to_vec(alloc)?,
-        number: entry.number,
-        value,
-    })
+/// The entry, with a key and a value in two bytes.
+pub fn owned(rt: &impl Abort, alloc: Global, entry: PlainEntry) -> OwnedEntry {
+    let key = entry.key.to_be_bytes();
+    match entry.value {
+        Some(value) => entry_of(rt, alloc, &key, entry.number, Some(&value.to_be_bytes())),
+        None => entry_of(rt, alloc, &key, entry.number, None),
+    }
 }
 
 /// A list with every fifth entry.
-fn list_of(alloc: Global, entries: &[PlainEntry], which: usize) -> Result<ListCursor, AllocError> {
+fn list_of(rt: &impl Abort, alloc: Global, entries: &[PlainEntry], which: usize) -> ListCursor {
     let mut list = Vec::new(alloc);
     for (i, entry) in entries.iter().enumerate() {
         if i % CHILDREN == which {
-            list.push(owned(alloc, *entry)?)?;
+            list.push(owned(rt, alloc, *entry)).expect(rt, "memory");
         }
     }
-    Ok(ListCursor::new(list))
+    ListCursor::new(list)
 }
 
-fn apply<C: Cursor<Source = ()>>(cursor: &mut C, step: Move) -> Result<(), CursorError> {
+/// The union of the lists.
+fn union_of_lists(rt: &impl Abort, alloc: Global, entries: &[PlainEntry]) -> Merged<ListCursor> {
+    let mut children = Vec::new(alloc);
+    for which in 0..CHILDREN {
+        let list = list_of(rt, alloc, entries, which);
+        children.push(list).expect(rt, "memory");
+    }
+    Merged::new(children)
+}
+
+fn apply<C: Cursor>(cursor: &mut C, source: &mut C::Source, step: Move) -> Result<(), CursorError> {
     match step {
-        Move::First => cursor.first(&mut ()),
-        Move::Last => cursor.last(&mut ()),
-        Move::Seek(key, number) => cursor.seek(&mut (), &key.to_be_bytes(), number),
-        Move::Next if cursor.valid() => cursor.next(&mut ()),
-        Move::Prev if cursor.valid() => cursor.prev(&mut ()),
+        Move::First => cursor.first(source),
+        Move::Last => cursor.last(source),
+        Move::Seek(key, number) => cursor.seek(source, &key.to_be_bytes(), number),
+        Move::Next if cursor.valid() => cursor.next(source),
+        Move::Prev if cursor.valid() => cursor.prev(source),
         _ => Ok(()),
     }
 }
@@ -116,7 +142,7 @@ fn is_value(found: Option<&[u8]>, want: Option<u16>) -> bool {
 }
 
 /// Whether the cursor stands on this entry, or on none.
-fn stands_on<C: Cursor<Source = ()>>(cursor: &C, want: Option<PlainEntry>) -> bool {
+fn stands_on<C: Cursor>(cursor: &C, want: Option<PlainEntry>) -> bool {
     if !cursor.valid() {
         return want.is_none();
     }
@@ -128,65 +154,80 @@ fn stands_on<C: Cursor<Source = ()>>(cursor: &C, want: Option<PlainEntry>) -> bo
         && is_value(cursor.value(), entry.value)
 }
 
-/// How many of the moves led where they lead in the plain list.
-fn agreeing<C: Cursor<Source = ()>>(
+/// How many of the moves led where they lead in the plain list. Seeks are to numbers up to one more
+/// than the greatest.
+pub fn agreeing<C: Cursor>(
+    rt: &impl Abort,
     cursor: &mut C,
+    source: &mut C::Source,
     entries: &[PlainEntry],
-) -> Result<u32, CursorError> {
+    numbers: u8,
+) -> usize {
     let (mut sequence, mut walk) = (Sequence::new(3), PlainWalk::new(entries));
-    let mut count = 0u32;
+    let mut count = 0usize;
     for _ in 0..MOVES {
-        let step = move_of(&mut sequence, walk.entry().is_some(), NUMBERS);
+        let step = move_of(&mut sequence, walk.entry().is_some(), numbers);
         walk.apply(step);
-        apply(cursor, step)?;
+        apply(cursor, source, step).expect(rt, "a move");
         if stands_on(cursor, walk.entry()) {
             count = count.wrapping_add(1);
         }
     }
-    Ok(count)
+    count
+}
+
+/// All entries, and five memtables of them.
+fn entries_and_tables(rt: &impl Abort, alloc: Global) -> (Vec<PlainEntry>, Vec<Numbered>) {
+    let histories = histories(rt, alloc);
+    let entries = entries_of(rt, alloc, &histories);
+    (entries, tables_of(rt, alloc, &histories))
+}
+
+fn agreeing_in_memtables(rt: &impl Abort, alloc: Global) -> usize {
+    let (entries, tables) = entries_and_tables(rt, alloc);
+    let mut union = union_of(rt, alloc, &tables);
+    agreeing(rt, &mut union, &mut (), &entries, NUMBERS)
 }
 
 #[test]
-fn a_union_of_five_memtables(rt: HostRuntime) -> Result<(), Fail> {
-    let alloc = rt.alloc();
-    let histories = histories(alloc)?;
-    let (entries, tables) = (
-        entries_of(alloc, &histories)?,
-        tables_of(alloc, &histories)?,
-    );
-    let mut union = union_of(alloc, &tables)?;
-    let count = agreeing(&mut union, &entries)?;
-    assert!(rt; count == 2_000, "{count}");
-    Ok(())
+fn a_union_of_five_memtables(rt: HostRuntime) {
+    is_count(&rt, agreeing_in_memtables(&rt, rt.alloc()), 2_000);
+}
+
+fn agreeing_in_lists(rt: &impl Abort, alloc: Global) -> usize {
+    let entries = entries_of(rt, alloc, &histories(rt, alloc));
+    let mut union = union_of_lists(rt, alloc, &entries);
+    agreeing(rt, &mut union, &mut (), &entries, NUMBERS)
 }
 
 #[test]
-fn a_union_of_five_lists(rt: HostRuntime) -> Result<(), Fail> {
-    let alloc = rt.alloc();
-    let entries = entries_of(alloc, &histories(alloc)?)?;
-    let mut children = Vec::new(alloc);
-    for which in 0..CHILDREN {
-        children.push(list_of(alloc, &entries, which)?)?;
-    }
-    let count = agreeing(&mut Merged::new(children), &entries)?;
-    assert!(rt; count == 2_000, "{count}");
-    Ok(())
+fn a_union_of_five_lists(rt: HostRuntime) {
+    is_count(&rt, agreeing_in_lists(&rt, rt.alloc()), 2_000);
 }
 
-#[test]
-fn the_view_at_every_number(rt: HostRuntime) -> Result<(), Fail> {
-    let alloc = rt.alloc();
-    let histories = histories(alloc)?;
-    let (entries, tables) = (
-        entries_of(alloc, &histories)?,
-        tables_of(alloc, &histories)?,
-    );
-    let mut count = 0u32;
+/// How many of the moves over the view at a number led where they lead in the plain list.
+fn agreeing_at(
+    rt: &impl Abort,
+    alloc: Global,
+    tables: &[Numbered],
+    entries: &[PlainEntry],
+    at: u64,
+) -> usize {
+    let shown = shown_at(rt, alloc, entries, at);
+    let mut cursor = AtNumber::new(alloc, union_of(rt, alloc, tables), at);
+    agreeing(rt, &mut cursor, &mut (), &shown, NUMBERS)
+}
+
+fn agreeing_in_views(rt: &impl Abort, alloc: Global) -> usize {
+    let (entries, tables) = entries_and_tables(rt, alloc);
+    let mut count = 0usize;
     for at in 0..=u64::from(NUMBERS) {
-        let shown = shown_at(alloc, &entries, at)?;
-        let mut cursor = AtNumber::new(alloc, union_of(alloc, &tables)?, at);
-        count = count.wrapping_add(agreeing(&mut cursor, &shown)?);
+        count = count.wrapping_add(agreeing_at(rt, alloc, &tables, &entries, at));
     }
-    assert!(rt; count == 202_000, "{count}");
-    Ok(())
+    count
+}
+
+#[test]
+fn the_view_at_every_number(rt: HostRuntime) {
+    is_count(&rt, agreeing_in_views(&rt, rt.alloc()), 202_000);
 }
