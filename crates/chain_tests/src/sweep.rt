@@ -174,7 +174,7 @@ impl Course {
 
 // The records of the log of batches on a disk.
 fn records_on(alloc: Global, disk: &mut MemDisk) -> Result<Vec<Vec<u8>>, Fail> {
-    let log = Log::open(alloc, disk, 3, 0)?;
+    let log = Log::open(alloc, disk, 3, 0)?.log;
     let mut records = Vec::new(alloc);
     for index in 0..log.len() {
         records.push(log.record(alloc, disk, index)?)?;

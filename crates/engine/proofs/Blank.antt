@@ -1,14 +1,14 @@
 -- Disks on which a store was created, and others.
 use Rattle.std.proofs.Common.{◌≡◌, ℕ, ◌<◌, List, [], ◌∷◌, length, Option, Some, None}
 use Rattle.std.proofs.Common.{Result, Ok, Err, inl, inr, refl, ap, subst, arith, get_or, sym}
-use Rattle.std.proofs.Common.{◌∙◌, ◌≢◌}
-use Rattle.std.specs.Prelude.{IfErr, IsSomeAnd, MatchOption}
-use Rattle.disk.specs.{Contents, State}
+use Rattle.std.proofs.Common.{◌∙◌}
+use Rattle.std.specs.Prelude.{IfErr, IsSomeAnd, MatchOption, ◌⊎◌}
+use Rattle.disk.specs.{Contents}
 use Rattle.disk.specs.declared.DiskError.TheVariants as disk
 use Rattle.record_log.specs.declared.LogError.{LogError}
 use Rattle.record_log.specs.declared.LogError.TheVariants as log
-use Rattle.record_log.specs.declared.Log.{Log}
-use Rattle.record_log.specs.{Represents, RecordsAreUnique, LogHolds, count_of}
+use Rattle.record_log.specs.declared.OpenedLog.{OpenedLog}
+use Rattle.record_log.specs.{Represents, RecordsAreUnique, HasRead, count_of}
 use Rattle.record_log.specs as log_stands
 use Rattle.engine.specs.declared.error.EngineError.{EngineError}
 use Rattle.engine.specs.declared.error.EngineError.TheVariants as engine
@@ -17,15 +17,15 @@ use Rattle.engine.specs.Calls.{ExplainsRefusal}
 use Rattle.engine.specs.Files.{Facts}
 use Rattle.engine.specs.Files.{FilesRepresent, HasId, IsBlank, IsBlankFile, IsLog}
 use Rattle.engine.specs.Layout.{identity_file, identity_records}
-use Rattle.engine.specs.Errors.{IsEnd, IsOfMachine, MatchesBlank, error_of_log}
+use Rattle.engine.specs.Errors.{IsOfMachine, MatchesBlank, error_of_log}
 use Rattle.engine.proofs.Records.{length-ends}
 
--- a log that counts no record holds none
-pub none_held : (s : State) (log : Log) (records : List (List ℕ)) → LogHolds s log records →
-    count_of log ≡ 0 → records ≡ []
-none_held s log [] h none = refl
-none_held s log (first ∷ others) h none =
-    absurd (omega (arith, none, ap length h.ends, length-ends 0 (first ∷ others)))
+-- a log that counts no record was read with none
+pub none_read : (opened : OpenedLog) (records : List (List ℕ)) → HasRead opened records →
+    count_of opened.log ≡ 0 → records ≡ []
+none_read opened [] read none = refl
+none_read opened (first ∷ others) read none =
+    absurd (omega (arith, none, ap length read.ends, length-ends 0 (first ∷ others)))
 
 -- a file that has a first byte
 abbrev pub HasBytes : Option (List ℕ) → Type 0
@@ -96,7 +96,7 @@ not_blank left x ids had = holds_one (left identity_file) had.identity
     holds_one (Some it) named (inr none) =
         none.2 (ap (λ l. get_or l 0 0) (sym none.3 ∙ named.2))
 
--- .. whatever a log on it, or the store in the log, reports
+-- .. whatever a log on it, or the bytes of its records, report
 pub blank_by_log : {is_blank : Type 0} (e : LogError) → (is_blank → ⊥) →
     MatchesBlank (error_of_log e) is_blank
 blank_by_log (log.Disk disk.Failed) not = tt
@@ -107,16 +107,12 @@ blank_by_log log.Memory not = tt
 blank_by_log log.TooLong not = not
 blank_by_log log.Failed not = not
 
-pub blank_by_store : {is_blank : Type 0} (e : EngineError) → IsEnd e → (is_blank → ⊥) →
-    MatchesBlank e is_blank
-blank_by_store engine.Disk ends not = tt
-blank_by_store engine.Damaged ends not = not
-blank_by_store engine.Memory ends not = tt
-blank_by_store engine.NotCreated ends not = absurd ends
-blank_by_store engine.Failed ends not = absurd ends
-blank_by_store engine.TooOld ends not = absurd ends
-blank_by_store engine.NotCommitted ends not = absurd ends
-blank_by_store engine.Exhausted ends not = absurd ends
+pub blank_by_bytes : {is_blank : Type 0} (e : EngineError) →
+    (e ≡ engine.Damaged) ⊎ (e ≡ engine.Memory) → (is_blank → ⊥) → MatchesBlank e is_blank
+blank_by_bytes {is_blank = is_blank} e (inl damaged) not =
+    subst (λ (d : EngineError). MatchesBlank d is_blank) (sym damaged) not
+blank_by_bytes {is_blank = is_blank} e (inr memory) not =
+    subst (λ (d : EngineError). MatchesBlank d is_blank) (sym memory) tt
 
 -- why a store was not opened, by what recovering it tells
 pub explained : (e : EngineError) (left : Contents) → MatchesBlank e (IsBlank left) →

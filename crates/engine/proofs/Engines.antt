@@ -1,24 +1,18 @@
 -- An engine over the store that it holds, and what its calls keep.
-use Rattle.std.proofs.Common.{◌≡◌, ◌↔◌, ◌⊎◌, ℕ, ◌≤◌, ◌+◌, List, [], ◌∷◌, ◌++◌, length, Result, Ok, Err}
-use Rattle.std.proofs.Common.{inl, inr, refl, sym, ap, subst, ◌∙◌, arith, Bool, true, false}
-use Rattle.std.specs.Prelude.{IfErr, IsErrAnd, IsErrOf, IsTrue, OnOk, is_err}
+use Rattle.std.proofs.Common.{◌≡◌, List, Result, Ok, Err}
+use Rattle.std.proofs.Common.{sym, ap, subst, ◌∙◌, Bool, true, false}
+use Rattle.std.specs.Prelude.{IsTrue, OnOk, is_err}
 use Rattle.kv_types.specs.{BatchContent}
 use Rattle.disk.specs.declared.Disk.{Ghosts}
 use Rattle.disk.specs.{DurableIsLeft, IsCrashOutcome, IsSame, LeavesSince, contents}
 use Rattle.disk.specs.StillLemmas.{still}
-use Rattle.disk.specs.Calls.{KeepsBy}
-use Rattle.table_files.specs.declared.Files.{Files}
-use Rattle.table_files.specs.{inner_disk}
 use Rattle.engine.specs.declared.engine.Engine.{Engine}
 use Rattle.engine.specs.declared.error.EngineError.{EngineError}
-use Rattle.engine.specs.declared.error.EngineError.TheVariants as engine
 use Rattle.engine.specs.Calls.{Goes, disk_after}
 use Rattle.engine.specs.Engines.{EngineHolds, EngineReads, HasEnded, IsInMemory, engine_disk}
 use Rattle.engine.specs.Engines.{facts_of}
-use Rattle.engine.specs.Errors.{EndsEngine, FailsDevice, IsEnd}
 use Rattle.engine.specs.Stores.{StoreHolds}
 use Rattle.engine.proofs.Held.{as_read, counts, represented, store_in}
-use Rattle.engine.specs.KeepingLemmas.{kept_as, unchanged}
 
 -- an engine that was not ended works
 pub not_true : false ≡ true → ⊥

@@ -1,8 +1,8 @@
 -- What an open store holds, and what a crash leaves of it.
-use Rattle.std.proofs.Common.{◌≡◌, ◌↔◌, ℕ, ◌+◌, ◌-◌, ◌≤◌, ◌<◌, List, [], ◌∷◌, ◌++◌, length, drop}
-use Rattle.std.proofs.Common.{Option, Some, None, suc, zero}
-use Rattle.std.proofs.Common.{inl, inr, refl, sym, ap, subst, ◌∙◌, arith, length-append, take}
-use Rattle.std.specs.Prelude.{IsSomeAnd, slice_get, ◌⊎◌, ◌≢◌, All}
+use Rattle.std.proofs.Common.{◌≡◌, ℕ, ◌+◌, ◌≤◌, ◌<◌, List, [], ◌∷◌, ◌++◌, length, drop}
+use Rattle.std.proofs.Common.{Option, Some, None}
+use Rattle.std.proofs.Common.{inl, inr, refl, sym, ap, subst, ◌∙◌, arith, length-append}
+use Rattle.std.specs.Prelude.{IsSomeAnd, slice_get, ◌≢◌}
 use Rattle.std.proofs.lemmas.List.Elements.{All-push}
 use Rattle.kv_types.specs.declared.bounds.TheConstants.{MAX_NUMBER}
 use Rattle.kv_types.specs.{IsBatch, BatchContent}
@@ -12,7 +12,8 @@ use Rattle.disk.specs.{LeavesSince, IsSameBut, seen, contents}
 use Rattle.disk.specs.MomentsLemmas.{started, weaker}
 use Rattle.memtable.specs.{HasFailedAdd}
 use Rattle.record_log.specs.declared.Log.{Log}
-use Rattle.record_log.specs.{Represents, LogHolds, IsAt, IsOldOrNew, IsOldOrNewFrom}
+use Rattle.record_log.specs.declared.OpenedLog.{OpenedLog}
+use Rattle.record_log.specs.{HasRead, Represents, LogHolds, IsAt, IsOldOrNew, IsOldOrNewFrom}
 use Rattle.record_log.specs.{count_of, file_of, gate_of}
 use Rattle.chain_model.specs.{IsId}
 use Rattle.configurations.specs.{IsConfig}
@@ -127,15 +128,15 @@ id_in old new x ids same s = record {
 }
 
 -- the only record of a log
-pub only_one : (disk : State) (log : Log) (records : List (List ℕ)) (one : List ℕ) →
-    LogHolds disk log records → count_of log ≡ 1 → slice_get records 0 ≡ Some one →
+pub only_one : (opened : OpenedLog) (records : List (List ℕ)) (one : List ℕ) →
+    HasRead opened records → count_of opened.log ≡ 1 → slice_get records 0 ≡ Some one →
     records ≡ one ∷ []
-only_one disk log [] one h size got = absurd cc
-only_one disk log (first ∷ []) one h size got =
+only_one opened [] one read size got = absurd cc
+only_one opened (first ∷ []) one read size got =
     let same : first ≡ one = cc in
     ap (λ (r : List ℕ). r ∷ []) same
-only_one disk log (first ∷ second ∷ others) one h size got =
-    absurd (omega (arith, size, ap length h.ends, length-ends 0 (first ∷ second ∷ others)))
+only_one opened (first ∷ second ∷ others) one read size got =
+    absurd (omega (arith, size, ap length read.ends, length-ends 0 (first ∷ second ∷ others)))
 
 -- An open store, and one batch more.
 module _ (disk : State) (store : Store) (facts : Facts) (list : List BatchContent)

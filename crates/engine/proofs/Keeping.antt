@@ -1,9 +1,8 @@
 -- What a refusal says of the call before, and which files calls keep.
-use Rattle.std.proofs.Common.{rules, ◌≡◌, ◌↔◌, ℕ, Result, Ok, Err, ◌∙◌, ap, inl, inr, refl, subst}
+use Rattle.std.proofs.Common.{rules, ◌≡◌, ◌≢◌, ◌↔◌, ℕ, Result, Ok, Err, ◌∙◌, ap, inl, inr, subst}
 use Rattle.std.specs.Prelude.{◌⊎◌, IfErr, IsErrAnd}
-use Rattle.disk.specs.declared.Disk.{Ghosts}
 use Rattle.disk.specs.declared.DiskError.TheVariants as disk
-use Rattle.disk.specs.{AddsNoOutcome, IsFileOutcome, IsSame, IsSameBut, KeepsDisk, RisesByOne}
+use Rattle.disk.specs.{AddsNoOutcome, IsFileOutcome, IsSame, IsSameBut}
 use Rattle.disk.specs.{State}
 use Rattle.engine.specs.Files.{IsRecovered, KeepsOthers}
 use Rattle.engine.specs.Layout.{batches_file, identity_file}
@@ -45,6 +44,14 @@ bytes_only (Ok x) told fails = cc
 bytes_only (Err e) (inl told) fails = cc
 bytes_only (Err e) (inr told) fails = cc
 
+-- nor does one whose refusals are no failures
+pub only_fails : {T : Type 0} (result : Result T EngineError) →
+    IfErr result (λ e. e ≢ engine.Disk) → FailsDevice result → ⊥
+only_fails (Ok x) told fails = cc
+only_fails (Err e) told fails =
+    let is : e ≡ engine.Disk = cc in
+    told is
+
 -- a refusal for another cause is none
 pub refused : {T : Type 0} {e : EngineError} → (e ≡ engine.Disk → ⊥) → FailsDevice {T = T} (Err e) → ⊥
 refused {e = e} other fails =
@@ -72,15 +79,6 @@ done fails = cc
 pub both_synced : (old mid new : State) → AddsNoOutcome identity_file old mid →
     AddsNoOutcome batches_file mid new → IsRecovered old new
 both_synced old mid new first second = record { crash = search rules; others = search rules }
-
--- .. and then only read
-pub synced_and_read : (old mid new : State) → IsRecovered old mid → IsSame mid new →
-    IsRecovered old new
-synced_and_read old mid new synced same = record {
-  crash = λ left leaves. synced.crash left
-      (λ file. subst (λ slot. IsFileOutcome slot (left file)) (same file) (leaves file));
-  others = λ file not_own. same file ∙ synced.others file not_own;
-}
 
 -- the identity file was synced
 pub one_synced : (old new : State) → AddsNoOutcome identity_file old new → IsRecovered old new
@@ -134,12 +132,4 @@ same_then_adds {file = file} old mid new same adds = record {
   crash = λ left leaves. subst (λ slot. IsFileOutcome slot left) (same file)
       (adds.crash left leaves);
   others = λ other apart. adds.others other apart ∙ same other;
-}
-
-pub adds_then_same : {file : ℕ} (old mid new : State) → AddsNoOutcome file old mid →
-    IsSame mid new → AddsNoOutcome file old new
-adds_then_same {file = file} old mid new adds same = record {
-  crash = λ left leaves. adds.crash left
-      (subst (λ slot. IsFileOutcome slot left) (same file) leaves);
-  others = λ other apart. same other ∙ adds.others other apart;
 }

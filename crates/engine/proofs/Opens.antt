@@ -11,8 +11,8 @@ use Rattle.std.proofs.lemmas.List.{append-nil}
 use Rattle.std.proofs.lemmas.List.Elements.{All-head, All-tail}
 use Rattle.kv_types.specs.{BatchContent, IsBatch, SpellingsDiffer, batch_bytes}
 use Rattle.disk.specs.{State, Slot, Contents, contents, seen, IsSame}
-use Rattle.record_log.specs.declared.Log.{Log}
-use Rattle.record_log.specs.{LogHolds, HasRecords, IsAt, IsOpenedLog, count_of, RecordsAreUnique}
+use Rattle.record_log.specs.declared.OpenedLog.{OpenedLog}
+use Rattle.record_log.specs.{HasRead, LogHolds, HasRecords, IsAt, IsOpenedLog, count_of, RecordsAreUnique}
 use Rattle.engine.specs.declared.error.EngineError.{EngineError}
 use Rattle.chain_model.specs.{IsId, place}
 use Rattle.configurations.specs.{IsConfig, config_text, ConfigTextIsUnique}
@@ -23,7 +23,7 @@ use Rattle.engine.specs.Layout.{batch_record, records_from}
 use Rattle.engine.specs.Files.{Facts}
 use Rattle.engine.specs.Files.{ArePlain, FilesRepresent, IsLog, HasId}
 use Rattle.engine.specs.Stores.{HasDurableId, opened_facts, plain_facts}
-use Rattle.engine.proofs.Held.{holds_in, sure_of_id, only_one}
+use Rattle.engine.proofs.Held.{sure_of_id, only_one}
 
 -- an unchanged file has the same records
 pub has_in : (old new : State) (file : ℕ) (records : List (List ℕ)) → new file ≡ old file →
@@ -75,39 +75,37 @@ same_batches law number (x ∷ a) (y ∷ b) each_a each_b same =
     cc
 
 -- the node that the only record of an opened log names
-pub found_id : (result : Result Identity EngineError) (s0 s1 s2 s3 : State) (log : Log) →
-    IsSame s0 s1 → IsSame s2 s3 → IsAt identity_file 0 log →
-    (o : IsOpenedLog s1 identity_file 0 s2 log) → IfOk result
+pub found_id : (result : Result Identity EngineError) (s0 s1 s2 : State) (opened : OpenedLog) →
+    IsSame s0 s1 → IsAt identity_file 0 opened.log →
+    (o : IsOpenedLog s1 identity_file 0 s2 opened) → IfOk result
     (λ it. IsId it.id × IsConfig it.config) →
     IfOk result (λ it. o.records ≡ identity_records it.id it.config) →
-    IfOk result (λ it. HasDurableId s0 s3 it.id it.config)
-found_id (Ok it) s0 s1 s2 s3 log same_before same_after at o is records =
+    IfOk result (λ it. HasDurableId s0 s2 it.id it.config)
+found_id (Ok it) s0 s1 s2 opened same_before at o is records =
     let stood : IsLog (seen (s0 identity_file)) o.records =
     subst (λ (slot : Slot). IsLog (seen slot) o.records) (same_before identity_file)
     o.stood in
-    let holds : LogHolds s3 log o.records =
-    holds_in s2 s3 log o.records (same_after log.file) o.holds in
-    let named : LogHolds s3 log (identity_records it.id it.config) =
-    subst (λ (r : List (List ℕ)). LogHolds s3 log r) records holds in
+    let named : LogHolds s2 opened.log (identity_records it.id it.config) =
+    subst (λ (r : List (List ℕ)). LogHolds s2 opened.log r) records o.holds in
     record {
       had = record {
         id = is.0;
         config = is.1;
         identity = subst (IsLog (seen (s0 identity_file))) records stood;
       };
-      sure = sure_of_id s3 log it.id it.config is.0 is.1 at.in_file at.from named;
+      sure = sure_of_id s2 opened.log it.id it.config is.0 is.1 at.in_file at.from named;
     }
-found_id (Err e) s0 s1 s2 s3 log same_before same_after at o is records = tt
+found_id (Err e) s0 s1 s2 opened same_before at o is records = tt
 
 -- the identity that the only record of a log names
-pub named_by : (disk : State) (log : Log) (records : List (List ℕ)) (one : List ℕ)
-    (result : Result Identity EngineError) → LogHolds disk log records → count_of log ≡ 1 →
+pub named_by : (opened : OpenedLog) (records : List (List ℕ)) (one : List ℕ)
+    (result : Result Identity EngineError) → HasRead opened records → count_of opened.log ≡ 1 →
     slice_get records 0 ≡ Some one →
     IfOk result (λ it. one ≡ identity_record it.id it.config) →
     IfOk result (λ it. records ≡ identity_records it.id it.config)
-named_by disk log records one (Ok it) h size got is =
-    only_one disk log records one h size got ∙ ap (λ (r : List ℕ). r ∷ []) is
-named_by disk log records one (Err e) h size got is = tt
+named_by opened records one (Ok it) read size got is =
+    only_one opened records one read size got ∙ ap (λ (r : List ℕ). r ∷ []) is
+named_by opened records one (Err e) read size got is = tt
 
 -- the facts of an opened store are those that files in this layout represent
 plain_so : (x y e f k : ℕ) (ids js : List ℕ) → x ≡ y → ids ≡ js → e ≡ 0 → f ≡ 0 → k ≡ 0 →
@@ -122,12 +120,13 @@ plain_is x ids facts id config plain =
     plain.not_raised plain.none_dropped
 
 -- the disk had the batches that were read from its log
-pub had_batches : (s0 s1 s2 : State) (log : Log) (identity : Identity) (list : List BatchContent) →
+pub had_batches : (s0 s1 s2 : State) (opened : OpenedLog) (identity : Identity)
+    (list : List BatchContent) →
     HasId (contents s0) identity.id identity.config → s1 batches_file ≡ s0 batches_file →
-    (o : IsOpenedLog s1 batches_file 0 s2 log) → o.records ≡ records_from 1 list →
+    (o : IsOpenedLog s1 batches_file 0 s2 opened) → o.records ≡ records_from 1 list →
     All IsBatch list → length list ≤ MAX_NUMBER →
     FilesRepresent (opened_facts identity) list (contents s0)
-had_batches s0 s1 s2 log identity list id same o read each few =
+had_batches s0 s1 s2 opened identity list id same o read each few =
     let stood : IsLog (seen (s0 batches_file)) o.records =
     subst (λ (slot : Slot). IsLog (seen slot) o.records) same o.stood in
     record {

@@ -9,9 +9,8 @@ use Rattle.kv_types.specs.declared.bounds.TheConstants.{MAX_NUMBER}
 use Rattle.kv_types.specs.{BatchContent, Entry, IsBatch, batch_bytes}
 use Rattle.memtable.specs.declared.Memtable.{Memtable}
 use Rattle.memtable.specs.{TableHolds}
-use Rattle.disk.specs.{State}
-use Rattle.record_log.specs.declared.Log.{Log}
-use Rattle.record_log.specs.{LogHolds, count_of, ends_from}
+use Rattle.record_log.specs.declared.OpenedLog.{OpenedLog}
+use Rattle.record_log.specs.{HasRead, count_of, ends_from}
 use Rattle.engine.specs.Layout.{batch_record, records_from}
 use Rattle.engine.specs.Stores.{AreReplayed, HasEntriesOf}
 use Rattle.engine.proofs.Entries.{Adds, none_have, one_more_has}
@@ -140,12 +139,12 @@ length-records number [] = refl
 length-records number (batch ∷ batches) = ap suc (length-records (suc number) batches)
 
 -- all of a log's records were replayed
-pub all_replayed : (disk : State) (log : Log) (records : List (List ℕ)) (i : ℕ)
-    (memtable : Memtable) → LogHolds disk log records → count_of log ≤ i →
-    ReplayedTo records i memtable → AreReplayed records memtable
-all_replayed disk log records i memtable h all was =
+pub all_replayed : (opened : OpenedLog) (records : List (List ℕ)) (i : ℕ) (memtable : Memtable) →
+    HasRead opened records → count_of opened.log ≤ i → ReplayedTo records i memtable →
+    AreReplayed records memtable
+all_replayed opened records i memtable read all was =
     let size : length records ≤ i =
-    omega (arith, all, ap length h.ends, length-ends 0 records) in
+    omega (arith, all, ap length read.ends, length-ends 0 records) in
     record {
       list = was.list;
       spelled = sym (take_all i records size) ∙ was.spelled;
@@ -154,14 +153,14 @@ all_replayed disk log records i memtable h all was =
     }
 
 -- and each has a number
-pub few_replayed : (disk : State) (log : Log) (records : List (List ℕ))
-    (list : List BatchContent) → LogHolds disk log records → records ≡ records_from 1 list →
-    count_of log ≤ MAX_NUMBER → length list ≤ MAX_NUMBER
-few_replayed disk log records list h spelled few =
+pub few_replayed : (opened : OpenedLog) (records : List (List ℕ)) (list : List BatchContent) →
+    HasRead opened records → records ≡ records_from 1 list →
+    count_of opened.log ≤ MAX_NUMBER → length list ≤ MAX_NUMBER
+few_replayed opened records list read spelled few =
     omega (
       arith,
       few,
-      ap length h.ends,
+      ap length read.ends,
       length-ends 0 records,
       ap length spelled,
       length-records 1 list,

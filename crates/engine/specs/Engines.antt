@@ -9,7 +9,7 @@ use Rattle.table_files.specs.{inner_disk}
 use Rattle.engine.specs.declared.engine.Engine.{Engine}
 use Rattle.engine.specs.Files.{Facts}
 use Rattle.engine.specs.Files.{FilesRepresent}
-use Rattle.engine.specs.Stores.{IsFullLog, IsUsable, StoreHolds, plain_facts, store_count}
+use Rattle.engine.specs.Stores.{IsFullLog, StoreHolds, plain_facts, store_count}
 
 -- ---- what an engine tells
 

@@ -1,10 +1,10 @@
 //! Reading a store back from the files of a lent disk.
 ghost use Rattle.std.specs.Prelude.{◌≡◌, ◌≢◌, ℕ, ◌+◌, ◌<◌, ◌≤◌, List, [], length, slice_get, All};
-ghost use Rattle.std.specs.Prelude.{Some, MatchOption, IfOk, IfErr, OnOk, MatchResult};
+ghost use Rattle.std.specs.Prelude.{Some, MatchOption, IfOk, IfErr, OnOk, MatchResult, ◌⊎◌};
 ghost use Rattle.kv_types.specs.declared.bounds.TheConstants.{MAX_NUMBER};
 ghost use Rattle.kv_types.specs.{BatchContent, IsBatch};
 ghost use Rattle.disk.specs.{AddsNoOutcome, contents, IsSame, IsStill, KeepsDisk};
-ghost use Rattle.record_log.specs.{EndsInRange, LogHolds, HasFailed, IsAt, count_of};
+ghost use Rattle.record_log.specs.{EndsInRange, HasFailed, HasRead, IsAt, LogHolds, count_of};
 ghost use Rattle.chain_model.specs.{IsId};
 ghost use Rattle.configurations.specs.{IsConfig};
 ghost use Rattle.engine.specs.Errors.{FailsDevice, IsEnd, IsOfMachine, MatchesBlank};
@@ -23,7 +23,7 @@ use disk::{Disk, DiskError};
 use kv_types::laws::spellings_differ;
 use kv_types::{Batch, Number};
 use memtable::Memtable;
-use record_log::{Log, records_are_unique};
+use record_log::{Log, OpenedLog, records_are_unique};
 use std::alloc::Global;
 
 /// The batch of a log's record, whose number follows from the record's place.
@@ -50,57 +50,47 @@ pub(crate) fn batch_at<D: Disk>(
     batch_of(alloc, index as u64 + 1, &record)
 }
 
-/// The entries of a log's batches.
-fn replayed<D: Disk>(alloc: Global, disk: &mut D, log: &Log) -> Result<Memtable, EngineError>
-    requires { HasFailed log.now → ⊥ }
-    ensures kept { KeepsDisk D.Disk disk.old disk.new (FailsDevice result) ⊥ IsSame }
-    ensures found { (records : List (List ℕ)) → D.is_honest disk.old →
-        LogHolds (D.state disk.old) log.now records →
+/// The entries of the batches that were read with a log.
+fn replayed(alloc: Global, opened: &OpenedLog) -> Result<Memtable, EngineError>
+    ensures found { (records : List (List ℕ)) → HasRead opened.now records →
         IfOk result (AreReplayed records) }
     ensures numbered { IfOk result (λ memtable.
-        IsNumberedTo memtable (count_of log.now) × (count_of log.now ≤ MAX_NUMBER)) }
-    ensures damaged { (list : List BatchContent) → D.is_honest disk.old →
-        LogHolds (D.state disk.old) log.now (records_from 1 list) → All IsBatch list →
-        length list ≤ MAX_NUMBER → IfErr result IsOfMachine }
-    ensures causes { IfErr result IsEnd }
-    ensures still { IsStill D.Disk disk.old disk.new }
+        IsNumberedTo memtable (count_of opened.now.log)
+        × (count_of opened.now.log ≤ MAX_NUMBER)) }
+    ensures damaged { (list : List BatchContent) → HasRead opened.now (records_from 1 list) →
+        All IsBatch list → length list ≤ MAX_NUMBER → IfErr result IsOfMachine }
+    ensures only { IfErr result (λ e. (e ≡ EngineError.Damaged) ⊎ (e ≡ EngineError.Memory)) }
 {
-    if Number::new(log.len() as u64).is_none() {
+    if Number::new(opened.log.len() as u64).is_none() {
         return Err(EngineError::Damaged);
     }
     let mut memtable = Memtable::new(alloc);
-    for index in 0..log.len() {
-        let batch = batch_at(alloc, disk, log, index)?;
+    for index in 0..opened.log.len() {
         let number = Number::new(index as u64 + 1).unwrap();
+        let batch = batch_of(alloc, number.get(), opened.record(index))?;
         memtable.add(number, &batch)?;
     }
     Ok(memtable)
 }
 
-/// The identity in a log's only record.
-fn identity_in<D: Disk>(alloc: Global, disk: &mut D, log: &Log) -> Result<Identity, EngineError>
-    requires { HasFailed log.now → ⊥ }
-    ensures kept { KeepsDisk D.Disk disk.old disk.new (FailsDevice result) ⊥ IsSame }
-    ensures found { (records : List (List ℕ)) → D.is_honest disk.old →
-        LogHolds (D.state disk.old) log.now records →
+/// The identity in the only record that was read with a log.
+fn identity_in(alloc: Global, opened: &OpenedLog) -> Result<Identity, EngineError>
+    ensures found { (records : List (List ℕ)) → HasRead opened.now records →
         IfOk result (λ it. records ≡ identity_records it.id it.config) }
     ensures is { IfOk result (λ it. IsId it.id × IsConfig it.config) }
-    ensures named { (x : ℕ) (ids : List ℕ) → D.is_honest disk.old → IsId x → IsConfig ids →
-        LogHolds (D.state disk.old) log.now (identity_records x ids) →
-        IfErr result IsOfMachine }
-    ensures blank { (records : List (List ℕ)) → D.is_honest disk.old →
-        LogHolds (D.state disk.old) log.now records →
+    ensures named { (x : ℕ) (ids : List ℕ) → IsId x → IsConfig ids →
+        HasRead opened.now (identity_records x ids) → IfErr result IsOfMachine }
+    ensures blank { (records : List (List ℕ)) → HasRead opened.now records →
         IfErr result (λ e. MatchesBlank e (records ≡ [])) }
-    ensures still { IsStill D.Disk disk.old disk.new }
+    ensures only { IfErr result (λ e. e ≢ EngineError.Disk) }
 {
-    if log.len() == 0 {
+    if opened.log.len() == 0 {
         return Err(EngineError::NotCreated);
     }
-    if log.len() > 1 {
+    if opened.log.len() > 1 {
         return Err(EngineError::Damaged);
     }
-    let record = log.record(alloc, disk, 0)?;
-    identity_of(alloc, &record)
+    identity_of(alloc, opened.record(0))
 }
 
 /// The length of a file in bytes, or 0 if it is absent.
@@ -135,8 +125,8 @@ fn identity_on<D: Disk>(alloc: Global, disk: &mut D) -> Result<Identity, EngineE
     if length_of(disk, IDENTITY_FILE)? == 0 {
         return Err(EngineError::NotCreated);
     }
-    let identity = Log::open(alloc, disk, IDENTITY_FILE, 0)?;
-    identity_in(alloc, disk, &identity)
+    let opened = Log::open(alloc, disk, IDENTITY_FILE, 0)?;
+    identity_in(alloc, &opened)
 }
 
 /// The node of the disk, and the store in its files, which are synced first.
@@ -161,7 +151,13 @@ pub(crate) fn recover<D: Disk>(
     spellings_differ();
     config_text_is_unique(); // law: no two configurations have one spelling
     let identity = identity_on(alloc, disk)?;
-    let log = Log::open(alloc, disk, BATCHES_FILE, 0)?;
-    let memtable = replayed(alloc, disk, &log)?;
-    Ok((identity, Store { log, memtable }))
+    let opened = Log::open(alloc, disk, BATCHES_FILE, 0)?;
+    let memtable = replayed(alloc, &opened)?;
+    Ok((
+        identity,
+        Store {
+            log: opened.log,
+            memtable,
+        },
+    ))
 }

@@ -6,9 +6,9 @@ use Rattle.disk.specs.{State}
 use Rattle.disk.specs.declared.DiskError.TheVariants as disk
 use Rattle.record_log.specs.declared.error.LogError.{LogError}
 use Rattle.record_log.specs.declared.error.LogError.TheVariants as log
-use Rattle.record_log.specs.declared.log.Log.{Log}
+use Rattle.record_log.specs.declared.log.OpenedLog.{OpenedLog}
 use Rattle.record_log.specs.Grammar.{Represents, ends_from, end_of}
-use Rattle.record_log.specs.Logs.{OpenRefusal, ReadRefusal, HasRecords, LogHolds}
+use Rattle.record_log.specs.Logs.{OpenRefusal, ReadRefusal, HasRead, HasRecords, LogHolds}
 use Rattle.record_log.specs.Logs.{IsExternal, IsRest}
 use Rattle.record_log.proofs.Fronts.{one_reading}
 use Rattle.record_log.proofs.First.{nothing_past}
@@ -40,28 +40,35 @@ declined log.Memory bytes start records why stood = inr refl
 declined log.TooLong bytes start records why stood = absurd why
 declined log.Failed bytes start records why stood = absurd why
 
+-- the bytes that were read represent what the scan found
+pub read_them : (opened : OpenedLog) (found : List (List ℕ)) →
+    Represents opened.bytes.items found → opened.log.ends.items ≡ ends_from 0 found →
+    HasRead opened found
+read_them opened found stands ends = record { stands = stands; ends = ends }
+
 -- a log that knows where the file's records end holds them
-pub holds_them : (old new : State) (file start : ℕ) (rest : List ℕ) (log : Log)
+pub holds_them : (old new : State) (file start : ℕ) (opened : OpenedLog)
     (found records : List (List ℕ)) →
-    IsRest old file start new rest → Represents rest found → log.file ≡ file → log.start ≡
-    start →
-    log.ends.items ≡ ends_from 0 found → log.end ≡ end_of 0 found →
-    HasRecords old file start records → LogHolds new log records
-holds_them old new file start rest log found records r stands file_is start_is ends_are end_is stood
-    =
+    IsRest old file start new opened.bytes.items → HasRead opened found →
+    opened.log.file ≡ file → opened.log.start ≡ start → opened.log.end ≡ end_of 0 found →
+    HasRecords old file start records →
+    LogHolds new opened.log records × HasRead opened records
+holds_them old new file start opened found records r read file_is start_is end_is stood =
     let whole : Represents (drop start r.whole) records =
     subst (λ (o : Option (List ℕ)). IsSomeAnd o (λ it. Represents (drop start it) records))
     r.was
     stood in
     let again : Represents (drop start r.whole) found =
-    subst (λ (b : List ℕ). Represents b found) r.is stands in
-    let same : found ≡ records = one_reading (drop start r.whole) found records again whole in
-    record {
-      bytes = r.whole;
-      sure = ap new file_is ∙ r.sure;
-      start = omega (arith, start_is, r.within);
-      fits = r.fits;
-      stands = subst (λ (s : ℕ). Represents (drop s r.whole) records) (sym start_is) whole;
-      ends = ends_are ∙ ap (ends_from 0) same;
-      end = end_is ∙ ap (end_of 0) same;
-    }
+    subst (λ (b : List ℕ). Represents b found) r.is read.stands in
+    let same : found ≡ records = one_reading (drop start r.whole) found records again whole in (
+      record {
+        bytes = r.whole;
+        sure = ap new file_is ∙ r.sure;
+        start = omega (arith, start_is, r.within);
+        fits = r.fits;
+        stands = subst (λ (s : ℕ). Represents (drop s r.whole) records) (sym start_is) whole;
+        ends = read.ends ∙ ap (ends_from 0) same;
+        end = end_is ∙ ap (end_of 0) same;
+      },
+      subst (HasRead opened) same read,
+    )

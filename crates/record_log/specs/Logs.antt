@@ -7,6 +7,7 @@ use Rattle.disk.specs.{State, seen, EndsOutOfRange}
 use Rattle.record_log.specs.declared.error.LogError.{LogError}
 use Rattle.record_log.specs.declared.error.LogError.TheVariants as log
 use Rattle.record_log.specs.declared.log.Log.{Log}
+use Rattle.record_log.specs.declared.log.OpenedLog.{OpenedLog}
 use Rattle.record_log.specs.declared.log.TheConstants.{MAX_RECORD}
 use Rattle.record_log.specs.Grammar.{Represents, ends_from, end_of}
 use Rattle.record_log.specs.Push.{IsDurableAs}
@@ -46,6 +47,11 @@ pub record LogHolds (disk : State) (log : Log) (records : List (List ℕ)) : Typ
   pub stands : Represents (drop log.start bytes) records
   pub ends : log.ends.items ≡ ends_from 0 records
   pub end : log.end ≡ end_of 0 records
+
+-- the bytes that were read with the log represent these records, and it knows where each ends
+pub record HasRead (opened : OpenedLog) (records : List (List ℕ)) : Type 0 where
+  pub stands : Represents opened.bytes.items records
+  pub ends : opened.log.ends.items ≡ ends_from 0 records
 
 -- the bytes that a read returns from this place on represent the records
 abbrev pub HasRecords : State → ℕ → ℕ → List (List ℕ) → Type 0
@@ -112,11 +118,13 @@ pub record IsAt (file start : ℕ) (log : Log) : Type 0 where
   pub from : start_of log ≡ start
   pub works : HasFailed log → ⊥
 
--- an open log of the file, which holds the records that the file represents
-pub record IsOpenedLog (old : State) (file start : ℕ) (new : State) (log : Log) : Type 0 where
+-- an open log of the file, which holds the records that the file represents and that were read
+pub record IsOpenedLog (old : State) (file start : ℕ) (new : State) (opened : OpenedLog)
+    : Type 0 where
   pub records : List (List ℕ)
   pub stood : HasRecords old file start records
-  pub holds : LogHolds new log records
+  pub holds : LogHolds new opened.log records
+  pub read : HasRead opened records
 
 -- why a file is not opened as a log: it is absent, or represents no records
 abbrev pub OpenRefusal : LogError → Option (List ℕ) → ℕ → Type 0
@@ -131,8 +139,8 @@ OpenRefusal log.TooLong bytes start = ⊥
 OpenRefusal log.Failed bytes start = ⊥
 
 -- the answers of opening, and the state where it answers a log
-abbrev pub OpenOutcome : State → ℕ → ℕ → Result Log LogError → State → Type 0
-OpenOutcome old file start (Ok log) new = IsOpenedLog old file start new log
+abbrev pub OpenOutcome : State → ℕ → ℕ → Result OpenedLog LogError → State → Type 0
+OpenOutcome old file start (Ok opened) new = IsOpenedLog old file start new opened
 OpenOutcome old file start (Err e) new = OpenRefusal e (seen (old file)) start
 
 -- The answers of an append, by the log alone; the number of records after it, and whether the log

@@ -10,4 +10,4 @@ mod scan;
 
 pub use error::LogError;
 pub use laws::{gates_are_in_files, record_bound_is, records_are_unique};
-pub use log::Log;
+pub use log::{Log, OpenedLog};

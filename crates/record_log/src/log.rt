@@ -10,7 +10,7 @@ ghost use Rattle.record_log.specs.Logs.{LogHolds, HasRecords, IsAt, IsPart, IsRe
 ghost use Rattle.record_log.specs.Logs.{OpenOutcome, Appended, IsExpected};
 ghost use Rattle.record_log.specs.Logs.{IsExternal, IsArgumentError};
 ghost use Rattle.record_log.specs.Logs.{IsOldOrNewFrom, EndsInRange, begun, file_of, start_of};
-ghost use Rattle.record_log.specs.Logs.{gate_of, count_of, HasFailed, HasNoRoom};
+ghost use Rattle.record_log.specs.Logs.{gate_of, count_of, HasFailed, HasNoRoom, HasRead};
 
 use crate::LogError;
 use crate::push::push;
@@ -87,6 +87,29 @@ fn synced_from<D: Disk>(
     bytes_at(alloc, disk, file, start, (length - start) as usize)
 }
 
+/// A log that was opened, and the bytes of its file from the log's first place on, as they were
+/// read. Its records are taken from them without the disk.
+#[derive(Drop)]
+pub struct OpenedLog {
+    pub log: Log,
+    pub bytes: Vec<u8>,
+}
+
+impl OpenedLog {
+    /// The record at an index, from 0.
+    pub fn record(&self, index: usize) -> &[u8]
+        requires { index < count_of self.now.log }
+        ensures { (records : List (List ℕ)) → HasRead self.now records →
+            slice_get records index ≡ Some result.now }
+    {
+        let (begin, len) = self.log.span(index);
+        let bytes = self.bytes.as_slice();
+        let (_before, rest) = bytes.split_at(begin.min(bytes.len()));
+        let (record, _behind) = rest.split_at(len.min(rest.len()));
+        record
+    }
+}
+
 impl Log {
     /// Creates a log without records from the first place of a file on: a closed gate. It needs two
     /// device calls: write and sync. An existing file loses its first byte, and with it the records
@@ -112,32 +135,36 @@ impl Log {
         })
     }
 
-    /// Opens the log of a file from a place on. The file is synced before it is read.
+    /// Opens the log of a file from a place on. The file is synced before it is read, and read
+    /// once.
     pub fn open<D: Disk>(
         alloc: Global,
         disk: &mut D,
         file: u64,
         start: u64,
-    ) -> Result<Log, LogError>
+    ) -> Result<OpenedLog, LogError>
         ensures kept { KeepsDisk D.Disk disk.old disk.new (DeviceFailed result) ⊥
             (AddsNoOutcome file) }
-        ensures at { IfOk result (IsAt file start) }
+        ensures at { IfOk result (λ opened. IsAt file start opened.log) }
         ensures told { D.is_honest disk.old →
             OpenOutcome (D.state disk.old) file start result (D.state disk.new) }
         ensures opened { (records : List (List ℕ)) → D.is_honest disk.old →
             HasRecords (D.state disk.old) file start records →
-            MatchResult result (λ log. LogHolds (D.state disk.new) log records) IsExternal }
+            MatchResult result
+            (λ opened. LogHolds (D.state disk.new) opened.log records × HasRead opened records)
+            IsExternal }
         ensures still { IsStill D.Disk disk.old disk.new }
     {
         let bytes = synced_from(alloc, disk, file, start)?;
         let (ends, end) = scan(alloc, &bytes)?;
-        Ok(Log {
+        let log = Log {
             file,
             start,
             ends,
             end,
             has_failed: false,
-        })
+        };
+        Ok(OpenedLog { log, bytes })
     }
 
     /// The number of records; for a failed log, the number before the failure.

@@ -30,7 +30,7 @@ const BOTH: &[u8] = &[
 
 // The calls of a log, without their contracts.
 fn open(alloc: Global, disk: &mut MemDisk, start: u64) -> Result<Log, LogError> {
-    Log::open(alloc, disk, FILE, start)
+    Ok(Log::open(alloc, disk, FILE, start)?.log)
 }
 
 fn append(alloc: Global, disk: &mut MemDisk, log: &mut Log, bytes: &[u8]) -> Result<(), LogError> {

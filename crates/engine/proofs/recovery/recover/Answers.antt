@@ -1,4 +1,4 @@
-use Rattle.std.proofs.Common.{ℕ, List, refl, sym, subst, ◌∙◌}
+use Rattle.std.proofs.Common.{ℕ, List, refl, sym, subst}
 use Rattle.std.proofs.lemmas.Result.{IfOk-from_err}
 use Rattle.disk.specs.{contents}
 use Rattle.engine.specs.Layout.{identity_file, batches_file, records_from}
@@ -7,15 +7,15 @@ use Rattle.record_log.specs.{LogHolds}
 use Rattle.engine.specs.Files.{IsBlank}
 use Rattle.engine.specs.Stores.{HasEntriesOf, IsDurableIdOf}
 use Rattle.engine.specs.Errors.{IsOfMachine, MatchesBlank}
-use Rattle.engine.proofs.Blank.{blank_by_log, blank_by_store, not_blank}
+use Rattle.engine.proofs.Blank.{blank_by_log, blank_by_bytes, not_blank}
 use Rattle.engine.proofs.Causes.{of_machine, refuses}
 use Rattle.engine.proofs.Opens.{had_batches, has_in, plain_is, same_identity, same_batches}
 use Rattle.engine.proofs.Records.{few_replayed}
-use Rattle.engine.proofs.Held.{batches_apart, files_apart, holds_in, id_in}
+use Rattle.engine.proofs.Held.{batches_apart, files_apart, id_in}
 use Rattle.disk.specs.StillLemmas.{still_more}
-use Rattle.engine.proofs.Keeping.{both_synced, done, log_failed}
+use Rattle.engine.proofs.Keeping.{both_synced, bytes_only, done, log_failed}
 use Rattle.engine.specs.KeepingLemmas.{answered, kept_as, kept_behind}
-use Rattle.engine.proofs.Keeping.{one_synced, passed_on, synced_and_read}
+use Rattle.engine.proofs.Keeping.{one_synced, passed_on}
 use Rattle.engine.specs.KeepingLemmas.{neither}
 use Rattle.engine.proofs.recovery.recover.Goals as goal
 
@@ -27,34 +27,32 @@ returns-in_err-identity-clause-kept g c =
     kept_as g.D.Disk failed one_synced c.identity_on.ensures.kept
 
 -- the log's file was synced, and the identity file before it
-pub returns-in_err-log-clause-kept : goal.returns-in_err-log-clause-kept
-returns-in_err-log-clause-kept g c =
-    let told = c.from_residual-in_err-log.ensures.1 in
-    let failed = log_failed c.open.result c.in_err-log.field-0.0 c.from_residual-in_err-log.result
-    c.in_err-log.was told in
+pub returns-in_err-opened-clause-kept : goal.returns-in_err-opened-clause-kept
+returns-in_err-opened-clause-kept g c =
+    let told = c.from_residual-in_err-opened.ensures.1 in
+    let failed = log_failed c.open.result c.in_err-opened.field-0.0 c.from_residual-in_err-opened.result
+    c.in_err-opened.was told in
     kept_behind g.D.Disk both_synced c.identity_on.ensures.kept
     (answered c.identity_on.result c.in_ok-identity.was)
     (kept_as g.D.Disk failed (λ a b added. added) c.open.ensures.kept)
 
 pub returns-in_err-memtable-clause-kept : goal.returns-in_err-memtable-clause-kept
 returns-in_err-memtable-clause-kept g c =
-    let told = c.from_residual-in_err-memtable.ensures.1 in
     let failed = passed_on c.replayed.result c.in_err-memtable.field-0.0
-    c.from_residual-in_err-memtable.result c.in_err-memtable.was told in
-    kept_behind g.D.Disk synced_and_read
-    (kept_behind g.D.Disk both_synced c.identity_on.ensures.kept
-    (answered c.identity_on.result c.in_ok-identity.was) c.open.ensures.kept)
-    (answered c.open.result c.in_ok-log.was)
-    (kept_as g.D.Disk failed (λ a b same. same) c.replayed.ensures.kept)
+    c.from_residual-in_err-memtable.result c.in_err-memtable.was
+    c.from_residual-in_err-memtable.ensures.1 in
+    kept_behind g.D.Disk both_synced c.identity_on.ensures.kept
+    (answered c.identity_on.result c.in_ok-identity.was)
+    (kept_as g.D.Disk (neither (answered c.open.result c.in_ok-opened.was)
+    (λ fails. bytes_only c.replayed.result c.replayed.ensures.only (failed.1 fails)))
+    (λ a b added. added) c.open.ensures.kept)
 
 pub returns-clause-kept : goal.returns-clause-kept
 returns-clause-kept g c =
-    kept_behind g.D.Disk synced_and_read
-    (kept_behind g.D.Disk both_synced c.identity_on.ensures.kept
-    (answered c.identity_on.result c.in_ok-identity.was) c.open.ensures.kept)
-    (answered c.open.result c.in_ok-log.was)
-    (kept_as g.D.Disk (neither (answered c.replayed.result c.in_ok-memtable.was) done)
-    (λ a b same. same) c.replayed.ensures.kept)
+    kept_behind g.D.Disk both_synced c.identity_on.ensures.kept
+    (answered c.identity_on.result c.in_ok-identity.was)
+    (kept_as g.D.Disk (neither (answered c.open.result c.in_ok-opened.was) done)
+    (λ a b added. added) c.open.ensures.kept)
 
 -- a node was on the disk, and its log and its batches were sought
 pub returns-in_err-identity-clause-opened : goal.returns-in_err-identity-clause-opened
@@ -62,17 +60,17 @@ returns-in_err-identity-clause-opened g c = λ facts list honest represents.
     refuses c.from_residual.result _ IsOfMachine c.from_residual.ensures.1
     (c.in_err-identity.ensures.opened facts.id facts.ids honest represents.id)
 
-pub returns-in_err-log-clause-opened : goal.returns-in_err-log-clause-opened
-returns-in_err-log-clause-opened g c = λ facts list honest represents.
+pub returns-in_err-opened-clause-opened : goal.returns-in_err-opened-clause-opened
+returns-in_err-opened-clause-opened g c = λ facts list honest represents.
     let s0 = g.D.Disk.state c.args.disk.now in
     let s1 = g.D.Disk.state c.identity_on.new.disk in
     let records = records_from 1 list in
     let there = (c.identity_on.ensures.kept.files honest).others batches_file batches_apart in
     let stood = has_in s0 s1 batches_file records there represents.batches in
-    let why = c.in_err-log.ensures.opened records (c.identity_on.ensures.kept.honest.1 honest)
+    let why = c.in_err-opened.ensures.opened records (c.identity_on.ensures.kept.honest.1 honest)
     stood in
-    refuses c.from_residual-in_err-log.result _ IsOfMachine
-    c.from_residual-in_err-log.ensures.1 (of_machine c.in_err-log.field-0.0 why)
+    refuses c.from_residual-in_err-opened.result _ IsOfMachine
+    c.from_residual-in_err-opened.ensures.1 (of_machine c.in_err-opened.field-0.0 why)
 
 pub returns-in_err-memtable-clause-opened : goal.returns-in_err-memtable-clause-opened
 returns-in_err-memtable-clause-opened g c = λ facts list honest represents.
@@ -83,21 +81,18 @@ returns-in_err-memtable-clause-opened g c = λ facts list honest represents.
     let records = records_from 1 list in
     let there = (c.identity_on.ensures.kept.files honest).others batches_file batches_apart in
     let stood = has_in s0 s1 batches_file records there had.batches in
-    let holds = c.in_ok-log.ensures.opened records honest1 stood in
+    let read = (c.in_ok-opened.ensures.opened records honest1 stood).1 in
     refuses c.from_residual-in_err-memtable.result _ IsOfMachine
     c.from_residual-in_err-memtable.ensures.1
-    (c.in_err-memtable.ensures.damaged list (c.open.ensures.kept.honest.1 honest1) holds had.each
-    had.few)
+    (c.in_err-memtable.ensures.damaged list read had.each had.few)
 
 -- the disk had one node and one list, and they are those that were read
 pub returns-clause-opened : goal.returns-clause-opened
 returns-clause-opened g c = λ facts list honest had.
     let honest1 = c.identity_on.ensures.kept.honest.1 honest in
-    let honest2 = c.open.ensures.kept.honest.1 honest1 in
     let s0 = g.D.Disk.state c.args.disk.now in
     let s1 = g.D.Disk.state c.identity_on.new.disk in
     let s2 = g.D.Disk.state c.open.new.disk in
-    let s3 = g.D.Disk.state c.replayed.new.disk in
     let records = records_from 1 list in
     let found = c.in_ok-identity.ensures.found honest in
     let it = c.in_ok-identity.identity in
@@ -106,21 +101,19 @@ returns-clause-opened g c = λ facts list honest had.
     facts.ids found.had had.id in
     let there = (c.identity_on.ensures.kept.files honest).others batches_file batches_apart in
     let stood = has_in s0 s1 batches_file records there had.batches in
-    let holds = c.in_ok-log.ensures.opened records honest1 stood in
-    let read = c.in_ok-memtable.ensures.found records honest2 holds in
-    let after = c.replayed.ensures.kept.files honest2 in
-    let log_kept = c.open.ensures.kept.files honest1 in
-    let same_file = after identity_file ∙ log_kept.others identity_file files_apart in
-    let sure = id_in s1 s3 it.id it.config same_file found.sure in
+    let holds = c.in_ok-opened.ensures.opened records honest1 stood in
+    let read = c.in_ok-memtable.ensures.found records holds.1 in
+    let same_file = (c.open.ensures.kept.files honest1).others identity_file files_apart in
+    let sure = id_in s1 s2 it.id it.config same_file found.sure in
     let memtable = c.in_ok-memtable.memtable in
     let is_list = same_batches c.spellings_differ.ensures 1 list read.list had.each read.each
     read.spelled in (
       plain_is it.id it.config facts same.0 same.1 had.plain,
       record {
-        id = subst (λ (y : ℕ). IsDurableIdOf s3 y facts.ids) same.0
-            (subst (λ (ys : List ℕ). IsDurableIdOf s3 it.id ys) same.1 sure);
-        at = c.in_ok-log.ensures.at;
-        log = holds_in s2 s3 c.in_ok-log.log records (after c.in_ok-log.log.file) holds;
+        id = subst (λ (y : ℕ). IsDurableIdOf s2 y facts.ids) same.0
+            (subst (λ (ys : List ℕ). IsDurableIdOf s2 it.id ys) same.1 sure);
+        at = c.in_ok-opened.ensures.at;
+        log = holds.0;
         works = c.in_ok-memtable.ensures.numbered.0.works;
         entries = subst (λ (l : List BatchContent). HasEntriesOf memtable l) (sym is_list)
             read.entries;
@@ -135,9 +128,9 @@ pub returns-in_err-identity-clause-found : goal.returns-in_err-identity-clause-f
 returns-in_err-identity-clause-found g c = λ honest.
     IfOk-from_err c.from_residual.result _ c.from_residual.ensures.0
 
-pub returns-in_err-log-clause-found : goal.returns-in_err-log-clause-found
-returns-in_err-log-clause-found g c = λ honest.
-    IfOk-from_err c.from_residual-in_err-log.result _ c.from_residual-in_err-log.ensures.0
+pub returns-in_err-opened-clause-found : goal.returns-in_err-opened-clause-found
+returns-in_err-opened-clause-found g c = λ honest.
+    IfOk-from_err c.from_residual-in_err-opened.result _ c.from_residual-in_err-opened.ensures.0
 
 pub returns-in_err-memtable-clause-found : goal.returns-in_err-memtable-clause-found
 returns-in_err-memtable-clause-found g c = λ honest.
@@ -146,30 +139,25 @@ returns-in_err-memtable-clause-found g c = λ honest.
 pub returns-clause-found : goal.returns-clause-found
 returns-clause-found g c = λ honest.
     let honest1 = c.identity_on.ensures.kept.honest.1 honest in
-    let honest2 = c.open.ensures.kept.honest.1 honest1 in
     let s1 = g.D.Disk.state c.identity_on.new.disk in
     let s2 = g.D.Disk.state c.open.new.disk in
-    let s3 = g.D.Disk.state c.replayed.new.disk in
-    let o = c.in_ok-log.ensures.told honest1 in
-    let read = c.in_ok-memtable.ensures.found o.records honest2 o.holds in
+    let opened = c.in_ok-opened.opened in
+    let o = c.in_ok-opened.ensures.told honest1 in
+    let read = c.in_ok-memtable.ensures.found o.records o.read in
     let it = c.in_ok-identity.identity in
     let found = c.in_ok-identity.ensures.found honest in
     let there = (c.identity_on.ensures.kept.files honest).others batches_file batches_apart in
-    let after = c.replayed.ensures.kept.files honest2 in
-    let log_kept = c.open.ensures.kept.files honest1 in
-    let same_file = after identity_file ∙ log_kept.others identity_file files_apart in
-    let log = c.in_ok-log.log in
-    let few = few_replayed s2 log o.records read.list o.holds read.spelled
+    let same_file = (c.open.ensures.kept.files honest1).others identity_file files_apart in
+    let few = few_replayed opened o.records read.list o.read read.spelled
     c.in_ok-memtable.ensures.numbered.1 in
     record {
       list = read.list;
-      had = had_batches (g.D.Disk.state c.args.disk.now) s1 s2 log it read.list found.had there o
+      had = had_batches (g.D.Disk.state c.args.disk.now) s1 s2 opened it read.list found.had there o
           read.spelled read.each few;
       holds = record {
-        id = id_in s1 s3 it.id it.config same_file found.sure;
-        at = c.in_ok-log.ensures.at;
-        log = subst (λ (r : List (List ℕ)). LogHolds s3 log r) read.spelled
-            (holds_in s2 s3 log o.records (after log.file) o.holds);
+        id = id_in s1 s2 it.id it.config same_file found.sure;
+        at = c.in_ok-opened.ensures.at;
+        log = subst (λ (r : List (List ℕ)). LogHolds s2 opened.log r) read.spelled o.holds;
         works = c.in_ok-memtable.ensures.numbered.0.works;
         entries = read.entries;
         each = read.each;
@@ -184,14 +172,14 @@ returns-in_err-identity-clause-blank g c = λ honest.
     refuses c.from_residual.result _ _ c.from_residual.ensures.1
     (c.in_err-identity.ensures.blank honest)
 
-pub returns-in_err-log-clause-blank : goal.returns-in_err-log-clause-blank
-returns-in_err-log-clause-blank g c = λ honest.
+pub returns-in_err-opened-clause-blank : goal.returns-in_err-opened-clause-blank
+returns-in_err-opened-clause-blank g c = λ honest.
     let s0 = g.D.Disk.state c.args.disk.now in
     let it = c.in_ok-identity.identity in
     let had = (c.in_ok-identity.ensures.found honest).had in
-    refuses c.from_residual-in_err-log.result _ (λ e. MatchesBlank e (IsBlank (contents s0)))
-    c.from_residual-in_err-log.ensures.1
-    (blank_by_log c.in_err-log.field-0.0 (not_blank (contents s0) it.id it.config had))
+    refuses c.from_residual-in_err-opened.result _ (λ e. MatchesBlank e (IsBlank (contents s0)))
+    c.from_residual-in_err-opened.ensures.1
+    (blank_by_log c.in_err-opened.field-0.0 (not_blank (contents s0) it.id it.config had))
 
 pub returns-in_err-memtable-clause-blank : goal.returns-in_err-memtable-clause-blank
 returns-in_err-memtable-clause-blank g c = λ honest.
@@ -200,29 +188,27 @@ returns-in_err-memtable-clause-blank g c = λ honest.
     let had = (c.in_ok-identity.ensures.found honest).had in
     refuses c.from_residual-in_err-memtable.result _ (λ e. MatchesBlank e (IsBlank (contents s0)))
     c.from_residual-in_err-memtable.ensures.1
-    (blank_by_store c.in_err-memtable.field-0.0 c.in_err-memtable.ensures.causes
+    (blank_by_bytes c.in_err-memtable.field-0.0 c.in_err-memtable.ensures.only
     (not_blank (contents s0) it.id it.config had))
 
 -- the log works, and its batches are numbered
 pub returns-clause-usable : goal.returns-clause-usable
 returns-clause-usable g c =
     let numbered = c.in_ok-memtable.ensures.numbered in
-    (record { at = c.in_ok-log.ensures.at; memtable = numbered.0 }, numbered.1)
+    (record { at = c.in_ok-opened.ensures.at; memtable = numbered.0 }, numbered.1)
 
 -- the parts leave nothing new
-pub returns-in_err-log-clause-still : goal.returns-in_err-log-clause-still
-returns-in_err-log-clause-still g c = λ honest.
+pub returns-in_err-opened-clause-still : goal.returns-in_err-opened-clause-still
+returns-in_err-opened-clause-still g c = λ honest.
     still_more (c.identity_on.ensures.still honest)
     (c.open.ensures.still (c.identity_on.ensures.kept.honest.1 honest))
 
 pub returns-in_err-memtable-clause-still : goal.returns-in_err-memtable-clause-still
 returns-in_err-memtable-clause-still g c = λ honest.
-    let honest' = c.identity_on.ensures.kept.honest.1 honest in
-    still_more (still_more (c.identity_on.ensures.still honest) (c.open.ensures.still honest'))
-    (c.replayed.ensures.still (c.open.ensures.kept.honest.1 honest'))
+    still_more (c.identity_on.ensures.still honest)
+    (c.open.ensures.still (c.identity_on.ensures.kept.honest.1 honest))
 
 pub returns-clause-still : goal.returns-clause-still
 returns-clause-still g c = λ honest.
-    let honest' = c.identity_on.ensures.kept.honest.1 honest in
-    still_more (still_more (c.identity_on.ensures.still honest) (c.open.ensures.still honest'))
-    (c.replayed.ensures.still (c.open.ensures.kept.honest.1 honest'))
+    still_more (c.identity_on.ensures.still honest)
+    (c.open.ensures.still (c.identity_on.ensures.kept.honest.1 honest))

@@ -1,4 +1,4 @@
-use Rattle.std.proofs.Common.{◌≡◌, ◌+◌, ◌<◌, length, ap, subst, sym, arith}
+use Rattle.std.proofs.Common.{◌+◌, ◌<◌, length, subst, sym, arith}
 use Rattle.std.specs.Prelude.{IsSomeAnd}
 use Rattle.disk.specs.{Slot, seen}
 use Rattle.record_log.proofs.Ways.{gate_at}

@@ -1,10 +1,10 @@
-use Rattle.std.proofs.Common.{◌≡◌, ◌<◌, ◌+◌, ◌∷◌, [], ◌++◌, refl, ◌∙◌, arith}
+use Rattle.std.proofs.Common.{◌<◌, ◌∷◌, [], ◌++◌, ◌∙◌, arith}
 use Rattle.kv_types.specs.declared.bounds.TheConstants.{MAX_NUMBER}
 use Rattle.record_log.specs.{IsAt}
 use Rattle.engine.specs.declared.store.Store.{Store}
 use Rattle.engine.specs.Layout.{batches_file, records_from}
 use Rattle.engine.specs.Errors.{IsOfMachine}
-use Rattle.engine.specs.Stores.{StoreHolds, store_count}
+use Rattle.engine.specs.Stores.{store_count}
 use Rattle.engine.proofs.Records.{not_true}
 use Rattle.engine.proofs.Causes.{met, refuses}
 use Rattle.engine.proofs.Entries.{one_more_has}

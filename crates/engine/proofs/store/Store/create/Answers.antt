@@ -1,4 +1,4 @@
-use Rattle.std.proofs.Common.{refl, ◌≡◌, [], ◌∷◌, ap, inr, length, subst, ◌∙◌, sym, arith}
+use Rattle.std.proofs.Common.{refl, ◌≡◌, [], ◌∷◌, inr, subst, ◌∙◌, sym, arith}
 use Rattle.std.proofs.lemmas.List.Elements.{All-nil}
 use Rattle.kv_types.specs.{IsBatch}
 use Rattle.disk.specs.{Slot, seen}

@@ -1,9 +1,11 @@
-use Rattle.std.proofs.Common.{ℕ, List, false, refl, sym, subst}
+use Rattle.std.proofs.Common.{ℕ, List, false, refl, subst}
 use Rattle.std.proofs.lemmas.Result.{err_from_is_err_and}
 use Rattle.disk.specs.{seen}
 use Rattle.record_log.specs.declared.log.Log.{Log}
-use Rattle.record_log.specs.Logs.{IsRest}
-use Rattle.record_log.proofs.Opens.{declines_bytes, declined, holds_them}
+use Rattle.record_log.specs.declared.log.OpenedLog.{OpenedLog}
+use Rattle.record_log.specs.Grammar.{Represents}
+use Rattle.record_log.specs.Logs.{HasRead}
+use Rattle.record_log.proofs.Opens.{declines_bytes, declined, holds_them, read_them}
 use Rattle.record_log.proofs.log.Log.open.Goals as goal
 
 -- what is no bytes from that place on is no log
@@ -36,8 +38,9 @@ returns-clause-opened g c = λ records honest stood.
       end = c.in_ok-ends.end;
       has_failed = false;
     } in
-    let rest =
-    subst (λ (b : List ℕ). IsRest old c.args.file c.args.start new b) (sym c.deref.ensures.value)
-    (c.in_ok-bytes.ensures.read honest) in
-    holds_them old new c.args.file c.args.start c.deref.result.now log found.0 records rest found.1
-    refl refl found.2 found.3 stood
+    let opened : OpenedLog = record { log = log; bytes = c.in_ok-bytes.bytes } in
+    let stands : Represents c.in_ok-bytes.bytes.items found.0 =
+    subst (λ (b : List ℕ). Represents b found.0) c.deref.ensures.value found.1 in
+    let read : HasRead opened found.0 = read_them opened found.0 stands found.2 in
+    holds_them old new c.args.file c.args.start opened found.0 records
+    (c.in_ok-bytes.ensures.read honest) read refl refl found.3 stood
