@@ -1,0 +1,9 @@
+pub mod Merges
+pub mod MergeViews
+pub mod Grows
+pub mod Flushes
+pub mod Plans
+pub mod Trims
+pub mod Reached
+pub mod Found
+pub mod Replays

@@ -1,0 +1,11 @@
+use Rattle.store_model.specs.TablesLemmas.{table_has_key}
+use Rattle.store_model.proofs.Found.{look_up_is_map}
+use Rattle.store_model.proofs.look_ups_are_maps.Goals as goal
+
+pub returns-clause-maps : goal.returns-clause-maps
+returns-clause-maps c = λ l store ok at high short key found finds.
+    look_up_is_map l store ok at key high short found finds
+
+pub returns-clause-one : goal.returns-clause-one
+returns-clause-one c = λ l store ok t in_t pos entry holds it.
+    table_has_key store.flushed store.tables ok.tables t in_t pos entry holds it

@@ -1,0 +1,15 @@
+pub mod Keys
+pub mod Tables
+pub mod Stores
+pub mod Steps
+pub mod Runs
+pub mod LookUps
+pub mod Logs
+pub mod Sweeps
+pub mod Claims
+pub mod KeysLemmas
+pub mod ViewsLemmas
+pub mod PlacesLemmas
+pub mod TablesLemmas
+pub mod StoresLemmas
+pub mod SweepsLemmas

@@ -1,0 +1,41 @@
+-- Places in a list, and what short lists contain.
+use Rattle.std.proofs.Common.{◌≡◌, inl, inr, ℕ, zero, suc, ◌+◌, ◌<◌, List, [], ◌∷◌, ◌++◌, length}
+use Rattle.std.proofs.Common.{drop, slice_get, Contains, Some, refl, ◌∙◌, ap, arith}
+use Rattle.std.proofs.lemmas.List.Elements.{Contains-push_cases, Contains-push}
+
+pub contains_none : {A : Type 0} (x : A) → Contains [] x → ⊥
+contains_none x c = let lt = c.1 in absurd (omega (arith, lt))
+
+pub contains_one : {A : Type 0} (y x : A) → Contains (y ∷ []) x → y ≡ x
+contains_one y x c = elim (Contains-push_cases [] y x c) [
+  | inl none ↦ absurd (contains_none x none)
+  | inr is ↦ is
+]
+
+pub contains_it : {A : Type 0} (x : A) → Contains (x ∷ []) x
+contains_it x = Contains-push [] x
+
+pub slice_get_longer : {A : Type 0} (xs ys : List A) (i : ℕ) (x : A) → slice_get xs i ≡ Some x
+    → slice_get (xs ++ ys) i ≡ Some x
+slice_get_longer [] ys i x is = absurd cc
+slice_get_longer (z ∷ xs) ys zero x is = is
+slice_get_longer (z ∷ xs) ys (suc i) x is = slice_get_longer xs ys i x is
+
+pub slice_get_shorter : {A : Type 0} (xs ys : List A) (i : ℕ) (x : A) → i < length xs
+    → slice_get (xs ++ ys) i ≡ Some x → slice_get xs i ≡ Some x
+slice_get_shorter [] ys i x lt is = absurd (omega (arith, lt))
+slice_get_shorter (z ∷ xs) ys zero x lt is = is
+slice_get_shorter (z ∷ xs) ys (suc i) x lt is = slice_get_shorter xs ys i x (omega (arith, lt)) is
+
+pub slice_get_last : {A : Type 0} (xs : List A) (x : A)
+    → slice_get (xs ++ x ∷ []) (length xs) ≡ Some x
+slice_get_last [] x = refl
+slice_get_last (z ∷ xs) x = slice_get_last xs x
+
+pub slice_get-drop : {A : Type 0} (n : ℕ) (xs : List A) (i : ℕ)
+    → slice_get (drop n xs) i ≡ slice_get xs (n + i)
+slice_get-drop zero xs i = let eq : i ≡ 0 + i = omega arith in ap (λ z. slice_get xs z) eq
+slice_get-drop (suc n) [] i = refl
+slice_get-drop (suc n) (x ∷ xs) i =
+    let eq : suc (n + i) ≡ suc n + i = omega arith in
+    slice_get-drop n xs i ∙ ap (λ z. slice_get (x ∷ xs) z) eq

@@ -1,0 +1,88 @@
+//! The store of a node as a pure model: which tables and logs represent a list of batches, and what
+//! its steps keep. The functions do nothing; their clauses are theorems.
+#![tactic(auto)]
+
+ghost use Rattle.store_model.specs.Claims.{AppendsKeep, EmptyRepresents, FlushesKeep};
+ghost use Rattle.store_model.specs.Claims.{FlushesLeaveMerges, RaisesKeep, TrimsAreRaises};
+ghost use Rattle.store_model.specs.Claims.{AlwaysRepresents, MergesKeep, MergesKeepViews, PlansFit};
+ghost use Rattle.store_model.specs.Claims.{LookUpsAreMaps, OneTableHasKey, StoreEntriesDiffer};
+ghost use Rattle.store_model.specs.Claims.{NextDecides, ReplaysAgree, StoreViewsAreMaps};
+
+/// The view of a store at each number from its floor on is the map of so many first batches, and no
+/// two of its entries share key and number.
+// law: of `StoreRepresents`
+pub fn store_views_are_maps()
+    ensures maps { StoreViewsAreMaps }
+    ensures differ { StoreEntriesDiffer }
+{}
+
+/// What a lookup finds first, in memory and then level by level, is what the map has. From level 1
+/// on, a table whose range holds a key has all entries of the key in its level.
+// law: of `StoreFinds`
+pub fn look_ups_are_maps()
+    ensures maps { LookUpsAreMaps }
+    ensures one { OneTableHasKey }
+{}
+
+/// A store without batches represents the empty list.
+// law: of `StoreRepresents`
+pub fn empty_represents()
+    ensures { EmptyRepresents }
+{}
+
+/// With a batch more in the newest log, a store represents the list with that batch.
+// law: of `StoreRepresents`
+pub fn appends_keep()
+    ensures { AppendsKeep }
+{
+    kv_types::laws::views_are_maps();
+}
+
+/// A flush keeps the list, and a merge under way can still end.
+// law: of `IsFlush`
+pub fn flushes_keep()
+    ensures list { FlushesKeep }
+    ensures merge { FlushesLeaveMerges }
+{}
+
+/// A rise of the floor keeps the list. Trimming the logs up to the floor, but for the newest, is
+/// such a rise.
+// law: of `IsRaise`
+pub fn raises_keep()
+    ensures list { RaisesKeep }
+    ensures logs { TrimsAreRaises }
+{}
+
+/// A merge can end in the store that it was planned for.
+// law: of `IsPlanned`
+pub fn plans_fit()
+    ensures { PlansFit }
+{}
+
+/// A merge keeps the list, whatever was flushed since it was planned. It keeps the views of tables
+/// alone, too.
+// law: of `IsMerged`
+pub fn merges_keep()
+    ensures list { MergesKeep }
+    ensures views { MergesKeepViews }
+{}
+
+/// After any appends, flushes, merges, rises of the floor and stops, a store represents its list.
+// law: of `IsReached`
+pub fn always_represents()
+    ensures { AlwaysRepresents }
+{
+    kv_types::laws::views_are_maps();
+}
+
+/// The replay of the logs has exactly the entries that belong in memory.
+// law: of `replayed_entries`
+pub fn replays_agree()
+    ensures { ReplaysAgree }
+{}
+
+/// In order, the entry right before another decides whether a merge drops it as overwritten.
+// law: of `IsOverwritten`
+pub fn next_decides()
+    ensures { NextDecides }
+{}
