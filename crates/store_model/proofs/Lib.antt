@@ -7,3 +7,6 @@ pub mod Trims
 pub mod Reached
 pub mod Found
 pub mod Replays
+pub mod ExampleEntries
+pub mod ExampleStores
+pub mod ExampleMerges

@@ -17,22 +17,22 @@ module _ (floor : ℕ) where
   trims_rise first [] rise = omega arith
   trims_rise first (next ∷ rest) rise =
       cond_both (nat_le next floor) (trimmed_to floor next rest) first (λ n. first ≤ n)
-      (λ yes. let le = rise.0 in omega (arith, le, trims_rise next rest rise.1))
-      (λ no. omega arith)
+      (λ low. let le = rise.0 in omega (arith, le, trims_rise next rest rise.1))
+      (λ high. omega arith)
 
   trims_floor : (first : ℕ) (later : List ℕ) → first ≤ floor → trimmed_to floor first later ≤ floor
   trims_floor first [] le = le
   trims_floor first (next ∷ rest) le =
       cond_both (nat_le next floor) (trimmed_to floor next rest) first (λ n. n ≤ floor)
-      (λ yes. trims_floor next rest (leb-true next floor yes)) (λ no. le)
+      (λ low. trims_floor next rest (leb-true next floor low)) (λ high. le)
 
   trims_newest : (first : ℕ) (later : List ℕ) → LogsRise first later
       → trimmed_to floor first later ≤ newest_log first later
   trims_newest first [] rise = omega arith
   trims_newest first (next ∷ rest) rise =
       cond_both (nat_le next floor) (trimmed_to floor next rest) first
-      (λ n. n ≤ newest_log next rest) (λ yes. trims_newest next rest rise.1)
-      (λ no. let le = rise.0 in omega (arith, le, newest_after next rest rise.1))
+      (λ n. n ≤ newest_log next rest) (λ low. trims_newest next rest rise.1)
+      (λ high. let le = rise.0 in omega (arith, le, newest_after next rest rise.1))
 
 pub trim_is_raise : (l : List BatchContent) (store : StoreState) (floor : ℕ) (later : List ℕ)
     → StoreRepresents l store → AreLogsOf store later → store.floor ≤ floor → floor ≤ length l

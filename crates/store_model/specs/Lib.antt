@@ -7,6 +7,7 @@ pub mod LookUps
 pub mod Logs
 pub mod Sweeps
 pub mod Claims
+pub mod Examples
 pub mod KeysLemmas
 pub mod ViewsLemmas
 pub mod PlacesLemmas

@@ -1,6 +1,6 @@
 -- Places in a list, and what short lists contain.
-use Rattle.std.proofs.Common.{◌≡◌, inl, inr, ℕ, zero, suc, ◌+◌, ◌<◌, List, [], ◌∷◌, ◌++◌, length}
-use Rattle.std.proofs.Common.{drop, slice_get, Contains, Some, refl, ◌∙◌, ap, arith}
+use Rattle.std.proofs.Common.{◌≡◌, ◌⊎◌, inl, inr, ℕ, zero, suc, ◌+◌, ◌<◌, List, [], ◌∷◌, ◌++◌}
+use Rattle.std.proofs.Common.{length, drop, slice_get, Contains, Some, refl, ◌∙◌, ap, subst, arith}
 use Rattle.std.proofs.lemmas.List.Elements.{Contains-push_cases, Contains-push}
 
 pub contains_none : {A : Type 0} (x : A) → Contains [] x → ⊥
@@ -39,3 +39,31 @@ slice_get-drop (suc n) [] i = refl
 slice_get-drop (suc n) (x ∷ xs) i =
     let eq : suc (n + i) ≡ suc n + i = omega arith in
     slice_get-drop n xs i ∙ ap (λ z. slice_get (x ∷ xs) z) eq
+
+-- ---- what holds of each element of a short list
+
+pub contains_cases : {A : Type 0} (y : A) (ys : List A) (x : A) → Contains (y ∷ ys) x
+    → (y ≡ x) ⊎ Contains ys x
+contains_cases y ys x (zero, lt, is) = inl is
+contains_cases y ys x (suc k, lt, is) = inr (k, omega (arith, lt), is)
+
+pub contains_head : {A : Type 0} (x : A) (xs : List A) → Contains (x ∷ xs) x
+contains_head x xs = (0, omega arith, refl)
+
+pub contains_next : {A : Type 0} (y : A) (ys : List A) (x : A) → Contains ys x
+    → Contains (y ∷ ys) x
+contains_next y ys x (k, lt, is) = (suc k, omega (arith, lt), is)
+
+module _ {A : Type 0} (P : A → Type 0) where
+  pub for_more : (y : A) (ys : List A) → P y → ((x : A) → Contains ys x → P x) → (x : A)
+      → Contains (y ∷ ys) x → P x
+  for_more y ys here rest x c = elim (contains_cases y ys x c) [
+    | inl is ↦ subst P is here
+    | inr later ↦ rest x later
+  ]
+
+  pub for_one : (y : A) → P y → (x : A) → Contains (y ∷ []) x → P x
+  for_one y here = for_more y [] here (λ x c. absurd (contains_none x c))
+
+  pub for_two : (y z : A) → P y → P z → (x : A) → Contains (y ∷ z ∷ []) x → P x
+  for_two y z here there = for_more y (z ∷ []) here (for_one z there)

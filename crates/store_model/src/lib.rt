@@ -7,6 +7,7 @@ ghost use Rattle.store_model.specs.Claims.{FlushesLeaveMerges, RaisesKeep, Trims
 ghost use Rattle.store_model.specs.Claims.{AlwaysRepresents, MergesKeep, MergesKeepViews, PlansFit};
 ghost use Rattle.store_model.specs.Claims.{LookUpsAreMaps, OneTableHasKey, StoreEntriesDiffer};
 ghost use Rattle.store_model.specs.Claims.{NextDecides, ReplaysAgree, StoreViewsAreMaps};
+ghost use Rattle.store_model.specs.Examples.{MergeExamples, StoreExamples, TrimExamples};
 
 /// The view of a store at each number from its floor on is the map of so many first batches, and no
 /// two of its entries share key and number.
@@ -86,3 +87,13 @@ pub fn replays_agree()
 pub fn next_decides()
     ensures { NextDecides }
 {}
+
+/// A small store, what reads find in it, its merge at two floors, and logs that are trimmed.
+// law: of all definitions
+pub fn examples()
+    ensures store { StoreExamples }
+    ensures merge { MergeExamples }
+    ensures trims { TrimExamples }
+{
+    kv_types::laws::views_are_maps();
+}

@@ -1,0 +1,118 @@
+-- A small store and its merge, worked out.
+use Rattle.std.specs.Prelude.{◌≡◌, List, [], ◌∷◌, Some, None, codes}
+use Rattle.kv_types.specs.declared.edit.Edit.TheVariants.{Put, Delete}
+use Rattle.kv_types.specs.{BatchContent}
+use Rattle.kv_types.specs.Examples.{entry_at}
+use Rattle.store_model.specs.Keys.{KeyRange}
+use Rattle.store_model.specs.Tables.{LevelTable}
+use Rattle.store_model.specs.Stores.{StoreRepresents, StoreState}
+use Rattle.store_model.specs.Steps.{IsMerged, IsPlanned, MergePlan}
+use Rattle.store_model.specs.LookUps.{StoreFinds}
+use Rattle.store_model.specs.Logs.{trimmed_to}
+
+-- three batches: a=1 b=1, then a=2 -b, then c=1
+abbrev pub three_batches : List BatchContent
+three_batches =
+    (Put (codes "a") (codes "1") ∷ Put (codes "b") (codes "1") ∷ [])
+    ∷ (Put (codes "a") (codes "2") ∷ Delete (codes "b") ∷ [])
+    ∷ (Put (codes "c") (codes "1") ∷ [])
+    ∷ []
+
+-- from a to b
+abbrev pub both_keys : KeyRange
+both_keys = record { least = codes "a"; greatest = codes "b" }
+
+-- the key a alone
+abbrev pub first_key : KeyRange
+first_key = record { least = codes "a"; greatest = codes "a" }
+
+-- in level 1, the entries of the first batch
+abbrev pub deep_table : LevelTable
+deep_table = record {
+  level = 1;
+  file = 4;
+  range = both_keys;
+  entries = entry_at (codes "a") 1 (Some (codes "1")) ∷ entry_at (codes "b") 1 (Some (codes "1"))
+      ∷ [];
+}
+
+-- in level 0, those of the second
+abbrev pub flushed_table : LevelTable
+flushed_table = record {
+  level = 0;
+  file = 6;
+  range = both_keys;
+  entries = entry_at (codes "a") 2 (Some (codes "2")) ∷ entry_at (codes "b") 2 None ∷ [];
+}
+
+-- two batches are in tables, and the third is in the newest of two logs
+abbrev pub two_tables : StoreState
+two_tables = record {
+  tables = flushed_table ∷ deep_table ∷ [];
+  flushed = 2;
+  floor = 1;
+  kept = 1;
+  current = 2;
+}
+
+-- the merge of both tables
+abbrev pub both_merge : MergePlan
+both_merge = record {
+  level = 0;
+  range = both_keys;
+  inputs = flushed_table ∷ deep_table ∷ [];
+  tables = flushed_table ∷ deep_table ∷ [];
+}
+
+-- what it leaves at floor 2: the older a is overwritten, and b is deleted
+abbrev pub merged_table : LevelTable
+merged_table = record {
+  level = 1;
+  file = 7;
+  range = first_key;
+  entries = entry_at (codes "a") 2 (Some (codes "2")) ∷ [];
+}
+
+-- what it leaves at floor 1: everything
+abbrev pub full_table : LevelTable
+full_table = record {
+  level = 1;
+  file = 7;
+  range = both_keys;
+  entries =
+      entry_at (codes "a") 2 (Some (codes "2"))
+      ∷ entry_at (codes "a") 1 (Some (codes "1"))
+      ∷ entry_at (codes "b") 2 None
+      ∷ entry_at (codes "b") 1 (Some (codes "1"))
+      ∷ [];
+}
+
+-- the store after the merge at floor 2
+abbrev pub merged_store : StoreState
+merged_store =
+    record { tables = merged_table ∷ []; flushed = 2; floor = 2; kept = 2; current = 2 }
+
+-- where a read finds the keys, at several numbers
+pub record StoreExamples : Type 0 where
+  pub represents : StoreRepresents three_batches two_tables
+  pub in_memory : StoreFinds 3 three_batches two_tables (codes "c") (Some (Some (codes "1")))
+  pub in_level_0 : StoreFinds 3 three_batches two_tables (codes "a") (Some (Some (codes "2")))
+  pub in_level_1 : StoreFinds 1 three_batches two_tables (codes "a") (Some (Some (codes "1")))
+  pub deletion : StoreFinds 2 three_batches two_tables (codes "b") (Some None)
+  pub before_deletion : StoreFinds 1 three_batches two_tables (codes "b") (Some (Some (codes "1")))
+  pub nowhere : StoreFinds 2 three_batches two_tables (codes "c") None
+
+-- what the merge leaves at two floors
+pub record MergeExamples : Type 0 where
+  pub planned : IsPlanned both_merge
+  pub at_floor_2 : IsMerged 2 both_merge (merged_table ∷ [])
+  pub at_floor_1 : IsMerged 1 both_merge (full_table ∷ [])
+  pub too_early : IsMerged 1 both_merge (merged_table ∷ []) → ⊥
+  pub too_late : IsMerged 2 both_merge (full_table ∷ []) → ⊥
+  pub represents : StoreRepresents three_batches merged_store
+  pub nowhere : StoreFinds 3 three_batches merged_store (codes "b") None
+
+-- of logs that begin after 0, 1 and 2 batches, what is trimmed at two floors
+pub record TrimExamples : Type 0 where
+  pub first : trimmed_to 1 0 (1 ∷ 2 ∷ []) ≡ 1
+  pub not_the_newest : trimmed_to 5 0 (1 ∷ 2 ∷ []) ≡ 2
