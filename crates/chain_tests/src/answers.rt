@@ -1,29 +1,17 @@
-// What fails a test, and replies as text.
+// What ends a test, and replies as text.
 use kv_types::Value;
 use node::Reply;
 use std::alloc::AllocError;
-use std::fmt::Debug;
-use std::test::Fail;
+use std::process::Abort;
 
-/// Fails a test where the answer of its one helper is no, or an error.
-pub fn is_so<E: Debug + Drop>(answer: Result<bool, E>) -> Result<(), Fail> {
-    if answer? {
-        return Ok(());
-    }
-    Err(Fail::new("it is not so"))
+/// Fails the test where a text is another one than is wanted.
+pub fn is_text(rt: &impl Abort, text: &str, want: &str) {
+    assert!(rt; text == want, "{text}");
 }
 
-/// Fails a test where a text is another one than is wanted.
-pub fn is_text(text: &str, want: &str) -> Result<(), Fail> {
-    if text == want {
-        return Ok(());
-    }
-    Err(Fail::new(text))
-}
-
-/// The failure of a row, by its place in the table, from 0.
-pub fn is_wrong(index: usize) -> Fail {
-    Fail::new(format_args!("row {index} does not hold"))
+/// Fails the test unless this holds at the index, as a row does, from 0.
+pub fn holds_at(rt: &impl Abort, index: usize, holds: bool) {
+    assert!(rt; holds, "row {index} does not hold");
 }
 
 fn shown(value: &Value) -> &str {

@@ -1,13 +1,13 @@
 // Runs as scripts of events, and the trace of each event.
 use crate::answers::{is_text, put_reply};
 use crate::items::{Change, batch_of, config_of, id_of, key_of, number};
-use configurations::{ConfigError, Configs, NodeId};
+use configurations::{Configs, NodeId};
 use disk::{Fault, Junk, JunkBytes};
-use kv_types::{KvError, Limits};
+use kv_types::Limits;
 use lab::{Event, EventKind, Line, NodeReport, Report, World, names_nodes, run};
 use node::Stop;
 use std::alloc::{AllocError, Global};
-use std::test::Fail;
+use std::process::Abort;
 
 /// An event. Reads are of the key `a`.
 #[derive(Clone, Copy)]
@@ -21,73 +21,69 @@ pub enum Step {
     Stop(u16, &'static [u8]),
 }
 
-fn kind_of(alloc: Global, step: &Step) -> Result<EventKind, KvError> {
-    let node = match step {
-        Step::Deliver(place) => return Ok(EventKind::Deliver { place: *place }),
-        Step::Submit(node, _)
-        | Step::Get(node, _)
-        | Step::Tick(node)
-        | Step::Start(node)
-        | Step::Stop(node, _) => id_of(*node)?,
-    };
-    Ok(match step {
-        Step::Submit(_, changes) => EventKind::Submit {
-            node,
-            batch: batch_of(alloc, *changes)?,
+/// Junk of these bytes.
+pub fn junk_of(rt: &impl Abort, alloc: Global, bytes: &[u8]) -> Junk {
+    Junk::Bytes(JunkBytes::new(bytes.to_vec(alloc).expect(rt, "memory")))
+}
+
+fn kind_of(rt: &impl Abort, alloc: Global, step: &Step) -> EventKind {
+    match *step {
+        Step::Deliver(place) => EventKind::Deliver { place },
+        Step::Submit(node, changes) => EventKind::Submit {
+            node: id_of(rt, node),
+            batch: batch_of(rt, alloc, changes),
         },
-        Step::Get(_, at) => EventKind::Get {
-            node,
-            key: key_of(alloc, "a")?,
+        Step::Get(node, at) => EventKind::Get {
+            node: id_of(rt, node),
+            key: key_of(rt, alloc, "a"),
             at: at.map(number),
         },
-        Step::Stop(_, junk) => EventKind::Stop {
-            node,
-            junk: Junk::Bytes(JunkBytes::new(junk.to_vec(alloc)?)),
+        Step::Stop(node, junk) => EventKind::Stop {
+            node: id_of(rt, node),
+            junk: junk_of(rt, alloc, junk),
         },
-        Step::Start(_) => EventKind::Start { node },
-        _ => EventKind::Tick { node },
-    })
+        Step::Start(node) => EventKind::Start {
+            node: id_of(rt, node),
+        },
+        Step::Tick(node) => EventKind::Tick {
+            node: id_of(rt, node),
+        },
+    }
 }
 
 /// The event of a step, with this fault.
-fn event(alloc: Global, step: &Step, fault: Fault) -> Result<Event, KvError> {
-    match kind_of(alloc, step) {
-        Ok(kind) => Ok(Event { kind, fault }),
-        Err(e) => Err(e),
-    }
+fn event(rt: &impl Abort, alloc: Global, step: &Step, fault: Fault) -> Event {
+    let kind = kind_of(rt, alloc, step);
+    Event { kind, fault }
 }
 
-fn events_of(alloc: Global, steps: &[Step]) -> Result<Vec<Event>, KvError> {
+fn events_of(rt: &impl Abort, alloc: Global, steps: &[Step]) -> Vec<Event> {
     let mut events = Vec::new(alloc);
     for step in steps {
-        events.push(event(alloc, step, Fault::None)?)?;
+        let event = event(rt, alloc, step, Fault::None);
+        events.push(event).expect(rt, "memory");
     }
-    Ok(events)
+    events
 }
 
 /// The list of one configuration, of these nodes.
-pub fn configs(alloc: Global, ids: &[u16]) -> Result<Configs, ConfigError> {
-    let config = config_of(alloc, ids)?;
-    Configs::new(vec![in alloc; config]?)
+pub fn configs(rt: &impl Abort, alloc: Global, ids: &[u16]) -> Configs {
+    let list = vec![in alloc; config_of(rt, alloc, ids)].expect(rt, "memory");
+    Configs::new(list).expect(rt, "configurations")
 }
 
 /// Whether the steps name a node that is not in the chain of these nodes.
-pub fn names_another(alloc: Global, ids: &[u16], steps: &[Step]) -> Result<bool, KvError> {
-    let events = events_of(alloc, steps)?;
-    match configs(alloc, ids) {
-        Ok(configs) => Ok(!names_nodes(&configs, &events)),
-        Err(_) => Err(KvError::Memory),
-    }
+pub fn names_another(rt: &impl Abort, alloc: Global, ids: &[u16], steps: &[Step]) -> bool {
+    let events = events_of(rt, alloc, steps);
+    !names_nodes(&configs(rt, alloc, ids), &events)
 }
 
 /// The report of these events in a chain of these nodes, whom they name.
-fn report_of(alloc: Global, ids: &[u16], steps: &[Step]) -> Result<Report, Fail> {
-    let configs = configs(alloc, ids)?;
-    let events = events_of(alloc, steps)?;
-    if !names_nodes(&configs, &events) {
-        return Err("no node".into());
-    }
-    Ok(run(alloc, &configs, &events, &Limits::default())?)
+fn report_of(rt: &impl Abort, alloc: Global, ids: &[u16], steps: &[Step]) -> Report {
+    let configs = configs(rt, alloc, ids);
+    let events = events_of(rt, alloc, steps);
+    assert!(rt; names_nodes(&configs, &events), "no node");
+    run(alloc, &configs, &events, &Limits::default()).expect(rt, "a run")
 }
 
 fn put_stop(text: &mut String, node: NodeId, cause: Option<Stop>) -> Result<(), AllocError> {
@@ -190,22 +186,21 @@ fn put_report(text: &mut String, report: &Report) -> Result<(), AllocError> {
     Ok(())
 }
 
-/// Fails where the report is another one.
-pub fn shows(alloc: Global, report: &Report, want: &str) -> Result<(), Fail> {
+/// Fails the test where the report is another one.
+pub fn shows(rt: &impl Abort, alloc: Global, report: &Report, want: &str) {
     let mut text = String::new(alloc);
-    put_report(&mut text, report)?;
-    is_text(&text, want)
+    put_report(&mut text, report).expect(rt, "memory");
+    is_text(rt, &text, want);
 }
 
 /// Events, and their report: the trace of each, and each node at the end.
 pub type Run = (&'static [Step], &'static str);
 
-/// Fails where a run in a chain of these nodes has another report.
-pub fn all_show(alloc: Global, ids: &[u16], runs: &[Run]) -> Result<(), Fail> {
+/// Fails the test where a run in a chain of these nodes has another report.
+pub fn all_show(rt: &impl Abort, alloc: Global, ids: &[u16], runs: &[Run]) {
     for (steps, want) in runs {
-        shows(alloc, &report_of(alloc, ids, *steps)?, *want)?;
+        shows(rt, alloc, &report_of(rt, alloc, ids, *steps), *want);
     }
-    Ok(())
 }
 
 /// The number of events of a world so far, that of the frames it sent, and the trace of the last
@@ -220,43 +215,38 @@ fn put_world(text: &mut String, world: &World) -> Result<(), AllocError> {
 }
 
 /// Takes a step, with this fault.
-pub fn take(alloc: Global, world: &mut World, step: &Step, fault: Fault) -> Result<(), Fail> {
-    let event = event(alloc, step, fault)?;
-    let taken = world.step(alloc, &event);
-    drop(event);
-    Ok(taken?)
+pub fn take(rt: &impl Abort, alloc: Global, world: &mut World, step: &Step, fault: Fault) {
+    let event = event(rt, alloc, step, fault);
+    world.step(alloc, &event).expect(rt, "a step");
 }
 
 /// The state of a world, and the one after each event.
-fn put_way(
-    alloc: Global,
-    text: &mut String,
-    world: &mut World,
-    steps: &[Step],
-) -> Result<(), Fail> {
-    put_world(text, world)?;
+fn put_way(rt: &impl Abort, alloc: Global, text: &mut String, world: &mut World, steps: &[Step]) {
+    put_world(text, world).expect(rt, "memory");
     for step in steps {
-        take(alloc, world, step, Fault::None)?;
-        put_world(text, world)?;
+        take(rt, alloc, world, step, Fault::None);
+        put_world(text, world).expect(rt, "memory");
     }
-    Ok(())
+}
+
+/// A new world of these nodes.
+pub fn world_of(rt: &impl Abort, alloc: Global, ids: &[u16]) -> World {
+    World::new(alloc, &configs(rt, alloc, ids), &Limits::default()).expect(rt, "a world")
 }
 
 /// The state of a world of these nodes after each event, and the number of events in its report.
-fn way_of(alloc: Global, ids: &[u16], steps: &[Step]) -> Result<String, Fail> {
-    let mut world = World::new(alloc, &configs(alloc, ids)?, &Limits::default())?;
+fn way_of(rt: &impl Abort, alloc: Global, ids: &[u16], steps: &[Step]) -> String {
+    let mut world = world_of(rt, alloc, ids);
     let mut text = String::new(alloc);
-    let gone = put_way(alloc, &mut text, &mut world, steps);
-    let report = world.finish(alloc);
-    gone?;
-    write!(text, "{}\n", report?.steps.len())?;
-    Ok(text)
+    put_way(rt, alloc, &mut text, &mut world, steps);
+    let report = world.finish(alloc).expect(rt, "a report");
+    write!(text, "{}\n", report.steps.len()).expect(rt, "memory");
+    text
 }
 
-/// Fails where a world of these nodes is another one on its way.
-pub fn all_go(alloc: Global, ids: &[u16], runs: &[Run]) -> Result<(), Fail> {
+/// Fails the test where a world of these nodes is another one on its way.
+pub fn all_go(rt: &impl Abort, alloc: Global, ids: &[u16], runs: &[Run]) {
     for (steps, want) in runs {
-        is_text(&way_of(alloc, ids, *steps)?, *want)?;
+        is_text(rt, &way_of(rt, alloc, ids, *steps), *want);
     }
-    Ok(())
 }

@@ -5,6 +5,7 @@ use disk::Fault;
 use kv_types::{Batch, Edit, Key, KvError, Limits, Value};
 use lab::{Event, EventKind, Report, World};
 use std::alloc::Global;
+use std::process::Abort;
 use std::test::Fail;
 
 fn name(alloc: Global) -> Result<Key, KvError> {
@@ -60,12 +61,13 @@ node 2 epoch 0 count 1 committed 0 floor 0 kept 0
 node 3 epoch 0 count 1 committed 1 floor 0 kept 0
 ";
 
-fn shows_it(alloc: Global) -> Result<(), Fail> {
-    let report = write_and_read(alloc, &configs(alloc, &[1, 2, 3])?)?;
-    shows(alloc, &report, SHOWN)
+fn shows_it(rt: &impl Abort, alloc: Global) -> Result<(), Fail> {
+    let report = write_and_read(alloc, &configs(rt, alloc, &[1, 2, 3]))?;
+    shows(rt, alloc, &report, SHOWN);
+    Ok(())
 }
 
 #[test]
 fn the_tail_reads_what_the_head_accepted(rt: HostRuntime) -> Result<(), Fail> {
-    shows_it(rt.alloc())
+    shows_it(&rt, rt.alloc())
 }

@@ -1,7 +1,8 @@
 // Keys, batches, ids and configurations, as the tests write them down.
-use configurations::{Config, ConfigError, NodeId};
-use kv_types::{Batch, Edit, Key, KvError, Number, Value};
+use configurations::{Config, NodeId};
+use kv_types::{Batch, Edit, Key, Number, Value};
 use std::alloc::Global;
+use std::process::Abort;
 
 /// A put of one key, or its deletion where there is no value.
 pub type Change = (&'static str, Option<&'static str>);
@@ -14,38 +15,43 @@ pub const NO_A: &[Change] = &[("a", None)];
 
 pub const THREE: &[Change] = &[("a", Some("1")), ("a", None), ("a", Some("2"))];
 
-pub fn key_of(alloc: Global, text: &str) -> Result<Key, KvError> {
-    Key::new(text.as_bytes().to_vec(alloc)?)
+fn bytes_of(rt: &impl Abort, alloc: Global, text: &str) -> Vec<u8> {
+    text.as_bytes().to_vec(alloc).expect(rt, "memory")
 }
 
-fn value_of(alloc: Global, text: &str) -> Result<Value, KvError> {
-    Value::new(text.as_bytes().to_vec(alloc)?)
+pub fn key_of(rt: &impl Abort, alloc: Global, text: &str) -> Key {
+    Key::new(bytes_of(rt, alloc, text)).expect(rt, "a key")
 }
 
-fn edit_of(alloc: Global, change: &Change) -> Result<Edit, KvError> {
-    let key = key_of(alloc, change.0)?;
+fn value_of(rt: &impl Abort, alloc: Global, text: &str) -> Value {
+    Value::new(bytes_of(rt, alloc, text)).expect(rt, "a value")
+}
+
+fn edit_of(rt: &impl Abort, alloc: Global, change: &Change) -> Edit {
+    let key = key_of(rt, alloc, change.0);
     match change.1 {
-        Some(text) => Ok(Edit::Put(key, value_of(alloc, text)?)),
-        None => Ok(Edit::Delete(key)),
+        Some(text) => Edit::Put(key, value_of(rt, alloc, text)),
+        None => Edit::Delete(key),
     }
 }
 
-pub fn batch_of(alloc: Global, changes: &[Change]) -> Result<Batch, KvError> {
+pub fn batch_of(rt: &impl Abort, alloc: Global, changes: &[Change]) -> Batch {
     let mut edits = Vec::new(alloc);
     for change in changes {
-        edits.push(edit_of(alloc, change)?)?;
+        edits.push(edit_of(rt, alloc, change)).expect(rt, "memory");
     }
-    Batch::new(edits)
+    Batch::new(edits).expect(rt, "a batch")
 }
 
 pub fn number(value: u64) -> Number {
     Number::new(value).unwrap_or(Number::ZERO)
 }
 
-pub fn id_of(id: u16) -> Result<NodeId, KvError> {
-    NodeId::new(id).ok_or(KvError::BadBytes)
+pub fn id_of(rt: &impl Abort, id: u16) -> NodeId {
+    NodeId::new(id).expect(rt, "an id")
 }
 
-pub fn config_of(alloc: Global, ids: &[u16]) -> Result<Config, ConfigError> {
-    Config::new(alloc, ids.to_vec(alloc)?)
+pub fn config_of(rt: &impl Abort, alloc: Global, ids: &[u16]) -> Config {
+    let ids = ids.to_vec(alloc).expect(rt, "memory");
+    Config::new(alloc, ids).expect(rt, "a configuration")
 }

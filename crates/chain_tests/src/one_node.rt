@@ -1,7 +1,6 @@
 // Runs of one node: the result of each event, by the rules of a step.
 use crate::courses::{Run, Step, all_show};
 use crate::items::{NO_A, ONE, THREE, TWO};
-use std::test::Fail;
 
 static RUNS: [Run; 3] = [
     // Batches are committed and read.
@@ -78,6 +77,6 @@ node 1 epoch 0 count 2 committed 2 floor 0 kept 0
 ];
 
 #[test]
-fn what_each_event_shows(rt: HostRuntime) -> Result<(), Fail> {
-    all_show(rt.alloc(), &[1], &RUNS)
+fn what_each_event_shows(rt: HostRuntime) {
+    all_show(&rt, rt.alloc(), &[1], &RUNS);
 }

@@ -1,14 +1,14 @@
 // A fault at every call of the disk in every event of a run: what is told and what is on the disks
 // afterwards agrees with one list of batches.
-use crate::courses::{Step, configs, take};
+use crate::courses::{Step, junk_of, take, world_of};
 use crate::items::{Change, ONE, TWO, key_of};
-use disk::{Fault, Junk, JunkBytes, MemDisk};
-use kv_types::{Batch, Edit, Key, Limits, Value, value_at};
+use disk::{Fault, Junk, MemDisk};
+use kv_types::{Batch, Edit, Key, Value, value_at};
 use lab::{Line, Lines, NodeReport, World};
 use node::{Reply, Stop};
 use record_log::Log;
-use std::alloc::{AllocError, Global};
-use std::test::Fail;
+use std::alloc::Global;
+use std::process::Abort;
 
 // The nodes of a chain, and events.
 static RUNS: [(&[u16], &[Step]); 5] = [
@@ -95,17 +95,13 @@ static ALL_WAYS: [Way; 6] = [
     Way::Bytes(b"\x01\x00"),
 ];
 
-fn junk_of(alloc: Global, bytes: &[u8]) -> Result<Junk, AllocError> {
-    Ok(Junk::Bytes(JunkBytes::new(bytes.to_vec(alloc)?)))
-}
-
-fn fault_at(alloc: Global, way: Way, call: u64) -> Result<Fault, AllocError> {
-    Ok(match way {
+fn fault_at(rt: &impl Abort, alloc: Global, way: Way, call: u64) -> Fault {
+    match way {
         Way::Fail => Fault::Fail(call),
         Way::Old => Fault::Stop(call, Junk::Old),
         Way::Bytes(b"") => Fault::Stop(call, Junk::New),
-        Way::Bytes(bytes) => Fault::Stop(call, junk_of(alloc, bytes)?),
-    })
+        Way::Bytes(bytes) => Fault::Stop(call, junk_of(rt, alloc, bytes)),
+    }
 }
 
 // What a node tells that stops at a fault.
@@ -124,9 +120,9 @@ struct Course {
 }
 
 impl Course {
-    fn step(&mut self, alloc: Global, step: Step, fault: Fault) -> Result<(), Fail> {
-        take(alloc, &mut self.world, &step, fault)?;
-        Ok(self.taken.push(step)?)
+    fn step(&mut self, rt: &impl Abort, alloc: Global, step: Step, fault: Fault) {
+        take(rt, alloc, &mut self.world, &step, fault);
+        self.taken.push(step).expect(rt, "memory");
     }
 
     // The node that stopped in the last event, and the cause that it told.
@@ -139,47 +135,46 @@ impl Course {
 
     // Takes a step with a fault at this call. A node that stops at the fault is started again at
     // once. Answers whether the fault struck.
-    fn strike(&mut self, alloc: Global, step: Step, way: Way, call: u64) -> Result<bool, Fail> {
-        self.step(alloc, step, fault_at(alloc, way, call)?)?;
+    fn strike(&mut self, rt: &impl Abort, alloc: Global, step: Step, way: Way, call: u64) -> bool {
+        self.step(rt, alloc, step, fault_at(rt, alloc, way, call));
         let Some((node, cause)) = self.stopped() else {
-            return Ok(false);
+            return false;
         };
-        if cause != cause_of(way) {
-            return Err("another cause".into());
-        }
-        self.step(alloc, Step::Start(node), Fault::None)?;
-        Ok(true)
+        assert!(rt; cause == cause_of(way), "another cause");
+        self.step(rt, alloc, Step::Start(node), Fault::None);
+        true
     }
 
     // Takes the steps, that of this index with a fault. Answers whether the fault struck.
     fn run(
         &mut self,
+        rt: &impl Abort,
         alloc: Global,
         steps: &[Step],
         index: usize,
-        way: Way,
-        call: u64,
-    ) -> Result<bool, Fail> {
+        (way, call): (Way, u64),
+    ) -> bool {
         let mut struck = false;
         for (at, step) in steps.iter().enumerate() {
             if at == index {
-                struck = self.strike(alloc, *step, way, call)?;
+                struck = self.strike(rt, alloc, *step, way, call);
             } else {
-                self.step(alloc, *step, Fault::None)?;
+                self.step(rt, alloc, *step, Fault::None);
             }
         }
-        Ok(struck)
+        struck
     }
 }
 
 // The records of the log of batches on a disk.
-fn records_on(alloc: Global, disk: &mut MemDisk) -> Result<Vec<Vec<u8>>, Fail> {
-    let log = Log::open(alloc, disk, 3, 0)?.log;
+fn records_on(rt: &impl Abort, alloc: Global, disk: &mut MemDisk) -> Vec<Vec<u8>> {
+    let opened = Log::open(alloc, disk, 3, 0).expect(rt, "a log");
     let mut records = Vec::new(alloc);
-    for index in 0..log.len() {
-        records.push(log.record(alloc, disk, index)?)?;
+    for index in 0..opened.log.len() {
+        let record = opened.record(index).to_vec(alloc).expect(rt, "memory");
+        records.push(record).expect(rt, "memory");
     }
-    Ok(records)
+    records
 }
 
 // How many first records two lists have in common.
@@ -193,24 +188,25 @@ fn common_len(list: &[Vec<u8>], other: &[Vec<u8>]) -> usize {
 }
 
 // What the disks of all nodes have in common.
-fn common_records(alloc: Global, nodes: &mut [NodeReport]) -> Result<Vec<Vec<u8>>, Fail> {
-    let (first, others) = nodes.split_first_mut().ok_or("no node")?;
-    let mut list = records_on(alloc, &mut first.disk)?;
+fn common_records(rt: &impl Abort, alloc: Global, nodes: &mut [NodeReport]) -> Vec<Vec<u8>> {
+    let (first, others) = nodes.split_first_mut().expect(rt, "a node");
+    let mut list = records_on(rt, alloc, &mut first.disk);
     for node in others {
-        let records = records_on(alloc, &mut node.disk)?;
+        let records = records_on(rt, alloc, &mut node.disk);
         list.truncate(common_len(&list, &records));
     }
-    Ok(list)
+    list
 }
 
 // The one list.
-fn one_list(alloc: Global, nodes: &mut [NodeReport]) -> Result<Vec<Batch>, Fail> {
+fn one_list(rt: &impl Abort, alloc: Global, nodes: &mut [NodeReport]) -> Vec<Batch> {
     let mut list = Vec::new(alloc);
-    for record in &common_records(alloc, nodes)? {
+    for record in &common_records(rt, alloc, nodes) {
         let spelled = record.get(8..).unwrap_or(&[]);
-        list.push(Batch::from_bytes(alloc, spelled)?)?;
+        let batch = Batch::from_bytes(alloc, spelled).expect(rt, "a batch");
+        list.push(batch).expect(rt, "memory");
     }
-    Ok(list)
+    list
 }
 
 fn is_value(found: Option<&Value>, want: Option<&[u8]>) -> bool {
@@ -311,94 +307,68 @@ impl History<'_> {
     }
 }
 
-impl History<'_> {
-    fn agrees(&self, steps: &[Lines]) -> Result<(), Fail> {
-        if !is_taken(self.list, self.taken) {
-            return Err("a batch that was not submitted".into());
-        }
-        if !self.has_replies(steps) {
-            return Err("a reply that speaks of another list".into());
-        }
-        Ok(())
-    }
-}
-
-// What a run told and left agrees with one list.
-fn check(alloc: Global, course: Course) -> Result<(), Fail> {
+// Fails the test unless what a run told and left agrees with one list.
+fn check(rt: &impl Abort, alloc: Global, course: Course) {
     let Course { world, taken } = course;
-    let mut report = world.finish(alloc)?;
-    let list = one_list(alloc, &mut report.nodes)?;
-    let key = key_of(alloc, "a")?;
+    let mut report = world.finish(alloc).expect(rt, "a report");
+    let list = one_list(rt, alloc, &mut report.nodes);
+    let key = key_of(rt, alloc, "a");
     let (list, taken) = (list.as_slice(), taken.as_slice());
+    assert!(rt; is_taken(list, taken), "a batch that was not submitted");
     let history = History { list, taken, key };
-    history.agrees(&report.steps)
+    assert!(rt;
+        history.has_replies(&report.steps),
+        "a reply that speaks of another list"
+    );
 }
 
-fn created(alloc: Global, nodes: &[u16]) -> Result<Course, Fail> {
-    let configs = configs(alloc, nodes)?;
-    let world = World::new(alloc, &configs, &Limits::default())?;
-    let taken = Vec::new(alloc);
-    Ok(Course { world, taken })
-}
-
-// One run with a fault, checked. Answers whether the fault struck.
+// One run with a fault at a call of the disk, checked. Answers whether the fault struck.
 fn strikes(
+    rt: &impl Abort,
     alloc: Global,
     (nodes, steps): (&[u16], &[Step]),
     index: usize,
-    way: Way,
-    call: u64,
-) -> Result<bool, Fail> {
-    let mut course = created(alloc, nodes)?;
-    match course.run(alloc, steps, index, way, call) {
-        Ok(struck) => {
-            check(alloc, course)?;
-            Ok(struck)
-        }
-        Err(e) => {
-            drop(course);
-            Err(e)
-        }
-    }
+    fault: (Way, u64),
+) -> bool {
+    let world = world_of(rt, alloc, nodes);
+    let taken = Vec::new(alloc);
+    let mut course = Course { world, taken };
+    let struck = course.run(rt, alloc, steps, index, fault);
+    check(rt, alloc, course);
+    struck
 }
 
 // Faults at the first call of the disk in this event, at the second, and so on, as long as they
 // strike. Answers how many runs that were.
-fn sweep(alloc: Global, run: (&[u16], &[Step]), index: usize, way: Way) -> Result<u64, Fail> {
+fn sweep(rt: &impl Abort, alloc: Global, run: (&[u16], &[Step]), index: usize, way: Way) -> u64 {
     for call in 1..100 {
-        if !strikes(alloc, run, index, way, call)? {
-            return Ok(call);
+        if !strikes(rt, alloc, run, index, (way, call)) {
+            return call;
         }
     }
-    Err("a step of 99 calls".into())
+    let none: Option<u64> = None;
+    none.expect(rt, "a step of less than 99 calls")
 }
 
 // Sweeps each event of a run but the stops, in all ways. Answers how many runs that were.
-fn sweep_events(alloc: Global, run: (&[u16], &[Step])) -> Result<u64, Fail> {
+fn sweep_events(rt: &impl Abort, alloc: Global, run: (&[u16], &[Step])) -> u64 {
     let mut runs: u64 = 0;
     for (index, step) in run.1.iter().enumerate() {
         if let Step::Stop(_, _) = step {
             continue;
         }
         for way in &ALL_WAYS {
-            runs = runs.saturating_add(sweep(alloc, run, index, *way)?);
+            runs = runs.saturating_add(sweep(rt, alloc, run, index, *way));
         }
     }
-    Ok(runs)
-}
-
-fn sweep_all(alloc: Global) -> Result<(), Fail> {
-    let mut runs: u64 = 0;
-    for run in &RUNS {
-        runs = runs.saturating_add(sweep_events(alloc, *run)?);
-    }
-    if runs == 684 {
-        return Ok(());
-    }
-    Err(Fail::new(format_args!("{runs} runs")))
+    runs
 }
 
 #[test]
-fn every_run_with_a_fault_has_one_list(rt: HostRuntime) -> Result<(), Fail> {
-    sweep_all(rt.alloc())
+fn every_run_with_a_fault_has_one_list(rt: HostRuntime) {
+    let mut runs: u64 = 0;
+    for run in &RUNS {
+        runs = runs.saturating_add(sweep_events(&rt, rt.alloc(), *run));
+    }
+    assert!(rt; runs == 672, "{runs} runs");
 }

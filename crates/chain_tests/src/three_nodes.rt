@@ -1,8 +1,6 @@
 // Runs of a chain of nodes 1, 2 and 3: the trace of each event, by the rules of a step.
-use crate::answers::is_so;
 use crate::courses::{Run, Step, all_go, all_show, names_another};
 use crate::items::{ONE, TWO};
-use std::test::Fail;
 
 const CHAIN: &[u16] = &[1, 2, 3];
 
@@ -157,8 +155,8 @@ node 3 epoch 0 count 0 committed 0 floor 0 kept 0
 ];
 
 #[test]
-fn what_each_event_shows(rt: HostRuntime) -> Result<(), Fail> {
-    all_show(rt.alloc(), CHAIN, &RUNS)
+fn what_each_event_shows(rt: HostRuntime) {
+    all_show(&rt, rt.alloc(), CHAIN, &RUNS);
 }
 
 // The node of the second step is unknown.
@@ -200,11 +198,11 @@ static WAYS: [Run; 3] = [
 ];
 
 #[test]
-fn a_world_that_goes_on_shows_what_it_did(rt: HostRuntime) -> Result<(), Fail> {
-    all_go(rt.alloc(), CHAIN, &WAYS)
+fn a_world_that_goes_on_shows_what_it_did(rt: HostRuntime) {
+    all_go(&rt, rt.alloc(), CHAIN, &WAYS);
 }
 
 #[test]
-fn an_unknown_node(rt: HostRuntime) -> Result<(), Fail> {
-    is_so(names_another(rt.alloc(), CHAIN, UNKNOWN))
+fn an_unknown_node(rt: HostRuntime) {
+    assert!(rt; names_another(&rt, rt.alloc(), CHAIN, UNKNOWN));
 }

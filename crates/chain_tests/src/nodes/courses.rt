@@ -1,15 +1,16 @@
 // The frames and replies of a node, from its creation on. Lines and outputs are those of a script:
 // the node is created at line 1, and a request has its line's number.
 use crate::answers::put_reply;
+use crate::courses::junk_of;
 use crate::items::{Change, NO_A, ONE, THREE, TWO, batch_of, id_of, key_of, number};
 use crate::nodes::running::Running;
 use configurations::{Epoch, NodeId};
-use disk::{Crash, Junk, JunkBytes};
-use kv_types::{KvError, Number};
+use disk::Crash;
+use kv_types::Number;
 use link_messages::Frame;
-use node::{Input, Output, Sent, Stop};
+use node::{Input, Output, Sent};
 use std::alloc::{AllocError, Global};
-use std::test::Fail;
+use std::process::Abort;
 
 /// An input or a stop of a node.
 enum Line {
@@ -25,33 +26,33 @@ enum Line {
 }
 
 /// The epoch and the sender of a frame.
-fn origin(epoch: u32, from: u16) -> Result<(Epoch, NodeId), KvError> {
-    Ok((Epoch::new(epoch).ok_or(KvError::BadBytes)?, id_of(from)?))
+fn origin(rt: &impl Abort, epoch: u32, from: u16) -> (Epoch, NodeId) {
+    (Epoch::new(epoch).expect(rt, "an epoch"), id_of(rt, from))
 }
 
 /// The input of a line, but of a restart.
-fn input_of(alloc: Global, request: Number, line: &Line) -> Result<Option<Input>, KvError> {
-    Ok(Some(match *line {
+fn input_of(rt: &impl Abort, alloc: Global, request: Number, line: &Line) -> Option<Input> {
+    Some(match *line {
         Line::Submit(changes) => Input::Submit {
             request,
-            batch: batch_of(alloc, changes)?,
+            batch: batch_of(rt, alloc, changes),
         },
         Line::Get(text, at) => Input::Get {
             request,
-            key: key_of(alloc, text)?,
+            key: key_of(rt, alloc, text),
             at: at.map(number),
         },
         Line::Forward(epoch, from, at) => {
-            let (epoch, from) = origin(epoch, from)?;
+            let (epoch, from) = origin(rt, epoch, from);
             Input::Forward {
                 epoch,
                 from,
                 number: number(at),
-                batch: batch_of(alloc, ONE)?,
+                batch: batch_of(rt, alloc, ONE),
             }
         }
         Line::Ack(epoch, from, committed, have) => {
-            let (epoch, from) = origin(epoch, from)?;
+            let (epoch, from) = origin(rt, epoch, from);
             Input::Ack {
                 epoch,
                 from,
@@ -60,8 +61,8 @@ fn input_of(alloc: Global, request: Number, line: &Line) -> Result<Option<Input>
             }
         }
         Line::Tick => Input::Tick,
-        Line::Restart(_) => return Ok(None),
-    }))
+        Line::Restart(_) => return None,
+    })
 }
 
 fn put_frame(text: &mut String, sent: &Sent) -> Result<(), AllocError> {
@@ -113,19 +114,18 @@ fn put_output(text: &mut String, output: &Output) -> Result<(), AllocError> {
     Ok(())
 }
 
-fn step(alloc: Global, running: &mut Running, input: Input) -> Result<String, Fail> {
-    let output = running.step(alloc, input)?;
+fn step(rt: &impl Abort, alloc: Global, running: &mut Running, input: Input) -> String {
+    let output = running.step(rt, alloc, input);
     let mut text = String::new(alloc);
-    put_output(&mut text, &output)?;
-    Ok(text)
+    put_output(&mut text, &output).expect(rt, "memory");
+    text
 }
 
 /// Stops and starts the machine and the node.
-fn restart(alloc: Global, running: &mut Running, junk: &[u8]) -> Result<(), Stop> {
-    let junk = JunkBytes::new(junk.to_vec(alloc)?);
+fn restart(rt: &impl Abort, alloc: Global, running: &mut Running, junk: &[u8]) {
     let mut disk = running.end(alloc);
-    disk.crash(Junk::Bytes(junk));
-    running.start(alloc, disk)
+    disk.crash(junk_of(rt, alloc, junk));
+    running.start(alloc, disk).expect(rt, "a start");
 }
 
 fn numbers_text(alloc: Global, request: u64, running: &Running) -> Result<String, AllocError> {
@@ -139,41 +139,41 @@ fn numbers_text(alloc: Global, request: u64, running: &Running) -> Result<String
 }
 
 /// Takes the line, and returns its output.
-fn take(alloc: Global, running: &mut Running, request: u64, line: &Line) -> Result<String, Fail> {
+fn take(
+    rt: &impl Abort,
+    alloc: Global,
+    running: &mut Running,
+    request: u64,
+    line: &Line,
+) -> String {
     if let Line::Restart(junk) = line {
-        restart(alloc, running, *junk)?;
-        return Ok(numbers_text(alloc, request, running)?);
+        restart(rt, alloc, running, *junk);
+        return numbers_text(alloc, request, running).expect(rt, "memory");
     }
-    match input_of(alloc, number(request), line)? {
-        Some(input) => step(alloc, running, input),
-        None => Ok(String::new(alloc)),
+    match input_of(rt, alloc, number(request), line) {
+        Some(input) => step(rt, alloc, running, input),
+        None => String::new(alloc),
     }
 }
 
 /// The lines of a script, by their numbers, and what is printed for each.
 type Lines = &'static [(u64, Line, &'static str)];
 
-fn take_all(alloc: Global, running: &mut Running, lines: Lines) -> Result<(), Fail> {
+fn take_all(rt: &impl Abort, alloc: Global, running: &mut Running, lines: Lines) {
     for (request, line, want) in lines {
-        let text = take(alloc, running, *request, line)?;
-        if text.as_str() != *want {
-            return Err(Fail::new(format_args!("line {request}: {text}")));
-        }
+        let text = take(rt, alloc, running, *request, line);
+        assert!(rt; text.as_str() == *want, "line {request}: {text}");
     }
-    Ok(())
 }
 
 /// A node and its configuration, and its lines.
 struct Course(u16, &'static [u16], Lines);
 
-fn take_courses(alloc: Global, courses: &[Course]) -> Result<(), Fail> {
+fn take_courses(rt: &impl Abort, alloc: Global, courses: &[Course]) {
     for course in courses {
-        let mut running = Running::created(alloc, course.0, course.1)?;
-        let taken = take_all(alloc, &mut running, course.2);
-        drop(running);
-        taken?;
+        let mut running = Running::created(rt, alloc, course.0, course.1);
+        take_all(rt, alloc, &mut running, course.2);
     }
-    Ok(())
 }
 
 const B1: &[(&'static str, Option<&'static str>)] = &[("b", Some("1"))];
@@ -236,8 +236,8 @@ static ALONE: [Course; 5] = [
 ];
 
 #[test]
-fn what_is_printed(rt: HostRuntime) -> Result<(), Fail> {
-    take_courses(rt.alloc(), &ALONE)
+fn what_is_printed(rt: HostRuntime) {
+    take_courses(&rt, rt.alloc(), &ALONE);
 }
 
 // Lines of one node of the configuration 1 2 3.
@@ -323,8 +323,8 @@ static THREE_AND_ONE: [Course; 4] = [
 ];
 
 #[test]
-fn nodes_of_three(rt: HostRuntime) -> Result<(), Fail> {
-    take_courses(rt.alloc(), &THREE_AND_ONE)
+fn nodes_of_three(rt: HostRuntime) {
+    take_courses(&rt, rt.alloc(), &THREE_AND_ONE);
 }
 
 // A head that accepted 18 batches, and what it sends again.
@@ -358,6 +358,6 @@ const EIGHTEEN: Lines = &[
 ];
 
 #[test]
-fn a_tick_sends_16(rt: HostRuntime) -> Result<(), Fail> {
-    take_courses(rt.alloc(), &[Course(1, &[1, 2], EIGHTEEN)])
+fn a_tick_sends_16(rt: HostRuntime) {
+    take_courses(&rt, rt.alloc(), &[Course(1, &[1, 2], EIGHTEEN)]);
 }

@@ -1,11 +1,11 @@
 // Disks on which a node starts, disks on which none does, and the bytes of both.
-use crate::answers::{is_so, is_wrong};
+use crate::answers::holds_at;
 use crate::items::{ONE, batch_of, number};
 use crate::nodes::running::Running;
-use disk::{Disk, DiskError, MemDisk};
+use disk::{Disk, MemDisk};
 use node::{Input, Stop};
 use std::alloc::Global;
-use std::test::Fail;
+use std::process::Abort;
 
 // Node 1: an open gate, the length, the id, one id, that id, and a closed gate.
 const NODE_1: &[u8] = &[1, 0, 0, 0, 5, 0, 1, 1, 0, 1, 0];
@@ -18,12 +18,11 @@ const BATCH_1: &[u8] = &[
     1, 0, 0, 0, 0x11, 0, 0, 0, 0, 0, 0, 0, 1, 0, 1, 1, 0, 1, 0x61, 0, 1, 0x31, 0,
 ];
 
-fn put(disk: &mut MemDisk, file: u64, bytes: Option<&[u8]>) -> Result<(), DiskError> {
+fn put(rt: &impl Abort, disk: &mut MemDisk, file: u64, bytes: Option<&[u8]>) {
     if let Some(bytes) = bytes {
-        disk.write_at(file, 0, bytes)?;
-        disk.sync(file)?;
+        disk.write_at(file, 0, bytes).expect(rt, "a write");
+        disk.sync(file).expect(rt, "a sync");
     }
-    Ok(())
 }
 
 // The bytes of the identity file and of the file of batches, the refusal of a start from them, and
@@ -36,45 +35,34 @@ struct Start(
 );
 
 impl Start {
-    fn disk(&self, alloc: Global) -> Result<MemDisk, DiskError> {
+    fn disk(&self, rt: &impl Abort, alloc: Global) -> MemDisk {
         let mut disk = MemDisk::new(alloc);
-        put(&mut disk, 1, self.0)?;
-        put(&mut disk, 3, self.1)?;
-        Ok(disk)
+        put(rt, &mut disk, 1, self.0);
+        put(rt, &mut disk, 3, self.1);
+        disk
     }
 
     // Whether the node starts with so many batches.
     fn has_count(&self, running: &Running) -> bool {
         match running.node() {
-            Some(node) => self.2.is_none() && node.count().get() == self.3,
+            Some(node) => node.count().get() == self.3,
             None => false,
         }
     }
 
-    // Whether the start ends so. Want of memory fails the test.
-    fn holds(&self, alloc: Global) -> Result<bool, Stop> {
-        let Ok(disk) = self.disk(alloc) else {
-            return Err(Stop::Memory);
-        };
+    // Whether the start ends so.
+    fn holds(&self, rt: &impl Abort, alloc: Global) -> bool {
         let mut running = Running::none();
-        let started = running.start(alloc, disk);
-        let has_count = self.has_count(&running);
-        drop(running);
-        match started {
-            Ok(()) => Ok(has_count),
-            Err(Stop::Memory) => Err(Stop::Memory),
-            Err(stop) => Ok(self.2 == Some(stop)),
-        }
+        let refused = running.start(alloc, self.disk(rt, alloc)).err();
+        assert!(rt; refused != Some(Stop::Memory), "memory");
+        refused == self.2 && (refused.is_some() || self.has_count(&running))
     }
 }
 
-fn all_hold(alloc: Global, rows: &[Start]) -> Result<(), Fail> {
+fn all_hold(rt: &impl Abort, alloc: Global, rows: &[Start]) {
     for (index, row) in rows.iter().enumerate() {
-        if !row.holds(alloc)? {
-            return Err(is_wrong(index));
-        }
+        holds_at(rt, index, row.holds(rt, alloc));
     }
-    Ok(())
 }
 
 const BLANK: Option<Stop> = Some(Stop::NotCreated);
@@ -123,8 +111,8 @@ static IDENTITIES: [Start; 15] = [
 ];
 
 #[test]
-fn identity_files(rt: HostRuntime) -> Result<(), Fail> {
-    all_hold(rt.alloc(), &IDENTITIES)
+fn identity_files(rt: HostRuntime) {
+    all_hold(&rt, rt.alloc(), &IDENTITIES);
 }
 
 // Batches 1 and 2, of a=1 and a=2.
@@ -184,51 +172,40 @@ static BATCHES: [Start; 11] = [
 ];
 
 #[test]
-fn files_of_batches(rt: HostRuntime) -> Result<(), Fail> {
-    all_hold(rt.alloc(), &BATCHES)
+fn files_of_batches(rt: HostRuntime) {
+    all_hold(&rt, rt.alloc(), &BATCHES);
 }
 
 // Whether these bytes stand in the file, which has so many, of at most 64.
-fn is_content(disk: &mut MemDisk, file: u64, want: &[u8]) -> Result<bool, DiskError> {
+fn is_content(rt: &impl Abort, disk: &mut MemDisk, file: u64, want: &[u8]) -> bool {
     let mut bytes = [0; 64];
-    let Some(into) = bytes.get_mut(..want.len()) else {
-        return Ok(false);
-    };
-    disk.read(file, 0, into)?;
-    Ok(*into == *want && disk.length(file)? == want.len() as u64)
+    let into = bytes.get_mut(..want.len()).expect(rt, "at most 64 bytes");
+    disk.read(file, 0, into).expect(rt, "a read");
+    *into == *want && disk.length(file) == Ok(want.len() as u64)
 }
 
 /// Whether these files stand on the disk.
-fn has_files(disk: &mut MemDisk, identity: &[u8], batches: &[u8]) -> Result<bool, DiskError> {
-    Ok(is_content(disk, 1, identity)? && is_content(disk, 3, batches)?)
+fn has_files(rt: &impl Abort, disk: &mut MemDisk, identity: &[u8], batches: &[u8]) -> bool {
+    is_content(rt, disk, 1, identity) && is_content(rt, disk, 3, batches)
 }
 
 /// The disk of node 1 with the batch a=1.
-fn disk_behind(alloc: Global, running: &mut Running) -> Result<MemDisk, Fail> {
-    let batch = batch_of(alloc, ONE)?;
+fn disk_behind(rt: &impl Abort, alloc: Global) -> MemDisk {
+    let mut running = Running::created(rt, alloc, 1, &[1]);
+    let batch = batch_of(rt, alloc, ONE);
     let request = number(1);
-    let _output = running.step(alloc, Input::Submit { request, batch })?;
-    Ok(running.end(alloc))
+    let _output = running.step(rt, alloc, Input::Submit { request, batch });
+    running.end(alloc)
 }
 
-/// Whether its files stand on that disk.
-fn stands_behind(alloc: Global) -> Result<(), Fail> {
-    let mut running = Running::created(alloc, 1, &[1])?;
-    let disk = disk_behind(alloc, &mut running);
-    drop(running);
-    is_so(has_files(&mut disk?, NODE_1, BATCH_1))
-}
-
-/// Whether the files of a new node 2 stand on its disk.
-fn stands_of_three(alloc: Global) -> Result<(), Fail> {
-    let mut running = Running::created(alloc, 2, &[1, 2, 3])?;
-    let mut disk = running.end(alloc);
-    drop(running);
-    is_so(has_files(&mut disk, NODE_2, &[0]))
+/// The disk of a new node 2 of three.
+fn disk_of_three(rt: &impl Abort, alloc: Global) -> MemDisk {
+    Running::created(rt, alloc, 2, &[1, 2, 3]).end(alloc)
 }
 
 #[test]
-fn what_stands_on_the_disk(rt: HostRuntime) -> Result<(), Fail> {
-    stands_behind(rt.alloc())?;
-    stands_of_three(rt.alloc())
+fn what_stands_on_the_disk(rt: HostRuntime) {
+    let alloc = rt.alloc();
+    assert!(rt; has_files(&rt, &mut disk_behind(&rt, alloc), NODE_1, BATCH_1));
+    assert!(rt; has_files(&rt, &mut disk_of_three(&rt, alloc), NODE_2, &[0]));
 }

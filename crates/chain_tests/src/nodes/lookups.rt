@@ -1,11 +1,9 @@
 // Each look-up once, and the causes of a stop by their numbers and texts.
-use crate::answers::{is_so, is_wrong};
+use crate::answers::holds_at;
 use crate::nodes::running::Running;
 use configurations::NodeId;
 use disk::MemDisk;
 use node::{Node, Stop};
-use std::alloc::Global;
-use std::test::Fail;
 
 fn is_new(node: &Node<MemDisk>) -> bool {
     (node.id().get(), node.epoch().get()) == (1, 0)
@@ -14,19 +12,16 @@ fn is_new(node: &Node<MemDisk>) -> bool {
         && node.tables() == [0; 7]
 }
 
-fn has_new_node(alloc: Global) -> Result<bool, Stop> {
-    let running = Running::created(alloc, 1, &[1])?;
-    let is_so = match running.node() {
+fn has_new_node(running: &Running) -> bool {
+    match running.node() {
         Some(node) => is_new(node),
         None => false,
-    };
-    drop(running);
-    Ok(is_so)
+    }
 }
 
 #[test]
-fn a_new_node(rt: HostRuntime) -> Result<(), Fail> {
-    is_so(has_new_node(rt.alloc()))
+fn a_new_node(rt: HostRuntime) {
+    assert!(rt; has_new_node(&Running::created(&rt, rt.alloc(), 1, &[1])));
 }
 
 fn are_ids(ids: &[NodeId]) -> bool {
@@ -36,19 +31,16 @@ fn are_ids(ids: &[NodeId]) -> bool {
     }
 }
 
-fn has_ids(alloc: Global) -> Result<bool, Stop> {
-    let running = Running::created(alloc, 2, &[3, 1, 2])?;
-    let is_so = match running.node() {
+fn has_ids(running: &Running) -> bool {
+    match running.node() {
         Some(node) => are_ids(node.config().ids()),
         None => false,
-    };
-    drop(running);
-    Ok(is_so)
+    }
 }
 
 #[test]
-fn its_configuration(rt: HostRuntime) -> Result<(), Fail> {
-    is_so(has_ids(rt.alloc()))
+fn its_configuration(rt: HostRuntime) {
+    assert!(rt; has_ids(&Running::created(&rt, rt.alloc(), 2, &[3, 1, 2])));
 }
 
 /// Causes of a stop, their numbers and their texts.
@@ -59,17 +51,10 @@ static CAUSES: [(Stop, u8, &str); 4] = [
     (Stop::NotCreated, 4, "not created"),
 ];
 
-fn are_causes(alloc: Global) -> Result<(), Fail> {
-    for (index, (stop, number, want)) in CAUSES.iter().enumerate() {
-        let text = format!(in alloc; "{stop}")?;
-        if *stop as u8 != *number || text.as_str() != *want {
-            return Err(is_wrong(index));
-        }
-    }
-    Ok(())
-}
-
 #[test]
-fn causes_of_a_stop(rt: HostRuntime) -> Result<(), Fail> {
-    are_causes(rt.alloc())
+fn causes_of_a_stop(rt: HostRuntime) {
+    for (index, (stop, number, want)) in CAUSES.iter().enumerate() {
+        let text = format!(in rt.alloc(); "{stop}").expect(&rt, "memory");
+        holds_at(&rt, index, *stop as u8 == *number && text.as_str() == *want);
+    }
 }

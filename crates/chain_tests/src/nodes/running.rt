@@ -1,11 +1,11 @@
 // A node as the tests run it.
-use crate::items::config_of;
-use configurations::NodeId;
+use crate::items::{config_of, id_of};
 use disk::MemDisk;
 use kv_types::Limits;
 use node::{Input, Node, Output, Stop};
 use std::alloc::Global;
 use std::marker::Model;
+use std::process::Abort;
 
 /// A node that no step has stopped, or none. Nothing else is known of it.
 #[derive(Drop)]
@@ -26,14 +26,12 @@ impl Model for Running {
 
 impl Running {
     /// The node with this configuration, created on an empty disk.
-    pub fn created(alloc: Global, id: u16, ids: &[u16]) -> Result<Running, Stop> {
-        let (Ok(config), Some(id)) = (config_of(alloc, ids), NodeId::new(id)) else {
-            return Err(Stop::Memory);
-        };
-        match Node::create(alloc, MemDisk::new(alloc), id, &config, &Limits::default()) {
-            Ok(node) => Ok(Running { node: Some(node) }),
-            Err((stop, _disk)) => Err(stop),
-        }
+    pub fn created(rt: &impl Abort, alloc: Global, id: u16, ids: &[u16]) -> Running {
+        let config = config_of(rt, alloc, ids);
+        let disk = MemDisk::new(alloc);
+        let created = Node::create(alloc, disk, id_of(rt, id), &config, &Limits::default());
+        let node = created.ok().expect(rt, "a node");
+        Running { node: Some(node) }
     }
 
     /// No node.
@@ -56,21 +54,12 @@ impl Running {
         self.node.as_ref()
     }
 
-    /// Takes a step. After a `Stop` there is no node.
-    pub fn step(&mut self, alloc: Global, input: Input) -> Result<Output, Stop> {
-        let Some(mut node) = self.node.take() else {
-            return Err(Stop::NotCreated);
-        };
-        match node.step(alloc, input) {
-            Ok(output) => {
-                drop(self.node.replace(node));
-                Ok(output)
-            }
-            Err(stop) => {
-                drop(node);
-                Err(stop)
-            }
-        }
+    /// Takes a step.
+    pub fn step(&mut self, rt: &impl Abort, alloc: Global, input: Input) -> Output {
+        let mut node = self.node.take().expect(rt, "a node");
+        let output = node.step(alloc, input).expect(rt, "a step");
+        drop(self.node.replace(node));
+        output
     }
 
     /// Ends the node, and leaves its disk.
