@@ -1,0 +1,308 @@
+#!/usr/bin/env python3
+"""one_history.py SCRIPT OUTPUT: checks a run by what the headline says, from its two texts alone.
+
+There is one list of batches, in the order of their submits and none twice, of which every
+acknowledgement and every read speaks; and every node that starts has what was acknowledged or read
+before. A batch has its place in the list from the frame that forwards it in its submit, or from its
+acknowledgement, or, where the head stopped in its submit, from the count at the head's next start.
+It is no second machine: what a node would have done exactly is not asked. Every line must be one
+that its statement can have, and numbers must be such as nodes can know by then.
+
+Prints the lines of the batches' submits in their order, or what is broken, with status 1.
+"""
+
+import collections
+import re
+import sys
+
+ANSWERED = ("get", "submit", "stop", "start")
+SENT = re.compile(r"#(\d+) (\d+)>(\d+) (forward|ack) (.+)")
+STARTED = re.compile(r"started epoch (\d+) count (\d+) committed (\d+)")
+READ = re.compile(r"(?:value (\S+)|none) at (\d+)")
+
+
+class Broken(Exception):
+    """What an output breaks."""
+
+
+def expect(holds, what):
+    """The output is broken where this does not hold."""
+    if not holds:
+        raise Broken(what)
+
+
+def value_at(batches, key):
+    """The word of the value that a key has after these batches of edits, or None."""
+    value = None
+    for edit in (edit for batch in batches for edit in batch):
+        if edit == "-" + key:
+            value = None
+        elif edit[:1] != "-" and edit.partition("=")[0] == key:
+            value = edit.partition("=")[2]
+    return value
+
+
+def outcome_of(kind, text):
+    """An output without what differs from run to run."""
+    if kind == "node":
+        return text.split(" ", 2)[2].split(" epoch")[0]
+    if kind == "sent":
+        return "sent " + text.split(" ")[2]
+    return text if kind in ("dropped", "refused", "invalid") else kind
+
+
+class History:
+    """The list of batches of which an output speaks, built and checked line by line."""
+
+    def __init__(self, script, output, seen):
+        """Checks a whole output, and counts its outcomes in what was seen."""
+        self.seen, self.words, self.faults, self.chain = seen, {}, {}, []
+        self.read_script(script)
+        self.head, self.tail = self.chain[0], self.chain[-1]
+        # The batches with the lines of their submits; the submit in which the head stopped last.
+        self.batches, self.batch_lines, self.unsure = [], [], None
+        # Of each node how many batches it can have at most, and has on its disk at least.
+        self.most, self.least = dict.fromkeys(self.chain, 0), dict.fromkeys(self.chain, 0)
+        # Of each node how many batches were reported to it as committed, and its last own number.
+        self.reported, self.shown = dict.fromkeys(self.chain, 0), dict.fromkeys(self.chain, 0)
+        self.up, self.stopped = set(self.chain), set()
+        self.answered, self.forwarded, self.waiting = set(), set(), {}
+        # The greatest number acknowledged or read, the last acknowledged, the last place and line.
+        self.known, self.acked, self.places, self.now = 0, 0, 0, 0
+        self.reads, self.starts = [], []
+        for line in output.split("\n")[:-1]:
+            try:
+                number, _, text = line.partition(": ")
+                self.add(int(number), text)
+            except (ValueError, IndexError, KeyError):
+                raise Broken(f"{line}: a line of no form") from None
+            except Broken as what:
+                raise Broken(f"{line}: {what}") from None
+        self.finish()
+
+    def read_script(self, script):
+        """The words of each statement by its line, the chain, and which statements bear a fault."""
+        for at, line in enumerate(script.split("\n"), 1):
+            words = line.split(" ")
+            first = next((i for i, word in enumerate(words) if word[:1] == "!"), len(words))
+            if words[0] == "config":
+                self.chain = words[1:]
+            elif line and line[0] != "#":
+                self.words[at] = words[:first]
+                self.faults[at] = "".join(words[first : first + 1])
+
+    def add(self, line, text):
+        """One line of the output. Only an acknowledgement has the number of an earlier line."""
+        expect(line in self.words, "a line of no statement")
+        expect(text.startswith("committed") or line >= self.now, "lines out of order")
+        self.now, words = max(line, self.now), self.words[line]
+        kind = "sent" if text[0] == "#" else text.split(" ")[0]
+        expect(kind in WORDS, "a line of no form")
+        expect(words[0] in WORDS[kind], f"'{kind}' for a statement that can't have it")
+        if words[0] in ANSWERED and kind != "sent":
+            expect(line not in self.answered, "a second answer")
+            expect(kind == "committed" or line not in self.forwarded, "a second answer")
+            self.answered.add(line)
+        self.seen[f"{words[0]}: {outcome_of(kind, text)}"] += 1
+        getattr(self, kind)(line, words, text)
+
+    def sent(self, line, words, text):
+        """A frame goes to a neighbour that runs, of a batch that the sender can have."""
+        form = SENT.fullmatch(text)
+        expect(form, "a line of no form")
+        place, sender, addressee, kind, numbers = form.groups()
+        self.places += 1
+        expect(int(place) == self.places, "a place that is not the next one")
+        expect(sender in self.up, "a frame of a node that does not run")
+        expect(words[0] in ("flow", "deliver") or words[1] == sender, "a frame of another node")
+        ends = (sender, addressee) if kind == "forward" else (addressee, sender)
+        expect(ends in zip(self.chain, self.chain[1:]), "a frame to no neighbour")
+        epoch, *numbers = map(int, numbers.split(" "))
+        expect(epoch == 0, "another epoch")
+        if kind == "forward":
+            self.forward(line, words, sender, addressee, *numbers)
+        else:
+            self.ack(sender, addressee, *numbers)
+
+    def forward(self, line, words, sender, addressee, number):
+        """A batch is sent on: in its submit with its new number, else one that the sender has."""
+        if words[0] == "submit":
+            self.forwarded.add(line)
+            self.append(line, number)
+            self.waiting[line] = number
+        expect(1 <= number <= self.most[sender], "a batch that its sender can't have")
+        self.least[sender] = max(self.least[sender], number)
+        self.most[addressee] = max(self.most[addressee], number)
+
+    def ack(self, sender, addressee, committed, have):
+        """A node reports what it has, and what it knows as committed."""
+        expect(committed <= have <= self.most[sender], "a node reports more than it can have")
+        expect(committed <= self.committed_at(sender), "a node reports more than it can know")
+        self.least[sender] = max(self.least[sender], have)
+        self.reported[addressee] = max(self.reported[addressee], committed)
+
+    def committed_at(self, node):
+        """So many batches at most can this node know as committed."""
+        return self.most[node] if node == self.tail else self.reported[node]
+
+    def append(self, line, number):
+        """The submit of this line is the batch of this number: the next one, and no other twice."""
+        expect(line not in self.batch_lines, "a batch stands twice")
+        expect(number == len(self.batches) + 1, "a batch that is not the next one")
+        expect(self.unsure is None, "a batch before the head started again")
+        self.batches.append(self.words[line][2:])
+        self.batch_lines.append(line)
+        self.most[self.head] = number
+
+    def committed(self, line, words, text):
+        """An acknowledgement is of the batch in its place, once, and when the head can know."""
+        number = int(text.split(" ")[1])
+        expect(words[1] == self.head in self.up, "an acknowledgement of another node")
+        if len(self.chain) == 1:
+            self.append(line, number)
+            self.waiting[line] = number
+        expect(self.waiting.pop(line, None) == number, "an acknowledgement of another batch")
+        expect(number > self.acked, "acknowledgements out of order")
+        expect(number <= self.committed_at(self.head), "acknowledged before it is committed")
+        self.acked, self.known = number, max(self.known, number)
+
+    def value(self, line, words, text):
+        """A read shows the map of so many first batches, and these are on every node."""
+        form, node = READ.fullmatch(text), words[1]
+        expect(form, "a line of no form")
+        value, at = form[1], int(form[2])
+        expect(node in self.up, "an answer of a node that does not run")
+        expect(at <= self.committed_at(node), "a read of what is not committed")
+        if len(words) > 3:
+            expect(at == int(words[3]), "a read at another number than the one asked")
+        else:
+            expect(node != self.tail or at >= self.known, "an old read at the tail")
+            expect(at >= self.shown[node], "a node's reads go back")
+            self.shown[node] = at
+        expect(value_at(self.batches[:at], words[2]) == value, "not the value at this number")
+        self.note_read(node, at, value)
+        self.known = max(self.known, at)
+        self.reads.append((line, words[2], at, value))
+
+    none = value
+
+    def note_read(self, node, at, value):
+        """Counts reads at numbers below one that was acknowledged or read."""
+        kind = "none" if value is None else "value"
+        if at < self.known:
+            self.seen[f"read of a {kind} at an old number"] += 1
+            self.seen[f"read of a {kind} at an old number after a stop"] += node in self.stopped
+
+    def refused(self, line, words, text):
+        """A refusal has its cause."""
+        why = text.split(" ", 1)[1]
+        if words[1] not in self.up:
+            expect(why == "1 NotRunning", "a node that does not run answers")
+        elif words[0] == "submit":
+            expect(why == "2 NotHead" and words[1] != self.head, "refused without cause")
+        else:
+            expect(why == "4 NotCommitted" and len(words) > 3, "refused without cause")
+            expect(words[1] != self.tail or int(words[3]) > self.known, "refused without cause")
+
+    def invalid(self, line, words, text):
+        """A submit has no edits, or something is long."""
+        is_empty = words[0] == "submit" and len(words) == 2
+        expect((text == "invalid 3 NoEdits") == is_empty, "invalid without cause")
+        expect(is_empty or len(" ".join(words)) > 1024, "invalid without cause")
+
+    def dropped(self, line, words, text):
+        """A drop has its cause, as far as the statement says which node it was for."""
+        if words[0] in ("tick", "stop", "start"):
+            is_up = words[1] in self.up
+            why = "Running" if is_up else "NotRunning"
+            expect(is_up == (words[0] == "start"), "dropped without cause")
+            expect(text == f"dropped {why}", "dropped for another reason")
+        else:
+            expect(text.split(" ")[1] in ("NotRunning", "OtherNumber"), "dropped without cause")
+
+    def nothing(self, line, words, text):
+        """No frame has the place."""
+        expect(int(words[1]) > self.places, "there is a frame in this place")
+
+    def busy(self, line, words, text):
+        """A flow has an end."""
+        expect(self.places > 10_000, "not so many frames")
+
+    def node(self, line, words, text):
+        """A node stops as its statement or fault says, or starts."""
+        node, what = text.split(" ", 2)[1:]
+        expect(node in self.most, "no such node")
+        expect(words[0] == "deliver" or words[1] == node, "another node")
+        self.shown[node] = 0
+        if started := STARTED.fullmatch(what):
+            expect(words[0] == "start" and node not in self.up, "started without cause")
+            self.start(node, *map(int, started.groups()))
+            return
+        fault = self.faults[line]
+        expect(what == "stopped" + ": disk" * (fault == "!fail"), "a stop of another cause")
+        expect(fault or words[0] == "stop", "a stop without cause")
+        expect(node in self.up or words[0] == "start", "a stop of a node that does not run")
+        self.up.discard(node)
+        self.stopped.add(node)
+        if node == self.head:
+            self.waiting = {}
+            self.unsure = line if words[0] == "submit" else self.unsure
+
+    def start(self, node, epoch, count, committed):
+        """A node starts with what it has: all that was known of it, and no more than there is."""
+        self.up.add(node)
+        if node == self.head:
+            unsure, self.unsure = self.unsure, None
+            if unsure:
+                is_kept = count == len(self.batches) + 1
+                self.seen[f"batch of a stopped submit {'kept' if is_kept else 'lost'}"] += 1
+                if is_kept:
+                    self.append(unsure, count)
+            expect(count == len(self.batches), "the head lost batches, or has too many")
+        expect(epoch == 0, "another epoch")
+        expect(committed <= count <= self.most[node], "more than the node can have")
+        expect(committed <= self.committed_at(node), "committed without the tail")
+        expect(node != self.tail or committed == count, "a tail commits all that it has")
+        self.starts.append((self.now, max(self.known, self.least[node])))
+        expect(count >= self.starts[-1][1], "a node lost batches")
+        self.least[node] = count
+
+    def finish(self):
+        """Each statement that always has an answer had one."""
+        for line, words in self.words.items():
+            self.seen[f"{words[0]} statements"] += 1
+            is_answered = line in self.answered or line in self.forwarded
+            expect(words[0] not in ANSWERED or is_answered, f"no answer to line {line}")
+
+
+WORDS = {
+    "sent": ("submit", "deliver", "tick", "flow"),
+    "committed": ("submit",),
+    "value": ("get",),
+    "none": ("get",),
+    "refused": ("submit", "get"),
+    "invalid": ("submit", "get"),
+    "nothing": ("deliver",),
+    "busy": ("flow",),
+    "dropped": ("deliver", "tick", "start", "stop", "flow"),
+    "node": ("submit", "get", "deliver", "tick", "start", "stop"),
+}
+
+
+def main():
+    """Checks the output of one script."""
+    if len(sys.argv) != 3:
+        sys.exit(__doc__)
+    texts = []
+    for path in sys.argv[1:]:
+        with open(path, encoding="utf-8") as it:
+            texts.append(it.read())
+    try:
+        history = History(*texts, collections.Counter())
+    except Broken as what:
+        sys.exit(f"broken: {what}")
+    print("one history, of the submits in lines", *history.batch_lines)
+
+
+if __name__ == "__main__":
+    main()
