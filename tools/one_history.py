@@ -74,7 +74,7 @@ class History:
             try:
                 number, _, text = line.partition(": ")
                 self.add(int(number), text)
-            except (ValueError, IndexError, KeyError):
+            except (ValueError, IndexError, KeyError, TypeError):
                 raise Broken(f"{line}: a line of no form") from None
             except Broken as what:
                 raise Broken(f"{line}: {what}") from None
