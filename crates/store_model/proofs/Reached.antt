@@ -60,7 +60,7 @@ flush_can_end l store (Some plan) table after ok flush edited way =
     flush_leaves l store table after ok flush edited plan way
 
 -- a plan for the tables does not look at the floor
-raised_way : (store : StoreState) (floor kept : ℕ) (plan : MergePlan) → IsUnderWay store plan
+pub raised_way : (store : StoreState) (floor kept : ℕ) (plan : MergePlan) → IsUnderWay store plan
     → IsUnderWay (raised_store store floor kept) plan
 raised_way store floor kept plan way = record {
   base = way.base;

@@ -12,7 +12,7 @@ use Rattle.store_model.specs.Steps.{AreEdited, IsFlush, IsMerged, IsOverwritten,
 use Rattle.store_model.specs.Steps.{IsUnderWay, MergePlan, flushed_store, raised_store, with_tables}
 use Rattle.store_model.specs.Runs.{IsReached}
 use Rattle.store_model.specs.LookUps.{StoreFinds, replayed_entries}
-use Rattle.store_model.specs.Logs.{AreLogsOf, trimmed_to}
+use Rattle.store_model.specs.Logs.{AreLogsOf, left_later, trimmed_to}
 use Rattle.store_model.specs.Sweeps.{ComesNext}
 
 -- ---- what a store shows
@@ -89,6 +89,26 @@ TrimsAreRaises =
     (batches : List BatchContent) (store : StoreState) (floor : ℕ) (later : List ℕ)
     → StoreRepresents batches store → AreLogsOf store later → store.floor ≤ floor
     → floor ≤ length batches → IsRaise batches store floor (trimmed_to floor store.kept later)
+
+-- a rise of the floor keeps a merge under way
+abbrev pub RaisesLeaveMerges : Type 0
+RaisesLeaveMerges =
+    (store : StoreState) (floor kept : ℕ) (plan : MergePlan) → IsUnderWay store plan
+    → IsUnderWay (raised_store store floor kept) plan
+
+-- after such a trim, the logs that are left are those of the store
+abbrev pub TrimsLeaveLogs : Type 0
+TrimsLeaveLogs =
+    (store : StoreState) (floor : ℕ) (later : List ℕ) → AreLogsOf store later
+    → AreLogsOf (raised_store store floor (trimmed_to floor store.kept later))
+    (left_later floor later)
+
+-- after a flush, the logs are those before it and a new one
+abbrev pub FlushesAddLogs : Type 0
+FlushesAddLogs =
+    (batches : List BatchContent) (store : StoreState) (after : List LevelTable) (later : List ℕ)
+    → StoreRepresents batches store → AreLogsOf store later
+    → AreLogsOf (flushed_store batches store after) (later ++ length batches ∷ [])
 
 -- a merge that is planned for the tables of the store can end in it
 abbrev pub PlansFit : Type 0

@@ -8,7 +8,7 @@ use Rattle.store_model.specs.Tables.{LevelTable}
 use Rattle.store_model.specs.Stores.{StoreRepresents, StoreState}
 use Rattle.store_model.specs.Steps.{IsMerged, IsPlanned, MergePlan}
 use Rattle.store_model.specs.LookUps.{StoreFinds}
-use Rattle.store_model.specs.Logs.{trimmed_to}
+use Rattle.store_model.specs.Logs.{left_later, trimmed_to}
 
 -- three batches: a=1 b=1, then a=2 -b, then c=1
 abbrev pub three_batches : List BatchContent
@@ -116,3 +116,4 @@ pub record MergeExamples : Type 0 where
 pub record TrimExamples : Type 0 where
   pub first : trimmed_to 1 0 (1 ∷ 2 ∷ []) ≡ 1
   pub not_the_newest : trimmed_to 5 0 (1 ∷ 2 ∷ []) ≡ 2
+  pub left : left_later 1 (1 ∷ 2 ∷ []) ≡ 2 ∷ []

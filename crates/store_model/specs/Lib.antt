@@ -14,3 +14,17 @@ pub mod PlacesLemmas
 pub mod TablesLemmas
 pub mod StoresLemmas
 pub mod SweepsLemmas
+-- What crates above name.
+pub use Rattle.store_model.specs.Keys.{AreDisjoint, KeyPrecedes, KeyRange, RangeHolds, RangeLiesIn}
+pub use Rattle.store_model.specs.Tables.{AreLeveled, FitsRange, LevelTable, level_entries}
+pub use Rattle.store_model.specs.Tables.{tables_entries}
+pub use Rattle.store_model.specs.Stores.{StoreRepresents, StoreState, empty_store, memory_entries}
+pub use Rattle.store_model.specs.Stores.{store_entries}
+pub use Rattle.store_model.specs.Steps.{AreAlikeDeeper, AreEdited, IsDropped, IsFlush, IsMerged}
+pub use Rattle.store_model.specs.Steps.{IsOverwritten, IsPlanned, IsRaise, IsSpentDeletion}
+pub use Rattle.store_model.specs.Steps.{IsUnderWay, MergePlan, PlanFits, flushed_store}
+pub use Rattle.store_model.specs.Steps.{raised_store, with_tables}
+pub use Rattle.store_model.specs.LookUps.{AboveLacks, NewestHas, StoreFinds, TableLacks}
+pub use Rattle.store_model.specs.LookUps.{replayed_entries}
+pub use Rattle.store_model.specs.Logs.{AreLogsOf, LogsRise, left_later, newest_log, trimmed_to}
+pub use Rattle.store_model.specs.Sweeps.{ComesBefore, ComesNext}

@@ -3,7 +3,8 @@
 #![tactic(auto)]
 
 ghost use Rattle.store_model.specs.Claims.{AppendsKeep, EmptyRepresents, FlushesKeep};
-ghost use Rattle.store_model.specs.Claims.{FlushesLeaveMerges, RaisesKeep, TrimsAreRaises};
+ghost use Rattle.store_model.specs.Claims.{FlushesAddLogs, FlushesLeaveMerges, RaisesKeep};
+ghost use Rattle.store_model.specs.Claims.{RaisesLeaveMerges, TrimsAreRaises, TrimsLeaveLogs};
 ghost use Rattle.store_model.specs.Claims.{AlwaysRepresents, MergesKeep, MergesKeepViews, PlansFit};
 ghost use Rattle.store_model.specs.Claims.{LookUpsAreMaps, OneTableHasKey, StoreEntriesDiffer};
 ghost use Rattle.store_model.specs.Claims.{NextDecides, ReplaysAgree, StoreViewsAreMaps};
@@ -39,19 +40,26 @@ pub fn appends_keep()
     kv_types::laws::views_are_maps();
 }
 
-/// A flush keeps the list, and a merge under way can still end.
+/// A flush keeps the list, and a merge under way can still end. It adds a log.
 // law: of `IsFlush`
 pub fn flushes_keep()
     ensures list { FlushesKeep }
     ensures merge { FlushesLeaveMerges }
+    ensures logs { FlushesAddLogs }
 {}
 
-/// A rise of the floor keeps the list. Trimming the logs up to the floor, but for the newest, is
-/// such a rise.
+/// A rise of the floor keeps the list, and a merge under way can still end.
 // law: of `IsRaise`
 pub fn raises_keep()
     ensures list { RaisesKeep }
-    ensures logs { TrimsAreRaises }
+    ensures merge { RaisesLeaveMerges }
+{}
+
+/// Trimming the logs up to the floor, but for the newest, is a rise, and the others are left.
+// law: of `trimmed_to`
+pub fn trims_are_raises()
+    ensures raise { TrimsAreRaises }
+    ensures logs { TrimsLeaveLogs }
 {}
 
 /// A merge can end in the store that it was planned for.

@@ -10,4 +10,4 @@ pub returns-clause-merge : goal.returns-clause-merge
 returns-clause-merge c = merge_examples c.views_are_maps.ensures
 
 pub returns-clause-trims : goal.returns-clause-trims
-returns-clause-trims c = record { first = refl; not_the_newest = refl }
+returns-clause-trims c = record { first = refl; not_the_newest = refl; left = refl }
