@@ -6,6 +6,7 @@ use Rattle.kv_types.specs.Entries.{ViewsAreMaps}
 use Rattle.store_model.specs.Keys.{AreDisjoint, RangeHolds, RangeLiesIn}
 use Rattle.store_model.specs.Tables.{FitsRange, LevelTable, tables_entries}
 use Rattle.store_model.specs.Stores.{StoreRepresents, memory_entries}
+use Rattle.store_model.specs.Outputs.{HaveOwnRanges}
 use Rattle.store_model.specs.Steps.{AreEdited, IsDropped, IsMerged, IsPlanned, IsRaise}
 use Rattle.store_model.specs.Steps.{raised_store}
 use Rattle.store_model.specs.LookUps.{TableLacks}
@@ -88,16 +89,21 @@ merged_all =
     (inl (merged_table, contains_it merged_table, contains_it a2))
     (inr (inr (refl, omega arith, no_deeper (codes "b"))))
 
-at_floor_2 : IsMerged 2 both_merge (merged_table ∷ [])
-at_floor_2 = record {
+merged_own : HaveOwnRanges (merged_table ∷ [])
+merged_own = record {
   ranges = for_one FitsRange merged_table merged_fits;
-  deeper = for_one (λ t. t.level ≡ 1) merged_table refl;
   least = for_one (λ t. (e : Entry) × Contains t.entries e × (e.key ≡ t.range.least)) merged_table
       (a2, contains_it a2, refl);
   greatest = for_one (λ t. (e : Entry) × Contains t.entries e × (e.key ≡ t.range.greatest))
       merged_table (a2, contains_it a2, refl);
   disjoint = λ t u in_t in_u. inl (for_one (λ z. z ≡ u) merged_table
       (for_one (λ z. merged_table ≡ z) merged_table refl u in_u) t in_t);
+}
+
+at_floor_2 : IsMerged 2 both_merge (merged_table ∷ [])
+at_floor_2 = record {
+  deeper = for_one (λ t. t.level ≡ 1) merged_table refl;
+  own = merged_own;
   only = merged_only;
   all = merged_all;
 }
@@ -164,16 +170,21 @@ full_fits = record {
       (b_not_a, b_not_b) (b_not_a, b_not_b);
 }
 
-at_floor_1 : IsMerged 1 both_merge (full_table ∷ [])
-at_floor_1 = record {
+full_own : HaveOwnRanges (full_table ∷ [])
+full_own = record {
   ranges = for_one FitsRange full_table full_fits;
-  deeper = for_one (λ t. t.level ≡ 1) full_table refl;
   least = for_one (λ t. (e : Entry) × Contains t.entries e × (e.key ≡ t.range.least)) full_table
       (a2, a2_in_full, refl);
   greatest = for_one (λ t. (e : Entry) × Contains t.entries e × (e.key ≡ t.range.greatest))
       full_table (b1, b1_in_full, refl);
   disjoint = λ t u in_t in_u. inl (for_one (λ z. z ≡ u) full_table
       (for_one (λ z. full_table ≡ z) full_table refl u in_u) t in_t);
+}
+
+at_floor_1 : IsMerged 1 both_merge (full_table ∷ [])
+at_floor_1 = record {
+  deeper = for_one (λ t. t.level ≡ 1) full_table refl;
+  own = full_own;
   only = full_only;
   all = full_all;
 }

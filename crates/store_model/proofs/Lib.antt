@@ -7,6 +7,7 @@ pub mod Trims
 pub mod Reached
 pub mod Found
 pub mod Replays
+pub mod Written
 pub mod ExampleEntries
 pub mod ExampleStores
 pub mod ExampleMerges

@@ -74,14 +74,14 @@ module _ (flushed base floor : ℕ) (plan : MergePlan) (before outputs after : L
       → AreDisjoint plan.range t.range → Contains outputs o → AreDisjoint t.range o.range
   output_disjoint t o in_t at side in_o = elim side [
     | inl x ↦
-        let end = merged.greatest o in_o in
+        let end = merged.own.greatest o in_o in
         let from = (merged.only end.0 (o, in_o, end.1)).0 in
         let within = (input_within from.0 from.1 end.0 from.2).1 in
         inr (upto_precedes o.range.greatest from.0.range.greatest t.range.least
         (subst (λ k. KeyPrecedes from.0.range.greatest k → ⊥) end.2 within)
         (over t from.0 in_t at x from.1))
     | inr x ↦
-        let end = merged.least o in_o in
+        let end = merged.own.least o in_o in
         let from = (merged.only end.0 (o, in_o, end.1)).0 in
         let within = (input_within from.0 from.1 end.0 from.2).0 in
         inl (precedes_upto t.range.greatest from.0.range.least o.range.least
@@ -174,11 +174,11 @@ module _ (flushed base floor : ℕ) (plan : MergePlan) (before outputs after : L
   two_outputs t u in_t in_u a b h g same number =
       let p = output_from t in_t a h in
       let q = output_from u in_u b g in (
-        elim (merged.disjoint t u in_t in_u) [
+        elim (merged.own.disjoint t u in_t in_u) [
           | inl is ↦ is
           | inr side ↦ absurd (disjoint_keys t.range u.range b.key side
-              (subst (λ k. RangeHolds t.range k) same ((merged.ranges t in_t).within a h))
-              ((merged.ranges u in_u).within b g))
+              (subst (λ k. RangeHolds t.range k) same ((merged.own.ranges t in_t).within a h))
+              ((merged.own.ranges u in_u).within b g))
         ],
         (ok.unique p.0 q.0 (fits.there p.0 p.1) (fits.there q.0 q.1) a b p.2 q.2 same number).1,
       )
@@ -238,14 +238,14 @@ module _ (flushed base floor : ℕ) (plan : MergePlan) (before outputs after : L
           let at = sym eq ∙ merged.deeper t t_new in
           inr (disjoint_back u.range t.range
           (output_disjoint u t u_old.0 at (plan_disjoint u u_old.0 u_old.1 at) t_new))
-      | inr u_new ↦ merged.disjoint t u t_new u_new
+      | inr u_new ↦ merged.own.disjoint t u t_new u_new
     ]
   ]
 
   pub merge_leveled : AreLeveled flushed after
   merge_leveled = record {
     ranges = λ t in_t. elim (edited.stays t in_t)
-        [ inl old ↦ ok.ranges t old.0 | inr new ↦ merged.ranges t new ];
+        [ inl old ↦ ok.ranges t old.0 | inr new ↦ merged.own.ranges t new ];
     numbers = after_numbers;
     unique = after_unique;
     newer = after_newer;

@@ -10,6 +10,7 @@ use Rattle.store_model.specs.Stores.{store_entries}
 use Rattle.store_model.specs.Steps.{AreAlikeDeeper, PlanFits}
 use Rattle.store_model.specs.Steps.{AreEdited, IsFlush, IsMerged, IsOverwritten, IsPlanned, IsRaise}
 use Rattle.store_model.specs.Steps.{IsUnderWay, MergePlan, flushed_store, raised_store, with_tables}
+use Rattle.store_model.specs.Outputs.{AreInKeyOrder, HaveOwnRanges}
 use Rattle.store_model.specs.Runs.{IsReached}
 use Rattle.store_model.specs.LookUps.{StoreFinds, replayed_entries}
 use Rattle.store_model.specs.Logs.{AreLogsOf, left_later, trimmed_to}
@@ -144,6 +145,10 @@ AlwaysRepresents =
     → StoreRepresents batches store × IfSome plan (λ it. IsUnderWay store it)
 
 -- ---- what code looks at
+
+-- tables that were written in order of keys have ranges of their own
+abbrev pub WrittenHaveRanges : Type 0
+WrittenHaveRanges = (tables : List LevelTable) → AreInKeyOrder tables → HaveOwnRanges tables
 
 -- the replay of the logs has the entries that belong in memory
 abbrev pub ReplaysAgree : Type 0

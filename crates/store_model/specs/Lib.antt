@@ -1,6 +1,7 @@
 pub mod Keys
 pub mod Tables
 pub mod Stores
+pub mod Outputs
 pub mod Steps
 pub mod Runs
 pub mod LookUps
@@ -26,5 +27,6 @@ pub use Rattle.store_model.specs.Steps.{IsUnderWay, MergePlan, PlanFits, flushed
 pub use Rattle.store_model.specs.Steps.{raised_store, with_tables}
 pub use Rattle.store_model.specs.LookUps.{AboveLacks, NewestHas, StoreFinds, TableLacks}
 pub use Rattle.store_model.specs.LookUps.{replayed_entries}
+pub use Rattle.store_model.specs.Outputs.{AreInKeyOrder, HaveOwnRanges, IsInKeyOrder}
 pub use Rattle.store_model.specs.Logs.{AreLogsOf, LogsRise, left_later, newest_log, trimmed_to}
 pub use Rattle.store_model.specs.Sweeps.{ComesBefore, ComesNext}

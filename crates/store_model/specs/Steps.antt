@@ -3,6 +3,7 @@ use Rattle.std.specs.Prelude.{◌≡◌, ◌⊎◌, ℕ, suc, ◌<◌, ◌≤◌
 use Rattle.kv_types.specs.{BatchContent, Entry}
 use Rattle.store_model.specs.Keys.{KeyRange, RangeHolds, RangeLiesIn, AreDisjoint}
 use Rattle.store_model.specs.Tables.{LevelTable, FitsRange, tables_entries}
+use Rattle.store_model.specs.Outputs.{HaveOwnRanges}
 use Rattle.store_model.specs.Stores.{StoreState, memory_entries}
 
 -- ---- tables that are removed and added
@@ -94,15 +95,9 @@ IsDropped floor plan entry =
 
 -- the outputs have the entries of the inputs less exactly those that a merge at this floor drops
 pub record IsMerged (floor : ℕ) (plan : MergePlan) (outputs : List LevelTable) : Type 0 where
-  pub ranges : (t : LevelTable) → Contains outputs t → FitsRange t
   pub deeper : (t : LevelTable) → Contains outputs t → t.level ≡ suc plan.level
-  -- the ends of a range are keys of entries
-  pub least : (t : LevelTable) → Contains outputs t
-      → (entry : Entry) × Contains t.entries entry × (entry.key ≡ t.range.least)
-  pub greatest : (t : LevelTable) → Contains outputs t
-      → (entry : Entry) × Contains t.entries entry × (entry.key ≡ t.range.greatest)
-  pub disjoint : (t u : LevelTable) → Contains outputs t → Contains outputs u
-      → (t ≡ u) ⊎ AreDisjoint t.range u.range
+  -- each range is from key to key, and no key is in two tables
+  pub own : HaveOwnRanges outputs
   pub only : (entry : Entry) → tables_entries outputs entry
       → tables_entries plan.inputs entry × (IsDropped floor plan entry → ⊥)
   pub all : (entry : Entry) → tables_entries plan.inputs entry

@@ -8,6 +8,7 @@ ghost use Rattle.store_model.specs.Claims.{RaisesLeaveMerges, TrimsAreRaises, Tr
 ghost use Rattle.store_model.specs.Claims.{AlwaysRepresents, MergesKeep, MergesKeepViews, PlansFit};
 ghost use Rattle.store_model.specs.Claims.{LookUpsAreMaps, OneTableHasKey, StoreEntriesDiffer};
 ghost use Rattle.store_model.specs.Claims.{NextDecides, ReplaysAgree, StoreViewsAreMaps};
+ghost use Rattle.store_model.specs.Claims.{WrittenHaveRanges};
 ghost use Rattle.store_model.specs.Examples.{MergeExamples, StoreExamples, TrimExamples};
 
 /// The view of a store at each number from its floor on is the map of so many first batches, and no
@@ -88,6 +89,12 @@ pub fn always_represents()
 // law: of `replayed_entries`
 pub fn replays_agree()
     ensures { ReplaysAgree }
+{}
+
+/// Tables that were written in order of keys, with no key in two of them, have ranges of their own.
+// law: of `HaveOwnRanges`
+pub fn written_have_ranges()
+    ensures { WrittenHaveRanges }
 {}
 
 /// In order, the entry right before another decides whether a merge drops it as overwritten.
