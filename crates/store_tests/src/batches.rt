@@ -1,14 +1,16 @@
 // Batches written and read as bytes, and limits at their edges.
-use crate::cases::{Case, all_hold, is_so};
-use crate::items::{batch_of, deletions, key_of, long_batch, long_key, long_value, value_of};
-use kv_types::{Batch, Key, KvError, Limits, Number, Page, Range, Row, Value, value_at};
-use std::alloc::{AllocError, Global};
-use std::test::Fail;
+use crate::cases::{Case, all_hold, has_memory, is_so};
+use crate::items::{
+    batch_of, deletion, deletions, is_same, key_of, long_batch, try_key, try_value, value_of,
+};
+use kv_types::{Batch, KvError, Limits, Number, Page, Range, Row, Value, value_at};
+use std::alloc::Global;
+use std::process::Abort;
 
 /// Whether this is the value, if there is one.
 fn is_value(found: Option<&Value>, want: Option<&[u8]>) -> bool {
     match (found, want) {
-        (Some(value), Some(bytes)) => value.as_bytes() == bytes,
+        (Some(value), Some(bytes)) => is_same(value.as_bytes(), bytes),
         (None, None) => true,
         _ => false,
     }
@@ -17,33 +19,38 @@ fn is_value(found: Option<&Value>, want: Option<&[u8]>) -> bool {
 /// Whether the batch has one edit, of the key `a`, with this value.
 fn is_edit(batch: &Batch, value: Option<&[u8]>) -> bool {
     match batch.edits() {
-        [edit] => edit.key().as_bytes() == b"a".as_slice() && is_value(edit.value(), value),
+        [edit] => is_same(edit.key().as_bytes(), b"a") && is_value(edit.value(), value),
         _ => false,
     }
 }
 
-/// The spelling of a batch, which is let go.
-fn spelled(alloc: Global, batch: Batch) -> Result<Vec<u8>, AllocError> {
+/// The spelling of a batch, which is dropped.
+fn spelled(rt: &impl Abort, alloc: Global, batch: Batch) -> Vec<u8> {
     let bytes = batch.to_bytes(alloc);
     drop(batch);
-    bytes
+    bytes.expect(rt, "memory")
 }
 
-/// Whether a batch of one edit of the key `a`, with this value, is spelled so.
-fn is_spelled(alloc: Global, value: Option<&'static [u8]>, want: &[u8]) -> Result<bool, KvError> {
-    let batch = batch_of(alloc, &[(b"a", value)])?;
-    Ok(spelled(alloc, batch)?.as_slice() == want)
+/// Whether the batch is spelled so.
+fn is_spelled(rt: &impl Abort, alloc: Global, batch: Batch, want: &[u8]) -> bool {
+    is_same(&spelled(rt, alloc, batch), want)
+}
+
+/// The batch that these bytes spell.
+fn read(rt: &impl Abort, alloc: Global, bytes: &[u8]) -> Batch {
+    Batch::from_bytes(alloc, bytes).expect(rt, "a batch")
 }
 
 /// A value of the key `a`, and how a batch of this edit is spelled.
 struct Spelling(Option<&'static [u8]>, &'static [u8]);
 
 impl Case for Spelling {
-    type Error = KvError;
-
-    fn holds(&self, alloc: Global) -> Result<bool, KvError> {
-        let is_read = is_edit(&Batch::from_bytes(alloc, self.1)?, self.0);
-        Ok(is_read && is_spelled(alloc, self.0, self.1)?)
+    fn holds(&self, rt: &impl Abort, alloc: Global) -> bool {
+        let batch = read(rt, alloc, self.1);
+        let is_read = is_edit(&batch, self.0);
+        drop(batch);
+        let batch = batch_of(rt, alloc, &[(b"a", self.0)]);
+        is_spelled(rt, alloc, batch, self.1) && is_read
     }
 }
 
@@ -53,8 +60,8 @@ static SPELLINGS: [Spelling; 2] = [
 ];
 
 #[test]
-fn one_edit_is_spelled_so(rt: HostRuntime) -> Result<(), Fail> {
-    all_hold(rt.alloc(), &SPELLINGS)
+fn one_edit_is_spelled_so(rt: HostRuntime) {
+    all_hold(&rt, rt.alloc(), &SPELLINGS);
 }
 
 /// A value at an edge of the accepted range.
@@ -74,33 +81,44 @@ enum Made {
 }
 
 /// The batch that is spelled in 49,178 bytes and this many more.
-fn four_puts(alloc: Global, last: usize) -> Result<Batch, KvError> {
-    long_batch(alloc, &[(1, 16384), (1, 16384), (1, 16384), (1, last)])
+fn four_puts(rt: &impl Abort, alloc: Global, last: usize) -> Result<Batch, KvError> {
+    long_batch(rt, alloc, &[(1, 16384), (1, 16384), (1, 16384), (1, last)])
 }
 
-/// The range from `b`, to this bound or open.
-fn range_of(
+/// The range from `b`, to this bound or open, if that is one.
+fn try_range(
+    rt: &impl Abort,
     alloc: Global,
     to: Option<&[u8]>,
     backward: bool,
     limit: u32,
 ) -> Result<Range, KvError> {
-    let from = key_of(alloc, b"b")?;
-    match to {
-        Some(to) => Range::new(from, Some(key_of(alloc, to)?), backward, limit),
-        None => Range::new(from, None, backward, limit),
-    }
+    let to = match to {
+        Some(to) => Some(key_of(rt, alloc, to)),
+        None => None,
+    };
+    Range::new(key_of(rt, alloc, b"b"), to, backward, limit)
+}
+
+fn range_of(
+    rt: &impl Abort,
+    alloc: Global,
+    to: Option<&[u8]>,
+    backward: bool,
+    limit: u32,
+) -> Range {
+    try_range(rt, alloc, to, backward, limit).expect(rt, "a range")
 }
 
 /// The refusal, if it is refused.
-fn refusal_of(alloc: Global, made: &Made) -> Option<KvError> {
+fn refusal_of(rt: &impl Abort, alloc: Global, made: &Made) -> Option<KvError> {
     match made {
-        Made::Key(len) => long_key(alloc, *len).err(),
-        Made::Value(len) => long_value(alloc, *len).err(),
-        Made::Deletions(count) => deletions(alloc, b"a", *count).err(),
-        Made::LongBatch(last) => four_puts(alloc, *last).err(),
+        Made::Key(len) => try_key(rt, alloc, *len).err(),
+        Made::Value(len) => try_value(rt, alloc, *len).err(),
+        Made::Deletions(count) => deletions(rt, alloc, b"a", *count).err(),
+        Made::LongBatch(last) => four_puts(rt, alloc, *last).err(),
         Made::Spelled(bytes) => Batch::from_bytes(alloc, *bytes).err(),
-        Made::Range(limit) => range_of(alloc, None, false, *limit).err(),
+        Made::Range(limit) => try_range(rt, alloc, None, false, *limit).err(),
     }
 }
 
@@ -108,13 +126,10 @@ fn refusal_of(alloc: Global, made: &Made) -> Option<KvError> {
 struct Edge(Made, Option<KvError>);
 
 impl Case for Edge {
-    type Error = KvError;
-
-    fn holds(&self, alloc: Global) -> Result<bool, KvError> {
-        match refusal_of(alloc, &self.0) {
-            Some(KvError::Memory) => Err(KvError::Memory),
-            found => Ok(found == self.1),
-        }
+    fn holds(&self, rt: &impl Abort, alloc: Global) -> bool {
+        let found = refusal_of(rt, alloc, &self.0);
+        has_memory(rt, found == Some(KvError::Memory));
+        found == self.1
     }
 }
 
@@ -154,24 +169,18 @@ static EDGES: [Edge; 27] = [
 ];
 
 #[test]
-fn what_is_made_at_the_edges(rt: HostRuntime) -> Result<(), Fail> {
-    all_hold(rt.alloc(), &EDGES)
-}
-
-/// Whether the longest batch has a spelling of 65,536 bytes, and the one read from that another.
-fn is_longest(alloc: Global) -> Result<bool, KvError> {
-    let bytes = spelled(alloc, four_puts(alloc, 16358)?)?;
-    Ok(bytes.len() == 65536 && is_spelling(alloc, &bytes)?)
-}
-
-/// Whether the bytes spell a batch.
-fn is_spelling(alloc: Global, bytes: &[u8]) -> Result<bool, KvError> {
-    Ok(spelled(alloc, Batch::from_bytes(alloc, bytes)?)?.as_slice() == bytes)
+fn what_is_made_at_the_edges(rt: HostRuntime) {
+    all_hold(&rt, rt.alloc(), &EDGES);
 }
 
 #[test]
-fn the_longest_batch_is_read_again(rt: HostRuntime) -> Result<(), Fail> {
-    is_so(is_longest(rt.alloc()))
+fn the_longest_batch_is_read_again(rt: HostRuntime) {
+    let batch = four_puts(&rt, rt.alloc(), 16358).expect(&rt, "a batch");
+    let bytes = spelled(&rt, rt.alloc(), batch);
+    is_so(&rt, bytes.len() == 65536, "its length");
+    let again = read(&rt, rt.alloc(), &bytes);
+    let is_spelled = is_spelled(&rt, rt.alloc(), again, &bytes);
+    is_so(&rt, is_spelled, "another spelling");
 }
 
 /// The numbers of the refusals.
@@ -199,11 +208,9 @@ const TIB: u64 = 1 << 40;
 struct Ends([u64; 5], bool);
 
 impl Case for Ends {
-    type Error = AllocError;
-
-    fn holds(&self, _alloc: Global) -> Result<bool, AllocError> {
+    fn holds(&self, _rt: &impl Abort, _alloc: Global) -> bool {
         let [log, l0, table, level, cache] = self.0;
-        Ok(Limits::new(log, l0, table, level, cache).is_ok() == self.1)
+        Limits::new(log, l0, table, level, cache).is_ok() == self.1
     }
 }
 
@@ -222,8 +229,8 @@ static ENDS: [Ends; 11] = [
 ];
 
 #[test]
-fn limits_at_their_ends(rt: HostRuntime) -> Result<(), Fail> {
-    all_hold(rt.alloc(), &ENDS)
+fn limits_at_their_ends(rt: HostRuntime) {
+    all_hold(&rt, rt.alloc(), &ENDS);
 }
 
 #[test]
@@ -240,13 +247,11 @@ const GREATEST: u64 = (1 << 63) - 1;
 struct Numeral(u64, bool, bool);
 
 impl Case for Numeral {
-    type Error = AllocError;
-
-    fn holds(&self, _alloc: Global) -> Result<bool, AllocError> {
-        Ok(match Number::new(self.0) {
+    fn holds(&self, _rt: &impl Abort, _alloc: Global) -> bool {
+        match Number::new(self.0) {
             Some(number) => self.1 && number.next().is_some() == self.2,
             None => !self.1,
-        })
+        }
     }
 }
 
@@ -258,31 +263,31 @@ static NUMBERS: [Numeral; 4] = [
 ];
 
 #[test]
-fn numbers_up_to_the_greatest(rt: HostRuntime) -> Result<(), Fail> {
-    all_hold(rt.alloc(), &NUMBERS)
+fn numbers_up_to_the_greatest(rt: HostRuntime) {
+    all_hold(&rt, rt.alloc(), &NUMBERS);
 }
 
 /// The batches `a=1 -a a=2 b=1` and `-b`.
-fn two_batches(alloc: Global) -> Result<[Batch; 2], KvError> {
+fn two_batches(rt: &impl Abort, alloc: Global) -> [Batch; 2] {
     let first: [(&[u8], Option<&[u8]>); 4] = [
         (b"a", Some(b"1")),
         (b"a", None),
         (b"a", Some(b"2")),
         (b"b", Some(b"1")),
     ];
-    let first = batch_of(alloc, &first)?;
-    Ok([first, deletions(alloc, b"b", 1)?])
+    [batch_of(rt, alloc, &first), deletion(rt, alloc, b"b")]
 }
 
 /// A key, and its value after the batches.
 struct Found(&'static [u8], Option<&'static [u8]>);
 
 impl Case for Found {
-    type Error = KvError;
-
-    fn holds(&self, alloc: Global) -> Result<bool, KvError> {
-        let key = key_of(alloc, self.0)?;
-        Ok(is_value(value_at(&two_batches(alloc)?, &key), self.1))
+    fn holds(&self, rt: &impl Abort, alloc: Global) -> bool {
+        let key = key_of(rt, alloc, self.0);
+        let batches = two_batches(rt, alloc);
+        let is_found = is_value(value_at(&batches, &key), self.1);
+        drop(batches);
+        is_found
     }
 }
 
@@ -293,8 +298,8 @@ static FOUND: [Found; 3] = [
 ];
 
 #[test]
-fn the_last_edit_decides(rt: HostRuntime) -> Result<(), Fail> {
-    all_hold(rt.alloc(), &FOUND)
+fn the_last_edit_decides(rt: HostRuntime) {
+    all_hold(&rt, rt.alloc(), &FOUND);
 }
 
 /// Two keys, whether the first is below the second, which is to be less, and whether they are
@@ -302,11 +307,9 @@ fn the_last_edit_decides(rt: HostRuntime) -> Result<(), Fail> {
 struct Keys(&'static [u8], &'static [u8], bool, bool);
 
 impl Case for Keys {
-    type Error = KvError;
-
-    fn holds(&self, alloc: Global) -> Result<bool, KvError> {
-        let (a, b) = (key_of(alloc, self.0)?, key_of(alloc, self.1)?);
-        Ok(a.is_below(&b) == self.2 && (a < b) == self.2 && (a == b) == self.3)
+    fn holds(&self, rt: &impl Abort, alloc: Global) -> bool {
+        let (a, b) = (key_of(rt, alloc, self.0), key_of(rt, alloc, self.1));
+        a.is_below(&b) == self.2 && (a < b) == self.2 && (a == b) == self.3
     }
 }
 
@@ -320,19 +323,20 @@ static KEYS: [Keys; 6] = [
 ];
 
 #[test]
-fn keys_compare_by_their_bytes(rt: HostRuntime) -> Result<(), Fail> {
-    all_hold(rt.alloc(), &KEYS)
+fn keys_compare_by_their_bytes(rt: HostRuntime) {
+    all_hold(&rt, rt.alloc(), &KEYS);
 }
 
 /// A key, the end of a range from `b`, and whether the key is in that range.
 struct InRange(&'static [u8], Option<&'static [u8]>, bool);
 
 impl Case for InRange {
-    type Error = KvError;
-
-    fn holds(&self, alloc: Global) -> Result<bool, KvError> {
-        let key = key_of(alloc, self.0)?;
-        Ok(range_of(alloc, self.1, false, 1)?.contains(&key) == self.2)
+    fn holds(&self, rt: &impl Abort, alloc: Global) -> bool {
+        let key = key_of(rt, alloc, self.0);
+        let range = range_of(rt, alloc, self.1, false, 1);
+        let is_in = range.contains(&key);
+        drop(range);
+        is_in == self.2
     }
 }
 
@@ -350,76 +354,66 @@ static IN_RANGES: [InRange; 10] = [
 ];
 
 #[test]
-fn a_range_ends_before_its_bound(rt: HostRuntime) -> Result<(), Fail> {
-    all_hold(rt.alloc(), &IN_RANGES)
+fn a_range_ends_before_its_bound(rt: HostRuntime) {
+    all_hold(&rt, rt.alloc(), &IN_RANGES);
 }
 
 /// Whether the range goes backward from `b` to `d`, by two rows.
 fn is_backward(range: &Range) -> bool {
     let ends_so = match range.to() {
-        Some(to) => to.as_bytes() == b"d".as_slice(),
+        Some(to) => is_same(to.as_bytes(), b"d"),
         None => false,
     };
-    let begins_so = range.from().as_bytes() == b"b".as_slice();
+    let begins_so = is_same(range.from().as_bytes(), b"b");
     begins_so && ends_so && range.is_backward() && range.limit() == 2
 }
 
-/// What is copied.
-enum Copied {
-    Range,
-    Batch,
-    Row,
-}
-
 /// Whether a copy of such a range is one.
-fn copies_range(alloc: Global) -> Result<bool, KvError> {
-    let range = range_of(alloc, Some(b"d"), true, 2)?;
-    let copy = range.clone();
+fn copies_range(rt: &impl Abort, alloc: Global) -> bool {
+    let range = range_of(rt, alloc, Some(b"d"), true, 2);
+    let copy = range.clone().expect(rt, "memory");
     drop(range);
-    Ok(is_backward(&copy?))
+    let is_backward = is_backward(&copy);
+    drop(copy);
+    is_backward
 }
 
 /// Whether a copy of a batch of one edit has this edit.
-fn copies_batch(alloc: Global) -> Result<bool, KvError> {
-    let batch = batch_of(alloc, &[(b"a", Some(b"1"))])?;
-    let copy = batch.clone();
+fn copies_batch(rt: &impl Abort, alloc: Global) -> bool {
+    let batch = batch_of(rt, alloc, &[(b"a", Some(b"1"))]);
+    let copy = batch.clone().expect(rt, "memory");
     drop(batch);
-    Ok(is_edit(&copy?, Some(b"1")))
+    let is_edit = is_edit(&copy, Some(b"1"));
+    drop(copy);
+    is_edit
 }
 
-fn row_of(alloc: Global) -> Result<Row, KvError> {
-    let key = key_of(alloc, b"a")?;
-    let value = value_of(alloc, b"1")?;
-    Ok(Row { key, value })
-}
-
-/// Whether a page of this row has one row, and says that there are more.
-fn pages(alloc: Global, row: Row) -> Result<bool, KvError> {
-    let page = Page::new(vec![in alloc; row]?, true);
-    Ok(page.rows().len() == 1 && page.has_more())
-}
-
-/// Whether a row is of 6 bytes, and a page of its copy is one of a row.
-fn copies_row(alloc: Global) -> Result<bool, KvError> {
-    let row = row_of(alloc)?;
-    let (size, copy) = (row.size(), row.clone());
-    drop(row);
-    Ok(size == 6 && pages(alloc, copy?)?)
-}
-
-impl Case for Copied {
-    type Error = KvError;
-
-    fn holds(&self, alloc: Global) -> Result<bool, KvError> {
-        match self {
-            Copied::Range => copies_range(alloc),
-            Copied::Batch => copies_batch(alloc),
-            Copied::Row => copies_row(alloc),
-        }
+fn row_of(rt: &impl Abort, alloc: Global) -> Row {
+    Row {
+        key: key_of(rt, alloc, b"a"),
+        value: value_of(rt, alloc, b"1"),
     }
 }
 
+/// Whether a page of this row has one row, and says that there are more.
+fn pages(rt: &impl Abort, alloc: Global, row: Row) -> bool {
+    let page = Page::new(vec![in alloc; row].expect(rt, "memory"), true);
+    let is_page = page.rows().len() == 1 && page.has_more();
+    drop(page);
+    is_page
+}
+
+/// Whether a row is of 6 bytes, and a page of its copy is one of a row.
+fn copies_row(rt: &impl Abort, alloc: Global) -> bool {
+    let row = row_of(rt, alloc);
+    let (size, copy) = (row.size(), row.clone().expect(rt, "memory"));
+    drop(row);
+    pages(rt, alloc, copy) && size == 6
+}
+
 #[test]
-fn copies_are_made(rt: HostRuntime) -> Result<(), Fail> {
-    all_hold(rt.alloc(), &[Copied::Range, Copied::Batch, Copied::Row])
+fn copies_are_made(rt: HostRuntime) {
+    is_so(&rt, copies_range(&rt, rt.alloc()), "a range");
+    is_so(&rt, copies_batch(&rt, rt.alloc()), "a batch");
+    is_so(&rt, copies_row(&rt, rt.alloc()), "a row");
 }

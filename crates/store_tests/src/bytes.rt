@@ -1,35 +1,43 @@
 //! Frames in bytes, and bytes that are no frame.
-use crate::cases::{Case, all_hold};
+use crate::cases::{Case, all_hold, has_memory, holds_at};
 use link_messages::{FrameError, FrameReader, Refusal};
 use std::alloc::Global;
-use std::test::Fail;
+use std::process::Abort;
 
-/// Whether the reader has a whole frame next.
-fn has_next(reader: &mut FrameReader) -> Result<bool, FrameError> {
+/// Whether the reader has a whole frame next. Want of memory ends the test.
+fn has_next(rt: &impl Abort, reader: &mut FrameReader) -> Result<bool, FrameError> {
     match reader.next() {
         Ok(frame) => {
             let is_whole = frame.is_some();
             drop(frame);
             Ok(is_whole)
         }
-        Err(e) => Err(e),
+        Err(e) => {
+            has_memory(rt, e == FrameError::Memory);
+            Err(e)
+        }
     }
 }
 
 /// Whether the reader has a whole frame next, once it has these bytes too.
-fn takes(reader: &mut FrameReader, bytes: &[u8]) -> Result<bool, FrameError> {
-    reader.feed(bytes)?;
-    has_next(reader)
+fn takes(rt: &impl Abort, reader: &mut FrameReader, bytes: &[u8]) -> Result<bool, FrameError> {
+    reader.feed(bytes).expect(rt, "memory");
+    has_next(rt, reader)
 }
 
 /// The number of frames that are read from pieces of this size, and the error behind them.
-fn read(reader: &mut FrameReader, bytes: &[u8], size: usize) -> (usize, Option<FrameError>) {
+fn read(
+    rt: &impl Abort,
+    reader: &mut FrameReader,
+    bytes: &[u8],
+    size: usize,
+) -> (usize, Option<FrameError>) {
     let mut frames: usize = 0;
     let mut rest = bytes;
     for _ in 0..bytes.len() {
         let (piece, behind) = rest.split_at(size.min(rest.len()));
         rest = behind;
-        match takes(reader, piece) {
+        match takes(rt, reader, piece) {
             Ok(is_frame) => frames = frames.saturating_add(is_frame as usize),
             Err(e) => return (frames, Some(e)),
         }
@@ -39,30 +47,25 @@ fn read(reader: &mut FrameReader, bytes: &[u8], size: usize) -> (usize, Option<F
 
 /// Whether such pieces are read as so many frames, and this error behind them.
 fn is_read(
+    rt: &impl Abort,
     alloc: Global,
     bytes: &[u8],
     size: usize,
     want: (usize, Option<FrameError>),
-) -> Result<bool, FrameError> {
-    match read(&mut FrameReader::new(alloc), bytes, size) {
-        (_, Some(FrameError::Memory)) => Err(FrameError::Memory),
-        found => Ok(found == want),
-    }
+) -> bool {
+    read(rt, &mut FrameReader::new(alloc), bytes, size) == want
 }
 
 /// Whether a frame of this content is read, or else has this error.
-pub fn is_frame(
-    alloc: Global,
-    content: &[u8],
-    want: Option<FrameError>,
-) -> Result<bool, FrameError> {
+pub fn is_frame(rt: &impl Abort, alloc: Global, content: &[u8], want: Option<FrameError>) -> bool {
     let mut reader = FrameReader::new(alloc);
     let len = u32::try_from(content.len()).unwrap_or(u32::MAX);
-    reader.feed(&len.to_be_bytes())?;
-    match takes(&mut reader, content) {
-        Err(FrameError::Memory) => Err(FrameError::Memory),
-        Err(e) => Ok(want == Some(e)),
-        Ok(is_whole) => Ok(is_whole && want.is_none()),
+    reader.feed(&len.to_be_bytes()).expect(rt, "memory");
+    let answer = takes(rt, &mut reader, content);
+    drop(reader);
+    match answer {
+        Err(e) => want == Some(e),
+        Ok(is_whole) => is_whole && want.is_none(),
     }
 }
 
@@ -78,12 +81,10 @@ const ACK: [u8; 27] = [
 struct Answer(&'static [u8], usize, Option<FrameError>);
 
 impl Case for Answer {
-    type Error = FrameError;
-
-    fn holds(&self, alloc: Global) -> Result<bool, FrameError> {
+    fn holds(&self, rt: &impl Abort, alloc: Global) -> bool {
         let want = (self.1, self.2);
-        let is_so = is_read(alloc, self.0, self.0.len(), want)?;
-        Ok(is_read(alloc, self.0, 1, want)? && is_so)
+        let is_so = is_read(rt, alloc, self.0, self.0.len(), want);
+        is_read(rt, alloc, self.0, 1, want) && is_so
     }
 }
 
@@ -149,31 +150,31 @@ static ANSWERS: [Answer; 15] = [
 ];
 
 #[test]
-fn each_answer_at_once_and_byte_by_byte(rt: HostRuntime) -> Result<(), Fail> {
-    all_hold(rt.alloc(), &ANSWERS)
+fn each_answer_at_once_and_byte_by_byte(rt: HostRuntime) {
+    all_hold(&rt, rt.alloc(), &ANSWERS);
 }
 
 /// Bytes that are no frame, and their error, which stays: it is answered again, also after more
 /// bytes.
 struct Fault(&'static [u8], FrameError);
 
-impl Case for Fault {
-    type Error = FrameError;
-
-    fn holds(&self, alloc: Global) -> Result<bool, FrameError> {
-        let mut reader = FrameReader::new(alloc);
-        for answer in [
-            takes(&mut reader, self.0),
-            has_next(&mut reader),
-            takes(&mut reader, &ACK),
-        ] {
-            match answer {
-                Err(FrameError::Memory) => return Err(FrameError::Memory),
-                Err(e) if e == self.1 => {}
-                _ => return Ok(false),
-            }
+impl Fault {
+    fn is_in(&self, answer: Result<bool, FrameError>) -> bool {
+        match answer {
+            Ok(_) => false,
+            Err(e) => e == self.1,
         }
-        Ok(true)
+    }
+}
+
+impl Case for Fault {
+    fn holds(&self, rt: &impl Abort, alloc: Global) -> bool {
+        let mut reader = FrameReader::new(alloc);
+        let first = self.is_in(takes(rt, &mut reader, self.0));
+        let again = self.is_in(has_next(rt, &mut reader));
+        let behind = self.is_in(takes(rt, &mut reader, &ACK));
+        drop(reader);
+        first && again && behind
     }
 }
 
@@ -190,8 +191,8 @@ static FAULTS: [Fault; 4] = [
 ];
 
 #[test]
-fn a_fault_stays(rt: HostRuntime) -> Result<(), Fail> {
-    all_hold(rt.alloc(), &FAULTS)
+fn a_fault_stays(rt: HostRuntime) {
+    all_hold(&rt, rt.alloc(), &FAULTS);
 }
 
 /// A Forward and an Ack.
@@ -201,12 +202,11 @@ static BOTH: [u8; 55] = [
 ];
 
 #[test]
-fn two_frames_in_any_pieces(rt: HostRuntime) -> Result<(), FrameError> {
+fn two_frames_in_any_pieces(rt: HostRuntime) {
     for size in 1..29 {
-        let is_so = is_read(rt.alloc(), &BOTH, size, (2, None))?;
-        assert!(rt; is_so, "{size}");
+        let is_read = is_read(&rt, rt.alloc(), &BOTH, size, (2, None));
+        holds_at(&rt, size, is_read);
     }
-    Ok(())
 }
 
 /// The numbers of the faults.

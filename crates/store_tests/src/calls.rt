@@ -4,9 +4,9 @@ ghost use Rattle.disk.specs.{Absent, IsReliable, past_states};
 
 use crate::cases::is_so;
 use disk::{Disk, DiskError, MemDisk};
-use record_log::{Log, LogError};
+use record_log::Log;
 use std::alloc::Global;
-use std::test::Fail;
+use std::process::Abort;
 
 #[derive(Clone, Copy, PartialEq)]
 enum Called {
@@ -31,6 +31,11 @@ impl NotingDisk {
             calls: [Called::Other; 8],
             count: 0,
         }
+    }
+
+    // Whether these are the calls since the last question.
+    fn made(&mut self, want: &[Called]) -> bool {
+        self.recorded() == want
     }
 
     // The calls since the last question.
@@ -100,41 +105,36 @@ impl Disk for NotingDisk {
 }
 
 // The calls of a log, without their contracts.
-fn create(alloc: Global, disk: &mut NotingDisk) -> Result<Log, LogError> {
-    Log::create(alloc, disk, 3)
+fn create(rt: &impl Abort, alloc: Global, disk: &mut NotingDisk) -> Log {
+    Log::create(alloc, disk, 3).expect(rt, "a log")
 }
 
-fn append(
-    alloc: Global,
-    disk: &mut NotingDisk,
-    log: &mut Log,
-    bytes: &[u8],
-) -> Result<(), LogError> {
-    log.append(alloc, disk, bytes)
+fn append(rt: &impl Abort, alloc: Global, disk: &mut NotingDisk, log: &mut Log, bytes: &[u8]) {
+    log.append(alloc, disk, bytes).expect(rt, "an append");
 }
 
-fn open(alloc: Global, disk: &mut NotingDisk) -> Result<Log, LogError> {
-    Log::open(alloc, disk, 3, 0)
+fn open(rt: &impl Abort, alloc: Global, disk: &mut NotingDisk) {
+    Log::open(alloc, disk, 3, 0).expect(rt, "a log");
 }
 
 // Whether the calls of an append are these.
 fn appends_so(
+    rt: &impl Abort,
     alloc: Global,
     disk: &mut NotingDisk,
     log: &mut Log,
     bytes: &[u8],
-) -> Result<bool, LogError> {
-    append(alloc, disk, log, bytes)?;
-    let want = [Called::Write, Called::Sync, Called::Write, Called::Sync];
-    Ok(disk.recorded() == want.as_slice())
+) -> bool {
+    append(rt, alloc, disk, log, bytes);
+    disk.made(&[Called::Write, Called::Sync, Called::Write, Called::Sync])
 }
 
 // Whether a log is created and grows by these calls.
-fn writes_so(alloc: Global, disk: &mut NotingDisk) -> Result<bool, LogError> {
-    let mut log = create(alloc, disk)?;
-    let is_created_so = disk.recorded() == [Called::Write, Called::Sync].as_slice();
-    let is_first = appends_so(alloc, disk, &mut log, b"one")?;
-    Ok(appends_so(alloc, disk, &mut log, b"")? && is_first && is_created_so)
+fn writes_so(rt: &impl Abort, alloc: Global, disk: &mut NotingDisk) -> bool {
+    let mut log = create(rt, alloc, disk);
+    let is_created_so = disk.made(&[Called::Write, Called::Sync]);
+    let is_first = appends_so(rt, alloc, disk, &mut log, b"one");
+    appends_so(rt, alloc, disk, &mut log, b"") && is_first && is_created_so
 }
 
 // Whether the first call is a sync, and no other is a write.
@@ -145,15 +145,12 @@ fn syncs_and_reads(calls: &[Called]) -> bool {
     }
 }
 
-// Whether a log makes its calls so, and those of its opening.
-fn makes_its_calls(alloc: Global) -> Result<bool, LogError> {
-    let mut disk = NotingDisk::new(alloc);
-    let writes_so = writes_so(alloc, &mut disk)?;
-    let _opened = open(alloc, &mut disk)?;
-    Ok(writes_so && syncs_and_reads(disk.recorded()))
-}
-
 #[test]
-fn a_log_makes_its_calls_in_their_order(rt: HostRuntime) -> Result<(), Fail> {
-    is_so(makes_its_calls(rt.alloc()))
+fn a_log_makes_its_calls_in_their_order(rt: HostRuntime) {
+    let mut disk = NotingDisk::new(rt.alloc());
+    let writes_so = writes_so(&rt, rt.alloc(), &mut disk);
+    is_so(&rt, writes_so, "the calls of writes");
+    open(&rt, rt.alloc(), &mut disk);
+    let syncs_and_reads = syncs_and_reads(disk.recorded());
+    is_so(&rt, syncs_and_reads, "the calls of an opening");
 }

@@ -1,46 +1,31 @@
-// Rows of a table, each tried by itself, and what fails a test.
+// Rows of a table, each tried by itself, and what ends a test.
 use std::alloc::Global;
-use std::fmt::{Debug, Display};
-use std::test::Fail;
+use std::process::Abort;
 
-/// A row of a table: what is done, and what comes of it.
+/// A row of a table: what is done, and its outcome.
 pub trait Case {
-    type Error: Debug + Drop;
-
-    /// Whether that comes of it. An error, as want of memory, ends the test.
-    fn holds(&self, alloc: Global) -> Result<bool, Self::Error>;
+    /// Whether that is its outcome. Want of memory ends the test.
+    fn holds(&self, rt: &impl Abort, alloc: Global) -> bool;
 }
 
-/// The failure of a row, by its place in the table, from 0.
-pub fn is_wrong(index: usize) -> Fail {
-    Fail::new(format_args!("row {index} does not hold"))
-}
-
-/// Tries each row. The failure names the first that does not hold.
-pub fn all_hold<C: Case>(alloc: Global, rows: &[C]) -> Result<(), Fail> {
+/// Tries each row. The failure names the first that does not hold, by its place from 0.
+pub fn all_hold<C: Case>(rt: &impl Abort, alloc: Global, rows: &[C]) {
     for (index, row) in rows.iter().enumerate() {
-        if !row.holds(alloc)? {
-            return Err(is_wrong(index));
-        }
+        holds_at(rt, index, row.holds(rt, alloc));
     }
-    Ok(())
 }
 
-/// Fails a test where the answer of its one helper is no, or an error.
-pub fn is_so<E: Debug + Drop>(answer: Result<bool, E>) -> Result<(), Fail> {
-    if answer? {
-        return Ok(());
-    }
-    Err(Fail::new("it is not so"))
+/// Fails the test unless this holds at the index, as a row does.
+pub fn holds_at(rt: &impl Abort, index: usize, holds: bool) {
+    assert!(rt; holds, "{index} does not hold");
 }
 
-/// A value, and how it is written out.
-pub struct Text<T>(pub T, pub &'static str);
+/// Fails the test unless this is so.
+pub fn is_so(rt: &impl Abort, holds: bool, what: &str) {
+    assert!(rt; holds, "{what}");
+}
 
-impl<T: Display> Case for Text<T> {
-    type Error = std::alloc::AllocError;
-
-    fn holds(&self, alloc: Global) -> Result<bool, std::alloc::AllocError> {
-        Ok(format!(in alloc; "{}", self.0)?.as_str() == self.1)
-    }
+/// Ends the test where memory is missing.
+pub fn has_memory(rt: &impl Abort, is_missing: bool) {
+    is_so(rt, !is_missing, "memory");
 }

@@ -1,8 +1,9 @@
 // The outcomes of a crash, and the refusals of a disk.
-use crate::cases::{Case, all_hold, is_so, is_wrong};
+use crate::cases::{Case, all_hold, holds_at, is_so};
+use crate::items::{copy_of, is_same};
 use disk::{Crash, Disk, DiskError, Fault, Junk, JunkBytes, MemDisk};
-use std::alloc::{AllocError, Global};
-use std::test::Fail;
+use std::alloc::Global;
+use std::process::Abort;
 
 // A call of a disk.
 #[derive(Clone, Copy)]
@@ -48,33 +49,29 @@ pub fn refusal_of(disk: &mut MemDisk, act: Act) -> Option<DiskError> {
     }
 }
 
-// Makes the calls, none of which is to be refused.
-pub fn run(disk: &mut MemDisk, acts: &[Act]) -> Result<(), DiskError> {
+// Makes the calls, and ends the test where one is refused.
+pub fn run(rt: &impl Abort, disk: &mut MemDisk, acts: &[Act]) {
     for act in acts {
-        if let Some(e) = refusal_of(disk, *act) {
-            return Err(e);
-        }
+        is_so(rt, refusal_of(disk, *act).is_none(), "a call is refused");
     }
-    Ok(())
 }
 
 // Whether these bytes stand in the file, which has so many.
-fn has_bytes(disk: &mut MemDisk, file: u64, want: &[u8]) -> Result<bool, DiskError> {
+fn has_bytes(rt: &impl Abort, disk: &mut MemDisk, file: u64, want: &[u8]) -> bool {
     let mut bytes = [0; 64];
     let Some(into) = bytes.get_mut(..want.len()) else {
-        return Ok(false);
+        return false;
     };
-    disk.read(file, 0, into)?;
-    Ok(*into == *want)
+    disk.read(file, 0, into).expect(rt, "a read");
+    is_same(into, want)
 }
 
 // Whether this is the file's content, of at most 64 bytes, or there is no such file.
-pub fn is_content(disk: &mut MemDisk, file: u64, want: Option<&[u8]>) -> Result<bool, DiskError> {
+pub fn is_content(rt: &impl Abort, disk: &mut MemDisk, file: u64, want: Option<&[u8]>) -> bool {
     match (disk.length(file), want) {
-        (Ok(len), Some(want)) => Ok(len == want.len() as u64 && has_bytes(disk, file, want)?),
-        (Ok(_), None) => Ok(false),
-        (Err(DiskError::NoFile), want) => Ok(want.is_none()),
-        (Err(e), _) => Err(e),
+        (Ok(len), Some(want)) => len == want.len() as u64 && has_bytes(rt, disk, file, want),
+        (Err(DiskError::NoFile), None) => true,
+        _ => false,
     }
 }
 
@@ -86,40 +83,43 @@ pub enum Choice {
     Bytes(&'static [u8]),
 }
 
-pub fn crash(alloc: Global, disk: &mut MemDisk, choice: Choice) -> Result<(), AllocError> {
+pub fn crash(rt: &impl Abort, alloc: Global, disk: &mut MemDisk, choice: Choice) {
     disk.crash(match choice {
         Choice::Old => Junk::Old,
         Choice::New => Junk::New,
-        Choice::Bytes(bytes) => Junk::Bytes(JunkBytes::new(bytes.to_vec(alloc)?)),
+        Choice::Bytes(bytes) => Junk::Bytes(JunkBytes::new(copy_of(rt, alloc, bytes))),
     });
-    Ok(())
 }
 
 // Whether this is the file's content after a crash.
 fn leaves(
+    rt: &impl Abort,
     alloc: Global,
     disk: &mut MemDisk,
     choice: Choice,
     file: u64,
     want: Option<&[u8]>,
-) -> Result<bool, DiskError> {
-    crash(alloc, disk, choice)?;
-    is_content(disk, file, want)
+) -> bool {
+    crash(rt, alloc, disk, choice);
+    is_content(rt, disk, file, want)
 }
 
 // Whether this is the content after these acts, a crash, and more crashes, which find every place
 // synced.
 fn leaves_after(
+    rt: &impl Abort,
     alloc: Global,
     acts: &[Act],
     choice: Choice,
     want: Option<&[u8]>,
-) -> Result<bool, DiskError> {
+) -> bool {
     let mut disk = MemDisk::new(alloc);
-    run(&mut disk, acts)?;
-    crash(alloc, &mut disk, choice)?;
-    crash(alloc, &mut disk, Choice::Bytes(&[0x55]))?;
-    leaves(alloc, &mut disk, Choice::Old, FILE, want)
+    run(rt, &mut disk, acts);
+    crash(rt, alloc, &mut disk, choice);
+    crash(rt, alloc, &mut disk, Choice::Bytes(&[0x55]));
+    let is_left = leaves(rt, alloc, &mut disk, Choice::Old, FILE, want);
+    drop(disk);
+    is_left
 }
 
 // The content after the acts and a crash by `Old`, by `New`, and with the junk 1, 2, 3.
@@ -131,20 +131,13 @@ struct Outcome(
 );
 
 impl Case for Outcome {
-    type Error = DiskError;
-
-    fn holds(&self, alloc: Global) -> Result<bool, DiskError> {
-        for (choice, want) in [
-            (Choice::Old, self.1),
-            (Choice::New, self.2),
-            (Choice::Bytes(&[]), self.2),
-            (Choice::Bytes(&[1, 2, 3]), self.3),
-        ] {
-            if !leaves_after(alloc, self.0, choice, want)? {
-                return Ok(false);
-            }
-        }
-        Ok(true)
+    fn holds(&self, rt: &impl Abort, alloc: Global) -> bool {
+        let Outcome(acts, old, new, junk) = *self;
+        let is_old = leaves_after(rt, alloc, acts, Choice::Old, old);
+        let is_new = leaves_after(rt, alloc, acts, Choice::New, new);
+        let is_written = leaves_after(rt, alloc, acts, Choice::Bytes(&[]), new);
+        let is_junk = leaves_after(rt, alloc, acts, Choice::Bytes(&[1, 2, 3]), junk);
+        is_old && is_new && is_written && is_junk
     }
 }
 
@@ -227,8 +220,8 @@ static OUTCOMES: [Outcome; 14] = [
 ];
 
 #[test]
-fn outcomes_of_a_crash(rt: HostRuntime) -> Result<(), Fail> {
-    all_hold(rt.alloc(), &OUTCOMES)
+fn outcomes_of_a_crash(rt: HostRuntime) {
+    all_hold(&rt, rt.alloc(), &OUTCOMES);
 }
 
 // A log of one record, its gate open, and a closed gate: 23 bytes.
@@ -247,15 +240,13 @@ const STOPPED: &[u8] = &[
     1, 1, 1, 1, 1, 1, 1, 1, 1, 1, 1, 1, 1, 1, 1, 1, 1, 1, 1, 1, 1, 1,
 ];
 
-// What such a log is left as by a stop in an append.
-fn leaves_log(alloc: Global) -> Result<bool, DiskError> {
-    let acts = [Act::Write(FILE, 0, LOG), SYNC, Act::Write(FILE, 23, NEXT)];
-    leaves_after(alloc, &acts, Choice::Bytes(&[1]), Some(STOPPED))
-}
+const IN_AN_APPEND: &[Act] = &[Act::Write(FILE, 0, LOG), SYNC, Act::Write(FILE, 23, NEXT)];
 
 #[test]
-fn a_log_that_stops_in_an_append(rt: HostRuntime) -> Result<(), Fail> {
-    is_so(leaves_log(rt.alloc()))
+fn a_log_that_stops_in_an_append(rt: HostRuntime) {
+    let junk = Choice::Bytes(&[1]);
+    let is_left = leaves_after(&rt, rt.alloc(), IN_AN_APPEND, junk, Some(STOPPED));
+    is_so(&rt, is_left, "another content");
 }
 
 // Files 2 and 9 were never synced, and file 5 was.
@@ -266,32 +257,27 @@ const THREE_FILES: &[Act] = &[
     Act::Sync(5),
 ];
 
-fn three_files(alloc: Global) -> Result<MemDisk, DiskError> {
+fn three_files(rt: &impl Abort, alloc: Global) -> MemDisk {
     let mut disk = MemDisk::new(alloc);
-    run(&mut disk, THREE_FILES)?;
-    Ok(disk)
+    run(rt, &mut disk, THREE_FILES);
+    disk
 }
 
 // Whether the disk has these files.
-fn has_files(disk: &mut MemDisk, want: &[u64]) -> Result<bool, DiskError> {
-    Ok(disk.files()?.as_slice() == want)
+fn has_files(rt: &impl Abort, disk: &mut MemDisk, want: &[u64]) -> bool {
+    disk.files().expect(rt, "the files").as_slice() == want
 }
 
 // A file, and its content after a crash with the junk 6, 7.
 struct Begun(u64, &'static [u8]);
 
 impl Case for Begun {
-    type Error = DiskError;
-
-    fn holds(&self, alloc: Global) -> Result<bool, DiskError> {
-        let mut disk = three_files(alloc)?;
-        leaves(
-            alloc,
-            &mut disk,
-            Choice::Bytes(&[6, 7]),
-            self.0,
-            Some(self.1),
-        )
+    fn holds(&self, rt: &impl Abort, alloc: Global) -> bool {
+        let mut disk = three_files(rt, alloc);
+        let junk = Choice::Bytes(&[6, 7]);
+        let is_left = leaves(rt, alloc, &mut disk, junk, self.0, Some(self.1));
+        drop(disk);
+        is_left
     }
 }
 
@@ -302,45 +288,43 @@ static BEGUN: [Begun; 3] = [
 ];
 
 #[test]
-fn each_file_begins_with_the_first_junk(rt: HostRuntime) -> Result<(), Fail> {
-    all_hold(rt.alloc(), &BEGUN)
+fn each_file_begins_with_the_first_junk(rt: HostRuntime) {
+    all_hold(&rt, rt.alloc(), &BEGUN);
 }
 
 // Whether these are the files as they are made, once the synced one is removed, and after a crash.
-fn returns_after(alloc: Global, disk: &mut MemDisk) -> Result<bool, DiskError> {
-    let is_made = has_files(disk, &[2, 5, 9])?;
-    run(disk, &[Act::Remove(5)])?;
-    let is_removed = has_files(disk, &[2, 9])?;
+fn returns_after(rt: &impl Abort, alloc: Global, disk: &mut MemDisk) -> bool {
+    let is_made = has_files(rt, disk, &[2, 5, 9]);
+    run(rt, disk, &[Act::Remove(5)]);
+    let is_removed = has_files(rt, disk, &[2, 9]);
     disk.arm(&Fault::None);
-    crash(alloc, disk, Choice::Old)?;
-    Ok(is_made && is_removed && has_files(disk, &[5])?)
-}
-
-fn returns(alloc: Global) -> Result<bool, DiskError> {
-    returns_after(alloc, &mut three_files(alloc)?)
+    crash(rt, alloc, disk, Choice::Old);
+    has_files(rt, disk, &[5]) && is_made && is_removed
 }
 
 #[test]
-fn old_leaves_what_was_synced(rt: HostRuntime) -> Result<(), Fail> {
-    is_so(returns(rt.alloc()))
+fn old_leaves_what_was_synced(rt: HostRuntime) {
+    let mut disk = three_files(&rt, rt.alloc());
+    let returns = returns_after(&rt, rt.alloc(), &mut disk);
+    is_so(&rt, returns, "other files");
 }
 
 // Whether a file of a disk is as it was written, and that of its clone, which stopped, as it was
 // synced.
-fn leaves_both(alloc: Global, disk: &mut MemDisk) -> Result<bool, DiskError> {
-    run(disk, &[Act::Write(5, 1, b"XYZW")])?;
-    let mut copy = disk.clone()?;
-    let is_written = leaves(alloc, disk, Choice::New, 5, Some(b"fXYZW"))?;
-    Ok(is_written && leaves(alloc, &mut copy, Choice::Old, 5, Some(b"five"))?)
-}
-
-fn clones(alloc: Global) -> Result<bool, DiskError> {
-    leaves_both(alloc, &mut three_files(alloc)?)
+fn leaves_both(rt: &impl Abort, alloc: Global, disk: &mut MemDisk) -> bool {
+    run(rt, disk, &[Act::Write(5, 1, b"XYZW")]);
+    let mut copy = disk.clone().expect(rt, "memory");
+    let is_written = leaves(rt, alloc, disk, Choice::New, 5, Some(b"fXYZW"));
+    let is_synced = leaves(rt, alloc, &mut copy, Choice::Old, 5, Some(b"five"));
+    drop(copy);
+    is_written && is_synced
 }
 
 #[test]
-fn a_clone_goes_its_own_way(rt: HostRuntime) -> Result<(), Fail> {
-    is_so(clones(rt.alloc()))
+fn a_clone_goes_its_own_way(rt: HostRuntime) {
+    let mut disk = three_files(&rt, rt.alloc());
+    let leaves_both = leaves_both(&rt, rt.alloc(), &mut disk);
+    is_so(&rt, leaves_both, "another content");
 }
 
 const MISSING: Option<DiskError> = Some(DiskError::NoFile);
@@ -373,17 +357,16 @@ static CALLS: [(Act, Option<DiskError>); 20] = [
     (Act::Write(1, 0, b"!"), None),
 ];
 
-// Makes the calls, each after those before it, and then has these files.
-fn refuses(disk: &mut MemDisk) -> Result<(), Fail> {
+// Makes the calls, each after those before it. The failure names the first with another refusal.
+fn all_are_refused(rt: &impl Abort, disk: &mut MemDisk) {
     for (index, (call, want)) in CALLS.iter().enumerate() {
-        if refusal_of(disk, *call) != *want {
-            return Err(is_wrong(index));
-        }
+        holds_at(rt, index, refusal_of(disk, *call) == *want);
     }
-    is_so(has_files(disk, &[1, 2, 9]))
 }
 
 #[test]
-fn refusals(rt: HostRuntime) -> Result<(), Fail> {
-    refuses(&mut three_files(rt.alloc())?)
+fn refusals(rt: HostRuntime) {
+    let mut disk = three_files(&rt, rt.alloc());
+    all_are_refused(&rt, &mut disk);
+    is_so(&rt, has_files(&rt, &mut disk, &[1, 2, 9]), "other files");
 }

@@ -1,12 +1,12 @@
 //! Frames with a field at a bound of its range, and one step past it.
 use crate::bytes::is_frame;
 use crate::cases::{Case, all_hold};
-use crate::items::rows_of;
+use crate::items::{copy_of, rows_of};
 use crate::round_trips::written;
-use kv_types::{KvError, Number, Page};
+use kv_types::{Number, Page};
 use link_messages::{Frame, FrameError};
-use std::alloc::{AllocError, Global};
-use std::test::Fail;
+use std::alloc::Global;
+use std::process::Abort;
 
 const BAD: Option<FrameError> = Some(FrameError::BadField);
 
@@ -14,10 +14,8 @@ const BAD: Option<FrameError> = Some(FrameError::BadField);
 struct Fields(&'static [u8], Option<FrameError>);
 
 impl Case for Fields {
-    type Error = FrameError;
-
-    fn holds(&self, alloc: Global) -> Result<bool, FrameError> {
-        is_frame(alloc, self.0, self.1)
+    fn holds(&self, rt: &impl Abort, alloc: Global) -> bool {
+        is_frame(rt, alloc, self.0, self.1)
     }
 }
 
@@ -75,26 +73,26 @@ static FIELDS: [Fields; 15] = [
 ];
 
 #[test]
-fn fields_at_their_bounds(rt: HostRuntime) -> Result<(), Fail> {
-    all_hold(rt.alloc(), &FIELDS)
+fn fields_at_their_bounds(rt: HostRuntime) {
+    all_hold(&rt, rt.alloc(), &FIELDS);
 }
 
 /// Appends this many bytes behind their length.
-fn put_text(bytes: &mut Vec<u8>, len: u16) -> Result<(), AllocError> {
-    bytes.extend_from_slice(&len.to_be_bytes())?;
-    bytes.resize(bytes.len().saturating_add(len as usize), 120)
+fn put_text(rt: &impl Abort, bytes: &mut Vec<u8>, len: u16) {
+    let field = len.to_be_bytes();
+    bytes.extend_from_slice(&field).expect(rt, "memory");
+    let end = bytes.len().saturating_add(len as usize);
+    bytes.resize(end, 120).expect(rt, "memory");
 }
 
 /// The bytes before a key of a Get or a value of a Value, its length, and the error.
 struct Long(&'static [u8], u16, Option<FrameError>);
 
 impl Case for Long {
-    type Error = FrameError;
-
-    fn holds(&self, alloc: Global) -> Result<bool, FrameError> {
-        let mut content = self.0.to_vec(alloc)?;
-        put_text(&mut content, self.1)?;
-        is_frame(alloc, &content, self.2)
+    fn holds(&self, rt: &impl Abort, alloc: Global) -> bool {
+        let mut content = copy_of(rt, alloc, self.0);
+        put_text(rt, &mut content, self.1);
+        is_frame(rt, alloc, &content, self.2)
     }
 }
 
@@ -114,15 +112,15 @@ static TEXTS: [Long; 4] = [
 ];
 
 #[test]
-fn keys_and_values_at_their_limits(rt: HostRuntime) -> Result<(), Fail> {
-    all_hold(rt.alloc(), &TEXTS)
+fn keys_and_values_at_their_limits(rt: HostRuntime) {
+    all_hold(&rt, rt.alloc(), &TEXTS);
 }
 
 /// Appends a put with a key and a value of these lengths.
-fn put_edit(bytes: &mut Vec<u8>, key: u16, value: u16) -> Result<(), AllocError> {
-    bytes.push(1)?;
-    put_text(bytes, key)?;
-    put_text(bytes, value)
+fn put_edit(rt: &impl Abort, bytes: &mut Vec<u8>, key: u16, value: u16) {
+    bytes.push(1).expect(rt, "memory");
+    put_text(rt, bytes, key);
+    put_text(rt, bytes, value);
 }
 
 /// Puts in a batch: how many, with a key and a value of which lengths, the length of the value of
@@ -131,22 +129,21 @@ struct Puts(u16, u16, u16, u16, Option<FrameError>);
 
 impl Puts {
     /// Appends the batch.
-    fn put_batch(&self, bytes: &mut Vec<u8>) -> Result<(), AllocError> {
-        bytes.extend_from_slice(&self.0.saturating_add(1).to_be_bytes())?;
+    fn put_batch(&self, rt: &impl Abort, bytes: &mut Vec<u8>) {
+        let count = self.0.saturating_add(1).to_be_bytes();
+        bytes.extend_from_slice(&count).expect(rt, "memory");
         for _ in 0..self.0 {
-            put_edit(bytes, self.1, self.2)?;
+            put_edit(rt, bytes, self.1, self.2);
         }
-        put_edit(bytes, 0, self.3)
+        put_edit(rt, bytes, 0, self.3);
     }
 }
 
 impl Case for Puts {
-    type Error = FrameError;
-
-    fn holds(&self, alloc: Global) -> Result<bool, FrameError> {
-        let mut content = [4, 0, 0, 0, 0, 0, 0, 0, 1].to_vec(alloc)?;
-        self.put_batch(&mut content)?;
-        is_frame(alloc, &content, self.4)
+    fn holds(&self, rt: &impl Abort, alloc: Global) -> bool {
+        let mut content = copy_of(rt, alloc, &[4, 0, 0, 0, 0, 0, 0, 0, 1]);
+        self.put_batch(rt, &mut content);
+        is_frame(rt, alloc, &content, self.4)
     }
 }
 
@@ -163,8 +160,8 @@ static BATCHES: [Puts; 6] = [
 ];
 
 #[test]
-fn batches_at_their_limits(rt: HostRuntime) -> Result<(), Fail> {
-    all_hold(rt.alloc(), &BATCHES)
+fn batches_at_their_limits(rt: HostRuntime) {
+    all_hold(&rt, rt.alloc(), &BATCHES);
 }
 
 /// Rows of a page: how many, with a key and a value of which lengths, the length of the value of
@@ -172,27 +169,21 @@ fn batches_at_their_limits(rt: HostRuntime) -> Result<(), Fail> {
 struct Rows(usize, usize, usize, usize, Option<FrameError>);
 
 impl Rows {
-    /// The bytes of their frame.
-    fn to_bytes(&self, alloc: Global) -> Result<Vec<u8>, KvError> {
-        let rows = rows_of(alloc, self.0, self.1, self.2, self.3)?;
-        let (request, number, page) = (Number::ZERO, Number::ZERO, Page::new(rows, false));
-        Ok(written(
-            alloc,
-            Frame::RowsAre {
-                request,
-                number,
-                page,
-            },
-        )?)
+    /// Their frame.
+    fn to_frame(&self, rt: &impl Abort, alloc: Global) -> Frame {
+        let rows = rows_of(rt, alloc, self.0, (self.1, self.2), self.3);
+        Frame::RowsAre {
+            request: Number::ZERO,
+            number: Number::ZERO,
+            page: Page::new(rows, false),
+        }
     }
 }
 
 impl Case for Rows {
-    type Error = FrameError;
-
-    fn holds(&self, alloc: Global) -> Result<bool, FrameError> {
-        let bytes = self.to_bytes(alloc).or(Err(FrameError::Memory))?;
-        is_frame(alloc, bytes.get(4..).unwrap_or(&[]), self.4)
+    fn holds(&self, rt: &impl Abort, alloc: Global) -> bool {
+        let bytes = written(rt, alloc, self.to_frame(rt, alloc));
+        is_frame(rt, alloc, bytes.get(4..).unwrap_or(&[]), self.4)
     }
 }
 
@@ -206,6 +197,6 @@ static PAGES: [Rows; 4] = [
 ];
 
 #[test]
-fn pages_at_their_limits(rt: HostRuntime) -> Result<(), Fail> {
-    all_hold(rt.alloc(), &PAGES)
+fn pages_at_their_limits(rt: HostRuntime) {
+    all_hold(&rt, rt.alloc(), &PAGES);
 }

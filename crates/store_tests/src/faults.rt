@@ -2,8 +2,8 @@
 use crate::cases::{Case, all_hold};
 use crate::crashes::{ABC, Act, Choice, FILE, REMOVE, SYNC, crash, is_content, refusal_of, run};
 use disk::{Crash, DiskError, Fault, Junk, MemDisk};
-use std::alloc::{AllocError, Global};
-use std::test::Fail;
+use std::alloc::Global;
+use std::process::Abort;
 
 const LENGTH: Act = Act::Length(FILE);
 
@@ -39,30 +39,30 @@ fn all_fail(disk: &mut MemDisk, call: Act) -> bool {
 }
 
 // Arms a disk with no fault, or lets it crash, so that it works again.
-fn mend(alloc: Global, disk: &mut MemDisk, choice: Option<Choice>) -> Result<(), AllocError> {
+fn mend(rt: &impl Abort, alloc: Global, disk: &mut MemDisk, choice: Option<Choice>) {
     match choice {
-        Some(choice) => crash(alloc, disk, choice),
-        None => {
-            arm(disk, &Fault::None);
-            Ok(())
-        }
+        Some(choice) => crash(rt, alloc, disk, choice),
+        None => arm(disk, &Fault::None),
     }
 }
 
 // Whether a struck call and all later ones fail, the fault has struck, and the disk works again and
 // has this file.
 fn is_struck(
+    rt: &impl Abort,
     alloc: Global,
     row: &Struck,
     choice: Option<Choice>,
     want: Option<&[u8]>,
-) -> Result<bool, DiskError> {
+) -> bool {
     let mut disk = MemDisk::new(alloc);
-    run(&mut disk, row.0)?;
+    run(rt, &mut disk, row.0);
     arm(&mut disk, &Fault::Fail(1));
     let is_failing = all_fail(&mut disk, row.1) && disk.has_struck();
-    mend(alloc, &mut disk, choice)?;
-    Ok(is_failing && !disk.has_struck() && is_content(&mut disk, FILE, want)?)
+    mend(rt, alloc, &mut disk, choice);
+    let is_mended = !disk.has_struck() && is_content(rt, &mut disk, FILE, want);
+    drop(disk);
+    is_failing && is_mended
 }
 
 // Acts, and the call after them that a fault strikes. Then what a crash leaves by `Old`, by `New`,
@@ -76,20 +76,13 @@ struct Struck(
 );
 
 impl Case for Struck {
-    type Error = DiskError;
-
-    fn holds(&self, alloc: Global) -> Result<bool, DiskError> {
-        for (choice, want) in [
-            (None, self.3),
-            (Some(Choice::Old), self.2),
-            (Some(Choice::New), self.3),
-            (Some(Choice::Bytes(&[1, 2, 3])), self.4),
-        ] {
-            if !is_struck(alloc, self, choice, want)? {
-                return Ok(false);
-            }
-        }
-        Ok(true)
+    fn holds(&self, rt: &impl Abort, alloc: Global) -> bool {
+        let is_read = is_struck(rt, alloc, self, None, self.3);
+        let is_old = is_struck(rt, alloc, self, Some(Choice::Old), self.2);
+        let is_new = is_struck(rt, alloc, self, Some(Choice::New), self.3);
+        let junk = Choice::Bytes(&[1, 2, 3]);
+        let is_junk = is_struck(rt, alloc, self, Some(junk), self.4);
+        is_read && is_old && is_new && is_junk
     }
 }
 
@@ -185,8 +178,8 @@ static STRUCK: [Struck; 20] = [
 ];
 
 #[test]
-fn what_a_struck_call_leaves(rt: HostRuntime) -> Result<(), Fail> {
-    all_hold(rt.alloc(), &STRUCK)
+fn what_a_struck_call_leaves(rt: HostRuntime) {
+    all_hold(&rt, rt.alloc(), &STRUCK);
 }
 
 // A fault of a table.
@@ -223,14 +216,14 @@ fn answers(disk: &mut MemDisk) -> Answers {
 struct Counted(Kind, Answers, bool);
 
 impl Case for Counted {
-    type Error = AllocError;
-
-    fn holds(&self, alloc: Global) -> Result<bool, AllocError> {
+    fn holds(&self, _rt: &impl Abort, alloc: Global) -> bool {
         let mut disk = MemDisk::new(alloc);
         arm(&mut disk, &Fault::Fail(3));
         let _missing = refusal_of(&mut disk, READ);
         arm(&mut disk, &fault_of(self.0));
-        Ok(answers(&mut disk) == self.1 && disk.has_struck() == self.2)
+        let is_answer = answers(&mut disk) == self.1 && disk.has_struck() == self.2;
+        drop(disk);
+        is_answer
     }
 }
 
@@ -247,6 +240,6 @@ static COUNTED: [Counted; 9] = [
 ];
 
 #[test]
-fn the_call_that_a_fault_strikes(rt: HostRuntime) -> Result<(), Fail> {
-    all_hold(rt.alloc(), &COUNTED)
+fn the_call_that_a_fault_strikes(rt: HostRuntime) {
+    all_hold(&rt, rt.alloc(), &COUNTED);
 }

@@ -1,9 +1,9 @@
 // Lists that are configurations, lists of configurations, and the errors of other lists.
-use crate::cases::{Case, all_hold, is_so};
-use crate::items::config_of;
+use crate::cases::{Case, all_hold, has_memory, is_so};
+use crate::items::{config_of, try_config};
 use configurations::{Config, ConfigError, Configs, Epoch, NodeId};
 use std::alloc::Global;
-use std::test::Fail;
+use std::process::Abort;
 
 const SIXTEEN: &[u16] = &[2, 3, 4, 5, 6, 7, 8, 9, 10, 11, 12, 13, 14, 15, 16, 17];
 
@@ -13,13 +13,10 @@ const SEVENTEEN: &[u16] = &[1, 2, 3, 4, 5, 6, 7, 8, 9, 10, 11, 12, 13, 14, 15, 1
 struct IdList(&'static [u16], Option<ConfigError>);
 
 impl Case for IdList {
-    type Error = ConfigError;
-
-    fn holds(&self, alloc: Global) -> Result<bool, ConfigError> {
-        match config_of(alloc, self.0) {
-            Err(ConfigError::Memory) => Err(ConfigError::Memory),
-            config => Ok(config.err() == self.1),
-        }
+    fn holds(&self, rt: &impl Abort, alloc: Global) -> bool {
+        let found = try_config(rt, alloc, self.0).err();
+        has_memory(rt, found == Some(ConfigError::Memory));
+        found == self.1
     }
 }
 
@@ -35,22 +32,21 @@ static IDS: [IdList; 8] = [
 ];
 
 #[test]
-fn ids(rt: HostRuntime) -> Result<(), Fail> {
-    all_hold(rt.alloc(), &IDS)
+fn ids(rt: HostRuntime) {
+    all_hold(&rt, rt.alloc(), &IDS);
 }
 
 /// A list of configurations, and its error.
 struct ConfigList(&'static [&'static [u16]], Option<ConfigError>);
 
 impl Case for ConfigList {
-    type Error = ConfigError;
-
-    fn holds(&self, alloc: Global) -> Result<bool, ConfigError> {
+    fn holds(&self, rt: &impl Abort, alloc: Global) -> bool {
         let mut configs = Vec::new(alloc);
         for ids in self.0 {
-            configs.push(config_of(alloc, *ids)?)?;
+            let config = config_of(rt, alloc, *ids);
+            configs.push(config).expect(rt, "memory");
         }
-        Ok(Configs::new(configs).err() == self.1)
+        Configs::new(configs).err() == self.1
     }
 }
 
@@ -89,8 +85,8 @@ static LISTS: [ConfigList; 8] = [
 ];
 
 #[test]
-fn lists(rt: HostRuntime) -> Result<(), Fail> {
-    all_hold(rt.alloc(), &LISTS)
+fn lists(rt: HostRuntime) {
+    all_hold(&rt, rt.alloc(), &LISTS);
 }
 
 /// The numbers of the faults.
@@ -130,10 +126,11 @@ impl Neighbour {
 }
 
 impl Case for Neighbour {
-    type Error = ConfigError;
-
-    fn holds(&self, alloc: Global) -> Result<bool, ConfigError> {
-        Ok(self.is_in(&config_of(alloc, &[5, 2, 9])?))
+    fn holds(&self, rt: &impl Abort, alloc: Global) -> bool {
+        let config = config_of(rt, alloc, &[5, 2, 9]);
+        let is_in = self.is_in(&config);
+        drop(config);
+        is_in
     }
 }
 
@@ -145,23 +142,28 @@ static NEIGHBOURS: [Neighbour; 4] = [
 ];
 
 #[test]
-fn neighbours(rt: HostRuntime) -> Result<(), Fail> {
-    all_hold(rt.alloc(), &NEIGHBOURS)
+fn neighbours(rt: HostRuntime) {
+    all_hold(&rt, rt.alloc(), &NEIGHBOURS);
 }
 
 /// Whether a configuration has its head and its tail, and a copy of it the ids.
-fn has_ends(alloc: Global) -> Result<bool, ConfigError> {
-    let config = config_of(alloc, &[5, 2, 9])?;
-    let len = config.clone()?.ids().len();
-    Ok((config.head().get(), config.tail().get(), len) == (5, 9, 3))
+fn has_ends(rt: &impl Abort, config: &Config) -> bool {
+    let copy = config.clone().expect(rt, "memory");
+    let len = copy.ids().len();
+    drop(copy);
+    config.head().get() == 5 && config.tail().get() == 9 && len == 3
 }
 
 #[test]
-fn head_and_tail(rt: HostRuntime) -> Result<(), Fail> {
-    is_so(has_ends(rt.alloc()))
+fn head_and_tail(rt: HostRuntime) {
+    let config = config_of(&rt, rt.alloc(), &[5, 2, 9]);
+    let has_ends = has_ends(&rt, &config);
+    drop(config);
+    is_so(&rt, has_ends, "other ends");
 }
 
 #[test]
 fn epochs(rt: HostRuntime) {
-    assert!(rt; Epoch::new(15).is_some() && Epoch::new(16).is_none());
+    is_so(&rt, Epoch::new(15).is_some(), "15 is an epoch");
+    is_so(&rt, Epoch::new(16).is_none(), "16 is none");
 }

@@ -1,10 +1,11 @@
 // The bytes of complete logs, openings, and failures that stay.
-use crate::cases::{Case, Text, all_hold, is_so};
+use crate::cases::{Case, all_hold, has_memory, is_so};
 use crate::crashes::{Act, Choice, FILE, REMOVE, SYNC, crash, is_content, run};
+use crate::items::{filled, is_same};
 use disk::{DiskError, MemDisk};
 use record_log::{Log, LogError};
 use std::alloc::Global;
-use std::test::Fail;
+use std::process::Abort;
 
 // The number 1 and the batch that puts 1 at a.
 const FIRST: &[u8] = &[0, 0, 0, 0, 0, 0, 0, 1, 0, 1, 1, 0, 1, b'a', 0, 1, b'1'];
@@ -28,56 +29,85 @@ const BOTH: &[u8] = &[
     0, 0, 0, 0, 0, 0, 2, 0, 1, 1, 0, 1, b'a', 0, 1, b'2', 0,
 ];
 
-// The calls of a log, without their contracts.
-fn open(alloc: Global, disk: &mut MemDisk, start: u64) -> Result<Log, LogError> {
-    Ok(Log::open(alloc, disk, FILE, start)?.log)
-}
-
-fn append(alloc: Global, disk: &mut MemDisk, log: &mut Log, bytes: &[u8]) -> Result<(), LogError> {
-    log.append(alloc, disk, bytes)
-}
-
-fn log_of(alloc: Global, disk: &mut MemDisk, records: &[&[u8]]) -> Result<Log, LogError> {
-    let mut log = Log::create(alloc, disk, FILE)?;
-    for one in records {
-        append(alloc, disk, &mut log, one)?;
+// The calls of a log, without their contracts. Want of memory ends the test.
+fn try_open(
+    rt: &impl Abort,
+    alloc: Global,
+    disk: &mut MemDisk,
+    start: u64,
+) -> Result<Log, LogError> {
+    match Log::open(alloc, disk, FILE, start) {
+        Ok(opened) => Ok(opened.log),
+        Err(e) => {
+            has_memory(rt, e == LogError::Memory);
+            Err(e)
+        }
     }
-    Ok(log)
+}
+
+fn open(rt: &impl Abort, alloc: Global, disk: &mut MemDisk, start: u64) -> Log {
+    try_open(rt, alloc, disk, start).expect(rt, "a log")
+}
+
+// The refusal of an append, if it is refused.
+fn refusal(
+    rt: &impl Abort,
+    alloc: Global,
+    disk: &mut MemDisk,
+    log: &mut Log,
+    bytes: &[u8],
+) -> Option<LogError> {
+    let refused = log.append(alloc, disk, bytes).err();
+    has_memory(rt, refused == Some(LogError::Memory));
+    refused
+}
+
+fn append(rt: &impl Abort, alloc: Global, disk: &mut MemDisk, log: &mut Log, bytes: &[u8]) {
+    log.append(alloc, disk, bytes).expect(rt, "an append");
+}
+
+fn log_of(rt: &impl Abort, alloc: Global, disk: &mut MemDisk, records: &[&[u8]]) -> Log {
+    let mut log = Log::create(alloc, disk, FILE).expect(rt, "a log");
+    for one in records {
+        append(rt, alloc, disk, &mut log, one);
+    }
+    log
+}
+
+fn is_record(one: &[u8], want: Option<&&[u8]>) -> bool {
+    match want {
+        Some(want) => is_same(one, *want),
+        None => false,
+    }
 }
 
 // Whether the log has these records and no others.
-fn has(alloc: Global, disk: &mut MemDisk, log: &Log, want: &[&[u8]]) -> Result<bool, LogError> {
+fn has(rt: &impl Abort, alloc: Global, disk: &mut MemDisk, log: &Log, want: &[&[u8]]) -> bool {
     let mut same = log.len() == want.len();
     for index in 0..log.len() {
-        let one = log.record(alloc, disk, index)?;
-        same = same && want.get(index) == Some(&one.as_slice());
+        let one = log.record(alloc, disk, index).expect(rt, "a record");
+        same = same && is_record(&one, want.get(index));
     }
-    Ok(same)
+    same
 }
 
 // Whether the log has these records and no others after opening.
-fn opens(alloc: Global, disk: &mut MemDisk, want: &[&[u8]]) -> Result<bool, LogError> {
-    let log = open(alloc, disk, 0)?;
-    has(alloc, disk, &log, want)
+fn opens(rt: &impl Abort, alloc: Global, disk: &mut MemDisk, want: &[&[u8]]) -> bool {
+    let log = open(rt, alloc, disk, 0);
+    has(rt, alloc, disk, &log, want)
 }
 
 // Records, and the bytes of their log.
 struct Logged(&'static [&'static [u8]], &'static [u8]);
 
-impl Logged {
-    // Whether the log of these records has them, also after opening.
-    fn has_records(&self, alloc: Global, disk: &mut MemDisk) -> Result<bool, LogError> {
-        let log = log_of(alloc, disk, self.0)?;
-        Ok(has(alloc, disk, &log, self.0)? && opens(alloc, disk, self.0)?)
-    }
-}
-
 impl Case for Logged {
-    type Error = LogError;
-
-    fn holds(&self, alloc: Global) -> Result<bool, LogError> {
+    // Whether the log of these records has them, also after opening, and these bytes.
+    fn holds(&self, rt: &impl Abort, alloc: Global) -> bool {
         let mut disk = MemDisk::new(alloc);
-        Ok(self.has_records(alloc, &mut disk)? && is_content(&mut disk, FILE, Some(self.1))?)
+        let log = log_of(rt, alloc, &mut disk, self.0);
+        let has = has(rt, alloc, &mut disk, &log, self.0);
+        let opens = opens(rt, alloc, &mut disk, self.0);
+        is_content(rt, &mut disk, FILE, Some(self.1)) && has && opens
     }
 }
 
@@ -93,14 +123,14 @@ static LOGS: [Logged; 5] = [
 ];
 
 #[test]
-fn bytes_of_a_log(rt: HostRuntime) -> Result<(), Fail> {
-    all_hold(rt.alloc(), &LOGS)
+fn bytes_of_a_log(rt: HostRuntime) {
+    all_hold(&rt, rt.alloc(), &LOGS);
 }
 
 // The first record is in the log, and the next is behind its gate.
-fn begin_next(alloc: Global, disk: &mut MemDisk) -> Result<(), LogError> {
-    let _log = log_of(alloc, disk, &[FIRST])?;
-    Ok(run(disk, &[Act::Write(FILE, 23, BEHIND)])?)
+fn begin_next(rt: &impl Abort, alloc: Global, disk: &mut MemDisk) {
+    log_of(rt, alloc, disk, &[FIRST]);
+    run(rt, disk, &[Act::Write(FILE, 23, BEHIND)]);
 }
 
 // The log of the first, and junk in place of the next.
@@ -109,43 +139,31 @@ const STOPPED: &[u8] = &[
     1, 1, 1, 1, 1, 1, 1, 1, 1, 1, 1, 1, 1, 1, 1, 1, 1, 1, 1, 1, 1, 1,
 ];
 
-// Whether a stop then leaves these bytes, and that log has one record.
-fn leaves_first(alloc: Global, disk: &mut MemDisk) -> Result<bool, LogError> {
-    begin_next(alloc, disk)?;
-    crash(alloc, disk, Choice::Bytes(&[1]))?;
-    Ok(is_content(disk, FILE, Some(STOPPED))? && open(alloc, disk, 0)?.len() == 1)
-}
-
+// A stop then leaves these bytes, and that log has one record.
 #[test]
-fn a_stop_before_the_first_sync(rt: HostRuntime) -> Result<(), Fail> {
-    is_so(leaves_first(rt.alloc(), &mut MemDisk::new(rt.alloc())))
+fn a_stop_before_the_first_sync(rt: HostRuntime) {
+    let mut disk = MemDisk::new(rt.alloc());
+    begin_next(&rt, rt.alloc(), &mut disk);
+    crash(&rt, rt.alloc(), &mut disk, Choice::Bytes(&[1]));
+    let is_left = is_content(&rt, &mut disk, FILE, Some(STOPPED));
+    is_so(&rt, is_left, "another content");
+    let len = open(&rt, rt.alloc(), &mut disk, 0).len();
+    is_so(&rt, len == 1, "other records");
 }
 
 // How the machine stops with the gate written, and what the log then has, and a last record.
 struct AtGate(Choice, &'static [&'static [u8]]);
 
-impl AtGate {
-    // Stops, and opens the log.
-    fn stop(&self, alloc: Global, disk: &mut MemDisk) -> Result<Log, LogError> {
-        begin_next(alloc, disk)?;
-        run(disk, &[SYNC, Act::Write(FILE, 22, &[1])])?;
-        crash(alloc, disk, self.0)?;
-        open(alloc, disk, 0)
-    }
-
-    // Whether an append then leads to these records.
-    fn leads_to(&self, alloc: Global, disk: &mut MemDisk) -> Result<bool, LogError> {
-        let mut log = self.stop(alloc, disk)?;
-        append(alloc, disk, &mut log, b"last")?;
-        has(alloc, disk, &log, self.1)
-    }
-}
-
 impl Case for AtGate {
-    type Error = LogError;
-
-    fn holds(&self, alloc: Global) -> Result<bool, LogError> {
-        self.leads_to(alloc, &mut MemDisk::new(alloc))
+    // Whether an append to the log that is opened then leads to these records.
+    fn holds(&self, rt: &impl Abort, alloc: Global) -> bool {
+        let mut disk = MemDisk::new(alloc);
+        begin_next(rt, alloc, &mut disk);
+        run(rt, &mut disk, &[SYNC, Act::Write(FILE, 22, &[1])]);
+        crash(rt, alloc, &mut disk, self.0);
+        let mut log = open(rt, alloc, &mut disk, 0);
+        append(rt, alloc, &mut disk, &mut log, b"last");
+        has(rt, alloc, &mut disk, &log, self.1)
     }
 }
 
@@ -165,48 +183,39 @@ static GATES: [AtGate; 6] = [
 ];
 
 #[test]
-fn a_stop_before_the_last_sync(rt: HostRuntime) -> Result<(), Fail> {
-    all_hold(rt.alloc(), &GATES)
+fn a_stop_before_the_last_sync(rt: HostRuntime) {
+    all_hold(&rt, rt.alloc(), &GATES);
 }
 
 const SHORT: Option<LogError> = Some(LogError::Disk(DiskError::Short));
 
-// The refusal of a call, if it was refused. Want of memory ends the test.
-fn refusal(answer: Result<(), LogError>) -> Result<Option<LogError>, LogError> {
-    match answer {
-        Ok(()) => Ok(None),
-        Err(LogError::Memory) => Err(LogError::Memory),
-        Err(e) => Ok(Some(e)),
-    }
-}
-
 // A disk with this file, synced.
-fn disk_with(alloc: Global, bytes: &'static [u8]) -> Result<MemDisk, DiskError> {
+fn disk_with(rt: &impl Abort, alloc: Global, bytes: &'static [u8]) -> MemDisk {
     let mut disk = MemDisk::new(alloc);
-    run(&mut disk, &[Act::Write(FILE, 0, bytes), SYNC])?;
-    Ok(disk)
+    run(rt, &mut disk, &[Act::Write(FILE, 0, bytes), SYNC]);
+    disk
 }
 
 // A file, the place where its log begins, the refusal of opening, and the number of records.
 struct Opening(Option<&'static [u8]>, u64, Option<LogError>, usize);
 
 impl Opening {
-    // Whether the disk's log is opened so.
-    fn opens_so(&self, alloc: Global, disk: &mut MemDisk) -> Result<bool, LogError> {
-        match open(alloc, disk, self.1) {
-            Ok(log) => Ok(self.2.is_none() && log.len() == self.3),
-            Err(e) => Ok(refusal(Err(e))? == self.2),
+    // The disk with the file, if there is one.
+    fn disk(&self, rt: &impl Abort, alloc: Global) -> MemDisk {
+        match self.0 {
+            Some(bytes) => disk_with(rt, alloc, bytes),
+            None => MemDisk::new(alloc),
         }
     }
 }
 
 impl Case for Opening {
-    type Error = LogError;
-
-    fn holds(&self, alloc: Global) -> Result<bool, LogError> {
-        match self.0 {
-            Some(bytes) => self.opens_so(alloc, &mut disk_with(alloc, bytes)?),
-            None => self.opens_so(alloc, &mut MemDisk::new(alloc)),
+    // Whether the disk's log is opened so.
+    fn holds(&self, rt: &impl Abort, alloc: Global) -> bool {
+        let mut disk = self.disk(rt, alloc);
+        match try_open(rt, alloc, &mut disk, self.1) {
+            Ok(log) => self.2.is_none() && log.len() == self.3,
+            Err(e) => self.2 == Some(e),
         }
     }
 }
@@ -243,28 +252,19 @@ static OPENINGS: [Opening; 22] = [
 ];
 
 #[test]
-fn what_is_opened(rt: HostRuntime) -> Result<(), Fail> {
-    all_hold(rt.alloc(), &OPENINGS)
+fn what_is_opened(rt: HostRuntime) {
+    all_hold(&rt, rt.alloc(), &OPENINGS);
 }
 
 // A file, the place where its log begins, and the file after an append of one byte.
 struct Appended(&'static [u8], u64, &'static [u8]);
 
-impl Appended {
-    // Opens the log and appends to it.
-    fn append(&self, alloc: Global, disk: &mut MemDisk) -> Result<(), LogError> {
-        let mut log = open(alloc, disk, self.1)?;
-        append(alloc, disk, &mut log, b"z")
-    }
-}
-
 impl Case for Appended {
-    type Error = LogError;
-
-    fn holds(&self, alloc: Global) -> Result<bool, LogError> {
-        let mut disk = disk_with(alloc, self.0)?;
-        self.append(alloc, &mut disk)?;
-        Ok(is_content(&mut disk, FILE, Some(self.2))?)
+    fn holds(&self, rt: &impl Abort, alloc: Global) -> bool {
+        let mut disk = disk_with(rt, alloc, self.0);
+        let mut log = open(rt, alloc, &mut disk, self.1);
+        append(rt, alloc, &mut disk, &mut log, b"z");
+        is_content(rt, &mut disk, FILE, Some(self.2))
     }
 }
 
@@ -282,8 +282,8 @@ static APPENDS: [Appended; 4] = [
 ];
 
 #[test]
-fn an_append_writes_its_own_bytes(rt: HostRuntime) -> Result<(), Fail> {
-    all_hold(rt.alloc(), &APPENDS)
+fn an_append_writes_its_own_bytes(rt: HostRuntime) {
+    all_hold(&rt, rt.alloc(), &APPENDS);
 }
 
 // The length of a record, the refusal of its append to a log of one record, and the number of
@@ -291,31 +291,22 @@ fn an_append_writes_its_own_bytes(rt: HostRuntime) -> Result<(), Fail> {
 struct Sized(usize, Option<LogError>, usize);
 
 impl Sized {
-    // Whether the append is refused so.
-    fn is_refused(
-        &self,
-        alloc: Global,
-        disk: &mut MemDisk,
-        log: &mut Log,
-    ) -> Result<bool, LogError> {
-        let bytes = vec![in alloc; 7u8; self.0]?;
-        Ok(refusal(append(alloc, disk, log, &bytes))? == self.1)
-    }
-
-    // Whether it is, and the log has so many records, also after opening.
-    fn grows(&self, alloc: Global, disk: &mut MemDisk) -> Result<bool, LogError> {
-        let mut log = log_of(alloc, disk, &[b"one"])?;
-        let is_refused = self.is_refused(alloc, disk, &mut log)?;
-        append(alloc, disk, &mut log, b"last")?;
-        Ok(is_refused && log.len() == self.2 && open(alloc, disk, 0)?.len() == self.2)
+    // Whether the append is refused so, and the log then has so many records.
+    fn grows(&self, rt: &impl Abort, alloc: Global, disk: &mut MemDisk) -> bool {
+        let mut log = log_of(rt, alloc, disk, &[b"one"]);
+        let bytes = filled(rt, alloc, 7, self.0);
+        let refused = refusal(rt, alloc, disk, &mut log, &bytes);
+        append(rt, alloc, disk, &mut log, b"last");
+        refused == self.1 && log.len() == self.2
     }
 }
 
 impl Case for Sized {
-    type Error = LogError;
-
-    fn holds(&self, alloc: Global) -> Result<bool, LogError> {
-        self.grows(alloc, &mut MemDisk::new(alloc))
+    // Whether it is, and the log has so many records, also after opening.
+    fn holds(&self, rt: &impl Abort, alloc: Global) -> bool {
+        let mut disk = MemDisk::new(alloc);
+        let grows = self.grows(rt, alloc, &mut disk);
+        open(rt, alloc, &mut disk, 0).len() == self.2 && grows
     }
 }
 
@@ -326,8 +317,8 @@ static SIZES: [Sized; 3] = [
 ];
 
 #[test]
-fn sizes_at_their_edges(rt: HostRuntime) -> Result<(), Fail> {
-    all_hold(rt.alloc(), &SIZES)
+fn sizes_at_their_edges(rt: HostRuntime) {
+    all_hold(&rt, rt.alloc(), &SIZES);
 }
 
 const LOST: Option<LogError> = Some(LogError::Disk(DiskError::NoFile));
@@ -335,31 +326,38 @@ const LOST: Option<LogError> = Some(LogError::Disk(DiskError::NoFile));
 const FAILED: Option<LogError> = Some(LogError::Failed);
 
 // Whether three appends to a log that lost its file are refused, and so is its record.
-fn refuses(alloc: Global, disk: &mut MemDisk, log: &mut Log) -> Result<bool, LogError> {
+fn refuses(rt: &impl Abort, alloc: Global, disk: &mut MemDisk, log: &mut Log) -> bool {
+    let mut all = true;
     for want in [LOST, FAILED, FAILED] {
-        if refusal(append(alloc, disk, log, b"two"))? != want {
-            return Ok(false);
-        }
+        all = refusal(rt, alloc, disk, log, b"two") == want && all;
     }
-    Ok(log.len() == 1 && log.record(alloc, disk, 0).err() == FAILED)
+    all && log.len() == 1 && log.record(alloc, disk, 0).err() == FAILED
 }
 
-// Whether the log of a file that is removed refuses each call, until it is opened again.
-fn stays_failed(alloc: Global, disk: &mut MemDisk) -> Result<bool, LogError> {
-    let mut log = log_of(alloc, disk, &[b"one"])?;
-    run(disk, &[REMOVE])?;
-    let refuses = refuses(alloc, disk, &mut log)?;
-    crash(alloc, disk, Choice::Old)?;
-    Ok(refuses && opens(alloc, disk, &[b"one"])?)
-}
-
+// The log of a file that is removed refuses each call, until it is opened again.
 #[test]
-fn a_failure_stays_until_the_log_is_opened(rt: HostRuntime) -> Result<(), Fail> {
-    is_so(stays_failed(rt.alloc(), &mut MemDisk::new(rt.alloc())))
+fn a_failure_stays_until_the_log_is_opened(rt: HostRuntime) {
+    let mut disk = MemDisk::new(rt.alloc());
+    let mut log = log_of(&rt, rt.alloc(), &mut disk, &[b"one"]);
+    run(&rt, &mut disk, &[REMOVE]);
+    let refuses = refuses(&rt, rt.alloc(), &mut disk, &mut log);
+    is_so(&rt, refuses, "another refusal");
+    crash(&rt, rt.alloc(), &mut disk, Choice::Old);
+    let opens = opens(&rt, rt.alloc(), &mut disk, &[b"one"]);
+    is_so(&rt, opens, "other records");
 }
 
-// Refusals and their texts.
-static TEXTS: [Text<LogError>; 4] = [
+// A refusal, and its text.
+struct Text(LogError, &'static str);
+
+impl Case for Text {
+    fn holds(&self, rt: &impl Abort, alloc: Global) -> bool {
+        let text = format!(in alloc; "{}", self.0).expect(rt, "memory");
+        is_same(text.as_bytes(), self.1.as_bytes())
+    }
+}
+
+static TEXTS: [Text; 4] = [
     Text(LogError::Disk(DiskError::Failed), "disk: the device failed"),
     Text(
         LogError::TooLong,
@@ -370,6 +368,6 @@ static TEXTS: [Text<LogError>; 4] = [
 ];
 
 #[test]
-fn texts_of_refusals(rt: HostRuntime) -> Result<(), Fail> {
-    all_hold(rt.alloc(), &TEXTS)
+fn texts_of_refusals(rt: HostRuntime) {
+    all_hold(&rt, rt.alloc(), &TEXTS);
 }

@@ -1,13 +1,13 @@
 //! One frame of each kind, at its smallest and at its largest, written, read and written again.
 use crate::cases::{Case, all_hold};
 use crate::items::{
-    config_of, deletions, key_of, long_batch, long_key, long_value, number, origin, rows_of,
+    config_of, deletion, is_same, long_batch, long_key, long_value, number, origin, rows_of,
 };
 use kv_types::bounds::MAX_NUMBER;
-use kv_types::{Batch, KvError, Number, Page, Range};
-use link_messages::{Frame, FrameError, FrameReader, Refusal, write};
-use std::alloc::{AllocError, Global};
-use std::test::Fail;
+use kv_types::{Batch, Number, Page, Range};
+use link_messages::{Frame, FrameReader, Refusal, write};
+use std::alloc::Global;
+use std::process::Abort;
 
 fn number_of(big: bool) -> Number {
     number(if big { MAX_NUMBER } else { 1 })
@@ -20,19 +20,19 @@ fn at_of(big: bool) -> Option<Number> {
 /// The lengths of keys and values in a batch that is spelled in 65,536 bytes.
 const BATCH: [(usize, usize); 4] = [(1024, 16384), (1024, 16384), (1024, 16384), (0, 13290)];
 
-fn batch_of(alloc: Global, big: bool) -> Result<Batch, KvError> {
+fn batch_of(rt: &impl Abort, alloc: Global, big: bool) -> Batch {
     if big {
-        return long_batch(alloc, &BATCH);
+        return long_batch(rt, alloc, &BATCH).expect(rt, "a batch");
     }
-    deletions(alloc, b"", 1)
+    deletion(rt, alloc, b"")
 }
 
 /// A page of 98,304 bytes, or without a row.
-fn page_of(alloc: Global, big: bool) -> Result<Page, KvError> {
+fn page_of(rt: &impl Abort, alloc: Global, big: bool) -> Page {
     if big {
-        return Ok(Page::new(rows_of(alloc, 5, 1024, 16384, 11240)?, true));
+        return Page::new(rows_of(rt, alloc, 5, (1024, 16384), 11240), true);
     }
-    Ok(Page::new(Vec::new(alloc), false))
+    Page::new(Vec::new(alloc), false)
 }
 
 /// The greatest ids, in a configuration of sixteen.
@@ -41,25 +41,27 @@ const SIXTEEN: &[u16] = &[
     65522, 65521, 65520,
 ];
 
-fn range_of(alloc: Global, big: bool) -> Result<Range, KvError> {
-    if !big {
-        return Range::new(key_of(alloc, b"")?, None, false, 1);
-    }
-    let from = long_key(alloc, 1024)?;
-    Range::new(from, Some(long_key(alloc, 1024)?), true, 1024)
+fn range_of(rt: &impl Abort, alloc: Global, big: bool) -> Range {
+    let range = if big {
+        let to = long_key(rt, alloc, 1024);
+        Range::new(long_key(rt, alloc, 1024), Some(to), true, 1024)
+    } else {
+        Range::new(long_key(rt, alloc, 0), None, false, 1)
+    };
+    range.expect(rt, "a range")
 }
 
 /// A frame between nodes, by its kind.
-fn link_of(alloc: Global, kind: u8, big: bool) -> Result<Frame, KvError> {
+fn link_of(rt: &impl Abort, alloc: Global, kind: u8, big: bool) -> Frame {
     let (epoch, from) = if big { (15, 65535) } else { (0, 1) };
-    let (epoch, from) = origin(epoch, from).ok_or(KvError::BadBytes)?;
+    let (epoch, from) = origin(rt, epoch, from);
     let number = number_of(big);
-    Ok(match kind {
+    match kind {
         1 => Frame::Forward {
             epoch,
             from,
             number,
-            batch: batch_of(alloc, big)?,
+            batch: batch_of(rt, alloc, big),
         },
         2 => Frame::Ack {
             epoch,
@@ -67,62 +69,58 @@ fn link_of(alloc: Global, kind: u8, big: bool) -> Result<Frame, KvError> {
             committed: number,
             have: number,
         },
-        _ => {
-            let ids = if big { SIXTEEN } else { &[65535] };
-            let config = config_of(alloc, ids).or(Err(KvError::Memory))?;
-            Frame::Notice { epoch, config }
-        }
-    })
+        _ => Frame::Notice {
+            epoch,
+            config: config_of(rt, alloc, if big { SIXTEEN } else { &[65535] }),
+        },
+    }
 }
 
 /// A client's request, by its kind.
-fn request_of(alloc: Global, kind: u8, big: bool) -> Result<Frame, KvError> {
+fn request_of(rt: &impl Abort, alloc: Global, kind: u8, big: bool) -> Frame {
     let (request, at) = (number_of(big), at_of(big));
-    Ok(match kind {
+    match kind {
         4 => Frame::Submit {
             request,
-            batch: batch_of(alloc, big)?,
+            batch: batch_of(rt, alloc, big),
         },
         5 => Frame::Get {
             request,
             at,
-            key: long_key(alloc, if big { 1024 } else { 0 })?,
+            key: long_key(rt, alloc, if big { 1024 } else { 0 }),
         },
         6 => Frame::Rows {
             request,
             at,
-            range: range_of(alloc, big)?,
+            range: range_of(rt, alloc, big),
         },
         7 => Frame::Open { request, at },
         _ => Frame::Close {
             request,
             number: request,
         },
-    })
+    }
 }
 
 /// A reply to a client, by its kind.
-fn reply_of(alloc: Global, kind: u8, big: bool) -> Result<Frame, KvError> {
+fn reply_of(rt: &impl Abort, alloc: Global, kind: u8, big: bool) -> Frame {
     let request = number_of(big);
     let number = request;
-    Ok(match kind {
+    match kind {
         9 => Frame::Committed { request, number },
-        10 => {
-            let value = if big {
-                Some(long_value(alloc, 16384)?)
+        10 => Frame::Value {
+            request,
+            number,
+            value: if big {
+                Some(long_value(rt, alloc, 16384))
             } else {
                 None
-            };
-            Frame::Value {
-                request,
-                number,
-                value,
-            }
-        }
+            },
+        },
         11 => Frame::RowsAre {
             request,
             number,
-            page: page_of(alloc, big)?,
+            page: page_of(rt, alloc, big),
         },
         12 => Frame::Opened { request, number },
         13 => Frame::Refused {
@@ -134,39 +132,31 @@ fn reply_of(alloc: Global, kind: u8, big: bool) -> Result<Frame, KvError> {
             },
         },
         _ => Frame::Closed { request, number },
-    })
-}
-
-fn frame_of(alloc: Global, kind: u8, big: bool) -> Result<Frame, KvError> {
-    match kind {
-        1..=3 => link_of(alloc, kind, big),
-        4..=8 => request_of(alloc, kind, big),
-        _ => reply_of(alloc, kind, big),
     }
 }
 
-/// The bytes of a frame, which is let go.
-pub fn written(alloc: Global, frame: Frame) -> Result<Vec<u8>, AllocError> {
+fn frame_of(rt: &impl Abort, alloc: Global, kind: u8, big: bool) -> Frame {
+    match kind {
+        1..=3 => link_of(rt, alloc, kind, big),
+        4..=8 => request_of(rt, alloc, kind, big),
+        _ => reply_of(rt, alloc, kind, big),
+    }
+}
+
+/// The bytes of a frame, which is dropped.
+pub fn written(rt: &impl Abort, alloc: Global, frame: Frame) -> Vec<u8> {
     let bytes = write(alloc, &frame);
     drop(frame);
-    bytes
-}
-
-fn bytes_of(alloc: Global, kind: u8, big: bool) -> Result<Vec<u8>, KvError> {
-    match frame_of(alloc, kind, big) {
-        Ok(frame) => Ok(written(alloc, frame)?),
-        Err(e) => Err(e),
-    }
+    bytes.expect(rt, "memory")
 }
 
 /// Whether the bytes are read and written again.
-fn is_read_again(alloc: Global, bytes: &[u8]) -> Result<bool, KvError> {
+fn is_read_again(rt: &impl Abort, alloc: Global, bytes: &[u8]) -> bool {
     let mut reader = FrameReader::new(alloc);
-    reader.feed(bytes)?;
-    match reader.next() {
-        Ok(Some(frame)) => Ok(written(alloc, frame)?.as_slice() == bytes),
-        Err(FrameError::Memory) => Err(KvError::Memory),
-        _ => Ok(false),
+    reader.feed(bytes).expect(rt, "memory");
+    match reader.next().expect(rt, "a frame") {
+        Some(frame) => is_same(&written(rt, alloc, frame), bytes),
+        None => false,
     }
 }
 
@@ -176,19 +166,18 @@ struct Kind(u8, u32, u32);
 
 impl Kind {
     /// Whether the frame is of this kind and length, and is read again.
-    fn is_frame(&self, alloc: Global, big: bool, len: u32) -> Result<bool, KvError> {
-        let bytes = bytes_of(alloc, self.0, big)?;
-        let has_kind = bytes.get(4).copied() == Some(self.0);
-        let has_len = bytes.get(..4) == Some(len.to_be_bytes().as_slice());
-        Ok(has_kind && has_len && is_read_again(alloc, &bytes)?)
+    fn is_frame(&self, rt: &impl Abort, alloc: Global, big: bool, len: u32) -> bool {
+        let bytes = written(rt, alloc, frame_of(rt, alloc, self.0, big));
+        let has_len = is_same(bytes.get(..4).unwrap_or(&[]), &len.to_be_bytes());
+        let has_kind = is_same(bytes.get(4..5).unwrap_or(&[]), &[self.0]);
+        is_read_again(rt, alloc, &bytes) && has_kind && has_len
     }
 }
 
 impl Case for Kind {
-    type Error = KvError;
-
-    fn holds(&self, alloc: Global) -> Result<bool, KvError> {
-        Ok(self.is_frame(alloc, false, self.1)? && self.is_frame(alloc, true, self.2)?)
+    fn holds(&self, rt: &impl Abort, alloc: Global) -> bool {
+        let is_smallest = self.is_frame(rt, alloc, false, self.1);
+        self.is_frame(rt, alloc, true, self.2) && is_smallest
     }
 }
 
@@ -210,6 +199,6 @@ static KINDS: [Kind; 14] = [
 ];
 
 #[test]
-fn each_kind_is_read_again(rt: HostRuntime) -> Result<(), Fail> {
-    all_hold(rt.alloc(), &KINDS)
+fn each_kind_is_read_again(rt: HostRuntime) {
+    all_hold(&rt, rt.alloc(), &KINDS);
 }

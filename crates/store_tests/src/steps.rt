@@ -1,12 +1,11 @@
 // The decisions, replies and frames of a node, by the rules of a step.
-use crate::cases::{Case, all_hold, is_wrong};
-use crate::items::{config_of, deletions, key_of, number, origin};
-use chain_core::{CoreError, CoreState, Decision, Done, DropReason, Input, Sent, decide};
-use configurations::{Epoch, NodeId};
+use crate::cases::{Case, all_hold, holds_at, is_so};
+use crate::items::{config_of, deletion, key_of, number, origin};
+use chain_core::{CoreState, Decision, Done, DropReason, Input, Sent, decide};
 use kv_types::Batch;
 use link_messages::Refusal;
 use std::alloc::Global;
-use std::test::Fail;
+use std::process::Abort;
 
 // The inputs of a node.
 #[derive(Clone, Copy)]
@@ -34,36 +33,32 @@ enum Gives {
     Drop(DropReason),
 }
 
-fn batch(alloc: Global) -> Result<Batch, CoreError> {
-    deletions(alloc, b"a", 1).or(Err(CoreError::Memory))
+fn batch(rt: &impl Abort, alloc: Global) -> Batch {
+    deletion(rt, alloc, b"a")
 }
 
-fn sender(epoch: u32, from: u16) -> Result<(Epoch, NodeId), CoreError> {
-    origin(epoch, from).ok_or(CoreError::Memory)
-}
-
-fn input(alloc: Global, comes: Comes) -> Result<Input, CoreError> {
-    Ok(match comes {
+fn input(rt: &impl Abort, alloc: Global, comes: Comes) -> Input {
+    match comes {
         Comes::Submit(n) => Input::Submit {
             request: number(n),
-            batch: batch(alloc)?,
+            batch: batch(rt, alloc),
         },
         Comes::Get(at) => Input::Get {
             request: number(9),
-            key: key_of(alloc, b"a").or(Err(CoreError::Memory))?,
+            key: key_of(rt, alloc, b"a"),
             at: at.map(number),
         },
         Comes::Forward(epoch, from, n) => {
-            let (epoch, from) = sender(epoch, from)?;
+            let (epoch, from) = origin(rt, epoch, from);
             Input::Forward {
                 epoch,
                 from,
                 number: number(n),
-                batch: batch(alloc)?,
+                batch: batch(rt, alloc),
             }
         }
         Comes::Ack(epoch, from, committed, have) => {
-            let (epoch, from) = sender(epoch, from)?;
+            let (epoch, from) = origin(rt, epoch, from);
             Input::Ack {
                 epoch,
                 from,
@@ -72,7 +67,7 @@ fn input(alloc: Global, comes: Comes) -> Result<Input, CoreError> {
             }
         }
         Comes::Tick => Input::Tick,
-    })
+    }
 }
 
 fn given(decision: &Decision) -> Gives {
@@ -89,8 +84,8 @@ fn given(decision: &Decision) -> Gives {
 }
 
 /// The decision, and the number of requests that are answered once it is done.
-fn step(alloc: Global, state: &mut CoreState, comes: Comes) -> Result<(Gives, usize), CoreError> {
-    let decision = decide(state, input(alloc, comes)?);
+fn step(rt: &impl Abort, alloc: Global, state: &mut CoreState, comes: Comes) -> (Gives, usize) {
+    let decision = decide(state, input(rt, alloc, comes));
     let done = match &decision {
         Decision::Accept { request, .. } => Some(Done::Accepted { request: *request }),
         Decision::Append { .. } => Some(Done::Appended),
@@ -103,16 +98,15 @@ fn step(alloc: Global, state: &mut CoreState, comes: Comes) -> Result<(Gives, us
     let gives = given(&decision);
     drop(decision);
     match done {
-        Some(done) => Ok((gives, state.after(alloc, done)?.len())),
-        None => Ok((gives, 0)),
+        Some(done) => (gives, state.after(alloc, done).expect(rt, "a state").len()),
+        None => (gives, 0),
     }
 }
 
 /// A node of the chain 1, 2, 3 at its creation.
-fn created(alloc: Global, id: u16) -> Result<CoreState, CoreError> {
-    let (_, id) = sender(0, id)?;
-    let config = config_of(alloc, &[1, 2, 3]).or(Err(CoreError::Memory))?;
-    Ok(CoreState::created(alloc, id, config))
+fn created(rt: &impl Abort, alloc: Global, id: u16) -> CoreState {
+    let (_, id) = origin(rt, 0, id);
+    CoreState::created(alloc, id, config_of(rt, alloc, &[1, 2, 3]))
 }
 
 // The inputs of a head in turn, its decisions, and the numbers of answered requests.
@@ -145,33 +139,30 @@ static HEAD: [(Comes, Gives, usize); 14] = [
     (Comes::Tick, Gives::Resend, 0),
 ];
 
-// Takes the steps, after which the head has two batches, both committed.
-fn takes_steps(alloc: Global, head: &mut CoreState) -> Result<(), Fail> {
+// Takes the steps. The failure names the first with another decision.
+fn take_steps(rt: &impl Abort, alloc: Global, head: &mut CoreState) {
     for (index, (comes, gives, answered)) in HEAD.iter().enumerate() {
-        if step(alloc, head, *comes)? != (*gives, *answered) {
-            return Err(is_wrong(index));
-        }
+        let found = step(rt, alloc, head, *comes);
+        holds_at(rt, index, found == (*gives, *answered));
     }
-    if (head.count().get(), head.committed().get()) == (2, 2) {
-        return Ok(());
-    }
-    Err(Fail::new("it has other batches"))
 }
 
+// Then the head has two batches, both committed.
 #[test]
-fn a_head(rt: HostRuntime) -> Result<(), Fail> {
-    takes_steps(rt.alloc(), &mut created(rt.alloc(), 1)?)
+fn a_head(rt: HostRuntime) {
+    let mut head = created(&rt, rt.alloc(), 1);
+    take_steps(&rt, rt.alloc(), &mut head);
+    is_so(&rt, head.count().get() == 2, "two batches");
+    is_so(&rt, head.committed().get() == 2, "both committed");
 }
 
 // A new node, an input, and its decision.
 struct Other(u16, Comes, Gives);
 
 impl Case for Other {
-    type Error = CoreError;
-
-    fn holds(&self, alloc: Global) -> Result<bool, CoreError> {
-        let mut node = created(alloc, self.0)?;
-        Ok(step(alloc, &mut node, self.1)? == (self.2, 0))
+    fn holds(&self, rt: &impl Abort, alloc: Global) -> bool {
+        let mut node = created(rt, alloc, self.0);
+        step(rt, alloc, &mut node, self.1) == (self.2, 0)
     }
 }
 
@@ -190,8 +181,8 @@ static OTHERS: [Other; 7] = [
 ];
 
 #[test]
-fn a_middle_and_a_tail(rt: HostRuntime) -> Result<(), Fail> {
-    all_hold(rt.alloc(), &OTHERS)
+fn a_middle_and_a_tail(rt: HostRuntime) {
+    all_hold(&rt, rt.alloc(), &OTHERS);
 }
 
 /// The addressee of a frame.
@@ -217,12 +208,10 @@ impl Sending {
 }
 
 impl Case for Sending {
-    type Error = CoreError;
-
-    fn holds(&self, alloc: Global) -> Result<bool, CoreError> {
-        let mut node = created(alloc, self.0)?;
-        step(alloc, &mut node, self.1)?;
-        Ok(self.is_from(&node, batch(alloc)?))
+    fn holds(&self, rt: &impl Abort, alloc: Global) -> bool {
+        let mut node = created(rt, alloc, self.0);
+        step(rt, alloc, &mut node, self.1);
+        self.is_from(&node, batch(rt, alloc))
     }
 }
 
@@ -233,6 +222,6 @@ static SENDINGS: [Sending; 3] = [
 ];
 
 #[test]
-fn frames(rt: HostRuntime) -> Result<(), Fail> {
-    all_hold(rt.alloc(), &SENDINGS)
+fn frames(rt: HostRuntime) {
+    all_hold(&rt, rt.alloc(), &SENDINGS);
 }
