@@ -173,14 +173,23 @@ fn what_is_made_at_the_edges(rt: HostRuntime) {
     all_hold(&rt, rt.alloc(), &EDGES);
 }
 
+/// The spelling of the longest batch.
+fn longest(rt: &impl Abort, alloc: Global) -> Vec<u8> {
+    let batch = four_puts(rt, alloc, 16358).expect(rt, "a batch");
+    spelled(rt, alloc, batch)
+}
+
+/// Whether the batch that the bytes spell is spelled so.
+fn is_read_again(rt: &impl Abort, alloc: Global, bytes: &[u8]) -> bool {
+    is_spelled(rt, alloc, read(rt, alloc, bytes), bytes)
+}
+
 #[test]
 fn the_longest_batch_is_read_again(rt: HostRuntime) {
-    let batch = four_puts(&rt, rt.alloc(), 16358).expect(&rt, "a batch");
-    let bytes = spelled(&rt, rt.alloc(), batch);
-    is_so(&rt, bytes.len() == 65536, "its length");
-    let again = read(&rt, rt.alloc(), &bytes);
-    let is_spelled = is_spelled(&rt, rt.alloc(), again, &bytes);
-    is_so(&rt, is_spelled, "another spelling");
+    let bytes = longest(&rt, rt.alloc());
+    is_so(&rt, bytes.len() == 65536, "another length");
+    let is_read = is_read_again(&rt, rt.alloc(), &bytes);
+    is_so(&rt, is_read, "another spelling");
 }
 
 /// The numbers of the refusals.
@@ -197,7 +206,7 @@ static REFUSALS: [u8; 8] = [
 
 #[test]
 fn refusals_have_their_numbers(rt: HostRuntime) {
-    assert!(rt; REFUSALS == [1, 2, 3, 4, 5, 6, 7, 8]);
+    is_so(&rt, REFUSALS == [1, 2, 3, 4, 5, 6, 7, 8], "other numbers");
 }
 
 const GIB: u64 = 1 << 30;
@@ -237,8 +246,9 @@ fn limits_at_their_ends(rt: HostRuntime) {
 fn default_limits(rt: HostRuntime) {
     let limits = Limits::default();
     let files = [limits.log, limits.l0, limits.table, limits.level];
-    assert!(rt; files == [4194304, 4, 2097152, 10485760] && limits.cache == 256);
-    assert!(rt; Number::ZERO.get() == 0);
+    is_so(&rt, files == [4194304, 4, 2097152, 10485760], "other files");
+    is_so(&rt, limits.cache == 256, "another cache");
+    is_so(&rt, Number::ZERO.get() == 0, "another least number");
 }
 
 const GREATEST: u64 = (1 << 63) - 1;

@@ -1,5 +1,5 @@
 //! Frames in bytes, and bytes that are no frame.
-use crate::cases::{Case, all_hold, has_memory, holds_at};
+use crate::cases::{Case, all_hold, has_memory, holds_at, is_so};
 use link_messages::{FrameError, FrameReader, Refusal};
 use std::alloc::Global;
 use std::process::Abort;
@@ -61,12 +61,13 @@ pub fn is_frame(rt: &impl Abort, alloc: Global, content: &[u8], want: Option<Fra
     let mut reader = FrameReader::new(alloc);
     let len = u32::try_from(content.len()).unwrap_or(u32::MAX);
     reader.feed(&len.to_be_bytes()).expect(rt, "memory");
-    let answer = takes(rt, &mut reader, content);
+    let found = takes(rt, &mut reader, content);
     drop(reader);
-    match answer {
-        Err(e) => want == Some(e),
-        Ok(is_whole) => is_whole && want.is_none(),
-    }
+    let want = match want {
+        Some(e) => Err(e),
+        None => Ok(true),
+    };
+    found == want
 }
 
 const FORWARD: [u8; 28] = [
@@ -232,6 +233,8 @@ static REFUSAL_NUMBERS: [u8; 8] = [
 
 #[test]
 fn faults_and_refusals_have_their_numbers(rt: HostRuntime) {
-    assert!(rt; FAULT_NUMBERS == [1, 2, 3, 4, 5]);
-    assert!(rt; REFUSAL_NUMBERS == [1, 2, 3, 4, 5, 6, 7, 8]);
+    let are_so = FAULT_NUMBERS == [1, 2, 3, 4, 5];
+    is_so(&rt, are_so, "other numbers of faults");
+    let are_so = REFUSAL_NUMBERS == [1, 2, 3, 4, 5, 6, 7, 8];
+    is_so(&rt, are_so, "other numbers of refusals");
 }

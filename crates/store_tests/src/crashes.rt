@@ -59,19 +59,19 @@ pub fn run(rt: &impl Abort, disk: &mut MemDisk, acts: &[Act]) {
 // Whether these bytes stand in the file, which has so many.
 fn has_bytes(rt: &impl Abort, disk: &mut MemDisk, file: u64, want: &[u8]) -> bool {
     let mut bytes = [0; 64];
-    let Some(into) = bytes.get_mut(..want.len()) else {
-        return false;
-    };
+    let into = bytes.get_mut(..want.len()).expect(rt, "at most 64 bytes");
     disk.read(file, 0, into).expect(rt, "a read");
     is_same(into, want)
 }
 
 // Whether this is the file's content, of at most 64 bytes, or there is no such file.
 pub fn is_content(rt: &impl Abort, disk: &mut MemDisk, file: u64, want: Option<&[u8]>) -> bool {
-    match (disk.length(file), want) {
-        (Ok(len), Some(want)) => len == want.len() as u64 && has_bytes(rt, disk, file, want),
-        (Err(DiskError::NoFile), None) => true,
-        _ => false,
+    match want {
+        Some(want) => {
+            let is_length = disk.length(file) == Ok(want.len() as u64);
+            is_length && has_bytes(rt, disk, file, want)
+        }
+        None => disk.length(file) == Err(DiskError::NoFile),
     }
 }
 
@@ -89,6 +89,12 @@ pub fn crash(rt: &impl Abort, alloc: Global, disk: &mut MemDisk, choice: Choice)
         Choice::New => Junk::New,
         Choice::Bytes(bytes) => Junk::Bytes(JunkBytes::new(copy_of(rt, alloc, bytes))),
     });
+}
+
+// Arms the disk with a fault, without its contract.
+pub fn arm(disk: &mut MemDisk, fault: Fault) {
+    disk.arm(&fault);
+    drop(fault);
 }
 
 // Whether this is the file's content after a crash.
@@ -297,7 +303,7 @@ fn returns_after(rt: &impl Abort, alloc: Global, disk: &mut MemDisk) -> bool {
     let is_made = has_files(rt, disk, &[2, 5, 9]);
     run(rt, disk, &[Act::Remove(5)]);
     let is_removed = has_files(rt, disk, &[2, 9]);
-    disk.arm(&Fault::None);
+    arm(disk, Fault::None);
     crash(rt, alloc, disk, Choice::Old);
     has_files(rt, disk, &[5]) && is_made && is_removed
 }

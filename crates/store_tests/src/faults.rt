@@ -1,6 +1,8 @@
 // A disk that is armed with a fault.
 use crate::cases::{Case, all_hold};
-use crate::crashes::{ABC, Act, Choice, FILE, REMOVE, SYNC, crash, is_content, refusal_of, run};
+use crate::crashes::{
+    ABC, Act, Choice, FILE, REMOVE, SYNC, arm, crash, is_content, refusal_of, run,
+};
 use disk::{Crash, DiskError, Fault, Junk, MemDisk};
 use std::alloc::Global;
 use std::process::Abort;
@@ -12,11 +14,6 @@ const READ: Act = Act::Read(FILE, 0, 1);
 const MISSING: Option<DiskError> = Some(DiskError::NoFile);
 
 const FAILED: Option<DiskError> = Some(DiskError::Failed);
-
-// Arms the disk with a fault, without its contract.
-fn arm(disk: &mut MemDisk, fault: &Fault) {
-    disk.arm(fault);
-}
 
 // One call of each kind. Made on a disk that works, each has an effect or an answer.
 static EACH: [Act; 7] = [
@@ -42,7 +39,7 @@ fn all_fail(disk: &mut MemDisk, call: Act) -> bool {
 fn mend(rt: &impl Abort, alloc: Global, disk: &mut MemDisk, choice: Option<Choice>) {
     match choice {
         Some(choice) => crash(rt, alloc, disk, choice),
-        None => arm(disk, &Fault::None),
+        None => arm(disk, Fault::None),
     }
 }
 
@@ -57,7 +54,7 @@ fn is_struck(
 ) -> bool {
     let mut disk = MemDisk::new(alloc);
     run(rt, &mut disk, row.0);
-    arm(&mut disk, &Fault::Fail(1));
+    arm(&mut disk, Fault::Fail(1));
     let is_failing = all_fail(&mut disk, row.1) && disk.has_struck();
     mend(rt, alloc, &mut disk, choice);
     let is_mended = !disk.has_struck() && is_content(rt, &mut disk, FILE, want);
@@ -218,9 +215,9 @@ struct Counted(Kind, Answers, bool);
 impl Case for Counted {
     fn holds(&self, _rt: &impl Abort, alloc: Global) -> bool {
         let mut disk = MemDisk::new(alloc);
-        arm(&mut disk, &Fault::Fail(3));
+        arm(&mut disk, Fault::Fail(3));
         let _missing = refusal_of(&mut disk, READ);
-        arm(&mut disk, &fault_of(self.0));
+        arm(&mut disk, fault_of(self.0));
         let is_answer = answers(&mut disk) == self.1 && disk.has_struck() == self.2;
         drop(disk);
         is_answer

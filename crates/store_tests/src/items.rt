@@ -14,6 +14,11 @@ pub fn is_same(found: &[u8], want: &[u8]) -> bool {
     found == want
 }
 
+/// Appends the item.
+pub fn put<T: Drop>(rt: &impl Abort, list: &mut Vec<T>, item: T) {
+    list.push(item).expect(rt, "memory");
+}
+
 /// This byte so many times.
 pub fn filled(rt: &impl Abort, alloc: Global, byte: u8, len: usize) -> Vec<u8> {
     vec![in alloc; byte; len].expect(rt, "memory")
@@ -59,8 +64,7 @@ pub type Edits<'a> = &'a [(&'a [u8], Option<&'a [u8]>)];
 pub fn batch_of(rt: &impl Abort, alloc: Global, edits: Edits) -> Batch {
     let mut list = Vec::new(alloc);
     for (key, value) in edits {
-        list.push(edit_of(rt, alloc, *key, *value))
-            .expect(rt, "memory");
+        put(rt, &mut list, edit_of(rt, alloc, *key, *value));
     }
     Batch::new(list).expect(rt, "a batch")
 }
@@ -77,9 +81,7 @@ pub fn long_batch(
 ) -> Result<Batch, KvError> {
     let mut edits = Vec::new(alloc);
     for (key, value) in lens {
-        edits
-            .push(long_put(rt, alloc, *key, *value))
-            .expect(rt, "memory");
+        put(rt, &mut edits, long_put(rt, alloc, *key, *value));
     }
     Batch::new(edits)
 }
@@ -93,9 +95,7 @@ pub fn deletions(
 ) -> Result<Batch, KvError> {
     let mut edits = Vec::new(alloc);
     for _ in 0..count {
-        edits
-            .push(Edit::Delete(key_of(rt, alloc, key)))
-            .expect(rt, "memory");
+        put(rt, &mut edits, Edit::Delete(key_of(rt, alloc, key)));
     }
     Batch::new(edits)
 }
@@ -121,10 +121,9 @@ pub fn rows_of(
 ) -> Vec<Row> {
     let mut rows = Vec::new(alloc);
     for _ in 0..count {
-        rows.push(row_of(rt, alloc, key, value))
-            .expect(rt, "memory");
+        put(rt, &mut rows, row_of(rt, alloc, key, value));
     }
-    rows.push(row_of(rt, alloc, 0, last)).expect(rt, "memory");
+    put(rt, &mut rows, row_of(rt, alloc, 0, last));
     rows
 }
 

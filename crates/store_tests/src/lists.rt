@@ -1,6 +1,6 @@
 // Lists that are configurations, lists of configurations, and the errors of other lists.
 use crate::cases::{Case, all_hold, has_memory, is_so};
-use crate::items::{config_of, try_config};
+use crate::items::{config_of, put, try_config};
 use configurations::{Config, ConfigError, Configs, Epoch, NodeId};
 use std::alloc::Global;
 use std::process::Abort;
@@ -44,7 +44,7 @@ impl Case for ConfigList {
         let mut configs = Vec::new(alloc);
         for ids in self.0 {
             let config = config_of(rt, alloc, *ids);
-            configs.push(config).expect(rt, "memory");
+            put(rt, &mut configs, config);
         }
         Configs::new(configs).err() == self.1
     }
@@ -102,7 +102,7 @@ static NUMBERS: [u8; 7] = [
 
 #[test]
 fn numbers_of_faults(rt: HostRuntime) {
-    assert!(rt; NUMBERS == [1, 2, 3, 4, 5, 6, 7]);
+    is_so(&rt, NUMBERS == [1, 2, 3, 4, 5, 6, 7], "other numbers");
 }
 
 fn plain(id: Option<NodeId>) -> Option<u16> {

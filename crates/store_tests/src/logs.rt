@@ -146,8 +146,9 @@ fn a_stop_before_the_first_sync(rt: HostRuntime) {
     begin_next(&rt, rt.alloc(), &mut disk);
     crash(&rt, rt.alloc(), &mut disk, Choice::Bytes(&[1]));
     let is_left = is_content(&rt, &mut disk, FILE, Some(STOPPED));
-    is_so(&rt, is_left, "another content");
     let len = open(&rt, rt.alloc(), &mut disk, 0).len();
+    drop(disk);
+    is_so(&rt, is_left, "another content");
     is_so(&rt, len == 1, "other records");
 }
 
@@ -293,7 +294,7 @@ struct Sized(usize, Option<LogError>, usize);
 impl Sized {
     // Whether the append is refused so, and the log then has so many records.
     fn grows(&self, rt: &impl Abort, alloc: Global, disk: &mut MemDisk) -> bool {
-        let mut log = log_of(rt, alloc, disk, &[b"one"]);
+        let mut log = log_of(rt, alloc, disk, ONE);
         let bytes = filled(rt, alloc, 7, self.0);
         let refused = refusal(rt, alloc, disk, &mut log, &bytes);
         append(rt, alloc, disk, &mut log, b"last");
@@ -325,12 +326,16 @@ const LOST: Option<LogError> = Some(LogError::Disk(DiskError::NoFile));
 
 const FAILED: Option<LogError> = Some(LogError::Failed);
 
+const ONE: &[&[u8]] = &[b"one"];
+
 // Whether three appends to a log that lost its file are refused, and so is its record.
-fn refuses(rt: &impl Abort, alloc: Global, disk: &mut MemDisk, log: &mut Log) -> bool {
-    let mut all = true;
-    for want in [LOST, FAILED, FAILED] {
-        all = refusal(rt, alloc, disk, log, b"two") == want && all;
-    }
+fn refuses(rt: &impl Abort, alloc: Global, disk: &mut MemDisk) -> bool {
+    let mut log = log_of(rt, alloc, disk, ONE);
+    run(rt, disk, &[REMOVE]);
+    let first = refusal(rt, alloc, disk, &mut log, b"two") == LOST;
+    let second = refusal(rt, alloc, disk, &mut log, b"two") == FAILED;
+    let third = refusal(rt, alloc, disk, &mut log, b"two") == FAILED;
+    let all = first && second && third;
     all && log.len() == 1 && log.record(alloc, disk, 0).err() == FAILED
 }
 
@@ -338,12 +343,10 @@ fn refuses(rt: &impl Abort, alloc: Global, disk: &mut MemDisk, log: &mut Log) ->
 #[test]
 fn a_failure_stays_until_the_log_is_opened(rt: HostRuntime) {
     let mut disk = MemDisk::new(rt.alloc());
-    let mut log = log_of(&rt, rt.alloc(), &mut disk, &[b"one"]);
-    run(&rt, &mut disk, &[REMOVE]);
-    let refuses = refuses(&rt, rt.alloc(), &mut disk, &mut log);
-    is_so(&rt, refuses, "another refusal");
+    is_so(&rt, refuses(&rt, rt.alloc(), &mut disk), "another answer");
     crash(&rt, rt.alloc(), &mut disk, Choice::Old);
-    let opens = opens(&rt, rt.alloc(), &mut disk, &[b"one"]);
+    let opens = opens(&rt, rt.alloc(), &mut disk, ONE);
+    drop(disk);
     is_so(&rt, opens, "other records");
 }
 

@@ -150,6 +150,10 @@ pub fn written(rt: &impl Abort, alloc: Global, frame: Frame) -> Vec<u8> {
     bytes.expect(rt, "memory")
 }
 
+fn bytes_of(rt: &impl Abort, alloc: Global, kind: u8, big: bool) -> Vec<u8> {
+    written(rt, alloc, frame_of(rt, alloc, kind, big))
+}
+
 /// Whether the bytes are read and written again.
 fn is_read_again(rt: &impl Abort, alloc: Global, bytes: &[u8]) -> bool {
     let mut reader = FrameReader::new(alloc);
@@ -167,7 +171,7 @@ struct Kind(u8, u32, u32);
 impl Kind {
     /// Whether the frame is of this kind and length, and is read again.
     fn is_frame(&self, rt: &impl Abort, alloc: Global, big: bool, len: u32) -> bool {
-        let bytes = written(rt, alloc, frame_of(rt, alloc, self.0, big));
+        let bytes = bytes_of(rt, alloc, self.0, big);
         let has_len = is_same(bytes.get(..4).unwrap_or(&[]), &len.to_be_bytes());
         let has_kind = is_same(bytes.get(4..5).unwrap_or(&[]), &[self.0]);
         is_read_again(rt, alloc, &bytes) && has_kind && has_len

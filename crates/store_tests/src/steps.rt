@@ -152,8 +152,9 @@ fn take_steps(rt: &impl Abort, alloc: Global, head: &mut CoreState) {
 fn a_head(rt: HostRuntime) {
     let mut head = created(&rt, rt.alloc(), 1);
     take_steps(&rt, rt.alloc(), &mut head);
-    is_so(&rt, head.count().get() == 2, "two batches");
-    is_so(&rt, head.committed().get() == 2, "both committed");
+    let numbers = (head.count().get(), head.committed().get());
+    drop(head);
+    is_so(&rt, numbers == (2, 2), "it has other batches");
 }
 
 // A new node, an input, and its decision.
