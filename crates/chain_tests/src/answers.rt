@@ -9,6 +9,11 @@ pub fn is_text(rt: &impl Abort, text: &str, want: &str) {
     assert!(rt; text == want, "{text}");
 }
 
+/// Fails the test unless this is so.
+pub fn is_so(rt: &impl Abort, holds: bool, what: &str) {
+    assert!(rt; holds, "{what}");
+}
+
 /// Fails the test unless this holds at the index, as a row does, from 0.
 pub fn holds_at(rt: &impl Abort, index: usize, holds: bool) {
     assert!(rt; holds, "row {index} does not hold");

@@ -1,5 +1,6 @@
 // A fault at every call of the disk in every event of a run: what is told and what is on the disks
 // afterwards agrees with one list of batches.
+use crate::answers::is_so;
 use crate::courses::{Step, junk_of, take, world_of};
 use crate::items::{Change, ONE, TWO, key_of};
 use disk::{Fault, Junk, MemDisk};
@@ -140,7 +141,7 @@ impl Course {
         let Some((node, cause)) = self.stopped() else {
             return false;
         };
-        assert!(rt; cause == cause_of(way), "another cause");
+        is_so(rt, cause == cause_of(way), "the cause of the fault");
         self.step(rt, alloc, Step::Start(node), Fault::None);
         true
     }
@@ -314,11 +315,12 @@ fn check(rt: &impl Abort, alloc: Global, course: Course) {
     let list = one_list(rt, alloc, &mut report.nodes);
     let key = key_of(rt, alloc, "a");
     let (list, taken) = (list.as_slice(), taken.as_slice());
-    assert!(rt; is_taken(list, taken), "a batch that was not submitted");
+    is_so(rt, is_taken(list, taken), "each batch was submitted");
     let history = History { list, taken, key };
-    assert!(rt;
+    is_so(
+        rt,
         history.has_replies(&report.steps),
-        "a reply that speaks of another list"
+        "replies of the list",
     );
 }
 

@@ -1,4 +1,5 @@
 // Runs of a chain of nodes 1, 2 and 3: the trace of each event, by the rules of a step.
+use crate::answers::is_so;
 use crate::courses::{Run, Step, all_go, all_show, names_another};
 use crate::items::{ONE, TWO};
 
@@ -204,5 +205,9 @@ fn a_world_that_goes_on_shows_what_it_did(rt: HostRuntime) {
 
 #[test]
 fn an_unknown_node(rt: HostRuntime) {
-    assert!(rt; names_another(&rt, rt.alloc(), CHAIN, UNKNOWN));
+    is_so(
+        &rt,
+        names_another(&rt, rt.alloc(), CHAIN, UNKNOWN),
+        "another node",
+    );
 }

@@ -1,5 +1,5 @@
 // Disks on which a node starts, disks on which none does, and the bytes of both.
-use crate::answers::holds_at;
+use crate::answers::{holds_at, is_so};
 use crate::items::{ONE, batch_of, number};
 use crate::nodes::running::Running;
 use disk::{Disk, MemDisk};
@@ -54,7 +54,7 @@ impl Start {
     fn holds(&self, rt: &impl Abort, alloc: Global) -> bool {
         let mut running = Running::none();
         let refused = running.start(alloc, self.disk(rt, alloc)).err();
-        assert!(rt; refused != Some(Stop::Memory), "memory");
+        is_so(rt, refused != Some(Stop::Memory), "memory");
         refused == self.2 && (refused.is_some() || self.has_count(&running))
     }
 }
@@ -206,6 +206,16 @@ fn disk_of_three(rt: &impl Abort, alloc: Global) -> MemDisk {
 #[test]
 fn what_stands_on_the_disk(rt: HostRuntime) {
     let alloc = rt.alloc();
-    assert!(rt; has_files(&rt, &mut disk_behind(&rt, alloc), NODE_1, BATCH_1));
-    assert!(rt; has_files(&rt, &mut disk_of_three(&rt, alloc), NODE_2, &[0]));
+    let mut disk = disk_behind(&rt, alloc);
+    is_so(
+        &rt,
+        has_files(&rt, &mut disk, NODE_1, BATCH_1),
+        "files of a node",
+    );
+    let mut disk = disk_of_three(&rt, alloc);
+    is_so(
+        &rt,
+        has_files(&rt, &mut disk, NODE_2, &[0]),
+        "files of a new node",
+    );
 }

@@ -1,5 +1,5 @@
 // Each look-up once, and the causes of a stop by their numbers and texts.
-use crate::answers::holds_at;
+use crate::answers::{holds_at, is_so};
 use crate::nodes::running::Running;
 use configurations::NodeId;
 use disk::MemDisk;
@@ -21,7 +21,8 @@ fn has_new_node(running: &Running) -> bool {
 
 #[test]
 fn a_new_node(rt: HostRuntime) {
-    assert!(rt; has_new_node(&Running::created(&rt, rt.alloc(), 1, &[1])));
+    let running = Running::created(&rt, rt.alloc(), 1, &[1]);
+    is_so(&rt, has_new_node(&running), "a new node");
 }
 
 fn are_ids(ids: &[NodeId]) -> bool {
@@ -40,7 +41,8 @@ fn has_ids(running: &Running) -> bool {
 
 #[test]
 fn its_configuration(rt: HostRuntime) {
-    assert!(rt; has_ids(&Running::created(&rt, rt.alloc(), 2, &[3, 1, 2])));
+    let running = Running::created(&rt, rt.alloc(), 2, &[3, 1, 2]);
+    is_so(&rt, has_ids(&running), "ids");
 }
 
 /// Causes of a stop, their numbers and their texts.
