@@ -1,0 +1,4 @@
+pub mod Loop
+pub mod EditLaws
+pub mod Placed
+pub mod Lawful

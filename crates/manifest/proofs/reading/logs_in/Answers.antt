@@ -1,0 +1,27 @@
+use Rattle.std.proofs.Common.{◌≡◌, ◌++◌, ◌∷◌, []}
+use Rattle.std.proofs.lemmas.Result.{err_from_is_err_and}
+use Rattle.byte_fields.specs.{many}
+use Rattle.manifest.specs.Reading.{log_line_at}
+use Rattle.manifest.proofs.Loop.{goes_on, ends, is_done}
+use Rattle.manifest.proofs.reading.logs_in.Goals as goal
+
+pub returns-in_err-log_of : goal.returns-in_err-log_of
+returns-in_err-log_of c =
+    let p = err_from_is_err_and c.from_residual.result c.from_residual.ensures.1 in
+    rw (p.1, p.2)
+    (ends log_line_at c.in_err-log_of.field-0.0 c.loop.lines.items c.args.count c.loop.counter
+    c.loop.bytes.now (many log_line_at c.args.count c.args.bytes.now.now) c.loop-test.true
+    c.in_err-log_of.ensures c.loop.invariant)
+
+pub loop-preserved : goal.loop-preserved
+loop-preserved c =
+    let e : c.push.new.self.items ≡ c.loop.lines.items ++ c.in_ok-log_of.field-0 ∷ [] =
+    c.in_ok-push.ensures.items in
+    rw e (goes_on log_line_at c.loop.lines.items c.args.count c.loop.counter c.loop.bytes.now
+    c.in_ok-log_of.field-0 c.log_of.new.bytes.now
+    (many log_line_at c.args.count c.args.bytes.now.now) c.loop-test.true
+    c.in_ok-log_of.ensures c.loop.invariant)
+
+pub returns : goal.returns
+returns c = is_done log_line_at c.loop.lines.items c.args.count c.loop.counter c.loop.bytes.now
+    (many log_line_at c.args.count c.args.bytes.now.now) c.loop-test.false c.loop.invariant

@@ -1,0 +1,8 @@
+use Rattle.std.proofs.Common.{◌≡◌, ◌++◌, take}
+use Rattle.std.specs.List.{flat_map}
+use Rattle.manifest.specs.Edits.{table_name_bytes}
+use Rattle.manifest.proofs.spelling.put_names.Given as goal
+
+-- what the loop has passed stands behind what was there
+abbrev pub invariant-loop-one : goal.invariant-loop-one
+invariant-loop-one l = l.out.items ≡ l.fn.out.items ++ flat_map table_name_bytes (take l.one-index l.names)

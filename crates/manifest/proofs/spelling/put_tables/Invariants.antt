@@ -1,0 +1,8 @@
+use Rattle.std.proofs.Common.{◌≡◌, ◌++◌, take}
+use Rattle.std.specs.List.{flat_map}
+use Rattle.manifest.specs.Edits.{table_line_bytes}
+use Rattle.manifest.proofs.spelling.put_tables.Given as goal
+
+-- what the loop has passed stands behind what was there
+abbrev pub invariant-loop-line : goal.invariant-loop-line
+invariant-loop-line l = l.out.items ≡ l.fn.out.items ++ flat_map table_line_bytes (take l.line-index l.lines)

@@ -1,0 +1,30 @@
+-- What the refusals of a manifest say.
+use Rattle.std.specs.Prelude.{◌≡◌, ◌⊎◌, Result, Err}
+use Rattle.disk.specs.declared.DiskError.{DiskError}
+use Rattle.disk.specs.declared.DiskError.TheVariants as disk
+use Rattle.record_log.specs.declared.LogError.{LogError}
+use Rattle.record_log.specs.declared.LogError.TheVariants as log
+use Rattle.manifest.specs.declared.error.ManifestError.{ManifestError}
+use Rattle.manifest.specs.declared.error.ManifestError.TheVariants as manifest
+
+-- a slot that is absent or too short is damage
+abbrev pub error_by_disk : DiskError → ManifestError
+error_by_disk disk.Failed = manifest.Disk
+error_by_disk disk.NoFile = manifest.Damaged
+error_by_disk disk.Short = manifest.Damaged
+error_by_disk disk.Memory = manifest.Memory
+
+-- the manifest never asks a log for what it cannot do
+abbrev pub error_by_log : LogError → ManifestError
+error_by_log (log.Disk e) = error_by_disk e
+error_by_log log.Memory = manifest.Memory
+error_by_log log.TooLong = manifest.Failed
+error_by_log log.Failed = manifest.Failed
+
+-- the call was refused because the device failed
+abbrev pub ManifestFailsDevice : {T : Type 0} → Result T ManifestError → Type 0
+ManifestFailsDevice result = result ≡ Err manifest.Disk
+
+-- the refusals that say nothing of the files: the device failed, or memory is out
+abbrev pub IsManifestExternal : ManifestError → Type 0
+IsManifestExternal e = (e ≡ manifest.Disk) ⊎ (e ≡ manifest.Memory)

@@ -1,0 +1,60 @@
+-- What holds of each version that edits give.
+use Rattle.std.specs.Prelude.{◌≡◌, ◌≢◌, ℕ, ◌<◌, ◌≤◌, List, [], length, All}
+use Rattle.std.specs.List.{AllPairs}
+use Rattle.kv_types.specs.declared.bounds.TheConstants.{MAX_NUMBER}
+use Rattle.configurations.specs.{IsConfig}
+use Rattle.manifest.specs.Versions.{Version, Change, AreApart, IsInOrder, log_is_before}
+use Rattle.manifest.specs.Versions.{NodeVersion, IsFit, changed, empty, table_is_before}
+use Rattle.manifest.specs.Edits.{IsChange, IsLogLine, IsTableLine, change_bytes}
+
+-- a file that is named has a number that was given
+abbrev pub IsGiven : Version → ℕ → Type 0
+IsGiven version file = (3 ≤ file) × (file < version.next_file)
+
+-- the lines are within their limits and in order, those of the empty version too
+pub record AreLines (version : Version) : Type 0 where
+  pub logs : All IsLogLine version.logs
+  pub tables : All IsTableLine version.tables
+  pub log_files : All (λ line. IsGiven version line.file) version.logs
+  pub table_files : All (λ line. IsGiven version line.file) version.tables
+  pub logs_in_order : IsInOrder log_is_before version.logs
+  pub tables_in_order : IsInOrder table_is_before version.tables
+
+-- A version that some edits give: its numbers are within their limits, it has a log, no file is
+-- named twice, and below level 0 no two tables of a level share a key.
+pub record IsVersion (version : Version) : Type 0 where
+  pub next_file : version.next_file ≤ MAX_NUMBER
+  pub floor : version.floor ≤ MAX_NUMBER
+  pub flushed : version.flushed ≤ MAX_NUMBER
+  pub epoch : version.epoch ≤ 15
+  pub ids : IsConfig version.ids
+  pub lines : AreLines version
+  pub some : version.logs ≢ []
+  pub few_logs : length version.logs ≤ 4096
+  pub few_tables : length version.tables ≤ 4096
+  pub apart : AllPairs AreApart version.tables
+  pub files_once : AllPairs (λ a b. a.file ≢ b.file) version.tables
+  pub logs_apart : All (λ log. All (λ table. table.file ≢ log.file) version.tables) version.logs
+  pub log_files_once : AllPairs (λ a b. a.file ≢ b.file) version.logs
+
+-- the edit that gives the whole version from the empty one
+abbrev pub whole_change : Version → Change
+whole_change version = record {
+  next_file = version.next_file;
+  floor = version.floor;
+  flushed = version.flushed;
+  epoch = version.epoch;
+  ids = version.ids;
+  logs_gone = [];
+  logs_added = version.logs;
+  tables_gone = [];
+  tables_added = version.tables;
+}
+
+-- the bytes of one edit that gives the whole version
+pub record IsWholeEdit (named : NodeVersion) (text : List ℕ) : Type 0 where
+  pub change : Change
+  pub is : IsChange change
+  pub fit : IsFit empty change
+  pub whole : changed empty change ≡ named.version
+  pub spelled : text ≡ change_bytes change

@@ -1,0 +1,5 @@
+pub mod Errors
+pub mod Versions
+pub mod Edits
+pub mod Lawful
+pub mod Reading

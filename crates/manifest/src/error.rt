@@ -1,0 +1,64 @@
+ghost use Rattle.std.specs.Prelude.{◌≡◌};
+ghost use Rattle.manifest.specs.declared.error.ManifestError.TheVariants.{Memory};
+ghost use Rattle.manifest.specs.Errors.{error_by_log, error_by_disk};
+
+use disk::DiskError;
+use record_log::LogError;
+use std::alloc::{AllocError, AllocFailed};
+use thiserror::Error;
+
+/// Why a manifest refused. After `Disk` or `Memory` in `record` or `rewrite` it answers `Failed`
+/// until it is opened again; then the folder stands for the old version or for the new one.
+#[derive(Clone, Copy, Debug, PartialEq, Eq, Error)]
+pub enum ManifestError {
+    #[error("the device failed")]
+    Disk = 1,
+    #[error("the files stand for no version")]
+    Damaged,
+    #[error("no store was created")]
+    NotCreated,
+    #[error("out of memory")]
+    Memory,
+    #[error("the manifest has to be opened again")]
+    Failed,
+}
+
+impl From<DiskError> for ManifestError {
+    ghost from_gives = { λ d e. e ≡ error_by_disk d };
+
+    fn from(e: DiskError) -> ManifestError {
+        match e {
+            DiskError::Failed => ManifestError::Disk,
+            DiskError::Memory => ManifestError::Memory,
+            DiskError::NoFile | DiskError::Short => ManifestError::Damaged,
+        }
+    }
+}
+
+impl From<LogError> for ManifestError {
+    ghost from_gives = { λ l e. e ≡ error_by_log l };
+
+    fn from(e: LogError) -> ManifestError {
+        match e {
+            LogError::Disk(e) => e.into(),
+            LogError::Memory => ManifestError::Memory,
+            LogError::TooLong | LogError::Failed => ManifestError::Failed,
+        }
+    }
+}
+
+impl From<AllocError> for ManifestError {
+    ghost from_gives = { λ _ e. e ≡ Memory };
+
+    fn from(_e: AllocError) -> ManifestError {
+        ManifestError::Memory
+    }
+}
+
+impl<T: Drop> From<AllocFailed<T>> for ManifestError {
+    ghost from_gives = { λ _ e. e ≡ Memory };
+
+    fn from(_e: AllocFailed<T>) -> ManifestError {
+        ManifestError::Memory
+    }
+}

@@ -1,0 +1,12 @@
+//! Laws of the definitions that contracts use. The functions do nothing: their clauses are the
+//! laws.
+ghost use Rattle.manifest.specs.Edits.{ChangesDiffer};
+
+use configurations::laws::test_decides_config;
+
+/// No two edits have one spelling.
+pub fn changes_differ()
+    ensures { ChangesDiffer }
+{
+    test_decides_config(); // law: the test succeeds exactly for the configurations
+}

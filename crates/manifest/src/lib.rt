@@ -1,0 +1,17 @@
+//! The list of a store's files: two slots represent one version of it, which logs and tables it has.
+//! At every moment of a change they represent the old version or the new one.
+#![tactic(auto)]
+
+mod changed;
+mod edit;
+mod error;
+pub mod laws;
+mod line;
+mod reading;
+mod spelling;
+mod version;
+
+pub use edit::VersionEdit;
+pub use error::ManifestError;
+pub use line::{LogLine, TableLine, TableName};
+pub use version::Version;
