@@ -2,3 +2,4 @@ pub mod Loop
 pub mod EditLaws
 pub mod Placed
 pub mod Lawful
+pub mod Replaces

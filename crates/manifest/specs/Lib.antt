@@ -3,3 +3,4 @@ pub mod Versions
 pub mod Edits
 pub mod Lawful
 pub mod Reading
+pub mod Replace

@@ -2,12 +2,14 @@
 //! At every moment of a change they represent the old version or the new one.
 #![tactic(auto)]
 
+mod begin;
 mod changed;
 mod edit;
 mod error;
 pub mod laws;
 mod line;
 mod reading;
+mod replace;
 mod spelling;
 mod version;
 
