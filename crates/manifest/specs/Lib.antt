@@ -4,3 +4,5 @@ pub mod Edits
 pub mod Lawful
 pub mod Reading
 pub mod Replace
+pub mod Slots
+pub mod Holds

@@ -10,6 +10,7 @@ pub mod laws;
 mod line;
 mod reading;
 mod replace;
+mod slot_pair;
 mod spelling;
 mod version;
 

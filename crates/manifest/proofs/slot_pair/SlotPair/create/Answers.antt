@@ -1,0 +1,39 @@
+use Rattle.std.proofs.Common.{◌≡◌, ◌<◌, ◌^◌, ◌∷◌, [], drop, length, false, refl, sym, ap, subst, ◌∙◌}
+use Rattle.std.proofs.Common.{arith}
+use Rattle.std.specs.Prelude.{IsNone}
+use Rattle.disk.specs.{Slot, seen}
+use Rattle.record_log.specs.{IsDurableAs}
+use Rattle.record_log.specs.Logs.{begun}
+use Rattle.manifest.specs.Slots.{head_length}
+use Rattle.manifest.specs.Holds.{slot_behind}
+use Rattle.manifest.proofs.Begun.{held_begun, begun_stands, begun_long}
+use Rattle.manifest.proofs.slot_pair.SlotPair.create.Goals as goal
+
+-- the second slot's gate is closed, and the first has the record
+pub returns-clause-created : goal.returns-clause-created
+returns-clause-created g c = λ honest no1 no2.
+    let state = g.D.Disk.state in
+    let s0 = state c.args.disk.now in
+    let s1 = state c.create.new.disk in
+    let s2 = state c.begin.new.disk in
+    let one = c.args.one.now in
+    let short : length one < 2 ^ 32 = omega (arith, c.requires.short) in
+    let behind = slot_behind 1 c.args.id one in
+    let honest1 = c.create.ensures.kept.honest.1 honest in
+    let same1 : s1 1 ≡ s0 1 = c.create.ensures.kept.files honest 1 (λ e. absurd (omega (arith, e))) in
+    let none1 : IsNone (seen (s1 1)) =
+    subst (λ (slot : Slot). IsNone (seen slot)) (sym same1) no1 in
+    let closed : c.deref-2.result.now ≡ 0 ∷ behind =
+    c.deref-2.ensures.value ∙ c.in_ok-closed.ensures in
+    let done = c.in_ok-begin.ensures.done behind honest1 none1 closed in
+    let scratch : drop head_length (1 ∷ behind) ≡ drop head_length c.deref.result.now =
+    ap (drop head_length) (sym (c.deref.ensures.value ∙ c.in_ok-closed.ensures)) in
+    let log = c.in_ok-log.ensures.holds s2 (1 ∷ behind) (one ∷ []) done.0
+    (begun_long c.args.id one short) (omega (arith, done.1)) scratch
+    (begun_stands c.args.id one short) in
+    let same2 : s2 2 ≡ s1 2 = c.begin.ensures.kept.files honest1 2 (λ e. absurd (omega (arith, e))) in
+    let second : IsDurableAs s2 2 (begun (seen (s0 2))) =
+    same2 ∙ c.in_ok-create.ensures.spelled honest in
+    held_begun c.args.id one short s2
+    (record { slot = 1; generation = 1; id = c.args.id; other_is_open = false; log = c.in_ok-log.log })
+    (seen (s0 2)) refl refl refl refl c.in_ok-log.ensures.at log done.0 second

@@ -1,0 +1,40 @@
+-- Open slots, and the files that they are kept in.
+use Rattle.std.specs.Prelude.{◌≡◌, ◌≤◌, ℕ, List, [], ◌∷◌, ◌++◌, length, take}
+use Rattle.std.specs.Int.{w16, w32, w64, to_be_bytes}
+use Rattle.kv_types.specs.declared.bounds.TheConstants.{MAX_NUMBER}
+use Rattle.disk.specs.{State}
+use Rattle.record_log.specs.{IsDurableAs}
+use Rattle.record_log.specs.{IsAt, LogHolds}
+use Rattle.manifest.specs.declared.slot_pair.SlotPair.{SlotPair}
+use Rattle.manifest.specs.Slots.{IsSlotFile, other_slot, slot_head, head_length, IsSuperseded}
+use Rattle.manifest.specs.Replace.{HasGate}
+
+-- what stands behind the gate of a slot with one record: the generation, the id, the record behind
+-- an open gate, and a closed gate
+abbrev pub slot_behind : ℕ → ℕ → List ℕ → List ℕ
+slot_behind generation id one =
+    to_be_bytes w64 generation ++ (to_be_bytes w16 id
+    ++ (1 ∷ (to_be_bytes w32 (length one) ++ (one ++ 0 ∷ []))))
+
+-- The files are those of the slots: the counting one holds the records behind its head, and a crash
+-- leaves both as they are.
+pub record SlotsHold (disk : State) (slots : SlotPair) (id : ℕ) (records : List (List ℕ))
+    : Type 0 where
+  pub one : IsSlotFile slots.slot
+  pub is_id : slots.id ≡ id
+  pub limit : slots.generation ≤ MAX_NUMBER
+  pub at : IsAt slots.slot head_length slots.log
+  pub log : LogHolds disk slots.log records
+  pub head : take head_length log.bytes ≡ slot_head slots.generation id
+  pub other_bytes : List ℕ
+  pub other_sure : IsDurableAs disk (other_slot slots.slot) other_bytes
+  pub other : IsSuperseded slots.generation other_bytes
+  pub gate : HasGate slots.other_is_open other_bytes
+
+-- the bytes of a new slot with one record, whose gate is closed
+abbrev pub closed_slot : ℕ → ℕ → List ℕ → List ℕ
+closed_slot generation id one = 0 ∷ slot_behind generation id one
+
+-- the files that are no slots are the same
+abbrev pub SparesOthers : State → State → Type 0
+SparesOthers old new = (other : ℕ) → (IsSlotFile other → ⊥) → new other ≡ old other

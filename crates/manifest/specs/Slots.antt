@@ -1,0 +1,73 @@
+-- The two slots of a folder, and the version for which they stand.
+use Rattle.std.specs.Prelude.{◌≡◌, ◌≢◌, ◌⊎◌, ℕ, ◌-◌, ◌<◌, ◌≤◌, List, [], ◌∷◌, ◌++◌, take, drop, map}
+use Rattle.std.specs.Prelude.{Option, IsSomeAnd, All}
+use Rattle.std.specs.Int.{w16, w64, to_be_bytes}
+use Rattle.kv_types.specs.declared.bounds.TheConstants.{MAX_NUMBER}
+use Rattle.chain_model.specs.{IsId}
+use Rattle.disk.specs.{State, Contents, IsFileOutcome}
+use Rattle.record_log.specs.Grammar.{IsClosed, Represents}
+use Rattle.manifest.specs.Versions.{NodeVersion, Change, empty, AreFit, after_all}
+use Rattle.manifest.specs.Edits.{IsChange, change_bytes}
+
+-- ---- slots of records
+
+-- where a slot's log begins
+abbrev pub head_length : ℕ
+head_length = 11
+
+-- an open gate, the generation, and the node's id
+abbrev pub slot_head : ℕ → ℕ → List ℕ
+slot_head generation id = 1 ∷ to_be_bytes w64 generation ++ to_be_bytes w16 id
+
+-- an open slot of this generation, with these records
+pub record IsSlot (generation id : ℕ) (records : List (List ℕ)) (bytes : List ℕ) : Type 0 where
+  pub head : take head_length bytes ≡ slot_head generation id
+  pub log : Represents (drop head_length bytes) records
+
+-- the slot is closed, or open with a lesser generation; what is behind its head means nothing
+abbrev pub IsSuperseded : ℕ → List ℕ → Type 0
+IsSuperseded generation bytes = IsClosed bytes ⊎ ((lesser : ℕ) × (id : ℕ)
+    × (take head_length bytes ≡ slot_head lesser id) × (lesser < generation))
+
+-- one of the two slots, and the other of them
+abbrev pub IsSlotFile : ℕ → Type 0
+IsSlotFile slot = (slot ≡ 1) ⊎ (slot ≡ 2)
+
+abbrev pub other_slot : ℕ → ℕ
+other_slot slot = 3 - slot
+
+-- one slot counts, with these records, and the other yields
+pub record SlotsRepresent (id : ℕ) (records : List (List ℕ)) (left : Contents) : Type 0 where
+  pub slot : ℕ
+  pub one : IsSlotFile slot
+  pub generation : ℕ
+  pub limit : generation ≤ MAX_NUMBER
+  pub counting : IsSomeAnd (left slot) (IsSlot generation id records)
+  pub other : IsSomeAnd (left (other_slot slot)) (IsSuperseded generation)
+
+-- What a crash leaves of the slots has P, and of each other file it is what a crash might have left
+-- of a state.
+pub record SlotsAreLeft (disk : State) (P : Contents → Type 0) (left : Contents) : Type 0 where
+  pub here : P left
+  pub others : (other : ℕ) → (IsSlotFile other → ⊥) → IsFileOutcome (disk other) (left other)
+
+-- ---- the version
+
+-- the folder stands for one version of a node: its edits, each of which may be taken where it
+-- comes, give that version
+pub record ManifestRepresents (named : NodeVersion) (left : Contents) : Type 0 where
+  pub id : IsId named.id
+  pub changes : List Change
+  pub some : changes ≢ []
+  pub each : All IsChange changes
+  pub fit : AreFit empty changes
+  pub is : named.version ≡ after_all empty changes
+  pub records : SlotsRepresent named.id (map change_bytes changes) left
+
+-- no slot is open
+abbrev pub IsClosedOrAbsent : Option (List ℕ) → Type 0
+IsClosedOrAbsent file = IsSomeAnd file (λ bytes. (rest : List ℕ) × (bytes ≡ 1 ∷ rest)) → ⊥
+
+pub record IsNotCreated (left : Contents) : Type 0 where
+  pub first : IsClosedOrAbsent (left 1)
+  pub second : IsClosedOrAbsent (left 2)
