@@ -6,3 +6,4 @@ pub mod Replaces
 pub mod Records
 pub mod Rewrites
 pub mod Begun
+pub mod Edited

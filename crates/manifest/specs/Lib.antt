@@ -6,3 +6,4 @@ pub mod Reading
 pub mod Replace
 pub mod Slots
 pub mod Holds
+pub mod Manifests

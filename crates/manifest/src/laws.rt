@@ -1,6 +1,7 @@
 //! Laws of the definitions that contracts use. The functions do nothing: their clauses are the
 //! laws.
 ghost use Rattle.manifest.specs.Edits.{ChangesDiffer};
+ghost use Rattle.manifest.specs.Manifests.{ManifestHasSlots};
 
 use configurations::laws::test_decides_config;
 
@@ -10,3 +11,8 @@ pub fn changes_differ()
 {
     test_decides_config(); // law: the test succeeds exactly for the configurations
 }
+
+/// The files that a manifest changes are the two slots.
+pub fn manifest_has_slots()
+    ensures { ManifestHasSlots }
+{}

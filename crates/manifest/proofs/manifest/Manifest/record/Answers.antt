@@ -1,0 +1,64 @@
+use Rattle.std.proofs.Common.{◌≤◌, ℕ, List, length, sym, subst, false, ◌∙◌}
+use Rattle.std.proofs.lemmas.Result.{err_from_is_err_and}
+use Rattle.record_log.specs.declared.log.TheConstants.{MAX_RECORD}
+use Rattle.manifest.proofs.Edited.{met_is}
+use Rattle.manifest.proofs.Lawful.{few_added, change_is_short}
+use Rattle.manifest.specs.Versions.{NodeVersion, IsFit}
+use Rattle.manifest.proofs.Edited.{version_since, version_start, version_held}
+use Rattle.manifest.proofs.manifest.Manifest.record.Goals as goal
+
+pub returns-then-self-clause-any_moment : goal.returns-then-self-clause-any_moment
+returns-then-self-clause-any_moment g c = λ named honest h.
+    version_start (g.D.Disk.state c.args.disk.now) c.args.self.now named c.args.edit h
+    (subst (λ (n : NodeVersion). IsFit n.version c.args.edit) h.knows c.requires.fit.0) c.requires.fit.1 (g.D.Disk.past c.args.disk.now)
+
+pub returns-in_err-bytes-clause-any_moment : goal.returns-in_err-bytes-clause-any_moment
+returns-in_err-bytes-clause-any_moment g c = λ named honest h.
+    version_start (g.D.Disk.state c.args.disk.now) c.args.self.now named c.args.edit h
+    (subst (λ (n : NodeVersion). IsFit n.version c.args.edit) h.knows c.requires.fit.0) c.requires.fit.1 (g.D.Disk.past c.args.disk.now)
+
+pub returns-in_err-version-clause-any_moment : goal.returns-in_err-version-clause-any_moment
+returns-in_err-version-clause-any_moment g c = λ named honest h.
+    version_start (g.D.Disk.state c.args.disk.now) c.args.self.now named c.args.edit h
+    (subst (λ (n : NodeVersion). IsFit n.version c.args.edit) h.knows c.requires.fit.0) c.requires.fit.1 (g.D.Disk.past c.args.disk.now)
+
+pub returns-in_err-record-clause-any_moment : goal.returns-in_err-record-clause-any_moment
+returns-in_err-record-clause-any_moment g c = λ named honest h.
+    version_since (g.D.Disk.state c.args.disk.now) c.args.self.now named c.args.edit h
+    (subst (λ (n : NodeVersion). IsFit n.version c.args.edit) h.knows c.requires.fit.0) c.requires.fit.1 c.deref.result.now (c.deref.ensures.value ∙ c.in_ok-bytes.ensures)
+    (g.D.Disk.state c.record.new.disk) (g.D.Disk.past c.args.disk.now)
+    (g.D.Disk.past c.record.new.disk) (c.record.ensures.any_moment named.id _ honest h.records)
+
+pub returns-clause-any_moment : goal.returns-clause-any_moment
+returns-clause-any_moment g c = λ named honest h.
+    version_since (g.D.Disk.state c.args.disk.now) c.args.self.now named c.args.edit h
+    (subst (λ (n : NodeVersion). IsFit n.version c.args.edit) h.knows c.requires.fit.0) c.requires.fit.1 c.deref.result.now (c.deref.ensures.value ∙ c.in_ok-bytes.ensures)
+    (g.D.Disk.state c.record.new.disk) (g.D.Disk.past c.args.disk.now)
+    (g.D.Disk.past c.record.new.disk) (c.record.ensures.any_moment named.id _ honest h.records)
+
+-- the device's failure and want of memory are all that it meets
+pub returns-in_err-record-clause-recorded : goal.returns-in_err-record-clause-recorded
+returns-in_err-record-clause-recorded g c = λ named honest h.
+    let text = c.deref.ensures.value ∙ c.in_ok-bytes.ensures in
+    let few = few_added c.args.self.now.version.version c.args.edit c.requires.fit.0 in
+    let short = subst (λ (t : List ℕ). length t ≤ MAX_RECORD) (sym text)
+    (change_is_short c.args.edit c.requires.fit.1 few.0 few.1) in
+    let why = c.in_err-record.ensures.met named.id _ honest h.records short in
+    let p = err_from_is_err_and c.from_residual-in_err-record.result
+    c.from_residual-in_err-record.ensures.1 in
+    rw (p.1, p.2) (met_is c.in_err-record.field-0.0 why)
+
+-- after Ok the slots hold the edit
+pub returns-clause-recorded : goal.returns-clause-recorded
+returns-clause-recorded g c = λ named honest h.
+    let text = c.deref.ensures.value ∙ c.in_ok-bytes.ensures in
+    version_held (g.D.Disk.state c.args.disk.now) c.args.self.now named c.args.edit h
+    (subst (λ (n : NodeVersion). IsFit n.version c.args.edit) h.knows c.requires.fit.0) c.requires.fit.1
+    c.deref.result.now text (g.D.Disk.state c.record.new.disk)
+    (record c.args.self.now {
+      slots = c.record.new.self;
+      version = c.in_ok-version.version;
+      has_failed = false;
+    })
+    (λ e. absurd cc) c.in_ok-version.ensures
+    (c.in_ok-record.ensures.recorded named.id _ honest h.records)

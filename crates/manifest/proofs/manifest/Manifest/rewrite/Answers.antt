@@ -1,0 +1,47 @@
+use Rattle.std.proofs.Common.{sym, subst, refl, false}
+use Rattle.std.proofs.lemmas.Result.{err_from_is_err_and}
+use Rattle.manifest.specs.Lawful.{IsWholeEdit}
+use Rattle.manifest.proofs.Edited.{met_is, whole_since, whole_start, whole_held}
+use Rattle.manifest.proofs.manifest.Manifest.rewrite.Goals as goal
+
+pub returns-then-self-clause-any_moment : goal.returns-then-self-clause-any_moment
+returns-then-self-clause-any_moment g c = λ named honest h.
+    whole_start (g.D.Disk.state c.args.disk.now) (g.D.Disk.past c.args.disk.now) c.args.self.now named
+    h
+
+pub returns-in_err-bytes-clause-any_moment : goal.returns-in_err-bytes-clause-any_moment
+returns-in_err-bytes-clause-any_moment g c = λ named honest h.
+    whole_start (g.D.Disk.state c.args.disk.now) (g.D.Disk.past c.args.disk.now) c.args.self.now named
+    h
+
+pub returns-in_err-rewrite-clause-any_moment : goal.returns-in_err-rewrite-clause-any_moment
+returns-in_err-rewrite-clause-any_moment g c = λ named honest h.
+    let whole = subst (IsWholeEdit c.args.self.now.version) (sym c.deref.ensures.value)
+    c.in_ok-bytes.ensures.whole in
+    whole_since (g.D.Disk.state c.args.disk.now) c.args.self.now named c.deref.result.now h whole
+    (g.D.Disk.state c.rewrite.new.disk) (g.D.Disk.past c.args.disk.now)
+    (g.D.Disk.past c.rewrite.new.disk) (c.rewrite.ensures.any_moment named.id _ honest h.records)
+
+pub returns-clause-any_moment : goal.returns-clause-any_moment
+returns-clause-any_moment g c = λ named honest h.
+    let whole = subst (IsWholeEdit c.args.self.now.version) (sym c.deref.ensures.value)
+    c.in_ok-bytes.ensures.whole in
+    whole_since (g.D.Disk.state c.args.disk.now) c.args.self.now named c.deref.result.now h whole
+    (g.D.Disk.state c.rewrite.new.disk) (g.D.Disk.past c.args.disk.now)
+    (g.D.Disk.past c.rewrite.new.disk) (c.rewrite.ensures.any_moment named.id _ honest h.records)
+
+pub returns-in_err-rewrite-clause-rewritten : goal.returns-in_err-rewrite-clause-rewritten
+returns-in_err-rewrite-clause-rewritten g c = λ named honest h.
+    let why = c.in_err-rewrite.ensures.rewritten named.id _ honest h.records in
+    let p = err_from_is_err_and c.from_residual-in_err-rewrite.result
+    c.from_residual-in_err-rewrite.ensures.1 in
+    rw (p.1, p.2) (met_is c.in_err-rewrite.field-0.0 why)
+
+pub returns-clause-rewritten : goal.returns-clause-rewritten
+returns-clause-rewritten g c = λ named honest h.
+    let whole = subst (IsWholeEdit c.args.self.now.version) (sym c.deref.ensures.value)
+    c.in_ok-bytes.ensures.whole in
+    whole_held (g.D.Disk.state c.args.disk.now) c.args.self.now named c.deref.result.now h whole
+    (g.D.Disk.state c.rewrite.new.disk)
+    (record c.args.self.now { slots = c.rewrite.new.self; has_failed = false })
+    (λ e. absurd cc) refl (c.in_ok-rewrite.ensures.rewritten named.id _ honest h.records)

@@ -1,0 +1,52 @@
+-- An open manifest, and the version for which its folder stands.
+use Rattle.std.specs.Prelude.{◌≡◌, ◌≢◌, ℕ, List, [], map, All, IsTrue}
+use Rattle.chain_model.specs.{IsId}
+use Rattle.disk.specs.{State}
+use Rattle.record_log.specs.{file_of}
+use Rattle.record_log.specs.Logs.{HasNoRoom}
+use Rattle.manifest.specs.declared.manifest.Manifest.{Manifest}
+use Rattle.manifest.specs.Versions.{NodeVersion, Change, empty, AreFit, after_all}
+use Rattle.manifest.specs.Edits.{IsChange, change_bytes}
+use Rattle.manifest.specs.Slots.{IsSlotFile, other_slot}
+use Rattle.manifest.specs.Holds.{SlotsHold}
+
+-- an earlier call failed, so the manifest has to be opened again
+abbrev pub ManifestHasFailed : Manifest → Type 0
+ManifestHasFailed manifest = IsTrue manifest.has_failed
+
+-- the version that the manifest knows, of its node
+abbrev pub version_of : Manifest → NodeVersion
+version_of manifest = manifest.version
+
+-- the record of an edit would end past the greatest place of a file
+abbrev pub ManifestHasNoRoom : Manifest → Change → Type 0
+ManifestHasNoRoom manifest change = HasNoRoom manifest.slots.log (change_bytes change)
+
+-- the file of the slot that counts, and that of the other
+abbrev pub counting_file : Manifest → ℕ
+counting_file manifest = file_of manifest.slots.log
+
+abbrev pub spare_file : Manifest → ℕ
+spare_file manifest = other_slot manifest.slots.slot
+
+-- the slot that counts has this generation
+abbrev pub generation_of : Manifest → ℕ
+generation_of manifest = manifest.slots.generation
+
+-- the manifest works, the slots hold edits that give the version, and it knows that version
+pub record ManifestHolds (disk : State) (manifest : Manifest) (named : NodeVersion) : Type 0 where
+  pub works : ManifestHasFailed manifest → ⊥
+  pub knows : manifest.version ≡ named
+  pub id : IsId named.id
+  pub changes : List Change
+  pub some : changes ≢ []
+  pub each : All IsChange changes
+  pub fit : AreFit empty changes
+  pub is : named.version ≡ after_all empty changes
+  pub records : SlotsHold disk manifest.slots named.id (map change_bytes changes)
+
+-- the files that a manifest changes are the two slots
+abbrev pub ManifestHasSlots : Type 0
+ManifestHasSlots = (disk : State) (manifest : Manifest) (named : NodeVersion) →
+    ManifestHolds disk manifest named →
+    IsSlotFile (counting_file manifest) × IsSlotFile (spare_file manifest)

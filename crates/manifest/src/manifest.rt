@@ -1,0 +1,153 @@
+// The manifest of a store.
+ghost use Rattle.std.specs.Prelude.{◌≡◌, ◌⊎◌, ◌<◌, ◌≤◌, length, IfOk, MatchResult, IsErrOf};
+ghost use Rattle.std.specs.Prelude.{IsNone};
+ghost use Rattle.kv_types.specs.declared.bounds.TheConstants.{MAX_NUMBER};
+ghost use Rattle.record_log.specs.declared.log.TheConstants.{MAX_RECORD};
+ghost use Rattle.disk.specs.{AlwaysLeaves, IsSameBut, KeepsDisk, seen};
+ghost use Rattle.manifest.specs.Errors.{ManifestFailsDevice, IsManifestExternal};
+ghost use Rattle.manifest.specs.Versions.{NodeVersion, IsFit, first_version, node_version_after};
+ghost use Rattle.manifest.specs.Edits.{IsChange};
+ghost use Rattle.manifest.specs.Lawful.{IsWholeEdit};
+ghost use Rattle.manifest.specs.Slots.{SlotsAreLeft, ManifestRepresents};
+ghost use Rattle.manifest.specs.Holds.{SparesOthers};
+ghost use Rattle.manifest.specs.Manifests.{ManifestHolds, ManifestHasFailed, ManifestHasNoRoom};
+ghost use Rattle.manifest.specs.Manifests.{counting_file, generation_of, spare_file, version_of};
+
+use crate::changed::version_after;
+use crate::slot_pair::SlotPair;
+use crate::spelling::{bytes_of, bytes_of_whole};
+use crate::{LogLine, ManifestError, Version, VersionEdit};
+use configurations::{Config, NodeId};
+use disk::Disk;
+use std::alloc::{AllocError, Global};
+
+/// Which logs and tables a store has. The disk is lent to it at each call.
+#[derive(Drop)]
+pub struct Manifest {
+    slots: SlotPair,
+    version: Version,
+    has_failed: bool,
+}
+
+// The version of a new node.
+fn begun_by(alloc: Global, id: NodeId, config: &Config) -> Result<Version, AllocError>
+    ensures { IfOk result (λ version. version ≡ first_version id config.now) }
+{
+    let _ids = config.ids();
+    let mut logs = Vec::new(alloc);
+    logs.push(LogLine { file: 3, first: 1 })?;
+    Ok(Version {
+        id,
+        next_file: 4,
+        floor: 0,
+        flushed: 0,
+        epoch: 0,
+        config: config.clone()?,
+        logs,
+        tables: Vec::new(alloc),
+    })
+}
+
+// The bytes of one edit that gives the whole version.
+fn whole_bytes(alloc: Global, version: &Version) -> Result<Vec<u8>, AllocError>
+    ensures short { IfOk result (λ bytes. length bytes.items ≤ MAX_RECORD) }
+    ensures whole { IfOk result (λ bytes. IsWholeEdit version.now bytes.items) }
+{
+    let bytes = bytes_of_whole(alloc, version)?;
+    Ok(bytes)
+}
+
+impl Manifest {
+    /// What the folder stands for. Of a manifest that failed, what it stood for.
+    pub fn state(&self) -> &Version
+        ensures { result.now ≡ version_of self.now }
+    {
+        &self.version
+    }
+
+    /// A new manifest with one log, which is there, in a folder without slots. Inside this call
+    /// nothing is promised. Six device calls.
+    pub fn create<D: Disk>(
+        alloc: Global,
+        disk: &mut D,
+        id: NodeId,
+        config: &Config,
+    ) -> Result<Manifest, ManifestError>
+        ensures kept { KeepsDisk D.Disk disk.old disk.new (ManifestFailsDevice result) ⊥
+            SparesOthers }
+        ensures created { D.is_honest disk.old → IsNone (seen (D.state disk.old 1)) →
+            IsNone (seen (D.state disk.old 2)) → MatchResult result
+            (λ manifest. ManifestHolds (D.state disk.new) manifest (first_version id config.now)) IsManifestExternal }
+    {
+        let version = begun_by(alloc, id, config)?;
+        let bytes = whole_bytes(alloc, &version)?;
+        let slots = SlotPair::create(alloc, disk, id.get(), &bytes)?;
+        Ok(Manifest {
+            slots,
+            version,
+            has_failed: false,
+        })
+    }
+
+    /// Changes the version. Four device calls.
+    pub fn record<D: Disk>(
+        &mut self,
+        alloc: Global,
+        disk: &mut D,
+        edit: VersionEdit,
+    ) -> Result<(), ManifestError>
+        requires fit { IsFit (version_of self.old).version edit × IsChange edit }
+        ensures kept { KeepsDisk D.Disk disk.old disk.new (ManifestFailsDevice result) (ManifestHasNoRoom self.old edit)
+            (IsSameBut (counting_file self.old)) }
+        ensures told { MatchResult result
+            (λ _. (version_of self.new ≡ node_version_after (version_of self.old) edit) × (ManifestHasFailed self.new → ⊥))
+            (λ _. (version_of self.new ≡ version_of self.old) × ManifestHasFailed self.new) }
+        ensures failed { ManifestHasFailed self.old → IsErrOf result ManifestError.Failed }
+        ensures recorded { (named : NodeVersion) → D.is_honest disk.old →
+            ManifestHolds (D.state disk.old) self.old named → MatchResult result
+            (λ _. ManifestHolds (D.state disk.new) self.new (node_version_after named edit)) IsManifestExternal }
+
+        // A crash at any moment since the call began leaves the old version or the new one.
+        ensures any_moment { (named : NodeVersion) → D.is_honest disk.old →
+            ManifestHolds (D.state disk.old) self.old named →
+            AlwaysLeaves D.Disk disk.old disk.new (SlotsAreLeft (D.state disk.old)
+            (λ left. ManifestRepresents named left ⊎ ManifestRepresents (node_version_after named edit) left)) }
+    {
+        if self.has_failed {
+            return Err(ManifestError::Failed);
+        }
+        self.has_failed = true;
+        let bytes = bytes_of(alloc, &edit)?;
+        let version = version_after(alloc, &self.version, &edit)?;
+        self.slots.record(alloc, disk, &bytes)?;
+        self.version = version;
+        self.has_failed = false;
+        Ok(())
+    }
+
+    /// Writes the other slot anew with one edit that gives the whole version, so that it counts.
+    pub fn rewrite<D: Disk>(&mut self, alloc: Global, disk: &mut D) -> Result<(), ManifestError>
+        requires room { generation_of self.old < MAX_NUMBER }
+        ensures kept { KeepsDisk D.Disk disk.old disk.new (ManifestFailsDevice result) ⊥
+            (IsSameBut (spare_file self.old)) }
+        ensures told { version_of self.new ≡ version_of self.old }
+        ensures failed { ManifestHasFailed self.old → IsErrOf result ManifestError.Failed }
+        ensures rewritten { (named : NodeVersion) → D.is_honest disk.old →
+            ManifestHolds (D.state disk.old) self.old named → MatchResult result
+            (λ _. ManifestHolds (D.state disk.new) self.new named) IsManifestExternal }
+
+        // A crash at any moment since the call began leaves the same version.
+        ensures any_moment { (named : NodeVersion) → D.is_honest disk.old →
+            ManifestHolds (D.state disk.old) self.old named →
+            AlwaysLeaves D.Disk disk.old disk.new (SlotsAreLeft (D.state disk.old) (ManifestRepresents named)) }
+    {
+        if self.has_failed {
+            return Err(ManifestError::Failed);
+        }
+        self.has_failed = true;
+        let bytes = whole_bytes(alloc, &self.version)?;
+        self.slots.rewrite(alloc, disk, &bytes)?;
+        self.has_failed = false;
+        Ok(())
+    }
+}
