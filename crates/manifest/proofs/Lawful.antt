@@ -15,9 +15,14 @@ use Rattle.manifest.specs.declared.line.TableName.{TableName}
 use Rattle.manifest.specs.declared.line.TableLine.{TableLine}
 use Rattle.manifest.specs.Versions.{Version, NodeVersion, Change, empty, changed, IsFit, AreFit, after_all}
 use Rattle.manifest.specs.Versions.{logs_left, tables_left, log_is_before, table_is_before, placed}
-use Rattle.manifest.specs.Versions.{IsNewFile, first_version}
+use Rattle.manifest.specs.Versions.{first_version, is_new_file, names_file, names_log, version_in}
+use Rattle.manifest.specs.Versions.{AreLawful, IsNew, IsThere, NumbersRise, keeps_ids}
+use Rattle.std.specs.Prelude.{IsTrue}
+use Rattle.std.proofs.Common.{Option}
 use Rattle.configurations.specs.{IsConfig, config_text}
-use Rattle.std.proofs.Common.{false}
+use Rattle.std.proofs.Common.{Bool, true, false, not, ◌&&◌, nat_le, nat_lt}
+use Rattle.std.specs.List.{list_all}
+use Rattle.std.proofs.lemmas.Bool.{leb-true, le-leb, ltb-true, lt-ltb}
 use Rattle.manifest.specs.Edits.{IsChange, IsLogLine, IsTableLine, change_bytes, log_line_bytes}
 use Rattle.manifest.specs.Edits.{table_name_bytes, table_line_bytes, counted_bytes}
 use Rattle.manifest.specs.Lawful.{IsGiven, AreLines, IsVersion, IsWholeEdit, whole_change}
@@ -25,6 +30,10 @@ use Rattle.manifest.proofs.Placed.{fold_all, fold_length, fold_order, fold_same,
 use Rattle.manifest.proofs.Placed.{logs_are_ordered, tables_are_ordered}
 
 -- ---- edits keep it
+
+both_true : (a b : Bool) → (a && b) ≡ true → (a ≡ true) × (b ≡ true)
+both_true true b e = (refl, e)
+both_true false b e = absurd cc
 
 pub empty_lines : AreLines empty
 empty_lines = record {
@@ -41,7 +50,26 @@ module _ (v : Version) (c : Change) (lines : AreLines v) (fit : IsFit v c) (is :
   new = changed v c
 
   still_given : (file : ℕ) → IsGiven v file → IsGiven new file
-  still_given file given = (given.0, omega (arith, given.1, fit.next_file))
+  still_given file given = (given.0, omega (arith, given.1, fit.numbers.next_file))
+
+  given : (file : ℕ) → is_new_file v c file ≡ true → IsGiven new file
+  given file t =
+      let p = both_true (nat_le 3 file && nat_lt file c.next_file && not (names_log v.logs file))
+      (not (names_file v.tables file)) t in
+      let q = both_true (nat_le 3 file && nat_lt file c.next_file) (not (names_log v.logs file))
+      p.0 in
+      let r = both_true (nat_le 3 file) (nat_lt file c.next_file) q.0 in
+      (leb-true 3 file r.0, ltb-true file c.next_file r.1)
+
+  given_all : {A : Type 0} (file_of : A → ℕ) (lines : List A)
+      → list_all (λ line. is_new_file v c (file_of line)) lines ≡ true
+      → All (λ line. IsGiven new (file_of line)) lines
+  given_all file_of [] t = All-nil (λ line. IsGiven new (file_of line))
+  given_all file_of (line ∷ lines) t =
+      let p = both_true (is_new_file v c (file_of line))
+      (list_all (λ line. is_new_file v c (file_of line)) lines) t in
+      All-cons (λ line. IsGiven new (file_of line)) line lines (given (file_of line) p.0)
+      (given_all file_of lines p.1)
 
   pub lines_kept : AreLines new
   lines_kept = record {
@@ -55,18 +83,14 @@ module _ (v : Version) (c : Change) (lines : AreLines v) (fit : IsFit v c) (is :
         (All-weaker (λ (line : LogLine). IsGiven v line.file)
         (λ (line : LogLine). IsGiven new line.file)
         (λ line given. still_given line.file given) v.logs lines.log_files))
-        (All-weaker (λ (line : LogLine). IsNewFile v c line.file)
-        (λ (line : LogLine). IsGiven new line.file) (λ line one. (one.0, one.1)) c.logs_added
-        fit.logs_new);
+        (given_all (λ (line : LogLine). line.file) c.logs_added fit.new.logs);
     table_files = fold_all (λ (line : TableLine). IsGiven new line.file) table_is_before
         (tables_left c.tables_gone v.tables) c.tables_added
         (All-filter _ (λ (line : TableLine). IsGiven new line.file) v.tables
         (All-weaker (λ (line : TableLine). IsGiven v line.file)
         (λ (line : TableLine). IsGiven new line.file)
         (λ line given. still_given line.file given) v.tables lines.table_files))
-        (All-weaker (λ (line : TableLine). IsNewFile v c line.file)
-        (λ (line : TableLine). IsGiven new line.file) (λ line one. (one.0, one.1)) c.tables_added
-        fit.tables_new);
+        (given_all (λ (line : TableLine). line.file) c.tables_added fit.new.tables);
     logs_in_order = fold_order log_is_before logs_are_ordered (logs_left c.logs_gone v.logs)
         c.logs_added (filter_order log_is_before _ v.logs lines.logs_in_order);
     tables_in_order = fold_order table_is_before tables_are_ordered
@@ -82,13 +106,7 @@ module _ (v : Version) (c : Change) (lines : AreLines v) (fit : IsFit v c) (is :
     epoch = is.epoch;
     ids = is.ids;
     lines = lines_kept;
-    some = fit.some;
-    few_logs = fit.few_logs;
-    few_tables = fit.few_tables;
-    apart = fit.apart;
-    files_once = fit.files_once;
-    logs_apart = fit.logs_apart;
-    log_files_once = fit.log_files_once;
+    lawful = fit.lawful;
   }
 
 -- what the code makes of a version and an edit
@@ -134,6 +152,41 @@ version_made named view change edit ids logs tables seen read is fit right i l t
       tables = t;
     }
 
+-- an edit's numbers and ids, with these lines
+abbrev with_lines : Change → List LogLine → List TableLine → Version
+with_lines c logs tables = record {
+  next_file = c.next_file;
+  floor = c.floor;
+  flushed = c.flushed;
+  epoch = c.epoch;
+  ids = c.ids;
+  logs = logs;
+  tables = tables;
+}
+
+-- what the code makes of the version so far and an edit that was read
+pub next_made : (old : Option NodeVersion) (change edit : Change) (logs : List LogLine)
+    (tables : List TableLine) → change ≡ edit → AreLines (version_in old) → IsChange change
+    → NumbersRise (version_in old) change → IsTrue (keeps_ids (version_in old).ids change.ids)
+    → IsThere (version_in old) change → IsNew (version_in old) change → AreLawful logs tables
+    → logs ≡ (changed (version_in old) change).logs
+    → tables ≡ (changed (version_in old) change).tables → IsVersion (with_lines edit logs tables)
+next_made old change edit logs tables read lines is numbers ids there new lawful l t =
+    let v = version_in old in
+    let fit : IsFit v change = record {
+      numbers = numbers;
+      ids = ids;
+      there = there;
+      new = new;
+      lawful = subst (λ (x : List TableLine). AreLawful (changed v change).logs x) t
+          (subst (λ (x : List LogLine). AreLawful x tables) l lawful);
+    } in
+    let same : with_lines change logs tables ≡ changed v change =
+    ap (λ (x : List LogLine). with_lines change x tables) l
+    ∙ ap (λ (x : List TableLine). with_lines change (changed v change).logs x) t in
+    subst (λ (c : Change). IsVersion (with_lines c logs tables)) read
+    (subst IsVersion (sym same) (version_fit v change lines fit is))
+
 -- all of them
 pub after_version : (v : Version) (changes : List Change) → AreLines v → changes ≢ []
     → All IsChange changes → AreFit v changes → IsVersion (after_all v changes)
@@ -170,22 +223,27 @@ module _ (v : Version) (is : IsVersion v) where
     epoch = is.epoch;
     ids = is.ids;
     logs_gone = (omega arith, All-nil (λ (file : ℕ). file ≤ MAX_NUMBER));
-    logs_added = (omega (arith, is.few_logs), is.lines.logs);
+    logs_added = (omega (arith, is.lawful.few_logs), is.lines.logs);
     tables_gone = (
       omega arith,
       All-nil (λ (one : TableName).
           (one.level ≤ 6) × (one.file ≤ MAX_NUMBER)),
     );
-    tables_added = (omega (arith, is.few_tables), is.lines.tables);
+    tables_added = (omega (arith, is.lawful.few_tables), is.lines.tables);
   }
 
-  new_file : (file : ℕ) → IsGiven v file → IsNewFile empty (whole_change v) file
-  new_file file given = (
-    given.0,
-    given.1,
-    All-nil (λ (line : LogLine). line.file ≢ file),
-    All-nil (λ (line : TableLine). line.file ≢ file),
-  )
+  new_file : (file : ℕ) → IsGiven v file → is_new_file empty (whole_change v) file ≡ true
+  new_file file given = rw (le-leb 3 file given.0, lt-ltb file v.next_file given.1) refl
+
+  new_all : {A : Type 0} (file_of : A → ℕ) (lines : List A)
+      → All (λ line. IsGiven v (file_of line)) lines
+      → list_all (λ line. is_new_file empty (whole_change v) (file_of line)) lines ≡ true
+  new_all file_of [] all = refl
+  new_all file_of (line ∷ lines) all =
+      rw (
+        new_file (file_of line) (All-head (λ line. IsGiven v (file_of line)) line lines all),
+        new_all file_of lines (All-tail (λ line. IsGiven v (file_of line)) line lines all),
+      ) refl
 
   -- what holds of the version holds of what the edit gives
   gives_version : IsVersion (changed empty (whole_change v))
@@ -193,28 +251,19 @@ module _ (v : Version) (is : IsVersion v) where
 
   pub whole_fit : IsFit empty (whole_change v)
   whole_fit = record {
-    next_file = omega arith;
-    floor = omega arith;
-    flushed = omega arith;
-    epoch = omega arith;
-    ids = inl refl;
-    logs_there = λ k d lt. absurd (omega (arith, lt));
-    logs_once = λ i j d lt in'. absurd (omega (arith, in'));
-    tables_there = λ k d lt. absurd (omega (arith, lt));
-    tables_once = λ i j d lt in'. absurd (omega (arith, in'));
-    logs_new = All-weaker (λ (line : LogLine). IsGiven v line.file)
-        (λ (line : LogLine). IsNewFile empty (whole_change v) line.file)
-        (λ line given. new_file line.file given) v.logs is.lines.log_files;
-    tables_new = All-weaker (λ (line : TableLine). IsGiven v line.file)
-        (λ (line : TableLine). IsNewFile empty (whole_change v) line.file)
-        (λ line given. new_file line.file given) v.tables is.lines.table_files;
-    some = gives_version.some;
-    few_logs = gives_version.few_logs;
-    few_tables = gives_version.few_tables;
-    apart = gives_version.apart;
-    files_once = gives_version.files_once;
-    logs_apart = gives_version.logs_apart;
-    log_files_once = gives_version.log_files_once;
+    numbers = record {
+      next_file = omega arith;
+      floor = omega arith;
+      flushed = omega arith;
+      epoch = omega arith;
+    };
+    ids = refl;
+    there = record { logs = refl; logs_once = refl; tables = refl; tables_once = refl };
+    new = record {
+      logs = new_all (λ (line : LogLine). line.file) v.logs is.lines.log_files;
+      tables = new_all (λ (line : TableLine). line.file) v.tables is.lines.table_files;
+    };
+    lawful = gives_version.lawful;
   }
 
 -- ---- how long an edit is
@@ -308,10 +357,10 @@ change_is_short c is few_logs few_tables =
 pub few_added : (v : Version) (c : Change) → IsFit v c
     → (length c.logs_added ≤ 4096) × (length c.tables_added ≤ 4096)
 few_added v c fit = (
-  omega (arith, fit.few_logs, fold_length log_is_before (logs_left c.logs_gone v.logs) c.logs_added),
+  omega (arith, fit.lawful.few_logs, fold_length log_is_before (logs_left c.logs_gone v.logs) c.logs_added),
   omega (
     arith,
-    fit.few_tables,
+    fit.lawful.few_tables,
     fold_length table_is_before (tables_left c.tables_gone v.tables) c.tables_added,
   ),
 )
@@ -322,7 +371,7 @@ pub whole_is_short : (v : Version) → IsVersion v → (bytes : List ℕ)
     → bytes ≡ change_bytes (whole_change v) → length bytes ≤ MAX_RECORD
 whole_is_short v is bytes same =
     subst (λ (t : List ℕ). length t ≤ MAX_RECORD) (sym same)
-    (change_is_short (whole_change v) (whole_change_is v is) is.few_logs is.few_tables)
+    (change_is_short (whole_change v) (whole_change_is v is) is.lawful.few_logs is.lawful.few_tables)
 
 pub whole_is_whole : (named : NodeVersion) → IsVersion named.version → (bytes : List ℕ)
     → bytes ≡ change_bytes (whole_change named.version) → IsWholeEdit named bytes
@@ -356,11 +405,11 @@ first_is id ids is =
         logs_in_order = (All-nil (λ (l : LogLine). log_is_before l line ≡ false), tt);
         tables_in_order = tt;
       };
-      some = λ e. absurd cc;
-      few_logs = omega arith;
-      few_tables = omega arith;
-      apart = λ i j d lt in'. absurd (omega (arith, in'));
-      files_once = λ i j d lt in'. absurd (omega (arith, in'));
-      logs_apart = λ k d lt i e in'. absurd (omega (arith, in'));
-      log_files_once = λ i j d lt in'. absurd (omega (arith, lt, in'));
+      lawful = record {
+        some = omega arith;
+        few_logs = omega arith;
+        few_tables = omega arith;
+        files_once = refl;
+        apart = refl;
+      };
     }

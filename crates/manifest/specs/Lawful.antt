@@ -1,9 +1,8 @@
 -- What holds of each version that edits give.
-use Rattle.std.specs.Prelude.{◌≡◌, ◌≢◌, ℕ, ◌<◌, ◌≤◌, List, [], length, All}
-use Rattle.std.specs.List.{AllPairs}
+use Rattle.std.specs.Prelude.{◌≡◌, ℕ, ◌<◌, ◌≤◌, List, [], length, All}
 use Rattle.kv_types.specs.declared.bounds.TheConstants.{MAX_NUMBER}
 use Rattle.configurations.specs.{IsConfig}
-use Rattle.manifest.specs.Versions.{Version, Change, AreApart, IsInOrder, log_is_before}
+use Rattle.manifest.specs.Versions.{Version, Change, AreLawful, IsInOrder, log_is_before}
 use Rattle.manifest.specs.Versions.{NodeVersion, IsFit, changed, empty, table_is_before}
 use Rattle.manifest.specs.Edits.{IsChange, IsLogLine, IsTableLine, change_bytes}
 
@@ -29,13 +28,7 @@ pub record IsVersion (version : Version) : Type 0 where
   pub epoch : version.epoch ≤ 15
   pub ids : IsConfig version.ids
   pub lines : AreLines version
-  pub some : version.logs ≢ []
-  pub few_logs : length version.logs ≤ 4096
-  pub few_tables : length version.tables ≤ 4096
-  pub apart : AllPairs AreApart version.tables
-  pub files_once : AllPairs (λ a b. a.file ≢ b.file) version.tables
-  pub logs_apart : All (λ log. All (λ table. table.file ≢ log.file) version.tables) version.logs
-  pub log_files_once : AllPairs (λ a b. a.file ≢ b.file) version.logs
+  pub lawful : AreLawful version.logs version.tables
 
 -- the edit that gives the whole version from the empty one
 abbrev pub whole_change : Version → Change

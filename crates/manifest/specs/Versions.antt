@@ -1,11 +1,10 @@
 -- What a manifest names, and how an edit changes it.
-use Rattle.std.specs.Prelude.{◌≡◌, ◌≢◌, ◌⊎◌, ℕ, ◌<◌, ◌≤◌, List, [], ◌∷◌, length, All}
-use Rattle.std.specs.Prelude.{Contains, Bool, false, not, ◌&&◌, ◌||◌, nat_lt, ◌==◌, if◌then◌else◌}
-use Rattle.std.specs.List.{AllPairs, fold, filter, list_any}
+use Rattle.std.specs.Prelude.{◌≡◌, ℕ, ◌<◌, ◌≤◌, List, [], ◌∷◌, ◌++◌, length, map, All, Bool, true, false}
+use Rattle.std.specs.Prelude.{Option, Some, None, not, ◌&&◌, ◌||◌, nat_le, nat_lt, ◌==◌, if◌then◌else◌, IsTrue}
+use Rattle.std.specs.List.{fold, filter, list_all, list_any}
 use Rattle.std.specs.Ordering.{nat_cmp, is_lt}
 use Rattle.std.specs.Cmp.Lexicographic.{slice_cmp}
-use Rattle.kv_types.specs.Order.{IsBelow}
-use Rattle.chain_model.specs.{Part}
+use Rattle.chain_model.specs.{is_part}
 use Rattle.manifest.specs.declared.line.LogLine.{LogLine}
 use Rattle.manifest.specs.declared.line.TableName.{TableName}
 use Rattle.manifest.specs.declared.line.TableLine.{TableLine}
@@ -103,40 +102,83 @@ node_version_after named change = record { id = named.id; version = changed name
 
 -- ---- which edits a version may take
 
+-- no number stands twice in the list
+abbrev pub are_once : List ℕ → Bool
+are_once [] = true
+are_once (n ∷ ns) = not (list_any (λ other. other == n) ns) && are_once ns
+
+-- a log has this file
+abbrev pub names_log : List LogLine → ℕ → Bool
+names_log logs file = list_any (λ line. line.file == file) logs
+
+-- a table of this level has this file
+abbrev pub names_table : List TableLine → TableName → Bool
+names_table tables one = list_any (λ line. line.level == one.level && line.file == one.file) tables
+
+-- a table has this file
+abbrev pub names_file : List TableLine → ℕ → Bool
+names_file tables file = list_any (λ line. line.file == file) tables
+
+-- the files of logs and tables
+abbrev pub files_of : List LogLine → List TableLine → List ℕ
+files_of logs tables = map (λ line. line.file) logs ++ map (λ line. line.file) tables
+
 -- a file that is added has a new number
-abbrev pub IsNewFile : Version → Change → ℕ → Type 0
-IsNewFile version change file = (3 ≤ file) × (file < change.next_file)
-    × All (λ line. line.file ≢ file) version.logs × All (λ line. line.file ≢ file) version.tables
+abbrev pub is_new_file : Version → Change → ℕ → Bool
+is_new_file version change file =
+    nat_le 3 file && nat_lt file change.next_file && not (names_log version.logs file)
+    && not (names_file version.tables file)
 
 -- two ranges of one level below level 0 share no key
-abbrev pub AreApart : TableLine → TableLine → Type 0
-AreApart a b = (a.level ≡ b.level) → 0 < a.level
-    → IsBelow a.greatest b.least ⊎ IsBelow b.greatest a.least
+abbrev pub are_apart : TableLine → TableLine → Bool
+are_apart a b =
+    not (a.level == b.level) || a.level == 0 || is_lt (slice_cmp nat_cmp a.greatest b.least)
+    || is_lt (slice_cmp nat_cmp b.greatest a.least)
 
--- no number falls, what is given up is there, and what is added is new
-pub record IsFit (version : Version) (change : Change) : Type 0 where
+-- each two of the tables
+abbrev pub all_apart : List TableLine → Bool
+all_apart [] = true
+all_apart (line ∷ lines) = list_all (λ other. are_apart line other) lines && all_apart lines
+
+-- the ids are the old ones with some left out, or the first
+abbrev pub keeps_ids : List ℕ → List ℕ → Bool
+keeps_ids [] ids = true
+keeps_ids (id ∷ old) ids = is_part ids (id ∷ old)
+
+-- no number falls
+pub record NumbersRise (version : Version) (change : Change) : Type 0 where
   pub next_file : version.next_file ≤ change.next_file
   pub floor : version.floor ≤ change.floor
   pub flushed : version.flushed ≤ change.flushed
   pub epoch : version.epoch ≤ change.epoch
-  pub ids : (version.ids ≡ []) ⊎ Part change.ids version.ids
-  pub logs_there : All (λ file. (line : LogLine) × Contains version.logs line
-      × (line.file ≡ file)) change.logs_gone
-  pub logs_once : AllPairs (λ a b. a ≢ b) change.logs_gone
-  pub tables_there : All (λ one. (line : TableLine) × Contains version.tables line
-      × (line.level ≡ one.level) × (line.file ≡ one.file)) change.tables_gone
-  pub tables_once : AllPairs (λ a b. a.file ≢ b.file) change.tables_gone
-  pub logs_new : All (λ line. IsNewFile version change line.file) change.logs_added
-  pub tables_new : All (λ line. IsNewFile version change line.file) change.tables_added
-  pub some : (changed version change).logs ≢ []
-  pub few_logs : length (changed version change).logs ≤ 4096
-  pub few_tables : length (changed version change).tables ≤ 4096
-  pub apart : AllPairs AreApart (changed version change).tables
-  -- no two lines name one file
-  pub files_once : AllPairs (λ a b. a.file ≢ b.file) (changed version change).tables
-  pub logs_apart : All (λ log. All (λ table. table.file ≢ log.file)
-      (changed version change).tables) (changed version change).logs
-  pub log_files_once : AllPairs (λ a b. a.file ≢ b.file) (changed version change).logs
+
+-- what is given up is there, and given up once
+pub record IsThere (version : Version) (change : Change) : Type 0 where
+  pub logs : IsTrue (list_all (λ file. names_log version.logs file) change.logs_gone)
+  pub logs_once : IsTrue (are_once change.logs_gone)
+  pub tables : IsTrue (list_all (λ one. names_table version.tables one) change.tables_gone)
+  pub tables_once : IsTrue (are_once (map (λ one. one.file) change.tables_gone))
+
+-- what is added is new
+pub record IsNew (version : Version) (change : Change) : Type 0 where
+  pub logs : IsTrue (list_all (λ line. is_new_file version change line.file) change.logs_added)
+  pub tables : IsTrue (list_all (λ line. is_new_file version change line.file) change.tables_added)
+
+-- some logs, few lines, no file twice, and ranges apart
+pub record AreLawful (logs : List LogLine) (tables : List TableLine) : Type 0 where
+  pub some : 0 < length logs
+  pub few_logs : length logs ≤ 4096
+  pub few_tables : length tables ≤ 4096
+  pub files_once : IsTrue (are_once (files_of logs tables))
+  pub apart : IsTrue (all_apart tables)
+
+-- the version may take the edit
+pub record IsFit (version : Version) (change : Change) : Type 0 where
+  pub numbers : NumbersRise version change
+  pub ids : IsTrue (keeps_ids version.ids change.ids)
+  pub there : IsThere version change
+  pub new : IsNew version change
+  pub lawful : AreLawful (changed version change).logs (changed version change).tables
 
 -- each edit may be taken where it comes
 abbrev pub AreFit : Version → List Change → Type 0
@@ -162,3 +204,8 @@ first_version id ids = record {
     tables = [];
   };
 }
+
+-- the version that some edits gave, or the empty one before the first
+abbrev pub version_in : Option NodeVersion → Version
+version_in None = empty
+version_in (Some named) = named.version

@@ -10,7 +10,7 @@ use crate::{LogLine, TableLine, TableName, Version, VersionEdit};
 use std::alloc::{AllocError, Global};
 
 // The logs but those that are given up.
-fn logs_left(alloc: Global, gone: &[u64], logs: &[LogLine]) -> Result<Vec<LogLine>, AllocError>
+pub fn logs_left(alloc: Global, gone: &[u64], logs: &[LogLine]) -> Result<Vec<LogLine>, AllocError>
     ensures { IfOk result (λ left. left.items ≡ logs_left gone.now logs.now) }
 {
     let mut left = Vec::new(alloc);
@@ -38,7 +38,7 @@ fn log_place(logs: &[LogLine], line: LogLine) -> usize
     at
 }
 
-fn add_logs(logs: &mut Vec<LogLine>, added: &[LogLine]) -> Result<(), AllocError>
+pub fn add_logs(logs: &mut Vec<LogLine>, added: &[LogLine]) -> Result<(), AllocError>
     ensures { OnOk result (logs.new.items ≡ fold with_log logs.old.items added.now) }
 {
     for line in added {
@@ -78,7 +78,7 @@ fn keep_table(
 }
 
 // The tables but those that are given up.
-fn tables_left(
+pub fn tables_left(
     alloc: Global,
     gone: &[TableName],
     tables: &[TableLine],
@@ -120,7 +120,7 @@ fn table_place(tables: &[TableLine], line: &TableLine) -> usize
     at
 }
 
-fn add_tables(tables: &mut Vec<TableLine>, added: &[TableLine]) -> Result<(), AllocError>
+pub fn add_tables(tables: &mut Vec<TableLine>, added: &[TableLine]) -> Result<(), AllocError>
     ensures { OnOk result (tables.new.items ≡ fold with_table tables.old.items added.now) }
 {
     for line in added {

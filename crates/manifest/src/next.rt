@@ -1,0 +1,201 @@
+// The version after an edit that was read, where the version may take it.
+ghost use Rattle.std.specs.Prelude.{◌≡◌, ◌⊎◌, ◌↔◌, ◌<◌, ◌≤◌, IfOk, IfErr, IsErrOf, IsTrue};
+ghost use Rattle.std.specs.List.{fold, list_all};
+ghost use Rattle.manifest.specs.Versions.{AreLawful, IsFit, IsNew, IsThere, NumbersRise, changed};
+ghost use Rattle.manifest.specs.Versions.{is_new_file, keeps_ids, logs_left, names_log, names_table};
+ghost use Rattle.manifest.specs.Versions.{tables_left, version_in, with_log, with_table};
+ghost use Rattle.manifest.specs.Edits.{IsChange};
+ghost use Rattle.manifest.specs.Lawful.{AreLines};
+
+use crate::changed::{add_logs, add_tables, logs_left, tables_left};
+use crate::fits::{
+    all_apart, are_once, files_gone, files_of, is_part, names_file, names_log, names_table,
+};
+use crate::{LogLine, ManifestError, TableLine, TableName, Version, VersionEdit};
+use configurations::{Config, NodeId};
+use std::alloc::{AllocError, Global};
+
+// The logs of a version, and none before the first edit.
+fn logs_of(old: &Option<Version>) -> &[LogLine]
+    ensures logs { result.now ≡ (version_in old.now).logs }
+    ensures lines { AreLines (version_in old.now) }
+{
+    match old {
+        Some(version) => &version.logs,
+        None => &[],
+    }
+}
+
+fn tables_of(old: &Option<Version>) -> &[TableLine]
+    ensures { result.now ≡ (version_in old.now).tables }
+{
+    match old {
+        Some(version) => &version.tables,
+        None => &[],
+    }
+}
+
+fn numbers_rise(old: &Option<Version>, edit: &VersionEdit) -> bool
+    ensures { IsTrue result ↔ NumbersRise (version_in old.now) edit.now }
+{
+    let Some(version) = old else {
+        return true;
+    };
+    version.next_file <= edit.next_file
+        && version.floor <= edit.floor
+        && version.flushed <= edit.flushed
+        && version.epoch <= edit.epoch
+}
+
+fn keeps_ids(old: &Option<Version>, config: &Config) -> bool
+    ensures { result ≡ keeps_ids (version_in old.now).ids config.now }
+{
+    match old {
+        Some(version) => is_part(config.ids(), version.config.ids()),
+        None => true,
+    }
+}
+
+fn logs_there(logs: &[LogLine], gone: &[u64]) -> bool
+    ensures { result ≡ list_all (λ file. names_log logs.now file) gone.now }
+{
+    for file in gone {
+        if !names_log(logs, *file) {
+            return false;
+        }
+    }
+    true
+}
+
+fn tables_there(tables: &[TableLine], gone: &[TableName]) -> bool
+    ensures { result ≡ list_all (λ one. names_table tables.now one) gone.now }
+{
+    for one in gone {
+        if !names_table(tables, one) {
+            return false;
+        }
+    }
+    true
+}
+
+fn is_there(alloc: Global, old: &Option<Version>, edit: &VersionEdit) -> Result<bool, AllocError>
+    ensures { IfOk result (λ is. IsTrue is ↔ IsThere (version_in old.now) edit.now) }
+{
+    let files = files_gone(alloc, &edit.tables_gone)?;
+    Ok(
+        logs_there(logs_of(old), &edit.logs_gone)
+            && are_once(&edit.logs_gone)
+            && tables_there(tables_of(old), &edit.tables_gone)
+            && are_once(&files),
+    )
+}
+
+fn is_new_file(old: &Option<Version>, edit: &VersionEdit, file: u64) -> bool
+    ensures { result ≡ is_new_file (version_in old.now) edit.now file }
+{
+    3 <= file
+        && file < edit.next_file
+        && !names_log(logs_of(old), file)
+        && !names_file(tables_of(old), file)
+}
+
+fn logs_are_new(old: &Option<Version>, edit: &VersionEdit) -> bool
+    ensures { result ≡ list_all (λ line. is_new_file (version_in old.now) edit.now line.file)
+        edit.now.logs_added }
+{
+    for line in &edit.logs_added {
+        if !is_new_file(old, edit, line.file) {
+            return false;
+        }
+    }
+    true
+}
+
+fn tables_are_new(old: &Option<Version>, edit: &VersionEdit) -> bool
+    ensures { result ≡ list_all (λ line. is_new_file (version_in old.now) edit.now line.file)
+        edit.now.tables_added }
+{
+    for line in &edit.tables_added {
+        if !is_new_file(old, edit, line.file) {
+            return false;
+        }
+    }
+    true
+}
+
+fn are_lawful(alloc: Global, logs: &[LogLine], tables: &[TableLine]) -> Result<bool, AllocError>
+    ensures { IfOk result (λ is. IsTrue is ↔ AreLawful logs.now tables.now) }
+{
+    let files = files_of(alloc, logs, tables)?;
+    Ok(
+        0 < logs.len()
+            && logs.len() <= 4096
+            && tables.len() <= 4096
+            && are_once(&files)
+            && all_apart(tables),
+    )
+}
+
+// Whether the old version may take the edit, but for the lines that it gives.
+fn may_take(alloc: Global, old: &Option<Version>, edit: &VersionEdit) -> Result<bool, AllocError>
+    ensures { IfOk result (λ is. IsTrue is ↔ (NumbersRise (version_in old.now) edit.now
+        × IsTrue (keeps_ids (version_in old.now).ids edit.now.ids)
+        × IsThere (version_in old.now) edit.now × IsNew (version_in old.now) edit.now)) }
+{
+    Ok(
+        numbers_rise(old, edit)
+            && keeps_ids(old, &edit.config)
+            && is_there(alloc, old, edit)?
+            && logs_are_new(old, edit)
+            && tables_are_new(old, edit),
+    )
+}
+
+// The lines that an edit gives.
+fn lines_after(
+    alloc: Global,
+    old: &Option<Version>,
+    edit: &VersionEdit,
+) -> Result<(Vec<LogLine>, Vec<TableLine>), AllocError>
+    ensures { IfOk result (λ x. (x.0.items ≡ (changed (version_in old.now) edit.now).logs)
+        × (x.1.items ≡ (changed (version_in old.now) edit.now).tables)) }
+{
+    let mut logs = logs_left(alloc, &edit.logs_gone, logs_of(old))?;
+    add_logs(&mut logs, &edit.logs_added)?;
+    let mut tables = tables_left(alloc, &edit.tables_gone, tables_of(old))?;
+    add_tables(&mut tables, &edit.tables_added)?;
+    Ok((logs, tables))
+}
+
+/// The version of the node after one edit more, if there is one.
+pub fn next_version(
+    alloc: Global,
+    id: NodeId,
+    old: &Option<Version>,
+    edit: VersionEdit,
+) -> Result<Version, ManifestError>
+    requires { IsChange edit }
+    ensures found { IfOk result (λ version. IsFit (version_in old.now) edit
+        × (version ≡ record { id = id; version = changed (version_in old.now) edit })) }
+    ensures bad { IsErrOf result ManifestError.Damaged → IsFit (version_in old.now) edit → ⊥ }
+    ensures only { IfErr result (λ e. (e ≡ ManifestError.Damaged) ⊎ (e ≡ ManifestError.Memory)) }
+{
+    let _logs = logs_of(old);
+    if !may_take(alloc, old, &edit)? {
+        return Err(ManifestError::Damaged);
+    }
+    let (logs, tables) = lines_after(alloc, old, &edit)?;
+    if !are_lawful(alloc, &logs, &tables)? {
+        return Err(ManifestError::Damaged);
+    }
+    Ok(Version {
+        id,
+        next_file: edit.next_file,
+        floor: edit.floor,
+        flushed: edit.flushed,
+        epoch: edit.epoch,
+        config: edit.config,
+        logs,
+        tables,
+    })
+}
