@@ -20,17 +20,17 @@ use Rattle.manifest.proofs.Records.{has_old}
 use Rattle.chain_model.specs.{IsId}
 
 -- one edit more
-after_push : (v : Version) (changes : List Change) (one : Change)
+pub after_push : (v : Version) (changes : List Change) (one : Change)
     → after_all v (changes ++ one ∷ []) ≡ changed (after_all v changes) one
 after_push v [] one = refl
 after_push v (first ∷ others) one = after_push (changed v first) others one
 
-fit_push : (v : Version) (changes : List Change) (one : Change) → AreFit v changes
+pub fit_push : (v : Version) (changes : List Change) (one : Change) → AreFit v changes
     → IsFit (after_all v changes) one → AreFit v (changes ++ one ∷ [])
 fit_push v [] one fit last = (last, tt)
 fit_push v (first ∷ others) one fit last = (fit.0, fit_push (changed v first) others one fit.1 last)
 
-map_push : (changes : List Change) (one : Change)
+pub map_push : (changes : List Change) (one : Change)
     → map change_bytes (changes ++ one ∷ []) ≡ map change_bytes changes ++ change_bytes one ∷ []
 map_push [] one = refl
 map_push (first ∷ others) one =

@@ -7,3 +7,4 @@ pub mod Records
 pub mod Rewrites
 pub mod Begun
 pub mod Edited
+pub mod Replays

@@ -7,3 +7,4 @@ pub mod Replace
 pub mod Slots
 pub mod Holds
 pub mod Manifests
+pub mod Replays

@@ -13,6 +13,7 @@ mod manifest;
 mod next;
 mod reading;
 mod replace;
+mod replay;
 mod slot_pair;
 mod spelling;
 mod version;

@@ -1,0 +1,37 @@
+// The version that the records of an opened log give.
+ghost use Rattle.std.specs.Prelude.{◌≡◌, ◌⊎◌, ℕ, List, map, IfOk, IfErr, IsErrOf};
+ghost use Rattle.record_log.specs.{HasRead};
+ghost use Rattle.manifest.specs.Versions.{Change, after_all, empty};
+ghost use Rattle.manifest.specs.Edits.{change_bytes};
+ghost use Rattle.manifest.specs.Replays.{IsHistory};
+
+use crate::laws::changes_differ;
+use crate::next::next_version;
+use crate::reading::edit_of;
+use crate::{ManifestError, Version};
+use configurations::NodeId;
+use record_log::OpenedLog;
+use std::alloc::Global;
+
+/// The node's version after the edits that the records are. `Damaged` where they are no edits, or
+/// one of them may not be taken where it comes.
+pub fn replay(alloc: Global, id: NodeId, opened: &OpenedLog) -> Result<Version, ManifestError>
+    ensures found { (records : List (List ℕ)) → HasRead opened.now records →
+        IfOk result (λ version. (changes : List Change) × IsHistory changes
+        × (records ≡ map change_bytes changes)
+        × (version ≡ record { id = id; version = after_all empty changes })) }
+    ensures bad { IsErrOf result ManifestError.Damaged → (changes : List Change) →
+        IsHistory changes → HasRead opened.now (map change_bytes changes) → ⊥ }
+    ensures only { IfErr result (λ e. (e ≡ ManifestError.Damaged) ⊎ (e ≡ ManifestError.Memory)) }
+{
+    changes_differ(); // law: no two edits have one spelling
+    let mut draft = None;
+    for index in 0..opened.log.len() {
+        let edit = edit_of(alloc, opened.record(index))?;
+        draft = Some(next_version(alloc, id, &draft, edit)?);
+    }
+    match draft {
+        Some(version) => Ok(version),
+        None => Err(ManifestError::Damaged),
+    }
+}
