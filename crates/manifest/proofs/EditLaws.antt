@@ -5,7 +5,6 @@ use Rattle.std.proofs.Common.{sym, ◌⊎◌, inl, inr, ap, subst, ◌∙◌, ar
 use Rattle.std.proofs.Common.{append_assoc}
 use Rattle.std.proofs.lemmas.List.{append-nil, nil_from_length}
 use Rattle.std.specs.Prelude.{IsSomeAnd, option_map, Result, Ok, Err, IfOk, IfErr, IsErrOf}
-use Rattle.std.specs.List.{flat_map}
 use Rattle.std.specs.Int.{w8, w16, w32, w64, to_be_bytes}
 use Rattle.std.specs.Ordering.{nat_cmp, is_lt}
 use Rattle.std.specs.Cmp.Lexicographic.{slice_cmp}
@@ -31,7 +30,7 @@ use Rattle.manifest.specs.Edits.{IsTableLine, IsLogLine, IsChange, ChangesDiffer
 use Rattle.manifest.specs.Reading.{byte_field, count_field, first_field, epoch_field, level_field}
 use Rattle.manifest.specs.Reading.{config_field, as_log, log_line_at, as_name, table_name_at}
 use Rattle.manifest.specs.Reading.{as_table, has_range, table_line_at, files_at, logs_at, names_at}
-use Rattle.manifest.specs.Reading.{tables_at, as_change, change_at, change_of, RefusesChange}
+use Rattle.manifest.specs.Reading.{tables_at, as_change, change_at, change_of}
 use Rattle.manifest.specs.Reading.{ReadsChange, Fields}
 
 -- ---- tests

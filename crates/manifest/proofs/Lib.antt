@@ -8,3 +8,5 @@ pub mod Rewrites
 pub mod Begun
 pub mod Edited
 pub mod Replays
+pub mod Heads
+pub mod VersionIsOne

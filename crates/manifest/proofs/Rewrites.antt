@@ -6,10 +6,7 @@ use Rattle.std.specs.Prelude.{IsSomeAnd, ◌⊎◌}
 use Rattle.std.specs.Int.{w16, w32, w64, to_be_bytes}
 use Rattle.std.proofs.lemmas.List.{take-append-le, take-append-drop, length-take}
 use Rattle.std.proofs.Common.{Bool, true, length-append}
-use Rattle.disk.specs.declared.DiskError.{DiskError}
-use Rattle.record_log.specs.Error.{log_error}
-use Rattle.record_log.specs.Logs.{IsExternal}
-use Rattle.manifest.specs.Replace.{HasGate, IsDiskExternal}
+use Rattle.manifest.specs.Replace.{HasGate}
 use Rattle.kv_types.specs.declared.bounds.TheConstants.{MAX_NUMBER}
 use Rattle.disk.specs.{Slot, State, Contents, IsFileOutcome, IsCrashOutcome}
 use Rattle.disk.specs.{IsLeftAt, LeavesSince}

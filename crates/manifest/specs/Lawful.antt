@@ -1,5 +1,5 @@
 -- What holds of each version that edits give.
-use Rattle.std.specs.Prelude.{◌≡◌, ℕ, ◌<◌, ◌≤◌, List, [], length, All}
+use Rattle.std.specs.Prelude.{◌≡◌, ℕ, ◌<◌, ◌≤◌, List, [], All}
 use Rattle.kv_types.specs.declared.bounds.TheConstants.{MAX_NUMBER}
 use Rattle.configurations.specs.{IsConfig}
 use Rattle.manifest.specs.Versions.{Version, Change, AreLawful, IsInOrder, log_is_before}

@@ -8,3 +8,5 @@ pub mod Slots
 pub mod Holds
 pub mod Manifests
 pub mod Replays
+pub mod Heads
+pub mod Laws

@@ -1,6 +1,7 @@
 //! Laws of the definitions that contracts use. The functions do nothing: their clauses are the
 //! laws.
 ghost use Rattle.manifest.specs.Edits.{ChangesDiffer};
+ghost use Rattle.manifest.specs.Laws.{VersionIsOne, VersionsAreLawful};
 ghost use Rattle.manifest.specs.Manifests.{ManifestHasSlots};
 
 use configurations::laws::test_decides_config;
@@ -16,3 +17,11 @@ pub fn changes_differ()
 pub fn manifest_has_slots()
     ensures { ManifestHasSlots }
 {}
+
+/// The files represent one version at most, and a lawful one.
+pub fn version_is_one()
+    ensures one { VersionIsOne }
+    ensures lawful { VersionsAreLawful }
+{
+    changes_differ(); // law: no two edits have one spelling
+}

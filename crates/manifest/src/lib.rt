@@ -7,6 +7,7 @@ mod changed;
 mod edit;
 mod error;
 mod fits;
+mod head;
 pub mod laws;
 mod line;
 mod manifest;

@@ -1,4 +1,4 @@
-use Rattle.std.proofs.Common.{◌≡◌, ◌≤◌, List, None, Option, Some, ap, arith, length, map, subst, take}
+use Rattle.std.proofs.Common.{◌≤◌, Option, ap, arith, length, map, subst, take}
 use Rattle.std.proofs.lemmas.Result.{err_from_is_err_and}
 use Rattle.manifest.specs.Versions.{NodeVersion}
 use Rattle.manifest.specs.Edits.{change_bytes}

@@ -1,0 +1,16 @@
+-- The laws of the definitions that contracts use.
+use Rattle.std.specs.Prelude.{◌≡◌}
+use Rattle.disk.specs.{Contents}
+use Rattle.manifest.specs.Versions.{NodeVersion}
+use Rattle.manifest.specs.Lawful.{IsVersion}
+use Rattle.manifest.specs.Slots.{ManifestRepresents}
+
+-- files represent one version at most
+abbrev pub VersionIsOne : Type 0
+VersionIsOne = (a b : NodeVersion) (left : Contents) → ManifestRepresents a left →
+    ManifestRepresents b left → a ≡ b
+
+-- and a lawful one
+abbrev pub VersionsAreLawful : Type 0
+VersionsAreLawful = (named : NodeVersion) (left : Contents) → ManifestRepresents named left →
+    IsVersion named.version
