@@ -25,12 +25,12 @@ use Rattle.manifest.specs.declared.error.ManifestError.TheVariants as manifest
 use Rattle.manifest.specs.declared.line.TableName.{TableName}
 use Rattle.manifest.specs.declared.line.TableLine.{TableLine}
 use Rattle.manifest.specs.Versions.{Change}
-use Rattle.manifest.specs.Edits.{log_line_bytes, table_name_bytes, table_line_bytes, change_bytes}
+use Rattle.manifest.specs.Edits.{log_line_bytes, table_name_bytes, table_line_bytes, change_text}
 use Rattle.manifest.specs.Edits.{IsTableLine, IsLogLine, IsChange, ChangesDiffer, counted_bytes}
 use Rattle.manifest.specs.Reading.{byte_field, count_field, first_field, epoch_field, level_field}
 use Rattle.manifest.specs.Reading.{config_field, as_log, log_line_at, as_name, table_name_at}
 use Rattle.manifest.specs.Reading.{as_table, has_range, table_line_at, files_at, logs_at, names_at}
-use Rattle.manifest.specs.Reading.{tables_at, as_change, change_at, change_of}
+use Rattle.manifest.specs.Reading.{tables_at, as_change, change_front, change_of}
 use Rattle.manifest.specs.Reading.{ReadsChange, Fields}
 
 -- ---- tests
@@ -240,8 +240,8 @@ grouped : (c : Change) → to_be_bytes w64 c.next_file ++ (to_be_bytes w64 c.flo
     ++ (counted_bytes (λ file. to_be_bytes w64 file) c.logs_gone
     ++ (counted_bytes log_line_bytes c.logs_added
     ++ (counted_bytes table_name_bytes c.tables_gone ++ counted_bytes table_line_bytes c.tables_added)))))))
-    ≡ change_bytes c
-unfolding change_bytes
+    ≡ change_text c
+unfolding change_text
 grouped c =
     regrouped (to_be_bytes w64 c.next_file) (to_be_bytes w64 c.floor) (to_be_bytes w64 c.flushed)
     (to_be_bytes w32 c.epoch) (config_text c.ids)
@@ -259,8 +259,8 @@ spelled_reads {A} {Is} {spell} {read} other same r =
       again = λ a rest is. ap (λ (s : List ℕ). read (s ++ rest)) (sym (same a)) ∙ r.again a rest is;
     }
 
-pub change_reads : TestDecidesConfig → Reads IsChange change_bytes change_at
-unfolding change_at
+pub change_reads : TestDecidesConfig → Reads IsChange change_text change_front
+unfolding change_front
 change_reads decides =
     right_reads
     (λ c is. record {
@@ -293,7 +293,7 @@ change_reads decides =
         ),
       ),
     ))
-    (spelled_reads change_bytes grouped
+    (spelled_reads change_text grouped
     (made_reads as_change fields_of (λ c. refl) (λ x. refl)
     (both_reads whole_reads (both_reads whole_reads (both_reads whole_reads
     (both_reads epoch_reads (both_reads (config_reads decides) (both_reads files_reads
@@ -301,11 +301,11 @@ change_reads decides =
 
 -- all of the bytes
 
-again_whole : TestDecidesConfig → (change : Change) → IsChange change → change_at (change_bytes change) ≡ Some (change, [])
+again_whole : TestDecidesConfig → (change : Change) → IsChange change → change_front (change_text change) ≡ Some (change, [])
 again_whole decides change is =
-    ap change_at (sym (append-nil (change_bytes change))) ∙ (change_reads decides).again change [] is
+    ap change_front (sym (append-nil (change_text change))) ∙ (change_reads decides).again change [] is
 
-pub change_again : TestDecidesConfig → (change : Change) → IsChange change → change_of (change_bytes change) ≡ Some change
+pub change_again : TestDecidesConfig → (change : Change) → IsChange change → change_of (change_text change) ≡ Some change
 unfolding change_of
 change_again decides change is = rw (again_whole decides change is) refl
 
@@ -316,16 +316,16 @@ is_ended rest change found e =
     (nil_from_length rest (eqb-true (length rest) 0 p.0), p.1)
 
 pub change_takes : TestDecidesConfig → (bytes : List ℕ) (change : Change) → IsBytes bytes → change_of bytes ≡ Some change
-    → (bytes ≡ change_bytes change) × IsChange change
+    → (bytes ≡ change_text change) × IsChange change
 unfolding change_of
 change_takes decides bytes change fits e =
-    let x = bind_some (change_at bytes)
+    let x = bind_some (change_front bytes)
     (λ x. cond (length x.1 == 0) (Some x.0) None) change e in
     let t = (change_reads decides).takes bytes x.0 fits x.1 in
     let z = is_ended x.0.1 x.0.0 change x.2 in
-    let whole : bytes ≡ change_bytes x.0.0 =
-    t.0.parts ∙ ap (λ (r : List ℕ). change_bytes x.0.0 ++ r) z.0 ∙ append-nil (change_bytes x.0.0) in
-    subst (λ (c : Change). (bytes ≡ change_bytes c) × IsChange c) z.1 (whole, t.1)
+    let whole : bytes ≡ change_text x.0.0 =
+    t.0.parts ∙ ap (λ (r : List ℕ). change_text x.0.0 ++ r) z.0 ∙ append-nil (change_text x.0.0) in
+    subst (λ (c : Change). (bytes ≡ change_text c) × IsChange c) z.1 (whole, t.1)
 
 pub one_spelling : TestDecidesConfig → ChangesDiffer
 one_spelling decides a b is_a is_b same =
@@ -335,13 +335,13 @@ one_spelling decides a b is_a is_b same =
 
 pub change_found : TestDecidesConfig → (result : Result Change ManifestError) (bytes : List ℕ) → IsBytes bytes
     → ReadsChange result (change_of bytes)
-    → IfOk result (λ change. IsChange change × (bytes ≡ change_bytes change))
+    → IfOk result (λ change. IsChange change × (bytes ≡ change_text change))
 change_found decides (Ok change) bytes fits e = let t = change_takes decides bytes change fits e in (t.1, t.0)
 change_found decides (Err e) bytes fits h = tt
 
 pub change_bad : TestDecidesConfig → (result : Result Change ManifestError) (bytes : List ℕ)
     → ReadsChange result (change_of bytes) → IsErrOf result manifest.Damaged → (change : Change)
-    → IsChange change → bytes ≡ change_bytes change → ⊥
+    → IsChange change → bytes ≡ change_text change → ⊥
 change_bad decides (Ok found) bytes h e change is same = absurd cc
 change_bad decides (Err manifest.Damaged) bytes h e change is same =
     let some : change_of bytes ≡ Some change = ap change_of same ∙ change_again decides change is in

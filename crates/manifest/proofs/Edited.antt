@@ -9,7 +9,7 @@ use Rattle.manifest.specs.declared.manifest.Manifest.{Manifest}
 use Rattle.manifest.specs.Versions.{Version, NodeVersion, Change, empty, changed, IsFit, AreFit, after_all}
 use Rattle.manifest.specs.Versions.{node_version_after}
 use Rattle.manifest.specs.Lawful.{IsWholeEdit}
-use Rattle.manifest.specs.Edits.{IsChange, change_bytes}
+use Rattle.manifest.specs.Edits.{IsChange, change_text}
 use Rattle.record_log.specs.declared.LogError.{LogError}
 use Rattle.record_log.specs.{IsExternal}
 use Rattle.manifest.specs.Errors.{IsManifestExternal, error_by_log}
@@ -31,10 +31,10 @@ fit_push v [] one fit last = (last, tt)
 fit_push v (first ∷ others) one fit last = (fit.0, fit_push (changed v first) others one fit.1 last)
 
 pub map_push : (changes : List Change) (one : Change)
-    → map change_bytes (changes ++ one ∷ []) ≡ map change_bytes changes ++ change_bytes one ∷ []
+    → map change_text (changes ++ one ∷ []) ≡ map change_text changes ++ change_text one ∷ []
 map_push [] one = refl
 map_push (first ∷ others) one =
-    ap (λ (l : List (List ℕ)). change_bytes first ∷ l) (map_push others one)
+    ap (λ (l : List (List ℕ)). change_text first ∷ l) (map_push others one)
 
 pub not_empty : (changes : List Change) (one : Change) → (changes ++ one ∷ []) ≢ []
 not_empty [] one same = absurd cc
@@ -57,7 +57,7 @@ module _ (disk : State) (manifest : Manifest) (named : NodeVersion) (one : Chang
   gives = ap (λ (v : Version). changed v one) h.is ∙ sym (after_push empty h.changes one)
 
   -- the old records give the old version
-  pub old_version : (left : Contents) → SlotsRepresent named.id (map change_bytes h.changes) left
+  pub old_version : (left : Contents) → SlotsRepresent named.id (map change_text h.changes) left
       → ManifestRepresents named left
   old_version left has =
       record {
@@ -72,7 +72,7 @@ module _ (disk : State) (manifest : Manifest) (named : NodeVersion) (one : Chang
 
   -- the new ones give the new one
   pub new_version : (left : Contents)
-      → SlotsRepresent named.id (map change_bytes h.changes ++ change_bytes one ∷ []) left
+      → SlotsRepresent named.id (map change_text h.changes ++ change_text one ∷ []) left
       → ManifestRepresents (node_version_after named one) left
   new_version left has =
       record {
@@ -87,22 +87,22 @@ module _ (disk : State) (manifest : Manifest) (named : NodeVersion) (one : Chang
       }
 
   -- at every moment
-  pub version_since : (text : List ℕ) → text ≡ change_bytes one → (new : State)
+  pub version_since : (text : List ℕ) → text ≡ change_text one → (new : State)
       (past since : List State) → LeavesSince disk past new since (SlotsAreLeft disk
-      (λ left. SlotsRepresent named.id (map change_bytes h.changes) left
-      ⊎ SlotsRepresent named.id (map change_bytes h.changes ++ text ∷ []) left))
+      (λ left. SlotsRepresent named.id (map change_text h.changes) left
+      ⊎ SlotsRepresent named.id (map change_text h.changes ++ text ∷ []) left))
       → LeavesSince disk past new since (SlotsAreLeft disk
       (λ left. ManifestRepresents named left ⊎ ManifestRepresents (node_version_after named one) left))
   version_since text same new past since run =
-      weaker (SlotsAreLeft disk (λ left. SlotsRepresent named.id (map change_bytes h.changes) left
-      ⊎ SlotsRepresent named.id (map change_bytes h.changes ++ text ∷ []) left))
+      weaker (SlotsAreLeft disk (λ left. SlotsRepresent named.id (map change_text h.changes) left
+      ⊎ SlotsRepresent named.id (map change_text h.changes ++ text ∷ []) left))
       (SlotsAreLeft disk (λ left. ManifestRepresents named left ⊎ ManifestRepresents (node_version_after named one) left))
       disk past new since
       (λ left has. record {
         here = elim has.here [
           | inl old ↦ inl (old_version left old)
           | inr more ↦ inr (new_version left (subst (λ (t : List ℕ).
-              SlotsRepresent named.id (map change_bytes h.changes ++ t ∷ []) left) same more))
+              SlotsRepresent named.id (map change_text h.changes ++ t ∷ []) left) same more))
         ];
         others = has.others;
       }) run
@@ -115,14 +115,14 @@ module _ (disk : State) (manifest : Manifest) (named : NodeVersion) (one : Chang
       disk past
       (λ left now. record {
         here = inl (old_version left
-            (has_old disk manifest.slots named.id (map change_bytes h.changes) h.records left now));
+            (has_old disk manifest.slots named.id (map change_text h.changes) h.records left now));
         others = λ other apart. now other;
       })
 
   -- and after the last
-  pub version_held : (text : List ℕ) → text ≡ change_bytes one → (new : State) (later : Manifest)
+  pub version_held : (text : List ℕ) → text ≡ change_text one → (new : State) (later : Manifest)
       → (ManifestHasFailed later → ⊥) → later.version ≡ node_version_after manifest.version one
-      → SlotsHold new later.slots named.id (map change_bytes h.changes ++ text ∷ [])
+      → SlotsHold new later.slots named.id (map change_text h.changes ++ text ∷ [])
       → ManifestHolds new later (node_version_after named one)
   version_held text same new later works knows held =
       record {
@@ -135,7 +135,7 @@ module _ (disk : State) (manifest : Manifest) (named : NodeVersion) (one : Chang
         fit = all_fit;
         is = gives;
         records = subst (λ (r : List (List ℕ)). SlotsHold new later.slots named.id r)
-            (ap (λ (t : List ℕ). map change_bytes h.changes ++ t ∷ []) same
+            (ap (λ (t : List ℕ). map change_text h.changes ++ t ∷ []) same
             ∙ sym (map_push h.changes one)) held;
       }
 
@@ -166,7 +166,7 @@ module _ (disk : State) (manifest : Manifest) (named : NodeVersion) (text : List
       }
 
   -- and so do the old ones
-  kept_version : (left : Contents) → SlotsRepresent named.id (map change_bytes h.changes) left
+  kept_version : (left : Contents) → SlotsRepresent named.id (map change_text h.changes) left
       → ManifestRepresents named left
   kept_version left has =
       record {
@@ -182,11 +182,11 @@ module _ (disk : State) (manifest : Manifest) (named : NodeVersion) (text : List
   -- at every moment
   pub whole_since : (new : State) (past since : List State)
       → LeavesSince disk past new since (SlotsAreLeft disk
-      (λ left. SlotsRepresent named.id (map change_bytes h.changes) left
+      (λ left. SlotsRepresent named.id (map change_text h.changes) left
       ⊎ SlotsRepresent named.id (text ∷ []) left))
       → LeavesSince disk past new since (SlotsAreLeft disk (ManifestRepresents named))
   whole_since new past since run =
-      weaker (SlotsAreLeft disk (λ left. SlotsRepresent named.id (map change_bytes h.changes) left
+      weaker (SlotsAreLeft disk (λ left. SlotsRepresent named.id (map change_text h.changes) left
       ⊎ SlotsRepresent named.id (text ∷ []) left))
       (SlotsAreLeft disk (ManifestRepresents named)) disk past new since
       (λ left has. record {
@@ -226,7 +226,7 @@ whole_start disk past manifest named h =
         each = h.each;
         fit = h.fit;
         is = h.is;
-        records = has_old disk manifest.slots named.id (map change_bytes h.changes) h.records left
+        records = has_old disk manifest.slots named.id (map change_text h.changes) h.records left
             now;
       };
       others = λ other apart. now other;

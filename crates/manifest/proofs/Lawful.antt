@@ -23,7 +23,7 @@ use Rattle.configurations.specs.{IsConfig, config_text}
 use Rattle.std.proofs.Common.{Bool, true, false, not, ◌&&◌, nat_le, nat_lt}
 use Rattle.std.specs.List.{list_all}
 use Rattle.std.proofs.lemmas.Bool.{leb-true, le-leb, ltb-true, lt-ltb}
-use Rattle.manifest.specs.Edits.{IsChange, IsLogLine, IsTableLine, change_bytes, log_line_bytes}
+use Rattle.manifest.specs.Edits.{IsChange, IsLogLine, IsTableLine, change_text, log_line_bytes}
 use Rattle.manifest.specs.Edits.{table_name_bytes, table_line_bytes, counted_bytes}
 use Rattle.manifest.specs.Lawful.{IsGiven, AreLines, IsVersion, IsWholeEdit, whole_change}
 use Rattle.manifest.proofs.Placed.{fold_all, fold_length, fold_order, fold_same, filter_order}
@@ -306,8 +306,8 @@ counted_bound k spell xs all =
     omega (arith, a, b)
 
 pub change_is_short : (c : Change) → IsChange c → length c.logs_added ≤ 4096
-    → length c.tables_added ≤ 4096 → length (change_bytes c) ≤ MAX_RECORD
-unfolding change_bytes
+    → length c.tables_added ≤ 4096 → length (change_text c) ≤ MAX_RECORD
+unfolding change_text
 change_is_short c is few_logs few_tables =
     let n = lengths (to_be_bytes w64 c.next_file) (to_be_bytes w64 c.floor)
     (to_be_bytes w64 c.flushed) (to_be_bytes w32 c.epoch)
@@ -368,13 +368,13 @@ few_added v c fit = (
 -- ---- the bytes of the whole edit
 
 pub whole_is_short : (v : Version) → IsVersion v → (bytes : List ℕ)
-    → bytes ≡ change_bytes (whole_change v) → length bytes ≤ MAX_RECORD
+    → bytes ≡ change_text (whole_change v) → length bytes ≤ MAX_RECORD
 whole_is_short v is bytes same =
     subst (λ (t : List ℕ). length t ≤ MAX_RECORD) (sym same)
     (change_is_short (whole_change v) (whole_change_is v is) is.lawful.few_logs is.lawful.few_tables)
 
 pub whole_is_whole : (named : NodeVersion) → IsVersion named.version → (bytes : List ℕ)
-    → bytes ≡ change_bytes (whole_change named.version) → IsWholeEdit named bytes
+    → bytes ≡ change_text (whole_change named.version) → IsWholeEdit named bytes
 whole_is_whole named is bytes same = record {
   change = whole_change named.version;
   is = whole_change_is named.version is;

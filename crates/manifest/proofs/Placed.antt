@@ -12,7 +12,7 @@ use Rattle.std.specs.Cmp.Lexicographic.{slice_cmp}
 use Rattle.kv_types.specs.Order.{IsBelow}
 use Rattle.kv_types.proofs.ByteOrder.{lt_below, below_is_strict}
 use Rattle.manifest.specs.declared.line.TableLine.{TableLine}
-use Rattle.manifest.specs.Versions.{placed, log_is_before, table_is_before, IsInOrder}
+use Rattle.manifest.specs.Versions.{placed, log_is_before, table_is_before, AreInOrder}
 
 either : (b : Bool) → (b ≡ true) ⊎ (b ≡ false)
 either true = inl refl
@@ -52,7 +52,7 @@ false_from true h = absurd (h refl)
 false_from false h = refl
 
 pub placed_order : {A : Type 0} (before : A → A → Bool) → IsOrder before → (xs : List A) (x : A)
-    → IsInOrder before xs → IsInOrder before (placed before xs x)
+    → AreInOrder before xs → AreInOrder before (placed before xs x)
 placed_order before order [] x is = (All-nil (NotBefore before x), tt)
 placed_order {A} before order (y ∷ ys) x is =
     elim (either (before x y)) [
@@ -122,14 +122,14 @@ fold_length before xs (y ∷ ys) =
     others ∙ omega (arith, one)
 
 pub fold_order : {A : Type 0} (before : A → A → Bool) → IsOrder before → (xs ys : List A)
-    → IsInOrder before xs → IsInOrder before (fold (placed before) xs ys)
+    → AreInOrder before xs → AreInOrder before (fold (placed before) xs ys)
 fold_order before order xs [] is = is
 fold_order before order xs (y ∷ ys) is =
     fold_order before order (placed before xs y) ys (placed_order before order xs y is)
 
 -- a later one comes before none that stand earlier
 order_last : {A : Type 0} (before : A → A → Bool) (xs : List A) (y : A) (ys : List A)
-    → IsInOrder before (xs ++ y ∷ ys) → All (λ x. before y x ≡ false) xs
+    → AreInOrder before (xs ++ y ∷ ys) → All (λ x. before y x ≡ false) xs
 order_last before [] y ys is = All-nil (λ x. before y x ≡ false)
 order_last {A} before (x ∷ xs) y ys is =
     let all : All (NotBefore before x) (xs ++ y ∷ ys) = is.0 in
@@ -141,16 +141,16 @@ order_last {A} before (x ∷ xs) y ys is =
 
 -- a list in order, placed one by one behind another, stands behind it
 pub fold_same : {A : Type 0} (before : A → A → Bool) (xs ys : List A)
-    → IsInOrder before (xs ++ ys) → fold (placed before) xs ys ≡ xs ++ ys
+    → AreInOrder before (xs ++ ys) → fold (placed before) xs ys ≡ xs ++ ys
 fold_same before xs [] is = sym (append-nil xs)
 fold_same {A} before xs (y ∷ ys) is =
     let last = placed_last before xs y (order_last before xs y ys is) in
     let group : (xs ++ y ∷ []) ++ ys ≡ xs ++ y ∷ ys = append_assoc xs (y ∷ []) ys in
     ap (λ (l : List A). fold (placed before) l ys) last
-    ∙ fold_same before (xs ++ y ∷ []) ys (subst (IsInOrder before) (sym group) is) ∙ group
+    ∙ fold_same before (xs ++ y ∷ []) ys (subst (AreInOrder before) (sym group) is) ∙ group
 
 pub filter_order : {A : Type 0} (before : A → A → Bool) (test : A → Bool) (xs : List A)
-    → IsInOrder before xs → IsInOrder before (filter test xs)
+    → AreInOrder before xs → AreInOrder before (filter test xs)
 filter_order before test [] is = tt
 filter_order before test (x ∷ xs) is =
     elim (either (test x)) [

@@ -7,8 +7,8 @@ use Rattle.std.proofs.lemmas.List.Elements.{All-append, All-cons, All-head, All-
 use Rattle.record_log.specs.Grammar.{ends_from}
 use Rattle.manifest.specs.Versions.{Version, NodeVersion, Change, IsFit, AreFit, after_all, changed}
 use Rattle.manifest.specs.Versions.{empty, version_in}
-use Rattle.manifest.specs.Edits.{IsChange, ChangesDiffer, change_bytes}
-use Rattle.manifest.specs.Replays.{IsHistory, IsReplayed, version_after_all}
+use Rattle.manifest.specs.Edits.{IsChange, ChangesDiffer, change_text}
+use Rattle.manifest.specs.Replays.{IsEditHistory, IsReplayed, version_after_all}
 use Rattle.manifest.proofs.Edited.{after_push, fit_push, map_push}
 
 pub length-ends_from : (at : ℕ) (records : List (List ℕ)) →
@@ -45,7 +45,7 @@ replayed_none id =
 
 pub replayed_next : (id : ℕ) (draft : Option NodeVersion) (records : List (List ℕ)) (i : ℕ)
     (bytes : List ℕ) (one : Change) (version : NodeVersion) → IsReplayed id draft (take i records)
-    → slice_get records i ≡ Some bytes → bytes ≡ change_bytes one → IsChange one
+    → slice_get records i ≡ Some bytes → bytes ≡ change_text one → IsChange one
     → IsFit (version_in draft) one
     → version ≡ record { id = id; version = changed (version_in draft) one }
     → IsReplayed id (Some version) (take (i + 1) records)
@@ -59,7 +59,7 @@ replayed_next id draft records i bytes one version r got spelled is fit gives =
       fit = fit_push empty r.changes one r.fit (subst (λ (v : Version). IsFit v one) before fit);
       spelled = take_got records i bytes got
           ∙ ap (λ (b : List ℕ). take i records ++ b ∷ []) spelled
-          ∙ ap (λ (l : List (List ℕ)). l ++ change_bytes one ∷ []) r.spelled
+          ∙ ap (λ (l : List (List ℕ)). l ++ change_text one ∷ []) r.spelled
           ∙ sym (map_push r.changes one);
       so_far = ap Some (gives ∙ ap (λ (v : Version). named v)
           (ap (λ (v : Version). changed v one) before ∙ sym (after_push empty r.changes one)))
@@ -73,29 +73,29 @@ replayed_next id draft records i bytes one version r got spelled is fit gives =
 
 -- a record that is one of the edits reads as one
 pub got_change : (cs : List Change) (i : ℕ) (bytes : List ℕ)
-    → slice_get (map change_bytes cs) i ≡ Some bytes → All IsChange cs
-    → (c : Change) × IsChange c × (bytes ≡ change_bytes c)
+    → slice_get (map change_text cs) i ≡ Some bytes → All IsChange cs
+    → (c : Change) × IsChange c × (bytes ≡ change_text c)
 got_change [] i bytes got each = absurd cc
 got_change (c ∷ cs) zero bytes got each =
-    let is : bytes ≡ change_bytes c = cc in (c, All-head IsChange c cs each, is)
+    let is : bytes ≡ change_text c = cc in (c, All-head IsChange c cs each, is)
 got_change (c ∷ cs) (suc i) bytes got each =
     got_change cs i bytes got (All-tail IsChange c cs each)
 
 -- and may be taken behind those before it
 pub got_fits : ChangesDiffer → (v : Version) (cs done : List Change) (i : ℕ) (bytes : List ℕ)
     (one : Change) → All IsChange cs → All IsChange done → AreFit v cs
-    → take i (map change_bytes cs) ≡ map change_bytes done
-    → slice_get (map change_bytes cs) i ≡ Some bytes → bytes ≡ change_bytes one → IsChange one
+    → take i (map change_text cs) ≡ map change_text done
+    → slice_get (map change_text cs) i ≡ Some bytes → bytes ≡ change_text one → IsChange one
     → IsFit (after_all v done) one
 got_fits differ v [] done i bytes one each all fit same got spelled is = absurd cc
 got_fits differ v (c ∷ cs) [] zero bytes one each all fit same got spelled is =
-    let read : change_bytes c ≡ change_bytes one = cc in
+    let read : change_text c ≡ change_text one = cc in
     subst (IsFit v) (differ c one (All-head IsChange c cs each) is read) fit.0
 got_fits differ v (c ∷ cs) (d ∷ ds) zero bytes one each all fit same got spelled is = absurd cc
 got_fits differ v (c ∷ cs) [] (suc i) bytes one each all fit same got spelled is = absurd cc
 got_fits differ v (c ∷ cs) (d ∷ ds) (suc i) bytes one each all fit same got spelled is =
-    let first : change_bytes c ≡ change_bytes d = cc same in
-    let others : take i (map change_bytes cs) ≡ map change_bytes ds = cc same in
+    let first : change_text c ≡ change_text d = cc same in
+    let others : take i (map change_text cs) ≡ map change_text ds = cc same in
     let head : c ≡ d =
     differ c d (All-head IsChange c cs each) (All-head IsChange d ds all) first in
     let later = got_fits differ (changed v c) cs ds i bytes one (All-tail IsChange c cs each)
@@ -104,8 +104,8 @@ got_fits differ v (c ∷ cs) (d ∷ ds) (suc i) bytes one each all fit same got 
 
 -- so an edit that may not be taken is none of them
 pub takes_next : ChangesDiffer → (id : ℕ) (draft : Option NodeVersion) (cs : List Change) (i : ℕ)
-    (bytes : List ℕ) (one : Change) → IsReplayed id draft (take i (map change_bytes cs))
-    → IsHistory cs → slice_get (map change_bytes cs) i ≡ Some bytes → bytes ≡ change_bytes one
+    (bytes : List ℕ) (one : Change) → IsReplayed id draft (take i (map change_text cs))
+    → IsEditHistory cs → slice_get (map change_text cs) i ≡ Some bytes → bytes ≡ change_text one
     → IsChange one → IsFit (version_in draft) one
 takes_next differ id draft cs i bytes one r history got spelled is =
     subst (λ (v : Version). IsFit v one) (sym (ap version_in r.so_far ∙ draft_is id r.changes))
@@ -119,15 +119,15 @@ none_left : (id : ℕ) (changes : List Change) → None ≡ version_after_all id
 none_left id [] e = refl
 none_left id (first ∷ others) e = absurd cc
 
-no_records : (cs : List Change) → map change_bytes cs ≡ [] → cs ≡ []
+no_records : (cs : List Change) → map change_text cs ≡ [] → cs ≡ []
 no_records [] e = refl
 no_records (c ∷ cs) e = absurd cc
 
-pub some_replayed : (id : ℕ) (cs : List Change) (n : ℕ) → IsReplayed id None (take n (map change_bytes cs))
-    → length (map change_bytes cs) ≤ n → IsHistory cs → ⊥
+pub some_replayed : (id : ℕ) (cs : List Change) (n : ℕ) → IsReplayed id None (take n (map change_text cs))
+    → length (map change_text cs) ≤ n → IsEditHistory cs → ⊥
 some_replayed id cs n r all history =
-    history.some (no_records cs (sym (take_all n (map change_bytes cs) all) ∙ r.spelled
-    ∙ ap (map change_bytes) (none_left id r.changes r.so_far)))
+    history.some (no_records cs (sym (take_all n (map change_text cs) all) ∙ r.spelled
+    ∙ ap (map change_text) (none_left id r.changes r.so_far)))
 
 -- all records were replayed
 some_left : (id : ℕ) (changes : List Change) (version : NodeVersion)
@@ -138,7 +138,7 @@ some_left id (first ∷ others) version e = ((λ n. absurd cc), cc)
 
 pub all_replayed : (id : ℕ) (version : NodeVersion) (records : List (List ℕ)) (n : ℕ)
     → IsReplayed id (Some version) (take n records) → length records ≤ n
-    → (changes : List Change) × IsHistory changes × (records ≡ map change_bytes changes)
+    → (changes : List Change) × IsEditHistory changes × (records ≡ map change_text changes)
     × (version ≡ record { id = id; version = after_all empty changes })
 all_replayed id version records n r all =
     let s = some_left id r.changes version r.so_far in (

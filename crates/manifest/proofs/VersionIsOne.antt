@@ -10,7 +10,7 @@ use Rattle.chain_model.specs.{IsId}
 use Rattle.disk.specs.{Contents}
 use Rattle.record_log.proofs.Fronts.{one_reading}
 use Rattle.manifest.specs.Versions.{Version, NodeVersion, Change, empty, after_all}
-use Rattle.manifest.specs.Edits.{IsChange, ChangesDiffer, change_bytes}
+use Rattle.manifest.specs.Edits.{IsChange, ChangesDiffer, change_text}
 use Rattle.manifest.specs.Lawful.{IsVersion}
 use Rattle.manifest.specs.Slots.{other_slot, head_length, slot_head, IsSlot, IsSuperseded, SlotsRepresent}
 use Rattle.manifest.specs.Laws.{VersionIsOne, VersionsAreLawful}
@@ -98,13 +98,13 @@ one_records id other records others left is are a b =
 -- ---- edits
 
 pub one_list_of : ChangesDiffer → (cs ds : List Change) → All IsChange cs → All IsChange ds
-    → map change_bytes cs ≡ map change_bytes ds → cs ≡ ds
+    → map change_text cs ≡ map change_text ds → cs ≡ ds
 one_list_of differ [] [] each all same = refl
 one_list_of differ [] (d ∷ ds) each all same = absurd cc
 one_list_of differ (c ∷ cs) [] each all same = absurd cc
 one_list_of differ (c ∷ cs) (d ∷ ds) each all same =
-    let text : change_bytes c ≡ change_bytes d = cc same in
-    let texts : map change_bytes cs ≡ map change_bytes ds = cc same in
+    let text : change_text c ≡ change_text d = cc same in
+    let texts : map change_text cs ≡ map change_text ds = cc same in
     let first : c ≡ d =
     differ c d (All-head IsChange c cs each) (All-head IsChange d ds all) text in
     let others : cs ≡ ds =
@@ -113,7 +113,7 @@ one_list_of differ (c ∷ cs) (d ∷ ds) each all same =
 
 pub one_version : ChangesDiffer → VersionIsOne
 one_version differ a b left h k =
-    let same = one_records a.id b.id (map change_bytes h.changes) (map change_bytes k.changes) left
+    let same = one_records a.id b.id (map change_text h.changes) (map change_text k.changes) left
     h.id k.id h.records k.records in
     let changes : h.changes ≡ k.changes =
     one_list_of differ h.changes k.changes h.each k.each same.1 in

@@ -28,8 +28,8 @@ unfoldable pub table_line_bytes : TableLine → List ℕ
 table_line_bytes line = table_head_bytes line ++ (text_bytes line.least ++ text_bytes line.greatest)
 
 -- the numbers, the ids behind their count, and four lists
-unfoldable pub change_bytes : Change → List ℕ
-change_bytes change =
+unfoldable pub change_text : Change → List ℕ
+change_text change =
     to_be_bytes w64 change.next_file ++ to_be_bytes w64 change.floor
     ++ to_be_bytes w64 change.flushed ++ to_be_bytes w32 change.epoch
     ++ config_text change.ids
@@ -58,7 +58,8 @@ pub record IsChange (change : Change) : Type 0 where
   pub flushed : change.flushed ≤ MAX_NUMBER
   pub epoch : change.epoch ≤ 15
   pub ids : IsConfig change.ids
-  pub logs_gone : (length change.logs_gone < 2 ^ 16) × All (λ file. file ≤ MAX_NUMBER) change.logs_gone
+  pub logs_gone : (length change.logs_gone < 2 ^ 16)
+      × All (λ file. file ≤ MAX_NUMBER) change.logs_gone
   pub logs_added : (length change.logs_added < 2 ^ 16)
       × All IsLogLine change.logs_added
   pub tables_gone : (length change.tables_gone < 2 ^ 16)
@@ -67,4 +68,4 @@ pub record IsChange (change : Change) : Type 0 where
 
 -- no two edits have one spelling
 abbrev pub ChangesDiffer : Type 0
-ChangesDiffer = (a b : Change) → IsChange a → IsChange b → change_bytes a ≡ change_bytes b → a ≡ b
+ChangesDiffer = (a b : Change) → IsChange a → IsChange b → change_text a ≡ change_text b → a ≡ b

@@ -15,21 +15,25 @@ use Rattle.manifest.specs.Slots.{head_length, other_slot, slot_head}
 
 -- a read of a buffer's length from the first place on filled it, or the file ends before
 abbrev pub IsFilled : Bool → Option (List ℕ) → List ℕ → Type 0
-IsFilled true file into = IsSomeAnd file (λ it. (length into ≤ length it) × (into ≡ take (length into) it))
+IsFilled true file into =
+    IsSomeAnd file (λ it. (length into ≤ length it) × (into ≡ take (length into) it))
 IsFilled false file into = IfSome file (λ it. length it < length into)
 
 -- the slot has this head
 abbrev pub HeadIs : Head → Option (List ℕ) → Type 0
 HeadIs head.Missing file = IfSome file (λ it. it ≡ [])
 HeadIs head.Closed file = IsSomeAnd file IsClosed
-HeadIs head.Short file = IsSomeAnd file (λ it. (rest : List ℕ) × (it ≡ 1 ∷ rest) × (length it < head_length))
-HeadIs (head.Open generation id) file = IsSomeAnd file (λ it. take head_length it ≡ slot_head generation id)
+HeadIs head.Short file =
+    IsSomeAnd file (λ it. (rest : List ℕ) × (it ≡ 1 ∷ rest) × (length it < head_length))
+HeadIs (head.Open generation id) file =
+    IsSomeAnd file (λ it. take head_length it ≡ slot_head generation id)
 
 -- one slot counts, if its log has records, and the other is superseded
 pub record SlotCounts (it : CountingSlot) (left : Contents) : Type 0 where
   pub one : IsSlotFile it.slot
   pub limit : it.generation ≤ MAX_NUMBER
-  pub head : IsSomeAnd (left it.slot) (λ bytes. take head_length bytes ≡ slot_head it.generation it.id)
+  pub head : IsSomeAnd (left it.slot)
+      (λ bytes. take head_length bytes ≡ slot_head it.generation it.id)
   pub other : IsSomeAnd (left (other_slot it.slot))
       (λ bytes. IsSuperseded it.generation bytes × HasGate it.other_is_open bytes)
 

@@ -2,9 +2,9 @@
 use Rattle.std.specs.Prelude.{◌≡◌, ℕ, ◌<◌, ◌≤◌, List, [], All}
 use Rattle.kv_types.specs.declared.bounds.TheConstants.{MAX_NUMBER}
 use Rattle.configurations.specs.{IsConfig}
-use Rattle.manifest.specs.Versions.{Version, Change, AreLawful, IsInOrder, log_is_before}
+use Rattle.manifest.specs.Versions.{Version, Change, AreLawful, AreInOrder, log_is_before}
 use Rattle.manifest.specs.Versions.{NodeVersion, IsFit, changed, empty, table_is_before}
-use Rattle.manifest.specs.Edits.{IsChange, IsLogLine, IsTableLine, change_bytes}
+use Rattle.manifest.specs.Edits.{IsChange, IsLogLine, IsTableLine, change_text}
 
 -- a file that is named has a number that was given
 abbrev pub IsGiven : Version → ℕ → Type 0
@@ -16,8 +16,8 @@ pub record AreLines (version : Version) : Type 0 where
   pub tables : All IsTableLine version.tables
   pub log_files : All (λ line. IsGiven version line.file) version.logs
   pub table_files : All (λ line. IsGiven version line.file) version.tables
-  pub logs_in_order : IsInOrder log_is_before version.logs
-  pub tables_in_order : IsInOrder table_is_before version.tables
+  pub logs_in_order : AreInOrder log_is_before version.logs
+  pub tables_in_order : AreInOrder table_is_before version.tables
 
 -- A version that some edits give: its numbers are within their limits, it has a log, no file is
 -- named twice, and below level 0 no two tables of a level share a key.
@@ -50,4 +50,4 @@ pub record IsWholeEdit (named : NodeVersion) (text : List ℕ) : Type 0 where
   pub is : IsChange change
   pub fit : IsFit empty change
   pub whole : changed empty change ≡ named.version
-  pub spelled : text ≡ change_bytes change
+  pub spelled : text ≡ change_text change

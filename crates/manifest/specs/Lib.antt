@@ -10,3 +10,4 @@ pub mod Manifests
 pub mod Replays
 pub mod Heads
 pub mod Laws
+pub mod Examples

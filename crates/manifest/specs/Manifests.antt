@@ -6,7 +6,7 @@ use Rattle.record_log.specs.{file_of}
 use Rattle.record_log.specs.Logs.{HasNoRoom}
 use Rattle.manifest.specs.declared.manifest.Manifest.{Manifest}
 use Rattle.manifest.specs.Versions.{NodeVersion, Change, empty, AreFit, after_all}
-use Rattle.manifest.specs.Edits.{IsChange, change_bytes}
+use Rattle.manifest.specs.Edits.{IsChange, change_text}
 use Rattle.manifest.specs.Slots.{IsSlotFile, other_slot}
 use Rattle.manifest.specs.Holds.{SlotsHold}
 
@@ -20,7 +20,7 @@ version_of manifest = manifest.version
 
 -- the record of an edit would end past the greatest place of a file
 abbrev pub ManifestHasNoRoom : Manifest → Change → Type 0
-ManifestHasNoRoom manifest change = HasNoRoom manifest.slots.log (change_bytes change)
+ManifestHasNoRoom manifest change = HasNoRoom manifest.slots.log (change_text change)
 
 -- the file of the slot that counts, and that of the other
 abbrev pub counting_file : Manifest → ℕ
@@ -43,7 +43,7 @@ pub record ManifestHolds (disk : State) (manifest : Manifest) (named : NodeVersi
   pub each : All IsChange changes
   pub fit : AreFit empty changes
   pub is : named.version ≡ after_all empty changes
-  pub records : SlotsHold disk manifest.slots named.id (map change_bytes changes)
+  pub records : SlotsHold disk manifest.slots named.id (map change_text changes)
 
 -- the files that a manifest changes are the two slots
 abbrev pub ManifestHasSlots : Type 0

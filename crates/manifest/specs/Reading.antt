@@ -101,14 +101,14 @@ as_change x = record {
   tables_added = x.1.1.1.1.1.1.1.1;
 }
 
-unfoldable pub change_at : Reader Change
-change_at bytes =
-    mapped as_change (both count_field (both count_field (both count_field (both epoch_field (both config_field
-    (both files_at (both logs_at (both names_at tables_at)))))))) bytes
+unfoldable pub change_front : Reader Change
+change_front bytes =
+    mapped as_change (both count_field (both count_field (both count_field (both epoch_field
+    (both config_field (both files_at (both logs_at (both names_at tables_at)))))))) bytes
 
 -- an edit that is all of the bytes
 unfoldable pub change_of : List ℕ → Option Change
-change_of bytes = change_at bytes >>= λ x. if length x.1 == 0 then Some x.0 else None
+change_of bytes = change_front bytes >>= λ x. if length x.1 == 0 then Some x.0 else None
 
 -- ---- what functions return
 

@@ -1,10 +1,10 @@
 -- The version that a list of records gives, one edit after the other.
 use Rattle.std.specs.Prelude.{◌≡◌, ◌≢◌, ℕ, List, [], ◌∷◌, map, All, Option, Some, None}
 use Rattle.manifest.specs.Versions.{NodeVersion, Change, AreFit, after_all, empty}
-use Rattle.manifest.specs.Edits.{IsChange, change_bytes}
+use Rattle.manifest.specs.Edits.{IsChange, change_text}
 
 -- edits that give a version: there are some, and each may be taken where it comes
-pub record IsHistory (changes : List Change) : Type 0 where
+pub record IsEditHistory (changes : List Change) : Type 0 where
   pub some : changes ≢ []
   pub each : All IsChange changes
   pub fit : AreFit empty changes
@@ -21,5 +21,5 @@ pub record IsReplayed (id : ℕ) (draft : Option NodeVersion) (records : List (L
   pub changes : List Change
   pub each : All IsChange changes
   pub fit : AreFit empty changes
-  pub spelled : records ≡ map change_bytes changes
+  pub spelled : records ≡ map change_text changes
   pub so_far : draft ≡ version_after_all id changes

@@ -7,7 +7,7 @@ use Rattle.chain_model.specs.{IsId}
 use Rattle.disk.specs.{State, Contents, IsFileOutcome}
 use Rattle.record_log.specs.Grammar.{IsClosed, Represents}
 use Rattle.manifest.specs.Versions.{NodeVersion, Change, empty, AreFit, after_all}
-use Rattle.manifest.specs.Edits.{IsChange, change_bytes}
+use Rattle.manifest.specs.Edits.{IsChange, change_text}
 
 -- ---- slots of records
 
@@ -62,7 +62,7 @@ pub record ManifestRepresents (named : NodeVersion) (left : Contents) : Type 0 w
   pub each : All IsChange changes
   pub fit : AreFit empty changes
   pub is : named.version ≡ after_all empty changes
-  pub records : SlotsRepresent named.id (map change_bytes changes) left
+  pub records : SlotsRepresent named.id (map change_text changes) left
 
 -- no slot is open
 abbrev pub IsClosedOrAbsent : Option (List ℕ) → Type 0

@@ -57,9 +57,9 @@ placed before [] x = x ∷ []
 placed before (y ∷ ys) x = if before x y then x ∷ y ∷ ys else y ∷ placed before ys x
 
 -- no later one comes before an earlier one
-abbrev pub IsInOrder : {A : Type 0} → (A → A → Bool) → List A → Type 0
-IsInOrder before [] = Unit {0}
-IsInOrder before (x ∷ xs) = All (λ y. before y x ≡ false) xs × IsInOrder before xs
+abbrev pub AreInOrder : {A : Type 0} → (A → A → Bool) → List A → Type 0
+AreInOrder before [] = Unit {0}
+AreInOrder before (x ∷ xs) = All (λ y. before y x ≡ false) xs × AreInOrder before xs
 
 -- a log comes before those with greater first numbers
 abbrev pub log_is_before : LogLine → LogLine → Bool

@@ -1,6 +1,7 @@
 //! Laws of the definitions that contracts use. The functions do nothing: their clauses are the
 //! laws.
 ghost use Rattle.manifest.specs.Edits.{ChangesDiffer};
+ghost use Rattle.manifest.specs.Examples.{FirstSlotIs, TableIs};
 ghost use Rattle.manifest.specs.Laws.{VersionIsOne, VersionsAreLawful};
 ghost use Rattle.manifest.specs.Manifests.{ManifestHasSlots};
 
@@ -25,3 +26,9 @@ pub fn version_is_one()
 {
     changes_differ(); // law: no two edits have one spelling
 }
+
+/// A new slot, a table that is added and one that is given up, byte by byte.
+pub fn examples()
+    ensures slot { FirstSlotIs }
+    ensures table { TableIs }
+{}

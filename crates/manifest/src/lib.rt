@@ -1,5 +1,5 @@
-//! The list of a store's files: two slots represent one version of it, which logs and tables it has.
-//! At every moment of a change they represent the old version or the new one.
+//! The list of a store's files: two slots represent one version of it, which logs and tables it
+//! has. At every moment of a change they represent the old version or the new one.
 #![tactic(auto)]
 
 mod begin;

@@ -21,7 +21,8 @@ use configurations::{Config, NodeId};
 use disk::Disk;
 use std::alloc::{AllocError, Global};
 
-/// Which logs and tables a store has. The disk is lent to it at each call.
+/// The manifest of a store: its two slots, and the version that they represent. Each call borrows
+/// the disk.
 #[derive(Drop)]
 pub struct Manifest {
     slots: SlotPair,
@@ -58,15 +59,15 @@ fn whole_bytes(alloc: Global, version: &Version) -> Result<Vec<u8>, AllocError>
 }
 
 impl Manifest {
-    /// What the folder stands for. Of a manifest that failed, what it stood for.
+    /// The version of the store. Of a manifest that has failed, the one before the failure.
     pub fn state(&self) -> &Version
         ensures { result.now ≡ version_of self.now }
     {
         &self.version
     }
 
-    /// A new manifest with one log, which is there, in a folder without slots. Inside this call
-    /// nothing is promised. Six device calls.
+    /// Creates the manifest of a new node on a disk without slots. Its log, file 3, was created
+    /// before. It needs six device calls; a refusal or a crash may leave any slots.
     pub fn create<D: Disk>(
         alloc: Global,
         disk: &mut D,
@@ -77,7 +78,8 @@ impl Manifest {
             SparesOthers }
         ensures created { D.is_honest disk.old → IsNone (seen (D.state disk.old 1)) →
             IsNone (seen (D.state disk.old 2)) → MatchResult result
-            (λ manifest. ManifestHolds (D.state disk.new) manifest (first_version id config.now)) IsManifestExternal }
+            (λ manifest. ManifestHolds (D.state disk.new) manifest (first_version id config.now))
+            IsManifestExternal }
     {
         let version = begun_by(alloc, id, config)?;
         let bytes = whole_bytes(alloc, &version)?;
@@ -89,7 +91,7 @@ impl Manifest {
         })
     }
 
-    /// Changes the version. Four device calls.
+    /// Changes the version by an edit. It needs the four device calls of an append to a log.
     pub fn record<D: Disk>(
         &mut self,
         alloc: Global,
@@ -97,21 +99,24 @@ impl Manifest {
         edit: VersionEdit,
     ) -> Result<(), ManifestError>
         requires fit { IsFit (version_of self.old).version edit × IsChange edit }
-        ensures kept { KeepsDisk D.Disk disk.old disk.new (ManifestFailsDevice result) (ManifestHasNoRoom self.old edit)
-            (IsSameBut (counting_file self.old)) }
+        ensures kept { KeepsDisk D.Disk disk.old disk.new (ManifestFailsDevice result)
+            (ManifestHasNoRoom self.old edit) (IsSameBut (counting_file self.old)) }
         ensures told { MatchResult result
-            (λ _. (version_of self.new ≡ node_version_after (version_of self.old) edit) × (ManifestHasFailed self.new → ⊥))
+            (λ _. (version_of self.new ≡ node_version_after (version_of self.old) edit)
+            × (ManifestHasFailed self.new → ⊥))
             (λ _. (version_of self.new ≡ version_of self.old) × ManifestHasFailed self.new) }
         ensures failed { ManifestHasFailed self.old → IsErrOf result ManifestError.Failed }
         ensures recorded { (named : NodeVersion) → D.is_honest disk.old →
             ManifestHolds (D.state disk.old) self.old named → MatchResult result
-            (λ _. ManifestHolds (D.state disk.new) self.new (node_version_after named edit)) IsManifestExternal }
+            (λ _. ManifestHolds (D.state disk.new) self.new (node_version_after named edit))
+            IsManifestExternal }
 
         // A crash at any moment since the call began leaves the old version or the new one.
         ensures any_moment { (named : NodeVersion) → D.is_honest disk.old →
             ManifestHolds (D.state disk.old) self.old named →
             AlwaysLeaves D.Disk disk.old disk.new (SlotsAreLeft (D.state disk.old)
-            (λ left. ManifestRepresents named left ⊎ ManifestRepresents (node_version_after named edit) left)) }
+            (λ left. ManifestRepresents named left
+            ⊎ ManifestRepresents (node_version_after named edit) left)) }
     {
         if self.has_failed {
             return Err(ManifestError::Failed);
@@ -125,7 +130,8 @@ impl Manifest {
         Ok(())
     }
 
-    /// Writes the other slot anew with one edit that gives the whole version, so that it counts.
+    /// Writes the other slot anew, with one edit that gives the version whole, so that it counts. It
+    /// needs six device calls, and one more where that slot's gate is open.
     pub fn rewrite<D: Disk>(&mut self, alloc: Global, disk: &mut D) -> Result<(), ManifestError>
         requires room { generation_of self.old < MAX_NUMBER }
         ensures kept { KeepsDisk D.Disk disk.old disk.new (ManifestFailsDevice result) ⊥
@@ -139,7 +145,8 @@ impl Manifest {
         // A crash at any moment since the call began leaves the same version.
         ensures any_moment { (named : NodeVersion) → D.is_honest disk.old →
             ManifestHolds (D.state disk.old) self.old named →
-            AlwaysLeaves D.Disk disk.old disk.new (SlotsAreLeft (D.state disk.old) (ManifestRepresents named)) }
+            AlwaysLeaves D.Disk disk.old disk.new
+            (SlotsAreLeft (D.state disk.old) (ManifestRepresents named)) }
     {
         if self.has_failed {
             return Err(ManifestError::Failed);

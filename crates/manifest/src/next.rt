@@ -2,7 +2,8 @@
 ghost use Rattle.std.specs.Prelude.{◌≡◌, ◌⊎◌, ◌↔◌, ◌<◌, ◌≤◌, IfOk, IfErr, IsErrOf, IsTrue};
 ghost use Rattle.std.specs.List.{fold, list_all};
 ghost use Rattle.manifest.specs.Versions.{AreLawful, IsFit, IsNew, IsThere, NumbersRise, changed};
-ghost use Rattle.manifest.specs.Versions.{is_new_file, keeps_ids, logs_left, names_log, names_table};
+ghost use Rattle.manifest.specs.Versions.{is_new_file, keeps_ids, logs_left, names_log};
+ghost use Rattle.manifest.specs.Versions.{names_table};
 ghost use Rattle.manifest.specs.Versions.{tables_left, version_in, with_log, with_table};
 ghost use Rattle.manifest.specs.Edits.{IsChange};
 ghost use Rattle.manifest.specs.Lawful.{AreLines};

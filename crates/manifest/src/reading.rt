@@ -6,12 +6,12 @@ ghost use Rattle.kv_types.specs.declared.bounds.TheConstants.{MAX_KEY};
 ghost use Rattle.kv_types.specs.{text_at};
 ghost use Rattle.byte_fields.specs.{many, number_at};
 ghost use Rattle.manifest.specs.Versions.{Change};
-ghost use Rattle.manifest.specs.Edits.{IsChange, change_bytes};
+ghost use Rattle.manifest.specs.Edits.{IsChange, change_text};
 ghost use Rattle.manifest.specs.Reading.{ReadsChangeField, ReadsChange, items_read};
 ghost use Rattle.manifest.specs.Reading.{byte_field, count_field, first_field, epoch_field};
 ghost use Rattle.manifest.specs.Reading.{level_field, config_field, log_line_at, table_name_at};
 ghost use Rattle.manifest.specs.Reading.{table_line_at, files_at, logs_at, names_at, tables_at};
-ghost use Rattle.manifest.specs.Reading.{change_at, change_of};
+ghost use Rattle.manifest.specs.Reading.{change_front, change_of};
 
 use crate::{LogLine, ManifestError, TableLine, TableName, VersionEdit};
 use byte_fields::{read_u16, read_u32, read_u64};
@@ -141,7 +141,8 @@ fn config_of(alloc: Global, bytes: &mut &[u8]) -> Result<Config, ManifestError>
 }
 
 fn files_in(alloc: Global, count: u16, bytes: &mut &[u8]) -> Result<Vec<u64>, ManifestError>
-    ensures { ReadsChangeField (items_read result) bytes.new.now (many count_field count bytes.old.now) }
+    ensures { ReadsChangeField (items_read result) bytes.new.now
+        (many count_field count bytes.old.now) }
 {
     let mut files = Vec::new(alloc);
     for _ in 0..count {
@@ -168,7 +169,8 @@ fn log_of(bytes: &mut &[u8]) -> Result<LogLine, ManifestError>
 }
 
 fn logs_in(alloc: Global, count: u16, bytes: &mut &[u8]) -> Result<Vec<LogLine>, ManifestError>
-    ensures { ReadsChangeField (items_read result) bytes.new.now (many log_line_at count bytes.old.now) }
+    ensures { ReadsChangeField (items_read result) bytes.new.now
+        (many log_line_at count bytes.old.now) }
 {
     let mut lines = Vec::new(alloc);
     for _ in 0..count {
@@ -195,7 +197,8 @@ fn name_of(bytes: &mut &[u8]) -> Result<TableName, ManifestError>
 }
 
 fn names_in(alloc: Global, count: u16, bytes: &mut &[u8]) -> Result<Vec<TableName>, ManifestError>
-    ensures { ReadsChangeField (items_read result) bytes.new.now (many table_name_at count bytes.old.now) }
+    ensures { ReadsChangeField (items_read result) bytes.new.now
+        (many table_name_at count bytes.old.now) }
 {
     let mut names = Vec::new(alloc);
     for _ in 0..count {
@@ -234,7 +237,8 @@ fn table_of(alloc: Global, bytes: &mut &[u8]) -> Result<TableLine, ManifestError
 }
 
 fn tables_in(alloc: Global, count: u16, bytes: &mut &[u8]) -> Result<Vec<TableLine>, ManifestError>
-    ensures { ReadsChangeField (items_read result) bytes.new.now (many table_line_at count bytes.old.now) }
+    ensures { ReadsChangeField (items_read result) bytes.new.now
+        (many table_line_at count bytes.old.now) }
 {
     let mut lines = Vec::new(alloc);
     for _ in 0..count {
@@ -251,9 +255,9 @@ fn tables_of(alloc: Global, bytes: &mut &[u8]) -> Result<Vec<TableLine>, Manifes
     tables_in(alloc, count, bytes)
 }
 
-#[tactic(auto, unfolding(crate::specs::Reading::change_at))]
+#[tactic(auto, unfolding(crate::specs::Reading::change_front))]
 fn edit_at(alloc: Global, bytes: &mut &[u8]) -> Result<VersionEdit, ManifestError>
-    ensures { ReadsChangeField result bytes.new.now (change_at bytes.old.now) }
+    ensures { ReadsChangeField result bytes.new.now (change_front bytes.old.now) }
 {
     let next_file = count_of(bytes)?;
     let floor = count_of(bytes)?;
@@ -291,9 +295,9 @@ fn all_of(alloc: Global, bytes: &[u8]) -> Result<VersionEdit, ManifestError>
 
 /// The edit that is all of the bytes.
 pub fn edit_of(alloc: Global, bytes: &[u8]) -> Result<VersionEdit, ManifestError>
-    ensures found { IfOk result (λ edit. IsChange edit × (bytes.now ≡ change_bytes edit)) }
+    ensures found { IfOk result (λ edit. IsChange edit × (bytes.now ≡ change_text edit)) }
     ensures bad { IsErrOf result ManifestError.Damaged → (change : Change) → IsChange change →
-        bytes.now ≡ change_bytes change → ⊥ }
+        bytes.now ≡ change_text change → ⊥ }
     ensures only { IfErr result (λ e. (e ≡ ManifestError.Damaged) ⊎ (e ≡ ManifestError.Memory)) }
 {
     test_decides_config(); // law: the test succeeds exactly for the configurations

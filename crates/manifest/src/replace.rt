@@ -66,7 +66,8 @@ pub fn replace<D: Disk>(
         OnOk result (IsDurableAs (D.state disk.new) file (1 ∷ behind.now)
         × (1 + length behind.now < 2 ^ 63)) }
     ensures refused { (was : List ℕ) → D.is_honest disk.old →
-        IsDurableAs (D.state disk.old) file was → HasGate is_open was → IfErr result IsDiskExternal }
+        IsDurableAs (D.state disk.old) file was → HasGate is_open was →
+        IfErr result IsDiskExternal }
 
     // A crash at any moment since the call began.
     ensures any_moment { (was : List ℕ) → D.is_honest disk.old →

@@ -2,8 +2,8 @@
 ghost use Rattle.std.specs.Prelude.{◌≡◌, ◌⊎◌, ℕ, List, map, IfOk, IfErr, IsErrOf};
 ghost use Rattle.record_log.specs.{HasRead};
 ghost use Rattle.manifest.specs.Versions.{Change, after_all, empty};
-ghost use Rattle.manifest.specs.Edits.{change_bytes};
-ghost use Rattle.manifest.specs.Replays.{IsHistory};
+ghost use Rattle.manifest.specs.Edits.{change_text};
+ghost use Rattle.manifest.specs.Replays.{IsEditHistory};
 
 use crate::laws::changes_differ;
 use crate::next::next_version;
@@ -17,11 +17,11 @@ use std::alloc::Global;
 /// one of them may not be taken where it comes.
 pub fn replay(alloc: Global, id: NodeId, opened: &OpenedLog) -> Result<Version, ManifestError>
     ensures found { (records : List (List ℕ)) → HasRead opened.now records →
-        IfOk result (λ version. (changes : List Change) × IsHistory changes
-        × (records ≡ map change_bytes changes)
+        IfOk result (λ version. (changes : List Change) × IsEditHistory changes
+        × (records ≡ map change_text changes)
         × (version ≡ record { id = id; version = after_all empty changes })) }
     ensures bad { IsErrOf result ManifestError.Damaged → (changes : List Change) →
-        IsHistory changes → HasRead opened.now (map change_bytes changes) → ⊥ }
+        IsEditHistory changes → HasRead opened.now (map change_text changes) → ⊥ }
     ensures only { IfErr result (λ e. (e ≡ ManifestError.Damaged) ⊎ (e ≡ ManifestError.Memory)) }
 {
     changes_differ(); // law: no two edits have one spelling

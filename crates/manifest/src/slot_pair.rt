@@ -54,7 +54,8 @@ fn log_of(alloc: Global, file: u64, closed: &[u8]) -> Result<Log, AllocError>
     ensures holds { (disk : State) (bytes : List ℕ) (records : List (List ℕ)) →
         IsDurableAs disk file bytes → head_length ≤ length bytes → length bytes < 2 ^ 63 →
         drop head_length bytes ≡ drop head_length closed.now →
-        Represents (drop head_length bytes) records → IfOk result (λ log. LogHolds disk log records) }
+        Represents (drop head_length bytes) records →
+        IfOk result (λ log. LogHolds disk log records) }
 {
     let mut scratch = MemDisk::new(alloc);
     if scratch.write_at(file, 0, closed).is_err() {

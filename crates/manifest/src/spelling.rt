@@ -3,7 +3,8 @@ ghost use Rattle.std.specs.Prelude.{◌≡◌, ◌++◌, ◌<◌, ◌^◌, lengt
 ghost use Rattle.std.specs.List.{flat_map};
 ghost use Rattle.std.specs.Int.{w16, w32, w64, to_be_bytes};
 ghost use Rattle.manifest.specs.Lawful.{IsVersion, whole_change};
-ghost use Rattle.manifest.specs.Edits.{change_bytes, log_line_bytes, table_name_bytes, table_head_bytes, table_line_bytes, IsChange};
+ghost use Rattle.manifest.specs.Edits.{IsChange, change_text, log_line_bytes, table_head_bytes};
+ghost use Rattle.manifest.specs.Edits.{table_line_bytes, table_name_bytes};
 
 use crate::{LogLine, TableLine, TableName, Version, VersionEdit};
 use byte_fields::{put_u32, put_u64};
@@ -80,10 +81,10 @@ fn put_table(out: &mut Vec<u8>, line: &TableLine) -> Result<(), AllocError>
 }
 
 /// The bytes of an edit.
-#[tactic(auto, unfolding(crate::specs::Edits::change_bytes))]
+#[tactic(auto, unfolding(crate::specs::Edits::change_text))]
 pub fn bytes_of(alloc: Global, edit: &VersionEdit) -> Result<Vec<u8>, AllocError>
     requires { IsChange edit.now }
-    ensures { IfOk result (λ text. text.items ≡ change_bytes edit.now) }
+    ensures { IfOk result (λ text. text.items ≡ change_text edit.now) }
 {
     let mut out = Vec::new(alloc);
     put_u64(&mut out, edit.next_file)?;
@@ -103,10 +104,10 @@ pub fn bytes_of(alloc: Global, edit: &VersionEdit) -> Result<Vec<u8>, AllocError
 }
 
 /// The bytes of one edit that gives the whole version.
-#[tactic(auto, unfolding(crate::specs::Edits::change_bytes))]
+#[tactic(auto, unfolding(crate::specs::Edits::change_text))]
 pub fn bytes_of_whole(alloc: Global, version: &Version) -> Result<Vec<u8>, AllocError>
     ensures spelled { IfOk result
-        (λ text. text.items ≡ change_bytes (whole_change version.now.version)) }
+        (λ text. text.items ≡ change_text (whole_change version.now.version)) }
     ensures is { IsVersion version.now.version }
 {
     let mut out = Vec::new(alloc);

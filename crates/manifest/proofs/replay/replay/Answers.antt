@@ -1,7 +1,7 @@
 use Rattle.std.proofs.Common.{◌≤◌, Option, ap, arith, length, map, subst, take}
 use Rattle.std.proofs.lemmas.Result.{err_from_is_err_and}
 use Rattle.manifest.specs.Versions.{NodeVersion}
-use Rattle.manifest.specs.Edits.{change_bytes}
+use Rattle.manifest.specs.Edits.{change_text}
 use Rattle.manifest.specs.Replays.{IsReplayed}
 use Rattle.manifest.proofs.Replays.{all_replayed, err_of, got_change, length-ends_from, replayed_next}
 use Rattle.manifest.proofs.Replays.{some_replayed, takes_next}
@@ -54,7 +54,7 @@ returns-in-Some-clause-found c = λ records read.
 -- there was none
 pub returns-in-None-clause-bad : goal.returns-in-None-clause-bad
 returns-in-None-clause-bad c = λ damaged changes history read.
-    let records = map change_bytes changes in
+    let records = map change_text changes in
     let all : length records ≤ c.loop-index.index =
     omega (
       arith,
