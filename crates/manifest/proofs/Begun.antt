@@ -1,4 +1,4 @@
--- The slots of a new folder.
+-- The slots of a new store.
 use Rattle.std.proofs.Common.{◌≡◌, ℕ, ◌<◌, ◌≤◌, ◌^◌, List, [], ◌∷◌, length, take, drop}
 use Rattle.std.proofs.Common.{Option, Some, None, false, refl, sym, ap, subst, ◌∙◌, inl, arith}
 use Rattle.std.proofs.Common.{append-nil}

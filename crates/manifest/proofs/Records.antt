@@ -1,4 +1,4 @@
--- What the two slots stand for while a record is added to the one that counts.
+-- What the two slots represent while a record is added to the one that counts.
 use Rattle.std.proofs.Common.{◌≡◌, ◌≢◌, ℕ, List, [], ◌∷◌, ◌++◌, take, drop, Option, Some, None}
 use Rattle.std.proofs.Common.{refl, sym, subst, ◌∙◌, inl, inr, arith}
 use Rattle.std.specs.Prelude.{IsSomeAnd, ◌⊎◌}
@@ -69,7 +69,7 @@ module _ (disk : State) (slots : SlotPair) (id : ℕ) (records : List (List ℕ)
       sure_only Q h.other_bytes h.other (left (other_slot slots.slot))
       (subst (λ (slot : Slot). IsFileOutcome slot (left (other_slot slots.slot))) h.other_sure now)
 
-  -- so the folder has the old records or the new ones
+  -- so the slots have the old records or the new ones
   pub has_either : (left : Contents) → IsLeftAt disk (file_of slots.log) OnTheWay left
       → SlotsRepresent id records left ⊎ SlotsRepresent id grown left
   has_either left at =
@@ -122,7 +122,7 @@ module _ (disk : State) (slots : SlotPair) (id : ℕ) (records : List (List ℕ)
       let way : OnTheWay (Some bytes) = subst (λ (slot : Slot). OnTheWay (seen slot)) sure here in
       subst (λ (s : ℕ). take s bytes ≡ take s h.log.bytes) h.at.from way.head ∙ h.head
 
--- as it is, the folder has the records
+-- as it is, the slots have the records
 pub has_old : (disk : State) (slots : SlotPair) (id : ℕ) (records : List (List ℕ))
     → SlotsHold disk slots id records → (left : Contents) → IsCrashOutcome disk left
     → SlotsRepresent id records left

@@ -1,4 +1,4 @@
--- What the two slots stand for while the one that does not count is written anew.
+-- What the two slots represent while the one that does not count is written anew.
 use Rattle.std.proofs.Common.{◌≡◌, ◌≢◌, ℕ, ◌+◌, ◌<◌, ◌≤◌, ◌^◌, List, [], ◌∷◌, ◌++◌, length, take, drop}
 use Rattle.std.proofs.Common.{Option, Some, None, refl, sym, ap, subst, ◌∙◌, inl, inr, arith}
 use Rattle.std.proofs.Common.{append_assoc, append-nil}
@@ -125,7 +125,7 @@ module _ (disk : State) (slots : SlotPair) (id : ℕ) (records : List (List ℕ)
   as_yields None stays = absurd stays
   as_yields (Some c) stays = stays.yields
 
-  -- so the folder has the old records or the new one alone
+  -- so the slots have the old records or the new one alone
   pub has_either : (file : ℕ) → file ≡ other_slot slots.slot → (left : Contents)
       → IsLeftAt disk file (OnTheWay h.other_bytes behind) left
       → SlotsRepresent id records left ⊎ SlotsRepresent id (one ∷ []) left
@@ -171,7 +171,7 @@ module _ (disk : State) (slots : SlotPair) (id : ℕ) (records : List (List ℕ)
             (λ same. apart (subst IsSlotFile (sym (same ∙ is)) (other_one slots.slot h.one)));
       }) run
 
-  -- before the first call the folder has the old records
+  -- before the first call the slots have the old records
   pub has_old : (left : Contents) → IsCrashOutcome disk left → SlotsRepresent id records left
   has_old left now =
       let Q : Option (List ℕ) → Type 0 = λ l. IsSomeAnd l (IsSuperseded slots.generation) in

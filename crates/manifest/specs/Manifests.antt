@@ -1,4 +1,4 @@
--- An open manifest, and the version for which its folder stands.
+-- An open manifest, and the version that its slots represent.
 use Rattle.std.specs.Prelude.{◌≡◌, ◌≢◌, ℕ, List, [], map, All, IsTrue}
 use Rattle.chain_model.specs.{IsId}
 use Rattle.disk.specs.{State}

@@ -3,7 +3,7 @@ use Rattle.std.specs.Prelude.{◌≡◌, ◌≢◌, ℕ, List, [], ◌∷◌, ma
 use Rattle.manifest.specs.Versions.{NodeVersion, Change, AreFit, after_all, empty}
 use Rattle.manifest.specs.Edits.{IsChange, change_text}
 
--- edits that give a version: there are some, and each may be taken where it comes
+-- edits that give a version: there are some, and the version before each may take it
 pub record IsEditHistory (changes : List Change) : Type 0 where
   pub some : changes ≢ []
   pub each : All IsChange changes

@@ -1,4 +1,4 @@
--- The two slots of a folder, and the version for which they stand.
+-- The two slots of a store, and the version that they represent.
 use Rattle.std.specs.Prelude.{◌≡◌, ◌≢◌, ◌⊎◌, ℕ, ◌-◌, ◌<◌, ◌≤◌, List, [], ◌∷◌, ◌++◌, take, drop, map}
 use Rattle.std.specs.Prelude.{Option, IsSomeAnd, All}
 use Rattle.std.specs.Int.{w16, w64, to_be_bytes}
@@ -53,8 +53,8 @@ pub record SlotsAreLeft (disk : State) (P : Contents → Type 0) (left : Content
 
 -- ---- the version
 
--- the folder stands for one version of a node: its edits, each of which may be taken where it
--- comes, give that version
+-- The slots represent this version of a node. The version is that after their edits, each of which
+-- the version before it may take.
 pub record ManifestRepresents (named : NodeVersion) (left : Contents) : Type 0 where
   pub id : IsId named.id
   pub changes : List Change

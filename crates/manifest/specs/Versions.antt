@@ -51,17 +51,17 @@ empty = record {
 
 -- ---- what an edit makes of a version
 
--- one more stands before the first that it comes before
+-- one more element, before the first that it precedes
 abbrev pub placed : {A : Type 0} → (A → A → Bool) → List A → A → List A
 placed before [] x = x ∷ []
 placed before (y ∷ ys) x = if before x y then x ∷ y ∷ ys else y ∷ placed before ys x
 
--- no later one comes before an earlier one
+-- no later element precedes an earlier one
 abbrev pub AreInOrder : {A : Type 0} → (A → A → Bool) → List A → Type 0
 AreInOrder before [] = Unit {0}
 AreInOrder before (x ∷ xs) = All (λ y. before y x ≡ false) xs × AreInOrder before xs
 
--- a log comes before those with greater first numbers
+-- a log precedes those with greater first numbers
 abbrev pub log_is_before : LogLine → LogLine → Bool
 log_is_before a b = nat_lt a.first b.first
 
@@ -84,7 +84,7 @@ abbrev pub tables_left : List TableName → List TableLine → List TableLine
 tables_left gone tables = filter
     (λ line. not (list_any (λ one. one.level == line.level && one.file == line.file) gone)) tables
 
--- giving up comes before adding
+-- lines are given up first, and then added
 abbrev pub changed : Version → Change → Version
 changed version change = record {
   next_file = change.next_file;
@@ -180,7 +180,7 @@ pub record IsFit (version : Version) (change : Change) : Type 0 where
   pub new : IsNew version change
   pub lawful : AreLawful (changed version change).logs (changed version change).tables
 
--- each edit may be taken where it comes
+-- the version before each edit may take it
 abbrev pub AreFit : Version → List Change → Type 0
 AreFit version [] = Unit {0}
 AreFit version (first ∷ others) = IsFit version first × AreFit (changed version first) others

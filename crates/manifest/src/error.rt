@@ -1,3 +1,4 @@
+// The refusals of a manifest.
 ghost use Rattle.std.specs.Prelude.{◌≡◌};
 ghost use Rattle.manifest.specs.declared.error.ManifestError.TheVariants.{Memory};
 ghost use Rattle.manifest.specs.Errors.{error_by_log, error_by_disk};
@@ -8,12 +9,12 @@ use std::alloc::{AllocError, AllocFailed};
 use thiserror::Error;
 
 /// Why a manifest refused. After `Disk` or `Memory` in `record` or `rewrite` it answers `Failed`
-/// until it is opened again; then the folder stands for the old version or for the new one.
+/// until it is opened again. Then it has the old version or the new one.
 #[derive(Clone, Copy, Debug, PartialEq, Eq, Error)]
 pub enum ManifestError {
     #[error("the device failed")]
     Disk = 1,
-    #[error("the files stand for no version")]
+    #[error("the files represent no version")]
     Damaged,
     #[error("no store was created")]
     NotCreated,

@@ -14,7 +14,7 @@ use record_log::OpenedLog;
 use std::alloc::Global;
 
 /// The node's version after the edits that the records are. `Damaged` where they are no edits, or
-/// one of them may not be taken where it comes.
+/// one of them is none that the version before it may take.
 pub fn replay(alloc: Global, id: NodeId, opened: &OpenedLog) -> Result<Version, ManifestError>
     ensures found { (records : List (List ℕ)) → HasRead opened.now records →
         IfOk result (λ version. (changes : List Change) × IsEditHistory changes
