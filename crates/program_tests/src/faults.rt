@@ -1,7 +1,27 @@
 // Scripts with a fault, and the line that tells of the first one.
 use crate::calls::ran;
+use std::process::Abort;
 
-const FAULTS: &[(&str, &str)] = &[
+/// A script, and what is told of it.
+type Fault = (&'static str, &'static str);
+
+// The first script that does not tell of its fault alone, if one does not.
+fn first_silent(rt: &HostRuntime, faults: &[Fault]) -> Option<&'static str> {
+    for (script, err) in faults {
+        let outcome = ran(rt, script.as_bytes());
+        if !outcome.prints(b"", err.as_bytes()) || outcome.status != 1 {
+            return Some(*script);
+        }
+    }
+    None
+}
+
+fn all_told(rt: &impl Abort, silent: Option<&str>) {
+    assert!(rt; silent.is_none(), "{silent:?}");
+}
+
+// Statements of no such word, with too few words or too many, and numbers.
+const STATEMENTS: &[Fault] = &[
     ("config 1\nfly 1\n", "line 2: unknown statement\n"),
     ("config 1\n!fail 1\n", "line 2: unknown statement\n"),
     ("config 1\n get 1 a\n", "line 2: unknown statement\n"),
@@ -26,6 +46,15 @@ const FAULTS: &[(&str, &str)] = &[
         "line 2: bad number\n",
     ),
     ("config one\n", "line 1: bad number\n"),
+];
+
+#[test]
+fn statements_and_numbers(rt: HostRuntime) {
+    all_told(&rt, first_silent(&rt, STATEMENTS));
+}
+
+// Bytes and junk that are none, and statements before or behind the configuration.
+const BYTES: &[Fault] = &[
     ("config 1\nget 1 %2D\n", "line 2: bad bytes\n"),
     ("config 1\nget 1 %61\n", "line 2: bad bytes\n"),
     ("config 1\nget 1 a-b\n", "line 2: bad bytes\n"),
@@ -41,6 +70,15 @@ const FAULTS: &[(&str, &str)] = &[
     ("config 1\nstop 1 \n", "line 2: bad fault\n"),
     ("get 1 a\nconfig 1\n", "line 1: out of place\n"),
     ("config 1\nget 1 a\nconfig 1\n", "line 3: out of place\n"),
+];
+
+#[test]
+fn bytes_and_junk(rt: HostRuntime) {
+    all_told(&rt, first_silent(&rt, BYTES));
+}
+
+// Configurations, and nodes that are not in them.
+const CONFIGURATIONS: &[Fault] = &[
     ("", "line 1: bad configuration\n"),
     ("# nothing\n\n", "line 3: bad configuration\n"),
     ("config\n", "line 1: bad configuration\n"),
@@ -58,6 +96,15 @@ const FAULTS: &[(&str, &str)] = &[
     ("config 1 2\nget 3 a\n", "line 2: unknown node\n"),
     ("config 1 2\ntick 3\n", "line 2: unknown node\n"),
     ("tick 1\nconfig 1\n", "line 1: out of place\n"),
+];
+
+#[test]
+fn configurations(rt: HostRuntime) {
+    all_told(&rt, first_silent(&rt, CONFIGURATIONS));
+}
+
+// Ticks, deliveries and flows.
+const PLACES: &[Fault] = &[
     ("config 1\ntick\n", "line 2: wrong number of words\n"),
     ("config 1\ntick 1 1\n", "line 2: wrong number of words\n"),
     ("config 1\ntick x\n", "line 2: bad number\n"),
@@ -74,7 +121,15 @@ const FAULTS: &[(&str, &str)] = &[
     ("config 1\nget 2 a\n", "line 2: unknown node\n"),
     ("config 1\nget 0 a\n", "line 2: unknown node\n"),
     ("config 1\nstart 65537\n", "line 2: unknown node\n"),
-    // A fault of the disk of another form, or where none may stand.
+];
+
+#[test]
+fn ticks_and_deliveries(rt: HostRuntime) {
+    all_told(&rt, first_silent(&rt, PLACES));
+}
+
+// A failure of the disk of another form.
+const FAILURES: &[Fault] = &[
     ("config 1\nget 1 a !\n", "line 2: bad fault\n"),
     ("config 1\nget 1 a !fail\n", "line 2: bad fault\n"),
     ("config 1\nget 1 a !fail 0\n", "line 2: bad fault\n"),
@@ -91,6 +146,15 @@ const FAULTS: &[(&str, &str)] = &[
     ("config 1\nget 1 a !Fail 1\n", "line 2: bad fault\n"),
     ("config 1\nget 1 a !failed 1\n", "line 2: bad fault\n"),
     ("config 1\nget 1 a ! fail 1\n", "line 2: bad fault\n"),
+];
+
+#[test]
+fn failures_of_the_disk(rt: HostRuntime) {
+    all_told(&rt, first_silent(&rt, FAILURES));
+}
+
+// A stop in a call of the disk of another form.
+const STOPS: &[Fault] = &[
     ("config 1\nget 1 a !stop\n", "line 2: bad fault\n"),
     ("config 1\nget 1 a !stop 1\n", "line 2: bad fault\n"),
     ("config 1\nget 1 a !stop old\n", "line 2: bad fault\n"),
@@ -102,6 +166,15 @@ const FAULTS: &[(&str, &str)] = &[
     ("config 1\nget 1 a !stop 1 Old\n", "line 2: bad fault\n"),
     ("config 1\nget 1 a !stop 1 \n", "line 2: bad fault\n"),
     ("config 1\nget 1 a !stop 1 old old\n", "line 2: bad fault\n"),
+];
+
+#[test]
+fn stops_in_the_disk(rt: HostRuntime) {
+    all_told(&rt, first_silent(&rt, STOPS));
+}
+
+// Faults of the disk where they count, and where none may stand.
+const NO_FAULTS: &[Fault] = &[
     ("config 1\nsubmit 1 a=1 !fail 0\n", "line 2: bad fault\n"),
     ("config 1\nsubmit 1 !fail 0\n", "line 2: bad fault\n"),
     ("config 1\ntick 1 !fail 0\n", "line 2: bad fault\n"),
@@ -117,7 +190,15 @@ const FAULTS: &[(&str, &str)] = &[
         "line 3: bad fault\n",
     ),
     ("get 1 a !fail 0\nconfig 1\n", "line 1: bad fault\n"),
-    // Of several faults of a line the first in this order, of several lines the first.
+];
+
+#[test]
+fn faults_of_each_statement(rt: HostRuntime) {
+    all_told(&rt, first_silent(&rt, NO_FAULTS));
+}
+
+// Of several faults of a line the first in this order, of several lines the first.
+const SEVERAL: &[Fault] = &[
     ("config 1\nget 01 %2D !fail\n", "line 2: bad number\n"),
     ("config 1\nget 2 %2D\n", "line 2: bad bytes\n"),
     ("config 1\nget 2 a !fail 0\n", "line 2: bad fault\n"),
@@ -154,12 +235,6 @@ const FAULTS: &[(&str, &str)] = &[
 ];
 
 #[test]
-fn the_first_fault_is_reported(rt: HostRuntime) {
-    for (script, err) in FAULTS {
-        let outcome = ran(&rt, script.as_bytes());
-        assert!(rt;
-            outcome.prints(b"", err.as_bytes()) && outcome.status == 1,
-            "{script}"
-        );
-    }
+fn the_first_of_several(rt: HostRuntime) {
+    all_told(&rt, first_silent(&rt, SEVERAL));
 }
