@@ -6,7 +6,7 @@ use Rattle.disk.specs.{State, Contents}
 use Rattle.disk.specs.{LeavesSince}
 use Rattle.disk.specs.MomentsLemmas.{started, weaker}
 use Rattle.manifest.specs.declared.manifest.Manifest.{Manifest}
-use Rattle.manifest.specs.Versions.{Version, NodeVersion, Change, empty, changed, IsFit, AreFit, after_all}
+use Rattle.manifest.specs.Versions.{StoreVersion, NodeVersion, Change, empty, changed, IsFit, AreFit, after_all}
 use Rattle.manifest.specs.Versions.{node_version_after}
 use Rattle.manifest.specs.Lawful.{IsWholeEdit}
 use Rattle.manifest.specs.Edits.{IsChange, change_text}
@@ -20,12 +20,12 @@ use Rattle.manifest.proofs.Records.{has_old}
 use Rattle.chain_model.specs.{IsId}
 
 -- one edit more
-pub after_push : (v : Version) (changes : List Change) (one : Change)
+pub after_push : (v : StoreVersion) (changes : List Change) (one : Change)
     → after_all v (changes ++ one ∷ []) ≡ changed (after_all v changes) one
 after_push v [] one = refl
 after_push v (first ∷ others) one = after_push (changed v first) others one
 
-pub fit_push : (v : Version) (changes : List Change) (one : Change) → AreFit v changes
+pub fit_push : (v : StoreVersion) (changes : List Change) (one : Change) → AreFit v changes
     → IsFit (after_all v changes) one → AreFit v (changes ++ one ∷ [])
 fit_push v [] one fit last = (last, tt)
 fit_push v (first ∷ others) one fit last = (fit.0, fit_push (changed v first) others one fit.1 last)
@@ -51,10 +51,10 @@ module _ (disk : State) (manifest : Manifest) (named : NodeVersion) (one : Chang
       (All-cons IsChange one [] is (All-nil IsChange))
 
   all_fit : AreFit empty more
-  all_fit = fit_push empty h.changes one h.fit (subst (λ (v : Version). IsFit v one) h.is fit)
+  all_fit = fit_push empty h.changes one h.fit (subst (λ (v : StoreVersion). IsFit v one) h.is fit)
 
   gives : changed named.version one ≡ after_all empty more
-  gives = ap (λ (v : Version). changed v one) h.is ∙ sym (after_push empty h.changes one)
+  gives = ap (λ (v : StoreVersion). changed v one) h.is ∙ sym (after_push empty h.changes one)
 
   -- the old records give the old version
   pub old_version : (left : Contents) → SlotsRepresent named.id (map change_text h.changes) left

@@ -13,7 +13,7 @@ use Rattle.kv_types.specs.{text_bytes}
 use Rattle.manifest.specs.declared.line.LogLine.{LogLine}
 use Rattle.manifest.specs.declared.line.TableName.{TableName}
 use Rattle.manifest.specs.declared.line.TableLine.{TableLine}
-use Rattle.manifest.specs.Versions.{Version, NodeVersion, Change, empty, changed, IsFit, AreFit, after_all}
+use Rattle.manifest.specs.Versions.{StoreVersion, NodeVersion, Change, empty, changed, IsFit, AreFit, after_all}
 use Rattle.manifest.specs.Versions.{logs_left, tables_left, log_is_before, table_is_before, placed}
 use Rattle.manifest.specs.Versions.{first_version, is_new_file, names_file, names_log, version_in}
 use Rattle.manifest.specs.Versions.{AreLawful, IsNew, IsThere, NumbersRise, keeps_ids}
@@ -45,8 +45,8 @@ empty_lines = record {
   tables_in_order = tt;
 }
 
-module _ (v : Version) (c : Change) (lines : AreLines v) (fit : IsFit v c) (is : IsChange c) where
-  abbrev new : Version
+module _ (v : StoreVersion) (c : Change) (lines : AreLines v) (fit : IsFit v c) (is : IsChange c) where
+  abbrev new : StoreVersion
   new = changed v c
 
   still_given : (file : ℕ) → IsGiven v file → IsGiven new file
@@ -141,7 +141,7 @@ version_made named view change edit ids logs tables seen read is fit right i l t
     ∙ ap (λ (x : List TableLine). made edit.ids (changed view.version edit).logs x) t in
     subst IsVersion (sym same) (version_fit view.version edit is.lines fit' right')
   where
-    made : List ℕ → List LogLine → List TableLine → Version
+    made : List ℕ → List LogLine → List TableLine → StoreVersion
     made i l t = record {
       next_file = edit.next_file;
       floor = edit.floor;
@@ -153,7 +153,7 @@ version_made named view change edit ids logs tables seen read is fit right i l t
     }
 
 -- an edit's numbers and ids, with these lines
-abbrev with_lines : Change → List LogLine → List TableLine → Version
+abbrev with_lines : Change → List LogLine → List TableLine → StoreVersion
 with_lines c logs tables = record {
   next_file = c.next_file;
   floor = c.floor;
@@ -188,7 +188,7 @@ next_made old change edit logs tables read lines is numbers ids there new lawful
     (subst IsVersion (sym same) (version_fit v change lines fit is))
 
 -- all of them
-pub after_version : (v : Version) (changes : List Change) → AreLines v → changes ≢ []
+pub after_version : (v : StoreVersion) (changes : List Change) → AreLines v → changes ≢ []
     → All IsChange changes → AreFit v changes → IsVersion (after_all v changes)
 after_version v [] lines some each fit = absurd (some refl)
 after_version v (one ∷ []) lines some each fit =
@@ -200,7 +200,7 @@ after_version v (one ∷ two ∷ others) lines some each fit =
 
 -- ---- the whole edit
 
-module _ (v : Version) (is : IsVersion v) where
+module _ (v : StoreVersion) (is : IsVersion v) where
   logs_same : fold (placed log_is_before) [] v.logs ≡ v.logs
   logs_same = fold_same log_is_before [] v.logs is.lines.logs_in_order
 
@@ -354,7 +354,7 @@ change_is_short c is few_logs few_tables =
     omega (arith, n, total)
 
 -- the lists of an edit that may be taken
-pub few_added : (v : Version) (c : Change) → IsFit v c
+pub few_added : (v : StoreVersion) (c : Change) → IsFit v c
     → (length c.logs_added ≤ 4096) × (length c.tables_added ≤ 4096)
 few_added v c fit = (
   omega (arith, fit.lawful.few_logs, fold_length log_is_before (logs_left c.logs_gone v.logs) c.logs_added),
@@ -367,7 +367,7 @@ few_added v c fit = (
 
 -- ---- the bytes of the whole edit
 
-pub whole_is_short : (v : Version) → IsVersion v → (bytes : List ℕ)
+pub whole_is_short : (v : StoreVersion) → IsVersion v → (bytes : List ℕ)
     → bytes ≡ change_text (whole_change v) → length bytes ≤ MAX_RECORD
 whole_is_short v is bytes same =
     subst (λ (t : List ℕ). length t ≤ MAX_RECORD) (sym same)

@@ -5,7 +5,7 @@ use Rattle.std.specs.Prelude.{Err, IsErrOf, slice_get}
 use Rattle.std.proofs.lemmas.List.{take_all}
 use Rattle.std.proofs.lemmas.List.Elements.{All-append, All-cons, All-head, All-nil, All-tail}
 use Rattle.record_log.specs.Grammar.{ends_from}
-use Rattle.manifest.specs.Versions.{Version, NodeVersion, Change, IsFit, AreFit, after_all, changed}
+use Rattle.manifest.specs.Versions.{StoreVersion, NodeVersion, Change, IsFit, AreFit, after_all, changed}
 use Rattle.manifest.specs.Versions.{empty, version_in}
 use Rattle.manifest.specs.Edits.{IsChange, ChangesDiffer, change_text}
 use Rattle.manifest.specs.Replays.{IsEditHistory, IsReplayed, version_after_all}
@@ -56,17 +56,17 @@ replayed_next id draft records i bytes one version r got spelled is fit gives =
       changes = r.changes ++ one ∷ [];
       each = All-append IsChange r.changes (one ∷ []) r.each
           (All-cons IsChange one [] is (All-nil IsChange));
-      fit = fit_push empty r.changes one r.fit (subst (λ (v : Version). IsFit v one) before fit);
+      fit = fit_push empty r.changes one r.fit (subst (λ (v : StoreVersion). IsFit v one) before fit);
       spelled = take_got records i bytes got
           ∙ ap (λ (b : List ℕ). take i records ++ b ∷ []) spelled
           ∙ ap (λ (l : List (List ℕ)). l ++ change_text one ∷ []) r.spelled
           ∙ sym (map_push r.changes one);
-      so_far = ap Some (gives ∙ ap (λ (v : Version). named v)
-          (ap (λ (v : Version). changed v one) before ∙ sym (after_push empty r.changes one)))
+      so_far = ap Some (gives ∙ ap (λ (v : StoreVersion). named v)
+          (ap (λ (v : StoreVersion). changed v one) before ∙ sym (after_push empty r.changes one)))
           ∙ sym (after_some id r.changes one);
     }
   where
-    named : Version → NodeVersion
+    named : StoreVersion → NodeVersion
     named v = record { id = id; version = v }
 
 -- ---- records that are edits
@@ -82,7 +82,7 @@ got_change (c ∷ cs) (suc i) bytes got each =
     got_change cs i bytes got (All-tail IsChange c cs each)
 
 -- and may be taken behind those before it
-pub got_fits : ChangesDiffer → (v : Version) (cs done : List Change) (i : ℕ) (bytes : List ℕ)
+pub got_fits : ChangesDiffer → (v : StoreVersion) (cs done : List Change) (i : ℕ) (bytes : List ℕ)
     (one : Change) → All IsChange cs → All IsChange done → AreFit v cs
     → take i (map change_text cs) ≡ map change_text done
     → slice_get (map change_text cs) i ≡ Some bytes → bytes ≡ change_text one → IsChange one
@@ -108,7 +108,7 @@ pub takes_next : ChangesDiffer → (id : ℕ) (draft : Option NodeVersion) (cs :
     → IsEditHistory cs → slice_get (map change_text cs) i ≡ Some bytes → bytes ≡ change_text one
     → IsChange one → IsFit (version_in draft) one
 takes_next differ id draft cs i bytes one r history got spelled is =
-    subst (λ (v : Version). IsFit v one) (sym (ap version_in r.so_far ∙ draft_is id r.changes))
+    subst (λ (v : StoreVersion). IsFit v one) (sym (ap version_in r.so_far ∙ draft_is id r.changes))
     (got_fits differ empty cs r.changes i bytes one history.each r.each history.fit r.spelled got
     spelled is)
 

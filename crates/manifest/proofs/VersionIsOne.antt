@@ -9,7 +9,7 @@ use Rattle.kv_types.specs.declared.bounds.TheConstants.{MAX_NUMBER}
 use Rattle.chain_model.specs.{IsId}
 use Rattle.disk.specs.{Contents}
 use Rattle.record_log.proofs.Fronts.{one_reading}
-use Rattle.manifest.specs.Versions.{Version, NodeVersion, Change, empty, after_all}
+use Rattle.manifest.specs.Versions.{StoreVersion, NodeVersion, Change, empty, after_all}
 use Rattle.manifest.specs.Edits.{IsChange, ChangesDiffer, change_text}
 use Rattle.manifest.specs.Lawful.{IsVersion}
 use Rattle.manifest.specs.Slots.{other_slot, head_length, slot_head, IsSlot, IsSuperseded, SlotsRepresent}
@@ -120,9 +120,9 @@ one_version differ a b left h k =
     let version : a.version ≡ b.version = h.is ∙ ap (after_all empty) changes ∙ sym k.is in
     let first : a ≡ record { id = b.id; version = a.version } =
     ap (λ (i : ℕ). named i a.version) same.0 in
-    first ∙ ap (λ (v : Version). named b.id v) version
+    first ∙ ap (λ (v : StoreVersion). named b.id v) version
   where
-    named : ℕ → Version → NodeVersion
+    named : ℕ → StoreVersion → NodeVersion
     named i v = record { id = i; version = v }
 
 pub versions_are_lawful : VersionsAreLawful

@@ -2,16 +2,16 @@
 use Rattle.std.specs.Prelude.{◌≡◌, ℕ, ◌<◌, ◌≤◌, List, [], All}
 use Rattle.kv_types.specs.declared.bounds.TheConstants.{MAX_NUMBER}
 use Rattle.configurations.specs.{IsConfig}
-use Rattle.manifest.specs.Versions.{Version, Change, AreLawful, AreInOrder, log_is_before}
+use Rattle.manifest.specs.Versions.{StoreVersion, Change, AreLawful, AreInOrder, log_is_before}
 use Rattle.manifest.specs.Versions.{NodeVersion, IsFit, changed, empty, table_is_before}
 use Rattle.manifest.specs.Edits.{IsChange, IsLogLine, IsTableLine, change_text}
 
 -- a file that is named has a number that was given
-abbrev pub IsGiven : Version → ℕ → Type 0
+abbrev pub IsGiven : StoreVersion → ℕ → Type 0
 IsGiven version file = (3 ≤ file) × (file < version.next_file)
 
 -- the lines are within their limits and in order, those of the empty version too
-pub record AreLines (version : Version) : Type 0 where
+pub record AreLines (version : StoreVersion) : Type 0 where
   pub logs : All IsLogLine version.logs
   pub tables : All IsTableLine version.tables
   pub log_files : All (λ line. IsGiven version line.file) version.logs
@@ -21,7 +21,7 @@ pub record AreLines (version : Version) : Type 0 where
 
 -- A version that some edits give: its numbers are within their limits, it has a log, no file is
 -- named twice, and below level 0 no two tables of a level share a key.
-pub record IsVersion (version : Version) : Type 0 where
+pub record IsVersion (version : StoreVersion) : Type 0 where
   pub next_file : version.next_file ≤ MAX_NUMBER
   pub floor : version.floor ≤ MAX_NUMBER
   pub flushed : version.flushed ≤ MAX_NUMBER
@@ -31,7 +31,7 @@ pub record IsVersion (version : Version) : Type 0 where
   pub lawful : AreLawful version.logs version.tables
 
 -- the edit that gives the whole version from the empty one
-abbrev pub whole_change : Version → Change
+abbrev pub whole_change : StoreVersion → Change
 whole_change version = record {
   next_file = version.next_file;
   floor = version.floor;

@@ -11,7 +11,7 @@ use Rattle.manifest.specs.declared.line.TableLine.{TableLine}
 
 -- a version: its numbers, the ids of its configuration, its logs in order of their first numbers,
 -- and its tables, level by level
-pub record Version : Type 0 where
+pub record StoreVersion : Type 0 where
   pub next_file : ℕ
   pub floor : ℕ
   pub flushed : ℕ
@@ -23,7 +23,7 @@ pub record Version : Type 0 where
 -- a version and the node that it is of
 pub record NodeVersion : Type 0 where
   pub id : ℕ
-  pub version : Version
+  pub version : StoreVersion
 
 -- new numbers and ids, and what is given up and what is added
 pub record Change : Type 0 where
@@ -38,7 +38,7 @@ pub record Change : Type 0 where
   pub tables_added : List TableLine
 
 -- the version that the first edit changes
-abbrev pub empty : Version
+abbrev pub empty : StoreVersion
 empty = record {
   next_file = 0;
   floor = 0;
@@ -85,7 +85,7 @@ tables_left gone tables = filter
     (λ line. not (list_any (λ one. one.level == line.level && one.file == line.file) gone)) tables
 
 -- lines are given up first, and then added
-abbrev pub changed : Version → Change → Version
+abbrev pub changed : StoreVersion → Change → StoreVersion
 changed version change = record {
   next_file = change.next_file;
   floor = change.floor;
@@ -124,7 +124,7 @@ abbrev pub files_of : List LogLine → List TableLine → List ℕ
 files_of logs tables = map (λ line. line.file) logs ++ map (λ line. line.file) tables
 
 -- a file that is added has a new number
-abbrev pub is_new_file : Version → Change → ℕ → Bool
+abbrev pub is_new_file : StoreVersion → Change → ℕ → Bool
 is_new_file version change file =
     nat_le 3 file && nat_lt file change.next_file && not (names_log version.logs file)
     && not (names_file version.tables file)
@@ -146,21 +146,21 @@ keeps_ids [] ids = true
 keeps_ids (id ∷ old) ids = is_part ids (id ∷ old)
 
 -- no number falls
-pub record NumbersRise (version : Version) (change : Change) : Type 0 where
+pub record NumbersRise (version : StoreVersion) (change : Change) : Type 0 where
   pub next_file : version.next_file ≤ change.next_file
   pub floor : version.floor ≤ change.floor
   pub flushed : version.flushed ≤ change.flushed
   pub epoch : version.epoch ≤ change.epoch
 
 -- what is given up is there, and given up once
-pub record IsThere (version : Version) (change : Change) : Type 0 where
+pub record IsThere (version : StoreVersion) (change : Change) : Type 0 where
   pub logs : IsTrue (list_all (λ file. names_log version.logs file) change.logs_gone)
   pub logs_once : IsTrue (are_once change.logs_gone)
   pub tables : IsTrue (list_all (λ one. names_table version.tables one) change.tables_gone)
   pub tables_once : IsTrue (are_once (map (λ one. one.file) change.tables_gone))
 
 -- what is added is new
-pub record IsNew (version : Version) (change : Change) : Type 0 where
+pub record IsNew (version : StoreVersion) (change : Change) : Type 0 where
   pub logs : IsTrue (list_all (λ line. is_new_file version change line.file) change.logs_added)
   pub tables : IsTrue (list_all (λ line. is_new_file version change line.file) change.tables_added)
 
@@ -173,7 +173,7 @@ pub record AreLawful (logs : List LogLine) (tables : List TableLine) : Type 0 wh
   pub apart : IsTrue (all_apart tables)
 
 -- the version may take the edit
-pub record IsFit (version : Version) (change : Change) : Type 0 where
+pub record IsFit (version : StoreVersion) (change : Change) : Type 0 where
   pub numbers : NumbersRise version change
   pub ids : IsTrue (keeps_ids version.ids change.ids)
   pub there : IsThere version change
@@ -181,12 +181,12 @@ pub record IsFit (version : Version) (change : Change) : Type 0 where
   pub lawful : AreLawful (changed version change).logs (changed version change).tables
 
 -- the version before each edit may take it
-abbrev pub AreFit : Version → List Change → Type 0
+abbrev pub AreFit : StoreVersion → List Change → Type 0
 AreFit version [] = Unit {0}
 AreFit version (first ∷ others) = IsFit version first × AreFit (changed version first) others
 
 -- the version after all of them
-abbrev pub after_all : Version → List Change → Version
+abbrev pub after_all : StoreVersion → List Change → StoreVersion
 after_all version [] = version
 after_all version (first ∷ others) = after_all (changed version first) others
 
@@ -206,6 +206,6 @@ first_version id ids = record {
 }
 
 -- the version that some edits gave, or the empty one before the first
-abbrev pub version_in : Option NodeVersion → Version
+abbrev pub version_in : Option NodeVersion → StoreVersion
 version_in None = empty
 version_in (Some named) = named.version

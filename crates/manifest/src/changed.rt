@@ -6,7 +6,7 @@ ghost use Rattle.manifest.specs.Versions.{logs_left, tables_left};
 ghost use Rattle.manifest.specs.Edits.{IsChange};
 ghost use Rattle.manifest.specs.Versions.{node_version_after};
 
-use crate::{LogLine, TableLine, TableName, Version, VersionEdit};
+use crate::{LogLine, StoreVersion, TableLine, TableName, VersionEdit};
 use std::alloc::{AllocError, Global};
 
 // The logs but those that are given up.
@@ -134,9 +134,9 @@ pub fn add_tables(tables: &mut Vec<TableLine>, added: &[TableLine]) -> Result<()
 /// The version after an edit that it may take.
 pub fn version_after(
     alloc: Global,
-    version: &Version,
+    version: &StoreVersion,
     edit: &VersionEdit,
-) -> Result<Version, AllocError>
+) -> Result<StoreVersion, AllocError>
     requires { IsFit version.now.version edit.now × IsChange edit.now }
     ensures { IfOk result (λ new. new ≡ node_version_after version.now edit.now) }
 {
@@ -144,7 +144,7 @@ pub fn version_after(
     add_logs(&mut logs, &edit.logs_added)?;
     let mut tables = tables_left(alloc, &edit.tables_gone, &version.tables)?;
     add_tables(&mut tables, &edit.tables_added)?;
-    Ok(Version {
+    Ok(StoreVersion {
         id: version.id,
         next_file: edit.next_file,
         floor: edit.floor,

@@ -23,4 +23,4 @@ pub use edit::VersionEdit;
 pub use error::ManifestError;
 pub use line::{LogLine, TableLine, TableName};
 pub use manifest::Manifest;
-pub use version::Version;
+pub use version::StoreVersion;

@@ -16,7 +16,7 @@ ghost use Rattle.manifest.specs.Manifests.{counting_file, generation_of, spare_f
 use crate::changed::version_after;
 use crate::slot_pair::SlotPair;
 use crate::spelling::{bytes_of, bytes_of_whole};
-use crate::{LogLine, ManifestError, Version, VersionEdit};
+use crate::{LogLine, ManifestError, StoreVersion, VersionEdit};
 use configurations::{Config, NodeId};
 use disk::Disk;
 use std::alloc::{AllocError, Global};
@@ -26,18 +26,18 @@ use std::alloc::{AllocError, Global};
 #[derive(Drop)]
 pub struct Manifest {
     slots: SlotPair,
-    version: Version,
+    version: StoreVersion,
     has_failed: bool,
 }
 
 // The version of a new node.
-fn begun_by(alloc: Global, id: NodeId, config: &Config) -> Result<Version, AllocError>
+fn begun_by(alloc: Global, id: NodeId, config: &Config) -> Result<StoreVersion, AllocError>
     ensures { IfOk result (λ version. version ≡ first_version id config.now) }
 {
     let _ids = config.ids();
     let mut logs = Vec::new(alloc);
     logs.push(LogLine { file: 3, first: 1 })?;
-    Ok(Version {
+    Ok(StoreVersion {
         id,
         next_file: 4,
         floor: 0,
@@ -50,7 +50,7 @@ fn begun_by(alloc: Global, id: NodeId, config: &Config) -> Result<Version, Alloc
 }
 
 // The bytes of one edit that gives the whole version.
-fn whole_bytes(alloc: Global, version: &Version) -> Result<Vec<u8>, AllocError>
+fn whole_bytes(alloc: Global, version: &StoreVersion) -> Result<Vec<u8>, AllocError>
     ensures short { IfOk result (λ bytes. length bytes.items ≤ MAX_RECORD) }
     ensures whole { IfOk result (λ bytes. IsWholeEdit version.now bytes.items) }
 {
@@ -60,7 +60,7 @@ fn whole_bytes(alloc: Global, version: &Version) -> Result<Vec<u8>, AllocError>
 
 impl Manifest {
     /// The version of the store. Of a manifest that has failed, the one before the failure.
-    pub fn state(&self) -> &Version
+    pub fn state(&self) -> &StoreVersion
         ensures { result.now ≡ version_of self.now }
     {
         &self.version

@@ -12,12 +12,12 @@ use crate::changed::{add_logs, add_tables, logs_left, tables_left};
 use crate::fits::{
     all_apart, are_once, files_gone, files_of, is_part, names_file, names_log, names_table,
 };
-use crate::{LogLine, ManifestError, TableLine, TableName, Version, VersionEdit};
+use crate::{LogLine, ManifestError, StoreVersion, TableLine, TableName, VersionEdit};
 use configurations::{Config, NodeId};
 use std::alloc::{AllocError, Global};
 
 // The logs of a version, and none before the first edit.
-fn logs_of(old: &Option<Version>) -> &[LogLine]
+fn logs_of(old: &Option<StoreVersion>) -> &[LogLine]
     ensures logs { result.now ≡ (version_in old.now).logs }
     ensures lines { AreLines (version_in old.now) }
 {
@@ -27,7 +27,7 @@ fn logs_of(old: &Option<Version>) -> &[LogLine]
     }
 }
 
-fn tables_of(old: &Option<Version>) -> &[TableLine]
+fn tables_of(old: &Option<StoreVersion>) -> &[TableLine]
     ensures { result.now ≡ (version_in old.now).tables }
 {
     match old {
@@ -36,7 +36,7 @@ fn tables_of(old: &Option<Version>) -> &[TableLine]
     }
 }
 
-fn numbers_rise(old: &Option<Version>, edit: &VersionEdit) -> bool
+fn numbers_rise(old: &Option<StoreVersion>, edit: &VersionEdit) -> bool
     ensures { IsTrue result ↔ NumbersRise (version_in old.now) edit.now }
 {
     let Some(version) = old else {
@@ -48,7 +48,7 @@ fn numbers_rise(old: &Option<Version>, edit: &VersionEdit) -> bool
         && version.epoch <= edit.epoch
 }
 
-fn keeps_ids(old: &Option<Version>, config: &Config) -> bool
+fn keeps_ids(old: &Option<StoreVersion>, config: &Config) -> bool
     ensures { result ≡ keeps_ids (version_in old.now).ids config.now }
 {
     match old {
@@ -79,7 +79,11 @@ fn tables_there(tables: &[TableLine], gone: &[TableName]) -> bool
     true
 }
 
-fn is_there(alloc: Global, old: &Option<Version>, edit: &VersionEdit) -> Result<bool, AllocError>
+fn is_there(
+    alloc: Global,
+    old: &Option<StoreVersion>,
+    edit: &VersionEdit,
+) -> Result<bool, AllocError>
     ensures { IfOk result (λ is. IsTrue is ↔ IsThere (version_in old.now) edit.now) }
 {
     let files = files_gone(alloc, &edit.tables_gone)?;
@@ -91,7 +95,7 @@ fn is_there(alloc: Global, old: &Option<Version>, edit: &VersionEdit) -> Result<
     )
 }
 
-fn is_new_file(old: &Option<Version>, edit: &VersionEdit, file: u64) -> bool
+fn is_new_file(old: &Option<StoreVersion>, edit: &VersionEdit, file: u64) -> bool
     ensures { result ≡ is_new_file (version_in old.now) edit.now file }
 {
     3 <= file
@@ -100,7 +104,7 @@ fn is_new_file(old: &Option<Version>, edit: &VersionEdit, file: u64) -> bool
         && !names_file(tables_of(old), file)
 }
 
-fn logs_are_new(old: &Option<Version>, edit: &VersionEdit) -> bool
+fn logs_are_new(old: &Option<StoreVersion>, edit: &VersionEdit) -> bool
     ensures { result ≡ list_all (λ line. is_new_file (version_in old.now) edit.now line.file)
         edit.now.logs_added }
 {
@@ -112,7 +116,7 @@ fn logs_are_new(old: &Option<Version>, edit: &VersionEdit) -> bool
     true
 }
 
-fn tables_are_new(old: &Option<Version>, edit: &VersionEdit) -> bool
+fn tables_are_new(old: &Option<StoreVersion>, edit: &VersionEdit) -> bool
     ensures { result ≡ list_all (λ line. is_new_file (version_in old.now) edit.now line.file)
         edit.now.tables_added }
 {
@@ -138,7 +142,11 @@ fn are_lawful(alloc: Global, logs: &[LogLine], tables: &[TableLine]) -> Result<b
 }
 
 // Whether the old version may take the edit, but for the lines that it gives.
-fn may_take(alloc: Global, old: &Option<Version>, edit: &VersionEdit) -> Result<bool, AllocError>
+fn may_take(
+    alloc: Global,
+    old: &Option<StoreVersion>,
+    edit: &VersionEdit,
+) -> Result<bool, AllocError>
     ensures { IfOk result (λ is. IsTrue is ↔ (NumbersRise (version_in old.now) edit.now
         × IsTrue (keeps_ids (version_in old.now).ids edit.now.ids)
         × IsThere (version_in old.now) edit.now × IsNew (version_in old.now) edit.now)) }
@@ -155,7 +163,7 @@ fn may_take(alloc: Global, old: &Option<Version>, edit: &VersionEdit) -> Result<
 // The lines that an edit gives.
 fn lines_after(
     alloc: Global,
-    old: &Option<Version>,
+    old: &Option<StoreVersion>,
     edit: &VersionEdit,
 ) -> Result<(Vec<LogLine>, Vec<TableLine>), AllocError>
     ensures { IfOk result (λ x. (x.0.items ≡ (changed (version_in old.now) edit.now).logs)
@@ -172,9 +180,9 @@ fn lines_after(
 pub fn next_version(
     alloc: Global,
     id: NodeId,
-    old: &Option<Version>,
+    old: &Option<StoreVersion>,
     edit: VersionEdit,
-) -> Result<Version, ManifestError>
+) -> Result<StoreVersion, ManifestError>
     requires { IsChange edit }
     ensures found { IfOk result (λ version. IsFit (version_in old.now) edit
         × (version ≡ record { id = id; version = changed (version_in old.now) edit })) }
@@ -189,7 +197,7 @@ pub fn next_version(
     if !are_lawful(alloc, &logs, &tables)? {
         return Err(ManifestError::Damaged);
     }
-    Ok(Version {
+    Ok(StoreVersion {
         id,
         next_file: edit.next_file,
         floor: edit.floor,

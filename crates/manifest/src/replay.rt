@@ -8,14 +8,14 @@ ghost use Rattle.manifest.specs.Replays.{IsEditHistory};
 use crate::laws::changes_differ;
 use crate::next::next_version;
 use crate::reading::edit_of;
-use crate::{ManifestError, Version};
+use crate::{ManifestError, StoreVersion};
 use configurations::NodeId;
 use record_log::OpenedLog;
 use std::alloc::Global;
 
 /// The node's version after the edits that the records are. `Damaged` where they are no edits, or
 /// one of them is none that the version before it may take.
-pub fn replay(alloc: Global, id: NodeId, opened: &OpenedLog) -> Result<Version, ManifestError>
+pub fn replay(alloc: Global, id: NodeId, opened: &OpenedLog) -> Result<StoreVersion, ManifestError>
     ensures found { (records : List (List ℕ)) → HasRead opened.now records →
         IfOk result (λ version. (changes : List Change) × IsEditHistory changes
         × (records ≡ map change_text changes)

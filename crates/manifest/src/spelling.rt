@@ -6,7 +6,7 @@ ghost use Rattle.manifest.specs.Lawful.{IsVersion, whole_change};
 ghost use Rattle.manifest.specs.Edits.{IsChange, change_text, log_line_bytes, table_head_bytes};
 ghost use Rattle.manifest.specs.Edits.{table_line_bytes, table_name_bytes};
 
-use crate::{LogLine, TableLine, TableName, Version, VersionEdit};
+use crate::{LogLine, StoreVersion, TableLine, TableName, VersionEdit};
 use byte_fields::{put_u32, put_u64};
 use std::alloc::{AllocError, Global};
 
@@ -105,7 +105,7 @@ pub fn bytes_of(alloc: Global, edit: &VersionEdit) -> Result<Vec<u8>, AllocError
 
 /// The bytes of one edit that gives the whole version.
 #[tactic(auto, unfolding(crate::specs::Edits::change_text))]
-pub fn bytes_of_whole(alloc: Global, version: &Version) -> Result<Vec<u8>, AllocError>
+pub fn bytes_of_whole(alloc: Global, version: &StoreVersion) -> Result<Vec<u8>, AllocError>
     ensures spelled { IfOk result
         (λ text. text.items ≡ change_text (whole_change version.now.version)) }
     ensures is { IsVersion version.now.version }

@@ -5,7 +5,7 @@ use std::marker::Model;
 
 /// What a manifest names: the node and its configuration, its numbers, its logs and its tables.
 #[derive(Debug, Drop)]
-pub struct Version {
+pub struct StoreVersion {
     pub id: NodeId,
     pub next_file: u64,
     pub floor: u64,
@@ -16,7 +16,7 @@ pub struct Version {
     pub tables: Vec<TableLine>,
 }
 
-impl Model for Version {
+impl Model for StoreVersion {
     ghost use Rattle.manifest.specs.Versions.{NodeVersion};
     ghost use Rattle.manifest.specs.Lawful.{IsVersion};
 
