@@ -1,5 +1,6 @@
 pub mod Readers
 pub mod ReadersLemmas
+pub mod LoopLemmas
 -- What crates above name.
 pub use Rattle.byte_fields.specs.Readers.{Reader, ReadsFront, both, counted, mapped, number_at}
 pub use Rattle.byte_fields.specs.Readers.{only}

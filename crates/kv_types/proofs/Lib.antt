@@ -1,4 +1,3 @@
-pub mod ByteOrder
 pub mod MapLaws
 pub mod ViewLaws
 pub mod EntryCases

@@ -11,7 +11,7 @@ use Rattle.kv_types.specs.Maps.{map_of}
 use Rattle.kv_types.specs.Spans.{Span}
 use Rattle.kv_types.specs.Pages.{Map, IsRowOf, PrecedesRow, IsWalk, row_size, KeepsLimits, IsFull}
 use Rattle.kv_types.specs.Pages.{walk_of, fitting_rows, PagesAgree, OnePage}
-use Rattle.kv_types.proofs.ByteOrder.{below_is_strict}
+use Rattle.kv_types.specs.ByteOrderLemmas.{below_is_strict}
 use Rattle.kv_types.specs.OrderLemmas.{among_from_Contains, among_of_All, rises_from_AllPairs}
 use Rattle.kv_types.specs.OrderLemmas.{same_list}
 use Rattle.kv_types.proofs.Walks.{walks}

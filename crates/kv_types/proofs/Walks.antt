@@ -20,7 +20,7 @@ use Rattle.kv_types.specs.Maps.{key_of, value_put, joined, last_edit, map_of}
 use Rattle.kv_types.specs.Spans.{Span}
 use Rattle.kv_types.specs.Pages.{IsWithin, IsRowOf, PrecedesRow, IsWalk, with_key, keys_of}
 use Rattle.kv_types.specs.Pages.{is_within, row_of_key, walk_of}
-use Rattle.kv_types.proofs.ByteOrder.{below-Less, lt_below, below_is_strict}
+use Rattle.kv_types.specs.ByteOrderLemmas.{below-Less, lt_below, below_is_strict}
 use Rattle.kv_types.specs.OrderLemmas.{Among, Contains-among, All-among, Rises, AllPairs-rises}
 use Rattle.kv_types.specs.OrderLemmas.{Contains-reverse, All-reverse, AllPairs-reverse}
 

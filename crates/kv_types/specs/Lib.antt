@@ -13,6 +13,7 @@ pub mod Examples
 pub mod FieldsLemmas
 pub mod BatchesLemmas
 pub mod OrderLemmas
+pub mod ByteOrderLemmas
 -- What crates above name.
 pub use Rattle.kv_types.specs.Content.{BatchContent}
 pub use Rattle.kv_types.specs.Entries.{Entry, IsNewest, IsSeen, IsShown, IsUnseen}

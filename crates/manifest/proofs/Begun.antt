@@ -3,9 +3,9 @@ use Rattle.std.proofs.Common.{◌≡◌, ℕ, ◌<◌, ◌≤◌, ◌^◌, List,
 use Rattle.std.proofs.Common.{Option, Some, None, false, refl, sym, ap, subst, ◌∙◌, inl, arith}
 use Rattle.std.proofs.Common.{append-nil}
 use Rattle.disk.specs.{State}
-use Rattle.record_log.specs.Grammar.{IsClosed, Represents}
-use Rattle.record_log.specs.Push.{IsDurableAs}
-use Rattle.record_log.specs.Logs.{LogHolds, IsAt, begun}
+use Rattle.record_log.specs.{IsClosed, Represents}
+use Rattle.record_log.specs.{IsDurableAs}
+use Rattle.record_log.specs.{LogHolds, IsAt, begun}
 use Rattle.manifest.specs.declared.slot_pair.SlotPair.{SlotPair}
 use Rattle.manifest.specs.Slots.{slot_head, head_length, IsSlot}
 use Rattle.manifest.specs.Holds.{SlotsHold, slot_behind}

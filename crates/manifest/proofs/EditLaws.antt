@@ -17,7 +17,7 @@ use Rattle.configurations.specs.{IsConfig, TestDecidesConfig, is_config, config_
 use Rattle.kv_types.specs.declared.bounds.TheConstants.{MAX_NUMBER, MAX_KEY}
 use Rattle.kv_types.specs.Order.{IsBelow}
 use Rattle.kv_types.specs.{text_bytes, text_at}
-use Rattle.kv_types.proofs.ByteOrder.{lt_below}
+use Rattle.kv_types.specs.ByteOrderLemmas.{lt_below}
 use Rattle.kv_types.specs.FieldsLemmas.{IsBytes, IsBytes-rest, Takes, bind_some, some_is}
 use Rattle.kv_types.specs.FieldsLemmas.{text_takes, text_again}
 use Rattle.manifest.specs.declared.error.ManifestError.{ManifestError}

@@ -10,7 +10,7 @@ use Rattle.std.proofs.lemmas.List.Elements.{All-weaker}
 use Rattle.std.specs.Ordering.{nat_cmp, is_lt}
 use Rattle.std.specs.Cmp.Lexicographic.{slice_cmp}
 use Rattle.kv_types.specs.Order.{IsBelow}
-use Rattle.kv_types.proofs.ByteOrder.{lt_below, below_is_strict}
+use Rattle.kv_types.specs.ByteOrderLemmas.{lt_below, below_is_strict}
 use Rattle.manifest.specs.declared.line.TableLine.{TableLine}
 use Rattle.manifest.specs.Versions.{placed, log_is_before, table_is_before, AreInOrder}
 

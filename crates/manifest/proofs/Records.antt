@@ -6,15 +6,15 @@ use Rattle.disk.specs.{Slot, State, Contents, IsFileOutcome, IsCrashOutcome, see
 use Rattle.disk.specs.{IsLeftAt, IsSameBut, LeavesSince}
 use Rattle.disk.specs.MomentsLemmas.{weaker}
 use Rattle.disk.specs.StepsLemmas.{sure_only, read_is_outcome}
-use Rattle.record_log.specs.Grammar.{Represents}
-use Rattle.record_log.specs.Push.{IsDurableAs}
+use Rattle.record_log.specs.{Represents}
+use Rattle.record_log.specs.{IsDurableAs}
 use Rattle.std.proofs.Common.{Result, Ok, Err}
 use Rattle.std.specs.Prelude.{MatchResult}
 use Rattle.record_log.specs.declared.LogError.{LogError}
 use Rattle.record_log.specs.declared.log.Log.{Log}
 use Rattle.record_log.specs.declared.log.TheConstants.{MAX_RECORD}
-use Rattle.record_log.specs.Logs.{LogHolds, file_of, start_of, IsAt, IsOldOrNewFrom, Appended, IsExpected}
-use Rattle.record_log.specs.Logs.{HasFailed, IsExternal}
+use Rattle.record_log.specs.{LogHolds, file_of, start_of, IsAt, IsOldOrNewFrom, Appended, IsExpected}
+use Rattle.record_log.specs.{HasFailed, IsExternal}
 use Rattle.record_log.specs.declared.LogError.TheVariants as errors
 use Rattle.std.proofs.Common.{length}
 use Rattle.std.specs.Prelude.{IfErr}

@@ -15,8 +15,8 @@ use Rattle.std.proofs.Common.{Bool, true, false}
 use Rattle.disk.specs.Calls.{CutOutcome}
 use Rattle.disk.specs.PlacesLemmas.{window_same}
 use Rattle.disk.specs.StepsLemmas.{Only, sure_only, fails_only, writes_only}
-use Rattle.record_log.specs.Grammar.{IsClosed}
-use Rattle.record_log.specs.Push.{IsDurableAs}
+use Rattle.record_log.specs.{IsClosed}
+use Rattle.record_log.specs.{IsDurableAs}
 use Rattle.manifest.specs.Replace.{HasGate, IsReplaced, IsClosedFile}
 
 -- what a crash may leave on the way

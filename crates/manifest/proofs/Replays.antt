@@ -4,7 +4,7 @@ use Rattle.std.proofs.Common.{Option, Some, None, All, refl, sym, ap, subst, ◌
 use Rattle.std.specs.Prelude.{Err, IsErrOf, slice_get}
 use Rattle.std.proofs.lemmas.List.{take_all}
 use Rattle.std.proofs.lemmas.List.Elements.{All-append, All-cons, All-head, All-nil, All-tail}
-use Rattle.record_log.specs.Grammar.{ends_from}
+use Rattle.record_log.specs.{ends_from}
 use Rattle.manifest.specs.Versions.{StoreVersion, NodeVersion, Change, IsFit, AreFit, after_all, changed}
 use Rattle.manifest.specs.Versions.{empty, version_in}
 use Rattle.manifest.specs.Edits.{IsChange, ChangesDiffer, change_text}

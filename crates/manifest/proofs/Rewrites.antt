@@ -12,9 +12,9 @@ use Rattle.disk.specs.{Slot, State, Contents, IsFileOutcome, IsCrashOutcome}
 use Rattle.disk.specs.{IsLeftAt, LeavesSince}
 use Rattle.disk.specs.MomentsLemmas.{started, weaker}
 use Rattle.disk.specs.StepsLemmas.{sure_only}
-use Rattle.record_log.specs.Grammar.{Represents}
-use Rattle.record_log.specs.Push.{IsDurableAs}
-use Rattle.record_log.specs.Logs.{file_of, LogHolds, IsAt}
+use Rattle.record_log.specs.{Represents}
+use Rattle.record_log.specs.{IsDurableAs}
+use Rattle.record_log.specs.{file_of, LogHolds, IsAt}
 use Rattle.manifest.specs.declared.slot_pair.SlotPair.{SlotPair}
 use Rattle.manifest.specs.Slots.{IsSlotFile, other_slot, slot_head, head_length, IsSlot, IsSuperseded, SlotsRepresent}
 use Rattle.manifest.specs.Slots.{SlotsAreLeft}

@@ -8,7 +8,7 @@ use Rattle.std.proofs.lemmas.List.Elements.{All-head, All-tail}
 use Rattle.kv_types.specs.declared.bounds.TheConstants.{MAX_NUMBER}
 use Rattle.chain_model.specs.{IsId}
 use Rattle.disk.specs.{Contents}
-use Rattle.record_log.proofs.Fronts.{one_reading}
+use Rattle.record_log.specs.{RecordsAreUnique}
 use Rattle.manifest.specs.Versions.{StoreVersion, NodeVersion, Change, empty, after_all}
 use Rattle.manifest.specs.Edits.{IsChange, ChangesDiffer, change_text}
 use Rattle.manifest.specs.Lawful.{IsVersion}
@@ -35,13 +35,13 @@ same_id g h id other is are same =
     ∙ from_be_bytes-to_be_bytes_2 other (omega (arith, are.1))
 
 -- one open slot has one head and one list
-same_slot : (file : Option (List ℕ)) (g h id other : ℕ) (records others : List (List ℕ))
+same_slot : RecordsAreUnique → (file : Option (List ℕ)) (g h id other : ℕ) (records others : List (List ℕ))
     → IsId id → IsId other → IsSomeAnd file (IsSlot g id records)
     → IsSomeAnd file (IsSlot h other others) → (id ≡ other) × (records ≡ others)
-same_slot None g h id other records others is are a b = absurd a
-same_slot (Some bytes) g h id other records others is are a b = (
+same_slot unique None g h id other records others is are a b = absurd a
+same_slot unique (Some bytes) g h id other records others is are a b = (
   same_id g h id other is are (sym a.head ∙ b.head),
-  one_reading (drop head_length bytes) records others a.log b.log,
+  unique (drop head_length bytes) records others a.log b.log,
 )
 
 -- an open slot that yields has the lesser generation
@@ -72,10 +72,10 @@ not_both id other records others left a b at_a at_b =
     (subst (λ (f : ℕ). IsSomeAnd (left f) (IsSuperseded b.generation)) (sym at_a) b.other) in
     omega (arith, less, more)
 
-pub one_records : (id other : ℕ) (records others : List (List ℕ)) (left : Contents) → IsId id
+pub one_records : RecordsAreUnique → (id other : ℕ) (records others : List (List ℕ)) (left : Contents) → IsId id
     → IsId other → SlotsRepresent id records left → SlotsRepresent other others left
     → (id ≡ other) × (records ≡ others)
-one_records id other records others left is are a b =
+one_records unique id other records others left is are a b =
     elim a.one [
       | inl s ↦ elim b.one [
         | inl t ↦ together (s ∙ sym t)
@@ -91,7 +91,7 @@ one_records id other records others left is are a b =
   where
     together : a.slot ≡ b.slot → (id ≡ other) × (records ≡ others)
     together same =
-        same_slot (left b.slot) a.generation b.generation id other records others is are
+        same_slot unique (left b.slot) a.generation b.generation id other records others is are
         (subst (λ (f : ℕ). IsSomeAnd (left f) (IsSlot a.generation id records)) same a.counting)
         b.counting
 
@@ -111,9 +111,9 @@ one_list_of differ (c ∷ cs) (d ∷ ds) each all same =
     one_list_of differ cs ds (All-tail IsChange c cs each) (All-tail IsChange d ds all) texts in
     cc (first, others)
 
-pub one_version : ChangesDiffer → VersionIsOne
-one_version differ a b left h k =
-    let same = one_records a.id b.id (map change_text h.changes) (map change_text k.changes) left
+pub one_version : ChangesDiffer → RecordsAreUnique → VersionIsOne
+one_version differ unique a b left h k =
+    let same = one_records unique a.id b.id (map change_text h.changes) (map change_text k.changes) left
     h.id k.id h.records k.records in
     let changes : h.changes ≡ k.changes =
     one_list_of differ h.changes k.changes h.each k.each same.1 in

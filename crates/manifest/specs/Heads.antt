@@ -3,7 +3,7 @@ use Rattle.std.specs.Prelude.{◌≡◌, ℕ, ◌<◌, ◌≤◌, List, [], ◌�
 use Rattle.std.specs.Prelude.{Option, IfSome, IsSomeAnd}
 use Rattle.kv_types.specs.declared.bounds.TheConstants.{MAX_NUMBER}
 use Rattle.disk.specs.{Contents}
-use Rattle.record_log.specs.Grammar.{IsClosed}
+use Rattle.record_log.specs.{IsClosed}
 use Rattle.manifest.specs.declared.head.Head.{Head}
 use Rattle.manifest.specs.declared.head.Head.TheVariants as head
 use Rattle.manifest.specs.declared.head.CountingSlot.{CountingSlot}

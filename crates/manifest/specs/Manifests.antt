@@ -3,7 +3,7 @@ use Rattle.std.specs.Prelude.{◌≡◌, ◌≢◌, ℕ, List, [], map, All, IsT
 use Rattle.chain_model.specs.{IsId}
 use Rattle.disk.specs.{State}
 use Rattle.record_log.specs.{file_of}
-use Rattle.record_log.specs.Logs.{HasNoRoom}
+use Rattle.record_log.specs.{HasNoRoom}
 use Rattle.manifest.specs.declared.manifest.Manifest.{Manifest}
 use Rattle.manifest.specs.Versions.{NodeVersion, Change, empty, AreFit, after_all}
 use Rattle.manifest.specs.Edits.{IsChange, change_text}

@@ -3,8 +3,8 @@ use Rattle.std.specs.Prelude.{◌≡◌, ◌⊎◌, ℕ, ◌<◌, List, ◌∷�
 use Rattle.disk.specs.declared.DiskError.{DiskError}
 use Rattle.disk.specs.declared.DiskError.TheVariants as disk
 use Rattle.disk.specs.{State}
-use Rattle.record_log.specs.Grammar.{IsClosed}
-use Rattle.record_log.specs.Push.{IsDurableAs}
+use Rattle.record_log.specs.{IsClosed}
+use Rattle.record_log.specs.{IsDurableAs}
 
 -- a file whose gate is as is said: open, with bytes behind it, or closed
 abbrev pub HasGate : Bool → List ℕ → Type 0

@@ -5,7 +5,7 @@ use Rattle.std.specs.Int.{w16, w64, to_be_bytes}
 use Rattle.kv_types.specs.declared.bounds.TheConstants.{MAX_NUMBER}
 use Rattle.chain_model.specs.{IsId}
 use Rattle.disk.specs.{State, Contents, IsFileOutcome}
-use Rattle.record_log.specs.Grammar.{IsClosed, Represents}
+use Rattle.record_log.specs.{IsClosed, Represents}
 use Rattle.manifest.specs.Versions.{NodeVersion, Change, empty, AreFit, after_all}
 use Rattle.manifest.specs.Edits.{IsChange, change_text}
 

@@ -2,7 +2,7 @@
 ghost use Rattle.std.specs.Prelude.{◌≡◌, ◌⊎◌, ◌<◌, ◌≤◌, length, IfOk, IfErr};
 ghost use Rattle.std.specs.Prelude.{MatchResult, MatchOption};
 ghost use Rattle.disk.specs.{Contents, IsSame, IsStill, KeepsDisk, contents, seen};
-ghost use Rattle.record_log.specs.Grammar.{IsClosed};
+ghost use Rattle.record_log.specs.{IsClosed};
 ghost use Rattle.kv_types.specs.declared.bounds.TheConstants.{MAX_NUMBER};
 ghost use Rattle.manifest.specs.Errors.{IsManifestExternal, ManifestFailsDevice};
 ghost use Rattle.manifest.specs.Heads.{HeadIs, IsFilled, NoneCounts, SlotCounts};

@@ -6,6 +6,7 @@ ghost use Rattle.manifest.specs.Laws.{VersionIsOne, VersionsAreLawful};
 ghost use Rattle.manifest.specs.Manifests.{ManifestHasSlots};
 
 use configurations::laws::test_decides_config;
+use record_log::records_are_unique;
 
 /// No two edits have one spelling.
 pub fn changes_differ()
@@ -25,6 +26,7 @@ pub fn version_is_one()
     ensures lawful { VersionsAreLawful }
 {
     changes_differ(); // law: no two edits have one spelling
+    records_are_unique(); // law: bytes represent one list of records at most
 }
 
 /// A new slot, a table that is added and one that is given up, byte by byte.

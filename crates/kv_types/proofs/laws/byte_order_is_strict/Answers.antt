@@ -1,4 +1,4 @@
-use Rattle.kv_types.proofs.ByteOrder.{below-Less, Less-below, below_is_strict}
+use Rattle.kv_types.specs.ByteOrderLemmas.{below-Less, Less-below, below_is_strict}
 use Rattle.kv_types.proofs.laws.byte_order_is_strict.Goals as goal
 
 pub returns-clause-strict : goal.returns-clause-strict

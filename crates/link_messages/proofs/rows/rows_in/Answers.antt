@@ -2,7 +2,8 @@ use Rattle.std.proofs.Common.{◌≡◌, ◌++◌, ◌∷◌, []}
 use Rattle.std.proofs.lemmas.Result.{err_from_is_err_and}
 use Rattle.byte_fields.specs.{many}
 use Rattle.link_messages.specs.Reading.{row_at}
-use Rattle.link_messages.proofs.Loop.{goes_on, ends, is_done}
+use Rattle.byte_fields.specs.LoopLemmas.{goes_on, is_done}
+use Rattle.link_messages.proofs.Loop.{ends}
 use Rattle.link_messages.proofs.rows.rows_in.Goals as goal
 
 pub returns-in_err-row_of : goal.returns-in_err-row_of

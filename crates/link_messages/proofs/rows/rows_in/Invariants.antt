@@ -1,7 +1,7 @@
 use Rattle.std.proofs.Common.{◌≡◌, ◌-◌}
 use Rattle.byte_fields.specs.{many}
 use Rattle.link_messages.specs.Reading.{row_at}
-use Rattle.link_messages.proofs.Loop.{with_front}
+use Rattle.byte_fields.specs.LoopLemmas.{with_front}
 use Rattle.link_messages.proofs.rows.rows_in.Given as goal
 
 abbrev pub invariant-loop : goal.invariant-loop

@@ -2,7 +2,7 @@ use Rattle.manifest.proofs.VersionIsOne.{one_version, versions_are_lawful}
 use Rattle.manifest.proofs.laws.version_is_one.Goals as goal
 
 pub returns-clause-one : goal.returns-clause-one
-returns-clause-one c = one_version c.changes_differ.ensures
+returns-clause-one c = one_version c.changes_differ.ensures c.records_are_unique.ensures
 
 pub returns-clause-lawful : goal.returns-clause-lawful
 returns-clause-lawful c = versions_are_lawful

@@ -2,7 +2,8 @@ use Rattle.std.proofs.Common.{◌≡◌, ◌++◌, ◌∷◌, []}
 use Rattle.std.proofs.lemmas.Result.{err_from_is_err_and}
 use Rattle.byte_fields.specs.{many}
 use Rattle.manifest.specs.Reading.{count_field}
-use Rattle.manifest.proofs.Loop.{goes_on, ends, is_done}
+use Rattle.byte_fields.specs.LoopLemmas.{goes_on, is_done}
+use Rattle.manifest.proofs.Loop.{ends}
 use Rattle.manifest.proofs.reading.files_in.Goals as goal
 
 pub returns-in_err-count_of : goal.returns-in_err-count_of

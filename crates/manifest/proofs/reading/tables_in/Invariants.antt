@@ -1,7 +1,7 @@
 use Rattle.std.proofs.Common.{◌≡◌, ◌-◌}
 use Rattle.byte_fields.specs.{many}
 use Rattle.manifest.specs.Reading.{table_line_at}
-use Rattle.manifest.proofs.Loop.{with_front}
+use Rattle.byte_fields.specs.LoopLemmas.{with_front}
 use Rattle.manifest.proofs.reading.tables_in.Given as goal
 
 abbrev pub invariant-loop : goal.invariant-loop

@@ -4,7 +4,7 @@ use Rattle.std.proofs.lemmas.Bool.{false≢true}
 use Rattle.kv_types.specs.Order.{IsBelow}
 use Rattle.kv_types.specs.Spans.{Span}
 use Rattle.kv_types.specs.Pages.{IsWithin}
-use Rattle.kv_types.proofs.ByteOrder.{not_below, from_below}
+use Rattle.kv_types.specs.ByteOrderLemmas.{not_below, from_below}
 use Rattle.kv_types.proofs.range.Range.contains.Goals as goal
 
 below : (range : Span) (key from : List ℕ) → from ≡ range.from → IsBelow key from

@@ -3,7 +3,7 @@ use Rattle.std.proofs.Common.{arith}
 use Rattle.std.specs.Prelude.{IsNone}
 use Rattle.disk.specs.{Slot, seen}
 use Rattle.record_log.specs.{IsDurableAs}
-use Rattle.record_log.specs.Logs.{begun}
+use Rattle.record_log.specs.{begun}
 use Rattle.manifest.specs.Slots.{head_length}
 use Rattle.manifest.specs.Holds.{slot_behind}
 use Rattle.manifest.proofs.Begun.{held_begun, begun_stands, begun_long}

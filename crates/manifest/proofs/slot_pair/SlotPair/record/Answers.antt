@@ -1,4 +1,4 @@
-use Rattle.record_log.specs.Logs.{IsExpected}
+use Rattle.record_log.specs.{IsExpected}
 use Rattle.manifest.proofs.Records.{either_since, recorded, machine_only, errors_of}
 use Rattle.manifest.proofs.slot_pair.SlotPair.record.Goals as goal
 
