@@ -66,6 +66,13 @@ impl Manifest {
         &self.version
     }
 
+    /// The generation of the slot that counts. Each rewrite makes it one more.
+    pub fn generation(&self) -> u64
+        ensures { result ≡ generation_of self.now }
+    {
+        self.slots.generation()
+    }
+
     /// Creates the manifest of a new node on a disk without slots. Its log, file 3, was created
     /// before. It needs six device calls; a refusal or a crash may leave any slots.
     pub fn create<D: Disk>(

@@ -94,6 +94,13 @@ impl SlotPair {
         })
     }
 
+    /// The generation of the slot that counts.
+    pub fn generation(&self) -> u64
+        ensures { result ≡ self.now.generation }
+    {
+        self.generation
+    }
+
     /// Adds a record to the slot that counts. Four device calls.
     pub fn record<D: Disk>(
         &mut self,
