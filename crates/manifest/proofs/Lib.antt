@@ -10,3 +10,4 @@ pub mod Edited
 pub mod Replays
 pub mod Heads
 pub mod VersionIsOne
+pub mod Opened

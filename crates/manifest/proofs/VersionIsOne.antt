@@ -26,13 +26,13 @@ same_generation g h id other small short same =
     sym (from_be_bytes-to_be_bytes_8 g (omega (arith, small))) ∙ e
     ∙ from_be_bytes-to_be_bytes_8 h (omega (arith, short))
 
-same_id : (g h id other : ℕ) → IsId id → IsId other → slot_head g id ≡ slot_head h other
-    → id ≡ other
+pub same_id : (g h id other : ℕ) → id ≤ 65535 → other ≤ 65535
+    → slot_head g id ≡ slot_head h other → id ≡ other
 same_id g h id other is are same =
     let e : from_be_bytes w16 (to_be_bytes w16 id) ≡ from_be_bytes w16 (to_be_bytes w16 other) =
     ap (λ (l : List ℕ). from_be_bytes w16 (drop 9 l)) same in
-    sym (from_be_bytes-to_be_bytes_2 id (omega (arith, is.1))) ∙ e
-    ∙ from_be_bytes-to_be_bytes_2 other (omega (arith, are.1))
+    sym (from_be_bytes-to_be_bytes_2 id (omega (arith, is))) ∙ e
+    ∙ from_be_bytes-to_be_bytes_2 other (omega (arith, are))
 
 -- one open slot has one head and one list
 same_slot : RecordsAreUnique → (file : Option (List ℕ)) (g h id other : ℕ) (records others : List (List ℕ))
@@ -40,24 +40,32 @@ same_slot : RecordsAreUnique → (file : Option (List ℕ)) (g h id other : ℕ)
     → IsSomeAnd file (IsSlot h other others) → (id ≡ other) × (records ≡ others)
 same_slot unique None g h id other records others is are a b = absurd a
 same_slot unique (Some bytes) g h id other records others is are a b = (
-  same_id g h id other is are (sym a.head ∙ b.head),
+  same_id g h id other is.1 are.1 (sym a.head ∙ b.head),
   unique (drop head_length bytes) records others a.log b.log,
 )
 
 -- an open slot that yields has the lesser generation
-below : (file : Option (List ℕ)) (g h id : ℕ) (records : List (List ℕ)) → g ≤ MAX_NUMBER
-    → h ≤ MAX_NUMBER → IsSomeAnd file (IsSlot h id records) → IsSomeAnd file (IsSuperseded g) → h < g
-below None g h id records small short a b = absurd a
-below (Some bytes) g h id records small short a (inl closed) =
+pub below : (file : Option (List ℕ)) (g h id : ℕ) → g ≤ MAX_NUMBER → h ≤ MAX_NUMBER
+    → IsSomeAnd file (λ bytes. take head_length bytes ≡ slot_head h id)
+    → IsSomeAnd file (IsSuperseded g) → h < g
+below None g h id small short a b = absurd a
+below (Some bytes) g h id small short a (inl closed) =
     let first : closed.0 ≡ 1 =
     ap (λ (l : List ℕ). get_or l 0 0)
-    (sym (ap (λ (l : List ℕ). take head_length l) closed.3) ∙ a.head) in
+    (sym (ap (λ (l : List ℕ). take head_length l) closed.3) ∙ a) in
     absurd (closed.2 first)
-below (Some bytes) g h id records small short a (inr lesser) =
+below (Some bytes) g h id small short a (inr lesser) =
     let same : h ≡ lesser.0 =
     same_generation h lesser.0 id lesser.1 short (omega (arith, small, lesser.3))
-    (sym a.head ∙ lesser.2) in
+    (sym a ∙ lesser.2) in
     omega (arith, same, lesser.3)
+
+-- a slot with records has a head
+pub head_is : (file : Option (List ℕ)) (g id : ℕ) (records : List (List ℕ))
+    → IsSomeAnd file (IsSlot g id records)
+    → IsSomeAnd file (λ bytes. take head_length bytes ≡ slot_head g id)
+head_is None g id records a = absurd a
+head_is (Some bytes) g id records a = a.head
 
 -- two slots cannot both count
 not_both : (id other : ℕ) (records others : List (List ℕ)) (left : Contents)
@@ -65,10 +73,12 @@ not_both : (id other : ℕ) (records others : List (List ℕ)) (left : Contents)
     → a.slot ≡ other_slot b.slot → b.slot ≡ other_slot a.slot → ⊥
 not_both id other records others left a b at_a at_b =
     let less : b.generation < a.generation =
-    below (left b.slot) a.generation b.generation other others a.limit b.limit b.counting
+    below (left b.slot) a.generation b.generation other a.limit b.limit
+    (head_is (left b.slot) b.generation other others b.counting)
     (subst (λ (f : ℕ). IsSomeAnd (left f) (IsSuperseded a.generation)) (sym at_b) a.other) in
     let more : a.generation < b.generation =
-    below (left a.slot) b.generation a.generation id records b.limit a.limit a.counting
+    below (left a.slot) b.generation a.generation id b.limit a.limit
+    (head_is (left a.slot) a.generation id records a.counting)
     (subst (λ (f : ℕ). IsSomeAnd (left f) (IsSuperseded b.generation)) (sym at_a) b.other) in
     omega (arith, less, more)
 

@@ -9,5 +9,6 @@ pub mod Holds
 pub mod Manifests
 pub mod Replays
 pub mod Heads
+pub mod Opening
 pub mod Laws
 pub mod Examples

@@ -1,13 +1,15 @@
 -- An open manifest, and the version that its slots represent.
 use Rattle.std.specs.Prelude.{◌≡◌, ◌≢◌, ℕ, List, [], map, All, IsTrue}
 use Rattle.chain_model.specs.{IsId}
-use Rattle.disk.specs.{State}
+use Rattle.disk.specs.{State, Contents}
 use Rattle.record_log.specs.{file_of}
 use Rattle.record_log.specs.{HasNoRoom}
 use Rattle.manifest.specs.declared.manifest.Manifest.{Manifest}
+use Rattle.manifest.specs.declared.error.ManifestError.{ManifestError}
+use Rattle.manifest.specs.declared.error.ManifestError.TheVariants as manifest
 use Rattle.manifest.specs.Versions.{NodeVersion, Change, empty, AreFit, after_all}
 use Rattle.manifest.specs.Edits.{IsChange, change_text}
-use Rattle.manifest.specs.Slots.{IsSlotFile, other_slot}
+use Rattle.manifest.specs.Slots.{IsNotCreated, IsSlotFile, ManifestRepresents, other_slot}
 use Rattle.manifest.specs.Holds.{SlotsHold}
 
 -- an earlier call failed, so the manifest has to be opened again
@@ -44,6 +46,20 @@ pub record ManifestHolds (disk : State) (manifest : Manifest) (named : NodeVersi
   pub fit : AreFit empty changes
   pub is : named.version ≡ after_all empty changes
   pub records : SlotsHold disk manifest.slots named.id (map change_text changes)
+
+-- the manifest holds the version that the files represented
+pub record IsOpenedManifest (left : Contents) (new : State) (manifest : Manifest) : Type 0 where
+  pub had : ManifestRepresents (version_of manifest) left
+  pub holds : ManifestHolds new manifest (version_of manifest)
+
+-- why files are not opened: the machine refused, no store was created, or they represent no version
+abbrev pub ManifestRefusal : ManifestError → Contents → Type 0
+ManifestRefusal manifest.Disk left = Unit {0}
+ManifestRefusal manifest.Damaged left =
+    (IsNotCreated left → ⊥) × ((named : NodeVersion) → ManifestRepresents named left → ⊥)
+ManifestRefusal manifest.NotCreated left = IsNotCreated left
+ManifestRefusal manifest.Memory left = Unit {0}
+ManifestRefusal manifest.Failed left = ⊥
 
 -- the files that a manifest changes are the two slots
 abbrev pub ManifestHasSlots : Type 0

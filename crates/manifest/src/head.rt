@@ -1,12 +1,13 @@
 // The heads of the slots, and which slot counts.
 ghost use Rattle.std.specs.Prelude.{◌≡◌, ◌⊎◌, ◌<◌, ◌≤◌, length, IfOk, IfErr};
 ghost use Rattle.std.specs.Prelude.{MatchResult, MatchOption};
-ghost use Rattle.disk.specs.{Contents, IsSame, IsStill, KeepsDisk, contents, seen};
+ghost use Rattle.disk.specs.{Contents, IsSame, IsStill, KeepsDisk, seen};
 ghost use Rattle.record_log.specs.{IsClosed};
 ghost use Rattle.kv_types.specs.declared.bounds.TheConstants.{MAX_NUMBER};
 ghost use Rattle.manifest.specs.Errors.{IsManifestExternal, ManifestFailsDevice};
 ghost use Rattle.manifest.specs.Heads.{HeadIs, IsFilled, NoneCounts, SlotCounts};
-ghost use Rattle.manifest.specs.Slots.{slot_head};
+ghost use Rattle.manifest.specs.Slots.{IsSlotFile, slot_head};
+ghost use Rattle.manifest.specs.Opening.{SlotsRead};
 
 use crate::ManifestError;
 use byte_fields::{read_u16, read_u64};
@@ -118,6 +119,7 @@ fn counts(
 fn counting(first: Head, second: Head) -> Result<CountingSlot, ManifestError>
     ensures only { IfErr result (λ e.
         (e ≡ ManifestError.Damaged) ⊎ (e ≡ ManifestError.NotCreated)) }
+    ensures one { IfOk result (λ it. IsSlotFile it.slot) }
     ensures counts { (left : Contents) → HeadIs first (left 1) → HeadIs second (left 2) →
         MatchResult result (λ it. SlotCounts it left) (λ e. NoneCounts e left) }
 {
@@ -144,9 +146,9 @@ fn counting(first: Head, second: Head) -> Result<CountingSlot, ManifestError>
 /// The slot that counts, as reads give both slots. At most four reads.
 pub fn counting_slot<D: Disk>(disk: &mut D) -> Result<CountingSlot, ManifestError>
     ensures kept { KeepsDisk D.Disk disk.old disk.new (ManifestFailsDevice result) ⊥ IsSame }
-    ensures counts { D.is_honest disk.old → MatchResult result
-        (λ it. SlotCounts it (contents (D.state disk.old)))
-        (λ e. IsManifestExternal e ⊎ NoneCounts e (contents (D.state disk.old))) }
+    ensures one { IfOk result (λ it. IsSlotFile it.slot) }
+    ensures counts { (left : Contents) → D.is_honest disk.old → SlotsRead (D.state disk.old) left →
+        MatchResult result (λ it. SlotCounts it left) (λ e. IsManifestExternal e ⊎ NoneCounts e left) }
     ensures still { IsStill D.Disk disk.old disk.new }
 {
     let first = head_of(disk, 1)?;

@@ -2,7 +2,7 @@
 //! laws.
 ghost use Rattle.manifest.specs.Edits.{ChangesDiffer};
 ghost use Rattle.manifest.specs.Examples.{FirstSlotIs, TableIs};
-ghost use Rattle.manifest.specs.Laws.{VersionIsOne, VersionsAreLawful};
+ghost use Rattle.manifest.specs.Laws.{VersionIsOne, VersionsAreCreated, VersionsAreLawful};
 ghost use Rattle.manifest.specs.Manifests.{ManifestHasSlots};
 
 use configurations::laws::test_decides_config;
@@ -20,10 +20,11 @@ pub fn manifest_has_slots()
     ensures { ManifestHasSlots }
 {}
 
-/// The files represent one version at most, and a lawful one.
+/// The files represent one version at most, and a lawful one, of a store that was created.
 pub fn version_is_one()
     ensures one { VersionIsOne }
     ensures lawful { VersionsAreLawful }
+    ensures created { VersionsAreCreated }
 {
     changes_differ(); // law: no two edits have one spelling
     records_are_unique(); // law: bytes represent one list of records at most

@@ -12,6 +12,7 @@ pub mod laws;
 mod line;
 mod manifest;
 mod next;
+mod opening;
 mod reading;
 mod replace;
 mod replay;

@@ -3,7 +3,7 @@ ghost use Rattle.std.specs.Prelude.{◌≡◌, ◌⊎◌, ◌<◌, ◌≤◌, le
 ghost use Rattle.std.specs.Prelude.{IsNone};
 ghost use Rattle.kv_types.specs.declared.bounds.TheConstants.{MAX_NUMBER};
 ghost use Rattle.record_log.specs.declared.log.TheConstants.{MAX_RECORD};
-ghost use Rattle.disk.specs.{AlwaysLeaves, IsSameBut, KeepsDisk, seen};
+ghost use Rattle.disk.specs.{AlwaysLeaves, IsSameBut, IsStill, KeepsDisk, contents, seen};
 ghost use Rattle.manifest.specs.Errors.{ManifestFailsDevice, IsManifestExternal};
 ghost use Rattle.manifest.specs.Versions.{NodeVersion, IsFit, first_version, node_version_after};
 ghost use Rattle.manifest.specs.Edits.{IsChange};
@@ -11,9 +11,12 @@ ghost use Rattle.manifest.specs.Lawful.{IsWholeEdit};
 ghost use Rattle.manifest.specs.Slots.{SlotsAreLeft, ManifestRepresents};
 ghost use Rattle.manifest.specs.Holds.{SparesOthers};
 ghost use Rattle.manifest.specs.Manifests.{ManifestHolds, ManifestHasFailed, ManifestHasNoRoom};
+ghost use Rattle.manifest.specs.Manifests.{IsOpenedManifest, ManifestRefusal};
 ghost use Rattle.manifest.specs.Manifests.{counting_file, generation_of, spare_file, version_of};
 
 use crate::changed::version_after;
+use crate::laws::version_is_one;
+use crate::opening::open_slots;
 use crate::slot_pair::SlotPair;
 use crate::spelling::{bytes_of, bytes_of_whole};
 use crate::{LogLine, ManifestError, StoreVersion, VersionEdit};
@@ -91,6 +94,27 @@ impl Manifest {
         let version = begun_by(alloc, id, config)?;
         let bytes = whole_bytes(alloc, &version)?;
         let slots = SlotPair::create(alloc, disk, id.get(), &bytes)?;
+        Ok(Manifest {
+            slots,
+            version,
+            has_failed: false,
+        })
+    }
+
+    /// Opens the manifest that the files represent. Both slots are synced before they are read.
+    pub fn open<D: Disk>(alloc: Global, disk: &mut D) -> Result<Manifest, ManifestError>
+        ensures kept { KeepsDisk D.Disk disk.old disk.new (ManifestFailsDevice result) ⊥
+            SparesOthers }
+        ensures told { D.is_honest disk.old → MatchResult result
+            (IsOpenedManifest (contents (D.state disk.old)) (D.state disk.new))
+            (λ e. ManifestRefusal e (contents (D.state disk.old))) }
+        ensures opened { (named : NodeVersion) → D.is_honest disk.old →
+            ManifestRepresents named (contents (D.state disk.old)) → MatchResult result
+            (λ manifest. ManifestHolds (D.state disk.new) manifest named) IsManifestExternal }
+        ensures still { IsStill D.Disk disk.old disk.new }
+    {
+        version_is_one(); // law: files represent one version at most
+        let (slots, version) = open_slots(alloc, disk)?;
         Ok(Manifest {
             slots,
             version,

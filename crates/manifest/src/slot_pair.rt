@@ -12,6 +12,7 @@ ghost use Rattle.manifest.specs.Slots.{SlotsAreLeft, SlotsRepresent, head_length
 ghost use Rattle.manifest.specs.Holds.{SlotsHold, SparesOthers, closed_slot};
 
 use crate::begin::begin;
+use crate::head::CountingSlot;
 use crate::replace::replace;
 use disk::{Disk, MemDisk};
 use record_log::{Log, LogError};
@@ -28,8 +29,8 @@ pub struct SlotPair {
     log: Log,
 }
 
-// The place where a slot's log begins.
-const HEAD_LENGTH: u64 = 11;
+/// The place where a slot's log begins.
+pub const HEAD_LENGTH: u64 = 11;
 
 // The bytes of a slot with one record, whose gate is closed.
 fn bytes_of_slot(alloc: Global, generation: u64, id: u16, one: &[u8]) -> Result<Vec<u8>, AllocError>
@@ -92,6 +93,25 @@ impl SlotPair {
             other_is_open: false,
             log,
         })
+    }
+
+    /// The slots of which this one counts, with its log.
+    pub fn opened(it: CountingSlot, log: Log) -> SlotPair
+        ensures { result ≡ record {
+          slot = it.slot;
+          generation = it.generation;
+          id = it.id;
+          other_is_open = it.other_is_open;
+          log = log;
+        } }
+    {
+        SlotPair {
+            slot: it.slot,
+            generation: it.generation,
+            id: it.id,
+            other_is_open: it.other_is_open,
+            log,
+        }
     }
 
     /// The generation of the slot that counts.

@@ -1,5 +1,5 @@
-use Rattle.std.proofs.Common.{Option, List, ℕ, ap, subst}
-use Rattle.disk.specs.{contents, seen}
+use Rattle.std.proofs.Common.{Option, List, ℕ, ap, inl, refl, subst, ◌∙◌, inr}
+use Rattle.disk.specs.{seen}
 use Rattle.disk.specs.StillLemmas.{still_more}
 use Rattle.manifest.specs.Heads.{HeadIs}
 use Rattle.manifest.proofs.Heads.{or_else}
@@ -18,11 +18,10 @@ returns-clause-still g c = λ honest.
 
 -- the second head is that of the disk before the first was read
 pub returns-clause-counts : goal.returns-clause-counts
-returns-clause-counts g c = λ honest.
-    let s0 = g.D.Disk.state c.args.disk.now in
-    let s1 = g.D.Disk.state c.head_of.new.disk in
-    let same = ap seen (c.head_of.ensures.kept.files honest 2) in
+returns-clause-counts g c = λ left honest read.
+    let first = c.in_ok-first.ensures.is honest in
     let second = c.in_ok-second.ensures.is (c.head_of.ensures.kept.honest.1 honest) in
-    or_else _ _ _ c.counting.result (c.counting.ensures.counts (contents s0)
-    (c.in_ok-first.ensures.is honest)
+    let same = ap seen (c.head_of.ensures.kept.files honest 2) ∙ read 2 (inr refl) in
+    or_else _ _ _ c.counting.result (c.counting.ensures.counts left
+    (subst (λ (file : Option (List ℕ)). HeadIs c.in_ok-first.first file) (read 1 (inl refl)) first)
     (subst (λ (file : Option (List ℕ)). HeadIs c.in_ok-second.second file) same second))

@@ -1,4 +1,5 @@
 use Rattle.manifest.proofs.VersionIsOne.{one_version, versions_are_lawful}
+use Rattle.manifest.proofs.Opened.{were_created}
 use Rattle.manifest.proofs.laws.version_is_one.Goals as goal
 
 pub returns-clause-one : goal.returns-clause-one
@@ -6,3 +7,6 @@ returns-clause-one c = one_version c.changes_differ.ensures c.records_are_unique
 
 pub returns-clause-lawful : goal.returns-clause-lawful
 returns-clause-lawful c = versions_are_lawful
+
+pub returns-clause-created : goal.returns-clause-created
+returns-clause-created c = were_created

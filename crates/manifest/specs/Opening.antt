@@ -1,0 +1,31 @@
+-- Slots that are opened.
+use Rattle.std.specs.Prelude.{◌≡◌, ℕ, List, Some, map}
+use Rattle.chain_model.specs.{IsId}
+use Rattle.disk.specs.{State, Contents, seen}
+use Rattle.record_log.specs.{IsDurableAs}
+use Rattle.manifest.specs.declared.slot_pair.SlotPair.{SlotPair}
+use Rattle.manifest.specs.Versions.{NodeVersion, Change, empty, after_all}
+use Rattle.manifest.specs.Edits.{change_text}
+use Rattle.manifest.specs.Slots.{IsSlotFile, SlotsRepresent}
+use Rattle.manifest.specs.Holds.{SlotsHold}
+use Rattle.manifest.specs.Replays.{IsEditHistory}
+
+-- both slots read as these contents
+abbrev pub SlotsRead : State → Contents → Type 0
+SlotsRead disk left = (slot : ℕ) → IsSlotFile slot → seen (disk slot) ≡ left slot
+
+-- both slots read as these contents, and a crash leaves them so
+pub record SlotsAreKept (disk : State) (left : Contents) : Type 0 where
+  pub read : SlotsRead disk left
+  pub durable : (slot : ℕ) → IsSlotFile slot → (bytes : List ℕ) → left slot ≡ Some bytes →
+      IsDurableAs disk slot bytes
+
+-- the files represented the version, and the slots hold it
+pub record AreOpened (left : Contents) (new : State) (slots : SlotPair) (named : NodeVersion)
+    : Type 0 where
+  pub id : IsId named.id
+  pub changes : List Change
+  pub history : IsEditHistory changes
+  pub is : named.version ≡ after_all empty changes
+  pub had : SlotsRepresent named.id (map change_text changes) left
+  pub holds : SlotsHold new slots named.id (map change_text changes)
