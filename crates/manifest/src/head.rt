@@ -148,7 +148,8 @@ pub fn counting_slot<D: Disk>(disk: &mut D) -> Result<CountingSlot, ManifestErro
     ensures kept { KeepsDisk D.Disk disk.old disk.new (ManifestFailsDevice result) ⊥ IsSame }
     ensures one { IfOk result (λ it. IsSlotFile it.slot) }
     ensures counts { (left : Contents) → D.is_honest disk.old → SlotsRead (D.state disk.old) left →
-        MatchResult result (λ it. SlotCounts it left) (λ e. IsManifestExternal e ⊎ NoneCounts e left) }
+        MatchResult result (λ it. SlotCounts it left)
+        (λ e. IsManifestExternal e ⊎ NoneCounts e left) }
     ensures still { IsStill D.Disk disk.old disk.new }
 {
     let first = head_of(disk, 1)?;

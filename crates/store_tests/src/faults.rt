@@ -36,7 +36,7 @@ fn all_fail(disk: &mut MemDisk, call: Act) -> bool {
 }
 
 // Arms a disk with no fault, or lets it crash, so that it works again.
-fn mend(rt: &impl Abort, alloc: Global, disk: &mut MemDisk, choice: Option<Choice>) {
+pub fn mend(rt: &impl Abort, alloc: Global, disk: &mut MemDisk, choice: Option<Choice>) {
     match choice {
         Some(choice) => crash(rt, alloc, disk, choice),
         None => arm(disk, Fault::None),

@@ -22,6 +22,8 @@ mod lists;
 #[cfg(test)]
 mod logs;
 #[cfg(test)]
+mod manifests;
+#[cfg(test)]
 mod round_trips;
 #[cfg(test)]
 mod steps;

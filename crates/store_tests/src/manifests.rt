@@ -1,0 +1,383 @@
+// The bytes of a manifest's slots, openings of slots that represent no version, and faults.
+use crate::cases::{Case, all_hold, has_memory, holds_at, is_so};
+use crate::crashes::{Choice, arm};
+use crate::faults::mend;
+use crate::items::{config_of, copy_of, filled, is_same, origin};
+use disk::{Disk, Fault, MemDisk};
+use kv_types::bounds::MAX_NUMBER;
+use manifest::{Manifest, ManifestError};
+use std::alloc::Global;
+use std::process::Abort;
+
+// The slot of node 1 alone after its creation: a head of generation 1, a record, a closed gate. The
+// record is the next file 4, floor, flushed and epoch 0, the ids, and log 3 from batch 1.
+const SLOT: &[u8] = &[
+    1, 0, 0, 0, 0, 0, 0, 0, 1, 0, 1, 1, 0, 0, 0, 55, //
+    0, 0, 0, 0, 0, 0, 0, 4, 0, 0, 0, 0, 0, 0, 0, 0, 0, 0, 0, 0, 0, 0, 0, 0, 0, 0, 0, 0, 1, 0, 1, //
+    0, 0, 0, 1, 0, 0, 0, 0, 0, 0, 0, 3, 0, 0, 0, 0, 0, 0, 0, 1, 0, 0, 0, 0, 0,
+];
+
+// The slot with this byte at this place.
+fn slot_with(rt: &impl Abort, alloc: Global, at: usize, byte: u8) -> Vec<u8> {
+    let mut bytes = copy_of(rt, alloc, SLOT);
+    *bytes.get_mut(at).expect(rt, "a place") = byte;
+    bytes
+}
+
+// The slot with this generation.
+fn slot_of(rt: &impl Abort, alloc: Global, generation: u8) -> Vec<u8> {
+    slot_with(rt, alloc, 8, generation)
+}
+
+fn put_file(rt: &impl Abort, disk: &mut MemDisk, file: u64, bytes: &[u8]) {
+    disk.write_at(file, 0, bytes).expect(rt, "a write");
+    disk.sync(file).expect(rt, "a sync");
+}
+
+fn disk_of(rt: &impl Abort, alloc: Global, first: &[u8], second: &[u8]) -> MemDisk {
+    let mut disk = MemDisk::new(alloc);
+    put_file(rt, &mut disk, 1, first);
+    put_file(rt, &mut disk, 2, second);
+    disk
+}
+
+// Whether the file has these bytes.
+fn has_bytes(rt: &impl Abort, alloc: Global, disk: &mut MemDisk, file: u64, want: &[u8]) -> bool {
+    let mut bytes = filled(rt, alloc, 0, want.len());
+    disk.read(file, 0, &mut bytes).expect(rt, "a read");
+    disk.length(file) == Ok(want.len() as u64) && is_same(&bytes, want)
+}
+
+// The calls of a manifest, without their contracts. Want of memory ends the test.
+fn try_open(rt: &impl Abort, alloc: Global, disk: &mut MemDisk) -> Result<Manifest, ManifestError> {
+    let opened = Manifest::open(alloc, disk);
+    has_memory(rt, is_memory(&opened));
+    opened
+}
+
+fn is_memory(opened: &Result<Manifest, ManifestError>) -> bool {
+    matches!(opened, Err(ManifestError::Memory))
+}
+
+fn open(rt: &impl Abort, alloc: Global, disk: &mut MemDisk) -> Manifest {
+    try_open(rt, alloc, disk).expect(rt, "a manifest")
+}
+
+fn create(rt: &impl Abort, alloc: Global, disk: &mut MemDisk) -> Manifest {
+    let (_epoch, id) = origin(rt, 0, 1);
+    let config = config_of(rt, alloc, &[1]);
+    Manifest::create(alloc, disk, id, &config).expect(rt, "a manifest")
+}
+
+// The refusal of a rewrite, if it is refused.
+fn refusal(
+    rt: &impl Abort,
+    alloc: Global,
+    disk: &mut MemDisk,
+    manifest: &mut Manifest,
+) -> Option<ManifestError> {
+    if MAX_NUMBER <= manifest.generation() {
+        return None;
+    }
+    let refused = manifest.rewrite(alloc, disk).err();
+    has_memory(rt, refused == Some(ManifestError::Memory));
+    refused
+}
+
+// The generation of the slots that are opened.
+fn answer(rt: &impl Abort, alloc: Global, disk: &mut MemDisk) -> Result<u64, ManifestError> {
+    let manifest = try_open(rt, alloc, disk)?;
+    Ok(manifest.generation())
+}
+
+// What is opened, by its numbers: of the node, the next file, the floor, the flushed batches, and
+// how many logs and tables there are.
+fn numbers(rt: &impl Abort, alloc: Global, disk: &mut MemDisk) -> [u64; 6] {
+    let manifest = open(rt, alloc, disk);
+    let state = manifest.state();
+    let (logs, tables) = (state.logs.len() as u64, state.tables.len() as u64);
+    let id = u64::from(state.id.get());
+    [
+        id,
+        state.next_file,
+        state.floor,
+        state.flushed,
+        logs,
+        tables,
+    ]
+}
+
+const NEW: [u64; 6] = [1, 4, 0, 0, 1, 0];
+
+// Whether the slots are these, and a new version is opened.
+fn has_slots(
+    rt: &impl Abort,
+    alloc: Global,
+    disk: &mut MemDisk,
+    first: &[u8],
+    second: &[u8],
+) -> bool {
+    has_bytes(rt, alloc, disk, 1, first)
+        && has_bytes(rt, alloc, disk, 2, second)
+        && numbers(rt, alloc, disk) == NEW
+}
+
+// The first rewrite is of a slot with a closed gate, and the later ones of one with an open gate.
+#[test]
+fn slots_byte_by_byte(rt: HostRuntime) {
+    let alloc = rt.alloc();
+    let mut disk = MemDisk::new(alloc);
+    let mut manifest = create(&rt, alloc, &mut disk);
+    is_so(&rt, has_slots(&rt, alloc, &mut disk, SLOT, &[0]), "created");
+    let second = slot_of(&rt, alloc, 2);
+    is_so(
+        &rt,
+        refusal(&rt, alloc, &mut disk, &mut manifest).is_none(),
+        "the first",
+    );
+    is_so(
+        &rt,
+        has_slots(&rt, alloc, &mut disk, SLOT, &second),
+        "rewritten",
+    );
+    let third = slot_of(&rt, alloc, 3);
+    is_so(
+        &rt,
+        refusal(&rt, alloc, &mut disk, &mut manifest).is_none(),
+        "the second",
+    );
+    is_so(
+        &rt,
+        has_slots(&rt, alloc, &mut disk, &third, &second),
+        "rewritten again",
+    );
+}
+
+const DAMAGED: Option<ManifestError> = Some(ManifestError::Damaged);
+
+const NOT_CREATED: Option<ManifestError> = Some(ManifestError::NotCreated);
+
+// The refusal of opening the slot with this byte at this place, beside a closed one.
+fn refusal_with(rt: &impl Abort, alloc: Global, at: usize, byte: u8) -> Option<ManifestError> {
+    let bytes = slot_with(rt, alloc, at, byte);
+    let mut disk = disk_of(rt, alloc, &bytes, &[0]);
+    answer(rt, alloc, &mut disk).err()
+}
+
+// A place of the slot, the byte there, and the refusal.
+struct Changed(usize, u8, Option<ManifestError>);
+
+impl Case for Changed {
+    fn holds(&self, rt: &impl Abort, alloc: Global) -> bool {
+        refusal_with(rt, alloc, self.0, self.1) == self.2
+    }
+}
+
+static CHANGED: [Changed; 27] = [
+    // The gate, the generation and the id.
+    Changed(0, 0, NOT_CREATED),
+    Changed(0, 2, NOT_CREATED),
+    Changed(1, 0x7f, None),
+    Changed(1, 0x80, DAMAGED),
+    Changed(10, 9, None),
+    Changed(10, 0, DAMAGED),
+    // The gate and the length of the record.
+    Changed(11, 0, DAMAGED),
+    Changed(15, 54, DAMAGED),
+    Changed(15, 56, DAMAGED),
+    // Next file, floor, flushed and epoch.
+    Changed(23, 5, None),
+    Changed(23, 3, DAMAGED),
+    Changed(16, 0x80, DAMAGED),
+    Changed(31, 7, None),
+    Changed(24, 0x80, DAMAGED),
+    Changed(32, 0x80, DAMAGED),
+    Changed(43, 15, None),
+    Changed(43, 16, DAMAGED),
+    // The ids.
+    Changed(44, 0, DAMAGED),
+    Changed(46, 0, DAMAGED),
+    // The log: how many, its file, its first number.
+    Changed(50, 0, DAMAGED),
+    Changed(58, 2, DAMAGED),
+    Changed(58, 4, DAMAGED),
+    Changed(66, 0, DAMAGED),
+    // A table that is given up, one that is added, and the last gate.
+    Changed(68, 1, DAMAGED),
+    Changed(70, 1, DAMAGED),
+    Changed(71, 1, DAMAGED),
+    Changed(71, 9, None),
+];
+
+#[test]
+fn damaged_slots(rt: HostRuntime) {
+    all_hold(&rt, rt.alloc(), &CHANGED);
+}
+
+#[test]
+fn each_byte_changed(rt: HostRuntime) {
+    for at in 0..72 {
+        for byte in &[0, 1, 2, 0x80, 0xff] {
+            let refused = refusal_with(&rt, rt.alloc(), at, *byte);
+            let is_told = refused.is_none() || refused == DAMAGED || refused == NOT_CREATED;
+            holds_at(&rt, at, is_told);
+        }
+    }
+}
+
+// The refusal of opening so many bytes of the slot beside a closed one.
+fn refusal_of_first(rt: &impl Abort, alloc: Global, len: usize) -> Option<ManifestError> {
+    let bytes = copy_of(rt, alloc, SLOT.get(..len).expect(rt, "at most 72 bytes"));
+    let mut disk = disk_of(rt, alloc, &bytes, &[0]);
+    answer(rt, alloc, &mut disk).err()
+}
+
+// An empty slot is not open; a longer one is, and ends before its log or inside it.
+#[test]
+fn slots_cut_short(rt: HostRuntime) {
+    let is_empty = refusal_of_first(&rt, rt.alloc(), 0) == NOT_CREATED;
+    is_so(&rt, is_empty, "an empty slot");
+    for len in 1..72 {
+        let is_damaged = refusal_of_first(&rt, rt.alloc(), len) == DAMAGED;
+        holds_at(&rt, len, is_damaged);
+    }
+}
+
+// What a slot is.
+#[derive(Clone, Copy)]
+enum Part {
+    Absent,
+    Bytes(&'static [u8]),
+    Slot(u8),
+}
+
+fn put_part(rt: &impl Abort, alloc: Global, disk: &mut MemDisk, file: u64, part: Part) {
+    match part {
+        Part::Absent => {}
+        Part::Bytes(bytes) => put_file(rt, disk, file, bytes),
+        Part::Slot(generation) => put_file(rt, disk, file, &slot_of(rt, alloc, generation)),
+    }
+}
+
+// Both slots, and the generation that is opened or the refusal.
+struct Pair(Part, Part, Result<u64, ManifestError>);
+
+impl Pair {
+    fn answer(
+        &self,
+        rt: &impl Abort,
+        alloc: Global,
+        (first, second): (u64, u64),
+    ) -> Result<u64, ManifestError> {
+        let mut disk = MemDisk::new(alloc);
+        put_part(rt, alloc, &mut disk, first, self.0);
+        put_part(rt, alloc, &mut disk, second, self.1);
+        answer(rt, alloc, &mut disk)
+    }
+}
+
+impl Case for Pair {
+    // Whether that is answered, in whatever order the slots stand.
+    fn holds(&self, rt: &impl Abort, alloc: Global) -> bool {
+        self.answer(rt, alloc, (1, 2)) == self.2 && self.answer(rt, alloc, (2, 1)) == self.2
+    }
+}
+
+// A head of generation 0, and one of generation 9, without a log.
+const LESSER: Part = Part::Bytes(&[1, 0, 0, 0, 0, 0, 0, 0, 0, 0, 1]);
+
+const GREATER: Part = Part::Bytes(&[1, 0, 0, 0, 0, 0, 0, 0, 9, 0, 1]);
+
+static PAIRS: [Pair; 12] = [
+    Pair(Part::Absent, Part::Absent, Err(ManifestError::NotCreated)),
+    Pair(
+        Part::Absent,
+        Part::Bytes(&[]),
+        Err(ManifestError::NotCreated),
+    ),
+    Pair(
+        Part::Absent,
+        Part::Bytes(&[0]),
+        Err(ManifestError::NotCreated),
+    ),
+    Pair(Part::Absent, Part::Slot(1), Err(ManifestError::Damaged)),
+    Pair(Part::Bytes(&[]), Part::Slot(1), Err(ManifestError::Damaged)),
+    Pair(Part::Bytes(&[0]), Part::Slot(1), Ok(1)),
+    Pair(
+        Part::Bytes(&[1]),
+        Part::Slot(1),
+        Err(ManifestError::Damaged),
+    ),
+    Pair(Part::Bytes(&[1]), Part::Absent, Err(ManifestError::Damaged)),
+    Pair(Part::Slot(1), Part::Slot(2), Ok(2)),
+    Pair(Part::Slot(1), Part::Slot(1), Err(ManifestError::Damaged)),
+    Pair(LESSER, Part::Slot(1), Ok(1)),
+    Pair(GREATER, Part::Slot(1), Err(ManifestError::Damaged)),
+];
+
+#[test]
+fn which_slot_counts(rt: HostRuntime) {
+    all_hold(&rt, rt.alloc(), &PAIRS);
+}
+
+// What becomes of a disk whose call was struck.
+static CHOICES: [Option<Choice>; 5] = [
+    None,
+    Some(Choice::Old),
+    Some(Choice::New),
+    Some(Choice::Bytes(&[0])),
+    Some(Choice::Bytes(&[1])),
+];
+
+// Slots that are both open, of which the second counts.
+fn both_open(rt: &impl Abort, alloc: Global) -> MemDisk {
+    let (first, second) = (slot_of(rt, alloc, 1), slot_of(rt, alloc, 2));
+    disk_of(rt, alloc, &first, &second)
+}
+
+// Whether a rewrite with this call struck is refused and fails from then on, and the version is
+// opened again, of one of both slots.
+fn is_left_by_rewrite(rt: &impl Abort, alloc: Global, call: u64, choice: Option<Choice>) -> bool {
+    let mut disk = both_open(rt, alloc);
+    let mut manifest = open(rt, alloc, &mut disk);
+    arm(&mut disk, Fault::Fail(call));
+    let is_refused = refusal(rt, alloc, &mut disk, &mut manifest) == Some(ManifestError::Disk);
+    let stays = refusal(rt, alloc, &mut disk, &mut manifest) == Some(ManifestError::Failed);
+    mend(rt, alloc, &mut disk, choice);
+    let opened = answer(rt, alloc, &mut disk);
+    is_refused
+        && stays
+        && (opened == Ok(2) || opened == Ok(3))
+        && numbers(rt, alloc, &mut disk) == NEW
+}
+
+// A rewrite over an open gate makes seven calls.
+#[test]
+fn rewrites_that_stop(rt: HostRuntime) {
+    for call in 1..8 {
+        for choice in &CHOICES {
+            let is_left = is_left_by_rewrite(&rt, rt.alloc(), call, *choice);
+            holds_at(&rt, call as usize, is_left);
+        }
+    }
+}
+
+// Whether an opening with this call struck is refused, and the next one is not.
+fn is_left_by_opening(rt: &impl Abort, alloc: Global, call: u64, choice: Option<Choice>) -> bool {
+    let mut disk = both_open(rt, alloc);
+    arm(&mut disk, Fault::Fail(call));
+    let is_refused = answer(rt, alloc, &mut disk) == Err(ManifestError::Disk);
+    mend(rt, alloc, &mut disk, choice);
+    is_refused && answer(rt, alloc, &mut disk) == Ok(2)
+}
+
+// An opening makes two syncs and two reads of heads; it syncs the slot that counts, and reads it.
+#[test]
+fn openings_that_stop(rt: HostRuntime) {
+    for call in 1..8 {
+        for choice in &CHOICES {
+            let is_left = is_left_by_opening(&rt, rt.alloc(), call, *choice);
+            holds_at(&rt, call as usize, is_left);
+        }
+    }
+}
