@@ -48,6 +48,14 @@ pub record LogHolds (disk : State) (log : Log) (records : List (List ℕ)) : Typ
   pub ends : log.ends.items ≡ ends_from 0 records
   pub end : log.end ≡ end_of 0 records
 
+-- the file durably represents these records from a place on
+pub record IsDurableLog (disk : State) (file start : ℕ) (records : List (List ℕ)) : Type 0 where
+  pub bytes : List ℕ
+  pub sure : IsDurableAs disk file bytes
+  pub within : start ≤ length bytes
+  pub fits : length bytes < 2 ^ 63
+  pub stands : Represents (drop start bytes) records
+
 -- the bytes that were read with the log represent these records, and it knows where each ends
 pub record HasRead (opened : OpenedLog) (records : List (List ℕ)) : Type 0 where
   pub stands : Represents opened.bytes.items records

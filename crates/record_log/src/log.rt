@@ -3,13 +3,14 @@ ghost use Rattle.std.specs.Prelude.{◌≡◌, ◌↔◌, ◌⊎◌, ℕ, ◌+�
 ghost use Rattle.std.specs.Prelude.{◌∷◌, ◌++◌, length, slice_get, slice_index_or, Some, IfOk};
 ghost use Rattle.std.specs.Prelude.{IfErr, IsErrOf, IsSomeAnd, OnOk, MatchResult};
 ghost use Rattle.disk.specs.{seen, AddsNoOutcome, AlwaysLeaves, IsLeftAt, IsSame, IsSameBut};
-ghost use Rattle.disk.specs.{IsStill, KeepsDisk};
+ghost use Rattle.disk.specs.{IsStill, KeepsDisk, State};
 ghost use Rattle.record_log.specs.Error.{DeviceFailed};
 ghost use Rattle.record_log.specs.Push.{IsDurableAs, behind_of, pushed};
 ghost use Rattle.record_log.specs.Logs.{LogHolds, HasRecords, IsAt, IsPart, IsRest, ReadRefusal};
 ghost use Rattle.record_log.specs.Logs.{OpenOutcome, Appended, IsExpected};
 ghost use Rattle.record_log.specs.Logs.{IsExternal, IsArgumentError};
 ghost use Rattle.record_log.specs.Logs.{IsOldOrNewFrom, EndsInRange, begun, file_of, start_of};
+ghost use Rattle.record_log.specs.Logs.{IsDurableLog};
 ghost use Rattle.record_log.specs.Logs.{gate_of, count_of, HasFailed, HasNoRoom, HasRead};
 
 use crate::LogError;
@@ -165,6 +166,26 @@ impl Log {
             has_failed: false,
         };
         Ok(OpenedLog { log, bytes })
+    }
+
+    /// The log of a file that was written with one record of this length, from a place on. No call
+    /// of the disk.
+    pub fn of_one(alloc: Global, file: u64, start: u64, len: usize) -> Result<Log, AllocError>
+        ensures at { IfOk result (IsAt file start) }
+        ensures holds { (disk : State) (one : List ℕ) → length one ≡ len →
+            IsDurableLog disk file start (one ∷ []) →
+            IfOk result (λ log. LogHolds disk log (one ∷ [])) }
+    {
+        let end = len.saturating_add(5);
+        let mut ends = Vec::new(alloc);
+        ends.push(end)?;
+        Ok(Log {
+            file,
+            start,
+            ends,
+            end,
+            has_failed: false,
+        })
     }
 
     /// The number of records; for a failed log, the number before the failure.
