@@ -1,20 +1,20 @@
 // The two slots of a store, as files of records.
-ghost use Rattle.std.specs.Prelude.{◌≡◌, ◌⊎◌, ℕ, ◌+◌, ◌<◌, ◌≤◌, ◌^◌, List, [], ◌∷◌, ◌++◌, length};
-ghost use Rattle.std.specs.Prelude.{IfOk, IfErr, MatchResult, IsNone, drop};
+ghost use Rattle.std.specs.Prelude.{◌≡◌, ◌⊎◌, ℕ, ◌<◌, ◌≤◌, ◌^◌, List, [], ◌∷◌, ◌++◌, length};
+ghost use Rattle.std.specs.Prelude.{IfOk, IfErr, OnOk, MatchResult, IsNone};
+ghost use Rattle.std.specs.Int.{w16, w32, w64, to_be_bytes};
 ghost use Rattle.kv_types.specs.declared.bounds.TheConstants.{MAX_NUMBER};
-ghost use Rattle.disk.specs.{AlwaysLeaves, IsSameBut, KeepsDisk, State, seen};
+ghost use Rattle.disk.specs.{AlwaysLeaves, IsSameBut, KeepsDisk, seen};
 ghost use Rattle.record_log.specs.declared.log.TheConstants.{MAX_RECORD};
-ghost use Rattle.record_log.specs.{DeviceFailed};
-ghost use Rattle.record_log.specs.{HasNoRoom};
-ghost use Rattle.record_log.specs.{IsAt, IsDurableAs, IsExpected, IsExternal, LogHolds, Represents};
-ghost use Rattle.record_log.specs.{file_of};
-ghost use Rattle.manifest.specs.Slots.{SlotsAreLeft, SlotsRepresent, head_length, other_slot};
+ghost use Rattle.record_log.specs.{DeviceFailed, HasNoRoom};
+ghost use Rattle.record_log.specs.{IsExpected, IsExternal, file_of};
+ghost use Rattle.manifest.specs.Slots.{SlotsAreLeft, SlotsRepresent, other_slot};
 ghost use Rattle.manifest.specs.Holds.{SlotsHold, SparesOthers, closed_slot};
 
 use crate::begin::begin;
 use crate::head::CountingSlot;
 use crate::replace::replace;
-use disk::{Disk, MemDisk};
+use byte_fields::{put_u32, put_u64};
+use disk::Disk;
 use record_log::{Log, LogError};
 use std::alloc::{AllocError, Global};
 
@@ -32,40 +32,38 @@ pub struct SlotPair {
 /// The place where a slot's log begins.
 pub const HEAD_LENGTH: u64 = 11;
 
+// A closed gate, the generation, and the node's id.
+fn put_head(out: &mut Vec<u8>, generation: u64, id: u16) -> Result<(), AllocError>
+    ensures { OnOk result (out.new.items ≡
+        out.old.items ++ 0 ∷ to_be_bytes w64 generation ++ to_be_bytes w16 id) }
+{
+    out.push(0)?;
+    put_u64(out, generation)?;
+    out.extend_from_slice(&id.to_be_bytes())
+}
+
+// A record behind an open gate, and a closed gate.
+fn put_record(out: &mut Vec<u8>, one: &[u8]) -> Result<(), AllocError>
+    requires { length one.now < 2 ^ 32 }
+    ensures { OnOk result (out.new.items ≡
+        out.old.items ++ 1 ∷ to_be_bytes w32 (length one.now) ++ one.now ++ 0 ∷ []) }
+{
+    out.push(1)?;
+    put_u32(out, one.len() as u32)?;
+    out.extend_from_slice(one)?;
+    out.push(0)?;
+    Ok(())
+}
+
 // The bytes of a slot with one record, whose gate is closed.
 fn bytes_of_slot(alloc: Global, generation: u64, id: u16, one: &[u8]) -> Result<Vec<u8>, AllocError>
     requires { length one.now < 2 ^ 32 }
     ensures { IfOk result (λ v. v.items ≡ closed_slot generation id one.now) }
 {
     let mut out = Vec::with_capacity(alloc, one.len() + 17)?;
-    out.push(0)?;
-    out.extend_from_slice(&generation.to_be_bytes())?;
-    out.extend_from_slice(&id.to_be_bytes())?;
-    out.push(1)?;
-    out.extend_from_slice(&(one.len() as u32).to_be_bytes())?;
-    out.extend_from_slice(one)?;
-    out.push(0)?;
+    put_head(&mut out, generation, id)?;
+    put_record(&mut out, one)?;
     Ok(out)
-}
-
-// The log of a slot that will have these bytes, with any gate. No call of the store's disk: it is
-// opened over a disk in memory that has them.
-fn log_of(alloc: Global, file: u64, closed: &[u8]) -> Result<Log, AllocError>
-    ensures at { IfOk result (IsAt file head_length) }
-    ensures holds { (disk : State) (bytes : List ℕ) (records : List (List ℕ)) →
-        IsDurableAs disk file bytes → head_length ≤ length bytes → length bytes < 2 ^ 63 →
-        drop head_length bytes ≡ drop head_length closed.now →
-        Represents (drop head_length bytes) records →
-        IfOk result (λ log. LogHolds disk log records) }
-{
-    let mut scratch = MemDisk::new(alloc);
-    if scratch.write_at(file, 0, closed).is_err() {
-        return Err(AllocError);
-    }
-    match Log::open(alloc, &mut scratch, file, HEAD_LENGTH) {
-        Ok(opened) => Ok(opened.log),
-        Err(_) => Err(AllocError),
-    }
 }
 
 impl SlotPair {
@@ -83,7 +81,7 @@ impl SlotPair {
             (λ slots. SlotsHold (D.state disk.new) slots id (one.now ∷ [])) IsExternal }
     {
         let closed = bytes_of_slot(alloc, 1, id, one)?;
-        let log = log_of(alloc, 1, &closed)?;
+        let log = Log::of_one(alloc, 1, HEAD_LENGTH, one.len())?;
         Log::create(alloc, disk, 2)?;
         begin(disk, 1, &closed)?;
         Ok(SlotPair {
@@ -171,7 +169,7 @@ impl SlotPair {
         let generation = self.generation + 1;
         let other = 3u64.saturating_sub(self.slot);
         let closed = bytes_of_slot(alloc, generation, self.id, one)?;
-        let log = log_of(alloc, other, &closed)?;
+        let log = Log::of_one(alloc, other, HEAD_LENGTH, one.len())?;
         let (_gate, behind) = closed.split_at(1);
         replace(disk, other, self.other_is_open, behind)?;
         self.slot = other;

@@ -1,10 +1,9 @@
-use Rattle.std.proofs.Common.{◌≡◌, ◌<◌, ◌^◌, ◌∷◌, [], drop, length, false, refl, sym, ap, subst, ◌∙◌}
+use Rattle.std.proofs.Common.{◌≡◌, ◌<◌, ◌^◌, ◌∷◌, length, false, refl, sym, subst, ◌∙◌}
 use Rattle.std.proofs.Common.{arith}
 use Rattle.std.specs.Prelude.{IsNone}
 use Rattle.disk.specs.{Slot, seen}
 use Rattle.record_log.specs.{IsDurableAs}
 use Rattle.record_log.specs.{begun}
-use Rattle.manifest.specs.Slots.{head_length}
 use Rattle.manifest.specs.Holds.{slot_behind}
 use Rattle.manifest.proofs.Begun.{held_begun, begun_stands, begun_long}
 use Rattle.manifest.proofs.slot_pair.SlotPair.create.Goals as goal
@@ -23,14 +22,16 @@ returns-clause-created g c = λ honest no1 no2.
     let same1 : s1 1 ≡ s0 1 = c.create.ensures.kept.files honest 1 (λ e. absurd (omega (arith, e))) in
     let none1 : IsNone (seen (s1 1)) =
     subst (λ (slot : Slot). IsNone (seen slot)) (sym same1) no1 in
-    let closed : c.deref-2.result.now ≡ 0 ∷ behind =
-    c.deref-2.ensures.value ∙ c.in_ok-closed.ensures in
+    let closed : c.deref.result.now ≡ 0 ∷ behind =
+    c.deref.ensures.value ∙ c.in_ok-closed.ensures in
     let done = c.in_ok-begin.ensures.done behind honest1 none1 closed in
-    let scratch : drop head_length (1 ∷ behind) ≡ drop head_length c.deref.result.now =
-    ap (drop head_length) (sym (c.deref.ensures.value ∙ c.in_ok-closed.ensures)) in
-    let log = c.in_ok-log.ensures.holds s2 (1 ∷ behind) (one ∷ []) done.0
-    (begun_long c.args.id one short) (omega (arith, done.1)) scratch
-    (begun_stands c.args.id one short) in
+    let log = c.in_ok-log.ensures.holds s2 one refl (record {
+      bytes = 1 ∷ behind;
+      sure = done.0;
+      within = begun_long c.args.id one short;
+      fits = omega (arith, done.1);
+      stands = begun_stands c.args.id one short;
+    }) in
     let same2 : s2 2 ≡ s1 2 = c.begin.ensures.kept.files honest1 2 (λ e. absurd (omega (arith, e))) in
     let second : IsDurableAs s2 2 (begun (seen (s0 2))) =
     same2 ∙ c.in_ok-create.ensures.spelled honest in

@@ -1,8 +1,7 @@
-use Rattle.std.proofs.Common.{◌≡◌, ℕ, ◌+◌, ◌-◌, List, [], ◌∷◌, drop, sym, ap, subst, ◌∙◌, refl, arith}
+use Rattle.std.proofs.Common.{◌≡◌, ℕ, ◌+◌, ◌-◌, List, ◌∷◌, drop, sym, ap, subst, ◌∙◌, refl, arith}
 use Rattle.std.proofs.Common.{length, ◌<◌, ◌^◌, true}
 use Rattle.record_log.specs.{IsAt, IsDurableAs}
 use Rattle.disk.specs.{IsLeftAt, LeavesSince}
-use Rattle.manifest.specs.Slots.{head_length}
 use Rattle.manifest.specs.Holds.{slot_behind}
 use Rattle.manifest.proofs.Replaces.{OnTheWay}
 use Rattle.manifest.proofs.Records.{others_differ}
@@ -30,7 +29,7 @@ returns-in_err-replace-clause-any_moment g c = λ id records honest h.
     let file : c.saturating_sub-other.result ≡ 3 - slots.slot =
     omega (arith, c.saturating_sub-other.ensures) in
     let behind : c.split_at.result.1.now ≡ slot_behind (slots.generation + 1) slots.id c.args.one.now =
-    c.split_at.ensures.back ∙ ap (drop 1) (c.deref-2.ensures.value ∙ c.in_ok-closed.ensures) in
+    c.split_at.ensures.back ∙ ap (drop 1) (c.deref.ensures.value ∙ c.in_ok-closed.ensures) in
     let sure = subst (λ (f : ℕ). IsDurableAs s0 f h.other_bytes) (sym file) h.other_sure in
     either_since s0 slots id records c.args.one.now h (omega (arith, c.requires.short))
     c.requires.room (state c.replace.new.disk) (past c.args.disk.now) (past c.replace.new.disk)
@@ -48,7 +47,7 @@ returns-clause-any_moment g c = λ id records honest h.
     let file : c.saturating_sub-other.result ≡ 3 - slots.slot =
     omega (arith, c.saturating_sub-other.ensures) in
     let behind : c.split_at.result.1.now ≡ slot_behind (slots.generation + 1) slots.id c.args.one.now =
-    c.split_at.ensures.back ∙ ap (drop 1) (c.deref-2.ensures.value ∙ c.in_ok-closed.ensures) in
+    c.split_at.ensures.back ∙ ap (drop 1) (c.deref.ensures.value ∙ c.in_ok-closed.ensures) in
     let sure = subst (λ (f : ℕ). IsDurableAs s0 f h.other_bytes) (sym file) h.other_sure in
     either_since s0 slots id records c.args.one.now h (omega (arith, c.requires.short))
     c.requires.room (state c.replace.new.disk) (past c.args.disk.now) (past c.replace.new.disk)
@@ -69,7 +68,7 @@ returns-clause-rewritten g c = λ id records honest h.
     omega (arith, c.saturating_sub-other.ensures) in
     let whole = slot_behind (slots.generation + 1) slots.id one in
     let behind : c.split_at.result.1.now ≡ whole =
-    c.split_at.ensures.back ∙ ap (drop 1) (c.deref-2.ensures.value ∙ c.in_ok-closed.ensures) in
+    c.split_at.ensures.back ∙ ap (drop 1) (c.deref.ensures.value ∙ c.in_ok-closed.ensures) in
     let sure = subst (λ (f : ℕ). IsDurableAs s0 f h.other_bytes) (sym file) h.other_sure in
     let new = state c.replace.new.disk in
     let done = c.in_ok-replace.ensures.done h.other_bytes honest sure h.gate in
@@ -77,11 +76,13 @@ returns-clause-rewritten g c = λ id records honest h.
     subst (λ (b : List ℕ). IsDurableAs new c.saturating_sub-other.result (1 ∷ b)) behind done.0 in
     let fits : length (1 ∷ whole) < 2 ^ 63 =
     subst (λ (b : List ℕ). length (1 ∷ b) < 2 ^ 63) behind (omega (arith, done.1)) in
-    let scratch : drop head_length (1 ∷ whole) ≡ drop head_length c.deref.result.now =
-    ap (drop head_length) (sym (c.deref.ensures.value ∙ c.in_ok-closed.ensures)) in
-    let log = c.in_ok-log.ensures.holds new (1 ∷ whole) (one ∷ []) there
-    (new_long s0 slots id records one h short c.requires.room) fits scratch
-    (new_stands s0 slots id records one h short c.requires.room) in
+    let log = c.in_ok-log.ensures.holds new one refl (record {
+      bytes = 1 ∷ whole;
+      sure = there;
+      within = new_long s0 slots id records one h short c.requires.room;
+      fits = fits;
+      stands = new_stands s0 slots id records one h short c.requires.room;
+    }) in
     held_new s0 slots id records one h short c.requires.room new
     (record slots {
       slot = c.saturating_sub-other.result;

@@ -1,0 +1,35 @@
+-- The parts of an edit, written one behind the other, are its spelling.
+use Rattle.std.proofs.Common.{◌≡◌, List, ℕ, ◌++◌, Result, Ok, Err, OnOk, ◌∙◌, append_assoc}
+use Rattle.std.specs.Int.{w32, w64, to_be_bytes}
+use Rattle.configurations.specs.{config_text}
+use Rattle.manifest.specs.Versions.{Change}
+use Rattle.manifest.specs.Edits.{change_text, counted_bytes, log_line_bytes, table_name_bytes}
+use Rattle.manifest.specs.Edits.{table_line_bytes}
+
+-- nine parts behind what was there
+grouped : (out a b c d ids e f g h : List ℕ) →
+    out ++ a ++ b ++ c ++ d ++ ids ++ e ++ f ++ g ++ h
+    ≡ out ++ (a ++ b ++ c ++ d ++ ids ++ e ++ f ++ g ++ h)
+grouped out a b c d ids e f g h = simp append_assoc
+
+-- the buffer after each part, and after the last one
+pub is_spelled : {T E : Type 0} (change : Change) (out numbers ids gone logs names all : List ℕ)
+    (result : Result T E) →
+    numbers ≡ out ++ to_be_bytes w64 change.next_file ++ to_be_bytes w64 change.floor
+    ++ to_be_bytes w64 change.flushed ++ to_be_bytes w32 change.epoch →
+    ids ≡ numbers ++ config_text change.ids →
+    gone ≡ ids ++ counted_bytes (λ file. to_be_bytes w64 file) change.logs_gone →
+    logs ≡ gone ++ counted_bytes log_line_bytes change.logs_added →
+    names ≡ logs ++ counted_bytes table_name_bytes change.tables_gone →
+    OnOk result (all ≡ names ++ counted_bytes table_line_bytes change.tables_added) →
+    OnOk result (all ≡ out ++ change_text change)
+unfolding change_text
+is_spelled change out numbers ids gone logs names all (Ok x) a b c d e f =
+    f ∙ rw (e, d, c, b, a) (grouped out (to_be_bytes w64 change.next_file)
+    (to_be_bytes w64 change.floor) (to_be_bytes w64 change.flushed)
+    (to_be_bytes w32 change.epoch) (config_text change.ids)
+    (counted_bytes (λ file. to_be_bytes w64 file) change.logs_gone)
+    (counted_bytes log_line_bytes change.logs_added)
+    (counted_bytes table_name_bytes change.tables_gone)
+    (counted_bytes table_line_bytes change.tables_added))
+is_spelled change out numbers ids gone logs names all (Err e') a b c d e f = tt
