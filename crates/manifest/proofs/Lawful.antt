@@ -165,13 +165,15 @@ with_lines c logs tables = record {
 }
 
 -- what the code makes of the version so far and an edit that was read
-pub next_made : (old : Option NodeVersion) (change edit : Change) (logs : List LogLine)
-    (tables : List TableLine) → change ≡ edit → AreLines (version_in old) → IsChange change
+pub next_made : (old : Option NodeVersion) (change edit : Change) (ids : List ℕ)
+    (logs : List LogLine) (tables : List TableLine) → change ≡ edit → ids ≡ edit.ids
+    → AreLines (version_in old) → IsChange change
     → NumbersRise (version_in old) change → IsTrue (keeps_ids (version_in old).ids change.ids)
     → IsThere (version_in old) change → IsNew (version_in old) change → AreLawful logs tables
     → logs ≡ (changed (version_in old) change).logs
-    → tables ≡ (changed (version_in old) change).tables → IsVersion (with_lines edit logs tables)
-next_made old change edit logs tables read lines is numbers ids there new lawful l t =
+    → tables ≡ (changed (version_in old) change).tables
+    → IsVersion (with_lines (record edit { ids = ids }) logs tables)
+next_made old change edit copy logs tables read i lines is numbers ids there new lawful l t =
     let v = version_in old in
     let fit : IsFit v change = record {
       numbers = numbers;
@@ -184,8 +186,11 @@ next_made old change edit logs tables read lines is numbers ids there new lawful
     let same : with_lines change logs tables ≡ changed v change =
     ap (λ (x : List LogLine). with_lines change x tables) l
     ∙ ap (λ (x : List TableLine). with_lines change (changed v change).logs x) t in
+    let whole : IsVersion (with_lines edit logs tables) =
     subst (λ (c : Change). IsVersion (with_lines c logs tables)) read
-    (subst IsVersion (sym same) (version_fit v change lines fit is))
+    (subst IsVersion (sym same) (version_fit v change lines fit is)) in
+    subst (λ (x : List ℕ). IsVersion (with_lines (record edit { ids = x }) logs tables)) (sym i)
+    whole
 
 -- all of them
 pub after_version : (v : StoreVersion) (changes : List Change) → AreLines v → changes ≢ []

@@ -6,6 +6,7 @@ pub mod Replaces
 pub mod Records
 pub mod Rewrites
 pub mod Begun
+pub mod Kept
 pub mod Spelled
 pub mod Edited
 pub mod Replays

@@ -10,7 +10,7 @@ use crate::{LogLine, StoreVersion, TableLine, TableName, VersionEdit};
 use std::alloc::{AllocError, Global};
 
 // The logs but those that are given up.
-pub fn logs_left(alloc: Global, gone: &[u64], logs: &[LogLine]) -> Result<Vec<LogLine>, AllocError>
+fn logs_left(alloc: Global, gone: &[u64], logs: &[LogLine]) -> Result<Vec<LogLine>, AllocError>
     ensures { IfOk result (λ left. left.items ≡ logs_left gone.now logs.now) }
 {
     let mut left = Vec::new(alloc);
@@ -38,7 +38,7 @@ fn log_place(logs: &[LogLine], line: LogLine) -> usize
     at
 }
 
-pub fn add_logs(logs: &mut Vec<LogLine>, added: &[LogLine]) -> Result<(), AllocError>
+fn add_logs(logs: &mut Vec<LogLine>, added: &[LogLine]) -> Result<(), AllocError>
     ensures { OnOk result (logs.new.items ≡ fold with_log logs.old.items added.now) }
 {
     for line in added {
@@ -78,7 +78,7 @@ fn keep_table(
 }
 
 // The tables but those that are given up.
-pub fn tables_left(
+fn tables_left(
     alloc: Global,
     gone: &[TableName],
     tables: &[TableLine],
@@ -120,7 +120,7 @@ fn table_place(tables: &[TableLine], line: &TableLine) -> usize
     at
 }
 
-pub fn add_tables(tables: &mut Vec<TableLine>, added: &[TableLine]) -> Result<(), AllocError>
+fn add_tables(tables: &mut Vec<TableLine>, added: &[TableLine]) -> Result<(), AllocError>
     ensures { OnOk result (tables.new.items ≡ fold with_table tables.old.items added.now) }
 {
     for line in added {
@@ -129,6 +129,25 @@ pub fn add_tables(tables: &mut Vec<TableLine>, added: &[TableLine]) -> Result<()
         tables.insert(at, copy)?;
     }
     Ok(())
+}
+
+/// The logs and tables but those that an edit gives up, and those that it adds.
+pub fn lines_after(
+    alloc: Global,
+    logs: &[LogLine],
+    tables: &[TableLine],
+    edit: &VersionEdit,
+) -> Result<(Vec<LogLine>, Vec<TableLine>), AllocError>
+    ensures { IfOk result (λ x. (x.0.items ≡
+        fold with_log (logs_left edit.now.logs_gone logs.now) edit.now.logs_added)
+        × (x.1.items ≡
+        fold with_table (tables_left edit.now.tables_gone tables.now) edit.now.tables_added)) }
+{
+    let mut logs = logs_left(alloc, &edit.logs_gone, logs)?;
+    add_logs(&mut logs, &edit.logs_added)?;
+    let mut tables = tables_left(alloc, &edit.tables_gone, tables)?;
+    add_tables(&mut tables, &edit.tables_added)?;
+    Ok((logs, tables))
 }
 
 /// The version after an edit that it may take.
@@ -140,17 +159,15 @@ pub fn version_after(
     requires { IsFit version.now.version edit.now × IsChange edit.now }
     ensures { IfOk result (λ new. new ≡ node_version_after version.now edit.now) }
 {
-    let mut logs = logs_left(alloc, &edit.logs_gone, &version.logs)?;
-    add_logs(&mut logs, &edit.logs_added)?;
-    let mut tables = tables_left(alloc, &edit.tables_gone, &version.tables)?;
-    add_tables(&mut tables, &edit.tables_added)?;
+    let config = edit.config.clone()?;
+    let (logs, tables) = lines_after(alloc, &version.logs, &version.tables, edit)?;
     Ok(StoreVersion {
         id: version.id,
         next_file: edit.next_file,
         floor: edit.floor,
         flushed: edit.flushed,
         epoch: edit.epoch,
-        config: edit.config.clone()?,
+        config,
         logs,
         tables,
     })

@@ -127,19 +127,19 @@ impl Manifest {
         &mut self,
         alloc: Global,
         disk: &mut D,
-        edit: VersionEdit,
+        edit: &VersionEdit,
     ) -> Result<(), ManifestError>
-        requires fit { IsFit (version_of self.old).version edit × IsChange edit }
+        requires fit { IsFit (version_of self.old).version edit.now × IsChange edit.now }
         ensures kept { KeepsDisk D.Disk disk.old disk.new (ManifestFailsDevice result)
-            (ManifestHasNoRoom self.old edit) (IsSameBut (counting_file self.old)) }
+            (ManifestHasNoRoom self.old edit.now) (IsSameBut (counting_file self.old)) }
         ensures told { MatchResult result
-            (λ _. (version_of self.new ≡ node_version_after (version_of self.old) edit)
+            (λ _. (version_of self.new ≡ node_version_after (version_of self.old) edit.now)
             × (ManifestHasFailed self.new → ⊥))
             (λ _. (version_of self.new ≡ version_of self.old) × ManifestHasFailed self.new) }
         ensures failed { ManifestHasFailed self.old → IsErrOf result ManifestError.Failed }
         ensures recorded { (named : NodeVersion) → D.is_honest disk.old →
             ManifestHolds (D.state disk.old) self.old named → MatchResult result
-            (λ _. ManifestHolds (D.state disk.new) self.new (node_version_after named edit))
+            (λ _. ManifestHolds (D.state disk.new) self.new (node_version_after named edit.now))
             IsManifestExternal }
 
         // A crash at any moment since the call began leaves the old version or the new one.
@@ -147,14 +147,14 @@ impl Manifest {
             ManifestHolds (D.state disk.old) self.old named →
             AlwaysLeaves D.Disk disk.old disk.new (SlotsAreLeft (D.state disk.old)
             (λ left. ManifestRepresents named left
-            ⊎ ManifestRepresents (node_version_after named edit) left)) }
+            ⊎ ManifestRepresents (node_version_after named edit.now) left)) }
     {
         if self.has_failed {
             return Err(ManifestError::Failed);
         }
         self.has_failed = true;
-        let bytes = bytes_of(alloc, &edit)?;
-        let version = version_after(alloc, &self.version, &edit)?;
+        let bytes = bytes_of(alloc, edit)?;
+        let version = version_after(alloc, &self.version, edit)?;
         self.slots.record(alloc, disk, &bytes)?;
         self.version = version;
         self.has_failed = false;

@@ -8,7 +8,7 @@ ghost use Rattle.manifest.specs.Versions.{tables_left, version_in, with_log, wit
 ghost use Rattle.manifest.specs.Edits.{IsChange};
 ghost use Rattle.manifest.specs.Lawful.{AreLines};
 
-use crate::changed::{add_logs, add_tables, logs_left, tables_left};
+use crate::changed::lines_after;
 use crate::fits::{
     all_apart, are_once, files_gone, files_of, is_part, names_file, names_log, names_table,
 };
@@ -160,40 +160,23 @@ fn may_take(
     )
 }
 
-// The lines that an edit gives.
-fn lines_after(
-    alloc: Global,
-    old: &Option<StoreVersion>,
-    edit: &VersionEdit,
-) -> Result<(Vec<LogLine>, Vec<TableLine>), AllocError>
-    ensures { IfOk result (λ x. (x.0.items ≡ (changed (version_in old.now) edit.now).logs)
-        × (x.1.items ≡ (changed (version_in old.now) edit.now).tables)) }
-{
-    let mut logs = logs_left(alloc, &edit.logs_gone, logs_of(old))?;
-    add_logs(&mut logs, &edit.logs_added)?;
-    let mut tables = tables_left(alloc, &edit.tables_gone, tables_of(old))?;
-    add_tables(&mut tables, &edit.tables_added)?;
-    Ok((logs, tables))
-}
-
 /// The version of the node after one edit more, if there is one.
 pub fn next_version(
     alloc: Global,
     id: NodeId,
     old: &Option<StoreVersion>,
-    edit: VersionEdit,
+    edit: &VersionEdit,
 ) -> Result<StoreVersion, ManifestError>
-    requires { IsChange edit }
-    ensures found { IfOk result (λ version. IsFit (version_in old.now) edit
-        × (version ≡ record { id = id; version = changed (version_in old.now) edit })) }
-    ensures bad { IsErrOf result ManifestError.Damaged → IsFit (version_in old.now) edit → ⊥ }
+    requires { IsChange edit.now }
+    ensures found { IfOk result (λ version. IsFit (version_in old.now) edit.now
+        × (version ≡ record { id = id; version = changed (version_in old.now) edit.now })) }
+    ensures bad { IsErrOf result ManifestError.Damaged → IsFit (version_in old.now) edit.now → ⊥ }
     ensures only { IfErr result (λ e. (e ≡ ManifestError.Damaged) ⊎ (e ≡ ManifestError.Memory)) }
 {
-    let _logs = logs_of(old);
-    if !may_take(alloc, old, &edit)? {
+    if !may_take(alloc, old, edit)? {
         return Err(ManifestError::Damaged);
     }
-    let (logs, tables) = lines_after(alloc, old, &edit)?;
+    let (logs, tables) = lines_after(alloc, logs_of(old), tables_of(old), edit)?;
     if !are_lawful(alloc, &logs, &tables)? {
         return Err(ManifestError::Damaged);
     }
@@ -203,7 +186,7 @@ pub fn next_version(
         floor: edit.floor,
         flushed: edit.flushed,
         epoch: edit.epoch,
-        config: edit.config,
+        config: edit.config.clone()?,
         logs,
         tables,
     })

@@ -1,7 +1,8 @@
-use Rattle.std.proofs.Common.{List, subst, sym}
+use Rattle.std.proofs.Common.{List, ap, subst, sym, ◌∙◌}
+use Rattle.std.specs.List.{fold}
 use Rattle.manifest.specs.declared.line.LogLine.{LogLine}
 use Rattle.manifest.specs.declared.line.TableLine.{TableLine}
-use Rattle.manifest.specs.Versions.{AreLawful}
+use Rattle.manifest.specs.Versions.{AreLawful, logs_left, tables_left, version_in, with_log, with_table}
 use Rattle.manifest.proofs.Lawful.{next_made}
 use Rattle.manifest.proofs.next.next_version.Goals as goal
 
@@ -10,10 +11,18 @@ pub invariant_of-result : goal.invariant_of-result
 invariant_of-result c =
     let takes = c.in_ok-may_take.ensures.0 c.if-not-branch.false in
     let lines = c.in_ok-logs.ensures in
+    let old = version_in c.args.old.now in
+    let edit = c.args.edit.now in
+    let logs = lines.0
+    ∙ ap (λ (l : List LogLine). fold with_log (logs_left edit.logs_gone l) edit.logs_added)
+    c.logs_of.ensures.logs in
+    let tables = lines.1
+    ∙ ap (λ (t : List TableLine). fold with_table (tables_left edit.tables_gone t)
+    edit.tables_added) c.tables_of.ensures in
     let lawful : AreLawful c.in_ok-logs.logs.items c.in_ok-logs.tables.items =
     subst (λ (l : List LogLine). AreLawful l c.in_ok-logs.tables.items) c.deref.ensures.value
     (subst (λ (t : List TableLine). AreLawful c.deref.result.now t) c.deref-2.ensures.value
     (c.in_ok-are_lawful.ensures.0 c.if-not-branch-2.false)) in
-    next_made c.args.old.now c.args.edit _ c.in_ok-logs.logs.items c.in_ok-logs.tables.items
-    (sym c.edit.view_is) c.logs_of-logs.ensures.lines c.requires takes.0 takes.1 takes.2 takes.3
-    lawful lines.0 lines.1
+    next_made c.args.old.now edit _ c.in_ok-clone.field-0 c.in_ok-logs.logs.items
+    c.in_ok-logs.tables.items (sym c.edit.view_is) c.in_ok-clone.ensures
+    c.logs_of.ensures.lines c.requires takes.0 takes.1 takes.2 takes.3 lawful logs tables

@@ -6,6 +6,10 @@ use Rattle.record_log.specs.{IsDurableAs}
 use Rattle.record_log.specs.{begun}
 use Rattle.manifest.specs.Holds.{slot_behind}
 use Rattle.manifest.proofs.Begun.{held_begun, begun_stands, begun_long}
+use Rattle.std.proofs.Common.{refl, inr}
+use Rattle.std.proofs.lemmas.Result.{err_from_is_err_and}
+use Rattle.manifest.proofs.Kept.{closed_fits, disk_fails, fails_disk, kept_as, kept_still, kept_then}
+use Rattle.manifest.proofs.Kept.{log_again, slots_alone}
 use Rattle.manifest.proofs.slot_pair.SlotPair.create.Goals as goal
 
 -- the second slot's gate is closed, and the first has the record
@@ -38,3 +42,45 @@ returns-clause-created g c = λ honest no1 no2.
     held_begun c.args.id one short s2
     (record { slot = 1; generation = 1; id = c.args.id; other_is_open = false; log = c.in_ok-log.log })
     (seen (s0 2)) refl refl refl refl c.in_ok-log.ensures.at log done.0 second
+
+-- the disk is untouched before the second slot is made
+pub returns-in_err-closed-clause-kept : goal.returns-in_err-closed-clause-kept
+returns-in_err-closed-clause-kept g c =
+    let p = err_from_is_err_and c.from_residual.result c.from_residual.ensures.1 in
+    rw (p.1, p.2) (kept_still g.D.Disk c.args.disk.now _ _ _ (λ f. absurd cc) (λ s other apart. refl))
+
+pub returns-in_err-log-clause-kept : goal.returns-in_err-log-clause-kept
+returns-in_err-log-clause-kept g c =
+    let p = err_from_is_err_and c.from_residual-in_err-log.result
+    c.from_residual-in_err-log.ensures.1 in
+    rw (p.1, p.2) (kept_still g.D.Disk c.args.disk.now _ _ _ (λ f. absurd cc) (λ s other apart. refl))
+
+-- then only slots change
+pub returns-in_err-create-clause-kept : goal.returns-in_err-create-clause-kept
+returns-in_err-create-clause-kept g c =
+    let p = err_from_is_err_and c.from_residual-in_err-create.result
+    c.from_residual-in_err-create.ensures.1 in
+    let e = c.in_err-create.field-0.0 in
+    rw (p.1, p.2) (kept_as g.D.Disk _ _ _ _ _ _ _ _ (log_again e) (log_again e) (λ c. c)
+    (λ a b same other apart. same other (λ is. apart (inr is))) c.in_err-create.ensures.kept)
+
+pub returns-in_err-begin-clause-kept : goal.returns-in_err-begin-clause-kept
+returns-in_err-begin-clause-kept g c =
+    let p = err_from_is_err_and c.from_residual-in_err-begin.result
+    c.from_residual-in_err-begin.ensures.1 in
+    let e = c.in_err-begin.field-0.0 in
+    let short = closed_fits 1 c.args.id c.args.one.now _ c.requires.short
+    (c.deref.ensures.value ∙ c.in_ok-closed.ensures) in
+    rw (p.1, p.2) (kept_then g.D.Disk _ _ _ _ _ _ _ _ _ _ (λ f. absurd cc) slots_alone
+    c.in_ok-create.ensures.kept
+    (kept_as g.D.Disk _ _ _ _ _ _ _ _ (disk_fails e) (fails_disk e) short (λ a b k. k)
+    c.in_err-begin.ensures.kept))
+
+pub returns-clause-kept : goal.returns-clause-kept
+returns-clause-kept g c =
+    let short = closed_fits 1 c.args.id c.args.one.now _ c.requires.short
+    (c.deref.ensures.value ∙ c.in_ok-closed.ensures) in
+    kept_then g.D.Disk _ _ _ _ _ _ _ _ _ _ (λ f. absurd cc) slots_alone
+    c.in_ok-create.ensures.kept
+    (kept_as g.D.Disk _ _ _ _ _ _ _ _ (λ f. absurd cc) (λ f. absurd cc) short (λ a b k. k)
+    c.in_ok-begin.ensures.kept)

@@ -6,6 +6,8 @@ use Rattle.manifest.specs.Holds.{slot_behind}
 use Rattle.manifest.proofs.Replaces.{OnTheWay}
 use Rattle.manifest.proofs.Records.{others_differ}
 use Rattle.manifest.proofs.Rewrites.{either_since, unmoved, held_new, new_stands, new_long}
+use Rattle.std.proofs.lemmas.Result.{err_from_is_err_and}
+use Rattle.manifest.proofs.Kept.{behind_fits, disk_fails, fails_disk, kept_as, kept_still}
 use Rattle.manifest.proofs.slot_pair.SlotPair.rewrite.Goals as goal
 
 -- nothing was done
@@ -94,3 +96,39 @@ returns-clause-rewritten g c = λ id records honest h.
     (subst (λ (f : ℕ). IsDurableAs new f (1 ∷ whole)) file there)
     (c.replace.ensures.kept.files honest slots.slot
     (λ same. others_differ slots.slot h.one (sym (same ∙ file))))
+
+-- the disk is untouched before the other slot is written
+pub returns-in_err-closed-clause-kept : goal.returns-in_err-closed-clause-kept
+returns-in_err-closed-clause-kept g c =
+    let p = err_from_is_err_and c.from_residual.result c.from_residual.ensures.1 in
+    rw (p.1, p.2) (kept_still g.D.Disk c.args.disk.now _ _ _ (λ f. absurd cc) (λ s other apart. refl))
+
+pub returns-in_err-log-clause-kept : goal.returns-in_err-log-clause-kept
+returns-in_err-log-clause-kept g c =
+    let p = err_from_is_err_and c.from_residual-in_err-log.result
+    c.from_residual-in_err-log.ensures.1 in
+    rw (p.1, p.2) (kept_still g.D.Disk c.args.disk.now _ _ _ (λ f. absurd cc) (λ s other apart. refl))
+
+-- and then no other file changes
+pub returns-in_err-replace-clause-kept : goal.returns-in_err-replace-clause-kept
+returns-in_err-replace-clause-kept g c =
+    let p = err_from_is_err_and c.from_residual-in_err-replace.result
+    c.from_residual-in_err-replace.ensures.1 in
+    let e = c.in_err-replace.field-0.0 in
+    let file : c.saturating_sub-other.result ≡ 3 - c.args.self.now.slot =
+    omega (arith, c.saturating_sub-other.ensures) in
+    let short = behind_fits (c.args.self.now.generation + 1) c.args.self.now.id c.args.one.now _
+    c.requires.short
+    (c.split_at.ensures.back ∙ ap (drop 1) (c.deref.ensures.value ∙ c.in_ok-closed.ensures)) in
+    rw (p.1, p.2) (kept_as g.D.Disk _ _ _ _ _ _ _ _ (disk_fails e) (fails_disk e) short
+    (λ a b same other apart. same other (λ is. apart (is ∙ file))) c.in_err-replace.ensures.kept)
+
+pub returns-clause-kept : goal.returns-clause-kept
+returns-clause-kept g c =
+    let file : c.saturating_sub-other.result ≡ 3 - c.args.self.now.slot =
+    omega (arith, c.saturating_sub-other.ensures) in
+    let short = behind_fits (c.args.self.now.generation + 1) c.args.self.now.id c.args.one.now _
+    c.requires.short
+    (c.split_at.ensures.back ∙ ap (drop 1) (c.deref.ensures.value ∙ c.in_ok-closed.ensures)) in
+    kept_as g.D.Disk _ _ _ _ _ _ _ _ (λ f. absurd cc) (λ f. absurd cc) short
+    (λ a b same other apart. same other (λ is. apart (is ∙ file))) c.in_ok-replace.ensures.kept

@@ -1,0 +1,135 @@
+-- What a call keeps of the disk: where nothing was done, where the refusal is reported anew, and
+-- where one call follows another.
+use Rattle.std.proofs.Common.{◌≡◌, ◌∙◌, ◌+◌, ◌≤◌, Err, refl, ap, subst, ℕ, List, [], ◌∷◌}
+use Rattle.std.proofs.Common.{inl, inr, length, length-append, arith}
+use Rattle.std.specs.Prelude.{IsErrOf}
+use Rattle.disk.specs.{EndsOutOfRange, IsSameBut, KeepsDisk, State}
+use Rattle.disk.specs.Calls.{RisesByOne}
+use Rattle.disk.specs.declared.Disk.{Ghosts}
+use Rattle.disk.specs.declared.DiskError.{DiskError}
+use Rattle.disk.specs.declared.DiskError.TheVariants as disk
+use Rattle.record_log.specs.{DeviceFailed}
+use Rattle.record_log.specs.Error.{log_error}
+use Rattle.record_log.specs.declared.LogError.{LogError}
+use Rattle.record_log.specs.declared.LogError.TheVariants as log
+use Rattle.record_log.specs.declared.log.TheConstants.{MAX_RECORD}
+use Rattle.manifest.specs.Holds.{SparesOthers, closed_slot, slot_behind}
+use Rattle.manifest.specs.Errors.{ManifestFailsDevice, error_by_log}
+
+-- ---- reports
+
+-- the refusals of a log that a manifest reports as the device's
+pub log_fails : {T U : Type 0} (e : LogError) → ManifestFailsDevice {T = T} (Err (error_by_log e))
+    → DeviceFailed {T = U} (Err e)
+log_fails (log.Disk disk.Failed) f = refl
+log_fails (log.Disk disk.NoFile) f = absurd cc
+log_fails (log.Disk disk.Short) f = absurd cc
+log_fails (log.Disk disk.Memory) f = absurd cc
+log_fails log.Memory f = absurd cc
+log_fails log.TooLong f = absurd cc
+log_fails log.Failed f = absurd cc
+
+pub fails_log : {T U : Type 0} (e : LogError) → DeviceFailed {T = U} (Err e)
+    → ManifestFailsDevice {T = T} (Err (error_by_log e))
+fails_log (log.Disk disk.Failed) f = refl
+fails_log (log.Disk disk.NoFile) f = absurd cc
+fails_log (log.Disk disk.Short) f = absurd cc
+fails_log (log.Disk disk.Memory) f = absurd cc
+fails_log log.Memory f = absurd cc
+fails_log log.TooLong f = absurd cc
+fails_log log.Failed f = absurd cc
+
+pub log_again : {T U : Type 0} (e : LogError) → DeviceFailed {T = T} (Err e)
+    → DeviceFailed {T = U} (Err e)
+log_again (log.Disk disk.Failed) f = refl
+log_again (log.Disk disk.NoFile) f = absurd cc
+log_again (log.Disk disk.Short) f = absurd cc
+log_again (log.Disk disk.Memory) f = absurd cc
+log_again log.Memory f = absurd cc
+log_again log.TooLong f = absurd cc
+log_again log.Failed f = absurd cc
+
+-- the refusals of a disk that a log reports as the device's
+pub disk_fails : {T U : Type 0} (e : DiskError) → DeviceFailed {T = T} (Err (log_error e))
+    → IsErrOf {T = U} (Err e) disk.Failed
+disk_fails disk.Failed f = refl
+disk_fails disk.NoFile f = absurd cc
+disk_fails disk.Short f = absurd cc
+disk_fails disk.Memory f = absurd cc
+
+pub fails_disk : {T U : Type 0} (e : DiskError) → IsErrOf {T = U} (Err e) disk.Failed
+    → DeviceFailed {T = T} (Err (log_error e))
+fails_disk disk.Failed f = refl
+fails_disk disk.NoFile f = absurd cc
+fails_disk disk.Short f = absurd cc
+fails_disk disk.Memory f = absurd cc
+
+-- ---- slots
+
+-- a call on the second slot, and one on the first
+pub slots_alone : (a b c : State) → IsSameBut 2 a b → IsSameBut 1 b c → SparesOthers a c
+slots_alone a b c second first other apart =
+    first other (λ is. apart (inl is)) ∙ second other (λ is. apart (inr is))
+
+-- a slot with one record is no longer than a file may be
+pub closed_fits : (generation id : ℕ) (one bytes : List ℕ) → length one ≤ MAX_RECORD
+    → bytes ≡ closed_slot generation id one → EndsOutOfRange 0 (length bytes + 1) → ⊥
+closed_fits generation id one bytes short is over =
+    omega (arith, short, over, ap length is, length-append one (0 ∷ []))
+
+pub behind_fits : (generation id : ℕ) (one bytes : List ℕ) → length one ≤ MAX_RECORD
+    → bytes ≡ slot_behind generation id one → EndsOutOfRange 1 (length bytes) → ⊥
+behind_fits generation id one bytes short is over =
+    omega (arith, short, over, ap length is, length-append one (0 ∷ []))
+
+-- ---- calls
+
+module _ {D : Type 0} (g : Ghosts D) where
+  -- no call was made
+  pub kept_still : (disk : D) (has_failed cause : Type 0) (IsKept : State → State → Type 0)
+      → (has_failed → ⊥) → ((state : State) → IsKept state state)
+      → KeepsDisk g disk disk has_failed cause IsKept
+  kept_still disk has_failed cause IsKept works same = record {
+    honest = (λ h. h, λ h. h);
+    failed = λ f. absurd (works f);
+    count = λ w. refl;
+    only = λ r s f. absurd (works f);
+    reliable = λ r w. r;
+    files = λ h. same (g.state disk);
+    fault = refl;
+    spared = λ s w. s;
+  }
+
+  -- the same call, reported otherwise, and of which less is said
+  pub kept_as : (old new : D) (failed told cause why : Type 0)
+      (IsKept Kept : State → State → Type 0) → (told → failed) → (failed → told)
+      → (cause → why) → ((a b : State) → IsKept a b → Kept a b)
+      → KeepsDisk g old new failed cause IsKept → KeepsDisk g old new told why Kept
+  kept_as old new failed told cause why IsKept Kept back on so wider k = record {
+    honest = k.honest;
+    failed = λ f. k.failed (back f);
+    count = λ w. k.count (λ f. w (on f));
+    only = λ r s f. so (k.only r s (back f));
+    reliable = λ r w. k.reliable r (λ f. w (on f));
+    files = λ h. wider (g.state old) (g.state new) (k.files h);
+    fault = k.fault;
+    spared = λ s w. k.spared s (λ f. w (on f));
+  }
+
+  -- a call behind one that has not failed
+  pub kept_then : (old mid new : D) (failed cause told why : Type 0)
+      (First Second Both : State → State → Type 0) → (failed → ⊥)
+      → ((a b c : State) → First a b → Second b c → Both a c)
+      → KeepsDisk g old mid failed cause First → KeepsDisk g mid new told why Second
+      → KeepsDisk g old new told why Both
+  kept_then old mid new failed cause told why First Second Both works join a b = record {
+    honest = (λ h. a.honest.0 (b.honest.0 h), λ h. b.honest.1 (a.honest.1 h));
+    failed = λ f. subst (λ (n : ℕ). RisesByOne n (g.failures new)) (a.count works) (b.failed f);
+    count = λ w. b.count w ∙ a.count works;
+    only = λ r s f. b.only (a.reliable r works) s f;
+    reliable = λ r w. b.reliable (a.reliable r works) w;
+    files = λ h. join (g.state old) (g.state mid) (g.state new) (a.files h)
+        (b.files (a.honest.1 h));
+    fault = b.fault ∙ a.fault;
+    spared = λ s w. b.spared (a.spared s works) w;
+  }
