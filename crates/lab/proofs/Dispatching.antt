@@ -7,10 +7,12 @@ use Rattle.node.specs.declared.Node.{Node}
 use Rattle.node.specs.declared.Output.{Output}
 use Rattle.node.specs.{IsReady}
 use Rattle.lab.specs.declared.input.NodeInput.{NodeInput}
+use Rattle.lab.specs.declared.input.NodeInput.TheVariants as to_node
 use Rattle.lab.specs.declared.input.StepOutcome.TheVariants as done
 use Rattle.lab.specs.declared.node_state.NodeState.{NodeState}
 use Rattle.lab.specs.declared.node_state.NodeState.TheVariants.{Up, Down}
-use Rattle.lab.specs.Outcomes.{HasDispatched, OutcomeRefines, StateFollows, has_struck_in}
+use Rattle.lab.specs.Outcomes.{DropsResting, HasDispatched, IsAnswerAtRest, OutcomeRefines, Rests}
+use Rattle.lab.specs.Outcomes.{RestsOn, StateFollows, has_struck_in}
 use Rattle.lab.specs.SimNodes.{StateIsReady, StateRefines, calls_of, disk_in}
 use Rattle.lab.proofs.Faults.{idle}
 
@@ -43,3 +45,18 @@ answered_only g it node_input old output ready refines follows = record {
   follows = follows;
   forgets = λ honest unarmed. unarmed;
 }
+
+-- a node that is down takes what does not start it
+pub answered_at_rest : {D : Type 0} (g : Ghosts D) (it : Fault) (node_input : NodeInput) (disk : D)
+    (output : Output) → (node_input ≡ to_node.Start → ⊥) → IsAnswerAtRest node_input output →
+    HasDispatched g it node_input (Down disk) (Down disk) (done.Answered output)
+answered_at_rest g it (to_node.Step inp) disk output other is =
+    answered_only g it (to_node.Step inp) (Down disk) output (ready_down g disk)
+    (λ x n r. Rests r.2 r (output, refl, is n)) refl
+answered_at_rest g it (to_node.BadFrame why) disk output other is =
+    answered_only g it (to_node.BadFrame why) (Down disk) output (ready_down g disk)
+    (λ x n r. DropsResting r.2 r (output, refl, is)) refl
+answered_at_rest g it to_node.Start disk output other is = absurd (other refl)
+answered_at_rest g it (to_node.Stop junk) disk output other is =
+    answered_only g it (to_node.Stop junk) (Down disk) output (ready_down g disk)
+    (λ x n r. RestsOn r.2 r (output, refl, is)) refl

@@ -61,6 +61,13 @@ pub record IsRefusal (i : ℕ) (output : Output) : Type 0 where
   pub frames : output.frames.items ≡ []
   pub replied : output.replies.items ≡ reply.Refused i refusal.NotRunning ∷ []
 
+-- a node that is down answered an input that does not start it
+abbrev pub IsAnswerAtRest : NodeInput → Output → Type 0
+IsAnswerAtRest (to_node.Step inp) output = (n : Machine) → IsAnswer inp (down_answer n inp) output
+IsAnswerAtRest (to_node.BadFrame why) output = IsDrop reason.NotRunning output
+IsAnswerAtRest to_node.Start output = Unit {0}
+IsAnswerAtRest (to_node.Stop junk) output = IsDrop reason.NotRunning output
+
 -- the node answered, and such is the output
 abbrev pub HasAnswered : StepOutcome → (Output → Type 0) → Type 0
 HasAnswered did P = (output : Output) × (did ≡ done.Answered output) × P output

@@ -8,7 +8,7 @@ use kv_types::{Batch, Key, Number};
 use std::alloc::AllocError;
 
 /// One step of one node. A request has the number of its event's place, from 1.
-#[derive(Debug, Drop)]
+#[derive(Drop)]
 pub struct Event {
     pub kind: EventKind,
     /// A fault of the node's disk during the step. `Fail` makes a call of the disk fail, counted
@@ -22,10 +22,9 @@ impl Event {
     pub fn clone(&self) -> Result<Event, AllocError>
         ensures { IfOk result (λ event. event ≡ self.now) }
     {
-        Ok(Event {
-            kind: self.kind.clone()?,
-            fault: self.fault.clone()?,
-        })
+        let fault = self.fault.clone()?;
+        let kind = self.kind.clone()?;
+        Ok(Event { kind, fault })
     }
 }
 
@@ -35,7 +34,7 @@ pub struct EventRecord {
     pub event: Event,
 }
 
-#[derive(Debug, Drop)]
+#[derive(Drop)]
 pub enum EventKind {
     Submit {
         node: NodeId,

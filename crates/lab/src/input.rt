@@ -1,7 +1,7 @@
 // The inputs of a simulated node, and the outcomes of its steps.
 ghost use Rattle.std.specs.Prelude.{IfOk};
 ghost use Rattle.chain_core.specs.{Machine};
-ghost use Rattle.lab.specs.Outcomes.{IsAnswer, IsDrop, IsRefusal, down_answer};
+ghost use Rattle.lab.specs.Outcomes.{IsAnswer, IsAnswerAtRest, IsDrop, IsRefusal, down_answer};
 
 use configurations::Epoch;
 use disk::Junk;
@@ -59,8 +59,9 @@ fn refused(alloc: Global, request: Number) -> Result<Output, AllocError>
     })
 }
 
-/// The output of a node that is down: a client is refused, all else is dropped.
-pub fn output_down(alloc: Global, input: &Input) -> Result<Output, AllocError>
+// The output of a node that is down, to the input of a step: a client is refused, all else is
+// dropped.
+fn output_down(alloc: Global, input: &Input) -> Result<Output, AllocError>
     ensures { (n : Machine) → IfOk result (IsAnswer input.now (down_answer n input.now)) }
 {
     match input {
@@ -68,5 +69,15 @@ pub fn output_down(alloc: Global, input: &Input) -> Result<Output, AllocError>
         Input::Forward { .. } | Input::Ack { .. } | Input::Tick => {
             Ok(dropped(alloc, DropReason::NotRunning))
         }
+    }
+}
+
+/// The output of a node that is down, to what does not start it.
+pub fn output_at_rest(alloc: Global, input: &NodeInput) -> Result<Output, AllocError>
+    ensures { IfOk result (IsAnswerAtRest input.now) }
+{
+    match input {
+        NodeInput::Step(input) => output_down(alloc, input),
+        _ => Ok(dropped(alloc, DropReason::NotRunning)),
     }
 }

@@ -11,7 +11,7 @@ ghost use Rattle.lab.specs.SimNodes.{DownRefines, StateRefines, StateIsReady, ca
 ghost use Rattle.lab.specs.Outcomes.{DiskFits, HasCrashed, HasHandled, HasStarted, HasDispatched};
 ghost use Rattle.lab.specs.Outcomes.{IsExplained, has_struck_in};
 
-use crate::input::{NodeInput, StepOutcome, dropped, output_down};
+use crate::input::{NodeInput, StepOutcome, dropped, output_at_rest};
 use disk::laws::{crashed_is_durable, durable_is_left};
 use disk::{Crash, Disk, Fault, Junk};
 use kv_types::Limits;
@@ -88,6 +88,7 @@ fn start<D: Crash + Drop>(
     disk.arm(&fault);
     match Node::start(alloc, disk, limits) {
         Ok(mut node) => {
+            drop(fault);
             node.arm(&Fault::None);
             let outcome = StepOutcome::Started {
                 epoch: node.epoch(),
@@ -126,6 +127,7 @@ fn step<D: Crash + Drop>(
     node.arm(&fault);
     match node.step(alloc, input) {
         Ok(output) => {
+            drop(fault);
             node.arm(&Fault::None);
             (NodeState::Up(node), StepOutcome::Answered(output))
         }
@@ -146,14 +148,17 @@ fn dispatch_up<D: Crash + Drop>(
     match input {
         NodeInput::Step(input) => step(alloc, node, input, fault),
         NodeInput::BadFrame(why) => {
+            drop(fault);
             let output = dropped(alloc, why);
             (NodeState::Up(node), StepOutcome::Answered(output))
         }
         NodeInput::Start => {
+            drop(fault);
             let output = dropped(alloc, DropReason::Running);
             (NodeState::Up(node), StepOutcome::Answered(output))
         }
         NodeInput::Stop(junk) => {
+            drop(fault);
             let state = crash(node.into_disk(), junk);
             (state, StepOutcome::Stopped(None))
         }
@@ -164,23 +169,19 @@ fn dispatch_up<D: Crash + Drop>(
 fn dispatch_down<D: Crash + Drop>(
     alloc: Global,
     disk: D,
-    input: NodeInput,
+    input: &NodeInput,
     fault: Fault,
     limits: &Limits,
 ) -> Result<(NodeState<D>, StepOutcome), AllocError>
-    ensures { IfOk result (λ it. HasDispatched D.Disk fault input (NodeState.Down disk) it.0 it.1) }
+    ensures { IfOk result (λ it.
+        HasDispatched D.Disk fault input.now (NodeState.Down disk) it.0 it.1) }
 {
-    match input {
-        NodeInput::Step(input) => {
-            let output = output_down(alloc, &input)?;
-            Ok((NodeState::Down(disk), StepOutcome::Answered(output)))
-        }
-        NodeInput::Start => Ok(start(alloc, disk, fault, limits)),
-        NodeInput::BadFrame(_) | NodeInput::Stop(_) => {
-            let output = dropped(alloc, DropReason::NotRunning);
-            Ok((NodeState::Down(disk), StepOutcome::Answered(output)))
-        }
+    if let NodeInput::Start = input {
+        return Ok(start(alloc, disk, fault, limits));
     }
+    drop(fault);
+    let output = output_at_rest(alloc, input)?;
+    Ok((NodeState::Down(disk), StepOutcome::Answered(output)))
 }
 
 impl<D: Crash + Drop> NodeState<D> {
@@ -198,7 +199,7 @@ impl<D: Crash + Drop> NodeState<D> {
     {
         match self {
             NodeState::Up(node) => Ok(dispatch_up(alloc, node, input, fault)),
-            NodeState::Down(disk) => dispatch_down(alloc, disk, input, fault, limits),
+            NodeState::Down(disk) => dispatch_down(alloc, disk, &input, fault, limits),
         }
     }
 }

@@ -160,7 +160,7 @@ fn step_at(
     let state = NodeState::Down(MemDisk::new(alloc));
     let node = mem::replace(&mut nodes[index], SimNode { id, state });
     let (state, outcome) = node.state.dispatch(alloc, input, fault, limits)?;
-    nodes[index] = SimNode { id, state };
+    drop(mem::replace(&mut nodes[index], SimNode { id, state }));
     Ok(outcome)
 }
 
@@ -200,12 +200,18 @@ impl World {
         requires { IsIndexOf self.old.nodes.items index delivery.0 }
         ensures { OnOk result (HasDelivered self.old self.new event.now delivery.0 delivery.1) }
     {
-        keep(&mut self.events, event)?;
-        let fault = event.fault.clone()?;
         let to = delivery.0;
+        let fault = match event.fault.clone() {
+            Ok(fault) => fault,
+            Err(e) => {
+                drop(delivery);
+                return Err(LabError::from(e));
+            }
+        };
         let outcome = step_at(alloc, &mut self.nodes, index, delivery, fault, &self.limits)?;
         let lines = trace_of(alloc, &mut self.frames, to, outcome)?;
         self.steps.push(lines)?;
+        keep(&mut self.events, event)?;
         Ok(())
     }
 
@@ -226,6 +232,7 @@ impl World {
         };
         let to = delivery.0;
         let Some(index) = index_of(&self.nodes, to) else {
+            drop(delivery);
             return Ok(());
         };
         self.deliver(alloc, event, index, delivery)

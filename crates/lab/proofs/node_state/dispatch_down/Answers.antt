@@ -1,20 +1,9 @@
-use Rattle.std.proofs.Common.{refl, sym, subst, inl, inr}
+use Rattle.std.proofs.Common.{sym, subst}
 use Rattle.lab.specs.declared.input.NodeInput.{NodeInput}
-use Rattle.lab.specs.declared.input.NodeInput.TheVariants as to_node
-use Rattle.lab.specs.declared.input.StepOutcome.TheVariants as done
 use Rattle.lab.specs.declared.node_state.NodeState.TheVariants.{Down}
-use Rattle.lab.specs.Outcomes.{DropsResting, HasDispatched, Rests, RestsOn}
-use Rattle.lab.proofs.Dispatching.{answered_only, ready_down}
+use Rattle.lab.specs.Outcomes.{HasDispatched}
+use Rattle.lab.proofs.Dispatching.{answered_at_rest}
 use Rattle.lab.proofs.node_state.dispatch_down.Goals as goal
-
-pub returns-in-Step : goal.returns-in-Step
-returns-in-Step g c =
-    let output = c.in_ok-output-in-Step in
-    subst (λ (k : NodeInput). HasDispatched g.D.Disk c.args.fault k (Down c.args.disk)
-    (Down c.args.disk) (done.Answered output.output)) (sym c.in-Step.is)
-    (answered_only g.D.Disk c.args.fault (to_node.Step c.in-Step.input) (Down c.args.disk)
-    output.output (ready_down g.D.Disk c.args.disk)
-    (λ x n r. Rests r.2 r (output.output, refl, output.ensures n)) refl)
 
 pub returns-in-Start : goal.returns-in-Start
 returns-in-Start g c =
@@ -31,17 +20,6 @@ returns-in-Start g c =
 
 pub returns : goal.returns
 returns g c =
-    let output = c.dropped-output in
-    elim c.in-BadFrame.is as (λ _. HasDispatched g.D.Disk c.args.fault c.args.input (Down c.args.disk)
-    (Down c.args.disk) (done.Answered output.result)) [
-      | inl bad ↦ subst (λ (k : NodeInput). HasDispatched g.D.Disk c.args.fault k (Down c.args.disk)
-          (Down c.args.disk) (done.Answered output.result)) (sym bad.1)
-          (answered_only g.D.Disk c.args.fault (to_node.BadFrame bad.0) (Down c.args.disk)
-          output.result (ready_down g.D.Disk c.args.disk)
-          (λ x n r. DropsResting r.2 r (output.result, refl, output.ensures)) refl)
-      | inr stops ↦ subst (λ (k : NodeInput). HasDispatched g.D.Disk c.args.fault k
-          (Down c.args.disk) (Down c.args.disk) (done.Answered output.result)) (sym stops.1)
-          (answered_only g.D.Disk c.args.fault (to_node.Stop stops.0) (Down c.args.disk)
-          output.result (ready_down g.D.Disk c.args.disk)
-          (λ x n r. RestsOn r.2 r (output.result, refl, output.ensures)) refl)
-    ]
+    let output = c.in_ok-output in
+    answered_at_rest g.D.Disk c.args.fault c.args.input.now c.args.disk output.output
+    c.in_default.not-Start output.ensures

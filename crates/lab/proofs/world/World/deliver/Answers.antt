@@ -16,7 +16,7 @@ returns c =
     let took = subst (λ (l : List SimNode). HasMoved l it.0 it.1 c.args.event.now.fault did now)
     c.deref_mut.ensures.value
     (subst (λ (f : Fault). HasMoved c.deref_mut.result.now it.0 it.1 f did now)
-    c.in_ok-fault.ensures c.in_ok-outcome.ensures) in
+    c.in-Ok.ensures c.in_ok-outcome.ensures) in
     let size = as_many nodes.items it.0 it.1 c.args.event.now.fault did now took
     ∙ sym nodes.ok.0 in
     record {
