@@ -7,3 +7,6 @@ pub mod Held
 pub mod Opens
 pub mod Blank
 pub mod Engines
+pub mod LevelLemmas
+pub mod OpenTables
+pub mod SideBySide

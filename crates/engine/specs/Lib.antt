@@ -4,6 +4,7 @@ pub mod Files
 pub mod Stores
 pub mod Engines
 pub mod Calls
+pub mod LevelTables
 pub mod KeepingLemmas
 -- What crates above name.
 pub use Rattle.engine.specs.Calls.{Goes, IsNewEngine, IsEngineOf, IsJustOpened, IsOldOrNewSince, IsOpened}

@@ -5,6 +5,7 @@ mod engine;
 mod error;
 pub mod laws;
 mod layout;
+mod levels;
 mod recovery;
 mod store;
 

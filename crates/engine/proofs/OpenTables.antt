@@ -1,0 +1,119 @@
+-- Open tables: which tables they serve, and what they have of a key.
+use Rattle.std.proofs.Common.{◌≡◌, ℕ, List, length, Option, Some, None, inl, inr, sym, ◌∙◌, ap, subst, Contains}
+use Rattle.std.specs.Prelude.{IsSomeAnd}
+use Rattle.disk.specs.declared.Disk.{Ghosts}
+use Rattle.disk.specs.{Contents, contents, IsSame, IsStill, KeepsDisk, Slot, State, seen}
+use Rattle.disk.specs.StillLemmas.{still, still_more}
+use Rattle.kv_types.specs.{Entry}
+use Rattle.table_format.specs.{IsEnvironmentError, TableRepresents}
+use Rattle.table_format.specs.declared.TableError.{TableError}
+use Rattle.sorted_table.specs.{FileRepresents, LookupFinds, TableServes, table_file}
+use Rattle.sorted_table.specs.declared.FoundVersion.{FoundVersion}
+use Rattle.table_files.specs.{inner_disk}
+use Rattle.table_files.specs.declared.Files.{Files}
+use Rattle.store_model.specs.{LevelTable}
+use Rattle.manifest.specs.declared.TableLine.{TableLine}
+use Rattle.engine.specs.declared.levels.OpenTable.{OpenTable}
+use Rattle.engine.specs.KeepingLemmas.{kept_as, kept_behind, neither, same_files, same_then_same}
+use Rattle.engine.specs.KeepingLemmas.{unchanged}
+use Rattle.engine.specs.Errors.{IsOfMachine}
+use Rattle.engine.specs.LevelTables.{EntriesFind, IsServed, IsTableOf, error_of_table}
+
+-- a refusal that says nothing of a file
+pub of_table : (e : TableError) → IsEnvironmentError e → IsOfMachine (error_of_table e)
+of_table e (inl failed) = inl (ap error_of_table failed)
+of_table e (inr memory) = inr (ap error_of_table memory)
+
+second_of : (P Q : List ℕ → Type 0) (file : Option (List ℕ))
+    → IsSomeAnd file (λ bytes. P bytes × Q bytes) → IsSomeAnd file Q
+second_of P Q None it = it
+second_of P Q (Some bytes) it = it.1
+
+-- the file of a line's table represents its entries
+pub file_represents : (left : Contents) (line : TableLine) (table : LevelTable) (slot : Slot)
+    → IsTableOf left line table → seen slot ≡ left line.file → FileRepresents slot table.entries
+file_represents left line table slot is same =
+    subst (λ (o : Option (List ℕ)). IsSomeAnd o (λ bytes. TableRepresents bytes table.entries))
+    (sym same)
+    (second_of (λ bytes. length bytes ≡ line.length) (λ bytes. TableRepresents bytes table.entries)
+    (left line.file) is.represents)
+
+-- a lookup in a table finds what its entries have
+pub found_in : (entries : List Entry) (key : List ℕ) (at : ℕ) (found : Option FoundVersion)
+    → LookupFinds entries key at found → EntriesFind at (Contains entries) key found
+found_in entries key at None it = it
+found_in entries key at (Some found) it = it
+
+-- while the files stay, the same tables are served
+pub served_same : (old new : State) (it : OpenTable) (table : LevelTable) → IsSame old new
+    → IsServed old it table → IsServed new it table
+served_same old new it table same served = record {
+  level = served.level;
+  file = served.file;
+  range = served.range;
+  serves = subst (λ (slot : Slot). TableServes slot it.table table.entries)
+      (sym (same (table_file it.table))) served.serves;
+}
+
+pub lines_same : (old new : State) (line : TableLine) (table : LevelTable) → IsSame old new
+    → IsTableOf (contents old) line table → IsTableOf (contents new) line table
+lines_same old new line table same is = record {
+  level = is.level;
+  file = is.file;
+  range = is.range;
+  represents = subst (λ (o : Option (List ℕ)). IsSomeAnd o
+      (λ bytes. (length bytes ≡ line.length) × TableRepresents bytes table.entries))
+      (ap seen (sym (same line.file))) is.represents;
+}
+
+pub same_back : (old new : State) → IsSame old new → IsSame new old
+same_back old new same file = sym (same file)
+
+-- ---- files as a disk
+
+-- the ghost members of files are those of the disk inside
+abbrev pub files_ghosts : {D : Type 0} (g : Ghosts D) → Ghosts (Files D g)
+files_ghosts g = record {
+  is_honest = λ files. g.is_honest (inner_disk files);
+  state = λ files. g.state (inner_disk files);
+  failures = λ files. g.failures (inner_disk files);
+  is_reliable = λ files. g.is_reliable (inner_disk files);
+  past = λ files. g.past (inner_disk files);
+  fault_at = λ files. g.fault_at (inner_disk files);
+  allocates = g.allocates;
+}
+
+-- ---- some calls that only read
+
+-- no call failed, and nothing changed
+pub record HasOnlyRead {D : Type 0} (g : Ghosts D) (old new : D) : Type 0 where
+  pub kept : KeepsDisk g old new ⊥ ⊥ IsSame
+  pub still : IsStill g old new
+
+pub none_read : {D : Type 0} (g : Ghosts D) (disk : D) → HasOnlyRead g disk disk
+none_read g disk = record {
+  kept = unchanged g same_files;
+  still = λ honest. still (g.state disk) (g.past disk);
+}
+
+module _ {D : Type 0} (g : Ghosts D) (old mid : D) (before : HasOnlyRead g old mid) where
+  -- a call more, which failed or not
+  pub read_then : {new : D} {told : Type 0} → KeepsDisk g mid new told ⊥ IsSame →
+      KeepsDisk g old new told ⊥ IsSame
+  read_then kept = kept_behind g same_then_same before.kept (λ fails. fails) kept
+
+  pub still_then : {new : D} → IsStill g mid new → IsStill g old new
+  still_then more honest =
+      still_more (before.still honest) (more (before.kept.honest.1 honest))
+
+  -- a call more, which did not fail
+  pub read_more : {new : D} {told : Type 0} → KeepsDisk g mid new told ⊥ IsSame → (told → ⊥)
+      → IsStill g mid new → HasOnlyRead g old new
+  read_more kept works more = record {
+    kept = read_then (kept_as g (neither works (λ fails. fails)) (λ a b same. same) kept);
+    still = still_then more;
+  }
+
+  -- the calls end, and none failed
+  pub read_all : {told : Type 0} → (told → ⊥) → KeepsDisk g old mid told ⊥ IsSame
+  read_all ends = kept_as g (neither (λ fails. fails) ends) (λ a b same. same) before.kept

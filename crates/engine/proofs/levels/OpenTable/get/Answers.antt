@@ -1,0 +1,29 @@
+use Rattle.std.proofs.Common.{List, ℕ, subst, Contains}
+use Rattle.disk.specs.StillLemmas.{still}
+use Rattle.engine.specs.Errors.{IsOfMachine}
+use Rattle.engine.specs.LevelTables.{EntriesFind}
+use Rattle.engine.proofs.Causes.{refuses}
+use Rattle.engine.proofs.OpenTables.{found_in, of_table}
+use Rattle.engine.proofs.levels.OpenTable.get.Goals as goal
+
+-- no call of the disk is made
+pub returns-then-not-may_have-clause-still : goal.returns-then-not-may_have-clause-still
+returns-then-not-may_have-clause-still g c = λ honest. still _ _
+
+-- the table was not read
+pub returns-in_err-get_hashed-clause-found : goal.returns-in_err-get_hashed-clause-found
+returns-in_err-get_hashed-clause-found g c = λ table honest served fits.
+    refuses c.from_residual.result _ IsOfMachine c.from_residual.ensures.1
+    (of_table c.in_err-get_hashed.field-0.0
+    (c.in_err-get_hashed.ensures.found table.entries honest served.serves))
+
+-- what the table has
+pub returns-clause-found : goal.returns-clause-found
+returns-clause-found g c = λ table honest served fits.
+    let found = c.in_ok-get_hashed.field-0 in
+    let here = found_in table.entries c.as_bytes.result.now c.get.result found
+    (c.in_ok-get_hashed.ensures.found table.entries honest served.serves) in
+    subst (λ (k : List ℕ). EntriesFind c.args.at (Contains table.entries) k found)
+    c.as_bytes.ensures.bytes
+    (subst (λ (n : ℕ). EntriesFind n (Contains table.entries) c.as_bytes.result.now found)
+    c.get.ensures.same here)

@@ -1,0 +1,51 @@
+use Rattle.std.proofs.Common.{ap}
+use Rattle.disk.specs.{contents, seen}
+use Rattle.disk.specs.StillLemmas.{still, still_more, still_same}
+use Rattle.engine.specs.Errors.{IsOfMachine}
+use Rattle.engine.proofs.Causes.{refuses}
+use Rattle.engine.proofs.OpenTables.{file_represents, of_table}
+use Rattle.engine.proofs.levels.OpenTable.open.Goals as goal
+
+-- the length was read, and then the table
+pub returns-in_err-length-clause-still : goal.returns-in_err-length-clause-still
+returns-in_err-length-clause-still g c = λ honest.
+    still_same (still (g.D.Disk.state c.args.disk.now) (g.D.Disk.past c.args.disk.now))
+    (c.length.ensures.passes honest).moment (c.length.ensures.kept.disk.files honest)
+
+pub returns-then-branch-line-clause-still : goal.returns-then-branch-line-clause-still
+returns-then-branch-line-clause-still g c = λ honest.
+    still_same (still (g.D.Disk.state c.args.disk.now) (g.D.Disk.past c.args.disk.now))
+    (c.length.ensures.passes honest).moment (c.length.ensures.kept.disk.files honest)
+
+pub returns-in_err-table-clause-still : goal.returns-in_err-table-clause-still
+returns-in_err-table-clause-still g c = λ honest.
+    still_more
+    (still_same (still (g.D.Disk.state c.args.disk.now) (g.D.Disk.past c.args.disk.now))
+    (c.length.ensures.passes honest).moment (c.length.ensures.kept.disk.files honest))
+    (c.open.ensures.still (c.length.ensures.kept.disk.honest.1 honest))
+
+pub returns-in_err-line-clause-still : goal.returns-in_err-line-clause-still
+returns-in_err-line-clause-still g c = λ honest.
+    still_more
+    (still_same (still (g.D.Disk.state c.args.disk.now) (g.D.Disk.past c.args.disk.now))
+    (c.length.ensures.passes honest).moment (c.length.ensures.kept.disk.files honest))
+    (c.open.ensures.still (c.length.ensures.kept.disk.honest.1 honest))
+
+pub returns-clause-still : goal.returns-clause-still
+returns-clause-still g c = λ honest.
+    still_more
+    (still_same (still (g.D.Disk.state c.args.disk.now) (g.D.Disk.past c.args.disk.now))
+    (c.length.ensures.passes honest).moment (c.length.ensures.kept.disk.files honest))
+    (c.open.ensures.still (c.length.ensures.kept.disk.honest.1 honest))
+
+-- the file is that of a table, so only the machine refuses
+pub returns-in_err-table-clause-opened : goal.returns-in_err-table-clause-opened
+returns-in_err-table-clause-opened g c = λ table honest is.
+    let old = g.D.Disk.state c.args.disk.now in
+    let line = c.args.line.now in
+    let has = file_represents (contents old) line table
+    (g.D.Disk.state c.length.new.self line.file) is
+    (ap seen (c.length.ensures.kept.disk.files honest line.file)) in
+    refuses c.from_residual-in_err-table.result _ IsOfMachine
+    c.from_residual-in_err-table.ensures.1 (of_table c.in_err-table.field-0.0
+    (c.in_err-table.ensures.opened table.entries (c.length.ensures.kept.disk.honest.1 honest) has))

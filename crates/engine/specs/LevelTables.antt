@@ -1,0 +1,120 @@
+-- The open tables of a store, level by level, and what a lookup in them finds.
+use Rattle.std.specs.Prelude.{◌≡◌, ℕ, ◌<◌, ◌≤◌, List, [], ◌∷◌, length, map, take, All, Contains}
+use Rattle.std.specs.Prelude.{Option, Some, None, IsSomeAnd, ◌==◌, if◌then◌else◌}
+use Rattle.std.specs.List.{AllZip}
+use Rattle.std.specs.Option.{option_map, option_flatten}
+use Rattle.disk.specs.{State, Contents}
+use Rattle.kv_types.specs.{BatchContent, Entry, IsNewest, IsUnseen, map_of}
+use Rattle.table_format.specs.{TableRepresents}
+use Rattle.table_format.specs.declared.TableError.{TableError}
+use Rattle.table_format.specs.declared.TableError.TheVariants as table
+use Rattle.sorted_table.specs.{TableServes, found_entry, table_file}
+use Rattle.sorted_table.specs.declared.FoundVersion.{FoundVersion}
+use Rattle.store_model.specs.{KeyRange, LevelTable, StoreFinds, StoreRepresents, StoreState}
+use Rattle.store_model.specs.{TableLacks, level_entries, memory_entries}
+use Rattle.manifest.specs.declared.TableLine.{TableLine}
+use Rattle.manifest.specs.Versions.{AreInOrder, table_is_before}
+use Rattle.engine.specs.declared.error.EngineError.{EngineError}
+use Rattle.engine.specs.declared.error.EngineError.TheVariants as engine
+use Rattle.engine.specs.declared.levels.OpenTable.{OpenTable}
+use Rattle.engine.specs.declared.levels.LevelTables.{LevelTables}
+
+-- an opening or a lookup never meets the errors of a builder
+abbrev pub error_of_table : TableError → EngineError
+error_of_table table.Disk = engine.Disk
+error_of_table table.Damaged = engine.Damaged
+error_of_table table.Memory = engine.Memory
+error_of_table table.Order = engine.Failed
+error_of_table table.TooLarge = engine.Failed
+error_of_table table.Failed = engine.Failed
+
+-- ---- the tables that lines of a manifest name
+
+-- from the least key of the line to the greatest
+abbrev pub line_range : TableLine → KeyRange
+line_range line = record { least = line.least; greatest = line.greatest }
+
+-- the line names the table: its file has the line's length, and represents the table's entries
+pub record IsTableOf (left : Contents) (line : TableLine) (table : LevelTable) : Type 0 where
+  pub level : table.level ≡ line.level
+  pub file : table.file ≡ line.file
+  pub range : table.range ≡ line_range line
+  pub represents : IsSomeAnd (left line.file)
+      (λ bytes. (length bytes ≡ line.length) × TableRepresents bytes table.entries)
+
+-- line by line
+abbrev pub AreTablesOf : Contents → List TableLine → List LevelTable → Type 0
+AreTablesOf left = AllZip (IsTableOf left)
+
+-- no table stands behind one of a deeper level
+abbrev pub LevelsRise : List LevelTable → Type 0
+LevelsRise [] = Unit {0}
+LevelsRise (t ∷ others) = All (λ u. t.level ≤ u.level) others × LevelsRise others
+
+-- tables stand in order of level where their lines stand in order
+abbrev pub LinesInOrderRise : Type 0
+LinesInOrderRise =
+    (left : Contents) (lines : List TableLine) (tables : List LevelTable)
+    → AreInOrder table_is_before lines → AreTablesOf left lines tables → LevelsRise tables
+
+-- ---- open tables
+
+-- the lines of the open tables
+abbrev pub table_lines : LevelTables → List TableLine
+table_lines it = map (λ one. one.line) it.tables.items
+
+-- the open table has the table's level and range, and serves its entries from its file
+pub record IsServed (disk : State) (it : OpenTable) (table : LevelTable) : Type 0 where
+  pub level : table.level ≡ it.line.level
+  pub file : table.file ≡ table_file it.table
+  pub range : table.range ≡ line_range it.line
+  pub serves : TableServes (disk (table_file it.table)) it.table table.entries
+
+-- the open tables serve these tables, in the same order
+abbrev pub AreServed : State → LevelTables → List LevelTable → Type 0
+AreServed disk it tables = AllZip (IsServed disk) it.tables.items tables
+
+-- a table of level 0 more, behind the others of level 0
+abbrev pub with_flushed : List LevelTable → LevelTable → List LevelTable
+with_flushed [] table = table ∷ []
+with_flushed (t ∷ others) table =
+    if t.level == 0 then t ∷ with_flushed others table else table ∷ t ∷ others
+
+-- ---- lookups
+
+-- of these entries a lookup finds the newest of the key that is seen at the number, or none
+abbrev pub EntriesFind : ℕ → (Entry → Type 0) → List ℕ → Option FoundVersion → Type 0
+EntriesFind at entries key None = IsUnseen at entries key
+EntriesFind at entries key (Some found) = IsNewest at entries (found_entry key found)
+
+-- no table above the level has an entry of the key that is seen at the number
+abbrev pub LesserLack : ℕ → List LevelTable → List ℕ → ℕ → Type 0
+LesserLack at tables key level =
+    (t : LevelTable) → Contains tables t → t.level < level → TableLacks at t key
+
+-- a lookup in tables looks in each level in turn, and stops at the first that has an entry
+abbrev pub TablesFind : ℕ → List LevelTable → List ℕ → Option FoundVersion → Type 0
+TablesFind at tables key None = (t : LevelTable) → Contains tables t → TableLacks at t key
+TablesFind at tables key (Some found) =
+    (level : ℕ) × LesserLack at tables key level
+    × EntriesFind at (level_entries tables level) key (Some found)
+
+-- what was found, as stores tell it: nothing, a value, or a deletion
+abbrev pub found_value : Option FoundVersion → Option (Option (List ℕ))
+found_value found = option_map (λ it. option_map (λ value. value.items) it.value) found
+
+-- where memory has no entry of the key, what the tables have of it is what the store has
+abbrev pub TablesFindForStores : Type 0
+TablesFindForStores =
+    (batches : List BatchContent) (store : StoreState) (at : ℕ) (key : List ℕ)
+    (found : Option FoundVersion) → IsUnseen at (memory_entries batches store) key
+    → TablesFind at store.tables key found → StoreFinds at batches store key (found_value found)
+
+-- and so it is what the map has
+abbrev pub TableLookUpsAreMaps : Type 0
+TableLookUpsAreMaps =
+    (batches : List BatchContent) (store : StoreState) → StoreRepresents batches store
+    → (at : ℕ) → store.floor ≤ at → at ≤ length batches → (key : List ℕ)
+    (found : Option FoundVersion) → IsUnseen at (memory_entries batches store) key
+    → TablesFind at store.tables key found
+    → option_flatten (found_value found) ≡ map_of (take at batches) key

@@ -1,0 +1,184 @@
+//! Open tables, level by level, and lookups in them. The store of today has no tables, and does not
+//! use them yet.
+ghost use Rattle.std.specs.Prelude.{◌≡◌, ◌⊎◌, ◌↔◌, ℕ, List, IfOk, IfErr, IsTrue, MatchResult};
+ghost use Rattle.std.specs.Prelude.{Contains, [], ◌∷◌, ◌++◌};
+ghost use Rattle.bloom.specs.{hashes_of};
+ghost use Rattle.disk.specs.{IsSame, IsStill, KeepsDisk, contents};
+ghost use Rattle.store_model.specs.{AreLeveled, FitsRange, LevelTable, RangeHolds};
+ghost use Rattle.store_model.specs.{level_entries};
+ghost use Rattle.engine.specs.Errors.{FailsDevice, IsEnd, IsOfMachine};
+ghost use Rattle.engine.specs.LevelTables.{AreServed, AreTablesOf, EntriesFind, IsServed};
+ghost use Rattle.engine.specs.LevelTables.{IsTableOf, LevelsRise, TablesFind};
+ghost use Rattle.engine.specs.LevelTables.{error_of_table, line_range, table_lines};
+
+use crate::EngineError;
+use bloom::KeyHashes;
+use disk::Disk;
+use kv_types::{Key, Number};
+use manifest::TableLine;
+use sorted_table::{FoundVersion, Table};
+use std::alloc::Global;
+use table_files::Files;
+use table_format::TableError;
+
+impl From<TableError> for EngineError {
+    ghost from_gives = { λ t e. e ≡ error_of_table t };
+
+    fn from(e: TableError) -> EngineError {
+        match e {
+            TableError::Disk => EngineError::Disk,
+            TableError::Damaged => EngineError::Damaged,
+            TableError::Memory => EngineError::Memory,
+            TableError::Order | TableError::TooLarge | TableError::Failed => EngineError::Failed,
+        }
+    }
+}
+
+/// An open table, and its line in the manifest.
+#[derive(Drop)]
+pub(crate) struct OpenTable {
+    line: TableLine,
+    table: Table,
+}
+
+impl OpenTable {
+    /// Opens the table that a line names. `Damaged` where the file has not the line's length, or
+    /// represents no table.
+    pub(crate) fn open<D: Disk>(
+        alloc: Global,
+        disk: &mut D,
+        line: &TableLine,
+    ) -> Result<OpenTable, EngineError>
+        ensures kept { KeepsDisk D.Disk disk.old disk.new (FailsDevice result) ⊥ IsSame }
+        ensures opened { (table : LevelTable) → D.is_honest disk.old →
+            IsTableOf (contents (D.state disk.old)) line.now table →
+            MatchResult result (λ it. IsServed (D.state disk.new) it table) IsOfMachine }
+        ensures line { IfOk result (λ it. it.line ≡ line.now) }
+        ensures causes { IfErr result IsEnd }
+        ensures still { IsStill D.Disk disk.old disk.new }
+    {
+        if disk.length(line.file)? != line.length {
+            return Err(EngineError::Damaged);
+        }
+        let table = Table::open(alloc, disk, line.file)?;
+        let line = line.clone()?;
+        Ok(OpenTable { line, table })
+    }
+
+    // Whether the range of the table holds the key.
+    fn may_have(&self, key: &Key) -> bool
+        ensures { IsTrue result ↔ RangeHolds (line_range self.now.line) key.now }
+    {
+        key >= &self.line.least && key <= &self.line.greatest
+    }
+
+    // What the table has of the key with these hashes. Where its range does not hold the key, it
+    // is not read.
+    fn get<D: Disk + Drop>(
+        &self,
+        alloc: Global,
+        files: &mut Files<D>,
+        key: &Key,
+        hashes: KeyHashes,
+        at: Number,
+    ) -> Result<Option<FoundVersion>, EngineError>
+        requires { hashes ≡ hashes_of key.now }
+        ensures kept { KeepsDisk ⟦<Files<D> as Disk>⟧ files.old files.new (FailsDevice result) ⊥
+            IsSame }
+        ensures found { (table : LevelTable) → ⟦<Files<D> as Disk>⟧.is_honest files.old →
+            IsServed (⟦<Files<D> as Disk>⟧.state files.old) self.now table → FitsRange table →
+            MatchResult result (EntriesFind at (Contains table.entries) key.now) IsOfMachine }
+        ensures causes { IfErr result IsEnd }
+        ensures still { IsStill ⟦<Files<D> as Disk>⟧ files.old files.new }
+    {
+        if !self.may_have(key) {
+            return Ok(None);
+        }
+        Ok(
+            self.table
+                .get_hashed(alloc, files, key.as_bytes(), hashes, at.get())?,
+        )
+    }
+}
+
+// The one with the greater number, if there is one: with one table more in a level, the newest.
+fn newer_of(best: Option<FoundVersion>, found: Option<FoundVersion>) -> Option<FoundVersion>
+    ensures { (at : ℕ) (key : List ℕ) (tables : List LevelTable) (table : LevelTable) →
+        EntriesFind at (level_entries tables table.level) key best →
+        EntriesFind at (Contains table.entries) key found →
+        EntriesFind at (level_entries (tables ++ table ∷ []) table.level) key result }
+{
+    let Some(best) = best else {
+        return found;
+    };
+    let Some(found) = found else {
+        return Some(best);
+    };
+    if found.number > best.number {
+        Some(found)
+    } else {
+        Some(best)
+    }
+}
+
+/// The open tables of a store, in order of level, then (level 0) of file, (deeper) of key.
+#[derive(Drop)]
+pub(crate) struct LevelTables {
+    tables: Vec<OpenTable>,
+}
+
+impl LevelTables {
+    /// Opens the tables that these lines name. Where they name tables, only the machine refuses.
+    pub(crate) fn open<D: Disk>(
+        alloc: Global,
+        disk: &mut D,
+        lines: &[TableLine],
+    ) -> Result<LevelTables, EngineError>
+        ensures kept { KeepsDisk D.Disk disk.old disk.new (FailsDevice result) ⊥ IsSame }
+        ensures opened { (tables : List LevelTable) → D.is_honest disk.old →
+            AreTablesOf (contents (D.state disk.old)) lines.now tables →
+            MatchResult result (λ it. AreServed (D.state disk.new) it tables) IsOfMachine }
+        ensures lines { IfOk result (λ it. table_lines it ≡ lines.now) }
+        ensures causes { IfErr result IsEnd }
+        ensures still { IsStill D.Disk disk.old disk.new }
+    {
+        let mut tables = Vec::new(alloc);
+        for line in lines {
+            tables.push(OpenTable::open(alloc, disk, line)?)?;
+        }
+        Ok(LevelTables { tables })
+    }
+
+    /// The newest version of the key with at most this number, if the tables have one. The levels
+    /// are looked up in turn, up to the first that has an entry of the key.
+    pub(crate) fn get<D: Disk + Drop>(
+        &self,
+        alloc: Global,
+        files: &mut Files<D>,
+        key: &Key,
+        at: Number,
+    ) -> Result<Option<FoundVersion>, EngineError>
+        ensures kept { KeepsDisk ⟦<Files<D> as Disk>⟧ files.old files.new (FailsDevice result) ⊥
+            IsSame }
+        ensures found { (tables : List LevelTable) (flushed : ℕ) →
+            ⟦<Files<D> as Disk>⟧.is_honest files.old →
+            AreServed (⟦<Files<D> as Disk>⟧.state files.old) self.now tables →
+            AreLeveled flushed tables → LevelsRise tables →
+            MatchResult result (TablesFind at tables key.now) IsOfMachine }
+        ensures causes { IfErr result IsEnd }
+        ensures still { IsStill ⟦<Files<D> as Disk>⟧ files.old files.new }
+    {
+        let hashes = KeyHashes::of(key.as_bytes());
+        let mut level = 0;
+        let mut best = None;
+        for open in &self.tables {
+            if best.is_some() && open.line.level != level {
+                return Ok(best);
+            }
+            level = open.line.level;
+            let found = open.get(alloc, files, key, hashes, at)?;
+            best = newer_of(best, found);
+        }
+        Ok(best)
+    }
+}
