@@ -10,3 +10,5 @@ pub mod Engines
 pub mod LevelLemmas
 pub mod OpenTables
 pub mod SideBySide
+pub mod NamedFiles
+pub mod FlushedFiles

@@ -2,6 +2,9 @@ pub mod Errors
 pub mod Layout
 pub mod Files
 pub mod Stores
+pub mod BatchLogs
+pub mod LevelTables
+pub mod StoreFiles
 pub mod Engines
 pub mod Calls
 pub mod LevelTables

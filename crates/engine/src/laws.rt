@@ -6,9 +6,13 @@ ghost use Rattle.engine.specs.declared.engine.Engine.{Engine};
 ghost use Rattle.engine.specs.Engines.{EngineReads, HasLongFile, IsNearlyFull, engine_disk};
 ghost use Rattle.engine.specs.LevelTables.{LinesInOrderRise, TableLookUpsAreMaps};
 ghost use Rattle.engine.specs.LevelTables.{TablesFindForStores};
+ghost use Rattle.engine.specs.StoreFiles.{FirstFilesRepresent, FlushesRepresent};
+ghost use Rattle.engine.specs.StoreFiles.{LongerLogsRepresent, StoreFilesAreNamed};
+ghost use Rattle.engine.specs.StoreFiles.{StoreFilesShowMaps};
 
 use disk::Disk;
 use record_log::gates_are_in_files;
+use store_model::{appends_keep, empty_represents, flushes_keep, look_ups_are_maps};
 
 /// Where an engine's log is nearly full, its disk has a file nearly as long as a file can be.
 pub fn full_logs_are_long<D: Disk + Drop>()
@@ -33,4 +37,43 @@ pub fn table_look_ups_are_maps()
     ensures maps { TableLookUpsAreMaps }
 {
     store_model::look_ups_are_maps(); // law: what a store finds first is what the map has
+}
+
+/// What slots, logs and tables represent together depends on the files that they name alone.
+// law: of `StoreFilesRepresent`
+pub fn store_files_are_named()
+    ensures { StoreFilesAreNamed }
+{}
+
+/// What a lookup in memory and tables finds is what the map of so many first batches has.
+// law: of `StoreFilesRepresent`
+pub fn store_files_show_maps()
+    ensures { StoreFilesShowMaps }
+{
+    look_ups_are_maps();
+}
+
+/// The first version of a node and a log without records represent the empty list.
+// law: of `StoreFilesRepresent`
+pub fn first_files_represent()
+    ensures { FirstFilesRepresent }
+{
+    empty_represents();
+}
+
+/// With the memtable in a table, a new log, and both in the manifest, the files represent the same
+/// list.
+// law: of `StoreFilesRepresent`
+pub fn flushes_represent()
+    ensures { FlushesRepresent }
+{
+    flushes_keep();
+}
+
+/// With one more batch in the logs, the files represent the list with that batch.
+// law: of `StoreFilesRepresent`
+pub fn longer_logs_represent()
+    ensures { LongerLogsRepresent }
+{
+    appends_keep();
 }

@@ -12,6 +12,7 @@ use Rattle.std.specs.Cmp.Lexicographic.{slice_cmp}
 use Rattle.kv_types.specs.Order.{IsBelow}
 use Rattle.kv_types.specs.ByteOrderLemmas.{lt_below, below_is_strict}
 use Rattle.manifest.specs.declared.line.TableLine.{TableLine}
+use Rattle.manifest.specs.VersionsLemmas.{placed_last}
 use Rattle.manifest.specs.Versions.{placed, log_is_before, table_is_before, AreInOrder}
 
 either : (b : Bool) → (b ≡ true) ⊎ (b ≡ false)
@@ -69,15 +70,6 @@ placed_order {A} before order (y ∷ ys) x is =
         placed_order before order ys x is.1,
       )
     ]
-
--- what comes before none stands last
-pub placed_last : {A : Type 0} (before : A → A → Bool) (xs : List A) (x : A)
-    → All (λ y. before x y ≡ false) xs → placed before xs x ≡ xs ++ x ∷ []
-placed_last before [] x all = refl
-placed_last {A} before (y ∷ ys) x all =
-    let f : before x y ≡ false = All-head (λ y. before x y ≡ false) y ys all in
-    rw f (ap (λ (l : List A). y ∷ l)
-    (placed_last before ys x (All-tail (λ y. before x y ≡ false) y ys all)))
 
 -- it stands before the first that it comes before
 pub placed_at : {A : Type 0} (before : A → A → Bool) (xs : List A) (x : A) (n : ℕ)

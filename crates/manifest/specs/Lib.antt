@@ -1,5 +1,6 @@
 pub mod Errors
 pub mod Versions
+pub mod VersionsLemmas
 pub mod Edits
 pub mod Lawful
 pub mod Reading
@@ -12,3 +13,14 @@ pub mod Heads
 pub mod Opening
 pub mod Laws
 pub mod Examples
+-- What crates above name.
+pub use Rattle.manifest.specs.Edits.{IsChange, change_text}
+pub use Rattle.manifest.specs.Errors.{IsManifestExternal, ManifestFailsDevice}
+pub use Rattle.manifest.specs.Laws.{VersionIsOne, VersionsAreLawful}
+pub use Rattle.manifest.specs.Lawful.{IsVersion}
+pub use Rattle.manifest.specs.Manifests.{ManifestHasFailed, ManifestHasNoRoom, ManifestHolds}
+pub use Rattle.manifest.specs.Manifests.{counting_file, generation_of, spare_file, version_of}
+pub use Rattle.manifest.specs.Slots.{IsNotCreated, IsSlot, IsSlotFile, IsSuperseded}
+pub use Rattle.manifest.specs.Slots.{ManifestRepresents, SlotsAreLeft, SlotsRepresent, other_slot}
+pub use Rattle.manifest.specs.Versions.{Change, IsFit, NodeVersion, StoreVersion, changed}
+pub use Rattle.manifest.specs.Versions.{first_version, node_version_after}

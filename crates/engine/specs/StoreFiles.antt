@@ -1,0 +1,143 @@
+-- What slots, logs and tables of a store represent together: a list of batches, and facts beside it.
+use Rattle.std.specs.Prelude.{◌≡◌, ◌⊎◌, ℕ, suc, ◌+◌, ◌-◌, ◌<◌, ◌≤◌, List, [], ◌∷◌, ◌++◌}
+use Rattle.std.specs.Prelude.{length, take, drop, All, Contains, Option}
+use Rattle.std.specs.Option.{option_flatten}
+use Rattle.kv_types.specs.declared.bounds.TheConstants.{MAX_NUMBER}
+use Rattle.kv_types.specs.{BatchContent, IsBatch, map_of}
+use Rattle.disk.specs.{Contents}
+use Rattle.disk.specs.Moments.{LooksAt}
+use Rattle.store_model.specs.Tables.{LevelTable}
+use Rattle.store_model.specs.Stores.{StoreRepresents, StoreState}
+use Rattle.store_model.specs.LookUps.{StoreFinds}
+use Rattle.store_model.specs.Steps.{IsFlush}
+use Rattle.manifest.specs.declared.line.LogLine.{LogLine}
+use Rattle.manifest.specs.declared.line.TableLine.{TableLine}
+use Rattle.manifest.specs.{IsSlotFile, ManifestRepresents, NodeVersion, StoreVersion}
+use Rattle.manifest.specs.{Change, changed, first_version}
+use Rattle.engine.specs.Files.{Facts, IsLog}
+use Rattle.engine.specs.BatchLogs.{HaveBatches}
+use Rattle.engine.specs.LevelTables.{AreTablesOf, IsTableOf}
+
+-- how many batches come before the newest log
+abbrev pub before_newest : List LogLine → ℕ
+before_newest [] = 0
+before_newest (line ∷ []) = line.first - 1
+before_newest (line ∷ next ∷ lines) = before_newest (next ∷ lines)
+
+-- the store of the model that a version describes: its numbers, and the tables that its files give
+abbrev pub store_of_version : StoreVersion → ℕ → List LevelTable → StoreState
+store_of_version version kept tables = record {
+  tables = tables;
+  flushed = version.flushed;
+  floor = version.floor;
+  kept = kept;
+  current = before_newest version.logs;
+}
+
+-- The slots represent a version, its logs have the batches behind the first `kept` ones, and its
+-- tables and these batches together represent the list.
+pub record StoreFilesRepresent (facts : Facts) (list : List BatchContent) (left : Contents)
+    : Type 0 where
+  pub version : StoreVersion
+  pub manifest : ManifestRepresents (record { id = facts.id; version = version }) left
+  pub epoch : version.epoch ≡ facts.epoch
+  pub ids : version.ids ≡ facts.ids
+  pub floor : version.floor ≡ facts.floor
+  pub logs : HaveBatches left (suc facts.kept) version.logs (drop facts.kept list)
+  pub tables : List LevelTable
+  pub read : AreTablesOf left version.tables tables
+  pub store : StoreRepresents list (store_of_version version facts.kept tables)
+  pub each : All IsBatch list
+  pub few : length list ≤ MAX_NUMBER
+
+-- the version has the file as a log or as a table
+abbrev pub NamesStoreFile : StoreVersion → ℕ → Type 0
+NamesStoreFile version file =
+    ((line : LogLine) × Contains version.logs line × (line.file ≡ file))
+    ⊎ ((line : TableLine) × Contains version.tables line × (line.file ≡ file))
+
+-- the file is a slot, or one that a version which the slots represent names
+abbrev pub IsStoreFile : Contents → ℕ → Type 0
+IsStoreFile left file =
+    IsSlotFile file
+    ⊎ ((named : NodeVersion) × ManifestRepresents named left × NamesStoreFile named.version file)
+
+-- ---- laws
+
+-- what the files represent depends on the named files alone
+abbrev pub StoreFilesAreNamed : Type 0
+StoreFilesAreNamed = (facts : Facts) (list : List BatchContent) →
+    LooksAt IsStoreFile (StoreFilesRepresent facts list)
+
+-- what a lookup in memory and tables finds, at a number from the floor on, is what the map has
+abbrev pub StoreFilesShowMaps : Type 0
+StoreFilesShowMaps =
+    (facts : Facts) (list : List BatchContent) (left : Contents)
+    → (files : StoreFilesRepresent facts list left) → (at : ℕ) → facts.floor ≤ at
+    → at ≤ length list → (key : List ℕ) (found : Option (Option (List ℕ)))
+    → StoreFinds at list (store_of_version files.version facts.kept files.tables) key found
+    → option_flatten found ≡ map_of (take at list) key
+
+-- the first version, with a log without records, represents the empty list
+abbrev pub FirstFilesRepresent : Type 0
+FirstFilesRepresent =
+    (id : ℕ) (ids : List ℕ) (left : Contents) → ManifestRepresents (first_version id ids) left
+    → IsLog (left 3) []
+    → StoreFilesRepresent (record { id = id; epoch = 0; ids = ids; floor = 0; kept = 0 }) [] left
+
+-- ---- a flush
+
+-- the log that a flush begins
+abbrev pub begun_log : StoreVersion → ℕ → LogLine
+begun_log version count = record { file = version.next_file + 1; first = suc count }
+
+-- the edit of a flush: the batches so far are in tables, of which this is a new one, and a new log
+-- takes the next batches
+abbrev pub flush_change : StoreVersion → ℕ → TableLine → Change
+flush_change version count line = record {
+  next_file = version.next_file + 2;
+  floor = version.floor;
+  flushed = count;
+  epoch = version.epoch;
+  ids = version.ids;
+  logs_gone = [];
+  logs_added = begun_log version count ∷ [];
+  tables_gone = [];
+  tables_added = line ∷ [];
+}
+
+-- The files have what a flush writes: the table of the memtable in level 0, and a log without
+-- records. The other logs and tables of the version are as they were.
+pub record HasFlushed (list : List BatchContent) (store : StoreState) (version : StoreVersion)
+    (line : TableLine) (left other : Contents) : Type 0 where
+  pub table : LevelTable
+  pub flush : IsFlush list store table
+  pub read : IsTableOf other line table
+  pub log : IsLog (other (version.next_file + 1)) []
+  pub logs : (old : LogLine) → Contains version.logs old → other old.file ≡ left old.file
+  pub tables : (old : TableLine) → Contains version.tables old → other old.file ≡ left old.file
+
+-- with such files and the edit in the manifest, the list stays
+abbrev pub FlushesRepresent : Type 0
+FlushesRepresent =
+    (facts : Facts) (list : List BatchContent) (line : TableLine) (left other : Contents)
+    → (files : StoreFilesRepresent facts list left)
+    → HasFlushed list (store_of_version files.version facts.kept files.tables) files.version line
+    left other
+    → ManifestRepresents (record {
+      id = facts.id;
+      version = changed files.version (flush_change files.version (length list) line);
+    }) other
+    → StoreFilesRepresent facts list other
+
+-- ---- an append
+
+-- with one more batch in the logs, and the slots and tables as they were, the list has one more
+abbrev pub LongerLogsRepresent : Type 0
+LongerLogsRepresent =
+    (facts : Facts) (list : List BatchContent) (batch : BatchContent) (left other : Contents)
+    → (files : StoreFilesRepresent facts list left) → IsBatch batch → length list < MAX_NUMBER
+    → HaveBatches other (suc facts.kept) files.version.logs (drop facts.kept (list ++ batch ∷ []))
+    → ((file : ℕ) → IsSlotFile file → other file ≡ left file)
+    → ((line : TableLine) → Contains files.version.tables line → other line.file ≡ left line.file)
+    → StoreFilesRepresent facts (list ++ batch ∷ []) other
