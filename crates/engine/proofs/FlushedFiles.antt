@@ -8,11 +8,11 @@ use Rattle.kv_types.specs.declared.bounds.TheConstants.{MAX_NUMBER}
 use Rattle.kv_types.specs.{BatchContent, IsBatch}
 use Rattle.disk.specs.{Contents}
 use Rattle.store_model.specs.Claims.{AppendsKeep, FlushesKeep}
-use Rattle.store_model.specs.Stores.{StoreRepresents, StoreState}
-use Rattle.store_model.specs.Steps.{AreEdited, IsFlush, flushed_store}
-use Rattle.store_model.specs.Tables.{LevelTable}
-use Rattle.manifest.specs.declared.line.LogLine.{LogLine}
-use Rattle.manifest.specs.declared.line.TableLine.{TableLine}
+use Rattle.store_model.specs.{StoreRepresents, StoreState}
+use Rattle.store_model.specs.{AreEdited, IsFlush, flushed_store}
+use Rattle.store_model.specs.{LevelTable}
+use Rattle.manifest.specs.declared.LogLine.{LogLine}
+use Rattle.manifest.specs.declared.TableLine.{TableLine}
 use Rattle.manifest.specs.Versions.{logs_left, placed, table_is_before, tables_left, with_log, with_table}
 use Rattle.manifest.specs.VersionsLemmas.{all_logs_left, all_tables_left, log_behind}
 use Rattle.manifest.specs.{ManifestRepresents, StoreVersion, changed}

@@ -6,9 +6,9 @@ use Rattle.kv_types.specs.{BatchContent}
 use Rattle.disk.specs.{Contents}
 use Rattle.record_log.specs.{Represents}
 use Rattle.table_format.specs.{TableRepresents}
-use Rattle.store_model.specs.Tables.{LevelTable}
-use Rattle.manifest.specs.declared.line.LogLine.{LogLine}
-use Rattle.manifest.specs.declared.line.TableLine.{TableLine}
+use Rattle.store_model.specs.{LevelTable}
+use Rattle.manifest.specs.declared.LogLine.{LogLine}
+use Rattle.manifest.specs.declared.TableLine.{TableLine}
 use Rattle.manifest.specs.{IsSlot, IsSlotFile, IsSuperseded, ManifestRepresents, NodeVersion}
 use Rattle.manifest.specs.{SlotsRepresent, other_slot}
 use Rattle.engine.specs.Files.{Facts, IsLog}

@@ -6,12 +6,12 @@ use Rattle.kv_types.specs.declared.bounds.TheConstants.{MAX_NUMBER}
 use Rattle.kv_types.specs.{BatchContent, IsBatch, map_of}
 use Rattle.disk.specs.{Contents}
 use Rattle.disk.specs.Moments.{LooksAt}
-use Rattle.store_model.specs.Tables.{LevelTable}
-use Rattle.store_model.specs.Stores.{StoreRepresents, StoreState}
-use Rattle.store_model.specs.LookUps.{StoreFinds}
-use Rattle.store_model.specs.Steps.{IsFlush}
-use Rattle.manifest.specs.declared.line.LogLine.{LogLine}
-use Rattle.manifest.specs.declared.line.TableLine.{TableLine}
+use Rattle.store_model.specs.{LevelTable}
+use Rattle.store_model.specs.{StoreRepresents, StoreState}
+use Rattle.store_model.specs.{StoreFinds}
+use Rattle.store_model.specs.{IsFlush}
+use Rattle.manifest.specs.declared.LogLine.{LogLine}
+use Rattle.manifest.specs.declared.TableLine.{TableLine}
 use Rattle.manifest.specs.{IsSlotFile, ManifestRepresents, NodeVersion, StoreVersion}
 use Rattle.manifest.specs.{Change, changed, first_version}
 use Rattle.engine.specs.Files.{Facts, IsLog}
