@@ -4,6 +4,7 @@ use Rattle.std.proofs.Common.{◌≡◌, ◌∙◌, ◌+◌, ◌≤◌, Err, ref
 use Rattle.std.proofs.Common.{inl, inr, length, length-append, arith}
 use Rattle.std.specs.Prelude.{IsErrOf}
 use Rattle.disk.specs.{EndsOutOfRange, IsSameBut, KeepsDisk, State}
+use Rattle.disk.specs.BesideLemmas.{same_but_join}
 use Rattle.disk.specs.Calls.{RisesByOne}
 use Rattle.disk.specs.declared.Disk.{Ghosts}
 use Rattle.disk.specs.declared.DiskError.{DiskError}
@@ -133,3 +134,20 @@ module _ {D : Type 0} (g : Ghosts D) where
     fault = b.fault ∙ a.fault;
     spared = λ s w. b.spared (a.spared s works) w;
   }
+
+  -- a call on a file, and others on it
+  pub kept_before : (file : ℕ) (old mid new : D) (failed cause told why : Type 0)
+      → KeepsDisk g old mid failed cause (IsSameBut file) → (failed → ⊥)
+      → KeepsDisk g mid new told why (IsSameBut file)
+      → KeepsDisk g old new told why (IsSameBut file)
+  kept_before file old mid new failed cause told why a works b =
+      kept_then old mid new failed cause told why (IsSameBut file) (IsSameBut file)
+      (IsSameBut file) works (λ x y z first next. same_but_join file x y z first next) a b
+
+  -- the last of them, whose cause is told otherwise
+  pub kept_last : (file : ℕ) (old new : D) (failed cause why : Type 0)
+      → KeepsDisk g old new failed cause (IsSameBut file) → (cause → why)
+      → KeepsDisk g old new failed why (IsSameBut file)
+  kept_last file old new failed cause why k so =
+      kept_as old new failed failed cause why (IsSameBut file) (IsSameBut file) (λ f. f) (λ f. f) so
+      (λ a b same. same) k

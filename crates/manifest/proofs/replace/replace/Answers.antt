@@ -1,4 +1,6 @@
+use Rattle.std.proofs.lemmas.Result.{err_from_is_err_and}
 use Rattle.disk.specs.BesideLemmas.{at_join}
+use Rattle.manifest.proofs.Kept.{kept_before, kept_last}
 use Rattle.manifest.proofs.Replaces.{OnTheWay}
 use Rattle.manifest.proofs.replace.replace.Goals as goal
 
@@ -19,3 +21,15 @@ returns-clause-any_moment g c = λ was honest sure gate.
     (c.shut.ensures.kept.files honest)
     (c.fill.ensures.any_moment was (c.shut.ensures.kept.honest.1 honest)
     (c.in_ok-shut.ensures.done was honest sure gate))
+
+-- no other file changes
+pub returns-in_err-shut-clause-kept : goal.returns-in_err-shut-clause-kept
+returns-in_err-shut-clause-kept g c =
+    let p = err_from_is_err_and c.from_residual.result c.from_residual.ensures.1 in
+    rw (p.1, p.2) (kept_last g.D.Disk c.args.file _ _ _ _ _ c.in_err-shut.ensures.kept
+    (λ never. absurd never))
+
+pub returns-clause-kept : goal.returns-clause-kept
+returns-clause-kept g c =
+    kept_before g.D.Disk c.args.file _ _ _ _ _ _ _ c.in_ok-shut.ensures.kept (λ f. absurd cc)
+    c.fill.ensures.kept
