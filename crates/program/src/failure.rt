@@ -10,7 +10,7 @@ use std::alloc::AllocError;
 use std::fmt;
 
 /// Why a run ended early. With `Output`, a beginning of its text may have been written.
-#[derive(Clone, Copy, Debug)]
+#[derive(Clone, Copy)]
 pub enum Failure {
     Unreadable,
     Script(ScriptFault),

@@ -4,7 +4,7 @@ ghost use Rattle.std.specs.Prelude.{MatchOption};
 ghost use Rattle.program.specs.Invocations.{lab_script as script_of, is_dashed};
 
 use clap::error::ErrorKind;
-use clap::{Arg, ArgAction, Command};
+use clap::{Arg, ArgAction, ArgMatches, Command};
 use std::alloc::{AllocError, Global};
 
 /// What the words ask for.
@@ -40,12 +40,36 @@ fn grammar<'a>(alloc: Global) -> Result<Command<'a>, AllocError> {
         .subcommand(lab)
 }
 
-fn parsed<'a>(alloc: Global, words: &'a [&'a str]) -> Result<Option<&'a str>, clap::Error> {
-    let matches = grammar(alloc)?.try_get_matches_from(words)?;
-    match matches.subcommand_matches("lab") {
-        None => Ok(None),
-        Some(lab) => Ok(lab.get_str("SCRIPT")),
+/// Why the parser takes no words.
+fn words_error(error: clap::Error) -> WordsError {
+    let is_memory = error.kind() == ErrorKind::OutOfMemory;
+    drop(error);
+    if is_memory {
+        WordsError::Memory
+    } else {
+        WordsError::Usage
     }
+}
+
+/// The script that the parser finds in the words.
+fn parsed<'a>(alloc: Global, words: &'a [&'a str]) -> Result<&'a str, WordsError> {
+    let Ok(grammar) = grammar(alloc) else {
+        return Err(WordsError::Memory);
+    };
+    match grammar.try_get_matches_from(words) {
+        Ok(matches) => script_in(matches),
+        Err(error) => Err(words_error(error)),
+    }
+}
+
+/// The script among what the parser matched.
+fn script_in<'a>(matches: ArgMatches<'a>) -> Result<&'a str, WordsError> {
+    let script = match matches.subcommand_matches("lab") {
+        None => None,
+        Some(lab) => lab.get_str("SCRIPT"),
+    };
+    drop(matches);
+    script.ok_or(WordsError::Usage)
 }
 
 /// The script of words in their plain form.
@@ -84,11 +108,8 @@ pub fn invocation_of<'a>(alloc: Global, words: &'a [&'a str]) -> Result<Invocati
             return Ok(Invocation::Script(script));
         }
     }
-    match parsed(alloc, words) {
-        Ok(Some("-")) => Ok(Invocation::Input),
-        Ok(Some(script)) => Ok(Invocation::Script(script)),
-        Ok(None) => Err(WordsError::Usage),
-        Err(error) if error.kind() == ErrorKind::OutOfMemory => Err(WordsError::Memory),
-        Err(_) => Err(WordsError::Usage),
+    match parsed(alloc, words)? {
+        "-" => Ok(Invocation::Input),
+        script => Ok(Invocation::Script(script)),
     }
 }

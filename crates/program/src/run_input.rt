@@ -83,8 +83,9 @@ fn run_script<W: Write>(alloc: Global, script: &Script, out: &mut W) -> Result<(
         (AppendsPart (W.contents out.old) (W.contents out.new))) }
 {
     let (turns, report) = run_statements(alloc, &script.setup, &script.statements)?;
-    let text = text_of_run(alloc, &turns, &report.steps)?;
-    print(&text, out)
+    let text = text_of_run(alloc, &turns, &report.steps);
+    drop(report);
+    print(&text?, out)
 }
 
 /// The script that is read.
@@ -118,6 +119,7 @@ pub fn run_input<R: Read, W: Write>(
         (RunHasFailed (R.remaining input.old) (W.contents out.old) (W.contents out.new)) }
 {
     let script = input_script(alloc, input)?;
-    run_script(alloc, &script, out)?;
-    Ok(())
+    let done = run_script(alloc, &script, out);
+    drop(script);
+    Ok(done?)
 }

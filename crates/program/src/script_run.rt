@@ -6,7 +6,7 @@ ghost use Rattle.lab.specs.Machine.{without};
 ghost use Rattle.lab.specs.declared.Event.{Event as LabEvent};
 ghost use Rattle.lab.specs.declared.Line.{Line};
 ghost use Rattle.lab.specs.{NamesNode, HasRun, frames_in_steps, frames_of_step};
-ghost use Rattle.program.specs.ScriptRuns.{deliveries, left_after, left_after_event};
+ghost use Rattle.program.specs.ScriptRuns.{deliveries, delivery, left_after, left_after_event};
 ghost use Rattle.program.specs.ScriptRuns.{IsResult, IsRising, places_after, most};
 ghost use Rattle.program.specs.Scripts.{Names};
 
@@ -92,6 +92,23 @@ impl ScriptRun {
         Ok(())
     }
 
+    // The frame in this place is delivered.
+    fn deliver(&mut self, alloc: Global, place: u64) -> Result<(), LabError>
+        ensures { (cs : Configurations) (events : List LabEvent) (steps : List (List Line)) →
+            HasRun self.old.world cs events steps →
+            OnOk result ((lines : List Line)
+            × HasRun self.new.world cs (events ++ delivery place ∷ []) (steps ++ lines ∷ [])
+            × (self.new.left.items ≡ self.old.left.items
+            ++ places_after (frames_in_steps steps) (frames_of_step lines))) }
+    {
+        let kind = EventKind::Deliver { place };
+        let fault = Fault::None;
+        let event = Event { kind, fault };
+        let done = self.step(alloc, &event);
+        drop(event);
+        done
+    }
+
     // The frames that are left are delivered, up to the bound. It answers how many.
     fn flow(&mut self, alloc: Global) -> Result<usize, LabError>
         ensures { (cs : Configurations) (events : List LabEvent) (steps : List (List Line)) →
@@ -109,9 +126,7 @@ impl ScriptRun {
             let Some(place) = self.left.pop_front() else {
                 return Ok(count);
             };
-            let kind = EventKind::Deliver { place };
-            let fault = Fault::None;
-            self.step(alloc, &Event { kind, fault })?;
+            self.deliver(alloc, place)?;
             count += 1;
         }
         Ok(count)

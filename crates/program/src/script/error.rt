@@ -5,7 +5,7 @@ ghost use Rattle.program.specs.declared.script.error.ScriptError.TheVariants.{Ou
 use std::alloc::{AllocError, AllocFailed};
 
 /// What is wrong with a line, in the order in which it is looked for.
-#[derive(Clone, Copy, Debug)]
+#[derive(Clone, Copy)]
 pub enum ScriptError {
     LineTooLong = 1,
     UnknownStatement,

@@ -185,9 +185,21 @@ fn placed(
 {
     let (words, behind) = split_fault(args);
     let command = command_of(alloc, name, words)?;
-    let fault = fault_behind(alloc, name, behind)?;
-    let node = before.place(command.node())?;
-    Ok(action(alloc, node, command, fault)?)
+    let fault = match fault_behind(alloc, name, behind) {
+        Ok(fault) => fault,
+        Err(e) => {
+            drop(command);
+            return Err(e);
+        }
+    };
+    match before.place(command.node()) {
+        Ok(node) => Ok(action(alloc, node, command, fault)?),
+        Err(e) => {
+            drop(command);
+            drop(fault);
+            Err(e)
+        }
+    }
 }
 
 /// What a statement comes to, if it may stand here.
@@ -247,7 +259,7 @@ pub struct Script {
 }
 
 /// The first faulty line, and its least fault.
-#[derive(Clone, Copy, Debug)]
+#[derive(Clone, Copy)]
 pub struct ScriptFault {
     pub line: u32,
     pub error: ScriptError,
@@ -263,11 +275,18 @@ fn read_line(
 ) -> Result<ParserState, ScriptError>
     ensures { ReadsNext before number line.now statements.old.items statements.new.items result }
 {
-    let item = item_of(alloc, &before, line)?;
-    if number > LINES {
-        return Err(ScriptError::TooManyLines);
+    match item_of(alloc, &before, line) {
+        Ok(item) if number <= LINES => Ok(before.after(statements, number, item)?),
+        Ok(item) => {
+            drop(item);
+            drop(before);
+            Err(ScriptError::TooManyLines)
+        }
+        Err(e) => {
+            drop(before);
+            Err(e)
+        }
     }
-    Ok(before.after(statements, number, item)?)
 }
 
 /// The script that a text spells. Only for want of memory it may be refused with another error than

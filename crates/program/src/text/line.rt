@@ -137,15 +137,15 @@ impl fmt::Display for LineText<'_> {
 
     fn fmt<W: fmt::Write>(&self, f: &mut fmt::Formatter<W>) -> fmt::Result {
         match *self.0 {
-            Line::Nothing => write!(f, "nothing"),
-            Line::Replied(ref reply) => write!(f, "{}", ReplyText(reply)),
+            Line::Nothing => f.write_str("nothing"),
+            Line::Replied(ref reply) => ReplyText(reply).fmt(f),
             Line::Dropped(reason) => write!(f, "dropped {}", reason_name(reason)),
             Line::Started {
                 node,
                 epoch,
                 count,
                 committed,
-            } => write!(f, "{}", StartedText::of(node, epoch, count, committed)),
+            } => StartedText::of(node, epoch, count, committed).fmt(f),
             Line::Forwarded {
                 place,
                 from,
@@ -167,7 +167,7 @@ impl fmt::Display for LineText<'_> {
                 let frame = FrameText::of(place, from, to, "ack", epoch);
                 write!(f, "{frame} {} {}", committed.get(), have.get())
             }
-            Line::Stopped { node, cause } => write!(f, "{}", StoppedText(node, cause)),
+            Line::Stopped { node, cause } => StoppedText(node, cause).fmt(f),
         }
     }
 }

@@ -8,7 +8,7 @@ returns-clause-run g c = record {
   statements = c.in_ok-script.script.statements.items;
   spelled = c.in_ok-script.ensures.found;
   fault = c.in_ok-script.ensures.lawful;
-  run = c.in_ok-run_script.ensures.run;
+  run = c.in_ok-done.ensures.run;
 }
 
 pub returns-in_err-script-clause-failed : goal.returns-in_err-script-clause-failed
@@ -18,11 +18,11 @@ returns-in_err-script-clause-failed g c =
     c.in_err-script.ensures.fault in
     search (rules, failed)
 
-pub returns-in_err-run_script-clause-failed : goal.returns-in_err-run_script-clause-failed
-returns-in_err-run_script-clause-failed g c =
+pub returns-in_err-done-clause-failed : goal.returns-in_err-done-clause-failed
+returns-in_err-done-clause-failed g c =
     let failed = failed_run (g.R.Read.remaining c.args.input.now)
-    (g.W.Write.contents c.args.out.now) (g.W.Write.contents c.run_script.new.out)
+    (g.W.Write.contents c.args.out.now) (g.W.Write.contents c.run_script-done.new.out)
     c.in_ok-script.script.setup c.in_ok-script.script.statements.items
-    c.in_err-run_script.field-0.0 c.in_ok-script.ensures.found c.in_ok-script.ensures.lawful
-    c.in_err-run_script.ensures.untouched c.in_err-run_script.ensures.part in
+    c.in_err-done.field-0.0 c.in_ok-script.ensures.found c.in_ok-script.ensures.lawful
+    c.in_err-done.ensures.untouched c.in_err-done.ensures.part in
     search (rules, failed)

@@ -4,31 +4,31 @@ use Rattle.program.specs.Reading.{what_of}
 use Rattle.program.proofs.Placing.{is_read, is_placed, is_misplaced}
 use Rattle.program.proofs.script.reader.placed.Goals as goal
 
-pub returns-in_err-node : goal.returns-in_err-node
-returns-in_err-node c =
+pub returns-in-Err-place : goal.returns-in-Err-place
+returns-in-Err-place c =
     let cut = c.split_fault.ensures in let command = c.in_ok-command.ensures in
-    let fault = c.in_ok-fault.ensures in
+    let fault = c.in-Ok.ensures in
     let args = map (λ w. w.now) c.args.args.now in
     let event : Event = record {
       kind = what_of c.in_ok-command.command;
-      fault = c.in_ok-fault.fault;
+      fault = c.in-Ok.fault;
     } in
     search (
       rules,
-      is_misplaced c.args.before.now c.args.name.now args event _ c.in_err-node.field-0.0
+      is_misplaced c.args.before.now c.args.name.now args event _ c.in-Err-place.e
           (is_read c.args.name.now args _ _ event cut.before cut.behind command.0 command.1
-          command.2 fault) c.node.ensures c.in_err-node.ensures,
+          command.2 fault) c.node.ensures c.in-Err-place.ensures,
     )
 
-pub returns : goal.returns
-returns c =
+pub returns-in_ok-action-in-Ok-place : goal.returns-in_ok-action-in-Ok-place
+returns-in_ok-action-in-Ok-place c =
     let cut = c.split_fault.ensures in let command = c.in_ok-command.ensures in
-    let fault = c.in_ok-fault.ensures in let at = c.in_ok-node.ensures in
+    let fault = c.in-Ok.ensures in let at = c.in-Ok-place.ensures in
     let args = map (λ w. w.now) c.args.args.now in
     let event : Event = record {
       kind = what_of c.in_ok-command.command;
-      fault = c.in_ok-fault.fault;
+      fault = c.in-Ok.fault;
     } in
-    is_placed c.args.before.now c.args.name.now args event _ c.in_ok-node.node
+    is_placed c.args.before.now c.args.name.now args event _ c.in-Ok-place.node
     (is_read c.args.name.now args _ _ event cut.before cut.behind command.0 command.1
     command.2 fault) (search rules) (search rules) (search rules)

@@ -2,5 +2,5 @@ use Rattle.std.proofs.Common.{arith}
 use Rattle.std.proofs.lemmas.Grind.{common_steps}
 use Rattle.program.proofs.script.reader.read_line.Goals as goal
 
-pub returns : goal.returns
-returns c = grind (arith, common_steps)
+pub returns-in_ok-after-in-Ok : goal.returns-in_ok-after-in-Ok
+returns-in_ok-after-in-Ok c = grind (arith, common_steps)

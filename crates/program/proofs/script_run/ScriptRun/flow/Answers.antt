@@ -22,10 +22,10 @@ returns-in_default c = λ cs events steps run.
 pub loop-count-preserved : goal.loop-count-preserved
 loop-count-preserved c = λ cs events steps run.
     let f = c.loop-count.invariant cs events steps run in
-    let gave = c.in_ok-step.ensures cs _ _ f.run tt in
+    let gave = c.in_ok-deliver.ensures cs _ _ f.run in
     rw add-one (flows_on cs events steps c.args.self.now.left.items c.loop-count.self.world
-    c.step.new.self.world c.loop-count.self.left.items c.pop_front.new.self.items
-    c.step.new.self.left.items c.loop-count.count c.in-Some.place f c.in-Some.ensures.items
+    c.deliver.new.self.world c.loop-count.self.left.items c.pop_front.new.self.items
+    c.deliver.new.self.left.items c.loop-count.count c.in-Some.place f c.in-Some.ensures.items
     (omega (arith, c.loop-count-test.true)) gave.0 gave.1 gave.2)
 
 pub returns : goal.returns
