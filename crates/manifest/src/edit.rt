@@ -4,7 +4,7 @@ use configurations::Config;
 use std::marker::Model;
 
 /// A change of a version: new numbers and ids, and what is given up and what is added.
-#[derive(Debug, Drop)]
+#[derive(Drop)]
 pub struct VersionEdit {
     pub next_file: u64,
     pub floor: u64,

@@ -4,7 +4,7 @@ use configurations::{Config, NodeId};
 use std::marker::Model;
 
 /// What a manifest names: the node and its configuration, its numbers, its logs and its tables.
-#[derive(Debug, Drop)]
+#[derive(Drop)]
 pub struct StoreVersion {
     pub id: NodeId,
     pub next_file: u64,
