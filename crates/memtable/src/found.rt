@@ -3,7 +3,7 @@
 use kv_types::Value;
 
 /// What a key has at a number.
-#[derive(Clone, Copy, Debug)]
+#[derive(Clone, Copy)]
 pub enum Found<'a> {
     /// The value that the newest entry puts.
     Value(&'a Value),
