@@ -75,17 +75,15 @@ impl MemFile {
         }) }
         ensures err { OnErr result (self.new ≡ self.old) }
     {
-        let covered = covered_by(alloc, &self.buffer, at, bytes.len())?;
         self.covered.reserve(1)?;
         self.touches.reserve(1)?;
+        let covered = covered_by(alloc, &self.buffer, at, bytes.len())?;
         overwrite(&mut self.buffer, at, bytes)?;
-        self.covered.push(covered).unwrap();
-        self.touches
-            .push(PendingWrite::Wrote {
-                at: at as u64,
-                len: bytes.len() as u64,
-            })
-            .unwrap();
+        self.covered.push_reserved(covered);
+        self.touches.push_reserved(PendingWrite::Wrote {
+            at: at as u64,
+            len: bytes.len() as u64,
+        });
         self.len = self.len.max(at + bytes.len());
         Ok(())
     }

@@ -3,7 +3,7 @@ ghost use Rattle.std.specs.Prelude.{◌≡◌, ◌≢◌, ℕ, ◌+◌, ◌-◌,
 ghost use Rattle.std.specs.Prelude.{◌↔◌, IfOk, OnOk, OnErr, Err, Some, None, [], IsTrue};
 ghost use Rattle.std.specs.BTreeMap.{insert_entry};
 ghost use Rattle.std.specs.Ordering.{nat_cmp};
-ghost use Rattle.disk.specs.States.{IsSame, Absent, seen};
+ghost use Rattle.disk.specs.States.{Absent, ChangesSlot, IsSame, seen};
 ghost use Rattle.disk.specs.Calls.{CutOutcome, EndsOutOfRange, LengthAnswer, ListsFiles};
 ghost use Rattle.disk.specs.Calls.{ReadAnswer, RemoveOutcome, SyncOutcome, WriteOutcome};
 ghost use Rattle.disk.specs.Faults.{WasMade};
@@ -95,7 +95,11 @@ fn clone_slots(
 }
 
 fn put(slots: &mut BTreeMap<u64, MemSlot>, number: u64, slot: MemSlot) -> Result<(), AllocError>
-    ensures { OnOk result (slots.new.entries ≡ insert_entry nat_cmp slots.old.entries number slot) }
+    ensures ok { OnOk result
+        (slots.new.entries ≡ insert_entry nat_cmp slots.old.entries number slot) }
+    ensures changes { OnOk result
+        (ChangesSlot (state_of slots.old.entries) (state_of slots.new.entries) number slot) }
+    ensures err { OnErr result (slots.new.entries ≡ slots.old.entries) }
 {
     slots.insert(number, slot)?;
     Ok(())
@@ -148,7 +152,7 @@ fn write_in(
         if at > 0 {
             return Err(DiskError::NoFile);
         }
-        slots.insert(file, MemSlot::fresh(bytes.to_vec(alloc)?))?;
+        put(slots, file, MemSlot::fresh(bytes.to_vec(alloc)?))?;
         return Ok(());
     };
     let len = match slot.bytes() {

@@ -23,7 +23,7 @@ loop-number-preserved c =
     subst (λ (es : List (ℕ × Slot)). IsStrictlySortedBy nat_cmp (keys_of es)) (sym all)
     c.into_iter-number-iterator.ensures.into_iter_gives.5 in
     let put : c.put.new.slots.entries ≡ copy ++ (number, slot) ∷ [] =
-    c.in_ok-put.ensures ∙ ap (insert_entry nat_cmp copy number) c.in_ok-clone.ensures
+    c.in_ok-put.ensures.ok ∙ ap (insert_entry nat_cmp copy number) c.in_ok-clone.ensures
     ∙ insert_entry-last copy rest number slot sorted in
     ap (λ (es : List (ℕ × Slot)). es ++ rest) put
     ∙ append_assoc copy ((number, slot) ∷ []) rest
