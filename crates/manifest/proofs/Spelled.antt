@@ -33,3 +33,15 @@ is_spelled change out numbers ids gone logs names all (Ok x) a b c d e f =
     (counted_bytes table_name_bytes change.tables_gone)
     (counted_bytes table_line_bytes change.tables_added))
 is_spelled change out numbers ids gone logs names all (Err e') a b c d e f = tt
+
+-- two and three parts
+pub two_parts : {T E : Type 0} (result : Result T E) (out mid new a b : List ℕ) → mid ≡ out ++ a
+    → OnOk result (new ≡ mid ++ b) → OnOk result (new ≡ out ++ (a ++ b))
+two_parts (Ok x) out mid new a b first next = next ∙ rw first (append_assoc out a b)
+two_parts (Err e) out mid new a b first next = tt
+
+pub three_parts : {T E : Type 0} (result : Result T E) (out one two new a b c : List ℕ)
+    → one ≡ out ++ a → two ≡ one ++ b → OnOk result (new ≡ two ++ c)
+    → OnOk result (new ≡ out ++ (a ++ b ++ c))
+three_parts result out one two new a b c first next last =
+    two_parts result out two new (a ++ b) c (next ∙ rw first (append_assoc out a b)) last
