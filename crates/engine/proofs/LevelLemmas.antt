@@ -1,14 +1,14 @@
 -- What a walk over tables in order of level has found.
 use Rattle.std.proofs.Common.{◌≡◌, ◌⊎◌, inl, inr, ℕ, ◌<◌, ◌≤◌, List, [], ◌∷◌, ◌++◌, length, All}
 use Rattle.std.proofs.Common.{Contains, Option, Some, None, refl, sym, ◌∙◌, ap, subst, arith}
-use Rattle.std.proofs.Common.{Bool, true, false, ◌||◌}
+use Rattle.std.proofs.Common.{Bool, true, false, ◌||◌, ◌==◌, ◌+◌, suc}
 use Rattle.std.specs.Prelude.{is_some}
-use Rattle.std.specs.List.{AllZip}
-use Rattle.std.proofs.lemmas.Bool.{cases_lt, ltb-false}
+use Rattle.std.specs.List.{AllZip, insert, prefix_len}
+use Rattle.std.proofs.lemmas.Bool.{cases_lt, eqb-true, ltb-false}
 use Rattle.std.proofs.lemmas.List.Elements.{All-cons, All-head, All-nil, All-tail, All-contains}
 use Rattle.std.proofs.lemmas.List.Elements.{Contains-append_cases, Contains-append_left}
 use Rattle.std.proofs.lemmas.List.Elements.{Contains-push, Contains-push_cases}
-use Rattle.disk.specs.{Contents}
+use Rattle.disk.specs.{Contents, State}
 use Rattle.kv_types.specs.{Entry, IsNewest, IsUnseen}
 use Rattle.sorted_table.specs.{found_entry}
 use Rattle.sorted_table.specs.declared.FoundVersion.{FoundVersion}
@@ -16,6 +16,8 @@ use Rattle.store_model.specs.{LevelTable, TableLacks, level_entries}
 use Rattle.store_model.specs.PlacesLemmas.{contains_none}
 use Rattle.manifest.specs.declared.TableLine.{TableLine}
 use Rattle.manifest.specs.Versions.{AreInOrder, table_is_before}
+use Rattle.engine.specs.declared.levels.OpenTable.{OpenTable}
+use Rattle.engine.specs.LevelTables.{FlushedTablesRise, IsServed, is_flushed, with_flushed}
 use Rattle.engine.specs.LevelTables.{AreTablesOf, EntriesFind, IsTableOf, LesserLack, LevelsRise}
 use Rattle.engine.specs.LevelTables.{LinesInOrderRise, TablesFind, TablesFindForStores}
 
@@ -49,6 +51,41 @@ lines_in_order_rise left (l ∷ ls) (t ∷ ts) order are = (
   not_deeper left l t.level are.0.level ls ts order.0 are.1,
   lines_in_order_rise left ls ts order.1 are.1,
 )
+
+-- ---- a table of level 0 more
+
+pub either : (b : Bool) → (b ≡ true) ⊎ (b ≡ false)
+either true = inl refl
+either false = inr refl
+
+pub flushed_tables_rise : FlushedTablesRise
+flushed_tables_rise [] table is rise = (All-nil (λ (u : LevelTable). table.level ≤ u.level), tt)
+flushed_tables_rise (t ∷ ts) table is rise = elim (either (t.level == 0)) [
+  | inl zeroth ↦
+      let none : t.level ≡ 0 = eqb-true t.level 0 zeroth in
+      rw zeroth (λ k d lt. omega (arith, none), flushed_tables_rise ts table is rise.1)
+  | inr deeper ↦ rw deeper (λ k d lt. omega (arith, is), rise)
+]
+
+module _ (disk : State) (one : OpenTable) (table : LevelTable) (is : IsServed disk one table) where
+  -- an open table more, behind those of level 0
+  pub served_with : (items : List OpenTable) (tables : List LevelTable)
+      → AllZip (IsServed disk) items tables
+      → AllZip (IsServed disk) (insert items (prefix_len is_flushed items) one)
+      (with_flushed tables table)
+  served_with [] [] zip = (is, tt)
+  served_with [] (t ∷ ts) zip = absurd zip
+  served_with (a ∷ xs) [] zip = absurd zip
+  served_with (a ∷ xs) (t ∷ ts) zip = elim (either (a.line.level == 0)) [
+    | inl zeroth ↦
+        let too : (t.level == 0) ≡ true = ap (λ n. n == 0) zip.0.level ∙ zeroth in
+        let next : 1 + prefix_len is_flushed xs ≡ suc (prefix_len is_flushed xs) =
+        omega arith in
+        rw (zeroth, too, next) (zip.0, served_with xs ts zip.1)
+    | inr deeper ↦
+        let too : (t.level == 0) ≡ false = ap (λ n. n == 0) zip.0.level ∙ deeper in
+        rw (deeper, too) (is, zip)
+  ]
 
 -- ---- what two sets of entries have together
 

@@ -1,7 +1,7 @@
 -- The open tables of a store, level by level, and what a lookup in them finds.
 use Rattle.std.specs.Prelude.{◌≡◌, ℕ, ◌<◌, ◌≤◌, List, [], ◌∷◌, length, map, take, All, Contains}
-use Rattle.std.specs.Prelude.{Option, Some, None, IsSomeAnd, ◌==◌, if◌then◌else◌}
-use Rattle.std.specs.List.{AllZip}
+use Rattle.std.specs.Prelude.{Bool, Option, Some, None, IsSomeAnd, ◌==◌, if◌then◌else◌}
+use Rattle.std.specs.List.{AllZip, count_by}
 use Rattle.std.specs.Option.{option_map, option_flatten}
 use Rattle.disk.specs.{State, Contents}
 use Rattle.kv_types.specs.{BatchContent, Entry, IsNewest, IsUnseen, map_of}
@@ -63,6 +63,14 @@ LinesInOrderRise =
 abbrev pub table_lines : LevelTables → List TableLine
 table_lines it = map (λ one. one.line) it.tables.items
 
+-- so many open tables have this level
+abbrev pub level_count : LevelTables → ℕ → ℕ
+level_count it level = count_by (λ one. one.line.level == level) it.tables.items
+
+-- the open table is of level 0
+abbrev pub is_flushed : OpenTable → Bool
+is_flushed it = it.line.level == 0
+
 -- the open table has the table's level and range, and serves its entries from its file
 pub record IsServed (disk : State) (it : OpenTable) (table : LevelTable) : Type 0 where
   pub level : table.level ≡ it.line.level
@@ -79,6 +87,12 @@ abbrev pub with_flushed : List LevelTable → LevelTable → List LevelTable
 with_flushed [] table = table ∷ []
 with_flushed (t ∷ others) table =
     if t.level == 0 then t ∷ with_flushed others table else table ∷ t ∷ others
+
+-- with a table of level 0 more, tables still stand in order of level
+abbrev pub FlushedTablesRise : Type 0
+FlushedTablesRise =
+    (tables : List LevelTable) (table : LevelTable) → table.level ≡ 0 → LevelsRise tables
+    → LevelsRise (with_flushed tables table)
 
 -- ---- lookups
 

@@ -4,8 +4,8 @@ ghost use Rattle.std.specs.Prelude.{List};
 ghost use Rattle.kv_types.specs.{BatchContent};
 ghost use Rattle.engine.specs.declared.engine.Engine.{Engine};
 ghost use Rattle.engine.specs.Engines.{EngineReads, HasLongFile, IsNearlyFull, engine_disk};
-ghost use Rattle.engine.specs.LevelTables.{LinesInOrderRise, TableLookUpsAreMaps};
-ghost use Rattle.engine.specs.LevelTables.{TablesFindForStores};
+ghost use Rattle.engine.specs.LevelTables.{FlushedTablesRise, LinesInOrderRise};
+ghost use Rattle.engine.specs.LevelTables.{TableLookUpsAreMaps, TablesFindForStores};
 ghost use Rattle.engine.specs.StoreFiles.{FirstFilesRepresent, FlushesRepresent};
 ghost use Rattle.engine.specs.StoreFiles.{LongerLogsRepresent, StoreFilesAreNamed};
 ghost use Rattle.engine.specs.StoreFiles.{StoreFilesShowMaps};
@@ -23,10 +23,12 @@ pub fn full_logs_are_long<D: Disk + Drop>()
     gates_are_in_files(); // law: a log's gate is within its file
 }
 
-/// Tables stand in order of level where their lines in a manifest stand in order.
+/// Tables stand in order of level where their lines in a manifest stand in order, and with a table
+/// of level 0 more.
 // law: of `LevelsRise`
 pub fn levels_rise()
-    ensures { LinesInOrderRise }
+    ensures lines { LinesInOrderRise }
+    ensures flushed { FlushedTablesRise }
 {}
 
 /// Where memory has no entry of a key, what a lookup in the tables finds is what one in the store

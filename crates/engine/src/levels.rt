@@ -1,15 +1,18 @@
 //! Open tables, level by level, and lookups in them. The store of today has no tables, and does not
 //! use them yet.
 ghost use Rattle.std.specs.Prelude.{◌≡◌, ◌⊎◌, ◌↔◌, ℕ, List, IfOk, IfErr, IsTrue, MatchResult};
+ghost use Rattle.std.specs.Prelude.{◌<◌, OnOk, slice_index};
+ghost use Rattle.std.specs.List.{prefix_len};
 ghost use Rattle.std.specs.Prelude.{Contains, [], ◌∷◌, ◌++◌};
 ghost use Rattle.bloom.specs.{hashes_of};
-ghost use Rattle.disk.specs.{IsSame, IsStill, KeepsDisk, contents};
+ghost use Rattle.disk.specs.{IsSame, IsStill, KeepsDisk, State, contents};
 ghost use Rattle.store_model.specs.{AreLeveled, FitsRange, LevelTable, RangeHolds};
 ghost use Rattle.store_model.specs.{level_entries};
 ghost use Rattle.engine.specs.Errors.{FailsDevice, IsEnd, IsOfMachine};
 ghost use Rattle.engine.specs.LevelTables.{AreServed, AreTablesOf, EntriesFind, IsServed};
 ghost use Rattle.engine.specs.LevelTables.{IsTableOf, LevelsRise, TablesFind};
-ghost use Rattle.engine.specs.LevelTables.{error_of_table, line_range, table_lines};
+ghost use Rattle.engine.specs.LevelTables.{error_of_table, is_flushed, level_count, line_range};
+ghost use Rattle.engine.specs.LevelTables.{table_lines, with_flushed};
 
 use crate::EngineError;
 use bloom::KeyHashes;
@@ -147,6 +150,46 @@ impl LevelTables {
             tables.push(OpenTable::open(alloc, disk, line)?)?;
         }
         Ok(LevelTables { tables })
+    }
+
+    /// The number of open tables of each level.
+    pub(crate) fn counts(&self) -> [u64; 7]
+        ensures { (level : ℕ) → level < 7 →
+            slice_index result level ≡ level_count self.now level }
+    {
+        let mut counts = [0; 7];
+        for open in &self.tables {
+            let level = open.line.level as usize;
+            if level < 7 {
+                counts[level] += 1;
+            }
+        }
+        counts
+    }
+
+    // How many tables of level 0 there are, where they stand before the others.
+    fn flushed(&self) -> usize
+        ensures { result ≡ prefix_len is_flushed self.now.tables.items }
+    {
+        for (place, open) in self.tables.iter().enumerate() {
+            if open.line.level != 0 {
+                return place;
+            }
+        }
+        self.tables.len()
+    }
+
+    /// Adds an open table behind those of level 0. A refusal changes nothing.
+    pub(crate) fn add(&mut self, opened: OpenTable) -> Result<(), EngineError>
+        ensures added { (disk : State) (tables : List LevelTable) (table : LevelTable) →
+            AreServed disk self.old tables → IsServed disk opened table →
+            OnOk result (AreServed disk self.new (with_flushed tables table)) }
+        ensures refused { IfErr result (λ e. (e ≡ EngineError.Memory)
+            × (table_lines self.new ≡ table_lines self.old)) }
+    {
+        let place = self.flushed();
+        self.tables.insert(place, opened)?;
+        Ok(())
     }
 
     /// The newest version of the key with at most this number, if the tables have one. The levels
