@@ -33,15 +33,14 @@ pub one_more_log : (left : Contents) (number : ℕ) (lines : List LogLine)
     → HaveBatches left number (lines ++ line ∷ []) batches
 one_more_log left number [] batches line first log h =
     let none : length batches ≡ 0 = ap (λ (l : List BatchContent). length l) h in
-    ([], [], omega (arith, first, none), h, log, refl)
+    ([], [], h, (omega (arith, first, none), log), refl)
 one_more_log left number (old ∷ lines) batches line first log h =
-    let long = ap (λ (l : List BatchContent). length l) h.3 ∙ length-append h.0 h.1 in (
+    let long = ap (λ (l : List BatchContent). length l) h.2 ∙ length-append h.0 h.1 in (
       h.0,
       h.1,
       h.2,
       h.3,
-      h.4,
-      one_more_log left (number + length h.0) lines h.1 line (omega (arith, first, long)) log h.5,
+      one_more_log left (number + length h.0) lines h.1 line (omega (arith, first, long)) log h.4,
     )
 
 -- no log begins behind the batches
@@ -50,13 +49,13 @@ pub firsts_within : (left : Contents) (number : ℕ) (lines : List LogLine)
     → All (λ (line : LogLine). line.first ≤ number + length batches) lines
 firsts_within left number [] batches h = All-nil (λ (line : LogLine). line.first ≤ number + length batches)
 firsts_within left number (old ∷ lines) batches h =
-    let long = ap (λ (l : List BatchContent). length l) h.3 ∙ length-append h.0 h.1 in
-    let first = h.2 in
+    let long = ap (λ (l : List BatchContent). length l) h.2 ∙ length-append h.0 h.1 in
+    let first = h.3.0 in
     let same : number + length batches ≡ number + length h.0 + length h.1 = omega (arith, long) in
     All-cons (λ (line : LogLine). line.first ≤ number + length batches) old lines
     (omega (arith, first))
     (subst (λ (n : ℕ). All (λ (line : LogLine). line.first ≤ n) lines) (sym same)
-    (firsts_within left (number + length h.0) lines h.1 h.5))
+    (firsts_within left (number + length h.0) lines h.1 h.4))
 
 -- the newest is the last
 pub newest_behind : (lines : List LogLine) (line : LogLine)

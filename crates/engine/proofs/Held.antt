@@ -1,29 +1,38 @@
 -- What an open store holds, and what a crash leaves of it.
-use Rattle.std.proofs.Common.{◌≡◌, ℕ, ◌+◌, ◌≤◌, ◌<◌, List, [], ◌∷◌, ◌++◌, length, drop}
-use Rattle.std.proofs.Common.{Option, Some, None}
+use Rattle.std.proofs.Common.{◌≡◌, ℕ, ◌+◌, ◌≤◌, ◌<◌, List, [], ◌∷◌, ◌++◌, length, drop, map}
+use Rattle.std.proofs.Common.{Err, Ok, Option, Result, Some}
 use Rattle.std.proofs.Common.{inl, inr, refl, sym, ap, subst, ◌∙◌, arith, length-append}
-use Rattle.std.specs.Prelude.{IsSomeAnd, slice_get, ◌≢◌}
-use Rattle.std.proofs.lemmas.List.Elements.{All-push}
+use Rattle.std.specs.Prelude.{All, MatchResult, slice_get, ◌≢◌}
+use Rattle.std.proofs.lemmas.List.{append-nil}
+use Rattle.std.proofs.lemmas.List.Elements.{All-nil, All-push, All-same}
 use Rattle.kv_types.specs.declared.bounds.TheConstants.{MAX_NUMBER}
 use Rattle.kv_types.specs.{IsBatch, BatchContent}
 use Rattle.disk.specs.{State, Slot, Absent, Fresh, Kept, Contents, IsFileOutcome, IsCrashOutcome}
-use Rattle.disk.specs.{DurableFileIsLeft, DurableIsLeft, EndsOutOfRange, IsDurable, IsLeftAt}
+use Rattle.disk.specs.{DurableFileIsLeft, DurableIsLeft, EndsOutOfRange, IsDurable}
 use Rattle.disk.specs.{LeavesSince, IsSameBut, seen, contents}
 use Rattle.disk.specs.MomentsLemmas.{started, weaker}
+use Rattle.manifest.specs.declared.line.LogLine.{LogLine}
 use Rattle.memtable.specs.{HasFailedAdd}
 use Rattle.record_log.specs.declared.Log.{Log}
 use Rattle.record_log.specs.declared.OpenedLog.{OpenedLog}
-use Rattle.record_log.specs.{HasRead, Represents, LogHolds, IsAt, IsOldOrNew, IsOldOrNewFrom}
+use Rattle.record_log.specs.{HasRead, Represents, LogHolds}
 use Rattle.record_log.specs.{count_of, file_of, gate_of}
 use Rattle.chain_model.specs.{IsId}
 use Rattle.configurations.specs.{IsConfig}
+use Rattle.engine.specs.declared.batch_logs.BatchLog.{BatchLog}
+use Rattle.engine.specs.declared.batch_logs.BatchLogs.{BatchLogs}
 use Rattle.engine.specs.declared.store.Store.{Store}
+use Rattle.engine.specs.BatchLogs.{AreBeside, AreLeftWith, HaveBatches, LogsHold, line_of, lines_of}
+use Rattle.engine.specs.BatchLogs.{newest_file}
+use Rattle.engine.specs.declared.error.EngineError.{EngineError}
+use Rattle.engine.specs.Errors.{IsOfMachine}
 use Rattle.engine.specs.Files.{Facts}
-use Rattle.engine.specs.Layout.{identity_file, identity_records, batches_file}
-use Rattle.engine.specs.Layout.{batch_record, records_from}
+use Rattle.engine.specs.Layout.{batch_lines, identity_file, identity_records, batches_file}
+use Rattle.engine.specs.Layout.{records_from}
 use Rattle.engine.specs.Files.{FilesRepresent, HasId, IsLog, IsOneOf, KeepsOthers}
-use Rattle.engine.specs.Stores.{HasEntriesOf, IsDurableIdOf, IsFullLog, StoreHolds, store_count}
-use Rattle.engine.proofs.Records.{records_from-push, length-ends, length-records, spelled_fits}
+use Rattle.engine.specs.Stores.{HasEntriesOf, IsDurableIdOf, StoreHolds, store_count}
+use Rattle.engine.proofs.Parts.{held_count, logs_in, stands_beside, whole_left}
+use Rattle.engine.proofs.Records.{length-ends}
 
 -- the two files are different
 pub files_apart : identity_file ≢ batches_file
@@ -40,40 +49,54 @@ has_room log one bytes empty is short out = omega (arith, empty, ap length is, s
 pub short_fits : (one bytes : List ℕ) → one ≡ bytes → length bytes ≤ 35 → length one ≤ 16777216
 short_fits one bytes is short = omega (arith, ap length is, short)
 
--- where a record of a batch has no room, one of the greatest length has none
-pub full_log : (store : Store) (bytes : List ℕ) (number : ℕ) (batch : BatchContent) →
-    bytes ≡ batch_record number batch → IsBatch batch →
-    EndsOutOfRange (gate_of store.log) (length bytes + 6) → IsFullLog store
-full_log store bytes number batch is batch_is out =
-    omega (arith, spelled_fits bytes number batch is batch_is, out)
+-- one log is the newest, begins with the first batch, and is in its file
+pub record HasOneLog (logs : BatchLogs) : Type 0 where
+  pub older : logs.older.items ≡ []
+  pub line : line_of logs.newest ≡ record { file = batches_file; first = 1 }
+
+only_line : (older : List BatchLog) (newest : BatchLog) (line : LogLine) →
+    map line_of older ++ line_of newest ∷ [] ≡ line ∷ [] →
+    (older ≡ []) × (line_of newest ≡ line)
+only_line [] newest line same = (refl, cc)
+only_line (one ∷ []) newest line same = absurd cc
+only_line (one ∷ other ∷ older) newest line same = absurd cc
+
+pub has_one_log : (logs : BatchLogs) → lines_of logs ≡ batch_lines → HasOneLog logs
+has_one_log logs same =
+    let only = only_line logs.older.items logs.newest (record { file = batches_file; first = 1 }) same in
+    record { older = only.0; line = only.1 }
+
+-- a log of that file from the first batch on is the store's only one
+pub first_line : (file first : ℕ) → file ≡ batches_file → first ≡ 1 →
+    ◌≡◌ {A = List LogLine} (record { file = file; first = first } ∷ []) batch_lines
+first_line file first in_file is_first = rw (in_file, is_first) refl
+
+pub in_batches_file : (logs : BatchLogs) → lines_of logs ≡ batch_lines →
+    newest_file logs ≡ batches_file
+in_batches_file logs same = ap (λ (l : LogLine). l.file) (has_one_log logs same).line
+
+pub begins_first : (logs : BatchLogs) → lines_of logs ≡ batch_lines → logs.newest.first ≡ 1
+begins_first logs same = ap (λ (l : LogLine). l.first) (has_one_log logs same).line
+
+pub none_beside : (logs : BatchLogs) → lines_of logs ≡ batch_lines → (file : ℕ) →
+    AreBeside file logs.older.items
+none_beside logs same file =
+    let P : BatchLog → Type 0 = λ one. file_of one.log ≢ file in
+    All-same P logs.older.items [] (has_one_log logs same).older (All-nil P)
 
 -- an append of the log that is in its place changes its file alone
-pub own_others : (store : Store) (old new : State) → file_of store.log ≡ batches_file →
-    IsSameBut (file_of store.log) old new → KeepsOthers old new
-own_others store old new in_place same other not_own =
-    same other (λ e. not_own (inr (e ∙ in_place)))
+pub own_others : (logs : BatchLogs) (old new : State) → lines_of logs ≡ batch_lines →
+    IsSameBut (newest_file logs) old new → KeepsOthers old new
+own_others logs old new in_place same other not_own =
+    same other (λ e. not_own (inr (e ∙ in_batches_file logs in_place)))
 
--- a log holds what it held where its file is the same
-pub holds_in : (old new : State) (log : Log) (records : List (List ℕ)) →
-    new log.file ≡ old log.file → LogHolds old log records → LogHolds new log records
-holds_in old new log records same h = record {
-  bytes = h.bytes;
-  sure = same ∙ h.sure;
-  start = h.start;
-  fits = h.fits;
-  stands = h.stands;
-  ends = h.ends;
-  end = h.end;
-}
-
--- .. whatever a crash leaves of the others
-stands_beside : DurableFileIsLeft → (disk : State) (file : ℕ) (bytes : List ℕ)
-    (records : List (List ℕ)) → disk file ≡ Kept bytes bytes [] → Represents bytes records →
-    (left : Option (List ℕ)) → IsFileOutcome (disk file) left → IsLog left records
-stands_beside law disk file bytes records sure stands left leaves =
-    let is_sure = subst (λ (slot : Slot). IsDurable slot) (sym sure) (refl, refl) in
-    let same : left ≡ Some bytes = law (disk file) left is_sure leaves ∙ ap seen sure in
-    subst (λ (it : Option (List ℕ)). IsLog it records) (sym same) stands
+-- the batches of one log
+pub in_one_log : (left : Contents) (list : List BatchContent) → HaveBatches left 1 batch_lines list →
+    IsLog (left batches_file) (records_from 1 list)
+in_one_log left list (here, later, is, has, none) =
+    let same : here ≡ list =
+    sym (is ∙ ap (λ (l : List BatchContent). here ++ l) none ∙ append-nil here) in
+    subst (λ (l : List BatchContent). IsLog (left batches_file) (records_from 1 l)) same has.1
 
 -- a durable file represents what it represented
 stands_left : DurableIsLeft → (disk : State) (file : ℕ) (bytes : List ℕ)
@@ -138,20 +161,24 @@ only_one opened (first ∷ []) one read size got =
 only_one opened (first ∷ second ∷ others) one read size got =
     absurd (omega (arith, size, ap length read.ends, length-ends 0 (first ∷ second ∷ others)))
 
+-- what a crash leaves of a disk, for one file
+of_file : DurableIsLeft → DurableFileIsLeft
+of_file law slot left sure leaves = law (λ file. slot) (λ file. left) 0 sure (λ file. leaves)
+
 -- An open store, and one batch more.
 module _ (disk : State) (store : Store) (facts : Facts) (list : List BatchContent)
     (s : StoreHolds disk store facts list) where
-  -- its log counts the batches
+  -- its logs count the batches
   pub counts : store_count store ≡ length list
-  counts = ap length s.log.ends ∙ length-ends 0 (records_from 1 list) ∙ length-records 1 list
+  counts = omega (arith, held_count disk store.logs 1 list s.logs)
 
   -- it holds them on a disk with the same files
   pub store_in : (new : State) → ((file : ℕ) → new file ≡ disk file) →
       StoreHolds new store facts list
   store_in new same = record {
     id = id_in disk new facts.id facts.ids (same identity_file) s.id;
-    at = s.at;
-    log = holds_in disk new store.log (records_from 1 list) (same store.log.file) s.log;
+    lines = s.lines;
+    logs = logs_in disk new store.logs 1 list same s.logs;
     works = s.works;
     entries = s.entries;
     each = s.each;
@@ -159,30 +186,30 @@ module _ (disk : State) (store : Store) (facts : Facts) (list : List BatchConten
     plain = s.plain;
   }
 
-  log_left : DurableIsLeft → (left : Contents) → IsCrashOutcome disk left →
-      IsLog (left batches_file) (records_from 1 list)
-  log_left law left leaves =
-      let records : List (List ℕ) = records_from 1 list in
-      let stands : Represents s.log.bytes records =
-      subst (λ (k : ℕ). Represents (drop k s.log.bytes) records) s.at.from s.log.stands in
-      let sure : disk batches_file ≡ Kept s.log.bytes s.log.bytes [] =
-      sym (ap disk s.at.in_file) ∙ s.log.sure in
-      stands_left law disk batches_file s.log.bytes records sure stands left leaves
+  -- files with these batches
+  with_batches : (left : Contents) (more : List BatchContent) → HasId left facts.id facts.ids →
+      HaveBatches left 1 (lines_of store.logs) more → All IsBatch more →
+      length more ≤ MAX_NUMBER → FilesRepresent facts more left
+  with_batches left more id have each few = record {
+    id = id;
+    batches = in_one_log left more
+        (subst (λ (l : List LogLine). HaveBatches left 1 l more) s.lines have);
+    each = each;
+    few = few;
+    plain = s.plain;
+  }
 
   -- a crash leaves what it holds
   pub represented : DurableIsLeft → (left : Contents) → IsCrashOutcome disk left →
       FilesRepresent facts list left
-  represented law left leaves = record {
-    id = id_left law disk facts.id facts.ids s.id left leaves;
-    batches = log_left law left leaves;
-    each = s.each;
-    few = s.few;
-    plain = s.plain;
-  }
+  represented law left leaves =
+      with_batches left list (id_left law disk facts.id facts.ids s.id left leaves)
+      (whole_left (of_file law) disk left store.logs 1 list s.logs
+      (none_beside store.logs s.lines (newest_file store.logs)) leaves) s.each s.few
 
   -- the identity file is another than that of the log
-  apart : identity_file ≢ store.log.file
-  apart same = absurd (omega (arith, same, s.at.in_file))
+  apart : identity_file ≢ newest_file store.logs
+  apart same = absurd (omega (arith, same, in_batches_file store.logs s.lines))
 
   -- no call leaves it
   pub unchanged_since : DurableIsLeft → (more : List BatchContent) (past : List State) →
@@ -191,104 +218,47 @@ module _ (disk : State) (store : Store) (facts : Facts) (list : List BatchConten
       started (IsOneOf facts list facts more) disk past
       (λ left leaves. inl (represented law left leaves))
 
-  module _ (batch : BatchContent) (is_batch : IsBatch batch) where
-    pub next_record : (number : ℕ) → number ≡ store_count store + 1 →
-        batch_record number batch ≡ batch_record (1 + length list) batch
-    next_record number is =
-        let same : number ≡ 1 + length list = omega (arith, is, counts) in
-        ap (λ (n : ℕ). batch_record n batch) same
+  module _ (batch : BatchContent) (is_batch : IsBatch batch)
+      (room : store_count store < MAX_NUMBER) where
+    few_more : length (list ++ batch ∷ []) ≤ MAX_NUMBER
+    few_more = omega (arith, length-append list (batch ∷ []), counts, room)
 
-    module _ (one : List ℕ) (is : one ≡ batch_record (1 + length list) batch)
-        (room : store_count store < MAX_NUMBER) where
-      few_more : length (list ++ batch ∷ []) ≤ MAX_NUMBER
-      few_more = omega (arith, length-append list (batch ∷ []), counts, room)
+    one_of : DurableFileIsLeft → (left : Contents) → AreLeftWith disk store.logs 1 list batch left →
+        IsOneOf facts list facts (list ++ batch ∷ []) left
+    one_of file_law left at =
+        let id = id_beside file_law disk facts.id facts.ids s.id left (at.others identity_file apart) in
+        elim at.either as (λ _. IsOneOf facts list facts (list ++ batch ∷ []) left) [
+          | inl old ↦ inl (with_batches left list id old s.each s.few)
+          | inr new ↦ inr (with_batches left (list ++ batch ∷ []) id new
+              (All-push IsBatch list batch s.each is_batch) few_more)
+        ]
 
-      one_more : records_from 1 list ++ one ∷ [] ≡ records_from 1 (list ++ batch ∷ [])
-      one_more =
-          ap (λ (r : List ℕ). records_from 1 list ++ r ∷ []) is
-          ∙ sym (records_from-push 1 list batch)
+    -- a crash while it is appended leaves the batches, with one more or without
+    pub crashed : DurableFileIsLeft → (new : State) (past since : List State) →
+        LeavesSince disk past new since (AreLeftWith disk store.logs 1 list batch) →
+        LeavesSince disk past new since (IsOneOf facts list facts (list ++ batch ∷ []))
+    crashed file_law new past since run =
+        weaker (AreLeftWith disk store.logs 1 list batch)
+        (IsOneOf facts list facts (list ++ batch ∷ [])) disk past new since (one_of file_law) run
 
-      one_of : (left : Contents) → HasId left facts.id facts.ids →
-          IsSomeAnd (left batches_file) (IsOldOrNew 0 (records_from 1 list) one) →
-          IsOneOf facts list facts (list ++ batch ∷ []) left
-      one_of left id either = split (left batches_file) refl either
-        where
-          split : (bytes : Option (List ℕ)) → left batches_file ≡ bytes →
-              IsSomeAnd bytes (IsOldOrNew 0 (records_from 1 list) one) →
-              IsOneOf facts list facts (list ++ batch ∷ []) left
-          split None same none = absurd none
-          split (Some it) same (inl stands) =
-              let P : Option (List ℕ) → Type 0 = λ o. IsLog o (records_from 1 list) in
-              inl (record {
-                id = id;
-                batches = subst P (sym same) stands;
-                each = s.each;
-                few = s.few;
-                plain = s.plain;
-              })
-          split (Some it) same (inr stands) =
-              let more : List (List ℕ) = records_from 1 (list ++ batch ∷ []) in
-              let whole : Represents it more =
-              subst (λ (r : List (List ℕ)). Represents it r) one_more stands in
-              let P : Option (List ℕ) → Type 0 = λ o. IsLog o more in
-              inr (record {
-                id = id;
-                batches = subst P (sym same) whole;
-                each = All-push IsBatch list batch s.each is_batch;
-                few = few_more;
-                plain = s.plain;
-              })
-
-      -- a crash while a record is appended leaves the batches, with one more or without
-      pub crashed : DurableFileIsLeft → (new : State) (past since : List State) →
-          LeavesSince disk past new since (IsLeftAt disk store.log.file (λ left. IsSomeAnd left
-          (IsOldOrNewFrom s.log.bytes store.log.start (records_from 1 list) one))) →
-          LeavesSince disk past new since (IsOneOf facts list facts (list ++ batch ∷ []))
-      crashed file_law new past since run =
-          let Q : Option (List ℕ) → Type 0 = λ left. IsSomeAnd left
-          (IsOldOrNewFrom s.log.bytes store.log.start (records_from 1 list) one) in
-          weaker (IsLeftAt disk store.log.file Q)
-          (IsOneOf facts list facts (list ++ batch ∷ [])) disk past new since
-          (λ left at. one_of left
-          (id_beside file_law disk facts.id facts.ids s.id left (at.others identity_file apart))
-          (at_log left at.here)) run
-        where
-          in_place : (it : List ℕ) →
-              IsOldOrNewFrom s.log.bytes store.log.start (records_from 1 list) one it →
-              IsOldOrNew 0 (records_from 1 list) one it
-          in_place it from = subst (λ k. IsOldOrNew k (records_from 1 list) one it) s.at.from
-              from.is
-
-          from_start : (bytes : Option (List ℕ)) → IsSomeAnd bytes
-              (IsOldOrNewFrom s.log.bytes store.log.start (records_from 1 list) one) →
-              IsSomeAnd bytes (IsOldOrNew 0 (records_from 1 list) one)
-          from_start None none = none
-          from_start (Some it) from = in_place it from
-
-          at_log : (left : Contents) → IsSomeAnd (left store.log.file)
-              (IsOldOrNewFrom s.log.bytes store.log.start (records_from 1 list) one) →
-              IsSomeAnd (left batches_file) (IsOldOrNew 0 (records_from 1 list) one)
-          at_log left here = subst (λ (f : ℕ). IsSomeAnd (left f)
-              (IsOldOrNew 0 (records_from 1 list) one)) s.at.in_file
-              (from_start (left store.log.file) here)
-
-      -- the store with the batch in its log and its entries in the memtable
-      pub appended : (new : State) (after : Store) →
-          ((other : ℕ) → other ≢ store.log.file → new other ≡ disk other) →
-          IsAt batches_file 0 after.log → (HasFailedAdd after.memtable → ⊥) →
-          HasEntriesOf after.memtable (list ++ batch ∷ []) →
-          LogHolds new after.log (records_from 1 list ++ one ∷ []) →
-          StoreHolds new after facts (list ++ batch ∷ [])
-      appended new after others at works entries holds = record {
-        id = id_in disk new facts.id facts.ids (others identity_file apart) s.id;
-        at = at;
-        log = subst (λ (r : List (List ℕ)). LogHolds new after.log r) one_more holds;
-        works = works;
-        entries = entries;
-        each = All-push IsBatch list batch s.each is_batch;
-        few = few_more;
-        plain = s.plain;
-      }
+    -- the store with the batch in its logs and its entries in the memtable
+    pub appended : {T : Type 0} (result : Result T EngineError) (new : State) (after : Store) →
+        ((other : ℕ) → other ≢ newest_file store.logs → new other ≡ disk other) →
+        lines_of after.logs ≡ lines_of store.logs → (HasFailedAdd after.memtable → ⊥) →
+        HasEntriesOf after.memtable (list ++ batch ∷ []) →
+        MatchResult result (λ _. LogsHold new after.logs 1 (list ++ batch ∷ [])) IsOfMachine →
+        MatchResult result (λ _. StoreHolds new after facts (list ++ batch ∷ [])) IsOfMachine
+    appended (Ok x) new after others lines works entries holds = record {
+      id = id_in disk new facts.id facts.ids (others identity_file apart) s.id;
+      lines = lines ∙ s.lines;
+      logs = holds;
+      works = works;
+      entries = entries;
+      each = All-push IsBatch list batch s.each is_batch;
+      few = few_more;
+      plain = s.plain;
+    }
+    appended (Err e) new after others lines works entries machine = machine
 
 -- the content that a read returns is a crash outcome
 reads_left : (slot : Slot) → IsFileOutcome slot (seen slot)

@@ -5,6 +5,7 @@ pub mod Causes
 pub mod Keeping
 pub mod Held
 pub mod Opens
+pub mod Parts
 pub mod Blank
 pub mod Engines
 pub mod LevelLemmas

@@ -68,11 +68,13 @@ module _ (left other : Contents) where
     h.0,
     h.1,
     h.2,
-    h.3,
-    subst (λ (o : Option (List ℕ)). IsLog o (records_from number h.0))
-        (sym (there line (first_there line lines))) h.4,
+    (
+      h.3.0,
+      subst (λ (o : Option (List ℕ)). IsLog o (records_from number h.0))
+          (sym (there line (first_there line lines))) h.3.1,
+    ),
     logs_same (number + length h.0) lines h.1
-        (λ one has. there one (later_there line lines one has)) h.5,
+        (λ one has. there one (later_there line lines one has)) h.4,
   )
 
   -- the same table has the same entries

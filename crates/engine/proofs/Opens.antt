@@ -1,10 +1,10 @@
 -- What an opened disk had.
-use Rattle.std.proofs.Common.{◌≡◌, ◌≤◌, ◌<◌, ◌+◌, ◌-◌, ℕ, zero, suc, List, [], ◌∷◌, ◌++◌, take, drop, length}
+use Rattle.std.proofs.Common.{◌≡◌, ◌≤◌, ◌<◌, ◌-◌, ℕ, zero, suc, List, [], ◌∷◌, ◌++◌, take, drop, length}
 use Rattle.std.proofs.Common.{Option}
 use Rattle.std.proofs.Common.{Some, None}
 use Rattle.kv_types.specs.declared.bounds.TheConstants.{MAX_NUMBER}
 use Rattle.std.proofs.Common.{Result, Ok, Err, refl, sym, ap, subst, ◌∙◌, arith}
-use Rattle.std.specs.Prelude.{All, IfErr, IfOk, MatchResult, slice_get}
+use Rattle.std.specs.Prelude.{All, IfOk, MatchResult, slice_get}
 use Rattle.std.specs.Int.{w16, to_be_bytes, from_be_bytes}
 use Rattle.std.proofs.lemmas.Nat.{from_be_bytes-to_be_bytes_2}
 use Rattle.std.proofs.lemmas.List.{append-nil}
@@ -137,32 +137,18 @@ had_batches s0 s1 s2 opened identity list id same o read each few =
       plain = record { first = refl; not_raised = refl; none_dropped = refl };
     }
 
--- the batch of a record is the one in its place of the list
-pub batch_is : SpellingsDiffer → (number : ℕ) (list : List BatchContent) (i : ℕ)
-    (batch : BatchContent) → All IsBatch list → IsBatch batch →
-    slice_get (records_from number list) i ≡ Some (batch_record (number + i) batch) →
-    place list (suc i) ≡ Some batch
-batch_is law number [] i batch each is got = absurd cc
-batch_is law number (x ∷ list) zero batch each is got =
-    let record_is : batch_record number x ≡ batch_record (number + zero) batch = cc in
-    let same : batch_record number x ≡ batch_record number batch =
-    record_is ∙ ap (λ (n : ℕ). batch_record n batch) (omega arith) in
-    let texts : batch_bytes x ≡ batch_bytes batch = ap (drop 8) same in
-    let is_x = All-head IsBatch x list each in
-    ap (λ (b : BatchContent). Some b) (law x batch [] is_x is (append-nil (batch_bytes x) ∙ texts)).0
-batch_is law number (x ∷ list) (suc i) batch each is got =
-    let next : number + suc i ≡ suc number + i = omega arith in
-    batch_is law (suc number) list i batch (All-tail IsBatch x list each) is
-    (got ∙ ap (λ (n : ℕ). Some (batch_record n batch)) next)
+-- the batch of a number
+placed : (list : List BatchContent) (i : ℕ) (batch : BatchContent) →
+    slice_get list i ≡ Some batch → place list (suc i) ≡ Some batch
+placed [] i batch got = absurd cc
+placed (x ∷ list) zero batch got = got
+placed (x ∷ list) (suc i) batch got = placed list i batch got
 
-pub batch_found : SpellingsDiffer → (list : List BatchContent) (number i : ℕ)
-    (result : Result BatchContent EngineError) → 0 < number → i ≡ number - 1 → All IsBatch list →
-    IfOk result IsBatch →
-    IfOk result (λ b. slice_get (records_from 1 list) i ≡ Some (batch_record (i + 1) b)) →
-    IfErr result IsOfMachine → MatchResult result (λ b. place list number ≡ Some b) IsOfMachine
-batch_found law list number i (Ok b) some at each is found machine =
-    let one : i + 1 ≡ 1 + i = omega arith in
-    let next : number ≡ suc i = omega (arith, some, at) in
-    ap (place list) next
-    ∙ batch_is law 1 list i b each is (found ∙ ap (λ (n : ℕ). Some (batch_record n b)) one)
-batch_found law list number i (Err e) some at each is found machine = machine
+pub batch_found : (list : List BatchContent) (number : ℕ)
+    (result : Result BatchContent EngineError) → 0 < number →
+    MatchResult result (λ b. slice_get list (number - 1) ≡ Some b) IsOfMachine →
+    MatchResult result (λ b. place list number ≡ Some b) IsOfMachine
+batch_found list number (Ok b) some found =
+    let next : number ≡ suc (number - 1) = omega (arith, some) in
+    ap (place list) next ∙ placed list (number - 1) b found
+batch_found list number (Err e) some machine = machine

@@ -4,6 +4,7 @@ use Rattle.std.specs.Prelude.{◌≡◌, ◌⊎◌, ℕ, suc, List, [], ◌∷�
 use Rattle.std.specs.Int.{w16, w64, to_be_bytes}
 use Rattle.kv_types.specs.{BatchContent, batch_bytes}
 use Rattle.configurations.specs.{config_text}
+use Rattle.manifest.specs.declared.line.LogLine.{LogLine}
 
 -- the file with the node's id and configuration, and the file of its batches
 abbrev pub identity_file : ℕ
@@ -11,6 +12,10 @@ identity_file = 1
 
 abbrev pub batches_file : ℕ
 batches_file = 3
+
+-- the logs of batches: there is one, which begins with the first batch
+abbrev pub batch_lines : List LogLine
+batch_lines = record { file = batches_file; first = 1 } ∷ []
 
 -- the file is one that a store writes
 abbrev pub IsOwnFile : ℕ → Type 0

@@ -1,13 +1,12 @@
 pub mod Errors
 pub mod Layout
 pub mod Files
-pub mod Stores
 pub mod BatchLogs
 pub mod LevelTables
 pub mod StoreFiles
+pub mod Stores
 pub mod Engines
 pub mod Calls
-pub mod LevelTables
 pub mod KeepingLemmas
 -- What crates above name.
 pub use Rattle.engine.specs.Calls.{Goes, IsNewEngine, IsEngineOf, IsJustOpened, IsOldOrNewSince, IsOpened}

@@ -1,23 +1,23 @@
--- An open store over a lent disk: its log and its memtable, and the list of batches that they hold.
-use Rattle.std.specs.Prelude.{◌≡◌, ◌↔◌, ℕ, ◌+◌, ◌≤◌, List, length, All}
+-- An open store over a lent disk: its logs and its memtable, and the list of batches that they hold.
+use Rattle.std.specs.Prelude.{◌≡◌, ◌↔◌, ℕ, ◌-◌, ◌≤◌, List, length, All}
 use Rattle.kv_types.specs.declared.bounds.TheConstants.{MAX_NUMBER}
 use Rattle.kv_types.specs.{BatchContent, Entry, IsBatch, all_entries}
-use Rattle.disk.specs.{State, contents, EndsOutOfRange}
-use Rattle.record_log.specs.declared.log.TheConstants.{MAX_RECORD}
-use Rattle.record_log.specs.{IsAt, IsDurableAs, LogHolds, Represents, count_of, gate_of}
+use Rattle.disk.specs.{State, contents}
+use Rattle.record_log.specs.{IsDurableAs, Represents}
 use Rattle.memtable.specs.declared.Memtable.{Memtable}
 use Rattle.memtable.specs.{HasFailedAdd, TableHolds}
 use Rattle.chain_model.specs.{IsId}
 use Rattle.configurations.specs.{IsConfig}
 use Rattle.engine.specs.declared.layout.Identity.{Identity}
 use Rattle.engine.specs.declared.store.Store.{Store}
+use Rattle.engine.specs.BatchLogs.{AreUsable, HasFullLog, LogsHold, lines_of, next_number}
 use Rattle.engine.specs.Files.{Facts}
 use Rattle.engine.specs.Files.{ArePlain, FilesRepresent, HasId}
-use Rattle.engine.specs.Layout.{batches_file, identity_file, identity_records, records_from}
+use Rattle.engine.specs.Layout.{batch_lines, identity_file, identity_records, records_from}
 
--- the number of batches in its log
+-- the number of its last batch
 abbrev pub store_count : Store → ℕ
-store_count store = count_of store.log
+store_count store = next_number store.logs - 1
 
 -- the memtable has not failed, and its entries have at most this number
 pub record IsNumberedTo (memtable : Memtable) (count : ℕ) : Type 0 where
@@ -26,7 +26,8 @@ pub record IsNumberedTo (memtable : Memtable) (count : ℕ) : Type 0 where
 
 -- the store can take another batch
 pub record IsUsable (store : Store) : Type 0 where
-  pub at : IsAt batches_file 0 store.log
+  pub lines : lines_of store.logs ≡ batch_lines
+  pub logs : AreUsable store.logs
   pub memtable : IsNumberedTo store.memtable (store_count store)
 
 -- no more batches are committed than there are, and each has a number
@@ -36,7 +37,7 @@ pub record AreCounted (store : Store) (known : ℕ) : Type 0 where
 
 -- one more record of the greatest length would end past the greatest place of a file
 abbrev pub IsFullLog : Store → Type 0
-IsFullLog store = EndsOutOfRange (gate_of store.log) (MAX_RECORD + 6)
+IsFullLog store = HasFullLog store.logs
 
 -- the memtable has the entries of these batches
 abbrev pub HasEntriesOf : Memtable → List BatchContent → Type 0
@@ -66,8 +67,8 @@ pub record AreReplayed (records : List (List ℕ)) (memtable : Memtable) : Type 
 pub record StoreHolds (disk : State) (store : Store) (facts : Facts) (list : List BatchContent)
     : Type 0 where
   pub id : IsDurableIdOf disk facts.id facts.ids
-  pub at : IsAt batches_file 0 store.log
-  pub log : LogHolds disk store.log (records_from 1 list)
+  pub lines : lines_of store.logs ≡ batch_lines
+  pub logs : LogsHold disk store.logs 1 list
   pub works : HasFailedAdd store.memtable → ⊥
   pub entries : HasEntriesOf store.memtable list
   pub each : All IsBatch list

@@ -265,7 +265,7 @@ impl<D: Disk + Drop> Engine<D> {
         ensures count { result ≡ (look_ups self.now).count }
         ensures ordered { AreOrdered (look_ups self.now) }
     {
-        Number::new(self.store.log.len() as u64).unwrap()
+        self.store.logs.last_number()
     }
 
     /// The number of batches that it knows to be committed.

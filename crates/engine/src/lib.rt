@@ -1,6 +1,7 @@
 //! One node's store: a list of batches on a disk, and reads of the maps of its beginnings.
 #![tactic(auto)]
 
+mod batch_logs;
 mod engine;
 mod error;
 pub mod laws;

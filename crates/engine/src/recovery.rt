@@ -16,39 +16,16 @@ ghost use Rattle.engine.specs.Stores.{AreReplayed, HasDurableId, IsNumberedTo, I
 ghost use Rattle.engine.specs.Stores.{IsUsable, StoreHolds, opened_facts, store_count};
 
 use crate::EngineError;
+use crate::batch_logs::{BatchLog, BatchLogs};
 use crate::layout::{BATCHES_FILE, IDENTITY_FILE, Identity, batch_of, identity_of};
 use crate::store::Store;
 use configurations::laws::config_text_is_unique;
 use disk::{Disk, DiskError};
+use kv_types::Number;
 use kv_types::laws::spellings_differ;
-use kv_types::{Batch, Number};
 use memtable::Memtable;
 use record_log::{Log, OpenedLog, records_are_unique};
 use std::alloc::Global;
-
-/// The batch of a log's record, whose number follows from the record's place.
-pub(crate) fn batch_at<D: Disk>(
-    alloc: Global,
-    disk: &mut D,
-    log: &Log,
-    index: usize,
-) -> Result<Batch, EngineError>
-    requires works { HasFailed log.now → ⊥ }
-    requires within { index < count_of log.now }
-    ensures kept { KeepsDisk D.Disk disk.old disk.new (FailsDevice result) ⊥ IsSame }
-    ensures each { IfOk result IsBatch }
-    ensures found { (records : List (List ℕ)) → D.is_honest disk.old →
-        LogHolds (D.state disk.old) log.now records →
-        IfOk result (λ batch. slice_get records index ≡ Some (batch_record (index + 1) batch)) }
-    ensures damaged { (list : List BatchContent) → D.is_honest disk.old →
-        LogHolds (D.state disk.old) log.now (records_from 1 list) → All IsBatch list →
-        IfErr result IsOfMachine }
-    ensures causes { IfErr result IsEnd }
-    ensures still { IsStill D.Disk disk.old disk.new }
-{
-    let record = log.record(alloc, disk, index)?;
-    batch_of(alloc, index as u64 + 1, &record)
-}
 
 /// The entries of the batches that were read with a log.
 fn replayed(alloc: Global, opened: &OpenedLog) -> Result<Memtable, EngineError>
@@ -153,11 +130,10 @@ pub(crate) fn recover<D: Disk>(
     let identity = identity_on(alloc, disk)?;
     let opened = Log::open(alloc, disk, BATCHES_FILE, 0)?;
     let memtable = replayed(alloc, &opened)?;
-    Ok((
-        identity,
-        Store {
-            log: opened.log,
-            memtable,
-        },
-    ))
+    let newest = BatchLog {
+        first: 1,
+        log: opened.log,
+    };
+    let logs = BatchLogs::new(alloc, newest);
+    Ok((identity, Store { logs, memtable }))
 }

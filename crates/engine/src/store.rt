@@ -1,4 +1,4 @@
-//! A store over a lent disk: a log of batches, and their entries in memory.
+//! A store over a lent disk: logs of batches, and their entries in memory.
 ghost use Rattle.std.specs.Prelude.{◌≡◌, ℕ, ◌+◌, ◌<◌, ◌≤◌, [], ◌∷◌, ◌++◌, List, take, Some};
 ghost use Rattle.std.specs.Prelude.{IfOk, IfErr, OnOk, MatchResult};
 ghost use Rattle.kv_types.specs.declared.bounds.TheConstants.{MAX_NUMBER};
@@ -12,21 +12,22 @@ ghost use Rattle.engine.specs.Stores.{HasEntriesOf, IsFullLog, IsUsable, StoreHo
 ghost use Rattle.engine.specs.Stores.{plain_facts, store_count};
 
 use crate::EngineError;
-use crate::layout::{BATCHES_FILE, IDENTITY_FILE, batch_record, identity_record};
-use crate::recovery::{batch_at, length_of};
+use crate::batch_logs::{BatchLog, BatchLogs};
+use crate::layout::{BATCHES_FILE, IDENTITY_FILE, identity_record};
+use crate::recovery::length_of;
 use configurations::{Config, NodeId};
 use disk::Disk;
 use disk::laws::{durable_file_is_left, durable_is_left};
-use kv_types::laws::{spellings_differ, views_are_maps};
+use kv_types::laws::views_are_maps;
 use kv_types::{Batch, Key, Number, Value};
 use memtable::{Found, Memtable};
 use record_log::Log;
 use std::alloc::Global;
 
-/// A log of batches, and their entries. Each call that reaches files is lent the disk.
+/// Logs of batches, and their entries. Each call that reaches files is lent the disk.
 #[derive(Drop)]
 pub(crate) struct Store {
-    pub(crate) log: Log,
+    pub(crate) logs: BatchLogs,
     pub(crate) memtable: Memtable,
 }
 
@@ -52,7 +53,8 @@ impl Store {
         let record = identity_record(alloc, id, config)?;
         identity.append(alloc, disk, &record)?;
         let memtable = Memtable::new(alloc);
-        Ok(Store { log, memtable })
+        let logs = BatchLogs::new(alloc, BatchLog { first: 1, log });
+        Ok(Store { logs, memtable })
     }
 
     /// Appends the batch with the next number. It needs four device calls.
@@ -87,10 +89,9 @@ impl Store {
         // laws: a crash leaves what is durable, file by file
         durable_is_left();
         durable_file_is_left();
-        let record = batch_record(alloc, number.get(), batch)?;
+        let _edits = batch.edits(); // law: these are a batch
         self.memtable.add(number, batch)?;
-        self.log.append(alloc, disk, &record)?;
-        Ok(())
+        self.logs.append(alloc, disk, number, batch)
     }
 
     /// The batch of this number, read from the log.
@@ -109,8 +110,7 @@ impl Store {
         ensures causes { IfErr result IsEnd }
         ensures still { IsStill D.Disk disk.old disk.new }
     {
-        spellings_differ(); // law: no two batches have one spelling
-        batch_at(alloc, disk, &self.log, number.get() as usize - 1)
+        self.logs.batch(alloc, disk, number)
     }
 
     /// The value of a key in the map of the first `at` batches.

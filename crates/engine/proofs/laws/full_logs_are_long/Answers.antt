@@ -17,10 +17,11 @@ longer (Some it) gate within full = omega (arith, within, full)
 
 pub returns : goal.returns
 returns g c = λ engine list r full.
-    let log = engine.store.log in
-    let disk = g.D.Disk.state (engine_disk engine) in (
+    let log = engine.store.logs.newest.log in
+    let disk = g.D.Disk.state (engine_disk engine) in
+    let held = (store_of g.D.Disk engine list r).logs in (
       file_of log,
       longer (seen (disk (file_of log))) (gate_of log)
-          (c.gates_are_in_files.ensures disk log (records_from 1 list)
-          (store_of g.D.Disk engine list r).log) full,
+          (c.gates_are_in_files.ensures disk log
+          (records_from (1 + length held.before) held.here) held.newest.log) full,
     )

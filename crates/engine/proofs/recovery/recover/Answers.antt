@@ -1,17 +1,20 @@
-use Rattle.std.proofs.Common.{ℕ, List, refl, sym, subst}
+use Rattle.std.proofs.Common.{◌≡◌, ◌-◌, ◌∙◌, ℕ, List, arith, refl, sym, subst}
 use Rattle.std.proofs.lemmas.Result.{IfOk-from_err}
 use Rattle.disk.specs.{contents}
 use Rattle.engine.specs.Layout.{identity_file, batches_file, records_from}
 use Rattle.kv_types.specs.{BatchContent}
-use Rattle.record_log.specs.{LogHolds}
+use Rattle.record_log.specs.{LogHolds, count_of, file_of}
+use Rattle.engine.specs.declared.batch_logs.BatchLog.{BatchLog}
+use Rattle.engine.specs.BatchLogs.{next_number}
 use Rattle.engine.specs.Files.{IsBlank}
-use Rattle.engine.specs.Stores.{HasEntriesOf, IsDurableIdOf}
+use Rattle.engine.specs.Stores.{HasEntriesOf, IsDurableIdOf, IsNumberedTo}
 use Rattle.engine.specs.Errors.{IsOfMachine, MatchesBlank}
 use Rattle.engine.proofs.Blank.{blank_by_log, blank_by_bytes, not_blank}
 use Rattle.engine.proofs.Causes.{of_machine, refuses}
 use Rattle.engine.proofs.Opens.{had_batches, has_in, plain_is, same_identity, same_batches}
 use Rattle.engine.proofs.Records.{few_replayed}
-use Rattle.engine.proofs.Held.{batches_apart, files_apart, id_in}
+use Rattle.engine.proofs.Held.{batches_apart, files_apart, first_line, id_in}
+use Rattle.engine.proofs.Parts.{IsAlone, alone_holds, alone_next, alone_usable}
 use Rattle.disk.specs.StillLemmas.{still_more}
 use Rattle.engine.proofs.Keeping.{both_synced, bytes_only, done, log_failed}
 use Rattle.engine.specs.KeepingLemmas.{answered, kept_as, kept_behind}
@@ -112,8 +115,12 @@ returns-clause-opened g c = λ facts list honest had.
       record {
         id = subst (λ (y : ℕ). IsDurableIdOf s2 y facts.ids) same.0
             (subst (λ (ys : List ℕ). IsDurableIdOf s2 it.id ys) same.1 sure);
-        at = c.in_ok-opened.ensures.at;
-        log = holds.0;
+        lines = c.new-logs.ensures.lines
+            ∙ first_line (file_of c.in_ok-opened.opened.log) 1 c.in_ok-opened.ensures.at.in_file refl;
+        logs = alone_holds c.new-logs.result (record { first = 1; log = c.in_ok-opened.opened.log })
+            (record { older = c.new-logs.ensures.alone.0; newest = c.new-logs.ensures.alone.1 }) s2
+            1 list
+            (record { first = refl; from = c.in_ok-opened.ensures.at.from; log = holds.0 });
         works = c.in_ok-memtable.ensures.numbered.0.works;
         entries = subst (λ (l : List BatchContent). HasEntriesOf memtable l) (sym is_list)
             read.entries;
@@ -156,8 +163,15 @@ returns-clause-found g c = λ honest.
           read.spelled read.each few;
       holds = record {
         id = id_in s1 s2 it.id it.config same_file found.sure;
-        at = c.in_ok-opened.ensures.at;
-        log = subst (λ (r : List (List ℕ)). LogHolds s2 opened.log r) read.spelled o.holds;
+        lines = c.new-logs.ensures.lines
+            ∙ first_line (file_of opened.log) 1 c.in_ok-opened.ensures.at.in_file refl;
+        logs = alone_holds c.new-logs.result (record { first = 1; log = opened.log })
+            (record { older = c.new-logs.ensures.alone.0; newest = c.new-logs.ensures.alone.1 }) s2
+            1 read.list (record {
+              first = refl;
+              from = c.in_ok-opened.ensures.at.from;
+              log = subst (λ (r : List (List ℕ)). LogHolds s2 opened.log r) read.spelled o.holds;
+            });
         works = c.in_ok-memtable.ensures.numbered.0.works;
         entries = read.entries;
         each = read.each;
@@ -195,7 +209,20 @@ returns-in_err-memtable-clause-blank g c = λ honest.
 pub returns-clause-usable : goal.returns-clause-usable
 returns-clause-usable g c =
     let numbered = c.in_ok-memtable.ensures.numbered in
-    (record { at = c.in_ok-opened.ensures.at; memtable = numbered.0 }, numbered.1)
+    let log = c.in_ok-opened.opened.log in
+    let one : BatchLog = record { first = 1; log = log } in
+    let alone : IsAlone c.new-logs.result one =
+    record { older = c.new-logs.ensures.alone.0; newest = c.new-logs.ensures.alone.1 } in
+    let next = alone_next c.new-logs.result one alone in
+    let same : count_of log ≡ next_number c.new-logs.result - 1 = omega (arith, next) in (
+      record {
+        lines = c.new-logs.ensures.lines
+            ∙ first_line (file_of log) 1 c.in_ok-opened.ensures.at.in_file refl;
+        logs = alone_usable c.new-logs.result one alone c.in_ok-opened.ensures.at.works;
+        memtable = subst (λ (n : ℕ). IsNumberedTo c.in_ok-memtable.memtable n) same numbered.0;
+      },
+      omega (arith, same, numbered.1),
+    )
 
 -- the parts leave nothing new
 pub returns-in_err-opened-clause-still : goal.returns-in_err-opened-clause-still

@@ -2,12 +2,13 @@ use Rattle.std.proofs.Common.{refl, ◌≡◌, [], ◌∷◌, inr, subst, ◌∙
 use Rattle.std.proofs.lemmas.List.Elements.{All-nil}
 use Rattle.kv_types.specs.{IsBatch}
 use Rattle.disk.specs.{Slot, seen}
-use Rattle.record_log.specs.{EndsInRange, LogHolds}
+use Rattle.record_log.specs.{EndsInRange, LogHolds, file_of}
 use Rattle.engine.specs.Layout.{identity_file, identity_record, identity_records, batches_file}
 use Rattle.engine.specs.Errors.{IsOfMachine}
 use Rattle.engine.proofs.Causes.{met, of_machine, refuses}
-use Rattle.engine.proofs.Held.{batches_apart, files_apart, has_room, holds_in, short_fits}
-use Rattle.engine.proofs.Held.{sure_of_id}
+use Rattle.engine.proofs.Held.{batches_apart, files_apart, first_line, has_room}
+use Rattle.engine.proofs.Held.{short_fits, sure_of_id}
+use Rattle.engine.proofs.Parts.{alone_holds, alone_next, alone_usable, holds_in}
 use Rattle.engine.proofs.Entries.{none_have, none_numbered}
 use Rattle.engine.proofs.Keeping.{batches_others, both_others, done, identity_others}
 use Rattle.engine.specs.KeepingLemmas.{answered}
@@ -153,11 +154,20 @@ returns-in_err-record-clause-created g c = λ honest.
 pub returns-clause-usable : goal.returns-clause-usable
 returns-clause-usable g c = (
   record {
-    at = c.in_ok-log.ensures.at;
+    lines = c.new-logs.ensures.lines
+        ∙ first_line (file_of c.in_ok-log.log) 1 c.in_ok-log.ensures.at.in_file refl;
+    logs = alone_usable c.new-logs.result (record { first = 1; log = c.in_ok-log.log })
+        (record { older = c.new-logs.ensures.alone.0; newest = c.new-logs.ensures.alone.1 })
+        c.in_ok-log.ensures.at.works;
     memtable = none_numbered c.new-memtable.result c.new-memtable.ensures.works
         c.new-memtable.ensures.empty _;
   },
-  c.in_ok-log.ensures.empty.1,
+  omega (
+    arith,
+    alone_next c.new-logs.result (record { first = 1; log = c.in_ok-log.log })
+        (record { older = c.new-logs.ensures.alone.0; newest = c.new-logs.ensures.alone.1 }),
+    c.in_ok-log.ensures.empty.1,
+  ),
 )
 
 -- two new logs, and the node's record in one
@@ -196,8 +206,14 @@ returns-clause-created g c = λ honest.
       id = sure_of_id s3 c.append.new.self c.args.id c.args.config.now
           c.in_ok-record.ensures.id c.in_ok-record.ensures.config (told.file ∙ is.in_file)
           (told.start ∙ is.from) named;
-      at = c.in_ok-log.ensures.at;
-      log = holds_in s1 s3 log [] kept (c.in_ok-log.ensures.created honest0 batches_end);
+      lines = c.new-logs.ensures.lines ∙ first_line (file_of log) 1 in_log refl;
+      logs = alone_holds c.new-logs.result (record { first = 1; log = log })
+          (record { older = c.new-logs.ensures.alone.0; newest = c.new-logs.ensures.alone.1 }) s3 1
+          [] (record {
+            first = refl;
+            from = c.in_ok-log.ensures.at.from;
+            log = holds_in s1 s3 log [] kept (c.in_ok-log.ensures.created honest0 batches_end);
+          });
       works = c.new-memtable.ensures.works;
       entries = none_have c.new-memtable.result c.new-memtable.ensures.empty;
       each = All-nil IsBatch;
