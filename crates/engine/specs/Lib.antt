@@ -4,6 +4,7 @@ pub mod Files
 pub mod BatchLogs
 pub mod LevelTables
 pub mod StoreFiles
+pub mod LogExamples
 pub mod Stores
 pub mod Engines
 pub mod Calls

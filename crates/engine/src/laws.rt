@@ -9,6 +9,7 @@ ghost use Rattle.engine.specs.LevelTables.{TableLookUpsAreMaps, TablesFindForSto
 ghost use Rattle.engine.specs.StoreFiles.{FirstFilesRepresent, FlushesRepresent};
 ghost use Rattle.engine.specs.StoreFiles.{LongerLogsRepresent, StoreFilesAreNamed};
 ghost use Rattle.engine.specs.StoreFiles.{StoreFilesShowMaps};
+ghost use Rattle.engine.specs.LogExamples.{LaterLogIsBehind, TwoLogsHaveThree};
 
 use disk::Disk;
 use record_log::gates_are_in_files;
@@ -79,3 +80,9 @@ pub fn longer_logs_represent()
 {
     appends_keep();
 }
+
+/// Two logs with three batches, and two of which the second begins with batch 4.
+pub fn log_examples()
+    ensures three { TwoLogsHaveThree }
+    ensures behind { LaterLogIsBehind }
+{}
