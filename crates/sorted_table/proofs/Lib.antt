@@ -5,6 +5,7 @@ pub mod BlockWalks
 pub mod LineBlocks
 pub mod TailsLemmas
 pub mod FilterLemmas
+pub mod KeptDisk
 pub mod TableLookups
 -- cursors
 pub mod StartWalks

@@ -1,17 +1,19 @@
 -- A lookup in a table by the one block where a key and number would stand.
-use Rattle.std.proofs.Common.{◌≡◌, inr, ℕ, ◌+◌, ◌≤◌, List, ◌++◌, length, map, take, drop, All, Option, Contains}
-use Rattle.std.proofs.Common.{sym, subst, ◌∙◌, Result, Ok, Err, MatchResult}
+use Rattle.std.proofs.Common.{◌≡◌, ◌⊎◌, inl, inr, ℕ, ◌+◌, ◌≤◌, List, ◌++◌, length, map, take, drop}
+use Rattle.std.proofs.Common.{All, Option, Contains, sym, subst, ◌∙◌, Result, Ok, Err, MatchResult}
+use Rattle.std.specs.Prelude.{IfErr}
 use Rattle.std.specs.List.{AllByRecursion}
 use Rattle.std.proofs.lemmas.List.Elements.{recursion_from_All}
 use Rattle.kv_types.specs.OrderLemmas.{All-among, Among, Rises, rises_from_AllPairs}
 use Rattle.kv_types.specs.{Entry, IsUnseen}
 use Rattle.merge_iter.specs.{EntryPrecedes, spot}
 use Rattle.merge_iter.specs.declared.Direction.TheVariants.{Forward}
-use Rattle.table_format.specs.{AreRising, IsBlock, IsEnvironmentError, TableRepresents, block_entries, block_lines}
+use Rattle.table_format.specs.{AreRising, IsBlock, IsEnvironmentError, ReportsDevice, TableRepresents}
+use Rattle.table_format.specs.{block_entries, block_lines}
 use Rattle.table_format.specs.{end_spot, entries_of_blocks}
 use Rattle.table_format.specs.declared.IndexLine.{IndexLine}
 use Rattle.table_format.specs.declared.TableError.{TableError}
-use Rattle.table_format.specs.declared.TableError.TheVariants.{Memory}
+use Rattle.table_format.specs.declared.TableError.TheVariants.{Damaged, Memory}
 use Rattle.sorted_table.specs.declared.found.FoundVersion.{FoundVersion}
 use Rattle.sorted_table.specs.Open.{LookupFinds}
 use Rattle.sorted_table.specs.Searches.{EndsEarlier, IsEarlier, IsFirstWithout}
@@ -84,3 +86,10 @@ pub result_up : (bytes : List ℕ) (entries : List Entry) (key : List ℕ) (at :
     → MatchResult result (LookupFinds entries key at) IsEnvironmentError
 result_up bytes entries key at line b (Ok found) here = b.up found here
 result_up bytes entries key at line b (Err e) memory = inr memory
+
+-- a block that was read tells of no failure of the device
+pub not_device : {T : Type 0} (result : Result T TableError)
+    → IfErr result (λ e. (e ≡ Memory) ⊎ (e ≡ Damaged)) → ReportsDevice result → ⊥
+not_device (Ok x) only e = cc
+not_device (Err why) (inl memory) e = cc
+not_device (Err why) (inr damaged) e = cc

@@ -5,10 +5,14 @@ use Rattle.disk.specs.StillLemmas.{still}
 use Rattle.table_files.specs.{known_block_answered}
 use Rattle.table_format.specs.{IsBlock}
 use Rattle.sorted_table.proofs.FilterLemmas.{denied_unseen}
-use Rattle.sorted_table.proofs.TableLookups.{block_for, no_block, result_up}
+use Rattle.sorted_table.proofs.KeptDisk.{kept_alike, kept_uncalled}
+use Rattle.sorted_table.proofs.TableLookups.{block_for, no_block, not_device, result_up}
 use Rattle.sorted_table.proofs.table.Table.get_hashed.Goals as goal
 
 -- the filter denies the key
+pub returns-then-denies-clause-kept : goal.returns-then-denies-clause-kept
+returns-then-denies-clause-kept g c = kept_uncalled _ (λ e. cc)
+
 pub returns-then-denies-clause-found : goal.returns-then-denies-clause-found
 returns-then-denies-clause-found g c = λ entries honest s.
     denied_unseen entries s.represents.filter c.args.key.now c.args.at c.filters_cover.ensures
@@ -21,6 +25,9 @@ pub returns-then-denies-clause-still : goal.returns-then-denies-clause-still
 returns-then-denies-clause-still g c = λ honest. still _ _
 
 -- all blocks end before the key and number
+pub returns-in_default-clause-kept : goal.returns-in_default-clause-kept
+returns-in_default-clause-kept g c = kept_uncalled _ (λ e. cc)
+
 pub returns-in_default-clause-found : goal.returns-in_default-clause-found
 returns-in_default-clause-found g c = λ entries honest s.
     no_block s.bytes entries s.represents c.deref.result.now c.args.key.now c.args.at
@@ -42,6 +49,11 @@ returns-in_err-block-clause-found g c = λ entries honest s.
     rw (p.1, p.2) why
 
 -- what the block has of the key
+pub returns-clause-kept : goal.returns-clause-kept
+returns-clause-kept g c =
+    kept_alike _ _ (λ e. cc) (λ e. absurd (not_device c.find_in.result c.find_in.ensures.only e))
+    c.in_ok-block.ensures.kept
+
 pub returns-clause-found : goal.returns-clause-found
 returns-clause-found g c = λ entries honest s.
     let line = c.in-Some.line.now in
