@@ -1,8 +1,5 @@
 -- After each of the five calls a crash leaves a content on the way.
 use Rattle.manifest.proofs.Replaces.{after_cut, after_write, after_sync, after_gate, after_last}
-use Rattle.std.proofs.Common.{arith}
-use Rattle.std.proofs.lemmas.Result.{err_from_is_err_and}
-use Rattle.manifest.proofs.Kept.{kept_before, kept_last}
 use Rattle.manifest.proofs.replace.fill.Goals as goal
 
 -- the cut
@@ -77,61 +74,3 @@ returns-clause-any_moment g c = λ was honest shut.
     (c.write_at-2.ensures.kept.disk.files honest3) (c.write_at-2.ensures.passes honest3).moment
     c.sync-2.new.self c.sync-2.result (c.sync-2.ensures.syncs honest4)
     (c.sync-2.ensures.passes honest4).moment
-
--- no other file changes
-pub returns-in_err-cut-clause-kept : goal.returns-in_err-cut-clause-kept
-returns-in_err-cut-clause-kept g c =
-    let p = err_from_is_err_and c.from_residual.result
-    c.from_residual.ensures.1 in
-    rw (p.1, p.2)
-    (kept_last g.D.Disk c.args.file c.args.disk.now c.cut.new.self _ _ _
-    c.in_err-cut.ensures.kept.disk (λ never. absurd never))
-
-pub returns-in_err-write_at-clause-kept : goal.returns-in_err-write_at-clause-kept
-returns-in_err-write_at-clause-kept g c =
-    let p = err_from_is_err_and c.from_residual-in_err-write_at.result
-    c.from_residual-in_err-write_at.ensures.1 in
-    rw (p.1, p.2)
-    (kept_before g.D.Disk c.args.file c.args.disk.now c.cut.new.self c.write_at.new.self _ _ _ _
-    c.in_ok-cut.ensures.kept.disk (λ f. absurd cc)
-    (kept_last g.D.Disk c.args.file c.cut.new.self c.write_at.new.self _ _ _
-    c.in_err-write_at.ensures.kept.disk (λ why. why)))
-
-pub returns-in_err-sync-clause-kept : goal.returns-in_err-sync-clause-kept
-returns-in_err-sync-clause-kept g c =
-    let p = err_from_is_err_and c.from_residual-in_err-sync.result
-    c.from_residual-in_err-sync.ensures.1 in
-    rw (p.1, p.2)
-    (kept_before g.D.Disk c.args.file c.args.disk.now c.cut.new.self c.sync.new.self _ _ _ _
-    c.in_ok-cut.ensures.kept.disk (λ f. absurd cc)
-    (kept_before g.D.Disk c.args.file c.cut.new.self c.write_at.new.self c.sync.new.self _ _ _ _
-    c.in_ok-write_at.ensures.kept.disk (λ f. absurd cc)
-    (kept_last g.D.Disk c.args.file c.write_at.new.self c.sync.new.self _ _ _
-    c.in_err-sync.ensures.kept.disk (λ never. absurd never))))
-
-pub returns-in_err-write_at-2-clause-kept : goal.returns-in_err-write_at-2-clause-kept
-returns-in_err-write_at-2-clause-kept g c =
-    let p = err_from_is_err_and c.from_residual-in_err-write_at-2.result
-    c.from_residual-in_err-write_at-2.ensures.1 in
-    rw (p.1, p.2)
-    (kept_before g.D.Disk c.args.file c.args.disk.now c.cut.new.self c.write_at-2.new.self _ _ _ _
-    c.in_ok-cut.ensures.kept.disk (λ f. absurd cc)
-    (kept_before g.D.Disk c.args.file c.cut.new.self c.write_at.new.self c.write_at-2.new.self _ _ _ _
-    c.in_ok-write_at.ensures.kept.disk (λ f. absurd cc)
-    (kept_before g.D.Disk c.args.file c.write_at.new.self c.sync.new.self c.write_at-2.new.self _ _ _ _
-    c.in_ok-sync.ensures.kept.disk (λ f. absurd cc)
-    (kept_last g.D.Disk c.args.file c.sync.new.self c.write_at-2.new.self _ _ _
-    c.in_err-write_at-2.ensures.kept.disk (λ over. absurd (omega (arith, over)))))))
-
-pub returns-clause-kept : goal.returns-clause-kept
-returns-clause-kept g c =
-    kept_before g.D.Disk c.args.file c.args.disk.now c.cut.new.self c.sync-2.new.self _ _ _ _
-    c.in_ok-cut.ensures.kept.disk (λ f. absurd cc)
-    (kept_before g.D.Disk c.args.file c.cut.new.self c.write_at.new.self c.sync-2.new.self _ _ _ _
-    c.in_ok-write_at.ensures.kept.disk (λ f. absurd cc)
-    (kept_before g.D.Disk c.args.file c.write_at.new.self c.sync.new.self c.sync-2.new.self _ _ _ _
-    c.in_ok-sync.ensures.kept.disk (λ f. absurd cc)
-    (kept_before g.D.Disk c.args.file c.sync.new.self c.write_at-2.new.self c.sync-2.new.self _ _ _ _
-    c.in_ok-write_at-2.ensures.kept.disk (λ f. absurd cc)
-    (kept_last g.D.Disk c.args.file c.write_at-2.new.self c.sync-2.new.self _ _ _
-    c.sync-2.ensures.kept.disk (λ never. absurd never)))))
