@@ -1,5 +1,5 @@
 -- What a walk over tables in order of level has found.
-use Rattle.std.proofs.Common.{◌≡◌, ◌⊎◌, inl, inr, ℕ, ◌<◌, ◌≤◌, List, [], ◌∷◌, ◌++◌, length, All}
+use Rattle.std.proofs.Common.{◌≡◌, ◌⊎◌, inl, inr, ℕ, ◌<◌, ◌≤◌, List, [], ◌∷◌, ◌++◌, All}
 use Rattle.std.proofs.Common.{Contains, Option, Some, None, refl, sym, ◌∙◌, ap, subst, arith}
 use Rattle.std.proofs.Common.{Bool, true, false, ◌||◌, ◌==◌, ◌+◌, suc}
 use Rattle.std.specs.Prelude.{is_some}
@@ -15,10 +15,10 @@ use Rattle.sorted_table.specs.declared.FoundVersion.{FoundVersion}
 use Rattle.store_model.specs.{LevelTable, TableLacks, level_entries}
 use Rattle.store_model.specs.PlacesLemmas.{contains_none}
 use Rattle.manifest.specs.declared.TableLine.{TableLine}
-use Rattle.manifest.specs.Versions.{AreInOrder, table_is_before}
+use Rattle.manifest.specs.Versions.{table_is_before}
 use Rattle.engine.specs.declared.levels.OpenTable.{OpenTable}
 use Rattle.engine.specs.LevelTables.{FlushedTablesRise, IsServed, is_flushed, with_flushed}
-use Rattle.engine.specs.LevelTables.{AreTablesOf, EntriesFind, IsTableOf, LesserLack, LevelsRise}
+use Rattle.engine.specs.LevelTables.{AreTablesOf, EntriesFind, LesserLack, LevelsRise}
 use Rattle.engine.specs.LevelTables.{LinesInOrderRise, TablesFind, TablesFindForStores}
 
 -- ---- lines in order
@@ -232,8 +232,8 @@ module _ (at : ℕ) (key : List ℕ) where
       deeper : All (NotLess level) (table ∷ rest) → level ≤ table.level
       deeper = All-head (NotLess level) table rest
 
-      left_entries : ((t : LevelTable) → Contains (table ∷ rest) t → level < t.level) → (mine : Entry)
-          → IsNewest at (level_entries passed level) mine
+      left_entries : ((t : LevelTable) → Contains (table ∷ rest) t → level < t.level)
+          → (mine : Entry) → IsNewest at (level_entries passed level) mine
           → IsNewest at (level_entries (passed ++ table ∷ rest) level) mine
       left_entries past mine it = record {
         seen = (

@@ -1,5 +1,6 @@
 -- Open tables: which tables they serve, and what they have of a key.
-use Rattle.std.proofs.Common.{◌≡◌, ℕ, List, length, Option, Some, None, inl, inr, sym, ◌∙◌, ap, subst, Contains}
+use Rattle.std.proofs.Common.{◌≡◌, ◌<◌, ◌^◌, ℕ, List, length, Option, Some, None, inl, inr, sym}
+use Rattle.std.proofs.Common.{◌∙◌, ap, subst, Contains}
 use Rattle.std.specs.Prelude.{IsSomeAnd}
 use Rattle.disk.specs.declared.Disk.{Ghosts}
 use Rattle.disk.specs.{Contents, contents, IsSame, IsStill, KeepsDisk, Slot, State, seen}
@@ -17,7 +18,7 @@ use Rattle.engine.specs.declared.levels.OpenTable.{OpenTable}
 use Rattle.engine.specs.KeepingLemmas.{kept_as, kept_behind, neither, same_files, same_then_same}
 use Rattle.engine.specs.KeepingLemmas.{unchanged}
 use Rattle.engine.specs.Errors.{IsOfMachine}
-use Rattle.engine.specs.LevelTables.{EntriesFind, IsServed, IsTableOf, error_of_table}
+use Rattle.engine.specs.LevelTables.{EntriesFind, HasLength, IsServed, IsTableOf, error_of_table}
 
 -- a refusal that says nothing of a file
 pub of_table : (e : TableError) → IsEnvironmentError e → IsOfMachine (error_of_table e)
@@ -65,6 +66,19 @@ lines_same old new line table same is = record {
       (λ bytes. (length bytes ≡ line.length) × TableRepresents bytes table.entries))
       (ap seen (sym (same line.file))) is.represents;
 }
+
+pub length_same : (old new : State) (line : TableLine) → IsSame old new
+    → HasLength (contents new) line → HasLength (contents old) line
+length_same old new line same long =
+    subst (λ (o : Option (List ℕ)). IsSomeAnd o (λ bytes. length bytes ≡ line.length))
+    (ap seen (same line.file)) long
+
+-- the length that was read is that of the line
+pub length_read : (file : Option (List ℕ)) (len of_line : ℕ)
+    → IsSomeAnd file (λ bytes. (len ≡ length bytes) × (len < 2 ^ 63)) → len ≡ of_line
+    → IsSomeAnd file (λ bytes. length bytes ≡ of_line)
+length_read None len of_line answer same = absurd answer
+length_read (Some bytes) len of_line answer same = sym answer.0 ∙ same
 
 pub same_back : (old new : State) → IsSame old new → IsSame new old
 same_back old new same file = sym (same file)

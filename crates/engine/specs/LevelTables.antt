@@ -19,7 +19,7 @@ use Rattle.engine.specs.declared.error.EngineError.TheVariants as engine
 use Rattle.engine.specs.declared.levels.OpenTable.{OpenTable}
 use Rattle.engine.specs.declared.levels.LevelTables.{LevelTables}
 
--- an opening or a lookup never meets the errors of a builder
+-- as an engine tells it; an opening or a lookup never meets the errors of a builder
 abbrev pub error_of_table : TableError → EngineError
 error_of_table table.Disk = engine.Disk
 error_of_table table.Damaged = engine.Damaged
@@ -45,6 +45,10 @@ pub record IsTableOf (left : Contents) (line : TableLine) (table : LevelTable) :
 -- line by line
 abbrev pub AreTablesOf : Contents → List TableLine → List LevelTable → Type 0
 AreTablesOf left = AllZip (IsTableOf left)
+
+-- the line's file has the line's length
+abbrev pub HasLength : Contents → TableLine → Type 0
+HasLength left line = IsSomeAnd (left line.file) (λ bytes. length bytes ≡ line.length)
 
 -- no table stands behind one of a deeper level
 abbrev pub LevelsRise : List LevelTable → Type 0
@@ -101,7 +105,7 @@ abbrev pub EntriesFind : ℕ → (Entry → Type 0) → List ℕ → Option Foun
 EntriesFind at entries key None = IsUnseen at entries key
 EntriesFind at entries key (Some found) = IsNewest at entries (found_entry key found)
 
--- no table above the level has an entry of the key that is seen at the number
+-- no table of a lesser level has an entry of the key that is seen at the number
 abbrev pub LesserLack : ℕ → List LevelTable → List ℕ → ℕ → Type 0
 LesserLack at tables key level =
     (t : LevelTable) → Contains tables t → t.level < level → TableLacks at t key

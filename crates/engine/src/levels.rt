@@ -1,7 +1,7 @@
-//! Open tables, level by level, and lookups in them. The store of today has no tables, and does not
-//! use them yet.
+//! Open tables, level by level, and lookups in them. The store has no tables yet, and does not use
+//! them.
 ghost use Rattle.std.specs.Prelude.{◌≡◌, ◌⊎◌, ◌↔◌, ℕ, List, IfOk, IfErr, IsTrue, MatchResult};
-ghost use Rattle.std.specs.Prelude.{◌<◌, OnOk, slice_index};
+ghost use Rattle.std.specs.Prelude.{◌<◌, All, OnOk, slice_index};
 ghost use Rattle.std.specs.List.{prefix_len};
 ghost use Rattle.std.specs.Prelude.{Contains, [], ◌∷◌, ◌++◌};
 ghost use Rattle.bloom.specs.{hashes_of};
@@ -9,8 +9,8 @@ ghost use Rattle.disk.specs.{IsSame, IsStill, KeepsDisk, State, contents};
 ghost use Rattle.store_model.specs.{AreLeveled, FitsRange, LevelTable, RangeHolds};
 ghost use Rattle.store_model.specs.{level_entries};
 ghost use Rattle.engine.specs.Errors.{FailsDevice, IsEnd, IsOfMachine};
-ghost use Rattle.engine.specs.LevelTables.{AreServed, AreTablesOf, EntriesFind, IsServed};
-ghost use Rattle.engine.specs.LevelTables.{IsTableOf, LevelsRise, TablesFind};
+ghost use Rattle.engine.specs.LevelTables.{AreServed, AreTablesOf, EntriesFind, HasLength};
+ghost use Rattle.engine.specs.LevelTables.{IsServed, IsTableOf, LevelsRise, TablesFind};
 ghost use Rattle.engine.specs.LevelTables.{error_of_table, is_flushed, level_count, line_range};
 ghost use Rattle.engine.specs.LevelTables.{table_lines, with_flushed};
 
@@ -57,6 +57,8 @@ impl OpenTable {
             IsTableOf (contents (D.state disk.old)) line.now table →
             MatchResult result (λ it. IsServed (D.state disk.new) it table) IsOfMachine }
         ensures line { IfOk result (λ it. it.line ≡ line.now) }
+        ensures long { D.is_honest disk.old →
+            OnOk result (HasLength (contents (D.state disk.old)) line.now) }
         ensures causes { IfErr result IsEnd }
         ensures still { IsStill D.Disk disk.old disk.new }
     {
@@ -131,7 +133,8 @@ pub(crate) struct LevelTables {
 }
 
 impl LevelTables {
-    /// Opens the tables that these lines name. Where they name tables, only the machine refuses.
+    /// Opens the tables that these lines name. `Damaged` only where they name none: where a file has
+    /// not its line's length, or represents no table.
     pub(crate) fn open<D: Disk>(
         alloc: Global,
         disk: &mut D,
@@ -142,6 +145,8 @@ impl LevelTables {
             AreTablesOf (contents (D.state disk.old)) lines.now tables →
             MatchResult result (λ it. AreServed (D.state disk.new) it tables) IsOfMachine }
         ensures lines { IfOk result (λ it. table_lines it ≡ lines.now) }
+        ensures long { D.is_honest disk.old →
+            OnOk result (All (HasLength (contents (D.state disk.old))) lines.now) }
         ensures causes { IfErr result IsEnd }
         ensures still { IsStill D.Disk disk.old disk.new }
     {
@@ -183,9 +188,9 @@ impl LevelTables {
     pub(crate) fn add(&mut self, opened: OpenTable) -> Result<(), EngineError>
         ensures added { (disk : State) (tables : List LevelTable) (table : LevelTable) →
             AreServed disk self.old tables → IsServed disk opened table →
-            OnOk result (AreServed disk self.new (with_flushed tables table)) }
-        ensures refused { IfErr result (λ e. (e ≡ EngineError.Memory)
-            × (table_lines self.new ≡ table_lines self.old)) }
+            MatchResult result (λ _. AreServed disk self.new (with_flushed tables table))
+            (λ _. AreServed disk self.new tables) }
+        ensures memory { IfErr result (λ e. e ≡ EngineError.Memory) }
     {
         let place = self.flushed();
         self.tables.insert(place, opened)?;

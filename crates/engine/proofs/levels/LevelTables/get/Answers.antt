@@ -1,4 +1,4 @@
-use Rattle.std.proofs.Common.{◌+◌, ◌≡◌, ◌⊎◌, ℕ, List, [], ◌∷◌, ◌++◌, None, Option, inl, inr, ap, drop, length}
+use Rattle.std.proofs.Common.{◌+◌, ◌≡◌, ◌⊎◌, ℕ, List, [], None, inl, inr, drop}
 use Rattle.std.proofs.Common.{subst, sym, take, ◌∙◌}
 use Rattle.std.specs.List.{AllZip}
 use Rattle.store_model.specs.{LevelTable}
@@ -7,11 +7,13 @@ use Rattle.engine.specs.Errors.{IsOfMachine}
 use Rattle.engine.specs.KeepingLemmas.{answered}
 use Rattle.engine.specs.LevelTables.{IsServed, TablesFind}
 use Rattle.engine.proofs.Causes.{refuses}
-use Rattle.engine.proofs.LevelLemmas.{Walked, all_walked, found_left, none_found, none_walked, one_walked}
+use Rattle.engine.proofs.LevelLemmas.{Walked, all_walked, found_left, none_found}
+use Rattle.engine.proofs.LevelLemmas.{none_walked, one_walked}
 use Rattle.engine.proofs.OpenTables.{files_ghosts, none_read, read_more, served_same, still_then}
 use Rattle.engine.proofs.SideBySide.{all_taken, beside, none_left}
 use Rattle.engine.proofs.levels.LevelTables.get.Goals as goal
-use Rattle.engine.proofs.levels.LevelTables.get.Goals.{else-is_some-via-then-is_some+else-open-level, else-is_some-via-else-is_some}
+use Rattle.engine.proofs.levels.LevelTables.get.Goals.{else-is_some-via-else-is_some}
+use Rattle.engine.proofs.levels.LevelTables.get.Goals.{else-is_some-via-then-is_some+else-open-level}
 
 -- no table was passed
 pub loop-open-init : goal.loop-open-init
@@ -37,7 +39,8 @@ returns-then-open-level-clause-found g c = λ tables flushed honest served level
     let b = beside (IsServed s0) items tables i one zip c.loop-open-test.true c.open-item.is in
     let walked = subst (λ (l : List LevelTable). Walked at key (take i tables) l level best) b.left
     (c.loop-open.invariant.walked tables flushed honest served leveled rise) in
-    let another : b.other.level ≡ level → ⊥ = λ is. c.if-open-level.true (sym b.related.level ∙ is) in
+    let another : b.other.level ≡ level → ⊥ =
+    λ is. c.if-open-level.true (sym b.related.level ∙ is) in
     subst (λ (l : List LevelTable). TablesFind at l key best) b.whole
     (found_left at key (take i tables) level b.other (drop (i + 1) tables) best
     (sym c.is_some.ensures ∙ c.if-is_some.true) walked another)

@@ -3,7 +3,7 @@ use Rattle.disk.specs.{contents, seen}
 use Rattle.disk.specs.StillLemmas.{still, still_more, still_same}
 use Rattle.engine.specs.Errors.{IsOfMachine}
 use Rattle.engine.proofs.Causes.{refuses}
-use Rattle.engine.proofs.OpenTables.{file_represents, of_table}
+use Rattle.engine.proofs.OpenTables.{file_represents, length_read, of_table}
 use Rattle.engine.proofs.levels.OpenTable.open.Goals as goal
 
 -- the length was read, and then the table
@@ -49,3 +49,10 @@ returns-in_err-table-clause-opened g c = λ table honest is.
     refuses c.from_residual-in_err-table.result _ IsOfMachine
     c.from_residual-in_err-table.ensures.1 (of_table c.in_err-table.field-0.0
     (c.in_err-table.ensures.opened table.entries (c.length.ensures.kept.disk.honest.1 honest) has))
+
+-- the file had the length of the line
+pub returns-clause-long : goal.returns-clause-long
+returns-clause-long g c = λ honest.
+    length_read (contents (g.D.Disk.state c.args.disk.now) c.args.line.now.file)
+    c.in_ok-length.field-0 c.args.line.now.length (c.in_ok-length.ensures.length honest)
+    c.if-branch-line.false
