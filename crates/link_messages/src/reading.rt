@@ -213,6 +213,7 @@ pub fn content_of(alloc: Global, content: &[u8]) -> Result<Frame, FrameError>
     let mut rest = fields;
     let frame = frame_of(alloc, *kind, &mut rest)?;
     if !rest.is_empty() {
+        drop(frame);
         return Err(FrameError::Trailing);
     }
     Ok(frame)
