@@ -101,3 +101,14 @@ pub struct Report {
     pub steps: Vec<Lines>,
     pub nodes: Vec<NodeReport>,
 }
+
+impl Report {
+    /// The lines of each event, without the nodes.
+    pub fn into_steps(self) -> Vec<Lines>
+        ensures { result ≡ self.steps }
+    {
+        let Report { steps, nodes } = self;
+        drop(nodes);
+        steps
+    }
+}

@@ -124,7 +124,7 @@ fn left_of_all(alloc: Global, nodes: Vec<SimNode>) -> Result<Vec<NodeReport>, Al
     Ok(reports)
 }
 
-// Keeps an event that is applied. Its lines are not there yet.
+// Keeps an event that was applied.
 fn keep(events: &mut Vec<EventRecord>, event: &Event) -> Result<(), AllocError>
     ensures { OnOk result (events_in events.new.items
         ≡ events_in events.old.items ++ event.now ∷ []) }
@@ -321,5 +321,10 @@ impl World {
         one_history::<Batch>(); // law: a run has one history
         run_is_outcomes::<Batch>();
         Ok(Report { steps, nodes })
+    }
+
+    /// Lets the world go, with its nodes. No report is made.
+    pub fn close(self) {
+        drop(self);
     }
 }

@@ -34,7 +34,13 @@ fn run_statements(
     let mut course = ScriptRun::new(alloc, &setup.configs, &setup.limits)?;
     let mut turns = Vec::new(alloc);
     for statement in statements {
-        turns.push(course.run(alloc, statement)?)?;
+        match course.run_next(alloc, statement, &mut turns) {
+            Ok(()) => {}
+            Err(e) => {
+                course.world.close();
+                return Err(e);
+            }
+        }
     }
     let report = course.world.finish(alloc)?;
     Ok((turns, report))
@@ -83,9 +89,9 @@ fn run_script<W: Write>(alloc: Global, script: &Script, out: &mut W) -> Result<(
         (AppendsPart (W.contents out.old) (W.contents out.new))) }
 {
     let (turns, report) = run_statements(alloc, &script.setup, &script.statements)?;
-    let text = text_of_run(alloc, &turns, &report.steps);
-    drop(report);
-    print(&text?, out)
+    let steps = report.into_steps();
+    let text = text_of_run(alloc, &turns, &steps)?;
+    print(&text, out)
 }
 
 /// The script that is read.

@@ -9,6 +9,7 @@ ghost use Rattle.lab.specs.{NamesNode, HasRun, frames_in_steps, frames_of_step};
 ghost use Rattle.program.specs.ScriptRuns.{deliveries, delivery, left_after, left_after_event};
 ghost use Rattle.program.specs.ScriptRuns.{IsResult, IsRising, places_after, most};
 ghost use Rattle.program.specs.Scripts.{Names};
+ghost use Rattle.program.specs.declared.statement_result.StatementResult.{StatementResult};
 
 use crate::script::{Action, Statement};
 use crate::statement_result::{Note, StatementResult};
@@ -132,8 +133,8 @@ impl ScriptRun {
         Ok(count)
     }
 
-    /// Runs a statement.
-    pub fn run(&mut self, alloc: Global, statement: &Statement) -> Result<StatementResult, LabError>
+    // Runs a statement.
+    fn run(&mut self, alloc: Global, statement: &Statement) -> Result<StatementResult, LabError>
         ensures { (cs : Configurations) (events : List LabEvent) (steps : List (List Line)) →
             HasRun self.old.world cs events steps → Names cs statement.now.action →
             IsRising 0 (frames_in_steps steps) self.old.left.items →
@@ -168,5 +169,27 @@ impl ScriptRun {
                 Ok(StatementResult { line, events, note })
             }
         }
+    }
+
+    /// Runs a statement, and keeps what it did behind the results of those before it.
+    pub fn run_next(
+        &mut self,
+        alloc: Global,
+        statement: &Statement,
+        results: &mut Vec<StatementResult>,
+    ) -> Result<(), LabError>
+        ensures { (cs : Configurations) (events : List LabEvent) (steps : List (List Line)) →
+            HasRun self.old.world cs events steps → Names cs statement.now.action →
+            IsRising 0 (frames_in_steps steps) self.old.left.items →
+            OnOk result ((turn : StatementResult) × (own : List LabEvent) × (lines : List (List Line))
+            × (results.new.items ≡ results.old.items ++ turn ∷ [])
+            × IsResult (frames_in_steps steps) self.old.left.items statement.now turn own lines
+            × HasRun self.new.world cs (events ++ own) (steps ++ lines)
+            × (self.new.left.items ≡ left_after statement.now.action (self.old.left.items
+            ++ places_after (frames_in_steps steps) (frames_in_steps lines)))) }
+    {
+        let turn = self.run(alloc, statement)?;
+        results.push(turn)?;
+        Ok(())
     }
 }

@@ -11,6 +11,7 @@ returns-clause-run g c = on_ok_map c.print.result (λ wrote. record {
     c.in_ok-text.ensures.text,
     c.deref-2.ensures.value,
     c.deref-3.ensures.value,
+    c.into_steps-steps.ensures,
   ) at wrote;
 }) c.print.ensures.whole
 
@@ -27,5 +28,6 @@ returns-clause-part g c = also_err _ _ c.print.result (record {
     c.in_ok-text.ensures.text,
     c.deref-2.ensures.value,
     c.deref-3.ensures.value,
+    c.into_steps-steps.ensures,
   ) at c.print.ensures.part;
 })

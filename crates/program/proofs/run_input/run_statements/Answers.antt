@@ -13,11 +13,11 @@ loop-statement-preserved c =
     let it = c.statement-item.result in
     let names = subst (λ (x : Statement). Names cs x.action) (sym c.statement-item.is)
     (c.requires i _ c.loop-statement-test.true) in
-    let took = c.in_ok-run.ensures cs g.events g.steps g.run names g.rising in
-    rw (add-one, c.in_ok-push.ensures.items) (goes_next c.loop-statement.course.world
-    c.run.new.self.world cs c.loop-statement.course.left.items c.run.new.self.left.items all i
-    _ it c.loop-statement.turns.items c.in_ok-run.field-0 c.loop-statement-test.true
-    c.statement-item.is g took.0 took.1 took.2 took.3 took.4)
+    let took = c.in-Ok.ensures cs g.events g.steps g.run names g.rising in
+    rw (add-one, took.3) (goes_next c.loop-statement.course.world c.run_next.new.self.world cs
+    c.loop-statement.course.left.items c.run_next.new.self.left.items all i _ it
+    c.loop-statement.turns.items took.0 c.loop-statement-test.true c.statement-item.is g took.1
+    took.2 took.4 took.5 took.6)
 
 pub returns : goal.returns
 returns c =
