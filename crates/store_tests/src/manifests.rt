@@ -1,12 +1,16 @@
 // The bytes of a manifest's slots, openings of slots that represent no version, and faults.
+ghost use Rattle.std.specs.Prelude.{IfOk};
+ghost use Rattle.manifest.specs.Edits.{IsChange};
+ghost use Rattle.manifest.specs.Versions.{IsFit};
+
 use crate::cases::{Case, all_hold, has_memory, holds_at, is_so};
 use crate::crashes::{Choice, arm};
 use crate::faults::mend;
 use crate::items::{config_of, copy_of, filled, is_same, origin};
 use disk::{Disk, Fault, MemDisk};
 use kv_types::bounds::MAX_NUMBER;
-use manifest::{Manifest, ManifestError};
-use std::alloc::Global;
+use manifest::{Manifest, ManifestError, StoreVersion, VersionEdit};
+use std::alloc::{AllocError, Global};
 use std::process::Abort;
 
 // The slot of node 1 alone after its creation: a head of generation 1, a record, a closed gate. The
@@ -84,6 +88,36 @@ fn refusal(
     refused
 }
 
+// The edit that raises the floor to 7, and changes nothing else.
+fn raised(alloc: Global, version: &StoreVersion) -> Result<VersionEdit, AllocError>
+    ensures { IfOk result (λ edit. IsFit version.now.version edit × IsChange edit) }
+{
+    Ok(VersionEdit {
+        next_file: version.next_file,
+        floor: version.floor.max(7),
+        flushed: version.flushed,
+        epoch: version.epoch,
+        config: version.config.clone()?,
+        logs_gone: Vec::new(alloc),
+        logs_added: Vec::new(alloc),
+        tables_gone: Vec::new(alloc),
+        tables_added: Vec::new(alloc),
+    })
+}
+
+// The refusal of a record that raises the floor, if it is refused.
+fn refusal_of_record(
+    rt: &impl Abort,
+    alloc: Global,
+    disk: &mut MemDisk,
+    manifest: &mut Manifest,
+) -> Option<ManifestError> {
+    let edit = raised(alloc, manifest.state()).expect(rt, "memory");
+    let refused = manifest.record(alloc, disk, edit).err();
+    has_memory(rt, refused == Some(ManifestError::Memory));
+    refused
+}
+
 // The generation of the slots that are opened.
 fn answer(rt: &impl Abort, alloc: Global, disk: &mut MemDisk) -> Result<u64, ManifestError> {
     let manifest = try_open(rt, alloc, disk)?;
@@ -108,6 +142,8 @@ fn numbers(rt: &impl Abort, alloc: Global, disk: &mut MemDisk) -> [u64; 6] {
 }
 
 const NEW: [u64; 6] = [1, 4, 0, 0, 1, 0];
+
+const RAISED: [u64; 6] = [1, 4, 7, 0, 1, 0];
 
 // Whether the slots are these, and a new version is opened.
 fn has_slots(
@@ -151,6 +187,19 @@ fn slots_byte_by_byte(rt: HostRuntime) {
         has_slots(&rt, alloc, &mut disk, &third, &second),
         "rewritten again",
     );
+}
+
+#[test]
+fn what_was_recorded_is_opened(rt: HostRuntime) {
+    let alloc = rt.alloc();
+    let mut disk = MemDisk::new(alloc);
+    let mut manifest = create(&rt, alloc, &mut disk);
+    let refused = refusal_of_record(&rt, alloc, &mut disk, &mut manifest);
+    let is_opened = refused.is_none() && numbers(&rt, alloc, &mut disk) == RAISED;
+    is_so(&rt, is_opened, "recorded");
+    let refused = refusal(&rt, alloc, &mut disk, &mut manifest);
+    let is_opened = refused.is_none() && numbers(&rt, alloc, &mut disk) == RAISED;
+    is_so(&rt, is_opened, "rewritten");
 }
 
 const DAMAGED: Option<ManifestError> = Some(ManifestError::Damaged);
@@ -357,6 +406,32 @@ fn rewrites_that_stop(rt: HostRuntime) {
     for call in 1..8 {
         for choice in &CHOICES {
             let is_left = is_left_by_rewrite(&rt, rt.alloc(), call, *choice);
+            holds_at(&rt, call as usize, is_left);
+        }
+    }
+}
+
+// Whether a record with this call struck is refused and fails from then on, and the old version or
+// the new one is opened again.
+fn is_left_by_record(rt: &impl Abort, alloc: Global, call: u64, choice: Option<Choice>) -> bool {
+    let mut disk = both_open(rt, alloc);
+    let mut manifest = open(rt, alloc, &mut disk);
+    arm(&mut disk, Fault::Fail(call));
+    let refused = refusal_of_record(rt, alloc, &mut disk, &mut manifest);
+    let later = refusal_of_record(rt, alloc, &mut disk, &mut manifest);
+    mend(rt, alloc, &mut disk, choice);
+    let opened = numbers(rt, alloc, &mut disk);
+    refused == Some(ManifestError::Disk)
+        && later == Some(ManifestError::Failed)
+        && (opened == NEW || opened == RAISED)
+}
+
+// A record makes four calls.
+#[test]
+fn records_that_stop(rt: HostRuntime) {
+    for call in 1..5 {
+        for choice in &CHOICES {
+            let is_left = is_left_by_record(&rt, rt.alloc(), call, *choice);
             holds_at(&rt, call as usize, is_left);
         }
     }
