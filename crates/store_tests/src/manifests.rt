@@ -113,7 +113,8 @@ fn refusal_of_record(
     manifest: &mut Manifest,
 ) -> Option<ManifestError> {
     let edit = raised(alloc, manifest.state()).expect(rt, "memory");
-    let refused = manifest.record(alloc, disk, edit).err();
+    let refused = manifest.record(alloc, disk, &edit).err();
+    drop(edit);
     has_memory(rt, refused == Some(ManifestError::Memory));
     refused
 }
