@@ -22,6 +22,8 @@ use Rattle.engine.specs.LevelTables.{AreTablesOf, IsTableOf}
 use Rattle.engine.specs.StoreFiles.{FlushesRepresent, HasFlushed, LongerLogsRepresent}
 use Rattle.engine.specs.StoreFiles.{StoreFilesRepresent}
 use Rattle.engine.specs.StoreFiles.{before_newest, begun_log, flush_change, store_of_version}
+use Rattle.store_model.specs.PlacesLemmas.{contains_cases, contains_head, contains_next}
+use Rattle.engine.proofs.LevelLemmas.{either}
 use Rattle.engine.proofs.NamedFiles.{logs_same, tables_same, version_same}
 
 -- ---- logs
@@ -66,10 +68,6 @@ newest_behind (old ∷ next ∷ lines) line = newest_behind (next ∷ lines) lin
 
 -- ---- tables
 
-either : (b : Bool) → (b ≡ true) ⊎ (b ≡ false)
-either true = inl refl
-either false = inr refl
-
 -- the tables after one was placed among them
 record WithTable (left : Contents) (lines : List TableLine) (before : List LevelTable)
     (table : LevelTable) : Type 0 where
@@ -79,30 +77,15 @@ record WithTable (left : Contents) (lines : List TableLine) (before : List Level
   old : (t : LevelTable) → Contains before t → Contains after t
   new : Contains after table
 
--- the first is there
-first_there : (x : LevelTable) (xs : List LevelTable) → Contains (x ∷ xs) x
-first_there x xs = (0, omega arith, refl)
-
--- and what comes behind it
-later_there : (y : LevelTable) (xs : List LevelTable) (x : LevelTable) → Contains xs x
-    → Contains (y ∷ xs) x
-later_there y xs x has = let lt = has.1 in (suc has.0, omega (arith, lt), has.2)
-
--- nothing else is
-there_cases : (y : LevelTable) (xs : List LevelTable) (x : LevelTable) → Contains (y ∷ xs) x
-    → (y ≡ x) ⊎ Contains xs x
-there_cases y xs x (zero, lt, is) = inl is
-there_cases y xs x (suc k, lt, is) = inr (k, omega (arith, lt), is)
-
 one_more_table : (left : Contents) (lines : List TableLine) (tables : List LevelTable)
     (line : TableLine) (table : LevelTable) → AreTablesOf left lines tables
     → IsTableOf left line table → WithTable left (with_table lines line) tables table
 one_more_table left [] [] line table h is = record {
   after = table ∷ [];
   read = (is, tt);
-  only = λ t has. elim (there_cases table [] t has) [ inl same ↦ inr same | inr none ↦ inl none ];
-  old = λ t has. later_there table [] t has;
-  new = first_there table [];
+  only = λ t has. elim (contains_cases table [] t has) [ inl same ↦ inr same | inr none ↦ inl none ];
+  old = λ t has. contains_next table [] t has;
+  new = contains_head table [];
 }
 one_more_table left [] (t ∷ tables) line table h is = absurd h
 one_more_table left (old ∷ lines) [] line table h is = absurd h
@@ -111,30 +94,30 @@ one_more_table left (old ∷ lines) (t ∷ tables) line table h is =
       | inl first ↦ rw first (record {
         after = table ∷ t ∷ tables;
         read = (is, h);
-        only = λ u has. elim (there_cases table (t ∷ tables) u has) [
+        only = λ u has. elim (contains_cases table (t ∷ tables) u has) [
           | inl same ↦ inr same
           | inr there ↦ inl there
         ];
-        old = λ u has. later_there table (t ∷ tables) u has;
-        new = first_there table (t ∷ tables);
+        old = λ u has. contains_next table (t ∷ tables) u has;
+        new = contains_head table (t ∷ tables);
       })
       | inr later ↦
           let more = one_more_table left lines tables line table h.1 is in
           rw later (record {
             after = t ∷ more.after;
             read = (h.0, more.read);
-            only = λ u has. elim (there_cases t more.after u has) [
-              | inl same ↦ inl (subst (Contains (t ∷ tables)) same (first_there t tables))
+            only = λ u has. elim (contains_cases t more.after u has) [
+              | inl same ↦ inl (subst (Contains (t ∷ tables)) same (contains_head t tables))
               | inr there ↦ elim (more.only u there) [
-                | inl was ↦ inl (later_there t tables u was)
+                | inl was ↦ inl (contains_next t tables u was)
                 | inr is_new ↦ inr is_new
               ]
             ];
-            old = λ u has. elim (there_cases t tables u has) [
-              | inl same ↦ subst (Contains (t ∷ more.after)) same (first_there t more.after)
-              | inr there ↦ later_there t more.after u (more.old u there)
+            old = λ u has. elim (contains_cases t tables u has) [
+              | inl same ↦ subst (Contains (t ∷ more.after)) same (contains_head t more.after)
+              | inr there ↦ contains_next t more.after u (more.old u there)
             ];
-            new = later_there t more.after table more.new;
+            new = contains_next t more.after table more.new;
           })
     ]
 
@@ -145,10 +128,10 @@ edited : (left : Contents) (lines : List TableLine) (before : List LevelTable)
 edited left lines before table more = record {
   stays = λ t has. elim (more.only t has) [
     | inl was ↦ inl (was, λ gone. let lt = gone.1 in omega (arith, lt))
-    | inr is ↦ inr (subst (Contains (table ∷ [])) is (first_there table []))
+    | inr is ↦ inr (subst (Contains (table ∷ [])) is (contains_head table []))
   ];
   left = λ t has. inr (more.old t has);
-  new = λ t has. elim (there_cases table [] t has) [
+  new = λ t has. elim (contains_cases table [] t has) [
     | inl is ↦ subst (Contains more.after) is more.new
     | inr none ↦ let lt = none.1 in absurd (omega (arith, lt))
   ];

@@ -7,6 +7,7 @@ use Rattle.disk.specs.{Contents}
 use Rattle.record_log.specs.{Represents}
 use Rattle.table_format.specs.{TableRepresents}
 use Rattle.store_model.specs.{LevelTable}
+use Rattle.store_model.specs.PlacesLemmas.{contains_head, contains_next}
 use Rattle.manifest.specs.declared.LogLine.{LogLine}
 use Rattle.manifest.specs.declared.TableLine.{TableLine}
 use Rattle.manifest.specs.{IsSlot, IsSlotFile, IsSuperseded, ManifestRepresents, NodeVersion}
@@ -16,14 +17,6 @@ use Rattle.engine.specs.Layout.{records_from}
 use Rattle.engine.specs.BatchLogs.{HaveBatches}
 use Rattle.engine.specs.LevelTables.{AreTablesOf, IsTableOf}
 use Rattle.engine.specs.StoreFiles.{IsStoreFile, StoreFilesAreNamed, StoreFilesRepresent}
-
--- the first is there
-first_there : {X : Type 0} (x : X) (xs : List X) → Contains (x ∷ xs) x
-first_there x xs = (0, omega arith, refl)
-
--- and what comes behind it
-later_there : {X : Type 0} (y : X) (xs : List X) (x : X) → Contains xs x → Contains (y ∷ xs) x
-later_there y xs x has = let lt = has.1 in (suc has.0, omega (arith, lt), has.2)
 
 -- the other slot is a slot
 other_is_slot : (slot : ℕ) → IsSlotFile slot → IsSlotFile (other_slot slot)
@@ -71,10 +64,10 @@ module _ (left other : Contents) where
     (
       h.3.0,
       subst (λ (o : Option (List ℕ)). IsLog o (records_from number h.0))
-          (sym (there line (first_there line lines))) h.3.1,
+          (sym (there line (contains_head line lines))) h.3.1,
     ),
     logs_same (number + length h.0) lines h.1
-        (λ one has. there one (later_there line lines one has)) h.4,
+        (λ one has. there one (contains_next line lines one has)) h.4,
   )
 
   -- the same table has the same entries
@@ -96,8 +89,8 @@ module _ (left other : Contents) where
   tables_same [] (table ∷ tables) there h = absurd h
   tables_same (line ∷ lines) [] there h = absurd h
   tables_same (line ∷ lines) (table ∷ tables) there h = (
-    table_same line table (there line (first_there line lines)) h.0,
-    tables_same lines tables (λ one has. there one (later_there line lines one has)) h.1,
+    table_same line table (there line (contains_head line lines)) h.0,
+    tables_same lines tables (λ one has. there one (contains_next line lines one has)) h.1,
   )
 
 -- so the files represent the same
