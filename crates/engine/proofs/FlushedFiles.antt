@@ -1,26 +1,24 @@
 -- The files after a flush or an append represent what is expected.
-use Rattle.std.proofs.Common.{◌≡◌, ◌⊎◌, ◌↔◌, ℕ, zero, suc, ◌+◌, ◌-◌, ◌<◌, ◌≤◌, List, [], ◌∷◌, ◌++◌}
-use Rattle.std.proofs.Common.{length, drop, All, Contains, Bool, Option, refl, sym, ap, subst, ◌∙◌}
-use Rattle.std.proofs.Common.{true, false, inl, inr, arith}
+use Rattle.std.proofs.Common.{◌≡◌, ◌⊎◌, ℕ, suc, ◌+◌, ◌-◌, ◌≤◌, List, [], ◌∷◌, ◌++◌}
+use Rattle.std.proofs.Common.{length, drop, All, Contains, refl, sym, ap, subst, ◌∙◌}
+use Rattle.std.proofs.Common.{inl, inr, arith}
 use Rattle.std.proofs.lemmas.List.{length-append, length-drop, length_push}
 use Rattle.std.proofs.lemmas.List.Elements.{All-cons, All-nil, All-push}
-use Rattle.kv_types.specs.declared.bounds.TheConstants.{MAX_NUMBER}
 use Rattle.kv_types.specs.{BatchContent, IsBatch}
 use Rattle.disk.specs.{Contents}
 use Rattle.store_model.specs.Claims.{AppendsKeep, FlushesKeep}
-use Rattle.store_model.specs.{StoreRepresents, StoreState}
-use Rattle.store_model.specs.{AreEdited, IsFlush, flushed_store}
+use Rattle.store_model.specs.{StoreRepresents}
+use Rattle.store_model.specs.{AreEdited}
 use Rattle.store_model.specs.{LevelTable}
 use Rattle.manifest.specs.declared.LogLine.{LogLine}
 use Rattle.manifest.specs.declared.TableLine.{TableLine}
-use Rattle.manifest.specs.Versions.{logs_left, placed, table_is_before, tables_left, with_log, with_table}
+use Rattle.manifest.specs.Versions.{placed, table_is_before, with_log, with_table}
 use Rattle.manifest.specs.VersionsLemmas.{all_logs_left, all_tables_left, log_behind}
-use Rattle.manifest.specs.{ManifestRepresents, StoreVersion, changed}
-use Rattle.engine.specs.Files.{Facts, IsLog}
+use Rattle.manifest.specs.{StoreVersion, changed}
+use Rattle.engine.specs.Files.{IsLog}
 use Rattle.engine.specs.BatchLogs.{HaveBatches}
 use Rattle.engine.specs.LevelTables.{AreTablesOf, IsTableOf}
-use Rattle.engine.specs.StoreFiles.{FlushesRepresent, HasFlushed, LongerLogsRepresent}
-use Rattle.engine.specs.StoreFiles.{StoreFilesRepresent}
+use Rattle.engine.specs.StoreFiles.{FlushesRepresent, LongerLogsRepresent}
 use Rattle.engine.specs.StoreFiles.{before_newest, begun_log, flush_change, store_of_version}
 use Rattle.store_model.specs.PlacesLemmas.{contains_cases, contains_head, contains_next}
 use Rattle.engine.proofs.LevelLemmas.{either}

@@ -4,7 +4,6 @@ use Rattle.std.proofs.Common.{inr, length, Contains}
 use Rattle.std.specs.Prelude.{IsSomeAnd}
 use Rattle.kv_types.specs.{BatchContent}
 use Rattle.disk.specs.{Contents}
-use Rattle.record_log.specs.{Represents}
 use Rattle.table_format.specs.{TableRepresents}
 use Rattle.store_model.specs.{LevelTable}
 use Rattle.store_model.specs.PlacesLemmas.{contains_head, contains_next}
@@ -12,11 +11,11 @@ use Rattle.manifest.specs.declared.LogLine.{LogLine}
 use Rattle.manifest.specs.declared.TableLine.{TableLine}
 use Rattle.manifest.specs.{IsSlot, IsSlotFile, IsSuperseded, ManifestRepresents, NodeVersion}
 use Rattle.manifest.specs.{SlotsRepresent, other_slot}
-use Rattle.engine.specs.Files.{Facts, IsLog}
+use Rattle.engine.specs.Files.{IsLog}
 use Rattle.engine.specs.Layout.{records_from}
 use Rattle.engine.specs.BatchLogs.{HaveBatches}
 use Rattle.engine.specs.LevelTables.{AreTablesOf, IsTableOf}
-use Rattle.engine.specs.StoreFiles.{IsStoreFile, StoreFilesAreNamed, StoreFilesRepresent}
+use Rattle.engine.specs.StoreFiles.{StoreFilesAreNamed}
 
 -- the other slot is a slot
 other_is_slot : (slot : ℕ) → IsSlotFile slot → IsSlotFile (other_slot slot)
