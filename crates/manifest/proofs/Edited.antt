@@ -115,7 +115,8 @@ module _ (disk : State) (manifest : Manifest) (named : NodeVersion) (one : Chang
       disk past
       (λ left now. record {
         here = inl (old_version left
-            (has_old disk manifest.slots named.id (map change_text h.changes) h.records left now));
+            (has_old disk manifest.slots named.id (map change_text h.changes) h.records left
+            (λ slot is. now slot)));
         others = λ other apart. now other;
       })
 
@@ -227,7 +228,7 @@ whole_start disk past manifest named h =
         fit = h.fit;
         is = h.is;
         records = has_old disk manifest.slots named.id (map change_text h.changes) h.records left
-            now;
+            (λ slot is. now slot);
       };
       others = λ other apart. now other;
     })

@@ -13,3 +13,4 @@ pub mod Replays
 pub mod Heads
 pub mod VersionIsOne
 pub mod Opened
+pub mod Outlasting

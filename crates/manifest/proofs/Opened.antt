@@ -28,7 +28,7 @@ use Rattle.manifest.specs.Laws.{VersionsAreCreated}
 use Rattle.manifest.specs.Manifests.{ManifestRefusal}
 use Rattle.manifest.specs.Opening.{AreOpened, SlotsAreKept}
 use Rattle.manifest.proofs.Records.{others_differ}
-use Rattle.manifest.proofs.Rewrites.{other_one}
+use Rattle.manifest.proofs.Records.{other_one}
 use Rattle.manifest.proofs.VersionIsOne.{below, head_is, same_id}
 
 -- ---- the slot that counts

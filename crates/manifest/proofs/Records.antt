@@ -2,7 +2,7 @@
 use Rattle.std.proofs.Common.{◌≡◌, ◌≢◌, ℕ, List, [], ◌∷◌, ◌++◌, take, drop, Option, Some, None}
 use Rattle.std.proofs.Common.{refl, sym, subst, ◌∙◌, inl, inr, arith}
 use Rattle.std.specs.Prelude.{IsSomeAnd, ◌⊎◌}
-use Rattle.disk.specs.{Slot, State, Contents, IsFileOutcome, IsCrashOutcome, seen}
+use Rattle.disk.specs.{Slot, State, Contents, IsFileOutcome, seen}
 use Rattle.disk.specs.{IsLeftAt, IsSameBut, LeavesSince}
 use Rattle.disk.specs.MomentsLemmas.{weaker}
 use Rattle.disk.specs.StepsLemmas.{sure_only, read_is_outcome}
@@ -30,6 +30,11 @@ use Rattle.manifest.specs.Holds.{SlotsHold}
 pub others_differ : (slot : ℕ) → IsSlotFile slot → other_slot slot ≢ slot
 others_differ slot (inl one) same = omega (arith, one, same)
 others_differ slot (inr two) same = omega (arith, two, same)
+
+-- which is one of the two
+pub other_one : (slot : ℕ) → IsSlotFile slot → IsSlotFile (other_slot slot)
+other_one slot (inl one) = inr (omega (arith, one))
+other_one slot (inr two) = inl (omega (arith, two))
 
 module _ (disk : State) (slots : SlotPair) (id : ℕ) (records : List (List ℕ)) (one : List ℕ)
     (h : SlotsHold disk slots id records) where
@@ -124,7 +129,8 @@ module _ (disk : State) (slots : SlotPair) (id : ℕ) (records : List (List ℕ)
 
 -- as it is, the slots have the records
 pub has_old : (disk : State) (slots : SlotPair) (id : ℕ) (records : List (List ℕ))
-    → SlotsHold disk slots id records → (left : Contents) → IsCrashOutcome disk left
+    → SlotsHold disk slots id records → (left : Contents)
+    → ((slot : ℕ) → IsSlotFile slot → IsFileOutcome (disk slot) (left slot))
     → SlotsRepresent id records left
 has_old disk slots id records h left now =
     let Q : Option (List ℕ) → Type 0 = λ l. IsSomeAnd l (IsSlot slots.generation id records) in
@@ -141,10 +147,10 @@ has_old disk slots id records h left now =
       generation = slots.generation;
       limit = h.limit;
       counting = sure_only Q h.log.bytes slot (left slots.slot)
-          (subst (λ (s : Slot). IsFileOutcome s (left slots.slot)) sure (now slots.slot));
+          (subst (λ (s : Slot). IsFileOutcome s (left slots.slot)) sure (now slots.slot h.one));
       other = sure_only R h.other_bytes h.other (left (other_slot slots.slot))
           (subst (λ (s : Slot). IsFileOutcome s (left (other_slot slots.slot))) h.other_sure
-          (now (other_slot slots.slot)));
+          (now (other_slot slots.slot) (other_one slots.slot h.one)));
     }
 
 -- what an append that was answered leaves of the slots

@@ -20,17 +20,12 @@ use Rattle.manifest.specs.Slots.{IsSlotFile, other_slot, slot_head, head_length,
 use Rattle.manifest.specs.Slots.{SlotsAreLeft}
 use Rattle.manifest.specs.Holds.{SlotsHold, slot_behind}
 use Rattle.manifest.proofs.Replaces.{OnTheWay}
-use Rattle.manifest.proofs.Records.{others_differ}
+use Rattle.manifest.proofs.Records.{other_one, others_differ}
 
 -- the other of the other slot
 other_back : (slot : ℕ) → IsSlotFile slot → other_slot (other_slot slot) ≡ slot
 other_back slot (inl one) = omega (arith, one)
 other_back slot (inr two) = omega (arith, two)
-
--- which is one of the two
-pub other_one : (slot : ℕ) → IsSlotFile slot → IsSlotFile (other_slot slot)
-other_one slot (inl one) = inr (omega (arith, one))
-other_one slot (inr two) = inl (omega (arith, two))
 
 -- a head has 11 bytes
 head_size : (generation id : ℕ) → length (slot_head generation id) ≡ head_length

@@ -1,9 +1,11 @@
 -- The laws of the definitions that contracts use.
-use Rattle.std.specs.Prelude.{◌≡◌}
-use Rattle.disk.specs.{Contents}
+use Rattle.std.specs.Prelude.{◌≡◌, ℕ}
+use Rattle.disk.specs.{Contents, IsFileOutcome, State}
 use Rattle.manifest.specs.Versions.{NodeVersion}
 use Rattle.manifest.specs.Lawful.{IsVersion}
-use Rattle.manifest.specs.Slots.{IsNotCreated, ManifestRepresents}
+use Rattle.manifest.specs.declared.manifest.Manifest.{Manifest}
+use Rattle.manifest.specs.Manifests.{ManifestHolds}
+use Rattle.manifest.specs.Slots.{IsNotCreated, IsSlotFile, ManifestRepresents}
 
 -- files represent one version at most
 abbrev pub VersionIsOne : Type 0
@@ -19,3 +21,18 @@ VersionsAreLawful = (named : NodeVersion) (left : Contents) → ManifestRepresen
 abbrev pub VersionsAreCreated : Type 0
 VersionsAreCreated = (named : NodeVersion) (left : Contents) → ManifestRepresents named left →
     IsNotCreated left → ⊥
+
+-- ---- of an open manifest
+
+-- whatever a crash leaves of its slots represents its version
+abbrev pub HeldVersionIsLeft : Type 0
+HeldVersionIsLeft = (disk : State) (manifest : Manifest) (named : NodeVersion) (left : Contents) →
+    ManifestHolds disk manifest named →
+    ((slot : ℕ) → IsSlotFile slot → IsFileOutcome (disk slot) (left slot)) →
+    ManifestRepresents named left
+
+-- with the same slots it holds the same version
+abbrev pub HeldVersionStays : Type 0
+HeldVersionStays = (disk other : State) (manifest : Manifest) (named : NodeVersion) →
+    ManifestHolds disk manifest named →
+    ((slot : ℕ) → IsSlotFile slot → other slot ≡ disk slot) → ManifestHolds other manifest named

@@ -14,9 +14,10 @@ pub mod Opening
 pub mod Laws
 pub mod Examples
 -- What crates above name.
-pub use Rattle.manifest.specs.Edits.{IsChange, change_text}
+pub use Rattle.manifest.specs.Edits.{IsChange, IsLogLine, IsTableLine, change_text}
 pub use Rattle.manifest.specs.Errors.{IsManifestExternal, ManifestFailsDevice}
-pub use Rattle.manifest.specs.Laws.{VersionIsOne, VersionsAreLawful}
+pub use Rattle.manifest.specs.Laws.{HeldVersionIsLeft, HeldVersionStays, VersionIsOne}
+pub use Rattle.manifest.specs.Laws.{VersionsAreLawful}
 pub use Rattle.manifest.specs.Lawful.{IsVersion}
 pub use Rattle.manifest.specs.Manifests.{ManifestHasFailed, ManifestHasNoRoom, ManifestHolds}
 pub use Rattle.manifest.specs.Manifests.{counting_file, generation_of, spare_file, version_of}

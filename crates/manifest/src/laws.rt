@@ -2,6 +2,7 @@
 //! laws.
 ghost use Rattle.manifest.specs.Edits.{ChangesDiffer};
 ghost use Rattle.manifest.specs.Examples.{FirstSlotIs, TableIs};
+ghost use Rattle.manifest.specs.Laws.{HeldVersionIsLeft, HeldVersionStays};
 ghost use Rattle.manifest.specs.Laws.{VersionIsOne, VersionsAreCreated, VersionsAreLawful};
 ghost use Rattle.manifest.specs.Manifests.{ManifestHasSlots};
 
@@ -29,6 +30,13 @@ pub fn version_is_one()
     changes_differ(); // law: no two edits have one spelling
     records_are_unique(); // law: bytes represent one list of records at most
 }
+
+/// Whatever a crash leaves of the slots of an open manifest represents its version, and with the same
+/// slots it holds the same one.
+pub fn held_versions_are_left()
+    ensures left { HeldVersionIsLeft }
+    ensures same { HeldVersionStays }
+{}
 
 /// A new slot, a table that is added and one that is given up, byte by byte.
 pub fn examples()

@@ -1,6 +1,6 @@
 use Rattle.std.proofs.Common.{sym, subst}
 use Rattle.manifest.specs.Slots.{IsSlotFile}
-use Rattle.manifest.proofs.Rewrites.{other_one}
+use Rattle.manifest.proofs.Records.{other_one}
 use Rattle.manifest.proofs.laws.manifest_has_slots.Goals as goal
 
 pub returns : goal.returns
