@@ -9,6 +9,7 @@ use Rattle.memtable.specs.declared.Found.{Found}
 use Rattle.memtable.specs.declared.Found.TheVariants as lookup
 use Rattle.memtable.specs.declared.Memtable.{Memtable}
 use Rattle.memtable.specs.{HasFailedAdd, IsFoundAt, IsNewNumber, TableHolds}
+use Rattle.store_model.specs.{StoreState, memory_entries}
 use Rattle.engine.specs.Stores.{HasEntriesOf, IsNumberedTo}
 
 -- ---- the places of a list with one batch more
@@ -54,37 +55,74 @@ abbrev pub Adds : Memtable → Memtable → ℕ → BatchContent → Type 0
 Adds old new number batch = (entry : Entry) →
     TableHolds new entry ↔ (TableHolds old entry ⊎ entries_of number batch entry)
 
+-- the entries of a list with one batch more
+among_front : (list : List BatchContent) (batch : BatchContent) (entry : Entry)
+    → all_entries list entry → all_entries (list ++ batch ∷ []) entry
+among_front list batch entry among =
+    (among.0, among.1, at_front list batch among.0 among.1 among.2, among.3)
+
+among_end : (list : List BatchContent) (batch : BatchContent) (number : ℕ) (entry : Entry)
+    → number ≡ suc (length list) → entries_of number batch entry
+    → all_entries (list ++ batch ∷ []) entry
+among_end list batch number entry is among = (
+  length list,
+  batch,
+  at_end list batch,
+  subst (λ (n : ℕ). entries_of n batch entry) is among,
+)
+
+among_either : (list : List BatchContent) (batch : BatchContent) (number : ℕ) (entry : Entry)
+    → number ≡ suc (length list) → all_entries (list ++ batch ∷ []) entry
+    → all_entries list entry ⊎ entries_of number batch entry
+among_either list batch number entry is among =
+    elim (at_either list batch among.0 among.1 among.2) as
+    (λ _. all_entries list entry ⊎ entries_of number batch entry) [
+      | inl before ↦ inl (among.0, among.1, before, among.3)
+      | inr last ↦ inr (subst (λ (n : ℕ). entries_of n batch entry) (ap suc last.0 ∙ sym is)
+          (subst (λ (b : BatchContent). entries_of (suc among.0) b entry) (sym last.1) among.3))
+    ]
+
 -- one batch more
 pub one_more_has : (old new : Memtable) (list : List BatchContent) (batch : BatchContent)
     (number : ℕ) → HasEntriesOf old list → number ≡ suc (length list) → Adds old new number batch →
     HasEntriesOf new (list ++ batch ∷ [])
-one_more_has old new list batch number has is adds entry = (to, back)
-  where
-    to : TableHolds new entry → all_entries (list ++ batch ∷ []) entry
-    to holds = elim ((adds entry).0 holds) as (λ _. all_entries (list ++ batch ∷ []) entry) [
-      | inl before ↦ (
-        ((has entry).0 before).0,
-        ((has entry).0 before).1,
-        at_front list batch ((has entry).0 before).0 ((has entry).0 before).1
-            ((has entry).0 before).2,
-        ((has entry).0 before).3,
-      )
-      | inr among ↦ (
-        length list,
-        batch,
-        at_end list batch,
-        subst (λ (n : ℕ). entries_of n batch entry) is among,
-      )
-    ]
+one_more_has old new list batch number has is adds entry = (
+  λ holds. elim ((adds entry).0 holds) as (λ _. all_entries (list ++ batch ∷ []) entry) [
+    | inl before ↦ among_front list batch entry ((has entry).0 before)
+    | inr among ↦ among_end list batch number entry is among
+  ],
+  λ among. (adds entry).1 (elim (among_either list batch number entry is among) as
+      (λ _. TableHolds old entry ⊎ entries_of number batch entry) [
+        | inl before ↦ inl ((has entry).1 before)
+        | inr last ↦ inr last
+      ]),
+)
 
-    back : all_entries (list ++ batch ∷ []) entry → TableHolds new entry
-    back among = (adds entry).1 (elim (at_either list batch among.0 among.1 among.2) as
-        (λ _. TableHolds old entry ⊎ entries_of number batch entry) [
-          | inl before ↦ inl ((has entry).1 (among.0, among.1, before, among.3))
-          | inr last ↦ inr (subst (λ (n : ℕ). entries_of n batch entry)
-              (ap suc last.0 ∙ sym is)
-              (subst (λ (b : BatchContent). entries_of (suc among.0) b entry) (sym last.1) among.3))
-        ])
+-- and of one that holds what no table has
+pub one_more_above : (old new : Memtable) (list : List BatchContent) (batch : BatchContent)
+    (number : ℕ) (store : StoreState)
+    → ((entry : Entry) → TableHolds old entry ↔ memory_entries list store entry)
+    → number ≡ suc (length list) → store.kept ≤ length list → store.flushed ≤ length list
+    → Adds old new number batch → (entry : Entry)
+    → TableHolds new entry ↔ memory_entries (list ++ batch ∷ []) store entry
+one_more_above old new list batch number store has is kept flushed adds entry = (
+  λ holds. elim ((adds entry).0 holds) as
+      (λ _. memory_entries (list ++ batch ∷ []) store entry) [
+        | inl before ↦
+            let was = (has entry).0 before in
+            (was.0, was.1, among_front list batch entry was.2)
+        | inr among ↦ (
+          omega (arith, among.0, is, kept),
+          omega (arith, among.0, is, flushed),
+          among_end list batch number entry is among,
+        )
+      ],
+  λ there. (adds entry).1 (elim (among_either list batch number entry is there.2) as
+      (λ _. TableHolds old entry ⊎ entries_of number batch entry) [
+        | inl before ↦ inl ((has entry).1 (there.0, there.1, before))
+        | inr last ↦ inr last
+      ]),
+)
 
 -- no entry has a number yet
 pub none_numbered : (table : Memtable) → (HasFailedAdd table → ⊥) →
@@ -114,13 +152,13 @@ next_numbered old new batch count number numbered is works adds next next_is = r
 -- ---- what a lookup finds
 
 module _ (at : ℕ) (A B : Entry → Type 0) (same : (entry : Entry) → A entry ↔ B entry) where
-  newest_in : (entry : Entry) → IsNewest at A entry → IsNewest at B entry
+  pub newest_in : (entry : Entry) → IsNewest at A entry → IsNewest at B entry
   newest_in entry h = record {
     seen = ((same entry).0 h.seen.0, h.seen.1);
     newest = λ other seen key. h.newest other ((same other).1 seen.0, seen.1) key;
   }
 
-  unseen_in : (key : List ℕ) → IsUnseen at A key → IsUnseen at B key
+  pub unseen_in : (key : List ℕ) → IsUnseen at A key → IsUnseen at B key
   unseen_in key none other seen = none other ((same other).1 seen.0, seen.1)
 
 -- what it says of a value

@@ -13,3 +13,6 @@ pub mod OpenTables
 pub mod SideBySide
 pub mod NamedFiles
 pub mod FlushedFiles
+pub mod LookUps
+pub mod FilesApart
+pub mod Appended

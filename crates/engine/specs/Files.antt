@@ -77,3 +77,7 @@ LeavesNoMore old new = (left : Contents) → IsCrashOutcome new left → IsCrash
 pub record IsRecovered (old new : State) : Type 0 where
   pub crash : LeavesNoMore old new
   pub others : KeepsOthers old new
+
+-- a store owns its disk: a call of it may change any file
+abbrev pub IsOwned : State → State → Type 0
+IsOwned old new = Unit {0}

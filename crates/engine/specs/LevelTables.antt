@@ -10,7 +10,7 @@ use Rattle.table_format.specs.declared.TableError.{TableError}
 use Rattle.table_format.specs.declared.TableError.TheVariants as table
 use Rattle.sorted_table.specs.{TableServes, found_entry, table_file}
 use Rattle.sorted_table.specs.declared.FoundVersion.{FoundVersion}
-use Rattle.store_model.specs.{KeyRange, LevelTable, StoreFinds, StoreRepresents, StoreState}
+use Rattle.store_model.specs.{KeyRange, LevelTable, NewestHas, StoreFinds, StoreRepresents, StoreState}
 use Rattle.store_model.specs.{TableLacks, level_entries, memory_entries}
 use Rattle.manifest.specs.declared.TableLine.{TableLine}
 use Rattle.manifest.specs.Versions.{AreInOrder, table_is_before}
@@ -104,6 +104,12 @@ FlushedTablesRise =
 abbrev pub EntriesFind : ℕ → (Entry → Type 0) → List ℕ → Option FoundVersion → Type 0
 EntriesFind at entries key None = IsUnseen at entries key
 EntriesFind at entries key (Some found) = IsNewest at entries (found_entry key found)
+
+-- of these entries the newest of the key that is seen at the number has this value or is a deletion,
+-- or there is none
+abbrev pub EntriesHave : ℕ → (Entry → Type 0) → List ℕ → Option (Option (List ℕ)) → Type 0
+EntriesHave at entries key None = IsUnseen at entries key
+EntriesHave at entries key (Some value) = NewestHas at entries key value
 
 -- no table of a lesser level has an entry of the key that is seen at the number
 abbrev pub LesserLack : ℕ → List LevelTable → List ℕ → ℕ → Type 0

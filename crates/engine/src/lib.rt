@@ -9,6 +9,7 @@ mod layout;
 mod levels;
 mod recovery;
 mod store;
+mod store_files;
 
 pub use engine::Engine;
 pub use error::EngineError;

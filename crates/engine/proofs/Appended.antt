@@ -1,0 +1,338 @@
+-- The open files of a store after an append, and what a crash in it leaves.
+use Rattle.std.proofs.Common.{◌≡◌, ◌≢◌, ◌⊎◌, ◌↔◌, ℕ, suc, ◌+◌, ◌-◌, ◌<◌, ◌≤◌, List, [], ◌∷◌, ◌++◌}
+use Rattle.std.proofs.Common.{All, Contains, ap, arith, drop, inl, inr, length, map, refl}
+use Rattle.std.proofs.Common.{Err, Ok, Result, subst, sym, ◌∙◌}
+use Rattle.std.specs.List.{AllZip}
+use Rattle.std.specs.Prelude.{IsNone, MatchResult}
+use Rattle.std.proofs.lemmas.List.{drop-append-le, length_push}
+use Rattle.std.proofs.lemmas.List.Elements.{All-contains, All-contains_itself, All-push, All-weaker}
+use Rattle.kv_types.specs.declared.bounds.TheConstants.{MAX_NUMBER}
+use Rattle.kv_types.specs.{BatchContent, Entry, IsBatch}
+use Rattle.disk.specs.{Contents, DurableFileIsLeft, IsDurable, IsFileOutcome, IsSameBut, Slot}
+use Rattle.disk.specs.{LeavesSince, State, contents, seen}
+use Rattle.disk.specs.MomentsLemmas.{started, weaker}
+use Rattle.memtable.specs.declared.Memtable.{Memtable}
+use Rattle.memtable.specs.{HasFailedAdd, TableHolds}
+use Rattle.sorted_table.specs.{TableServes, table_file}
+use Rattle.store_model.specs.Claims.{AppendsKeep}
+use Rattle.store_model.specs.PlacesLemmas.{contains_cases, contains_head, contains_next}
+use Rattle.store_model.specs.{LevelTable, StoreRepresents, memory_entries}
+use Rattle.manifest.specs.declared.LogLine.{LogLine}
+use Rattle.manifest.specs.declared.TableLine.{TableLine}
+use Rattle.manifest.specs.{HeldVersionIsLeft, HeldVersionStays, StoreVersion}
+use Rattle.engine.specs.declared.batch_logs.BatchLog.{BatchLog}
+use Rattle.engine.specs.declared.batch_logs.BatchLogs.{BatchLogs}
+use Rattle.engine.specs.declared.levels.OpenTable.{OpenTable}
+use Rattle.engine.specs.declared.store_files.StoreFiles.{StoreFiles}
+use Rattle.engine.specs.BatchLogs.{AreLeftWith, AreUsable, HaveBatches, LogsHold, first_number}
+use Rattle.engine.specs.BatchLogs.{line_of, lines_of, newest_file, next_number, oldest_first}
+use Rattle.engine.specs.LevelTables.{AreTablesOf, IsServed}
+use Rattle.engine.specs.OpenFiles.{AreOrderedNumbers, AreUsableFiles, FilesHold, batch_count}
+use Rattle.engine.specs.OpenFiles.{known_facts, known_store, known_version, trimmed_count}
+use Rattle.engine.specs.StoreFiles.{StoreFilesRepresent, store_of_version}
+use Rattle.engine.specs.Stores.{IsNumberedTo}
+use Rattle.engine.specs.declared.error.EngineError.{EngineError}
+use Rattle.engine.specs.Errors.{IsOfMachine}
+use Rattle.engine.proofs.Entries.{Adds, next_numbered}
+use Rattle.engine.proofs.FilesApart.{newest_given, newest_no_slot, newest_no_table, newest_positive}
+use Rattle.engine.proofs.NamedFiles.{tables_same}
+use Rattle.engine.proofs.Parts.{whole_left}
+
+-- ---- the same lines
+
+-- the number of the first batch, by the lines
+abbrev first_in : List LogLine → ℕ
+first_in [] = 0
+first_in (line ∷ lines) = line.first
+
+first_by_lines : (older : List BatchLog) (newest : BatchLog)
+    → oldest_first older newest ≡ first_in (map line_of older ++ line_of newest ∷ [])
+first_by_lines [] newest = refl
+first_by_lines (one ∷ others) newest = refl
+
+pub first_same : (logs after : BatchLogs) → lines_of after ≡ lines_of logs
+    → first_number after ≡ first_number logs
+first_same logs after lines =
+    first_by_lines after.older.items after.newest ∙ ap first_in lines
+    ∙ sym (first_by_lines logs.older.items logs.newest)
+
+-- ---- the same tables
+
+-- tables are served as before where their files are the same
+pub served_in : (old new : State) (its : List OpenTable) (tables : List LevelTable)
+    → AllZip (IsServed old) its tables
+    → ((table : LevelTable) → Contains tables table → new table.file ≡ old table.file)
+    → AllZip (IsServed new) its tables
+served_in old new [] [] h same = tt
+served_in old new [] (table ∷ tables) h same = absurd h
+served_in old new (it ∷ its) [] h same = absurd h
+served_in old new (it ∷ its) (table ∷ tables) h same =
+    let file : table.file ≡ table_file it.table = h.0.file in
+    let slot : new (table_file it.table) ≡ old (table_file it.table) =
+    ap new (sym file) ∙ same table (contains_head table tables) ∙ ap old file in (
+      record {
+        level = h.0.level;
+        file = file;
+        range = h.0.range;
+        serves = subst (λ (s : Slot). TableServes s it.table table.entries) (sym slot) h.0.serves;
+      },
+      served_in old new its tables h.1
+          (λ one has. same one (contains_next table tables one has)),
+    )
+
+-- a line names each of the tables
+pub line_of_table : (left : Contents) (lines : List TableLine) (tables : List LevelTable)
+    → AreTablesOf left lines tables → (P : ℕ → Type 0)
+    → ((line : TableLine) → Contains lines line → P line.file) → (table : LevelTable)
+    → Contains tables table → P table.file
+line_of_table left [] [] h P each table has = let lt = has.1 in absurd (omega (arith, lt))
+line_of_table left [] (t ∷ tables) h P each table has = absurd h
+line_of_table left (line ∷ lines) [] h P each table has = absurd h
+line_of_table left (line ∷ lines) (t ∷ tables) h P each table has =
+    elim (contains_cases t tables table has) as (λ _. P table.file) [
+      | inl same ↦ subst (λ (u : LevelTable). P u.file) same
+          (subst P (sym h.0.file) (each line (contains_head line lines)))
+      | inr later ↦ line_of_table left lines tables h.1 P
+          (λ one there. each one (contains_next line lines one there)) table later
+    ]
+
+-- ---- usable files
+
+-- the open files with other logs and another memtable
+abbrev pub after_append : StoreFiles → BatchLogs → Memtable → StoreFiles
+after_append files logs memtable = record {
+  manifest = files.manifest;
+  logs = logs;
+  tables = files.tables;
+  memtable = memtable;
+}
+
+pub trimmed_same : (files : StoreFiles) (logs : BatchLogs) (memtable : Memtable)
+    → lines_of logs ≡ lines_of files.logs
+    → trimmed_count (after_append files logs memtable) ≡ trimmed_count files
+trimmed_same files logs memtable lines = ap (λ (n : ℕ). n - 1) (first_same files.logs logs lines)
+
+pub usable_after : (files : StoreFiles) → AreUsableFiles files → (logs : BatchLogs)
+    (memtable : Memtable) → lines_of logs ≡ lines_of files.logs → AreUsable logs
+    → next_number logs ≡ next_number files.logs + 1 → next_number files.logs ≤ MAX_NUMBER
+    → IsNumberedTo memtable (next_number logs - 1)
+    → AreUsableFiles (after_append files logs memtable)
+usable_after files u logs memtable lines are next room numbered = record {
+  works = u.works;
+  version = u.version;
+  logs = are;
+  lines = lines ∙ u.lines;
+  tables = u.tables;
+  memtable = numbered;
+  numbers = subst (λ (t : ℕ). AreOrderedNumbers (known_version files).version t
+      (next_number logs - 1)) (sym (trimmed_same files logs memtable lines)) (record {
+        kept_floor = u.numbers.kept_floor;
+        kept_current = u.numbers.kept_current;
+        current_flushed = u.numbers.current_flushed;
+        flushed_count = let le = u.numbers.flushed_count in omega (arith, le, next);
+        floor_count = let le = u.numbers.floor_count in omega (arith, le, next);
+        few = omega (arith, next, room);
+      });
+}
+
+-- ---- what the disk represents
+
+module _ (disk : State) (files : StoreFiles) (list : List BatchContent)
+    (h : FilesHold disk files list) where
+  abbrev version : StoreVersion
+  version = (known_version files).version
+
+  abbrev trimmed : ℕ
+  trimmed = trimmed_count files
+
+  abbrev file : ℕ
+  file = newest_file files.logs
+
+  pub trimmed_few : trimmed ≤ length list
+  trimmed_few =
+      let kept = h.store.kept_floor in
+      let count = h.store.floor_count in
+      omega (arith, kept, count)
+
+  -- a crash outcome of the files but the newest log's
+  abbrev pub OthersAreLeft : Contents → Type 0
+  OthersAreLeft left = (other : ℕ) → other ≢ file → IsFileOutcome (disk other) (left other)
+
+  tables_were : DurableFileIsLeft → (left : Contents) → OthersAreLeft left → (line : TableLine)
+      → Contains version.tables line → left line.file ≡ contents disk line.file
+  tables_were law left others line has = law (disk line.file) (left line.file)
+      (All-contains (λ (one : TableLine). IsDurable (disk one.file)) version.tables line h.durable
+      has) (others line.file (newest_no_table files h.usable line has))
+
+  -- such contents represent what the logs in them have
+  pub represented : DurableFileIsLeft → HeldVersionIsLeft → (left : Contents)
+      → OthersAreLeft left → (more : List BatchContent)
+      → HaveBatches left (suc trimmed) (lines_of files.logs) (drop trimmed more)
+      → StoreRepresents more (known_store files h.tables) → All IsBatch more
+      → length more ≤ MAX_NUMBER → StoreFilesRepresent (known_facts files) more left
+  represented law held left others more logs store each few = record {
+    version = version;
+    manifest = held disk files.manifest (known_version files) left h.manifest
+        (λ slot is. others slot (newest_no_slot files h.usable slot is));
+    epoch = refl;
+    ids = refl;
+    floor = refl;
+    logs = subst (λ (l : List LogLine). HaveBatches left (suc trimmed) l (drop trimmed more))
+        h.usable.lines logs;
+    tables = h.tables;
+    read = tables_same (contents disk) left version.tables h.tables
+        (tables_were law left others) h.read;
+    store = store;
+    each = each;
+    few = few;
+  }
+
+  list_few : length list ≤ MAX_NUMBER
+  list_few = subst (λ (n : ℕ). n ≤ MAX_NUMBER) h.count h.usable.numbers.few
+
+  -- whatever a crash leaves now represents the list
+  pub left_now : DurableFileIsLeft → HeldVersionIsLeft → (left : Contents)
+      → ((other : ℕ) → IsFileOutcome (disk other) (left other))
+      → StoreFilesRepresent (known_facts files) list left
+  left_now law held left leaves =
+      represented law held left (λ other apart. leaves other) list
+      (whole_left law disk left files.logs (suc trimmed) (drop trimmed list) h.logs
+      h.usable.logs.apart leaves) h.store h.each list_few
+
+  module _ (batch : BatchContent) (is : IsBatch batch) where
+    abbrev pub longer : List BatchContent
+    longer = list ++ batch ∷ []
+
+    dropped : drop trimmed longer ≡ drop trimmed list ++ batch ∷ []
+    dropped = drop-append-le trimmed list (batch ∷ []) trimmed_few
+
+    -- the list, or the list with the batch
+    abbrev pub OldOrNew : Contents → Type 0
+    OldOrNew left =
+        StoreFilesRepresent (known_facts files) list left
+        ⊎ StoreFilesRepresent (known_facts files) longer left
+
+    pub none_appended : DurableFileIsLeft → HeldVersionIsLeft → (past : List State)
+        → LeavesSince disk past disk past OldOrNew
+    none_appended law held past =
+        started OldOrNew disk past (λ left leaves. inl (left_now law held left leaves))
+
+    pub left_old_or_new : DurableFileIsLeft → HeldVersionIsLeft → AppendsKeep
+        → length list < MAX_NUMBER → (left : Contents)
+        → AreLeftWith disk files.logs (suc trimmed) (drop trimmed list) batch left → OldOrNew left
+    left_old_or_new law held keeps room left at = elim at.either as (λ _. OldOrNew left) [
+      | inl old ↦ inl (represented law held left at.others list old h.store h.each list_few)
+      | inr new ↦ inr (represented law held left at.others longer
+          (subst (HaveBatches left (suc trimmed) (lines_of files.logs)) (sym dropped) new)
+          (keeps list (known_store files h.tables) batch h.store)
+          (All-push IsBatch list batch h.each is)
+          (let long = length_push list batch in omega (arith, long, room)))
+    ]
+
+    pub some_appended : DurableFileIsLeft → HeldVersionIsLeft → AppendsKeep
+        → length list < MAX_NUMBER → (past since : List State) (new : State)
+        → LeavesSince disk past new since
+        (AreLeftWith disk files.logs (suc trimmed) (drop trimmed list) batch)
+        → LeavesSince disk past new since OldOrNew
+    some_appended law held keeps room past since new run =
+        weaker (AreLeftWith disk files.logs (suc trimmed) (drop trimmed list) batch) OldOrNew disk
+        past new since (left_old_or_new law held keeps room) run
+
+    -- ---- after it
+
+    module _ (new : State) (logs : BatchLogs) (memtable : Memtable)
+        (lines : lines_of logs ≡ lines_of files.logs) (others : IsSameBut file disk new) where
+      abbrev after : StoreFiles
+      after = after_append files logs memtable
+
+      trimmed_is : trimmed_count after ≡ trimmed
+      trimmed_is = trimmed_same files logs memtable lines
+
+      table_stays : (line : TableLine) → Contains version.tables line
+          → new line.file ≡ disk line.file
+      table_stays line has = others line.file (newest_no_table files h.usable line has)
+
+      pub held_after : AppendsKeep → HeldVersionStays → AreUsableFiles after
+          → batch_count after ≡ batch_count files + 1
+          → ((entry : Entry) → TableHolds memtable entry
+          ↔ memory_entries longer (known_store files h.tables) entry)
+          → LogsHold new logs (suc trimmed) (drop trimmed list ++ batch ∷ [])
+          → FilesHold new after longer
+      held_after keeps stays usable count entries held = record {
+        usable = usable;
+        manifest = stays disk new files.manifest (known_version files) h.manifest
+            (λ slot at. others slot (newest_no_slot files h.usable slot at));
+        logs = subst (λ (t : ℕ). LogsHold new logs (suc t) (drop t longer)) (sym trimmed_is)
+            (subst (LogsHold new logs (suc trimmed)) (sym dropped) held);
+        tables = h.tables;
+        read = tables_same (contents disk) (contents new) version.tables h.tables
+            (λ line has. ap seen (table_stays line has)) h.read;
+        served = served_in disk new files.tables.tables.items h.tables h.served
+            (line_of_table (contents disk) version.tables h.tables h.read
+            (λ (f : ℕ). new f ≡ disk f) table_stays);
+        durable = All-weaker (Contains version.tables)
+            (λ (line : TableLine). IsDurable (new line.file))
+            (λ line has. subst IsDurable (sym (table_stays line has))
+            (All-contains (λ (one : TableLine). IsDurable (disk one.file)) version.tables line
+            h.durable has)) version.tables (All-contains_itself version.tables);
+        store = subst (λ (t : ℕ). StoreRepresents longer (store_of_version version t h.tables))
+            (sym trimmed_is) (keeps list (known_store files h.tables) batch h.store);
+        entries = λ entry. subst (λ (t : ℕ). TableHolds memtable entry
+            ↔ memory_entries longer (store_of_version version t h.tables) entry) (sym trimmed_is)
+            (entries entry);
+        count =
+            let long = length_push list batch in
+            let was = h.count in
+            omega (arith, count, long, was);
+        each = All-push IsBatch list batch h.each is;
+        unused = λ other le.
+            let given = (newest_given files h.usable).1 in
+            subst (λ (s : Slot). IsNone (seen s))
+            (sym (others other (λ same. omega (arith, same, le, given)))) (h.unused other le);
+      }
+
+-- ---- what an append told
+
+-- the open files after it, by the answer of the logs
+pub counts_told : (files : StoreFiles) → AreUsableFiles files → (logs : BatchLogs)
+    (memtable : Memtable) (batch : BatchContent) (number : ℕ) → number ≡ batch_count files + 1
+    → lines_of logs ≡ lines_of files.logs → next_number files.logs ≤ MAX_NUMBER
+    → (HasFailedAdd memtable → ⊥) → Adds files.memtable memtable number batch
+    → {T : Type 0} (result : Result T EngineError)
+    → MatchResult result (λ _. AreUsable logs × (next_number logs ≡ next_number files.logs + 1))
+    (λ _. next_number logs ≡ next_number files.logs)
+    → MatchResult result (λ _. AreUsableFiles (after_append files logs memtable)
+    × (batch_count (after_append files logs memtable) ≡ batch_count files + 1))
+    (λ _. batch_count (after_append files logs memtable) ≡ batch_count files)
+counts_told files u logs memtable batch number is lines room works adds (Ok x) told =
+    let some = newest_positive files u in
+    let next = told.1 in
+    let count : next_number logs - 1 ≡ batch_count files + 1 = omega (arith, some, next) in (
+      usable_after files u logs memtable lines told.0 told.1 room
+          (next_numbered files.memtable memtable batch (batch_count files) number u.memtable is
+          works adds (next_number logs - 1) count),
+      count,
+    )
+counts_told files u logs memtable batch number is lines room works adds (Err e) told =
+    ap (λ (n : ℕ). n - 1) told
+
+pub appended_told : (disk : State) (files : StoreFiles) (list : List BatchContent)
+    (h : FilesHold disk files list) (batch : BatchContent) (is : IsBatch batch) (new : State)
+    (logs : BatchLogs) (memtable : Memtable) → lines_of logs ≡ lines_of files.logs
+    → IsSameBut (newest_file files.logs) disk new → AppendsKeep → HeldVersionStays
+    → ((entry : Entry) → TableHolds memtable entry
+    ↔ memory_entries (list ++ batch ∷ []) (known_store files h.tables) entry)
+    → {T : Type 0} (result : Result T EngineError)
+    → MatchResult result (λ _. AreUsableFiles (after_append files logs memtable)
+    × (batch_count (after_append files logs memtable) ≡ batch_count files + 1))
+    (λ _. batch_count (after_append files logs memtable) ≡ batch_count files)
+    → MatchResult result (λ _. LogsHold new logs (suc (trimmed_count files))
+    (drop (trimmed_count files) list ++ batch ∷ [])) IsOfMachine
+    → MatchResult result (λ _. FilesHold new (after_append files logs memtable)
+    (list ++ batch ∷ [])) IsOfMachine
+appended_told disk files list h batch is new logs memtable lines others keeps stays entries (Ok x)
+    counts held =
+    held_after disk files list h batch is new logs memtable lines others keeps stays counts.0
+    counts.1 entries held
+appended_told disk files list h batch is new logs memtable lines others keeps stays entries (Err e)
+    counts machine = machine
