@@ -12,7 +12,7 @@ use Rattle.store_model.specs.{AreEdited}
 use Rattle.store_model.specs.{LevelTable}
 use Rattle.manifest.specs.declared.LogLine.{LogLine}
 use Rattle.manifest.specs.declared.TableLine.{TableLine}
-use Rattle.manifest.specs.Versions.{placed, table_is_before, with_log, with_table}
+use Rattle.manifest.specs.Versions.{table_is_before, with_log, with_table}
 use Rattle.manifest.specs.VersionsLemmas.{all_logs_left, all_tables_left, log_behind}
 use Rattle.manifest.specs.{StoreVersion, changed}
 use Rattle.engine.specs.Files.{IsLog}

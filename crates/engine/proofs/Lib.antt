@@ -16,3 +16,5 @@ pub mod FlushedFiles
 pub mod LookUps
 pub mod FilesApart
 pub mod Appended
+pub mod Settles
+pub mod Removals

@@ -4,6 +4,8 @@ use Rattle.disk.specs.declared.DiskError.{DiskError}
 use Rattle.disk.specs.declared.DiskError.TheVariants as disk
 use Rattle.memtable.specs.declared.MemtableError.{MemtableError}
 use Rattle.memtable.specs.declared.MemtableError.TheVariants as table
+use Rattle.merge_iter.specs.declared.CursorError.{CursorError}
+use Rattle.merge_iter.specs.declared.CursorError.TheVariants as cursor
 use Rattle.record_log.specs.declared.LogError.{LogError}
 use Rattle.record_log.specs.declared.LogError.TheVariants as log
 use Rattle.engine.specs.declared.error.EngineError.{EngineError}
@@ -25,6 +27,12 @@ error_of_log log.Failed = engine.Damaged
 abbrev pub error_of_memtable : MemtableError → EngineError
 error_of_memtable table.Memory = engine.Memory
 error_of_memtable table.Failed = engine.Failed
+
+abbrev pub error_of_cursor : CursorError → EngineError
+error_of_cursor cursor.Disk = engine.Disk
+error_of_cursor cursor.Damaged = engine.Damaged
+error_of_cursor cursor.Memory = engine.Memory
+error_of_cursor cursor.Failed = engine.Failed
 
 -- the refusals that say nothing of the files: the device failed, or memory is out
 abbrev pub IsOfMachine : EngineError → Type 0

@@ -6,6 +6,7 @@ pub mod LevelTables
 pub mod StoreFiles
 pub mod LogExamples
 pub mod Stores
+pub mod Settling
 pub mod OpenFiles
 pub mod Engines
 pub mod Calls

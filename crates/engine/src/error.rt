@@ -1,10 +1,12 @@
 //! Why a store refused.
 ghost use Rattle.std.specs.Prelude.{◌≡◌};
 ghost use Rattle.engine.specs.declared.error.EngineError.TheVariants.{Memory};
-ghost use Rattle.engine.specs.Errors.{error_of_disk, error_of_log, error_of_memtable};
+ghost use Rattle.engine.specs.Errors.{error_of_cursor, error_of_disk, error_of_log};
+ghost use Rattle.engine.specs.Errors.{error_of_memtable};
 
 use disk::DiskError;
 use memtable::MemtableError;
+use merge_iter::CursorError;
 use record_log::LogError;
 use std::alloc::{AllocError, AllocFailed};
 use thiserror::Error;
@@ -69,6 +71,19 @@ impl From<MemtableError> for EngineError {
         match e {
             MemtableError::Memory => EngineError::Memory,
             MemtableError::Failed => EngineError::Failed,
+        }
+    }
+}
+
+impl From<CursorError> for EngineError {
+    ghost from_gives = { λ c e. e ≡ error_of_cursor c };
+
+    fn from(e: CursorError) -> EngineError {
+        match e {
+            CursorError::Disk => EngineError::Disk,
+            CursorError::Damaged => EngineError::Damaged,
+            CursorError::Memory => EngineError::Memory,
+            CursorError::Failed => EngineError::Failed,
         }
     }
 }

@@ -4,10 +4,12 @@
 mod batch_logs;
 mod engine;
 mod error;
+mod flushing;
 pub mod laws;
 mod layout;
 mod levels;
 mod recovery;
+mod settling;
 mod store;
 mod store_files;
 

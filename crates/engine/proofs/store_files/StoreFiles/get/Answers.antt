@@ -1,4 +1,4 @@
-use Rattle.std.proofs.Common.{◌≤◌, ℕ, List, Option, None, Some, refl, subst}
+use Rattle.std.proofs.Common.{◌≤◌, ℕ, List, Option, subst}
 use Rattle.std.specs.Prelude.{take}
 use Rattle.kv_types.specs.{map_of}
 use Rattle.disk.specs.{contents}

@@ -1,0 +1,43 @@
+-- What an opening makes of the files of a store: those that are named are made durable, and the
+-- others are removed.
+use Rattle.std.specs.Prelude.{◌≡◌, ◌⊎◌, ℕ, List, Some, All, IsSome, IsNone, Contains}
+use Rattle.disk.specs.{Contents, IsFileOutcome, State, seen}
+use Rattle.record_log.specs.{IsDurableAs}
+use Rattle.manifest.specs.declared.TableLine.{TableLine}
+
+-- ---- syncs
+
+-- a crash leaves of each file only what it might have left before
+abbrev pub AddsNothing : State → State → Type 0
+AddsNothing old new =
+    (file : ℕ) (left : _) → IsFileOutcome (new file) left → IsFileOutcome (old file) left
+
+-- the file is as it was, or durably has the bytes that it had
+abbrev pub SlotSettles : State → State → ℕ → Type 0
+SlotSettles old new file =
+    (new file ≡ old file)
+    ⊎ ((bytes : List ℕ) × (seen (old file) ≡ Some bytes) × IsDurableAs new file bytes)
+
+-- the files of these lines durably have the bytes that they had, and each other settles at most
+pub record AreSynced (old new : State) (lines : List TableLine) : Type 0 where
+  pub named : All (λ line. (bytes : List ℕ) × (seen (old line.file) ≡ Some bytes)
+      × IsDurableAs new line.file bytes) lines
+  pub each : (file : ℕ) → SlotSettles old new file
+
+-- the files of these lines exist
+abbrev pub AreThere : State → List TableLine → Type 0
+AreThere disk lines = All (λ line. IsSome (seen (disk line.file))) lines
+
+-- ---- removals
+
+-- these files are as they were
+abbrev pub KeepsFiles : List ℕ → State → State → Type 0
+KeepsFiles kept old new = (file : ℕ) → Contains kept file → new file ≡ old file
+
+-- a crash left of these files what it might have left when the disk had this state
+abbrev pub AreLeftOf : List ℕ → State → Contents → Type 0
+AreLeftOf kept disk left = (file : ℕ) → Contains kept file → IsFileOutcome (disk file) (left file)
+
+-- no other file exists
+abbrev pub AreAlone : List ℕ → State → Type 0
+AreAlone kept disk = (file : ℕ) → (Contains kept file → ⊥) → IsNone (seen (disk file))
