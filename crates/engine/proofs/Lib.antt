@@ -18,3 +18,6 @@ pub mod FilesApart
 pub mod Appended
 pub mod Settles
 pub mod Removals
+pub mod Replays
+pub mod ReadLogs
+pub mod OpenLogs

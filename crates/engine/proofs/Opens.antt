@@ -31,7 +31,7 @@ pub has_in : (old new : State) (file : ℕ) (records : List (List ℕ)) → new 
 has_in old new file records same had =
     subst (λ (slot : Slot). IsLog (seen slot) records) (sym same) had
 
-stands_once : RecordsAreUnique → (bytes : Option (List ℕ)) (a b : List (List ℕ)) → IsLog bytes a →
+pub stands_once : RecordsAreUnique → (bytes : Option (List ℕ)) (a b : List (List ℕ)) → IsLog bytes a →
     IsLog bytes b → a ≡ b
 stands_once law None a b s t = absurd s
 stands_once law (Some it) a b s t = law it a b s t

@@ -114,7 +114,7 @@ kept_beside old new file logs same apart =
     (λ (one : BatchLog). new (file_of one.log) ≡ old (file_of one.log))
     (λ one not. same (file_of one.log) not) logs apart
 
-all_kept : (old new : State) (logs : List BatchLog) → ((file : ℕ) → new file ≡ old file) →
+pub all_kept : (old new : State) (logs : List BatchLog) → ((file : ℕ) → new file ≡ old file) →
     AreKept old new logs
 all_kept old new [] same = All-nil (λ (one : BatchLog). new (file_of one.log) ≡ old (file_of one.log))
 all_kept old new (one ∷ logs) same =
@@ -434,13 +434,13 @@ part_of disk logs first batches one h (inr newest) =
     })
 
 -- the batches of a part are batches
-all_behind : (before behind : List BatchContent) → All IsBatch (before ++ behind) →
+pub all_behind : (before behind : List BatchContent) → All IsBatch (before ++ behind) →
     All IsBatch behind
 all_behind [] behind each = each
 all_behind (x ∷ before) behind each =
     all_behind before behind (All-tail IsBatch x (before ++ behind) each)
 
-all_before : (before behind : List BatchContent) → All IsBatch (before ++ behind) →
+pub all_before : (before behind : List BatchContent) → All IsBatch (before ++ behind) →
     All IsBatch before
 all_before [] behind each = All-nil IsBatch
 all_before (x ∷ before) behind each =
@@ -487,12 +487,12 @@ batch_among disk first number batches one part (Err e) behind machine = machine
 -- ---- logs that follow one another
 
 -- log by log
-abbrev AreInTurn : ℕ → List BatchLog → ℕ → Type 0
+abbrev pub AreInTurn : ℕ → List BatchLog → ℕ → Type 0
 AreInTurn number [] next = number ≡ next
 AreInTurn number (one ∷ others) next =
     (one.first ≡ number) × AreInTurn (end_of_log one) others next
 
-in_turn : (number next : ℕ) (logs : List BatchLog) → AreJoined number logs next →
+pub in_turn : (number next : ℕ) (logs : List BatchLog) → AreJoined number logs next →
     AreInTurn number logs next
 in_turn number next [] joined = cc
 in_turn number next (one ∷ logs) joined =
@@ -500,7 +500,7 @@ in_turn number next (one ∷ logs) joined =
     let others : end_of_log one ∷ map end_of_log logs ≡ map (λ one. one.first) logs ++ next ∷ [] = cc in
     (sym first, in_turn (end_of_log one) next logs others)
 
-joined_of : (number next : ℕ) (logs : List BatchLog) → AreInTurn number logs next →
+pub joined_of : (number next : ℕ) (logs : List BatchLog) → AreInTurn number logs next →
     AreJoined number logs next
 joined_of number next [] same = ap (λ (n : ℕ). n ∷ []) same
 joined_of number next (one ∷ logs) (first, others) =
@@ -510,7 +510,7 @@ joined_of number next (one ∷ logs) (first, others) =
     ∙ ap (λ (l : List ℕ). one.first ∷ l) rest
 
 -- the last of some joined logs ends where the next one begins
-last_in_turn : (number next : ℕ) (logs : List BatchLog) (last : BatchLog) →
+pub last_in_turn : (number next : ℕ) (logs : List BatchLog) (last : BatchLog) →
     AreInTurn number (logs ++ last ∷ []) next →
     AreInTurn number logs last.first × (end_of_log last ≡ next)
 last_in_turn number next [] last (first, ends) = (sym first, ends)
@@ -525,7 +525,7 @@ in_turn_push number next [] last same ends = (sym same, ends)
 in_turn_push number next (one ∷ logs) last (first, others) ends =
     (first, in_turn_push (end_of_log one) next logs last others ends)
 
-joined_push : (number next : ℕ) (logs : List BatchLog) (last : BatchLog) →
+pub joined_push : (number next : ℕ) (logs : List BatchLog) (last : BatchLog) →
     AreJoined number logs last.first → end_of_log last ≡ next →
     AreJoined number (logs ++ last ∷ []) next
 joined_push number next logs last joined ends =

@@ -55,7 +55,7 @@ numbered_at number (first ∷ list) (suc i) bytes each got =
       spelled = below.spelled ∙ ap (λ (n : ℕ). batch_record n below.batch) (omega arith);
     }
 
-take_suc : (records : List (List ℕ)) (i : ℕ) (one : List ℕ) → slice_get records i ≡ Some one →
+pub take_suc : (records : List (List ℕ)) (i : ℕ) (one : List ℕ) → slice_get records i ≡ Some one →
     take (suc i) records ≡ take i records ++ one ∷ []
 take_suc [] i one got = absurd cc
 take_suc (x ∷ records) zero one got =

@@ -86,6 +86,13 @@ impl BatchLogs {
         }
     }
 
+    /// The logs of a store, in order.
+    pub(crate) fn of(older: Vec<BatchLog>, newest: BatchLog) -> BatchLogs
+        ensures { (result.older.items ≡ older.items) × (result.newest ≡ newest) }
+    {
+        BatchLogs { older, newest }
+    }
+
     /// The number of the last batch, or of the one before the first.
     pub(crate) fn last_number(&self) -> Number
         requires few { next_number self.now ≤ MAX_NUMBER + 1 }

@@ -9,6 +9,7 @@ pub mod laws;
 mod layout;
 mod levels;
 mod recovery;
+mod replaying;
 mod settling;
 mod store;
 mod store_files;
