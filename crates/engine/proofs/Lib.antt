@@ -21,3 +21,6 @@ pub mod Removals
 pub mod Replays
 pub mod ReadLogs
 pub mod OpenLogs
+pub mod TableWalks
+pub mod TableCalls
+pub mod FinishedTables

@@ -9,6 +9,7 @@ pub mod Stores
 pub mod Settling
 pub mod OpenFiles
 pub mod Replaying
+pub mod TableWriting
 pub mod Engines
 pub mod Calls
 pub mod KeepingLemmas

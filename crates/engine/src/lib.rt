@@ -13,6 +13,7 @@ mod replaying;
 mod settling;
 mod store;
 mod store_files;
+mod table_writing;
 
 pub use engine::Engine;
 pub use error::EngineError;

@@ -2,12 +2,12 @@
 use Rattle.std.proofs.Common.{◌≡◌, ◌↔◌, ◌⊎◌, inl, inr, ℕ, ◌<◌, ◌≤◌, sym, ap, ◌∙◌, subst, List, []}
 use Rattle.std.proofs.Common.{◌∷◌, length, Bool, true, false, cond, Option, Some, None, refl, All}
 use Rattle.std.specs.List.{slice_get}
-use Rattle.std.specs.Option.{option_or}
+use Rattle.std.specs.Option.{ForSome, option_or}
 use Rattle.std.specs.Str.{bytes_eq}
 use Rattle.std.proofs.lemmas.Option.{same_Some, slice_get_within}
 use Rattle.std.proofs.lemmas.List.Elements.{All-head, All-tail}
 use Rattle.std.proofs.lemmas.Slice.Eq.{bytes_eq-Decides}
-use Rattle.kv_types.specs.declared.bounds.TheConstants.{MAX_KEY}
+use Rattle.kv_types.specs.declared.bounds.TheConstants.{MAX_KEY, MAX_NUMBER, MAX_VALUE}
 use Rattle.kv_types.specs.declared.edit.Edit.{Edit}
 use Rattle.kv_types.specs.declared.edit.Edit.TheVariants.{Put, Delete}
 use Rattle.kv_types.specs.Maps.{key_of, value_put, last_edit}
@@ -16,7 +16,7 @@ use Rattle.kv_types.specs.{Entry, entries_of}
 use Rattle.memtable.specs.declared.version.Version.{Version}
 use Rattle.memtable.specs.Versions.{IsRisingList}
 use Rattle.memtable.specs.Maps.{VersionMap, versions_at, added, MapHolds, HasRisingNumbers}
-use Rattle.memtable.specs.Maps.{HasShortKeys, entry_version}
+use Rattle.memtable.specs.Maps.{HasLimits, entry_version}
 use Rattle.memtable.proofs.VersionLists.{places, last_at, front_at, rising_more}
 
 there : (old : List Version) (number : ℕ) (x : Option (Option (List ℕ))) (v : Version) (i : ℕ)
@@ -76,36 +76,51 @@ pub still_rising : (m n : VersionMap) (number : ℕ) (edits : List Edit)
 still_rising m n number edits is rising below q = subst IsRisingList (sym (is q))
     (rising_added (versions_at m q) number (last_edit edits q) (rising q) (below q))
 
-short_edit : (edit : Edit) → IsEdit edit → length (key_of edit) ≤ MAX_KEY
-short_edit (Put key value) h = h.0
-short_edit (Delete key) h = h
+-- the limits of what an edit leaves at a key
+record KeepsLimits (own : List ℕ) (left : Option (List ℕ)) : Type 0 where
+  key : length own ≤ MAX_KEY
+  value : ForSome left (λ value. length value ≤ MAX_VALUE)
+
+limited_edit : (edit : Edit) → IsEdit edit → KeepsLimits (key_of edit) (value_put edit)
+limited_edit (Put key value) h = record {
+  key = h.0;
+  value = λ left is. subst (λ v. length v ≤ MAX_VALUE) (same_Some value left is) h.1;
+}
+limited_edit (Delete key) h = record { key = h; value = λ left is. absurd (cc) }
 
 of_edit : (edit : Edit) (key : List ℕ) (left : Option (List ℕ)) (t : Bool) → bytes_eq (key_of edit)
-    key ≡ t → IsEdit edit → cond t (Some (value_put edit)) None ≡ Some left → length key ≤ MAX_KEY
-of_edit edit key left true e h is = subst (λ k. length k ≤ MAX_KEY)
-    ((bytes_eq-Decides (key_of edit) key).0 e) (short_edit edit h)
+    key ≡ t → IsEdit edit → cond t (Some (value_put edit)) None ≡ Some left → KeepsLimits key left
+of_edit edit key left true e h is =
+    subst (λ k. KeepsLimits k left) ((bytes_eq-Decides (key_of edit) key).0 e)
+    (subst (KeepsLimits (key_of edit)) (same_Some (value_put edit) left is) (limited_edit edit h))
 of_edit edit key left false e h is = absurd (cc)
 
 one_of : (edit : Edit) (edits : List Edit) (key : List ℕ) (left : Option (List ℕ))
-    (later : Option (Option (List ℕ))) → (later ≡ Some left → length key ≤ MAX_KEY) → IsEdit edit
+    (later : Option (Option (List ℕ))) → (later ≡ Some left → KeepsLimits key left) → IsEdit edit
     → option_or later (cond (bytes_eq (key_of edit) key) (Some (value_put edit)) None) ≡ Some left
-    → length key ≤ MAX_KEY
+    → KeepsLimits key left
 one_of edit edits key left (Some x) rest h is = rest is
 one_of edit edits key left None rest h is = of_edit edit key left (bytes_eq (key_of edit) key) refl
     h is
 
-short_of : (edits : List Edit) (key : List ℕ) (left : Option (List ℕ)) → All IsEdit edits
-    → last_edit edits key ≡ Some left → length key ≤ MAX_KEY
-short_of [] key left h is = absurd (cc)
-short_of (edit ∷ edits) key left h is = one_of edit edits key left (last_edit edits key)
-    (λ e. short_of edits key left (All-tail IsEdit edit edits h) e) (All-head IsEdit edit edits h)
-    is
+limits_of : (edits : List Edit) (key : List ℕ) (left : Option (List ℕ)) → All IsEdit edits
+    → last_edit edits key ≡ Some left → KeepsLimits key left
+limits_of [] key left h is = absurd (cc)
+limits_of (edit ∷ edits) key left h is = one_of edit edits key left (last_edit edits key)
+    (λ e. limits_of edits key left (All-tail IsEdit edit edits h) e)
+    (All-head IsEdit edit edits h) is
 
-pub still_short : (m n : VersionMap) (number : ℕ) (edits : List Edit) → HasShortKeys m → All IsEdit
-    edits
+pub still_limited : (m n : VersionMap) (number : ℕ) (edits : List Edit) → number ≤ MAX_NUMBER
+    → HasLimits m → All IsEdit edits
     → ((entry : Entry) → MapHolds n entry ↔ (MapHolds m entry ⊎ entries_of number edits entry))
-    → HasShortKeys n
-still_short m n number edits short each is entry h = elim ((is entry).0 h) [
-  | inl k ↦ short entry k
-  | inr k ↦ short_of edits entry.key entry.value each k.1
+    → HasLimits n
+still_limited m n number edits few limits each is entry h = elim ((is entry).0 h) [
+  | inl k ↦ limits entry k
+  | inr k ↦
+      let kept = limits_of edits entry.key entry.value each k.1 in
+      record {
+        key = kept.key;
+        number = subst (λ n. n ≤ MAX_NUMBER) (sym k.0) few;
+        value = kept.value;
+      }
 ]

@@ -4,7 +4,7 @@ ghost use Rattle.std.specs.Prelude.{◌≡◌, ◌↔◌, ◌⊎◌, IsErr, IsEr
 ghost use Rattle.std.specs.Prelude.{IsOkUnless, Err, false};
 ghost use Rattle.kv_types.specs.{Entry, entries_of};
 ghost use Rattle.merge_iter.specs.{IsAlike, Off};
-ghost use Rattle.memtable.specs.Maps.{HasRisingNumbers, HasShortKeys};
+ghost use Rattle.memtable.specs.Maps.{HasLimits, HasRisingNumbers, KeepsEntryLimits};
 
 use crate::cursor::MemCursor;
 use crate::error::MemtableError;
@@ -24,7 +24,7 @@ pub struct Memtable {
     bytes: u64,
     has_failed: bool,
     ghost rising: { has_failed ≡ false → HasRisingNumbers map },
-    ghost short: { has_failed ≡ false → HasShortKeys map },
+    ghost limits: { has_failed ≡ false → HasLimits map },
 }
 
 impl Memtable {
@@ -100,6 +100,8 @@ impl Memtable {
         ensures holds { IfOk result (λ cursor.
             IsAlike (⟦<MemCursor<'a> as Cursor>⟧.holds cursor tt) (TableHolds self.now)) }
         ensures sound { IfOk result (λ cursor. ⟦<MemCursor<'a> as Cursor>⟧.is_sound cursor tt) }
+        ensures limits { IfOk result (λ cursor. (entry : Entry) → TableHolds self.now entry →
+            KeepsEntryLimits entry) }
         ensures off { IfOk result (λ cursor. ⟦<MemCursor<'a> as Cursor>⟧.position cursor ≡ Off) }
         ensures failed { (result ≡ Err MemtableError.Failed) ↔ HasFailedAdd self.now }
         ensures only { IsOkUnless result MemtableError.Failed }

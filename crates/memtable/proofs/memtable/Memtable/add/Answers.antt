@@ -3,7 +3,7 @@ use Rattle.std.specs.List.{slice_get}
 use Rattle.memtable.specs.declared.version.Version.{Version}
 use Rattle.memtable.specs.Maps.{version_entry, versions_at}
 use Rattle.memtable.specs.Tables.{TableHolds}
-use Rattle.memtable.proofs.Adds.{adds, still_rising, still_short}
+use Rattle.memtable.proofs.Adds.{adds, still_limited, still_rising}
 use Rattle.memtable.proofs.Bools.{not_true}
 use Rattle.memtable.proofs.memtable.Memtable.add.Goals as goal
 
@@ -27,8 +27,9 @@ invariant_of-self-2 c =
     record {
       rising = λ _. still_rising old.map map c.get.result edits puts (old.rising c.if-self.false)
           below;
-      short = λ _. still_short old.map map c.args.number c.args.batch.now
-          (old.short c.if-self.false)
+      limits = λ _. still_limited old.map map c.args.number c.args.batch.now
+          c.get.ensures.limit
+          (old.limits c.if-self.false)
           c.edits-edits.ensures.batch.each (adds old.map map c.args.number c.get.result
           c.args.batch.now edits c.get.ensures.same c.edits-edits.ensures.edits puts);
     }

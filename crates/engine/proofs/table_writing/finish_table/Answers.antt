@@ -1,0 +1,20 @@
+use Rattle.std.proofs.Common.{ℕ, subst, sym}
+use Rattle.table_builder.specs.{Builds, IsFinishedTable}
+use Rattle.engine.proofs.FinishedTables.{written_table}
+use Rattle.engine.proofs.Keeping.{refused}
+use Rattle.engine.proofs.TableCalls.{writes_nothing}
+use Rattle.engine.proofs.table_writing.finish_table.Goals as goal
+
+pub returns-then-len-eq0-clause-writes : goal.returns-then-len-eq0-clause-writes
+returns-then-len-eq0-clause-writes g c =
+    writes_nothing g.D.Disk c.args.file c.args.disk.now (refused (λ e. cc))
+
+pub returns-in-Ok-clause-written : goal.returns-in-Ok-clause-written
+returns-in-Ok-clause-written g c = λ memtable some honest all.
+    let new = g.D.Disk.state c.finish.new.disk in
+    let builds = subst (λ (f : ℕ). Builds (g.D.Disk.state c.args.disk.now f) c.args.builder
+    all.entries) (sym c.requires.file) all.builds in
+    let finished = subst (λ (f : ℕ). IsFinishedTable (new f) all.entries c.in-Ok.done)
+    c.requires.file (c.in-Ok.ensures.finished all.entries honest builds) in
+    written_table new memtable c.args.file all.entries c.in-Ok.done c.requires.named finished
+    all.alike
