@@ -24,3 +24,4 @@ pub mod OpenLogs
 pub mod TableWalks
 pub mod TableCalls
 pub mod FinishedTables
+pub mod BegunFiles

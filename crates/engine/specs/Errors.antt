@@ -2,6 +2,8 @@
 use Rattle.std.specs.Prelude.{◌≡◌, ◌⊎◌, Result, Ok, Err}
 use Rattle.disk.specs.declared.DiskError.{DiskError}
 use Rattle.disk.specs.declared.DiskError.TheVariants as disk
+use Rattle.manifest.specs.declared.ManifestError.{ManifestError}
+use Rattle.manifest.specs.declared.ManifestError.TheVariants as manifest
 use Rattle.memtable.specs.declared.MemtableError.{MemtableError}
 use Rattle.memtable.specs.declared.MemtableError.TheVariants as table
 use Rattle.merge_iter.specs.declared.CursorError.{CursorError}
@@ -27,6 +29,13 @@ error_of_log log.Failed = engine.Damaged
 abbrev pub error_of_memtable : MemtableError → EngineError
 error_of_memtable table.Memory = engine.Memory
 error_of_memtable table.Failed = engine.Failed
+
+abbrev pub error_of_manifest : ManifestError → EngineError
+error_of_manifest manifest.Disk = engine.Disk
+error_of_manifest manifest.Damaged = engine.Damaged
+error_of_manifest manifest.NotCreated = engine.NotCreated
+error_of_manifest manifest.Memory = engine.Memory
+error_of_manifest manifest.Failed = engine.Failed
 
 abbrev pub error_of_cursor : CursorError → EngineError
 error_of_cursor cursor.Disk = engine.Disk

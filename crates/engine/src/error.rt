@@ -2,9 +2,10 @@
 ghost use Rattle.std.specs.Prelude.{◌≡◌};
 ghost use Rattle.engine.specs.declared.error.EngineError.TheVariants.{Memory};
 ghost use Rattle.engine.specs.Errors.{error_of_cursor, error_of_disk, error_of_log};
-ghost use Rattle.engine.specs.Errors.{error_of_memtable};
+ghost use Rattle.engine.specs.Errors.{error_of_manifest, error_of_memtable};
 
 use disk::DiskError;
+use manifest::ManifestError;
 use memtable::MemtableError;
 use merge_iter::CursorError;
 use record_log::LogError;
@@ -60,6 +61,20 @@ impl From<LogError> for EngineError {
             LogError::Disk(e) => EngineError::from(e),
             LogError::Memory => EngineError::Memory,
             LogError::TooLong | LogError::Failed => EngineError::Damaged,
+        }
+    }
+}
+
+impl From<ManifestError> for EngineError {
+    ghost from_gives = { λ m e. e ≡ error_of_manifest m };
+
+    fn from(e: ManifestError) -> EngineError {
+        match e {
+            ManifestError::Disk => EngineError::Disk,
+            ManifestError::Damaged => EngineError::Damaged,
+            ManifestError::NotCreated => EngineError::NotCreated,
+            ManifestError::Memory => EngineError::Memory,
+            ManifestError::Failed => EngineError::Failed,
         }
     }
 }

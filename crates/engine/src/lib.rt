@@ -8,6 +8,7 @@ mod flushing;
 pub mod laws;
 mod layout;
 mod levels;
+mod opening;
 mod recovery;
 mod replaying;
 mod settling;

@@ -90,6 +90,8 @@ impl Manifest {
             IsNone (seen (D.state disk.old 2)) → MatchResult result
             (λ manifest. ManifestHolds (D.state disk.new) manifest (first_version id config.now))
             IsManifestExternal }
+        ensures works { IfOk result (λ manifest. (version_of manifest ≡ first_version id config.now)
+            × (ManifestHasFailed manifest → ⊥)) }
     {
         let version = begun_by(alloc, id, config)?;
         let bytes = whole_bytes(alloc, &version)?;
@@ -111,6 +113,7 @@ impl Manifest {
         ensures opened { (named : NodeVersion) → D.is_honest disk.old →
             ManifestRepresents named (contents (D.state disk.old)) → MatchResult result
             (λ manifest. ManifestHolds (D.state disk.new) manifest named) IsManifestExternal }
+        ensures works { IfOk result (λ manifest. ManifestHasFailed manifest → ⊥) }
         ensures still { IsStill D.Disk disk.old disk.new }
     {
         version_is_one(); // law: files represent one version at most
