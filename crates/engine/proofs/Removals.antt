@@ -16,7 +16,7 @@ use Rattle.disk.specs.Calls.{ListsFiles}
 use Rattle.disk.specs.MomentsLemmas.{goes_on, started}
 use Rattle.disk.specs.States.{ChangesSlot, removed}
 use Rattle.engine.specs.KeepingLemmas.{kept_as, kept_behind, neither}
-use Rattle.engine.specs.Settling.{AreAlone, AreLeftOf, KeepsFiles}
+use Rattle.engine.specs.Settling.{AreAlone, AreLeftOf, SparesFiles}
 
 -- each of these files exists, and beside them only files that are kept
 pub record AreLeft (disk : State) (kept left : List ℕ) : Type 0 where
@@ -122,22 +122,22 @@ alone_left disk kept left none before file unkept =
 -- files were removed, none of them one that is kept; these are left, and no call failed
 pub record HaveRemoved {D : Type 0} (g : Ghosts D) (old new : D) (kept left : List ℕ)
     : Type 0 where
-  pub calls : KeepsDisk g old new ⊥ ⊥ (KeepsFiles kept)
+  pub calls : KeepsDisk g old new ⊥ ⊥ (SparesFiles kept)
   pub moments : g.is_honest old → AlwaysLeaves g old new (AreLeftOf kept (g.state old))
   pub rest : g.is_honest old → AreLeft (g.state new) kept left
 
-kept_leaves : (kept : List ℕ) (old new : State) → KeepsFiles kept old new →
+kept_leaves : (kept : List ℕ) (old new : State) → SparesFiles kept old new →
     OnlyLeaves (AreLeftOf kept old) new
 kept_leaves kept old new keeps left now file is_kept =
     subst (λ (slot : Slot). IsFileOutcome slot (left file)) (keeps file is_kept) (now file)
 
-keeps_then_keeps : (kept : List ℕ) (a b c : State) → KeepsFiles kept a b → KeepsFiles kept b c →
-    KeepsFiles kept a c
+keeps_then_keeps : (kept : List ℕ) (a b c : State) → SparesFiles kept a b → SparesFiles kept b c →
+    SparesFiles kept a c
 keeps_then_keeps kept a b c before after file is_kept =
     after file is_kept ∙ before file is_kept
 
 keeps_others : (kept : List ℕ) (file : ℕ) → (Contains kept file → ⊥) → (a b : State) →
-    IsSameBut file a b → KeepsFiles kept a b
+    IsSameBut file a b → SparesFiles kept a b
 keeps_others kept file unkept a b same other is_kept =
     same other (λ is. unkept (subst (λ (f : ℕ). Contains kept f) is is_kept))
 
@@ -168,7 +168,7 @@ module _ {D : Type 0} (g : Ghosts D) (kept : List ℕ) where
     -- a removal more, which failed or not
     pub removal_then : (file : ℕ) {new : D} {told : Type 0} → (Contains kept file → ⊥) →
         KeepsDisk g mid new told ⊥ (IsSameBut file) →
-        KeepsDisk g old new told ⊥ (KeepsFiles kept)
+        KeepsDisk g old new told ⊥ (SparesFiles kept)
     removal_then file unkept calls =
         kept_behind g (keeps_then_keeps kept) before.calls (λ fails. fails)
         (kept_as g ((λ fails. fails), (λ fails. fails)) (keeps_others kept file unkept) calls)
@@ -185,6 +185,6 @@ module _ {D : Type 0} (g : Ghosts D) (kept : List ℕ) where
         ((removal_then file unkept calls).files honest))
 
     -- the removals end, and none failed
-    pub removals_end : {told : Type 0} → (told → ⊥) → KeepsDisk g old mid told ⊥ (KeepsFiles kept)
+    pub removals_end : {told : Type 0} → (told → ⊥) → KeepsDisk g old mid told ⊥ (SparesFiles kept)
     removals_end ends =
         kept_as g (neither (λ fails. fails) ends) (λ a b keeps. keeps) before.calls

@@ -8,12 +8,12 @@ use Rattle.disk.specs.declared.DiskError.{DiskError}
 use Rattle.disk.specs.declared.DiskError.TheVariants as disk
 use Rattle.engine.specs.declared.error.EngineError.{EngineError}
 use Rattle.engine.specs.Errors.{FailsDevice, error_of_disk}
-use Rattle.engine.specs.TableWriting.{WritesFile}
+use Rattle.engine.specs.TableWriting.{WritesInto}
 
 module _ {D : Type 0} (g : Ghosts D) (file : ℕ) where
   -- no call
   pub writes_nothing : (disk : D) {told cause : Type 0} → (told → ⊥)
-      → WritesFile g file disk disk told cause
+      → WritesInto g file disk disk told cause
   writes_nothing disk works = record {
     kept = record {
       honest = (λ honest. honest, λ honest. honest);
@@ -31,8 +31,8 @@ module _ {D : Type 0} (g : Ghosts D) (file : ℕ) where
 
   -- calls whose failure is told in other words, and whose cause implies another
   pub writes_as : {old new : D} {first told cause other : Type 0} → first ↔ told
-      → (cause → other) → WritesFile g file old new first cause
-      → WritesFile g file old new told other
+      → (cause → other) → WritesInto g file old new first cause
+      → WritesInto g file old new told other
   writes_as same so w = record {
     kept = record {
       honest = w.kept.honest;
@@ -49,7 +49,7 @@ module _ {D : Type 0} (g : Ghosts D) (file : ℕ) where
 
   -- calls that did not fail, whatever is told of others
   pub writes_done : {old new : D} {first told cause other : Type 0} → (first → ⊥) → (told → ⊥)
-      → WritesFile g file old new first cause → WritesFile g file old new told other
+      → WritesInto g file old new first cause → WritesInto g file old new told other
   writes_done works ends w = record {
     kept = record {
       honest = w.kept.honest;
@@ -66,8 +66,8 @@ module _ {D : Type 0} (g : Ghosts D) (file : ℕ) where
 
   -- calls that did not fail, and others behind them
   pub writes_behind : {old mid new : D} {first told cause more other : Type 0} → (first → ⊥)
-      → (more → other) → WritesFile g file old mid first cause
-      → WritesFile g file mid new told more → WritesFile g file old new told other
+      → (more → other) → WritesInto g file old mid first cause
+      → WritesInto g file mid new told more → WritesInto g file old new told other
   writes_behind {old = old} {mid = mid} {new = new} works so before w = record {
     kept = record {
       honest = (
@@ -94,7 +94,7 @@ module _ {D : Type 0} (g : Ghosts D) (file : ℕ) where
   -- one call of the disk on the file
   pub call_writes : {old new : D} {told : Type 0} → KeepsDisk g old new told ⊥ (IsSameBut file)
       → (g.is_honest old → Passes (g.past old) (g.state old) (g.past new) (g.state new))
-      → WritesFile g file old new told ⊥
+      → WritesInto g file old new told ⊥
   call_writes {old = old} {new = new} kept passes = record {
     kept = kept;
     any_moment = λ honest. at_more (λ left. Unit {0}) file
@@ -115,12 +115,12 @@ removal_failed (Err d) disk.Memory s is told = (λ f. absurd cc, λ f. absurd cc
 
 -- calls on a file, and others on it behind them, leave each other file as it was
 pub moments_join : {D : Type 0} (g : Ghosts D) {own file : ℕ} → own ≡ file → {old mid new : D}
-    {first cause told other : Type 0} → WritesFile g own old mid first cause
-    → WritesFile g file mid new told other → g.is_honest old
+    {first cause told other : Type 0} → WritesInto g own old mid first cause
+    → WritesInto g file mid new told other → g.is_honest old
     → AlwaysLeaves g old new (IsLeftAt (g.state old) file (λ left. Unit {0}))
 moments_join g {file = file} is {old = old} {mid = mid} {new = new} {first = first} {cause = cause}
     before w honest =
-    let same = subst (λ (f : ℕ). WritesFile g f old mid first cause) is before in
+    let same = subst (λ (f : ℕ). WritesInto g f old mid first cause) is before in
     at_join (λ left. Unit {0}) file (g.state old) (g.state mid) (g.state new)
     (g.past old) (g.past mid) (g.past new) (same.any_moment honest) (same.kept.files honest)
     (w.any_moment (same.kept.honest.1 honest))

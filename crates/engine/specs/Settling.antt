@@ -31,8 +31,8 @@ AreThere disk lines = All (λ line. IsSome (seen (disk line.file))) lines
 -- ---- removals
 
 -- these files are as they were
-abbrev pub KeepsFiles : List ℕ → State → State → Type 0
-KeepsFiles kept old new = (file : ℕ) → Contains kept file → new file ≡ old file
+abbrev pub SparesFiles : List ℕ → State → State → Type 0
+SparesFiles kept old new = (file : ℕ) → Contains kept file → new file ≡ old file
 
 -- a crash left of these files what it might have left when the disk had this state
 abbrev pub AreLeftOf : List ℕ → State → Contents → Type 0

@@ -28,7 +28,7 @@ error_of_writing table.Failed = engine.Damaged
 
 -- Calls that write to one file. They fail only for this cause or where an armed fault struck. A
 -- crash at any moment since they began leaves each other file as it was.
-pub record WritesFile {D : Type 0} (g : Ghosts D) (file : ℕ) (old new : D)
+pub record WritesInto {D : Type 0} (g : Ghosts D) (file : ℕ) (old new : D)
     (has_failed cause : Type 0) : Type 0 where
   pub kept : KeepsDisk g old new has_failed cause (IsSameBut file)
   pub any_moment : g.is_honest old → AlwaysLeaves g old new (IsLeftAt (g.state old) file

@@ -3,7 +3,7 @@ ghost use Rattle.std.specs.Prelude.{◌≡◌, IfErr, OnOk, MatchResult};
 ghost use Rattle.disk.specs.{AlwaysLeaves, IsStill, KeepsDisk};
 ghost use Rattle.engine.specs.Errors.{FailsDevice, IsEnd, IsOfMachine};
 ghost use Rattle.engine.specs.Settling.{AddsNothing, AreAlone, AreLeftOf, AreSynced, AreThere};
-ghost use Rattle.engine.specs.Settling.{KeepsFiles};
+ghost use Rattle.engine.specs.Settling.{SparesFiles};
 
 use crate::EngineError;
 use disk::Disk;
@@ -29,7 +29,7 @@ pub(crate) fn sync_tables<D: Disk>(disk: &mut D, lines: &[TableLine]) -> Result<
 /// Removes each file but these.
 pub(crate) fn remove_others<D: Disk>(disk: &mut D, kept: &[u64]) -> Result<(), EngineError>
     ensures kept { KeepsDisk D.Disk disk.old disk.new (FailsDevice result) ⊥
-        (KeepsFiles kept.now) }
+        (SparesFiles kept.now) }
     ensures alone { D.is_honest disk.old →
         MatchResult result (λ _. AreAlone kept.now (D.state disk.new)) IsOfMachine }
 

@@ -11,7 +11,7 @@ ghost use Rattle.table_format.specs.{CanFollow, IsTableEntry, lent_entry};
 ghost use Rattle.table_builder.specs.{Builds, BuildsNothing, IsFresh, builder_file};
 ghost use Rattle.engine.specs.Errors.{FailsDevice, IsEnd, IsOfMachine};
 ghost use Rattle.engine.specs.OpenFiles.{HasEntry, IsTooLarge, IsWrittenTable};
-ghost use Rattle.engine.specs.TableWriting.{BuildsAll, HasAddedAll, HasAddedOne, WritesFile};
+ghost use Rattle.engine.specs.TableWriting.{BuildsAll, HasAddedAll, HasAddedOne, WritesInto};
 ghost use Rattle.engine.specs.TableWriting.{error_of_writing};
 
 use crate::EngineError;
@@ -45,7 +45,7 @@ fn add_one<D: Disk>(
     entry: LentEntry,
 ) -> Result<bool, EngineError>
     requires { IsTableEntry (lent_entry entry) }
-    ensures writes { WritesFile D.Disk (builder_file builder.old) disk.old disk.new
+    ensures writes { WritesInto D.Disk (builder_file builder.old) disk.old disk.new
         (FailsDevice result) (BuildsNothing builder.old) }
     ensures file { OnOk result (builder_file builder.new ≡ builder_file builder.old) }
     ensures added { (entries : List Entry) → D.is_honest disk.old →
@@ -84,7 +84,7 @@ fn add_all<'a, D: Disk>(
 ) -> Result<bool, EngineError>
     requires { (entry : Entry) → ⟦<MemCursor<'a> as Cursor>⟧.holds cursor.old tt entry →
         KeepsEntryLimits entry }
-    ensures writes { WritesFile D.Disk (builder_file builder.old) disk.old disk.new
+    ensures writes { WritesInto D.Disk (builder_file builder.old) disk.old disk.new
         (FailsDevice result) (D.is_honest disk.old ×
         Builds (D.state disk.old (builder_file builder.old)) builder.old [] → ⊥) }
     ensures file { OnOk result (builder_file builder.new ≡ builder_file builder.old) }
@@ -113,7 +113,7 @@ fn add_memtable<D: Disk>(
     memtable: &Memtable,
 ) -> Result<bool, EngineError>
     requires { HasFailedAdd memtable.now → ⊥ }
-    ensures writes { WritesFile D.Disk (builder_file builder.old) disk.old disk.new
+    ensures writes { WritesInto D.Disk (builder_file builder.old) disk.old disk.new
         (FailsDevice result) (D.is_honest disk.old ×
         Builds (D.state disk.old (builder_file builder.old)) builder.old [] → ⊥) }
     ensures file { OnOk result (builder_file builder.new ≡ builder_file builder.old) }
@@ -136,7 +136,7 @@ fn finish_table<D: Disk>(
 ) -> Result<TableLine, EngineError>
     requires file { builder_file builder ≡ file }
     requires named { file ≤ MAX_NUMBER }
-    ensures writes { WritesFile D.Disk file disk.old disk.new (FailsDevice result)
+    ensures writes { WritesInto D.Disk file disk.old disk.new (FailsDevice result)
         (BuildsNothing builder) }
     ensures written { (memtable : Memtable) → HasEntry memtable → D.is_honest disk.old →
         BuildsAll (TableHolds memtable) (D.state disk.old file) builder →
@@ -160,7 +160,7 @@ fn finish_table<D: Disk>(
 
 // Removes a file, if there is one.
 fn remove_file<D: Disk>(disk: &mut D, file: u64) -> Result<(), EngineError>
-    ensures writes { WritesFile D.Disk file disk.old disk.new (FailsDevice result) ⊥ }
+    ensures writes { WritesInto D.Disk file disk.old disk.new (FailsDevice result) ⊥ }
     ensures removed { D.is_honest disk.old →
         MatchResult result (λ _. IsNone (seen (D.state disk.new file))) IsOfMachine }
     ensures causes { IfErr result IsEnd }

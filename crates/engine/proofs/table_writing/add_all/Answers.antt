@@ -5,7 +5,7 @@ use Rattle.memtable.specs.CursorLaws.{MemCursorHolds, cursor_laws, mem_position}
 use Rattle.merge_iter.specs.{IsOn}
 use Rattle.table_format.specs.{lent_entry}
 use Rattle.table_builder.specs.{Builds, BuildsNothing, builder_file}
-use Rattle.engine.specs.TableWriting.{HasAddedAll, HasAddedOne, WritesFile}
+use Rattle.engine.specs.TableWriting.{HasAddedAll, HasAddedOne, WritesInto}
 use Rattle.engine.proofs.Keeping.{done, passed_on}
 use Rattle.engine.proofs.Causes.{refuses}
 use Rattle.engine.proofs.TableCalls.{writes_as, writes_behind, writes_done, writes_nothing}
@@ -55,7 +55,7 @@ pub returns-in_err-add_one-clause-writes : goal.returns-in_err-add_one-clause-wr
 returns-in_err-add_one-clause-writes g c =
     let i = c.loop-alloc.invariant in
     let file = builder_file c.args.builder.now in
-    let called = subst (λ (f : ℕ). WritesFile g.D.Disk f c.loop-alloc.disk c.add_one.new.disk
+    let called = subst (λ (f : ℕ). WritesInto g.D.Disk f c.loop-alloc.disk c.add_one.new.disk
     (FailsDevice c.add_one.result) (BuildsNothing c.loop-alloc.builder)) i.file
     c.add_one.ensures.writes in
     let result = c.from_residual-in_err-add_one.result in
@@ -90,7 +90,7 @@ pub returns-then-not-branch-clause-writes : goal.returns-then-not-branch-clause-
 returns-then-not-branch-clause-writes g c =
     let i = c.loop-alloc.invariant in
     let file = builder_file c.args.builder.now in
-    let called = subst (λ (f : ℕ). WritesFile g.D.Disk f c.loop-alloc.disk c.add_one.new.disk
+    let called = subst (λ (f : ℕ). WritesInto g.D.Disk f c.loop-alloc.disk c.add_one.new.disk
     (FailsDevice c.add_one.result) (BuildsNothing c.loop-alloc.builder)) i.file
     c.add_one.ensures.writes in
     writes_behind g.D.Disk file (λ fails. fails) (λ cause. cause) i.writes
@@ -134,7 +134,7 @@ loop-alloc-preserved g c =
     let entry = lent_entry c.entry_at.result in
     let on = c.valid.ensures.0 c.loop-alloc-test.true in
     let here = added_here has at _ _ _ entry on c.entry_at.ensures i.added in
-    let called = subst (λ (f : ℕ). WritesFile g.D.Disk f c.loop-alloc.disk c.add_one.new.disk
+    let called = subst (λ (f : ℕ). WritesInto g.D.Disk f c.loop-alloc.disk c.add_one.new.disk
     (FailsDevice c.add_one.result) (BuildsNothing c.loop-alloc.builder)) i.file
     c.add_one.ensures.writes in
     record {
@@ -168,7 +168,7 @@ pub returns-in_err-next-clause-writes : goal.returns-in_err-next-clause-writes
 returns-in_err-next-clause-writes g c =
     let i = c.loop-alloc.invariant in
     let file = builder_file c.args.builder.now in
-    let called = subst (λ (f : ℕ). WritesFile g.D.Disk f c.loop-alloc.disk c.add_one.new.disk
+    let called = subst (λ (f : ℕ). WritesInto g.D.Disk f c.loop-alloc.disk c.add_one.new.disk
     (FailsDevice c.add_one.result) (BuildsNothing c.loop-alloc.builder)) i.file
     c.add_one.ensures.writes in
     let memory = for_memory _ _ c.next.result c.in_err-next.field-0.0 c.in_err-next.was tt

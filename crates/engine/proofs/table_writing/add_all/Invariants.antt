@@ -3,7 +3,7 @@ use Rattle.memtable.specs.CursorLaws.{MemCursorHolds, mem_left, mem_position}
 use Rattle.merge_iter.specs.declared.Direction.TheVariants.{Forward}
 use Rattle.merge_iter.specs.{IsAlike, IsBroken}
 use Rattle.table_builder.specs.{Builds, builder_file}
-use Rattle.engine.specs.TableWriting.{WritesFile}
+use Rattle.engine.specs.TableWriting.{WritesInto}
 use Rattle.engine.proofs.TableWalks.{AddsUpTo}
 use Rattle.engine.proofs.table_writing.add_all.Given as goal
 
@@ -11,7 +11,7 @@ use Rattle.engine.proofs.table_writing.add_all.Given as goal
 abbrev pub invariant-loop-alloc : goal.invariant-loop-alloc
 invariant-loop-alloc g l = record {
   file : builder_file l.builder ≡ builder_file l.fn.builder;
-  writes : WritesFile g.D.Disk (builder_file l.fn.builder) l.fn.disk l.disk ⊥ ⊥;
+  writes : WritesInto g.D.Disk (builder_file l.fn.builder) l.fn.disk l.disk ⊥ ⊥;
   holds : IsAlike (MemCursorHolds l.cursor) (MemCursorHolds l.fn.cursor);
   unbroken : IsBroken (mem_position l.cursor) → ⊥;
   added : AddsUpTo (MemCursorHolds l.fn.cursor) (mem_position l.cursor)
