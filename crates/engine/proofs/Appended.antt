@@ -2,7 +2,6 @@
 use Rattle.std.proofs.Common.{◌≡◌, ◌≢◌, ◌⊎◌, ◌↔◌, ℕ, suc, ◌+◌, ◌-◌, ◌<◌, ◌≤◌, List, [], ◌∷◌, ◌++◌}
 use Rattle.std.proofs.Common.{All, Contains, ap, arith, drop, inl, inr, length, map, refl}
 use Rattle.std.proofs.Common.{Err, Ok, Result, subst, sym, ◌∙◌}
-use Rattle.std.specs.List.{AllZip}
 use Rattle.std.specs.Prelude.{IsNone, MatchResult}
 use Rattle.std.proofs.lemmas.List.{drop-append-le, length_push}
 use Rattle.std.proofs.lemmas.List.Elements.{All-contains, All-contains_itself, All-push, All-weaker}
@@ -13,20 +12,16 @@ use Rattle.disk.specs.{LeavesSince, State, contents, seen}
 use Rattle.disk.specs.MomentsLemmas.{started, weaker}
 use Rattle.memtable.specs.declared.Memtable.{Memtable}
 use Rattle.memtable.specs.{HasFailedAdd, TableHolds}
-use Rattle.sorted_table.specs.{TableServes, table_file}
 use Rattle.store_model.specs.Claims.{AppendsKeep}
-use Rattle.store_model.specs.PlacesLemmas.{contains_cases, contains_head, contains_next}
-use Rattle.store_model.specs.{LevelTable, StoreRepresents, memory_entries}
+use Rattle.store_model.specs.{StoreRepresents, memory_entries}
 use Rattle.manifest.specs.declared.LogLine.{LogLine}
 use Rattle.manifest.specs.declared.TableLine.{TableLine}
 use Rattle.manifest.specs.{HeldVersionIsLeft, HeldVersionStays, StoreVersion}
 use Rattle.engine.specs.declared.batch_logs.BatchLog.{BatchLog}
 use Rattle.engine.specs.declared.batch_logs.BatchLogs.{BatchLogs}
-use Rattle.engine.specs.declared.levels.OpenTable.{OpenTable}
 use Rattle.engine.specs.declared.store_files.StoreFiles.{StoreFiles}
 use Rattle.engine.specs.BatchLogs.{AreLeftWith, AreUsable, HaveBatches, LogsHold, first_number}
 use Rattle.engine.specs.BatchLogs.{line_of, lines_of, newest_file, next_number, oldest_first}
-use Rattle.engine.specs.LevelTables.{AreTablesOf, IsServed}
 use Rattle.engine.specs.OpenFiles.{AreOrderedNumbers, AreUsableFiles, FilesHold, batch_count}
 use Rattle.engine.specs.OpenFiles.{known_facts, known_store, known_version, trimmed_count}
 use Rattle.engine.specs.StoreFiles.{StoreFilesRepresent, store_of_version}
@@ -35,6 +30,7 @@ use Rattle.engine.specs.declared.error.EngineError.{EngineError}
 use Rattle.engine.specs.Errors.{IsOfMachine}
 use Rattle.engine.proofs.Entries.{Adds, next_numbered}
 use Rattle.engine.proofs.FilesApart.{newest_given, newest_no_slot, newest_no_table, newest_positive}
+use Rattle.engine.proofs.KeptFiles.{served_in}
 use Rattle.engine.proofs.NamedFiles.{tables_same}
 use Rattle.engine.proofs.Parts.{whole_left}
 
@@ -55,46 +51,6 @@ pub first_same : (logs after : BatchLogs) → lines_of after ≡ lines_of logs
 first_same logs after lines =
     first_by_lines after.older.items after.newest ∙ ap first_in lines
     ∙ sym (first_by_lines logs.older.items logs.newest)
-
--- ---- the same tables
-
--- tables are served as before where their files are the same
-pub served_in : (old new : State) (its : List OpenTable) (tables : List LevelTable)
-    → AllZip (IsServed old) its tables
-    → ((table : LevelTable) → Contains tables table → new table.file ≡ old table.file)
-    → AllZip (IsServed new) its tables
-served_in old new [] [] h same = tt
-served_in old new [] (table ∷ tables) h same = absurd h
-served_in old new (it ∷ its) [] h same = absurd h
-served_in old new (it ∷ its) (table ∷ tables) h same =
-    let file : table.file ≡ table_file it.table = h.0.file in
-    let slot : new (table_file it.table) ≡ old (table_file it.table) =
-    ap new (sym file) ∙ same table (contains_head table tables) ∙ ap old file in (
-      record {
-        level = h.0.level;
-        file = file;
-        range = h.0.range;
-        serves = subst (λ (s : Slot). TableServes s it.table table.entries) (sym slot) h.0.serves;
-      },
-      served_in old new its tables h.1
-          (λ one has. same one (contains_next table tables one has)),
-    )
-
--- a line names each of the tables
-pub line_of_table : (left : Contents) (lines : List TableLine) (tables : List LevelTable)
-    → AreTablesOf left lines tables → (P : ℕ → Type 0)
-    → ((line : TableLine) → Contains lines line → P line.file) → (table : LevelTable)
-    → Contains tables table → P table.file
-line_of_table left [] [] h P each table has = let lt = has.1 in absurd (omega (arith, lt))
-line_of_table left [] (t ∷ tables) h P each table has = absurd h
-line_of_table left (line ∷ lines) [] h P each table has = absurd h
-line_of_table left (line ∷ lines) (t ∷ tables) h P each table has =
-    elim (contains_cases t tables table has) as (λ _. P table.file) [
-      | inl same ↦ subst (λ (u : LevelTable). P u.file) same
-          (subst P (sym h.0.file) (each line (contains_head line lines)))
-      | inr later ↦ line_of_table left lines tables h.1 P
-          (λ one there. each one (contains_next line lines one there)) table later
-    ]
 
 -- ---- usable files
 
@@ -267,9 +223,8 @@ module _ (disk : State) (files : StoreFiles) (list : List BatchContent)
         tables = h.tables;
         read = tables_same (contents disk) (contents new) version.tables h.tables
             (λ line has. ap seen (table_stays line has)) h.read;
-        served = served_in disk new files.tables.tables.items h.tables h.served
-            (line_of_table (contents disk) version.tables h.tables h.read
-            (λ (f : ℕ). new f ≡ disk f) table_stays);
+        served = served_in disk new version.tables files.tables.tables.items h.tables table_stays
+            h.read h.served;
         durable = All-weaker (Contains version.tables)
             (λ (line : TableLine). IsDurable (new line.file))
             (λ line has. subst IsDurable (sym (table_stays line has))

@@ -5,7 +5,7 @@ use Rattle.std.specs.Prelude.{IsTrue, not, ◌&&◌, ◌==◌}
 use Rattle.std.specs.List.{list_any}
 use Rattle.std.proofs.lemmas.List.Elements.{All-contains}
 use Rattle.std.proofs.lemmas.List.Elements.{Contains-append_right}
-use Rattle.store_model.specs.PlacesLemmas.{contains_cases, contains_head, contains_next}
+use Rattle.store_model.specs.PlacesLemmas.{contains_cases, contains_head}
 use Rattle.manifest.specs.declared.LogLine.{LogLine}
 use Rattle.manifest.specs.declared.TableLine.{TableLine}
 use Rattle.manifest.specs.Lawful.{IsGiven, IsVersion}
@@ -14,6 +14,7 @@ use Rattle.manifest.specs.{IsLogLine, IsSlotFile, StoreVersion}
 use Rattle.engine.specs.declared.store_files.StoreFiles.{StoreFiles}
 use Rattle.engine.specs.BatchLogs.{line_of, newest_file}
 use Rattle.engine.specs.OpenFiles.{AreUsableFiles, known_version}
+use Rattle.engine.proofs.KeptFiles.{contains_map}
 use Rattle.engine.proofs.LevelLemmas.{either}
 use Rattle.engine.proofs.Records.{not_true}
 
@@ -49,15 +50,6 @@ once_apart (x ∷ xs) ys a b once in_first in_second same =
           later in_second same
     ]
 
--- what a list has is there when it is mapped
-map_has : {A : Type 0} (f : A → ℕ) (xs : List A) (x : A) → Contains xs x
-    → Contains (map f xs) (f x)
-map_has f [] x has = let lt = has.1 in absurd (omega (arith, lt))
-map_has f (y ∷ ys) x has = elim (contains_cases y ys x has) [
-  | inl same ↦ subst (λ z. Contains (map f (y ∷ ys)) (f z)) same (contains_head (f y) (map f ys))
-  | inr later ↦ contains_next (f y) (map f ys) (f x) (map_has f ys x later)
-]
-
 -- no log of a version has the file of a table
 pub log_no_table : (version : StoreVersion) → IsVersion version → (log : LogLine)
     → Contains version.logs log → (table : TableLine) → Contains version.tables table
@@ -65,8 +57,8 @@ pub log_no_table : (version : StoreVersion) → IsVersion version → (log : Log
 log_no_table version is log has table there same =
     once_apart (map (λ line. line.file) version.logs) (map (λ line. line.file) version.tables)
     log.file table.file is.lawful.files_once
-    (map_has (λ line. line.file) version.logs log has)
-    (map_has (λ line. line.file) version.tables table there) (sym same)
+    (contains_map (λ line. line.file) version.logs log has)
+    (contains_map (λ line. line.file) version.tables table there) (sym same)
 
 -- a file that was given is no slot
 pub given_no_slot : (version : StoreVersion) (file : ℕ) → IsGiven version file → (slot : ℕ)

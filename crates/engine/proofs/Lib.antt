@@ -25,3 +25,7 @@ pub mod TableWalks
 pub mod TableCalls
 pub mod FinishedTables
 pub mod BegunFiles
+pub mod KeptFiles
+pub mod NewestLog
+pub mod ReadParts
+pub mod ReadFiles

@@ -8,6 +8,7 @@ pub mod LogExamples
 pub mod Stores
 pub mod Settling
 pub mod OpenFiles
+pub mod Openings
 pub mod Replaying
 pub mod TableWriting
 pub mod Engines

@@ -1,8 +1,9 @@
 -- What an opening makes of the files of a store: those that are named are made durable, and the
 -- others are removed.
-use Rattle.std.specs.Prelude.{◌≡◌, ◌⊎◌, ℕ, List, Some, All, IsSome, IsNone, Contains}
+use Rattle.std.specs.Prelude.{◌≡◌, ◌≢◌, ◌⊎◌, ℕ, List, Some, All, IsSome, IsNone, Contains}
 use Rattle.disk.specs.{Contents, IsFileOutcome, State, seen}
 use Rattle.record_log.specs.{IsDurableAs}
+use Rattle.manifest.specs.declared.LogLine.{LogLine}
 use Rattle.manifest.specs.declared.TableLine.{TableLine}
 
 -- ---- syncs
@@ -23,6 +24,11 @@ pub record AreSynced (old new : State) (lines : List TableLine) : Type 0 where
   pub named : All (λ line. (bytes : List ℕ) × (seen (old line.file) ≡ Some bytes)
       × IsDurableAs new line.file bytes) lines
   pub each : (file : ℕ) → SlotSettles old new file
+
+-- the files but those of these logs are as they were
+abbrev pub SparesAllBut : List LogLine → State → State → Type 0
+SparesAllBut lines old new =
+    (file : ℕ) → All (λ line. line.file ≢ file) lines → new file ≡ old file
 
 -- the files of these lines exist
 abbrev pub AreThere : State → List TableLine → Type 0

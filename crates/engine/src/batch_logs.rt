@@ -93,6 +93,16 @@ impl BatchLogs {
         BatchLogs { older, newest }
     }
 
+    /// The number of the oldest batch, or of the next one.
+    pub(crate) fn first_number(&self) -> u64
+        ensures { result ≡ first_number self.now }
+    {
+        match self.older.first() {
+            Some(one) => one.first,
+            None => self.newest.first,
+        }
+    }
+
     /// The number of the last batch, or of the one before the first.
     pub(crate) fn last_number(&self) -> Number
         requires few { next_number self.now ≤ MAX_NUMBER + 1 }

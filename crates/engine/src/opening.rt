@@ -1,24 +1,150 @@
-//! Creating the files of a store.
-ghost use Rattle.std.specs.Prelude.{◌≡◌, [], IfOk, MatchResult};
-ghost use Rattle.disk.specs.{KeepsDisk};
-ghost use Rattle.engine.specs.Errors.{FailsDevice, IsOfMachine};
-ghost use Rattle.engine.specs.Files.{IsOwned};
+//! Creating and opening the files of a store.
+ghost use Rattle.std.specs.Prelude.{◌≡◌, ◌↔◌, ◌+◌, ◌-◌, [], IsTrue, ℕ, List, length, IfOk, IfErr};
+ghost use Rattle.std.specs.Prelude.{MatchResult};
+ghost use Rattle.kv_types.specs.{BatchContent};
+ghost use Rattle.disk.specs.{AlwaysLeaves, IsStill, KeepsDisk, OnlyLeaves, contents};
+ghost use Rattle.engine.specs.Errors.{FailsDevice, IsEnd, IsOfMachine};
+ghost use Rattle.engine.specs.Files.{Facts, IsOwned};
 ghost use Rattle.engine.specs.Stores.{plain_facts};
-ghost use Rattle.engine.specs.OpenFiles.{AreUsableFiles, FilesHold, known_facts};
+ghost use Rattle.engine.specs.StoreFiles.{StoreFilesRepresent, before_newest};
+ghost use Rattle.engine.specs.OpenFiles.{AreBatchesOf, AreOrderedNumbers, AreUsableFiles};
+ghost use Rattle.engine.specs.OpenFiles.{FilesHold, FilesOpenAs, OpeningRefusal, known_facts};
+ghost use Rattle.engine.specs.Openings.{AreParts, FilesAreRead, PartsHold, WereParts, kept_files};
+ghost use Rattle.engine.specs.LevelTables.{AreTablesOf};
+ghost use Rattle.store_model.specs.{LevelTable};
 
 use crate::EngineError;
 use crate::batch_logs::{BatchLog, BatchLogs};
 use crate::levels::LevelTables;
-use crate::settling::remove_others;
+use crate::replaying::open_logs;
+use crate::settling::{remove_others, sync_tables};
 use crate::store_files::StoreFiles;
 use configurations::{Config, NodeId};
 use disk::Disk;
-use manifest::Manifest;
-use manifest::laws::held_versions_are_left;
+use disk::laws::{durable_file_is_left, reads_are_outcomes};
+use kv_types::Number;
+use manifest::laws::{held_versions_are_left, version_is_one};
+use manifest::{LogLine, Manifest, StoreVersion};
 use memtable::Memtable;
 use record_log::Log;
-use std::alloc::Global;
-use store_model::empty_represents;
+use std::alloc::{AllocError, Global};
+use store_model::{empty_represents, replays_agree};
+
+// The slots, and the files that a version names.
+fn named_files(alloc: Global, version: &StoreVersion) -> Result<Vec<u64>, AllocError>
+    ensures { IfOk result (λ files. files.items ≡ kept_files version.now.version) }
+{
+    let mut files = Vec::new(alloc);
+    files.push(1)?;
+    files.push(2)?;
+    for line in &version.logs {
+        files.push(line.file)?;
+    }
+    for line in &version.tables {
+        files.push(line.file)?;
+    }
+    Ok(files)
+}
+
+// How many batches come before the newest log.
+fn count_before(logs: &[LogLine]) -> u64
+    ensures { result ≡ before_newest logs.now }
+{
+    match logs.last() {
+        Some(line) => line.first.saturating_sub(1),
+        None => 0,
+    }
+}
+
+// Whether the numbers of batches that concern a store are in order.
+fn are_ordered(version: &StoreVersion, trimmed: u64, count: Number) -> bool
+    ensures { IsTrue result ↔ AreOrderedNumbers version.now.version trimmed count }
+{
+    let current = count_before(&version.logs);
+    let count = count.get();
+    if trimmed > version.floor {
+        return false;
+    }
+    if trimmed > current {
+        return false;
+    }
+    if current > version.flushed {
+        return false;
+    }
+    if version.flushed > count {
+        return false;
+    }
+    version.floor <= count
+}
+
+/// What the lines of a version name, opened.
+#[derive(Drop)]
+struct ReadParts {
+    logs: BatchLogs,
+    tables: LevelTables,
+    memtable: Memtable,
+}
+
+// Syncs the tables and logs of a version, and opens them. `Damaged` only where the lines name no
+// batches or no tables, or their numbers are not in order.
+fn read_parts<D: Disk>(
+    alloc: Global,
+    disk: &mut D,
+    version: &StoreVersion,
+) -> Result<ReadParts, EngineError>
+    ensures kept { KeepsDisk D.Disk disk.old disk.new (FailsDevice result) ⊥ IsOwned }
+    ensures opened { (first : ℕ) (batches : List BatchContent) (tables : List LevelTable) →
+        D.is_honest disk.old →
+        AreBatchesOf (contents (D.state disk.old)) version.now.version.logs first batches →
+        AreTablesOf (contents (D.state disk.old)) version.now.version.tables tables →
+        AreOrderedNumbers version.now.version (first - 1) (first - 1 + length batches) →
+        MatchResult result
+        (PartsHold (D.state disk.new) version.now.version first batches tables) IsOfMachine }
+    ensures told { D.is_honest disk.old → IfOk result
+        (WereParts (D.state disk.old) (D.state disk.new) version.now.version) }
+    ensures usable { IfOk result (AreParts version.now.version) }
+    ensures causes { IfErr result IsEnd }
+    ensures still { IsStill D.Disk disk.old disk.new }
+{
+    sync_tables(disk, &version.tables)?;
+    let (logs, memtable) = open_logs(alloc, disk, version)?;
+    let tables = LevelTables::open(alloc, disk, &version.tables)?;
+    let trimmed = logs.first_number().saturating_sub(1);
+    if !are_ordered(version, trimmed, logs.last_number()) {
+        return Err(EngineError::Damaged);
+    }
+    Ok(ReadParts {
+        logs,
+        tables,
+        memtable,
+    })
+}
+
+// Opens the store that the files represent, and removes none of them.
+fn read_files<D: Disk>(alloc: Global, disk: &mut D) -> Result<StoreFiles, EngineError>
+    ensures kept { KeepsDisk D.Disk disk.old disk.new (FailsDevice result) ⊥ IsOwned }
+    ensures opened { (facts : Facts) (list : List BatchContent) → D.is_honest disk.old →
+        StoreFilesRepresent facts list (contents (D.state disk.old)) → MatchResult result
+        (λ files. (known_facts files ≡ facts) × FilesAreRead (D.state disk.new) files list)
+        IsOfMachine }
+    ensures told { D.is_honest disk.old → MatchResult result
+        (FilesOpenAs (contents (D.state disk.old)))
+        (λ e. OpeningRefusal e (contents (D.state disk.old))) }
+    ensures usable { IfOk result AreUsableFiles }
+    ensures still { IsStill D.Disk disk.old disk.new }
+{
+    version_is_one(); // law: files that represent a version are of a store that was created
+    held_versions_are_left(); // law: with the same slots a manifest holds the same version
+    replays_agree(); // law: a replay has the entries that belong in memory
+    let manifest = Manifest::open(alloc, disk)?;
+    let parts = read_parts(alloc, disk, manifest.state())?;
+    Ok(StoreFiles {
+        manifest,
+        logs: parts.logs,
+        tables: parts.tables,
+        memtable: parts.memtable,
+    })
+}
 
 impl StoreFiles {
     /// Creates the files of a store without batches. All files of the disk are removed first. A
@@ -50,5 +176,33 @@ impl StoreFiles {
             tables,
             memtable,
         })
+    }
+
+    /// Opens the store that the files represent. Both slots, the logs and the tables that they name
+    /// are synced, the batches that no table has are replayed, and the other files are removed.
+    pub(crate) fn open<D: Disk>(alloc: Global, disk: &mut D) -> Result<StoreFiles, EngineError>
+        ensures kept { KeepsDisk D.Disk disk.old disk.new (FailsDevice result) ⊥ IsOwned }
+        ensures opened { (facts : Facts) (list : List BatchContent) → D.is_honest disk.old →
+            StoreFilesRepresent facts list (contents (D.state disk.old)) → MatchResult result
+            (λ files. (known_facts files ≡ facts) × FilesHold (D.state disk.new) files list)
+            IsOfMachine }
+        ensures told { D.is_honest disk.old → MatchResult result
+            (FilesOpenAs (contents (D.state disk.old)))
+            (λ e. OpeningRefusal e (contents (D.state disk.old))) }
+
+        // Where a crash before it leaves only files of this store, so does one at any moment since.
+        ensures any_moment { (facts : Facts) (list : List BatchContent) → D.is_honest disk.old →
+            OnlyLeaves (StoreFilesRepresent facts list) (D.state disk.old) →
+            AlwaysLeaves D.Disk disk.old disk.new (StoreFilesRepresent facts list) }
+        ensures usable { IfOk result AreUsableFiles }
+    {
+        // laws: what a crash leaves of the files that are named, and what a disk reads
+        held_versions_are_left();
+        durable_file_is_left();
+        reads_are_outcomes();
+        let files = read_files(alloc, disk)?;
+        let kept = named_files(alloc, files.manifest.state())?;
+        remove_others(disk, &kept)?;
+        Ok(files)
     }
 }

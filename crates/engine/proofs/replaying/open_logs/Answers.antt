@@ -6,6 +6,7 @@ use Rattle.engine.specs.declared.batch_logs.BatchLog.{BatchLog}
 use Rattle.engine.specs.BatchLogs.{HaveBatches}
 use Rattle.engine.specs.Errors.{IsOfMachine}
 use Rattle.engine.specs.Replaying.{AreInLine, AreOfDifferentFiles, AreReadLogs}
+use Rattle.engine.specs.Settling.{SparesAllBut}
 use Rattle.engine.proofs.Causes.{refuses}
 use Rattle.engine.proofs.OpenLogs.{are_replayed, begins, different_files, open_logs_are}
 use Rattle.engine.proofs.OpenLogs.{were_read}
@@ -109,3 +110,9 @@ returns-clause-usable g c =
     c.of.result (split_so g c)
     (subst AreOfDifferentFiles view (different_files c.version.inside.logs.items
     c.version.inside.tables.items c.version.invariant.lawful.files_once))
+
+-- the files of other numbers are as they were
+pub returns-clause-others : goal.returns-clause-others
+returns-clause-others g c = λ honest.
+    subst (λ (l : List LogLine). SparesAllBut l (g.D.Disk.state c.args.disk.now)
+    (g.D.Disk.state c.read_logs.new.disk)) (lines_so g c) (c.in_ok-older.ensures.others honest)

@@ -6,6 +6,7 @@ use Rattle.engine.specs.BatchLogs.{HaveBatches}
 use Rattle.engine.specs.Errors.{IsOfMachine}
 use Rattle.engine.specs.KeepingLemmas.{answered, kept_as, neither}
 use Rattle.engine.specs.Replaying.{AreInLine, AreReadLogs}
+use Rattle.engine.specs.Settling.{SparesAllBut}
 use Rattle.engine.proofs.Causes.{refuses}
 use Rattle.engine.proofs.Keeping.{done, memory_told, passed_on, refused}
 use Rattle.engine.proofs.ReadLogs.{HasSynced, has_here, in_line_more, line_at, lines_at}
@@ -189,3 +190,11 @@ returns-clause-told g c = (
       (take_all c.loop-line.line-index c.args.lines.now c.loop-line-test.false)
       c.loop-line.invariant.line,
 )
+
+-- the files of other numbers are as they were
+pub returns-clause-others : goal.returns-clause-others
+returns-clause-others g c = λ honest.
+    subst (λ (l : List LogLine). SparesAllBut l (g.D.Disk.state c.args.disk.now)
+    (g.D.Disk.state c.loop-line.disk))
+    (take_all c.loop-line.line-index c.args.lines.now c.loop-line-test.false)
+    (c.loop-line.invariant.synced.kept.files honest).others

@@ -1,0 +1,92 @@
+use Rattle.std.proofs.Common.{◌∙◌, suc, drop, subst}
+use Rattle.disk.specs.{contents}
+use Rattle.disk.specs.StillLemmas.{still_more}
+use Rattle.manifest.specs.{NodeVersion}
+use Rattle.engine.specs.Errors.{IsOfMachine}
+use Rattle.engine.specs.OpenFiles.{FilesOpenAs, OpeningRefusal}
+use Rattle.engine.specs.Openings.{AreParts, PartsHold, WereParts}
+use Rattle.engine.proofs.BegunFiles.{manifest_of_machine}
+use Rattle.engine.proofs.Causes.{refuses}
+use Rattle.engine.proofs.ReadFiles.{asked, end_explained, opens_as, read_as, slots_stay, usable_of}
+use Rattle.engine.proofs.opening.read_files.Goals as goal
+
+-- slots that represent a version are opened
+pub returns-in_err-manifest-clause-opened : goal.returns-in_err-manifest-clause-opened
+returns-in_err-manifest-clause-opened g c = λ facts list honest h.
+    refuses c.from_residual.result _ IsOfMachine c.from_residual.ensures.1
+    (manifest_of_machine c.in_err-manifest.field-0.0 (c.in_err-manifest.ensures.opened
+    (record { id = facts.id; version = h.version }) honest h.manifest))
+
+-- and so are the files that the version names
+pub returns-in_err-parts-clause-opened : goal.returns-in_err-parts-clause-opened
+returns-in_err-parts-clause-opened g c = λ facts list honest h.
+    let s0 = g.D.Disk.state c.args.disk.now in
+    let s1 = g.D.Disk.state c.open.new.disk in
+    let is = c.version_is_one.ensures.lawful (record { id = facts.id; version = h.version })
+    (contents s0) h.manifest in
+    let held = c.in_ok-manifest.ensures.opened (record { id = facts.id; version = h.version })
+    honest h.manifest in
+    let ask = asked s0 s1 (c.open.ensures.kept.files honest) facts list h is c.state.result.now
+    (c.state.ensures ∙ held.knows) in
+    refuses c.from_residual-in_err-parts.result _ IsOfMachine
+    c.from_residual-in_err-parts.ensures.1 (c.in_err-parts.ensures.opened (suc facts.kept)
+    (drop facts.kept list) h.tables (c.open.ensures.kept.honest.1 honest) ask.0 ask.1 ask.2)
+
+pub returns-in_err-parts-clause-told : goal.returns-in_err-parts-clause-told
+returns-in_err-parts-clause-told g c = λ honest.
+    let left = contents (g.D.Disk.state c.args.disk.now) in
+    let had = (c.in_ok-manifest.ensures.told honest).had in
+    refuses c.from_residual-in_err-parts.result (FilesOpenAs left) (λ e. OpeningRefusal e left)
+    c.from_residual-in_err-parts.ensures.1 (end_explained c.in_err-parts.field-0.0 left
+    c.in_err-parts.ensures.causes (c.version_is_one.ensures.created _ left had))
+
+pub returns-in_err-parts-clause-still : goal.returns-in_err-parts-clause-still
+returns-in_err-parts-clause-still g c = λ honest.
+    still_more (c.open.ensures.still honest)
+    (c.read_parts.ensures.still (c.open.ensures.kept.honest.1 honest))
+
+pub returns-clause-still : goal.returns-clause-still
+returns-clause-still g c = λ honest.
+    still_more (c.open.ensures.still honest)
+    (c.read_parts.ensures.still (c.open.ensures.kept.honest.1 honest))
+
+-- the slots represented the version, and the files were those that it names
+pub returns-clause-told : goal.returns-clause-told
+returns-clause-told g c = λ honest.
+    let s0 = g.D.Disk.state c.args.disk.now in
+    let s1 = g.D.Disk.state c.open.new.disk in
+    let s2 = g.D.Disk.state c.read_parts.new.disk in
+    let parts = c.in_ok-parts.parts in
+    let had = (c.in_ok-manifest.ensures.told honest).had in
+    opens_as s0 s1 s2 (c.open.ensures.kept.files honest) c.in_ok-manifest.manifest parts
+    (c.version_is_one.ensures.lawful _ (contents s0) had) had
+    (subst (λ (n : NodeVersion). WereParts s1 s2 n.version parts) c.state.ensures
+    (c.in_ok-parts.ensures.told (c.open.ensures.kept.honest.1 honest)))
+
+-- and hold the list that they represented
+pub returns-clause-opened : goal.returns-clause-opened
+returns-clause-opened g c = λ facts list honest h.
+    let s0 = g.D.Disk.state c.args.disk.now in
+    let s1 = g.D.Disk.state c.open.new.disk in
+    let s2 = g.D.Disk.state c.read_parts.new.disk in
+    let manifest = c.in_ok-manifest.manifest in
+    let parts = c.in_ok-parts.parts in
+    let honest1 = c.open.ensures.kept.honest.1 honest in
+    let is = c.version_is_one.ensures.lawful (record { id = facts.id; version = h.version })
+    (contents s0) h.manifest in
+    let held = c.in_ok-manifest.ensures.opened (record { id = facts.id; version = h.version })
+    honest h.manifest in
+    let same = c.state.ensures ∙ held.knows in
+    let ask = asked s0 s1 (c.open.ensures.kept.files honest) facts list h is c.state.result.now
+    same in
+    let hold = subst (λ (n : NodeVersion). PartsHold s2 n.version (suc facts.kept)
+    (drop facts.kept list) h.tables parts) same (c.in_ok-parts.ensures.opened (suc facts.kept)
+    (drop facts.kept list) h.tables honest1 ask.0 ask.1 ask.2) in
+    let were = subst (λ (n : NodeVersion). WereParts s1 s2 n.version parts) same
+    (c.in_ok-parts.ensures.told honest1) in
+    let usable = usable_of manifest parts c.in_ok-manifest.ensures.works
+    (subst (λ (n : NodeVersion). AreParts n.version parts) c.state.ensures
+    c.in_ok-parts.ensures.usable) in
+    read_as facts list (contents s0) h c.replays_agree.ensures s2 manifest parts usable
+    (slots_stay c.held_versions_are_left.ensures.same s1 s2 manifest
+    (record { id = facts.id; version = h.version }) h.version is held were.others) hold

@@ -1,0 +1,167 @@
+use Rattle.std.proofs.Common.{◌≡◌, ◌-◌, ◌+◌, ℕ, List, length, sym, ap, arith, subst, ◌∙◌}
+use Rattle.disk.specs.{contents}
+use Rattle.disk.specs.StillLemmas.{still_more}
+use Rattle.manifest.specs.declared.TableLine.{TableLine}
+use Rattle.manifest.specs.{IsVersion, NodeVersion}
+use Rattle.engine.specs.Errors.{IsOfMachine}
+use Rattle.engine.specs.LevelTables.{AreTablesOf, HasLength}
+use Rattle.engine.specs.OpenFiles.{AreOrderedNumbers}
+use Rattle.engine.specs.Settling.{AreSynced, AreThere}
+use Rattle.std.specs.Prelude.{All}
+use Rattle.engine.proofs.Causes.{refuses}
+use Rattle.engine.proofs.Parts.{held_count, logs_in}
+use Rattle.engine.proofs.ReadParts.{batches_same, begins_at, others_settle}
+use Rattle.engine.proofs.ReadParts.{replayed_same, tables_are_there, tables_durable, tables_now}
+use Rattle.engine.proofs.Records.{not_true}
+use Rattle.engine.proofs.ReadParts.{synced_reads, tables_then, were_long}
+use Rattle.engine.proofs.opening.read_parts.Goals as goal
+
+-- the files of tables that are named are there
+pub returns-in_err-sync_tables-clause-opened : goal.returns-in_err-sync_tables-clause-opened
+returns-in_err-sync_tables-clause-opened g c = λ first batches tables honest had read ordered.
+    let disk = g.D.Disk.state c.args.disk.now in
+    let lines : c.deref.result.now ≡ c.args.version.now.version.tables =
+    c.deref.ensures.value ∙ ap (λ (v : NodeVersion). v.version.tables) c.version.view_is in
+    refuses c.from_residual.result _ IsOfMachine c.from_residual.ensures.1
+    (c.in_err-sync_tables.ensures.there honest
+    (subst (AreThere disk) (sym lines)
+    (tables_are_there disk c.args.version.now.version.tables tables read)))
+
+-- the tables' syncs leave the batches as they are
+pub returns-in_err-logs-clause-opened : goal.returns-in_err-logs-clause-opened
+returns-in_err-logs-clause-opened g c = λ first batches tables honest had read ordered.
+    let s1 = g.D.Disk.state c.args.disk.now in
+    let s2 = g.D.Disk.state c.sync_tables.new.disk in
+    let honest2 = c.sync_tables.ensures.kept.honest.1 honest in
+    let same = synced_reads s1 s2 c.deref.result.now (c.in_ok-sync_tables.ensures.synced honest) in
+    refuses c.from_residual-in_err-logs.result _ IsOfMachine
+    c.from_residual-in_err-logs.ensures.1 (c.in_err-logs.ensures.opened first batches honest2
+    (batches_same (contents s1) (contents s2) same c.args.version.now.version.logs first batches
+    had))
+
+pub returns-in_err-logs-clause-still : goal.returns-in_err-logs-clause-still
+returns-in_err-logs-clause-still g c = λ honest.
+    still_more (c.sync_tables.ensures.still honest)
+    (c.open_logs.ensures.still (c.sync_tables.ensures.kept.honest.1 honest))
+
+pub returns-in_err-tables-clause-still : goal.returns-in_err-tables-clause-still
+returns-in_err-tables-clause-still g c = λ honest.
+    let honest2 = c.sync_tables.ensures.kept.honest.1 honest in
+    still_more (still_more (c.sync_tables.ensures.still honest) (c.open_logs.ensures.still honest2))
+    (c.open.ensures.still (c.open_logs.ensures.kept.honest.1 honest2))
+
+pub returns-then-not-are_ordered-clause-still : goal.returns-then-not-are_ordered-clause-still
+returns-then-not-are_ordered-clause-still g c = λ honest.
+    let honest2 = c.sync_tables.ensures.kept.honest.1 honest in
+    still_more (still_more (c.sync_tables.ensures.still honest) (c.open_logs.ensures.still honest2))
+    (c.open.ensures.still (c.open_logs.ensures.kept.honest.1 honest2))
+
+pub returns-clause-still : goal.returns-clause-still
+returns-clause-still g c = λ honest.
+    let honest2 = c.sync_tables.ensures.kept.honest.1 honest in
+    still_more (still_more (c.sync_tables.ensures.still honest) (c.open_logs.ensures.still honest2))
+    (c.open.ensures.still (c.open_logs.ensures.kept.honest.1 honest2))
+
+-- the logs' syncs leave the tables as they are
+pub returns-in_err-tables-clause-opened : goal.returns-in_err-tables-clause-opened
+returns-in_err-tables-clause-opened g c = λ first batches tables honest had read ordered.
+    let s1 = g.D.Disk.state c.args.disk.now in
+    let s2 = g.D.Disk.state c.sync_tables.new.disk in
+    let s3 = g.D.Disk.state c.open_logs.new.disk in
+    let honest2 = c.sync_tables.ensures.kept.honest.1 honest in
+    let honest3 = c.open_logs.ensures.kept.honest.1 honest2 in
+    let version = c.args.version.now.version in
+    let is = subst (λ (v : NodeVersion). IsVersion v.version) c.version.view_is
+    c.version.invariant in
+    let lines : c.deref.result.now ≡ version.tables =
+    c.deref.ensures.value ∙ ap (λ (v : NodeVersion). v.version.tables) c.version.view_is in
+    let lines2 : c.deref-2.result.now ≡ version.tables =
+    c.deref-2.ensures.value ∙ ap (λ (v : NodeVersion). v.version.tables) c.version.view_is in
+    let synced = subst (AreSynced s1 s2) lines (c.in_ok-sync_tables.ensures.synced honest) in
+    refuses c.from_residual-in_err-tables.result _ IsOfMachine
+    c.from_residual-in_err-tables.ensures.1 (c.in_err-tables.ensures.opened tables honest3
+    (subst (λ (l : List TableLine). AreTablesOf (contents s3) l tables) (sym lines2)
+    (tables_then version is s1 s2 s3 synced (c.in_ok-logs.ensures.others honest2) tables read)))
+
+-- the numbers are those of the batches
+pub returns-then-not-are_ordered-clause-opened : goal.returns-then-not-are_ordered-clause-opened
+returns-then-not-are_ordered-clause-opened g c = λ first batches tables honest had read ordered.
+    let s1 = g.D.Disk.state c.args.disk.now in
+    let s2 = g.D.Disk.state c.sync_tables.new.disk in
+    let s3 = g.D.Disk.state c.open_logs.new.disk in
+    let honest2 = c.sync_tables.ensures.kept.honest.1 honest in
+    let version = c.args.version.now.version in
+    let logs = c.in_ok-logs.logs in
+    let same = synced_reads s1 s2 c.deref.result.now (c.in_ok-sync_tables.ensures.synced honest) in
+    let held = (c.in_ok-logs.ensures.opened first batches honest2
+    (batches_same (contents s1) (contents s2) same version.logs first batches had)).0 in
+    let trimmed : c.saturating_sub-trimmed.result ≡ first - 1 = c.saturating_sub-trimmed.ensures
+    ∙ ap (λ (n : ℕ). n - 1) (c.first_number.ensures ∙ begins_at s3 logs first batches held) in
+    let long = held_count s3 logs first batches held in
+    let last = c.last_number.ensures in
+    let positive = had.positive in
+    let count : c.last_number.result ≡ first - 1 + length batches =
+    omega (arith, last, long, positive) in
+    absurd (not_true (sym c.if-not-are_ordered.true ∙ c.are_ordered.ensures.1
+    (subst (λ (t : ℕ). AreOrderedNumbers version t c.last_number.result) (sym trimmed)
+    (subst (AreOrderedNumbers version (first - 1)) (sym count) ordered))))
+
+-- what was read is what the files had
+pub returns-clause-told : goal.returns-clause-told
+returns-clause-told g c = λ honest.
+    let s1 = g.D.Disk.state c.args.disk.now in
+    let s2 = g.D.Disk.state c.sync_tables.new.disk in
+    let s3 = g.D.Disk.state c.open_logs.new.disk in
+    let s4 = g.D.Disk.state c.open.new.disk in
+    let honest2 = c.sync_tables.ensures.kept.honest.1 honest in
+    let honest3 = c.open_logs.ensures.kept.honest.1 honest2 in
+    let version = c.args.version.now.version in
+    let is = subst (λ (v : NodeVersion). IsVersion v.version) c.version.view_is
+    c.version.invariant in
+    let lines : c.deref.result.now ≡ version.tables =
+    c.deref.ensures.value ∙ ap (λ (v : NodeVersion). v.version.tables) c.version.view_is in
+    let lines2 : c.deref-2.result.now ≡ version.tables =
+    c.deref-2.ensures.value ∙ ap (λ (v : NodeVersion). v.version.tables) c.version.view_is in
+    let synced = subst (AreSynced s1 s2) lines (c.in_ok-sync_tables.ensures.synced honest) in
+    let others = c.in_ok-logs.ensures.others honest2 in
+    record {
+      had = replayed_same (contents s2) (contents s1)
+          (λ file. sym (synced_reads s1 s2 version.tables synced file)) version.logs version.flushed
+          c.in_ok-logs.logs c.in_ok-logs.memtable (c.in_ok-logs.ensures.told honest2);
+      long = were_long version is s1 s2 s3 synced others
+          (subst (All (HasLength (contents s3))) lines2 (c.in_ok-tables.ensures.long honest3));
+      others = others_settle version is s1 s2 s3 synced others s4
+          (c.open.ensures.kept.files honest3);
+    }
+
+-- the parts hold what the files had
+pub returns-clause-opened : goal.returns-clause-opened
+returns-clause-opened g c = λ first batches tables honest had read ordered.
+    let s1 = g.D.Disk.state c.args.disk.now in
+    let s2 = g.D.Disk.state c.sync_tables.new.disk in
+    let s3 = g.D.Disk.state c.open_logs.new.disk in
+    let s4 = g.D.Disk.state c.open.new.disk in
+    let honest2 = c.sync_tables.ensures.kept.honest.1 honest in
+    let honest3 = c.open_logs.ensures.kept.honest.1 honest2 in
+    let version = c.args.version.now.version in
+    let is = subst (λ (v : NodeVersion). IsVersion v.version) c.version.view_is
+    c.version.invariant in
+    let lines : c.deref.result.now ≡ version.tables =
+    c.deref.ensures.value ∙ ap (λ (v : NodeVersion). v.version.tables) c.version.view_is in
+    let lines2 : c.deref-2.result.now ≡ version.tables =
+    c.deref-2.ensures.value ∙ ap (λ (v : NodeVersion). v.version.tables) c.version.view_is in
+    let synced = subst (AreSynced s1 s2) lines (c.in_ok-sync_tables.ensures.synced honest) in
+    let others = c.in_ok-logs.ensures.others honest2 in
+    let same = c.open.ensures.kept.files honest3 in
+    let held = c.in_ok-logs.ensures.opened first batches honest2
+    (batches_same (contents s1) (contents s2) (synced_reads s1 s2 version.tables synced)
+    version.logs first batches had) in
+    record {
+      logs = logs_in s3 s4 c.in_ok-logs.logs first batches same held.0;
+      entries = held.1;
+      read = tables_now version is s1 s2 s3 synced others s4 same tables read;
+      served = c.in_ok-tables.ensures.opened tables honest3
+          (subst (λ (l : List TableLine). AreTablesOf (contents s3) l tables) (sym lines2)
+          (tables_then version is s1 s2 s3 synced others tables read));
+      durable = tables_durable version is s1 s2 s3 synced others s4 same;
+    }
