@@ -19,8 +19,10 @@ pub use Rattle.manifest.specs.Errors.{IsManifestExternal, ManifestFailsDevice}
 pub use Rattle.manifest.specs.Laws.{HeldVersionIsLeft, HeldVersionStays, VersionIsOne}
 pub use Rattle.manifest.specs.Laws.{VersionsAreLawful}
 pub use Rattle.manifest.specs.Lawful.{IsVersion}
-pub use Rattle.manifest.specs.Manifests.{ManifestHasFailed, ManifestHasNoRoom, ManifestHolds}
-pub use Rattle.manifest.specs.Manifests.{counting_file, generation_of, spare_file, version_of}
+pub use Rattle.manifest.specs.Manifests.{HasFullSlot, HasLongSlot, ManifestHasFailed}
+pub use Rattle.manifest.specs.Manifests.{ManifestHasNoRoom, ManifestHolds, NoRoomIsFull}
+pub use Rattle.manifest.specs.Manifests.{SlotsReachGates, counting_file, first_edit_length}
+pub use Rattle.manifest.specs.Manifests.{generation_of, slot_length, spare_file, version_of}
 pub use Rattle.manifest.specs.Slots.{IsNotCreated, IsSlot, IsSlotFile, IsSuperseded}
 pub use Rattle.manifest.specs.Slots.{ManifestRepresents, SlotsAreLeft, SlotsRepresent, other_slot}
 pub use Rattle.manifest.specs.Versions.{Change, IsFit, NodeVersion, StoreVersion, changed}

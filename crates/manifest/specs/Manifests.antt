@@ -1,13 +1,14 @@
 -- An open manifest, and the version that its slots represent.
-use Rattle.std.specs.Prelude.{◌≡◌, ◌≢◌, ℕ, List, [], map, All, IsTrue}
+use Rattle.std.specs.Prelude.{◌≡◌, ◌≢◌, ℕ, ◌+◌, ◌*◌, ◌<◌, ◌≤◌, List, [], length, map, All}
+use Rattle.std.specs.Prelude.{IsSomeAnd, IsTrue}
 use Rattle.chain_model.specs.{IsId}
-use Rattle.disk.specs.{State, Contents}
-use Rattle.record_log.specs.{file_of}
-use Rattle.record_log.specs.{HasNoRoom}
+use Rattle.disk.specs.{Contents, EndsOutOfRange, State, seen}
+use Rattle.record_log.specs.declared.log.TheConstants.{MAX_RECORD}
+use Rattle.record_log.specs.{HasNoRoom, file_of, first_length, gate_of}
 use Rattle.manifest.specs.declared.manifest.Manifest.{Manifest}
 use Rattle.manifest.specs.declared.error.ManifestError.{ManifestError}
 use Rattle.manifest.specs.declared.error.ManifestError.TheVariants as manifest
-use Rattle.manifest.specs.Versions.{NodeVersion, Change, empty, AreFit, after_all}
+use Rattle.manifest.specs.Versions.{NodeVersion, Change, empty, AreFit, IsFit, after_all}
 use Rattle.manifest.specs.Edits.{IsChange, change_text}
 use Rattle.manifest.specs.Slots.{IsNotCreated, IsSlotFile, ManifestRepresents, other_slot}
 use Rattle.manifest.specs.Holds.{SlotsHold}
@@ -34,6 +35,21 @@ spare_file manifest = other_slot manifest.slots.slot
 -- the slot that counts has this generation
 abbrev pub generation_of : Manifest → ℕ
 generation_of manifest = manifest.slots.generation
+
+-- the length of the slot that counts, up to its closed gate, and that of its first record
+abbrev pub slot_length : Manifest → ℕ
+slot_length manifest = gate_of manifest.slots.log + 1
+
+abbrev pub first_edit_length : Manifest → ℕ
+first_edit_length manifest = first_length manifest.slots.log
+
+-- the slot that counts is so long that a rewrite is due
+abbrev pub HasLongSlot : Manifest → Type 0
+HasLongSlot manifest = 2 * first_edit_length manifest + 65536 < slot_length manifest
+
+-- one more record of the greatest length would end past the greatest place of a file
+abbrev pub HasFullSlot : Manifest → Type 0
+HasFullSlot manifest = EndsOutOfRange (gate_of manifest.slots.log) (MAX_RECORD + 6)
 
 -- the manifest works, the slots hold edits that give the version, and it knows that version
 pub record ManifestHolds (disk : State) (manifest : Manifest) (named : NodeVersion) : Type 0 where
@@ -66,3 +82,15 @@ abbrev pub ManifestHasSlots : Type 0
 ManifestHasSlots = (disk : State) (manifest : Manifest) (named : NodeVersion) →
     ManifestHolds disk manifest named →
     IsSlotFile (counting_file manifest) × IsSlotFile (spare_file manifest)
+
+-- the slot that counts is a file that reaches to the closed gate
+abbrev pub SlotsReachGates : Type 0
+SlotsReachGates = (disk : State) (manifest : Manifest) (named : NodeVersion) →
+    ManifestHolds disk manifest named → IsSomeAnd (seen (disk (counting_file manifest)))
+    (λ bytes. slot_length manifest ≤ length bytes)
+
+-- where an edit that the version may take has no room, the slot is full
+abbrev pub NoRoomIsFull : Type 0
+NoRoomIsFull = (manifest : Manifest) (change : Change) →
+    IsFit (version_of manifest).version change → IsChange change →
+    ManifestHasNoRoom manifest change → HasFullSlot manifest

@@ -4,10 +4,10 @@ ghost use Rattle.manifest.specs.Edits.{ChangesDiffer};
 ghost use Rattle.manifest.specs.Examples.{FirstSlotIs, TableIs};
 ghost use Rattle.manifest.specs.Laws.{HeldVersionIsLeft, HeldVersionStays};
 ghost use Rattle.manifest.specs.Laws.{VersionIsOne, VersionsAreCreated, VersionsAreLawful};
-ghost use Rattle.manifest.specs.Manifests.{ManifestHasSlots};
+ghost use Rattle.manifest.specs.Manifests.{ManifestHasSlots, NoRoomIsFull, SlotsReachGates};
 
 use configurations::laws::test_decides_config;
-use record_log::records_are_unique;
+use record_log::{gates_are_in_files, records_are_unique};
 
 /// No two edits have one spelling.
 pub fn changes_differ()
@@ -37,6 +37,14 @@ pub fn held_versions_are_left()
     ensures left { HeldVersionIsLeft }
     ensures same { HeldVersionStays }
 {}
+
+/// The slot that counts reaches to its closed gate, and an edit lacks room only where it is full.
+pub fn slots_reach_gates()
+    ensures reach { SlotsReachGates }
+    ensures full { NoRoomIsFull }
+{
+    gates_are_in_files(); // law: a log's gate is within its file
+}
 
 /// A new slot, a table that is added and one that is given up, byte by byte.
 pub fn examples()

@@ -1,9 +1,9 @@
 // The manifest of a store.
-ghost use Rattle.std.specs.Prelude.{◌≡◌, ◌⊎◌, ◌<◌, ◌≤◌, length, IfOk, MatchResult, IsErrOf};
-ghost use Rattle.std.specs.Prelude.{IsNone};
+ghost use Rattle.std.specs.Prelude.{◌≡◌, ◌⊎◌, ◌↔◌, ◌+◌, ◌<◌, ◌≤◌, length, IfOk, MatchResult};
+ghost use Rattle.std.specs.Prelude.{IsErrOf, IsNone, IsTrue, OnOk};
 ghost use Rattle.kv_types.specs.declared.bounds.TheConstants.{MAX_NUMBER};
 ghost use Rattle.record_log.specs.declared.log.TheConstants.{MAX_RECORD};
-ghost use Rattle.disk.specs.{AlwaysLeaves, IsSameBut, IsStill, KeepsDisk, contents, seen};
+ghost use Rattle.disk.specs.{AlwaysLeaves, IsSameBut, IsStill, KeepsDisk, State, contents, seen};
 ghost use Rattle.manifest.specs.Errors.{ManifestFailsDevice, IsManifestExternal};
 ghost use Rattle.manifest.specs.Versions.{NodeVersion, IsFit, first_version, node_version_after};
 ghost use Rattle.manifest.specs.Edits.{IsChange};
@@ -11,7 +11,7 @@ ghost use Rattle.manifest.specs.Lawful.{IsWholeEdit};
 ghost use Rattle.manifest.specs.Slots.{SlotsAreLeft, ManifestRepresents};
 ghost use Rattle.manifest.specs.Holds.{SparesOthers};
 ghost use Rattle.manifest.specs.Manifests.{ManifestHolds, ManifestHasFailed, ManifestHasNoRoom};
-ghost use Rattle.manifest.specs.Manifests.{IsOpenedManifest, ManifestRefusal};
+ghost use Rattle.manifest.specs.Manifests.{HasLongSlot, IsOpenedManifest, ManifestRefusal};
 ghost use Rattle.manifest.specs.Manifests.{counting_file, generation_of, spare_file, version_of};
 
 use crate::changed::version_after;
@@ -74,6 +74,15 @@ impl Manifest {
         ensures { result ≡ generation_of self.now }
     {
         self.slots.generation()
+    }
+
+    /// Whether the slot that counts is so long that a rewrite is due: longer, up to its closed gate,
+    /// than twice its first edit and 65,536 bytes.
+    pub fn has_long_slot(&self) -> bool
+        ensures { (disk : State) (named : NodeVersion) → ManifestHolds disk self.now named →
+            IsTrue result ↔ HasLongSlot self.now }
+    {
+        self.slots.is_long()
     }
 
     /// Creates the manifest of a new node on a disk without slots. Its log, file 3, was created
@@ -170,7 +179,9 @@ impl Manifest {
         requires room { generation_of self.old < MAX_NUMBER }
         ensures kept { KeepsDisk D.Disk disk.old disk.new (ManifestFailsDevice result) ⊥
             (IsSameBut (spare_file self.old)) }
-        ensures told { version_of self.new ≡ version_of self.old }
+        ensures told { (version_of self.new ≡ version_of self.old)
+            × OnOk result ((generation_of self.new ≡ generation_of self.old + 1)
+            × (ManifestHasFailed self.new → ⊥)) }
         ensures failed { ManifestHasFailed self.old → IsErrOf result ManifestError.Failed }
         ensures rewritten { (named : NodeVersion) → D.is_honest disk.old →
             ManifestHolds (D.state disk.old) self.old named → MatchResult result

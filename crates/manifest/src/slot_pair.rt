@@ -1,12 +1,13 @@
 // The two slots of a store, as files of records.
-ghost use Rattle.std.specs.Prelude.{◌≡◌, ◌⊎◌, ℕ, ◌<◌, ◌≤◌, ◌^◌, List, [], ◌∷◌, ◌++◌, length};
+ghost use Rattle.std.specs.Prelude.{◌≡◌, ◌⊎◌, ◌↔◌, ℕ, ◌+◌, ◌*◌, ◌<◌, ◌≤◌, ◌^◌, List, [], ◌∷◌};
+ghost use Rattle.std.specs.Prelude.{◌++◌, IsTrue, length};
 ghost use Rattle.std.specs.Prelude.{IfOk, IfErr, OnOk, MatchResult, IsNone};
 ghost use Rattle.std.specs.Int.{w16, w32, w64, to_be_bytes};
 ghost use Rattle.kv_types.specs.declared.bounds.TheConstants.{MAX_NUMBER};
-ghost use Rattle.disk.specs.{AlwaysLeaves, IsSameBut, KeepsDisk, seen};
+ghost use Rattle.disk.specs.{AlwaysLeaves, IsSameBut, KeepsDisk, State, seen};
 ghost use Rattle.record_log.specs.declared.log.TheConstants.{MAX_RECORD};
 ghost use Rattle.record_log.specs.{DeviceFailed, HasNoRoom};
-ghost use Rattle.record_log.specs.{IsExpected, IsExternal, file_of};
+ghost use Rattle.record_log.specs.{IsExpected, IsExternal, file_of, first_length, gate_of};
 ghost use Rattle.manifest.specs.Slots.{SlotsAreLeft, SlotsRepresent, other_slot};
 ghost use Rattle.manifest.specs.Holds.{SlotsHold, SparesOthers, closed_slot};
 
@@ -15,7 +16,7 @@ use crate::head::CountingSlot;
 use crate::replace::replace;
 use byte_fields::{put_u32, put_u64};
 use disk::Disk;
-use record_log::{Log, LogError};
+use record_log::{Log, LogError, gates_are_in_files};
 use std::alloc::{AllocError, Global};
 
 /// The two slots of a store: one counts, and its log has records.
@@ -119,6 +120,18 @@ impl SlotPair {
         self.generation
     }
 
+    /// Whether the slot that counts is longer, up to its closed gate, than twice its first record
+    /// and 65,536 bytes.
+    pub fn is_long(&self) -> bool
+        ensures { (disk : State) (id : ℕ) (records : List (List ℕ)) →
+            SlotsHold disk self.now id records →
+            IsTrue result ↔ (2 * first_length self.now.log + 65536 < gate_of self.now.log + 1) }
+    {
+        gates_are_in_files(); // law: a log's gate is within its file
+        let first = self.log.first_len() as u64;
+        self.log.gate() + 1 > first.saturating_mul(2).saturating_add(65_536)
+    }
+
     /// Adds a record to the slot that counts. Four device calls.
     pub fn record<D: Disk>(
         &mut self,
@@ -165,6 +178,7 @@ impl SlotPair {
         ensures rewritten { (id : ℕ) (records : List (List ℕ)) → D.is_honest disk.old →
             SlotsHold (D.state disk.old) self.old id records → MatchResult result
             (λ _. SlotsHold (D.state disk.new) self.new id (one.now ∷ [])) IsExternal }
+        ensures next { OnOk result (self.new.generation ≡ self.old.generation + 1) }
     {
         let generation = self.generation + 1;
         let other = 3u64.saturating_sub(self.slot);

@@ -1,7 +1,7 @@
 -- An open log, and the file that it represents.
 use Rattle.std.specs.Prelude.{◌≡◌, ◌⊎◌, ℕ, ◌+◌, ◌<◌, ◌≤◌, ◌^◌, List, [], ◌∷◌, ◌++◌, length, take}
 use Rattle.std.specs.Prelude.{drop, Result, Ok, Err, IfErr, Option, Some, None, IsNone, IfSome}
-use Rattle.std.specs.Prelude.{IsSomeAnd, IsTrue}
+use Rattle.std.specs.Prelude.{IsSomeAnd, IsTrue, slice_index_or, ◌-◌}
 use Rattle.disk.specs.declared.DiskError.TheVariants as disk
 use Rattle.disk.specs.{State, seen, EndsOutOfRange}
 use Rattle.record_log.specs.declared.error.LogError.{LogError}
@@ -32,6 +32,10 @@ HasNoRoom log one = EndsOutOfRange (gate_of log) (length one + 6)
 -- the number of records of the log
 abbrev pub count_of : Log → ℕ
 count_of log = length log.ends.items
+
+-- the length of its first record in bytes, or 0 where it has none
+abbrev pub first_length : Log → ℕ
+first_length log = slice_index_or log.ends.items 0 0 - 5
 
 -- an append has failed, so the log has to be opened again
 abbrev pub HasFailed : Log → Type 0
@@ -184,6 +188,11 @@ Appended limit result old new one untouched =
 -- the limit of a record as a number
 abbrev pub RecordBoundIs : Type 0
 RecordBoundIs = MAX_RECORD ≡ 16777216
+
+-- it is that of the first record that the log holds
+abbrev pub FirstLengthIs : Type 0
+FirstLengthIs = (disk : State) (log : Log) (one : List ℕ) (others : List (List ℕ)) →
+    LogHolds disk log (one ∷ others) → first_length log ≡ length one
 
 -- the closed gate of a log is within its file
 abbrev pub GatesAreInFiles : Type 0

@@ -9,5 +9,5 @@ mod push;
 mod scan;
 
 pub use error::LogError;
-pub use laws::{gates_are_in_files, record_bound_is, records_are_unique};
+pub use laws::{first_lengths_are, gates_are_in_files, record_bound_is, records_are_unique};
 pub use log::{Log, OpenedLog};

@@ -11,7 +11,8 @@ ghost use Rattle.record_log.specs.Logs.{OpenOutcome, Appended, IsExpected};
 ghost use Rattle.record_log.specs.Logs.{IsExternal, IsArgumentError};
 ghost use Rattle.record_log.specs.Logs.{IsOldOrNewFrom, EndsInRange, begun, file_of, start_of};
 ghost use Rattle.record_log.specs.Logs.{IsDurableLog};
-ghost use Rattle.record_log.specs.Logs.{gate_of, count_of, HasFailed, HasNoRoom, HasRead};
+ghost use Rattle.record_log.specs.Logs.{gate_of, count_of, first_length, HasFailed, HasNoRoom};
+ghost use Rattle.record_log.specs.Logs.{HasRead};
 
 use crate::LogError;
 use crate::push::push;
@@ -124,6 +125,10 @@ impl Log {
             (IsDurableAs (D.state disk.new) file (begun (seen (D.state disk.old file)))) }
         ensures at { IfOk result (IsAt file 0) }
         ensures empty { IfOk result (λ log. (gate_of log ≡ 0) × (count_of log ≡ 0)) }
+
+        // A crash at any moment since the call began leaves each other file as it was.
+        ensures any_moment { D.is_honest disk.old → AlwaysLeaves D.Disk disk.old disk.new
+            (IsLeftAt (D.state disk.old) file (λ left. Unit {0})) }
     {
         disk.write_at(file, 0, &[0])?;
         disk.sync(file)?;
@@ -195,11 +200,21 @@ impl Log {
         self.ends.len()
     }
 
-    // The place of the closed gate. It is at most 2^64 - 2.
-    fn gate(&self) -> u64
+    /// The length of the first record in bytes, or 0 where the log has none.
+    pub fn first_len(&self) -> usize
+        ensures { result ≡ first_length self.now }
+    {
+        match self.ends.first() {
+            Some(end) => end.saturating_sub(5),
+            None => 0,
+        }
+    }
+
+    /// The place of the closed gate, in the file; what stands behind it means nothing. It is at most
+    /// 2^64 - 2.
+    pub fn gate(&self) -> u64
         ensures below { result + 1 < 2 ^ 64 }
-        ensures gate { self.now.start + self.now.end + 1 < 2 ^ 64 →
-            result ≡ self.now.start + self.now.end }
+        ensures gate { gate_of self.now + 1 < 2 ^ 64 → result ≡ gate_of self.now }
     {
         self.start.saturating_add(self.end as u64).min(u64::MAX - 1)
     }
