@@ -4,7 +4,7 @@ use crate::items::{Change, batch_of, config_of, id_of, key_of, number};
 use configurations::{Configs, NodeId};
 use disk::{Fault, Junk, JunkBytes};
 use kv_types::Limits;
-use lab::{Event, EventKind, Line, NodeReport, Report, World, names_nodes, run};
+use lab::{Event, EventKind, Line, NodeReport, Report, Tended, World, names_nodes, run};
 use node::Stop;
 use std::alloc::{AllocError, Global};
 use std::process::Abort;
@@ -16,6 +16,7 @@ pub enum Step {
     Get(u16, Option<u64>),
     Deliver(u64),
     Tick(u16),
+    Tend(u16),
     Start(u16),
     /// The junk is bytes.
     Stop(u16, &'static [u8]),
@@ -48,6 +49,9 @@ fn kind_of(rt: &impl Abort, alloc: Global, step: &Step) -> EventKind {
         Step::Tick(node) => EventKind::Tick {
             node: id_of(rt, node),
         },
+        Step::Tend(node) => EventKind::Tend {
+            node: id_of(rt, node),
+        },
     }
 }
 
@@ -78,12 +82,17 @@ pub fn names_another(rt: &impl Abort, alloc: Global, ids: &[u16], steps: &[Step]
     !names_nodes(&configs(rt, alloc, ids), &events)
 }
 
+/// The least limits: a log of more than 16 bytes is flushed.
+pub fn limits(rt: &impl Abort) -> Limits {
+    Limits::new(16, 0, 64, 64, 1).ok().expect(rt, "limits")
+}
+
 /// The report of these events in a chain of these nodes, whom they name.
 fn report_of(rt: &impl Abort, alloc: Global, ids: &[u16], steps: &[Step]) -> Report {
     let configs = configs(rt, alloc, ids);
     let events = events_of(rt, alloc, steps);
     assert!(rt; names_nodes(&configs, &events), "no node");
-    run(alloc, &configs, &events, &Limits::default()).expect(rt, "a run")
+    run(alloc, &configs, &events, &limits(rt)).expect(rt, "a run")
 }
 
 fn put_stop(text: &mut String, node: NodeId, cause: Option<Stop>) -> Result<(), AllocError> {
@@ -94,12 +103,21 @@ fn put_stop(text: &mut String, node: NodeId, cause: Option<Stop>) -> Result<(), 
     }
 }
 
+fn tended_text(did: Tended) -> &'static str {
+    match did {
+        Tended::Idle => "idle",
+        Tended::Worked => "tended",
+        Tended::Full => "full",
+    }
+}
+
 fn put_line(text: &mut String, line: &Line) -> Result<(), AllocError> {
     match line {
         Line::Nothing => text.push_str("nothing"),
         Line::Dropped(reason) => write!(text, "dropped {reason:?}"),
         Line::Replied(reply) => put_reply(text, reply),
         Line::Stopped { node, cause } => put_stop(text, *node, *cause),
+        Line::Tended(did) => text.push_str(tended_text(*did)),
         Line::Started {
             node,
             epoch,
@@ -171,8 +189,12 @@ fn put_node(text: &mut String, node: &NodeReport) -> Result<(), AllocError> {
     );
     write!(
         text,
-        "node {id} epoch {epoch} count {count} committed {done} floor {floor} kept {kept}\n"
-    )
+        "node {id} epoch {epoch} count {count} committed {done} floor {floor} kept {kept} tables"
+    )?;
+    for tables in &numbers.tables {
+        write!(text, " {tables}")?;
+    }
+    text.push_str("\n")
 }
 
 /// The trace of all events, an event a line, and then each node.
@@ -231,7 +253,7 @@ fn put_way(rt: &impl Abort, alloc: Global, text: &mut String, world: &mut World,
 
 /// A new world of these nodes.
 pub fn world_of(rt: &impl Abort, alloc: Global, ids: &[u16]) -> World {
-    World::new(alloc, &configs(rt, alloc, ids), &Limits::default()).expect(rt, "a world")
+    World::new(alloc, &configs(rt, alloc, ids), &limits(rt)).expect(rt, "a world")
 }
 
 /// The state of a world of these nodes after each event, and the number of events in its report.

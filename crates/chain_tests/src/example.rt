@@ -56,9 +56,9 @@ const SHOWN: &str = "\
 #2 2>3 forward 0 1
 #3 3>2 ack 0 1 1
 4: value Ada at 1
-node 1 epoch 0 count 1 committed 0 floor 0 kept 0
-node 2 epoch 0 count 1 committed 0 floor 0 kept 0
-node 3 epoch 0 count 1 committed 1 floor 0 kept 0
+node 1 epoch 0 count 1 committed 0 floor 0 kept 0 tables 0 0 0 0 0 0 0
+node 2 epoch 0 count 1 committed 0 floor 0 kept 0 tables 0 0 0 0 0 0 0
+node 3 epoch 0 count 1 committed 1 floor 0 kept 0 tables 0 0 0 0 0 0 0
 ";
 
 fn shows_it(rt: &impl Abort, alloc: Global) -> Result<(), Fail> {

@@ -10,10 +10,14 @@ mod example;
 #[cfg(test)]
 mod items;
 #[cfg(test)]
+mod large_store;
+#[cfg(test)]
 mod nodes;
 #[cfg(test)]
 mod one_node;
 #[cfg(test)]
 mod sweep;
+#[cfg(test)]
+mod tends;
 #[cfg(test)]
 mod three_nodes;

@@ -28,7 +28,7 @@ static RUNS: [Run; 3] = [
 8: refused 4 NotCommitted
 9: committed 3
 10: none at 3
-node 1 epoch 0 count 3 committed 3 floor 0 kept 0
+node 1 epoch 0 count 3 committed 3 floor 0 kept 0 tables 0 0 0 0 0 0 0
 ",
     ),
     // A stop with junk loses nothing.
@@ -62,7 +62,7 @@ node 1 stopped
 node 1 started epoch 0 count 2 committed 2
 12: value 2 at 2
 13: value 1 at 1
-node 1 epoch 0 count 2 committed 2 floor 0 kept 0
+node 1 epoch 0 count 2 committed 2 floor 0 kept 0 tables 0 0 0 0 0 0 0
 ",
     ),
     // A node that runs has its numbers.
@@ -71,7 +71,7 @@ node 1 epoch 0 count 2 committed 2 floor 0 kept 0
         "\
 1: committed 1
 2: committed 2
-node 1 epoch 0 count 2 committed 2 floor 0 kept 0
+node 1 epoch 0 count 2 committed 2 floor 0 kept 0 tables 0 0 0 0 0 0 0
 ",
     ),
 ];

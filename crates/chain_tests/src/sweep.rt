@@ -2,17 +2,18 @@
 // afterwards agrees with one list of batches.
 use crate::answers::is_so;
 use crate::courses::{Step, junk_of, take, world_of};
-use crate::items::{Change, ONE, TWO, key_of};
+use crate::items::{Change, ONE, THREE, TWO, key_of};
 use disk::{Fault, Junk, MemDisk};
 use kv_types::{Batch, Edit, Key, Value, value_at};
 use lab::{Line, Lines, NodeReport, World};
+use manifest::Manifest;
 use node::{Reply, Stop};
 use record_log::Log;
 use std::alloc::Global;
 use std::process::Abort;
 
 // The nodes of a chain, and events.
-static RUNS: [(&[u16], &[Step]); 5] = [
+static RUNS: [(&[u16], &[Step]); 7] = [
     // One node.
     (&[1], &[Step::Submit(1, ONE), Step::Get(1, None)]),
     // A batch goes down the chain and back, and a frame comes twice.
@@ -73,6 +74,41 @@ static RUNS: [(&[u16], &[Step]); 5] = [
             Step::Deliver(5),
             Step::Deliver(6),
             Step::Deliver(7),
+            Step::Get(1, None),
+        ],
+    ),
+    // Batches go to tables, and the node starts over two logs.
+    (
+        &[1],
+        &[
+            Step::Submit(1, ONE),
+            Step::Tend(1),
+            Step::Get(1, None),
+            Step::Submit(1, TWO),
+            Step::Stop(1, b"\x01"),
+            Step::Start(1),
+            Step::Tend(1),
+            Step::Tend(1),
+            Step::Get(1, Some(1)),
+            Step::Submit(1, THREE),
+            Step::Get(1, None),
+        ],
+    ),
+    // A node sends again what it has in a table and in its newest log.
+    (
+        &[1, 2],
+        &[
+            Step::Submit(1, ONE),
+            Step::Tend(1),
+            Step::Submit(1, TWO),
+            Step::Tick(1),
+            Step::Deliver(3),
+            Step::Tend(2),
+            Step::Deliver(4),
+            Step::Deliver(5),
+            Step::Tend(2),
+            Step::Deliver(6),
+            Step::Get(2, Some(1)),
             Step::Get(1, None),
         ],
     ),
@@ -167,13 +203,27 @@ impl Course {
     }
 }
 
-// The records of the log of batches on a disk.
-fn records_on(rt: &impl Abort, alloc: Global, disk: &mut MemDisk) -> Vec<Vec<u8>> {
-    let opened = Log::open(alloc, disk, 3, 0).expect(rt, "a log");
-    let mut records = Vec::new(alloc);
+// Adds the records of the log in this file.
+fn add_records(
+    rt: &impl Abort,
+    alloc: Global,
+    disk: &mut MemDisk,
+    file: u64,
+    records: &mut Vec<Vec<u8>>,
+) {
+    let opened = Log::open(alloc, disk, file, 0).expect(rt, "a log");
     for index in 0..opened.log.len() {
         let record = opened.record(index).to_vec(alloc).expect(rt, "memory");
         records.push(record).expect(rt, "memory");
+    }
+}
+
+// The records of the logs on a disk, of which none is given up.
+fn records_on(rt: &impl Abort, alloc: Global, disk: &mut MemDisk) -> Vec<Vec<u8>> {
+    let manifest = Manifest::open(alloc, disk).expect(rt, "a manifest");
+    let mut records = Vec::new(alloc);
+    for line in &manifest.state().logs {
+        add_records(rt, alloc, disk, line.file, &mut records);
     }
     records
 }

@@ -47,9 +47,9 @@ static RUNS: [Run; 5] = [
 1: committed 1
 8: value 1 at 1
 9: refused 2 NotHead
-node 1 epoch 0 count 1 committed 1 floor 0 kept 0
-node 2 epoch 0 count 1 committed 1 floor 0 kept 0
-node 3 epoch 0 count 1 committed 1 floor 0 kept 0
+node 1 epoch 0 count 1 committed 1 floor 0 kept 0 tables 0 0 0 0 0 0 0
+node 2 epoch 0 count 1 committed 1 floor 0 kept 0 tables 0 0 0 0 0 0 0
+node 3 epoch 0 count 1 committed 1 floor 0 kept 0 tables 0 0 0 0 0 0 0
 ",
     ),
     // A repeated Forward is dropped, and acknowledged again. An old Ack changes nothing.
@@ -77,9 +77,9 @@ dropped OtherNumber / #3 2>1 ack 0 0 1
 
 dropped OtherNumber / #6 3>2 ack 0 1 1
 10: value 1 at 1
-node 1 epoch 0 count 1 committed 1 floor 0 kept 0
-node 2 epoch 0 count 1 committed 1 floor 0 kept 0
-node 3 epoch 0 count 1 committed 1 floor 0 kept 0
+node 1 epoch 0 count 1 committed 1 floor 0 kept 0 tables 0 0 0 0 0 0 0
+node 2 epoch 0 count 1 committed 1 floor 0 kept 0 tables 0 0 0 0 0 0 0
+node 3 epoch 0 count 1 committed 1 floor 0 kept 0 tables 0 0 0 0 0 0 0
 ",
     ),
     // A batch that arrives before the one it follows is dropped, and sent again at a tick.
@@ -105,9 +105,9 @@ dropped OtherNumber / #3 2>1 ack 0 0 0
 #8 3>2 ack 0 0 0
 #9 2>3 forward 0 1 / #10 2>3 forward 0 2 / #11 2>1 ack 0 0 2
 #12 1>2 forward 0 1 / #13 1>2 forward 0 2
-node 1 epoch 0 count 2 committed 0 floor 0 kept 0
-node 2 epoch 0 count 2 committed 0 floor 0 kept 0
-node 3 epoch 0 count 0 committed 0 floor 0 kept 0
+node 1 epoch 0 count 2 committed 0 floor 0 kept 0 tables 0 0 0 0 0 0 0
+node 2 epoch 0 count 2 committed 0 floor 0 kept 0 tables 0 0 0 0 0 0 0
+node 3 epoch 0 count 0 committed 0 floor 0 kept 0 tables 0 0 0 0 0 0 0
 ",
     ),
     // A node that rests drops and refuses. It stops only where an event stops it.
@@ -126,9 +126,9 @@ node 2 started epoch 0 count 0 committed 0
 #2 2>3 forward 0 1
 #3 3>2 ack 0 1 1
 node 2 stopped
-node 1 epoch 0 count 1 committed 0 floor 0 kept 0
+node 1 epoch 0 count 1 committed 0 floor 0 kept 0 tables 0 0 0 0 0 0 0
 node 2 stopped
-node 3 epoch 0 count 1 committed 1 floor 0 kept 0
+node 3 epoch 0 count 1 committed 1 floor 0 kept 0 tables 0 0 0 0 0 0 0
 ",
     ),
     // A place without a frame has no effect.
@@ -148,9 +148,9 @@ nothing
 nothing
 nothing
 #2 2>3 forward 0 1
-node 1 epoch 0 count 1 committed 0 floor 0 kept 0
-node 2 epoch 0 count 1 committed 0 floor 0 kept 0
-node 3 epoch 0 count 0 committed 0 floor 0 kept 0
+node 1 epoch 0 count 1 committed 0 floor 0 kept 0 tables 0 0 0 0 0 0 0
+node 2 epoch 0 count 1 committed 0 floor 0 kept 0 tables 0 0 0 0 0 0 0
+node 3 epoch 0 count 0 committed 0 floor 0 kept 0 tables 0 0 0 0 0 0 0
 ",
     ),
 ];

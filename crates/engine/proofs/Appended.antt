@@ -24,7 +24,7 @@ use Rattle.engine.specs.BatchLogs.{AreLeftWith, AreUsable, HaveBatches, LogsHold
 use Rattle.engine.specs.BatchLogs.{line_of, lines_of, newest_file, next_number, oldest_first}
 use Rattle.engine.specs.OpenFiles.{AreOrderedNumbers, AreUsableFiles, FilesHold, batch_count}
 use Rattle.engine.specs.OpenFiles.{known_facts, known_store, known_version, trimmed_count}
-use Rattle.engine.specs.StoreFiles.{StoreFilesRepresent, store_of_version}
+use Rattle.engine.specs.StoreFiles.{FilesRepresent, store_of_version}
 use Rattle.engine.specs.Stores.{IsNumberedTo}
 use Rattle.engine.specs.declared.error.EngineError.{EngineError}
 use Rattle.engine.specs.Errors.{IsOfMachine}
@@ -37,11 +37,11 @@ use Rattle.engine.proofs.Parts.{whole_left}
 -- ---- the same lines
 
 -- the number of the first batch, by the lines
-abbrev first_in : List LogLine → ℕ
+abbrev pub first_in : List LogLine → ℕ
 first_in [] = 0
 first_in (line ∷ lines) = line.first
 
-first_by_lines : (older : List BatchLog) (newest : BatchLog)
+pub first_by_lines : (older : List BatchLog) (newest : BatchLog)
     → oldest_first older newest ≡ first_in (map line_of older ++ line_of newest ∷ [])
 first_by_lines [] newest = refl
 first_by_lines (one ∷ others) newest = refl
@@ -125,7 +125,7 @@ module _ (disk : State) (files : StoreFiles) (list : List BatchContent)
       → OthersAreLeft left → (more : List BatchContent)
       → HaveBatches left (suc trimmed) (lines_of files.logs) (drop trimmed more)
       → StoreRepresents more (known_store files h.tables) → All IsBatch more
-      → length more ≤ MAX_NUMBER → StoreFilesRepresent (known_facts files) more left
+      → length more ≤ MAX_NUMBER → FilesRepresent (known_facts files) more left
   represented law held left others more logs store each few = record {
     version = version;
     manifest = held disk files.manifest (known_version files) left h.manifest
@@ -149,7 +149,7 @@ module _ (disk : State) (files : StoreFiles) (list : List BatchContent)
   -- whatever a crash leaves now represents the list
   pub left_now : DurableFileIsLeft → HeldVersionIsLeft → (left : Contents)
       → ((other : ℕ) → IsFileOutcome (disk other) (left other))
-      → StoreFilesRepresent (known_facts files) list left
+      → FilesRepresent (known_facts files) list left
   left_now law held left leaves =
       represented law held left (λ other apart. leaves other) list
       (whole_left law disk left files.logs (suc trimmed) (drop trimmed list) h.logs
@@ -165,8 +165,8 @@ module _ (disk : State) (files : StoreFiles) (list : List BatchContent)
     -- the list, or the list with the batch
     abbrev pub OldOrNew : Contents → Type 0
     OldOrNew left =
-        StoreFilesRepresent (known_facts files) list left
-        ⊎ StoreFilesRepresent (known_facts files) longer left
+        FilesRepresent (known_facts files) list left
+        ⊎ FilesRepresent (known_facts files) longer left
 
     pub none_appended : DurableFileIsLeft → HeldVersionIsLeft → (past : List State)
         → LeavesSince disk past disk past OldOrNew

@@ -1,5 +1,5 @@
 -- How a manifest's refusals are told, and what the first files hold.
-use Rattle.std.proofs.Common.{◌≡◌, ◌≢◌, ◌↔◌, ◌≤◌, ◌∙◌, ℕ, suc, List, [], ◌∷◌, drop, arith}
+use Rattle.std.proofs.Common.{◌≡◌, ◌≢◌, ◌↔◌, ◌≤◌, ◌∙◌, ℕ, suc, List, [], ◌∷◌, ◌-◌, drop, arith, refl}
 use Rattle.std.proofs.Common.{Option, Some, None, Result, Ok, Err, ap, inl, inr, subst, sym}
 use Rattle.std.specs.Prelude.{All, Contains, IsErrAnd, IsNone}
 use Rattle.std.proofs.lemmas.List.Elements.{All-nil}
@@ -11,11 +11,13 @@ use Rattle.store_model.specs.Claims.{EmptyRepresents}
 use Rattle.store_model.specs.{StoreRepresents}
 use Rattle.manifest.specs.declared.ManifestError.{ManifestError}
 use Rattle.manifest.specs.declared.ManifestError.TheVariants as manifest
+use Rattle.manifest.specs.declared.LogLine.{LogLine}
 use Rattle.manifest.specs.declared.TableLine.{TableLine}
 use Rattle.manifest.specs.{IsManifestExternal, IsSlotFile, IsVersion, ManifestFailsDevice}
 use Rattle.manifest.specs.{ManifestHasFailed, ManifestHolds, NodeVersion, first_version}
 use Rattle.manifest.specs.Holds.{SparesOthers}
 use Rattle.engine.specs.declared.batch_logs.BatchLog.{BatchLog}
+use Rattle.engine.specs.declared.batch_logs.BatchLogs.{BatchLogs}
 use Rattle.engine.specs.declared.error.EngineError.{EngineError}
 use Rattle.engine.specs.declared.store_files.StoreFiles.{StoreFiles}
 use Rattle.engine.specs.BatchLogs.{HoldsPart, IsWorking, LogsHold, end_of_log, first_number}
@@ -26,8 +28,21 @@ use Rattle.engine.specs.OpenFiles.{AreOrderedNumbers, AreUsableFiles, FilesHold,
 use Rattle.engine.specs.OpenFiles.{known_store, known_version, trimmed_count}
 use Rattle.engine.specs.Settling.{AreAlone}
 use Rattle.engine.specs.StoreFiles.{store_of_version}
-use Rattle.engine.proofs.Entries.{none_have, none_numbered}
+use Rattle.engine.proofs.Entries.{none_among, none_numbered}
 use Rattle.engine.proofs.Parts.{IsAlone, alone_holds, alone_next, alone_usable}
+
+-- a log of file 3 from the first batch on is a new store's only one
+pub first_line : (file first : ℕ) → file ≡ 3 → first ≡ 1 →
+    ◌≡◌ {A = List LogLine} (record { file = file; first = first } ∷ [])
+    (record { file = 3; first = 1 } ∷ [])
+first_line file first in_file is_first = rw (in_file, is_first) refl
+
+-- a log without records that begins with the first batch counts none
+pub counts_none : (logs : BatchLogs) (one : BatchLog) → IsAlone logs one → one.first ≡ 1 →
+    count_of one.log ≡ 0 → next_number logs - 1 ≡ 0
+counts_none logs one alone first count =
+    let next : next_number logs ≡ end_of_log one = alone_next logs one alone in
+    omega (arith, next, first, count)
 
 -- a failure of the device under a manifest is told as one of the disk
 pub manifest_failed : {T U : Type 0} (called : Result T ManifestError) (e : ManifestError)
@@ -74,9 +89,7 @@ module _ (files : StoreFiles) (one : BatchLog) (id : ℕ) (ids : List ℕ)
       omega (arith, older, newest, f.first)
 
   first_count : batch_count files ≡ 0
-  first_count =
-      let next : next_number files.logs ≡ end_of_log one = alone_next files.logs one f.alone in
-      omega (arith, next, f.first, f.count)
+  first_count = counts_none files.logs one f.alone f.first f.count
 
   first_numbers : AreOrderedNumbers (known_version files).version (trimmed_count files)
       (batch_count files)
@@ -139,7 +152,7 @@ module _ (files : StoreFiles) (one : BatchLog) (id : ℕ) (ids : List ℕ)
     store = first_store empty;
     entries = λ entry. (
       λ holds. absurd (f.empty entry holds),
-      λ among. (none_have files.memtable f.empty entry).1 among.2,
+      λ among. absurd (none_among entry among.2),
     );
     count = first_count;
     each = All-nil IsBatch;
@@ -175,7 +188,7 @@ log_is_spared logged made new slots same = same 3 ∙ slots 3 (λ is. elim is [
 ])
 
 -- an absent file ends in range
-absent_ends : (bytes : Option (List ℕ)) → IsNone bytes → EndsInRange bytes
+pub absent_ends : (bytes : Option (List ℕ)) → IsNone bytes → EndsInRange bytes
 absent_ends None none = tt
 absent_ends (Some it) none = absurd cc
 

@@ -1,16 +1,14 @@
 -- Causes of a refusal, by the errors of the layers below.
-use Rattle.std.proofs.Common.{◌≡◌, ◌⊎◌, ℕ, ◌≤◌, List, length, Result, Ok, Err, inl, inr, ap, arith, refl}
+use Rattle.std.proofs.Common.{◌≡◌, ◌⊎◌, ℕ, ◌≤◌, List, length, Result, Ok, Err, inl, inr, ap, arith}
 use Rattle.std.proofs.Common.{subst, sym}
-use Rattle.std.specs.Prelude.{IfErr, IsErrAnd, MatchResult, OnErr, OnOk, IsErrOf}
+use Rattle.std.specs.Prelude.{IfErr, IsErrAnd, MatchResult, OnOk, IsErrOf}
 use Rattle.record_log.specs.declared.LogError.{LogError}
 use Rattle.record_log.specs.declared.LogError.TheVariants as log
 use Rattle.record_log.specs.declared.Log.{Log}
 use Rattle.record_log.specs as log_stands
-use Rattle.memtable.specs.declared.MemtableError.{MemtableError}
-use Rattle.memtable.specs.declared.MemtableError.TheVariants as table
 use Rattle.engine.specs.declared.error.EngineError.{EngineError}
 use Rattle.engine.specs.declared.error.EngineError.TheVariants as engine
-use Rattle.engine.specs.Errors.{error_of_log, error_of_memtable, IsOfMachine}
+use Rattle.engine.specs.Errors.{error_of_log, IsOfMachine}
 
 -- a log that works on its own file reports errors of the machine alone
 pub of_machine : (e : LogError) → log_stands.IsExternal e → IsOfMachine (error_of_log e)
@@ -43,23 +41,6 @@ met limit log.TooLong old new one tells fits works (inr own) =
     let long = tells.1 in
     absurd (omega (arith, long, fits))
 met limit log.Failed old new one tells fits works (inr own) = absurd (works tells.0)
-
--- want of memory is no damage
-pub memory_undamaged : {T : Type 0} (result : Result T EngineError) →
-    IfErr result (λ e. e ≡ engine.Memory) → IsErrOf result engine.Damaged → ⊥
-memory_undamaged (Ok x) only damaged = cc
-memory_undamaged (Err e) only damaged = cc
-
--- a memtable that works refuses for want of memory alone
-pub table_met : {T : Type 0} (result : Result T MemtableError) (e : MemtableError) →
-    result ≡ Err e → (IsErrOf result table.Failed → ⊥) → error_of_memtable e ≡ engine.Memory
-table_met result table.Memory is works = refl
-table_met result table.Failed is works = absurd (works is)
-
--- a property of every result holds of a refusal
-pub on_err : {T E P : Type 0} (result : Result T E) → P → OnErr result P
-on_err (Ok x) p = tt
-on_err (Err e) p = p
 
 -- a property of every result holds of an answer
 pub on_ok : {T E P : Type 0} (result : Result T E) → P → OnOk result P

@@ -1,112 +1,237 @@
--- An engine over the store that it holds, and what its calls keep.
-use Rattle.std.proofs.Common.{◌≡◌, List, Result, Ok, Err}
-use Rattle.std.proofs.Common.{sym, ap, subst, ◌∙◌, Bool, true, false}
-use Rattle.std.specs.Prelude.{IsTrue, OnOk, is_err}
+-- An engine over the files that it holds, and what its calls keep.
+use Rattle.std.proofs.Common.{◌≡◌, ℕ, List, Result, Ok, Err, inl, inr, refl}
+use Rattle.std.proofs.Common.{sym, ap, subst, ◌∙◌, Bool, false}
+use Rattle.std.specs.Prelude.{◌⊎◌, ◌↔◌, IfErr, IfOk, IsErrAnd, IsErrOf, IsTrue, MatchResult, OnOk}
+use Rattle.std.specs.Prelude.{is_err}
 use Rattle.kv_types.specs.{BatchContent}
 use Rattle.disk.specs.declared.Disk.{Ghosts}
-use Rattle.disk.specs.{DurableIsLeft, IsCrashOutcome, IsSame, LeavesSince, contents}
-use Rattle.disk.specs.StillLemmas.{still}
+use Rattle.disk.specs.{Contents, DurableFileIsLeft, IsCrashOutcome, IsSame, LeavesSince}
+use Rattle.disk.specs.{OnlyLeaves, State, contents}
+use Rattle.disk.specs.MomentsLemmas.{started}
+use Rattle.manifest.specs.{HeldVersionIsLeft, HeldVersionStays}
 use Rattle.engine.specs.declared.engine.Engine.{Engine}
 use Rattle.engine.specs.declared.error.EngineError.{EngineError}
-use Rattle.engine.specs.Calls.{Goes, disk_after}
+use Rattle.engine.specs.declared.store_files.StoreFiles.{StoreFiles}
+use Rattle.engine.specs.declared.error.EngineError.TheVariants as engine
+use Rattle.engine.specs.Calls.{ExplainsRefusal, Goes, IsAdrift, IsNoDamage, disk_after}
 use Rattle.engine.specs.Engines.{EngineHolds, EngineReads, HasEnded, IsInMemory, engine_disk}
-use Rattle.engine.specs.Engines.{facts_of}
-use Rattle.engine.specs.Stores.{StoreHolds}
-use Rattle.engine.proofs.Held.{as_read, counts, represented, store_in}
+use Rattle.engine.specs.Engines.{IsNearlyFull, LookUps, facts_of}
+use Rattle.engine.specs.Errors.{EndsEngine, IsEnd, IsOfMachine}
+use Rattle.engine.specs.Files.{Facts}
+use Rattle.engine.specs.OpenFiles.{FilesHold, OpeningRefusal}
+use Rattle.engine.specs.StoreFiles.{FilesRepresent}
+use Rattle.engine.specs.Tending.{TendMayFail}
+use Rattle.engine.proofs.Appended.{left_now}
+use Rattle.engine.proofs.Causes.{on_ok}
+use Rattle.engine.proofs.KeptFiles.{hold_in}
 
--- an engine that was not ended works
-pub not_true : false ≡ true → ⊥
-not_true e = cc
+-- ---- what an answer says
 
+-- an answer leaves an engine that works
 pub works_on_ok : {T : Type 0} (result : Result T EngineError) (ended : Bool) →
     ended ≡ is_err result → OnOk result (IsTrue ended → ⊥)
 works_on_ok (Ok x) ended is = λ h. cc
 works_on_ok (Err e) ended is = tt
 
-module _ {D : Type 0} (g : Ghosts D) where
+-- a call of an engine that works ends it where it is refused, and only there
+module _ {T : Type 0} where
+  pub closed_by : (result : Result T EngineError) (was : Bool) → was ≡ false →
+      IfErr result IsEnd → IsErrOf result engine.Failed ↔ IsTrue was
+  closed_by (Ok x) was off causes = (λ failed. absurd cc, λ h. absurd cc)
+  closed_by (Err e) was off causes = (
+    λ failed.
+        let is : e ≡ engine.Failed = cc in
+        absurd (subst IsEnd is causes),
+    λ h. absurd cc,
+  )
+
+  pub ends_by : (result : Result T EngineError) (was ended : Bool) → was ≡ false →
+      ended ≡ is_err result → IfErr result IsEnd → IsTrue ended ↔ (IsTrue was ⊎ EndsEngine result)
+  ends_by (Ok x) was ended off is causes =
+      (λ h. absurd cc, λ either. elim either [ inl h ↦ absurd cc | inr none ↦ absurd none ])
+  ends_by (Err e) was ended off is causes = (λ h. inr causes, λ either. is)
+
+  pub no_refusal : (result : Result T EngineError) → IfErr result IsEnd →
+      IsErrAnd result (λ e. IsEnd e → ⊥) → ⊥
+  no_refusal (Ok x) causes told = told
+  no_refusal (Err e) causes told = told causes
+
+  -- a fact of each answer, and one of this answer
+  pub on_first : (result : Result T EngineError) (P : Type 0) (Q : T → Type 0) →
+      MatchResult result (λ x. P × Q x) IsOfMachine → OnOk result P
+  on_first (Ok x) P Q both = both.0
+  on_first (Err e) P Q told = tt
+
+  pub on_second : (result : Result T EngineError) (P : Type 0) (Q : T → Type 0) →
+      MatchResult result (λ x. P × Q x) IsOfMachine → MatchResult result Q IsOfMachine
+  on_second (Ok x) P Q both = both.1
+  on_second (Err e) P Q told = told
+
+-- an engine with these facts and so many batches, of which none is known to be committed
+pub told_of : {facts is : Facts} {count number : ℕ} → facts ≡ is → count ≡ number →
+    ◌≡◌ {A = LookUps} (record { facts = facts; count = count; committed = 0 })
+    (record { facts = is; count = number; committed = 0 })
+told_of facts count = rw (facts, count) refl
+
+-- ---- openings
+
+-- damage is no refusal of the machine
+not_of_machine : IsOfMachine engine.Damaged → ⊥
+not_of_machine (inl is) = cc
+not_of_machine (inr is) = cc
+
+-- an answer is as told, and a refusal is no damage
+pub answers_or_machine : {T : Type 0} (result : Result T EngineError) (P : T → Type 0) →
+    MatchResult result P IsOfMachine → IfOk result P × IsNoDamage result
+answers_or_machine (Ok x) P told = (told, λ damaged. cc)
+answers_or_machine (Err e) P told = (
+  tt,
+  λ damaged.
+      let is : e ≡ engine.Damaged = cc in
+      not_of_machine (subst IsOfMachine is told),
+)
+
+-- a refusal to open files says what is wrong with them
+pub explains : (e : EngineError) (left : Contents) → OpeningRefusal e left →
+    ((facts : Facts) (list : List BatchContent) → FilesRepresent facts list left →
+    IsOfMachine e) → ExplainsRefusal e left
+explains engine.Disk left told opens = tt
+explains engine.Damaged left told opens = record {
+  created = told;
+  no_store = λ facts list files. not_of_machine (opens facts list files);
+}
+explains engine.Memory left told opens = tt
+explains engine.NotCreated left told opens = told
+explains engine.Failed left told opens = told
+explains engine.TooOld left told opens = told
+explains engine.NotCommitted left told opens = told
+explains engine.Exhausted left told opens = told
+
+-- ---- an engine
+
+-- what a crash leaves of the files that are named, and what a disk reads
+pub record LeftFiles : Type 0 where
+  pub reads : (disk : State) → IsCrashOutcome disk (contents disk)
+  pub durable : DurableFileIsLeft
+  pub version : HeldVersionIsLeft
+  pub stays : HeldVersionStays
+
+-- an engine that reads a list holds it in its files
+pub held_of : {D : Type 0} (g : Ghosts D) (engine : Engine D g) (list : List BatchContent) →
+    EngineReads g engine list → FilesHold (g.state (engine_disk engine)) engine.store list
+unfolding IsInMemory
+held_of g engine list r = r.inside
+
+-- where a tend of its files may fail, they are nearly full, or the disk has none of the engine
+pub may_fail : {D : Type 0} (g : Ghosts D) (engine : Engine D g) →
+    TendMayFail g (engine_disk engine) engine.store → IsNearlyFull engine ⊎ IsAdrift g engine
+may_fail g engine (inl full) = inl (inr full)
+may_fail g engine (inr none) = inr (λ list r. none list r.honest (held_of g engine list r))
+
+module _ {D : Type 0} (g : Ghosts D) (laws : LeftFiles) where
   -- ---- what it holds
 
-  pub inside_is : (engine : Engine D g) (list : List BatchContent) → IsInMemory g engine list →
-      StoreHolds (g.state (engine_disk engine)) engine.store (facts_of engine) list
-  unfolding IsInMemory
-  inside_is engine list h = h
-
   is_inside : (engine : Engine D g) (list : List BatchContent) →
-      StoreHolds (g.state (engine_disk engine)) engine.store (facts_of engine) list →
-      IsInMemory g engine list
+      FilesHold (g.state (engine_disk engine)) engine.store list → IsInMemory g engine list
   unfolding IsInMemory
   is_inside engine list h = h
 
   -- an engine whose store holds the list reads it
-  pub reads_of : DurableIsLeft → (engine : Engine D g) (list : List BatchContent) →
+  pub reads_of : (engine : Engine D g) (list : List BatchContent) →
       g.is_honest (engine_disk engine) → (HasEnded engine → ⊥) →
-      StoreHolds (g.state (engine_disk engine)) engine.store (facts_of engine) list →
-      EngineReads g engine list
-  reads_of law engine list honest works held = record {
-    honest = honest;
-    works = works;
-    represents = represented (g.state (engine_disk engine)) engine.store (facts_of engine) list held
-        law (contents (g.state (engine_disk engine))) (as_read (g.state (engine_disk engine)));
-    count = counts (g.state (engine_disk engine)) engine.store (facts_of engine) list held;
-    inside = is_inside engine list held;
-  }
+      FilesHold (g.state (engine_disk engine)) engine.store list → EngineReads g engine list
+  reads_of engine list honest works held =
+      let disk = g.state (engine_disk engine) in
+      record {
+        honest = honest;
+        works = works;
+        represents = left_now disk engine.store list held laws.durable laws.version (contents disk)
+            (laws.reads disk);
+        count = held.count;
+        inside = is_inside engine list held;
+      }
 
-  -- in this layout all of it is durable
-  pub holds_of : DurableIsLeft → (engine : Engine D g) (list : List BatchContent) →
-      EngineReads g engine list → EngineHolds g engine list
-  holds_of law engine list r = record {
+  -- all of it is durable
+  pub holds_of : (engine : Engine D g) (list : List BatchContent) → EngineReads g engine list →
+      EngineHolds g engine list
+  holds_of engine list r = record {
     reads = r;
-    crash = represented (g.state (engine_disk engine)) engine.store (facts_of engine) list
-        (inside_is engine list r.inside) law;
+    crash = left_now (g.state (engine_disk engine)) engine.store list (held_of g engine list r)
+        laws.durable laws.version;
   }
 
-  -- the store of an engine that reads a list
-  pub store_of : (engine : Engine D g) (list : List BatchContent) → EngineReads g engine list →
-      StoreHolds (g.state (engine_disk engine)) engine.store (facts_of engine) list
-  store_of engine list r = inside_is engine list r.inside
+  -- ---- calls of an engine
 
-  -- ---- calls that leave the list
+  -- an answer leaves an engine that holds what its store holds
+  pub goes_to : {T : Type 0} (old new : Engine D g) (list more : List BatchContent)
+      (result : Result T EngineError) →
+      (g.is_honest (engine_disk old) → g.is_honest (engine_disk new)) →
+      OnOk result (HasEnded new → ⊥) →
+      (g.is_honest (engine_disk old) → FilesHold (g.state (engine_disk old)) old.store list →
+      OnOk result (FilesHold (g.state (engine_disk new)) new.store more)) →
+      Goes g old new list more result
+  goes_to old new list more (Ok x) honest works held =
+      let next : EngineReads g old list → EngineReads g new more = λ r.
+      reads_of new more (honest r.honest) works (held r.honest (held_of g old list r)) in
+      record { reads = next; holds = λ h. holds_of new more (next h.reads) }
+  goes_to old new list more (Err e) honest works held =
+      record { reads = λ r. tt; holds = λ h. tt }
 
-  -- the disk, the node and the store of an engine are the same
+  -- the disk and the store of an engine are the same
   pub record IsAsBefore (old new : Engine D g) : Type 0 where
-    pub facts : facts_of new ≡ facts_of old
     pub store : new.store ≡ old.store
     pub honest : g.is_honest (engine_disk old) → g.is_honest (engine_disk new)
     pub same : g.is_honest (engine_disk old) →
         IsSame (g.state (engine_disk old)) (g.state (engine_disk new))
 
-  pub reads_on : DurableIsLeft → (old new : Engine D g) (list : List BatchContent) →
-      IsAsBefore old new → (HasEnded new → ⊥) → EngineReads g old list → EngineReads g new list
-  reads_on law old new list as_before works r =
-      let held = store_in (g.state (engine_disk old)) old.store (facts_of old) list
-      (store_of old list r) (g.state (engine_disk new)) (as_before.same r.honest) in
-      reads_of law new list (as_before.honest r.honest) works
-      (subst (λ s. StoreHolds (g.state (engine_disk new)) s (facts_of new) list)
-      (sym as_before.store)
-      (subst (λ f. StoreHolds (g.state (engine_disk new)) old.store f list)
-      (sym as_before.facts) held))
+  stays_held : (old new : Engine D g) (list : List BatchContent) → IsAsBefore old new →
+      g.is_honest (engine_disk old) → FilesHold (g.state (engine_disk old)) old.store list →
+      FilesHold (g.state (engine_disk new)) new.store list
+  stays_held old new list as_before honest held =
+      subst (λ (s : StoreFiles). FilesHold (g.state (engine_disk new)) s list) (sym as_before.store)
+      (hold_in (g.state (engine_disk old)) (g.state (engine_disk new)) old.store list laws.stays
+      (as_before.same honest) held)
+
+  pub reads_on : (old new : Engine D g) (list : List BatchContent) → IsAsBefore old new →
+      (HasEnded new → ⊥) → EngineReads g old list → EngineReads g new list
+  reads_on old new list as_before works r =
+      reads_of new list (as_before.honest r.honest) works
+      (stays_held old new list as_before r.honest (held_of g old list r))
 
   -- an answer leaves the list
-  pub goes_on : DurableIsLeft → {T : Type 0} (old new : Engine D g) (list : List BatchContent)
+  pub goes_on : {T : Type 0} (old new : Engine D g) (list : List BatchContent)
       (result : Result T EngineError) → IsAsBefore old new → OnOk result (HasEnded new → ⊥) →
       Goes g old new list list result
-  goes_on law old new list (Ok x) as_before works = record {
-    reads = reads_on law old new list as_before works;
-    holds = λ h. holds_of law new list (reads_on law old new list as_before works h.reads);
-  }
-  goes_on law old new list (Err e) as_before works =
-      record { reads = λ r. tt; holds = λ h. tt }
+  goes_on old new list result as_before works =
+      goes_to old new list list result as_before.honest works
+      (λ honest held. on_ok result (stays_held old new list as_before honest held))
 
-  -- ---- calls that are given a disk
+  -- ---- moments
 
-  -- a refusal that returns the disk as it was
-  pub still_refused : (disk : D) (result : Result (Engine D g) (EngineError × D))
-      (e told : EngineError × D) → result ≡ Err e → e ≡ told → told.1 ≡ disk →
-      LeavesSince (g.state disk) (g.past disk) (g.state (disk_after result))
-      (g.past (disk_after result)) (IsCrashOutcome (g.state disk))
-  still_refused disk result e told is same given =
-      let back : disk_after result ≡ disk =
-      ap (λ (r : Result (Engine D g) (EngineError × D)). disk_after r) is
-      ∙ ap (λ (p : EngineError × D). p.1) same ∙ given in
-      subst (λ (d : D). LeavesSince (g.state disk) (g.past disk) (g.state d) (g.past d)
-      (IsCrashOutcome (g.state disk))) (sym back) (still (g.state disk) (g.past disk))
+  -- no call leaves what the engine holds
+  pub none_since : (engine : Engine D g) (list : List BatchContent) → EngineReads g engine list →
+      (past : List State) → LeavesSince (g.state (engine_disk engine)) past
+      (g.state (engine_disk engine)) past (FilesRepresent (facts_of engine) list)
+  none_since engine list r past =
+      started (FilesRepresent (facts_of engine) list) (g.state (engine_disk engine)) past
+      (holds_of engine list r).crash
+
+-- a refusal that returns the disk as it was leaves what it left
+pub still_refused : {D : Type 0} (g : Ghosts D) (P : Contents → Type 0) (disk : D)
+    (result : Result (Engine D g) (EngineError × D)) (e told : EngineError × D) → result ≡ Err e →
+    e ≡ told → told.1 ≡ disk → OnlyLeaves P (g.state disk) →
+    LeavesSince (g.state disk) (g.past disk) (g.state (disk_after result))
+    (g.past (disk_after result)) P
+still_refused {D = D} g P disk result e told is same given only =
+    let back : disk_after result ≡ disk =
+    ap (λ (r : Result (Engine D g) (EngineError × D)). disk_after r) is
+    ∙ ap (λ (p : EngineError × D). p.1) same ∙ given in
+    subst (λ (d : D). LeavesSince (g.state disk) (g.past disk) (g.state d) (g.past d) P) (sym back)
+    (started P (g.state disk) (g.past disk) only)
+
+-- moments since a disk are those since an equal one
+pub since_same : {D : Type 0} (g : Ghosts D) (P : Contents → Type 0) {disk was new : D} →
+    was ≡ disk → LeavesSince (g.state was) (g.past was) (g.state new) (g.past new) P →
+    LeavesSince (g.state disk) (g.past disk) (g.state new) (g.past new) P
+since_same {D = D} g P {new = new} is run =
+    subst (λ (d : D). LeavesSince (g.state d) (g.past d) (g.state new) (g.past new) P) is run

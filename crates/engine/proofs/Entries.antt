@@ -1,16 +1,13 @@
 -- The entries of a list of batches, and of one batch more.
 use Rattle.std.proofs.Common.{◌≡◌, ◌↔◌, ◌⊎◌, ℕ, zero, suc, ◌+◌, ◌≤◌, List, [], ◌∷◌, ◌++◌}
-use Rattle.std.proofs.Common.{length, Some, None, inl, inr, refl, sym, ap, subst, ◌∙◌, arith}
-use Rattle.std.specs.Prelude.{slice_get, take, Option}
-use Rattle.kv_types.specs.{BatchContent, Entry, IsNewest, IsUnseen, ViewShows}
-use Rattle.kv_types.specs.{all_entries, entries_of, map_of}
-use Rattle.kv_types.specs.Entries.{ViewsAreMaps}
-use Rattle.memtable.specs.declared.Found.{Found}
-use Rattle.memtable.specs.declared.Found.TheVariants as lookup
+use Rattle.std.proofs.Common.{length, Some, inl, inr, refl, sym, ap, subst, ◌∙◌, arith}
+use Rattle.std.specs.Prelude.{slice_get}
+use Rattle.kv_types.specs.{BatchContent, Entry, IsNewest, IsUnseen}
+use Rattle.kv_types.specs.{all_entries, entries_of}
 use Rattle.memtable.specs.declared.Memtable.{Memtable}
-use Rattle.memtable.specs.{HasFailedAdd, IsFoundAt, IsNewNumber, TableHolds}
+use Rattle.memtable.specs.{HasFailedAdd, TableHolds}
 use Rattle.store_model.specs.{StoreState, memory_entries}
-use Rattle.engine.specs.Stores.{HasEntriesOf, IsNumberedTo}
+use Rattle.engine.specs.Stores.{IsNumberedTo}
 
 -- ---- the places of a list with one batch more
 
@@ -42,13 +39,12 @@ at_either (y ∷ l) x (suc i) b got =
 
 -- ---- memtables
 
-none_at : {P : Type 0} (i : ℕ) (b : BatchContent) → slice_get [] i ≡ Some b → P
-none_at i b got = absurd cc
+-- no batch has an entry
+none_at : (i : ℕ) (b : BatchContent) → slice_get [] i ≡ Some b → ⊥
+none_at i b got = cc
 
--- an empty memtable has the entries of no batch
-pub none_have : (table : Memtable) → ((entry : Entry) → TableHolds table entry → ⊥) →
-    HasEntriesOf table []
-none_have table empty entry = (λ holds. absurd (empty entry holds), λ among. none_at among.0 among.1 among.2)
+pub none_among : (entry : Entry) → all_entries [] entry → ⊥
+none_among entry among = none_at among.0 among.1 among.2
 
 -- what an addition does: the entries of this batch are added under this number
 abbrev pub Adds : Memtable → Memtable → ℕ → BatchContent → Type 0
@@ -82,22 +78,6 @@ among_either list batch number entry is among =
           (subst (λ (b : BatchContent). entries_of (suc among.0) b entry) (sym last.1) among.3))
     ]
 
--- one batch more
-pub one_more_has : (old new : Memtable) (list : List BatchContent) (batch : BatchContent)
-    (number : ℕ) → HasEntriesOf old list → number ≡ suc (length list) → Adds old new number batch →
-    HasEntriesOf new (list ++ batch ∷ [])
-one_more_has old new list batch number has is adds entry = (
-  λ holds. elim ((adds entry).0 holds) as (λ _. all_entries (list ++ batch ∷ []) entry) [
-    | inl before ↦ among_front list batch entry ((has entry).0 before)
-    | inr among ↦ among_end list batch number entry is among
-  ],
-  λ among. (adds entry).1 (elim (among_either list batch number entry is among) as
-      (λ _. TableHolds old entry ⊎ entries_of number batch entry) [
-        | inl before ↦ inl ((has entry).1 before)
-        | inr last ↦ inr last
-      ]),
-)
-
 -- and of one that holds what no table has
 pub one_more_above : (old new : Memtable) (list : List BatchContent) (batch : BatchContent)
     (number : ℕ) (store : StoreState)
@@ -130,13 +110,6 @@ pub none_numbered : (table : Memtable) → (HasFailedAdd table → ⊥) →
 none_numbered table works empty count =
     record { works = works; below = λ entry holds. absurd (empty entry holds) }
 
--- the next number is new
-pub next_is_new : (table : Memtable) (count number : ℕ) → IsNumberedTo table count →
-    number ≡ count + 1 → IsNewNumber table number
-next_is_new table count number numbered is works entry holds =
-    let le = numbered.below entry holds in
-    omega (arith, le, is)
-
 -- and is the greatest of the memtable that was added to
 pub next_numbered : (old new : Memtable) (batch : BatchContent) (count number : ℕ) →
     IsNumberedTo old count → number ≡ count + 1 → (HasFailedAdd new → ⊥) →
@@ -160,26 +133,3 @@ module _ (at : ℕ) (A B : Entry → Type 0) (same : (entry : Entry) → A entry
 
   pub unseen_in : (key : List ℕ) → IsUnseen at A key → IsUnseen at B key
   unseen_in key none other seen = none other ((same other).1 seen.0, seen.1)
-
--- what it says of a value
-abbrev pub TellsOf : Found → Option (List ℕ) → Type 0
-TellsOf (lookup.Value v) value = value ≡ Some v.now
-TellsOf lookup.Deleted value = value ≡ None
-TellsOf lookup.None value = value ≡ None
-
--- it shows the map of so many first batches
-pub found_shows : ViewsAreMaps → (table : Memtable) (list : List BatchContent) (key : List ℕ)
-    (at : ℕ) (found : Found) (value : Option (List ℕ)) → HasEntriesOf table list →
-    IsFoundAt table key at found → TellsOf found value → value ≡ map_of (take at list) key
-found_shows law table list key at (lookup.Value v) value has found is =
-    let shows : ViewShows at (all_entries list) key (Some v.now) =
-    inl (found.0, newest_in at (TableHolds table) (all_entries list) has _ found.1) in
-    is ∙ sym ((law list at key (Some v.now)).0 shows)
-found_shows law table list key at lookup.Deleted value has found is =
-    let shows : ViewShows at (all_entries list) key None =
-    inl (found.0, newest_in at (TableHolds table) (all_entries list) has _ found.1) in
-    is ∙ sym ((law list at key None).0 shows)
-found_shows law table list key at lookup.None value has found is =
-    let shows : ViewShows at (all_entries list) key None =
-    inr (unseen_in at (TableHolds table) (all_entries list) has key found, refl) in
-    is ∙ sym ((law list at key None).0 shows)

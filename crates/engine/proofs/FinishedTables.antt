@@ -2,7 +2,8 @@
 use Rattle.std.proofs.Common.{◌≡◌, ◌≤◌, ◌<◌, ◌^◌, ℕ, List, [], ◌∷◌, ◌++◌, length, Option, Some, All}
 use Rattle.std.proofs.Common.{Contains, IfSome, inl, inr, refl, sym, ap, subst, ◌∙◌, arith}
 use Rattle.std.proofs.Common.{length-append}
-use Rattle.std.specs.Prelude.{IsSomeAnd, ◌↔◌}
+use Rattle.std.proofs.Common.{Result, Ok, Err}
+use Rattle.std.specs.Prelude.{IsSomeAnd, MatchResult, ◌↔◌}
 use Rattle.std.specs.Cmp.Lexicographic.{nat_list_cmp_total, slice_cmp}
 use Rattle.std.specs.Ordering.{nat_cmp, ordering_reverse, ordering_then}
 use Rattle.std.specs.declared.cmp.Ordering.TheVariants.{Greater, Less}
@@ -27,8 +28,12 @@ use Rattle.store_model.specs.KeysLemmas.{key_never}
 use Rattle.store_model.specs.{LevelTable}
 use Rattle.manifest.specs.declared.TableLine.{TableLine}
 use Rattle.manifest.specs.{IsTableLine}
+use Rattle.engine.specs.declared.error.EngineError.{EngineError}
+use Rattle.engine.specs.declared.error.EngineError.TheVariants as engine
+use Rattle.engine.specs.Errors.{IsOfMachine}
 use Rattle.engine.specs.LevelTables.{line_range}
 use Rattle.engine.specs.OpenFiles.{IsWrittenTable}
+use Rattle.engine.specs.TableWriting.{finished_line}
 
 -- ---- the ends of entries in order
 
@@ -120,18 +125,9 @@ short_table bytes entries r =
 
 -- ---- its line
 
-abbrev pub line_of : ℕ → Finished → TableLine
-line_of file done = record {
-  level = 0;
-  file = file;
-  length = done.length;
-  least = done.least;
-  greatest = done.greatest;
-}
-
 table_line : (disk : State) (file : ℕ) (entries : List Entry) (done : Finished)
     → file ≤ MAX_NUMBER → (f : IsFinishedTable (disk file) entries done)
-    → HasEnds entries done.least done.greatest → IsTableLine (line_of file done)
+    → HasEnds entries done.least done.greatest → IsTableLine (finished_line file done)
 table_line disk file entries done named f ends =
     let len = f.len in
     let short = short_table f.holds.bytes entries f.holds.represents in
@@ -147,10 +143,10 @@ table_line disk file entries done named f ends =
 pub written_table : (disk : State) (memtable : Memtable) (file : ℕ) (entries : List Entry)
     (done : Finished) → file ≤ MAX_NUMBER → IsFinishedTable (disk file) entries done
     → ((entry : Entry) → Contains entries entry ↔ TableHolds memtable entry)
-    → IsWrittenTable disk memtable file (line_of file done)
+    → IsWrittenTable disk memtable file (finished_line file done)
 written_table disk memtable file entries done named f alike =
     let r = f.holds.represents in
-    let line = line_of file done in
+    let line = finished_line file done in
     let ends = has_ends entries done.least done.greatest r.each r.rising r.some f.least
     f.greatest in
     let table : LevelTable =
@@ -176,3 +172,13 @@ written_table disk memtable file entries done named f alike =
       };
       entries = alike;
     }
+
+-- ---- what was told of it
+
+-- what a manifest may have is told
+pub line_told : (P : TableLine → Type 0) (line : TableLine) (result : Result TableLine EngineError)
+    → MatchResult result (λ told. (told ≡ line) × IsTableLine told)
+    (λ e. (e ≡ engine.Damaged) × (IsTableLine line → ⊥)) → IsTableLine line → P line
+    → MatchResult result P IsOfMachine
+line_told P line (Ok one) told proper has = subst P (sym told.0) has
+line_told P line (Err e) told proper has = absurd (told.1 proper)

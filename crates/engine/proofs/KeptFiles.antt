@@ -1,8 +1,8 @@
 -- The files that a version names: what a crash leaves of them represents what was read of them, and
 -- where they stay and no other exists, the open files hold it.
-use Rattle.std.proofs.Common.{◌≡◌, ◌<◌, ◌+◌, ◌∙◌, ℕ, suc, List, [], ◌∷◌, ◌++◌, map, drop, length}
+use Rattle.std.proofs.Common.{◌≡◌, ◌<◌, ◌≤◌, ◌+◌, ◌∙◌, ℕ, suc, List, [], ◌∷◌, ◌++◌, map, drop, length}
 use Rattle.std.proofs.Common.{arith, inl, inr, refl, subst, sym, ap}
-use Rattle.std.specs.Prelude.{All, Contains}
+use Rattle.std.specs.Prelude.{All, Contains, IsNone}
 use Rattle.std.specs.List.{AllZip}
 use Rattle.std.proofs.lemmas.List.Elements.{All-contains, All-contains_itself, All-weaker}
 use Rattle.std.proofs.lemmas.List.Elements.{Contains-append_cases, Contains-append_left}
@@ -14,9 +14,10 @@ use Rattle.disk.specs.MomentsLemmas.{join, weaker}
 use Rattle.store_model.specs.{LevelTable}
 use Rattle.store_model.specs.PlacesLemmas.{contains_cases, contains_head, contains_next}
 use Rattle.manifest.specs.declared.LogLine.{LogLine}
+use Rattle.manifest.specs.declared.Manifest.{Manifest}
 use Rattle.manifest.specs.declared.TableLine.{TableLine}
 use Rattle.manifest.specs.{HeldVersionIsLeft, HeldVersionStays, IsSlotFile, StoreVersion}
-use Rattle.manifest.specs.{IsVersion}
+use Rattle.manifest.specs.{IsVersion, ManifestHolds, ManifestRepresents, NodeVersion}
 use Rattle.manifest.specs.Lawful.{IsGiven}
 use Rattle.manifest.specs.Versions.{files_of}
 use Rattle.sorted_table.specs.{TableServes, table_file}
@@ -31,7 +32,7 @@ use Rattle.engine.specs.LevelTables.{AreTablesOf, IsServed, IsTableOf}
 use Rattle.engine.specs.OpenFiles.{FilesHold, known_facts, known_version, trimmed_count}
 use Rattle.engine.specs.Openings.{FilesAreRead, kept_files}
 use Rattle.engine.specs.Settling.{AreAlone, AreLeftOf, SparesFiles}
-use Rattle.engine.specs.StoreFiles.{StoreFilesRepresent}
+use Rattle.engine.specs.StoreFiles.{FilesRepresent}
 use Rattle.engine.proofs.NamedFiles.{tables_same}
 use Rattle.engine.proofs.Parts.{AreKept, part_in, part_left, parted_in, parted_push}
 
@@ -110,7 +111,7 @@ module _ (version : StoreVersion) where
         (All-contains (λ (one : TableLine). IsGiven version one.file) version.tables found.0
         is.lines.table_files found.1)
 
-    some_is_given : (logs : List LogLine) → 0 < length logs →
+    pub some_is_given : (logs : List LogLine) → 0 < length logs →
         All (λ (one : LogLine). IsGiven version one.file) logs → 3 < version.next_file
     some_is_given [] some all = absurd (omega (arith, some))
     some_is_given (one ∷ logs) some all =
@@ -157,7 +158,7 @@ named_parts_left law disk left number (one ∷ logs) batches leaves
           (λ other at. leaves other (contains_next one logs other at)) others,
     )
 
-named_logs_left : DurableFileIsLeft → (disk : State) (left : Contents) (logs : BatchLogs)
+pub named_logs_left : DurableFileIsLeft → (disk : State) (left : Contents) (logs : BatchLogs)
     (first : ℕ) (batches : List BatchContent) → LogsHold disk logs first batches →
     ((line : LogLine) → Contains (lines_of logs) line →
     IsFileOutcome (disk line.file) (left line.file)) →
@@ -196,7 +197,7 @@ named_logs_in old new logs first batches same h =
 
 -- ---- tables whose files are the same
 
-one_served_in : (old new : State) (line : TableLine) (it : OpenTable) (table : LevelTable) →
+pub one_served_in : (old new : State) (line : TableLine) (it : OpenTable) (table : LevelTable) →
     new line.file ≡ old line.file → IsTableOf (contents old) line table → IsServed old it table →
     IsServed new it table
 one_served_in old new line it table same is h =
@@ -228,32 +229,52 @@ served_in old new (line ∷ lines) (it ∷ opened) (table ∷ tables) same read 
 
 -- ---- the files that were read
 
+-- the manifest with another version
+abbrev with_version : Manifest → NodeVersion → Manifest
+with_version manifest named = record {
+  slots = manifest.slots;
+  version = named;
+  has_failed = manifest.has_failed;
+}
+
+-- the open files with another manifest
+abbrev pub with_manifest : StoreFiles → Manifest → StoreFiles
+with_manifest files manifest = record {
+  manifest = manifest;
+  logs = files.logs;
+  tables = files.tables;
+  memtable = files.memtable;
+}
+
 module _ (disk : State) (files : StoreFiles) (list : List BatchContent)
     (h : FilesAreRead disk files list) where
   abbrev version : StoreVersion
   version = (known_version files).version
 
-  -- a crash that leaves of the named files what it might leaves the list and the facts
-  pub read_is_left : HeldVersionIsLeft → DurableFileIsLeft → (left : Contents) →
-      ((file : ℕ) → Contains (kept_files version) file → IsFileOutcome (disk file) (left file)) →
-      StoreFilesRepresent (known_facts files) list left
-  read_is_left held_is_left durable_is_left left leaves =
+  -- where a crash left the version, and of its lines' files what it might leave, it left the list
+  -- and the facts
+  pub lines_are_left : DurableFileIsLeft → (left : Contents) →
+      ManifestRepresents (known_version files) left →
+      ((line : LogLine) → Contains version.logs line →
+      IsFileOutcome (disk line.file) (left line.file)) →
+      ((line : TableLine) → Contains version.tables line →
+      IsFileOutcome (disk line.file) (left line.file)) →
+      FilesRepresent (known_facts files) list left
+  lines_are_left durable_is_left left represents log_leaves table_leaves =
       let logs : HaveBatches left (suc (trimmed_count files)) version.logs
       (drop (trimmed_count files) list) =
       subst (λ (lines : List LogLine). HaveBatches left (suc (trimmed_count files)) lines
       (drop (trimmed_count files) list)) h.usable.lines
       (named_logs_left durable_is_left disk left files.logs (suc (trimmed_count files))
-      (drop (trimmed_count files) list) h.logs (λ line has. leaves line.file
-      (log_is_kept version line
-      (subst (λ (lines : List LogLine). Contains lines line) h.usable.lines has)))) in
+      (drop (trimmed_count files) list) h.logs (λ line has. log_leaves line
+      (subst (λ (lines : List LogLine). Contains lines line) h.usable.lines has))) in
       let same : (line : TableLine) → Contains version.tables line →
       left line.file ≡ contents disk line.file = λ line has. durable_is_left (disk line.file)
       (left line.file) (All-contains (λ (one : TableLine). IsDurable (disk one.file))
-      version.tables line h.durable has) (leaves line.file (table_is_kept version line has)) in
+      version.tables line h.durable has) (table_leaves line has) in
       record {
         version = version;
-        manifest = held_is_left disk files.manifest (known_version files) left h.manifest
-            (λ slot is_slot. leaves slot (slot_is_kept version slot is_slot));
+        manifest = represents;
         epoch = refl;
         ids = refl;
         floor = refl;
@@ -265,21 +286,41 @@ module _ (disk : State) (files : StoreFiles) (list : List BatchContent)
         few = omega (arith, h.usable.numbers.few, h.count);
       }
 
-  -- where they stay and no other exists, the open files hold it
-  pub settled_hold : HeldVersionStays → (new : State) → SparesFiles (kept_files version) disk new →
-      AreAlone (kept_files version) new → FilesHold new files list
-  settled_hold held_stays new keeps alone =
-      let same : (line : TableLine) → Contains version.tables line →
-      new line.file ≡ disk line.file = λ line has. keeps line.file
-      (table_is_kept version line has) in
-      record {
-        usable = h.usable;
-        manifest = held_stays disk new files.manifest (known_version files) h.manifest
-            (λ slot is_slot. keeps slot (slot_is_kept version slot is_slot));
+  -- a crash that leaves of the named files what it might leaves the list and the facts
+  pub read_is_left : HeldVersionIsLeft → DurableFileIsLeft → (left : Contents) →
+      ((file : ℕ) → Contains (kept_files version) file → IsFileOutcome (disk file) (left file)) →
+      FilesRepresent (known_facts files) list left
+  read_is_left held_is_left durable_is_left left leaves =
+      lines_are_left durable_is_left left (held_is_left disk files.manifest (known_version files)
+      left h.manifest (λ slot is_slot. leaves slot (slot_is_kept version slot is_slot)))
+      (λ line has. leaves line.file (log_is_kept version line has))
+      (λ line has. leaves line.file (table_is_kept version line has))
+
+  -- where a manifest holds the version, the files of its lines stay, and no file has a number that
+  -- was not given, the open files hold it with that manifest
+  pub held_with : (new : State) (manifest : Manifest) →
+      ManifestHolds new manifest (known_version files) →
+      ((line : LogLine) → Contains version.logs line → new line.file ≡ disk line.file) →
+      ((line : TableLine) → Contains version.tables line → new line.file ≡ disk line.file) →
+      ((file : ℕ) → version.next_file ≤ file → IsNone (seen (new file))) →
+      FilesHold new (with_manifest files manifest) list
+  held_with new manifest holds logs_stay same unused =
+      subst (λ (named : NodeVersion). FilesHold new (with_manifest files
+      (with_version manifest named)) list) (sym holds.knows) (record {
+        usable = record {
+          works = holds.works;
+          version = h.usable.version;
+          logs = h.usable.logs;
+          lines = h.usable.lines;
+          tables = h.usable.tables;
+          memtable = h.usable.memtable;
+          numbers = h.usable.numbers;
+        };
+        manifest = subst (λ (named : NodeVersion). ManifestHolds new (with_version manifest named)
+            (known_version files)) holds.knows holds;
         logs = named_logs_in disk new files.logs (suc (trimmed_count files))
-            (drop (trimmed_count files) list) (λ line has. keeps line.file
-            (log_is_kept version line
-            (subst (λ (lines : List LogLine). Contains lines line) h.usable.lines has))) h.logs;
+            (drop (trimmed_count files) list) (λ line has. logs_stay line
+            (subst (λ (lines : List LogLine). Contains lines line) h.usable.lines has)) h.logs;
         tables = h.tables;
         read = tables_same (contents disk) (contents new) version.tables h.tables
             (λ line has. ap seen (same line has)) h.read;
@@ -294,10 +335,54 @@ module _ (disk : State) (files : StoreFiles) (list : List BatchContent)
         entries = h.entries;
         count = h.count;
         each = h.each;
-        unused = λ file above. alone file (λ has.
-            let below = kept_is_given version h.usable.version file has in
-            absurd (omega (arith, above, below)));
-      }
+        unused = unused;
+      })
+
+  -- where the named files stay, and no file has a number that was not given, the open files hold it
+  pub stay_held : HeldVersionStays → (new : State) → SparesFiles (kept_files version) disk new →
+      ((file : ℕ) → version.next_file ≤ file → IsNone (seen (new file))) →
+      FilesHold new files list
+  stay_held held_stays new keeps unused =
+      held_with new files.manifest (held_stays disk new files.manifest (known_version files)
+      h.manifest (λ slot is_slot. keeps slot (slot_is_kept version slot is_slot)))
+      (λ line has. keeps line.file (log_is_kept version line has))
+      (λ line has. keeps line.file (table_is_kept version line has)) unused
+
+  -- so it is where they stay and no other exists
+  pub settled_hold : HeldVersionStays → (new : State) → SparesFiles (kept_files version) disk new →
+      AreAlone (kept_files version) new → FilesHold new files list
+  settled_hold held_stays new keeps alone =
+      stay_held held_stays new keeps (λ file above. alone file (λ has.
+      let below = kept_is_given version h.usable.version file has in
+      absurd (omega (arith, above, below))))
+
+-- open files hold what they held where every file is the same
+pub hold_in : (old new : State) (files : StoreFiles) (list : List BatchContent) →
+    HeldVersionStays → ((file : ℕ) → new file ≡ old file) → FilesHold old files list →
+    FilesHold new files list
+hold_in old new files list held_stays same h =
+    let lines = (known_version files).version.tables in
+    record {
+      usable = h.usable;
+      manifest = held_stays old new files.manifest (known_version files) h.manifest
+          (λ slot is_slot. same slot);
+      logs = named_logs_in old new files.logs (suc (trimmed_count files))
+          (drop (trimmed_count files) list) (λ line has. same line.file) h.logs;
+      tables = h.tables;
+      read = tables_same (contents old) (contents new) lines h.tables
+          (λ line has. ap seen (same line.file)) h.read;
+      served = served_in old new lines files.tables.tables.items h.tables
+          (λ line has. same line.file) h.read h.served;
+      durable = All-weaker (λ (line : TableLine). IsDurable (old line.file))
+          (λ (line : TableLine). IsDurable (new line.file))
+          (λ line sure. subst IsDurable (sym (same line.file)) sure) lines h.durable;
+      store = h.store;
+      entries = h.entries;
+      count = h.count;
+      each = h.each;
+      unused = λ file above. subst (λ (s : Slot). IsNone (seen s)) (sym (same file))
+          (h.unused file above);
+    }
 
 -- ---- the moments of an opening
 
@@ -313,16 +398,16 @@ pub settling_keeps : HeldVersionIsLeft → DurableFileIsLeft → (facts : Facts)
     (list : List BatchContent) (files : StoreFiles) (kept : List ℕ) (old mid new : State)
     (past so_far since : List State) → known_facts files ≡ facts → FilesAreRead mid files list →
     kept ≡ kept_files (known_version files).version →
-    OnlyLeaves (StoreFilesRepresent facts list) old →
+    OnlyLeaves (FilesRepresent facts list) old →
     LeavesSince old past mid so_far (IsCrashOutcome old) →
     LeavesSince mid so_far new since (AreLeftOf kept mid) →
-    LeavesSince old past new since (StoreFilesRepresent facts list)
+    LeavesSince old past new since (FilesRepresent facts list)
 settling_keeps held_is_left durable_is_left facts list files kept old mid new past so_far since
     known read is only before removed =
-    let P : Contents → Type 0 = StoreFilesRepresent facts list in
+    let P : Contents → Type 0 = FilesRepresent facts list in
     join P old mid new past so_far since (still_keeps P old past mid so_far only before)
     (weaker (AreLeftOf kept mid) P mid so_far new since (λ left at.
-    subst (λ (f : Facts). StoreFilesRepresent f list left) known
+    subst (λ (f : Facts). FilesRepresent f list left) known
     (read_is_left mid files list read held_is_left durable_is_left left (λ file has.
     at file (subst (λ (l : List ℕ). Contains l file) (sym is) has)))) removed)
 

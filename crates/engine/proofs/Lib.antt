@@ -1,18 +1,17 @@
-pub mod Identities
 pub mod Entries
 pub mod Records
 pub mod Causes
 pub mod Keeping
-pub mod Held
-pub mod Opens
 pub mod Parts
-pub mod Blank
 pub mod Engines
 pub mod LevelLemmas
 pub mod OpenTables
 pub mod SideBySide
 pub mod NamedFiles
 pub mod FlushedFiles
+pub mod FlushEdits
+pub mod FlushedTables
+pub mod Installed
 pub mod LookUps
 pub mod FilesApart
 pub mod Appended
@@ -29,3 +28,5 @@ pub mod KeptFiles
 pub mod NewestLog
 pub mod ReadParts
 pub mod ReadFiles
+pub mod Spills
+pub mod Tends

@@ -1,6 +1,6 @@
 -- What a lookup in memory and tables finds is what the map has.
 use Rattle.std.proofs.Common.{◌≡◌, ◌↔◌, ℕ, ◌≤◌, ◌<◌, List, [], ◌∷◌, length, Option, Some, None}
-use Rattle.std.proofs.Common.{Contains, Err, Ok, Result, ap, arith, inl, inr, subst, suc, sym, ◌+◌, ◌-◌, ◌∙◌}
+use Rattle.std.proofs.Common.{Contains, Err, Ok, Result, ap, arith, inl, inr, subst, suc, sym, zero, ◌+◌, ◌-◌, ◌∙◌}
 use Rattle.std.specs.Prelude.{IfErr, drop, slice_get, IfOk, IfSome, IsSomeAnd, MatchResult, take}
 use Rattle.std.specs.Option.{option_flatten, option_map}
 use Rattle.std.proofs.lemmas.List.Elements.{All-contains}
@@ -23,7 +23,6 @@ use Rattle.engine.specs.Errors.{IsOfMachine}
 use Rattle.engine.specs.LevelTables.{AreTablesOf, IsTableOf, TableLookUpsAreMaps, TablesFind}
 use Rattle.engine.specs.LevelTables.{found_value}
 use Rattle.engine.proofs.Entries.{newest_in, unseen_in}
-use Rattle.engine.proofs.Opens.{batch_found}
 
 -- the memtable has the entries that belong in memory
 abbrev pub HasMemory : Memtable → List BatchContent → StoreState → Type 0
@@ -104,6 +103,22 @@ told_of_tables found map (Ok value) is damaged short same = is ∙ same
 told_of_tables found map (Err e) is damaged short same = absurd (short damaged.1)
 
 -- ---- a batch of the logs
+
+-- the batch of a number, by its place
+placed : (list : List BatchContent) (i : ℕ) (batch : BatchContent) →
+    slice_get list i ≡ Some batch → place list (suc i) ≡ Some batch
+placed [] i batch got = absurd cc
+placed (x ∷ list) zero batch got = got
+placed (x ∷ list) (suc i) batch got = placed list i batch got
+
+pub batch_found : (list : List BatchContent) (number : ℕ)
+    (result : Result BatchContent EngineError) → 0 < number →
+    MatchResult result (λ b. slice_get list (number - 1) ≡ Some b) IsOfMachine →
+    MatchResult result (λ b. place list number ≡ Some b) IsOfMachine
+batch_found list number (Ok b) some found =
+    let next : number ≡ suc (number - 1) = omega (arith, some) in
+    ap (place list) next ∙ placed list (number - 1) b found
+batch_found list number (Err e) some machine = machine
 
 -- its place in the list, of which so many were trimmed
 pub found_behind : (list : List BatchContent) (trimmed number : ℕ)

@@ -8,11 +8,11 @@ use Rattle.std.proofs.lemmas.List.Elements.{All-contains, All-cons, All-head, Al
 use Rattle.std.proofs.lemmas.List.Elements.{Contains-append_left, Contains-push}
 use Rattle.std.proofs.lemmas.List.Elements.{All-push, All-same, All-tail, All-weaker}
 use Rattle.kv_types.specs.{BatchContent, IsBatch, SpellingsDiffer, batch_bytes}
-use Rattle.disk.specs.{Contents, DurableFileIsLeft, EndsOutOfRange, IsDurable, IsFileOutcome, IsLeftAt, Kept}
+use Rattle.disk.specs.{Contents, DurableFileIsLeft, IsDurable, IsFileOutcome, IsLeftAt, Kept}
 use Rattle.disk.specs.{LeavesSince, Slot, State, seen}
 use Rattle.disk.specs.MomentsLemmas.{started, weaker}
 use Rattle.record_log.specs.declared.Log.{Log}
-use Rattle.record_log.specs.{IsAt, IsOldOrNewFrom, LogHolds, Represents, count_of, file_of, gate_of}
+use Rattle.record_log.specs.{IsAt, IsOldOrNewFrom, LogHolds, Represents, count_of, file_of}
 use Rattle.record_log.specs.{start_of}
 use Rattle.manifest.specs.declared.line.LogLine.{LogLine}
 use Rattle.engine.specs.declared.batch_logs.BatchLog.{BatchLog}
@@ -20,14 +20,13 @@ use Rattle.engine.specs.declared.batch_logs.BatchLogs.{BatchLogs}
 use Rattle.engine.specs.declared.error.EngineError.{EngineError}
 use Rattle.engine.specs.declared.error.EngineError.TheVariants as engine
 use Rattle.engine.specs.BatchLogs.{AreBeside, AreJoined, AreLeftWith, AreParted, AreUsable, HasPart, HaveBatches}
-use Rattle.engine.specs.BatchLogs.{HoldsPart, HasFullLog, IsWorking, LogsHold, oldest_first, line_of, lines_of}
+use Rattle.engine.specs.BatchLogs.{HoldsPart, IsWorking, LogsHold, oldest_first, line_of, lines_of}
 use Rattle.engine.specs.BatchLogs.{newest_file, next_number, end_of_log, with_line}
 use Rattle.engine.specs.Errors.{IsOfMachine}
 use Rattle.engine.specs.Files.{IsLog}
 use Rattle.engine.specs.Layout.{batch_record, records_from}
 use Rattle.engine.proofs.Causes.{undamaged}
 use Rattle.engine.proofs.Records.{length-ends, length-records, numbered_at, records_from-push}
-use Rattle.engine.proofs.Records.{spelled_fits}
 
 -- ---- one file
 
@@ -211,13 +210,6 @@ held_count disk logs first batches h =
       ap length h.parted,
       length-append h.before h.here,
     )
-
--- where a record of a batch has no room, one of the greatest length has none
-pub full_log : (logs : BatchLogs) (bytes : List ℕ) (number : ℕ) (batch : BatchContent) →
-    bytes ≡ batch_record number batch → IsBatch batch →
-    EndsOutOfRange (gate_of logs.newest.log) (length bytes + 6) → HasFullLog logs
-full_log logs bytes number batch is batch_is out =
-    omega (arith, spelled_fits bytes number batch is batch_is, out)
 
 -- no call leaves the batches as they are
 pub none_more : DurableFileIsLeft → (disk : State) (logs : BatchLogs) (first : ℕ)

@@ -31,7 +31,7 @@ use Rattle.engine.specs.OpenFiles.{FilesOpenAs, OpeningRefusal, known_facts}
 use Rattle.engine.specs.OpenFiles.{known_version}
 use Rattle.engine.specs.Openings.{AreParts, FilesAreRead, PartsHold, WereParts}
 use Rattle.engine.specs.Settling.{SlotSettles}
-use Rattle.engine.specs.StoreFiles.{StoreFilesRepresent, store_of_version}
+use Rattle.engine.specs.StoreFiles.{FilesRepresent, store_of_version}
 use Rattle.engine.proofs.FilesApart.{given_no_slot}
 use Rattle.engine.proofs.NamedFiles.{logs_same, tables_same}
 use Rattle.engine.proofs.Parts.{held_count}
@@ -176,7 +176,7 @@ files_of_parts manifest parts = record {
 }
 
 module _ (facts : Facts) (list : List BatchContent) (left : Contents)
-    (h : StoreFilesRepresent facts list left) where
+    (h : FilesRepresent facts list left) where
   kept_few : facts.kept ≤ length list
   kept_few =
       let floor = h.store.kept_floor in
@@ -277,7 +277,7 @@ module _ (facts : Facts) (list : List BatchContent) (left : Contents)
 
 -- what reading the parts of a version asks for
 pub asked : (s0 s1 : State) → SparesOthers s0 s1 → (facts : Facts) (list : List BatchContent)
-    (h : StoreFilesRepresent facts list (contents s0)) → IsVersion h.version → (n : NodeVersion)
+    (h : FilesRepresent facts list (contents s0)) → IsVersion h.version → (n : NodeVersion)
     → n ≡ record { id = facts.id; version = h.version }
     → AreBatchesOf (contents s1) n.version.logs (suc facts.kept) (drop facts.kept list)
     × AreTablesOf (contents s1) n.version.tables h.tables

@@ -28,7 +28,7 @@ use Rattle.engine.specs.Replaying.{AreInLine, AreReadLogs, IsOpenedBehind, IsRea
 use Rattle.engine.specs.Settling.{AddsNothing}
 use Rattle.engine.specs.Stores.{IsNumberedTo}
 use Rattle.engine.proofs.Entries.{none_numbered}
-use Rattle.engine.proofs.Opens.{same_batches, stands_once}
+use Rattle.engine.proofs.Records.{same_batches, stands_once}
 use Rattle.engine.proofs.Parts.{all_before, all_behind, joined_push, kept_beside, part_ends, parted_in}
 use Rattle.engine.proofs.Parts.{parted_push}
 use Rattle.engine.proofs.Replays.{none_replayed, replayed_behind, replayed_either, replayed_front}

@@ -1,19 +1,14 @@
 -- The records of batches that are numbered without a gap.
 use Rattle.std.proofs.Common.{◌≡◌, ℕ, zero, suc, ◌+◌, ◌≤◌, List, [], ◌∷◌, ◌++◌, length, take}
-use Rattle.std.proofs.Common.{None, Some, false, true, refl, sym, ap, ◌∙◌, length-append, arith}
+use Rattle.std.proofs.Common.{None, Some, false, true, refl, sym, ap, ◌∙◌, drop, length-append, arith}
 use Rattle.std.specs.Prelude.{All, Option, SomeIff, slice_get}
-use Rattle.std.proofs.lemmas.List.{take_all}
-use Rattle.std.proofs.lemmas.List.Elements.{All-head, All-nil, All-push, All-tail}
+use Rattle.std.proofs.lemmas.List.{append-nil}
+use Rattle.std.proofs.lemmas.List.Elements.{All-head, All-tail}
 use Rattle.std.specs.Int.{w64, to_be_bytes}
-use Rattle.kv_types.specs.declared.bounds.TheConstants.{MAX_NUMBER}
-use Rattle.kv_types.specs.{BatchContent, Entry, IsBatch, batch_bytes}
-use Rattle.memtable.specs.declared.Memtable.{Memtable}
-use Rattle.memtable.specs.{TableHolds}
-use Rattle.record_log.specs.declared.OpenedLog.{OpenedLog}
-use Rattle.record_log.specs.{HasRead, count_of, ends_from}
+use Rattle.kv_types.specs.{BatchContent, IsBatch, SpellingsDiffer, batch_bytes}
+use Rattle.record_log.specs.{RecordsAreUnique, ends_from}
+use Rattle.engine.specs.Files.{IsLog}
 use Rattle.engine.specs.Layout.{batch_record, records_from}
-use Rattle.engine.specs.Stores.{AreReplayed, HasEntriesOf}
-use Rattle.engine.proofs.Entries.{Adds, none_have, one_more_has}
 
 -- a refusal is none
 pub not_true : false ≡ true → ⊥
@@ -72,60 +67,6 @@ made_of (Some it) P value number made some =
     let same : it ≡ number = cc in
     sym same ∙ made.1
 
--- the first records are those of batches, whose entries the memtable has
-pub record ReplayedTo (records : List (List ℕ)) (i : ℕ) (memtable : Memtable) : Type 0 where
-  pub list : List BatchContent
-  pub size : length list ≡ i
-  pub spelled : take i records ≡ records_from 1 list
-  pub each : All IsBatch list
-  pub entries : HasEntriesOf memtable list
-
--- none yet
-pub none_replayed : (records : List (List ℕ)) (memtable : Memtable) →
-    ((entry : Entry) → TableHolds memtable entry → ⊥) → ReplayedTo records 0 memtable
-none_replayed records memtable empty = record {
-  list = [];
-  size = refl;
-  spelled = refl;
-  each = All-nil IsBatch;
-  entries = none_have memtable empty;
-}
-
--- the records that were read are one more
-pub grows : (records : List (List ℕ)) (i : ℕ) (list new : List BatchContent)
-    (batch : BatchContent) →
-    length list ≡ i → new ≡ list ++ batch ∷ [] → take i records ≡ records_from 1 list →
-    slice_get records i ≡ Some (batch_record (i + 1) batch) →
-    take (i + 1) records ≡ records_from 1 new
-grows records i list new batch size more before got =
-    let one : List ℕ = batch_record (i + 1) batch in
-    let number : one ≡ batch_record (1 + length list) batch =
-    ap (λ (n : ℕ). batch_record n batch) (omega (arith, size)) in
-    let after : i + 1 ≡ suc i = omega arith in
-    let next : take (i + 1) records ≡ take i records ++ one ∷ [] =
-    ap (λ (n : ℕ). take n records) after ∙ take_suc records i one got in
-    next ∙ ap (λ (l : List (List ℕ)). l ++ one ∷ []) before
-    ∙ ap (λ (r : List ℕ). records_from 1 list ++ r ∷ []) number
-    ∙ sym (records_from-push 1 list batch) ∙ ap (records_from 1) (sym more)
-
-pub one_longer : {i : ℕ} (list : List BatchContent) (batch : BatchContent) → length list ≡ i →
-    length (list ++ batch ∷ []) ≡ i + 1
-one_longer list batch size = omega (arith, length-append list (batch ∷ []), size)
-
--- one more was replayed
-pub replayed_next : (records : List (List ℕ)) (i number : ℕ) (old new : Memtable)
-    (batch : BatchContent) → ReplayedTo records i old → IsBatch batch → number ≡ i + 1 →
-    slice_get records i ≡ Some (batch_record (i + 1) batch) → Adds old new number batch →
-    ReplayedTo records (i + 1) new
-replayed_next records i number old new batch was is_batch is got adds = record {
-  list = was.list ++ batch ∷ [];
-  size = one_longer was.list batch was.size;
-  spelled = grows records i was.list (was.list ++ batch ∷ []) batch was.size refl was.spelled got;
-  each = All-push IsBatch was.list batch was.each is_batch;
-  entries = one_more_has old new was.list batch number was.entries
-      (omega (arith, is, was.size)) adds;
-}
-
 -- a log knows an end for each record
 pub length-ends : (at : ℕ) (records : List (List ℕ)) →
     length (ends_from at records) ≡ length records
@@ -138,34 +79,6 @@ pub length-records : (number : ℕ) (list : List BatchContent) →
 length-records number [] = refl
 length-records number (batch ∷ batches) = ap suc (length-records (suc number) batches)
 
--- all of a log's records were replayed
-pub all_replayed : (opened : OpenedLog) (records : List (List ℕ)) (i : ℕ) (memtable : Memtable) →
-    HasRead opened records → count_of opened.log ≤ i → ReplayedTo records i memtable →
-    AreReplayed records memtable
-all_replayed opened records i memtable read all was =
-    let size : length records ≤ i =
-    omega (arith, all, ap length read.ends, length-ends 0 records) in
-    record {
-      list = was.list;
-      spelled = sym (take_all i records size) ∙ was.spelled;
-      each = was.each;
-      entries = was.entries;
-    }
-
--- and each has a number
-pub few_replayed : (opened : OpenedLog) (records : List (List ℕ)) (list : List BatchContent) →
-    HasRead opened records → records ≡ records_from 1 list →
-    count_of opened.log ≤ MAX_NUMBER → length list ≤ MAX_NUMBER
-few_replayed opened records list read spelled few =
-    omega (
-      arith,
-      few,
-      ap length read.ends,
-      length-ends 0 records,
-      ap length spelled,
-      length-records 1 list,
-    )
-
 -- a record of a batch is shorter than the limit of a log
 pub record_fits : (number : ℕ) (batch : BatchContent) → IsBatch batch →
     length (batch_record number batch) ≤ 16777216
@@ -177,3 +90,27 @@ pub spelled_fits : (bytes : List ℕ) (number : ℕ) (batch : BatchContent) →
     bytes ≡ batch_record number batch → IsBatch batch → length bytes ≤ 16777216
 spelled_fits bytes number batch is batch_is =
     omega (arith, ap length is, record_fits number batch batch_is)
+
+-- the records of a file are one list at most
+pub stands_once : RecordsAreUnique → (bytes : Option (List ℕ)) (a b : List (List ℕ)) →
+    IsLog bytes a → IsLog bytes b → a ≡ b
+stands_once law None a b s t = absurd s
+stands_once law (Some it) a b s t = law it a b s t
+
+-- records are those of one list of batches at most
+pub same_batches : SpellingsDiffer → (number : ℕ) (a b : List BatchContent) → All IsBatch a →
+    All IsBatch b → records_from number a ≡ records_from number b → a ≡ b
+same_batches law number [] [] each_a each_b same = refl
+same_batches law number [] (y ∷ b) each_a each_b same = absurd cc
+same_batches law number (x ∷ a) [] each_a each_b same = absurd cc
+same_batches law number (x ∷ a) (y ∷ b) each_a each_b same =
+    let first : batch_record number x ≡ batch_record number y = cc in
+    let others : records_from (suc number) a ≡ records_from (suc number) b = cc in
+    let texts : batch_bytes x ≡ batch_bytes y = ap (drop 8) first in
+    let is_x = All-head IsBatch x a each_a in
+    let is_y = All-head IsBatch y b each_b in
+    let head = (law x y [] is_x is_y (append-nil (batch_bytes x) ∙ texts)).0 in
+    let rest_x = All-tail IsBatch x a each_a in
+    let rest_y = All-tail IsBatch y b each_b in
+    let tails = same_batches law (suc number) a b rest_x rest_y others in
+    cc

@@ -60,6 +60,10 @@ lines_of logs = map line_of logs.older.items ++ line_of logs.newest ∷ []
 abbrev pub newest_file : BatchLogs → ℕ
 newest_file logs = file_of logs.newest.log
 
+-- the length of that file, up to its closed gate
+abbrev pub newest_length : BatchLogs → ℕ
+newest_length logs = gate_of logs.newest.log + 1
+
 -- the lines with a new log's behind them
 abbrev pub with_line : BatchLogs → ℕ → List LogLine
 with_line logs file = lines_of logs ++ record { file = file; first = next_number logs } ∷ []

@@ -3,14 +3,17 @@ use Rattle.std.specs.Prelude.{◌≡◌, ◌⊎◌, ◌↔◌, ℕ, ◌<◌, ◌
 use Rattle.std.specs.Prelude.{IsErrAnd}
 use Rattle.kv_types.specs.{BatchContent}
 use Rattle.disk.specs.declared.Disk.{Ghosts}
-use Rattle.disk.specs.{AlwaysLeaves, Contents, KeepsDisk, State, contents}
+use Rattle.disk.specs.{AlwaysLeaves, Contents, KeepsDisk, State}
 use Rattle.engine.specs.declared.engine.Engine.{Engine}
 use Rattle.engine.specs.declared.error.EngineError.{EngineError}
 use Rattle.engine.specs.declared.error.EngineError.TheVariants as engine
 use Rattle.engine.specs.Engines.{EngineHolds, LookUps, EngineReads, HasEnded, engine_disk, facts_of, look_ups}
+use Rattle.engine.specs.declared.tended.Tended.{Tended}
 use Rattle.engine.specs.Errors.{EndsEngine, FailsDevice, IsEnd}
-use Rattle.engine.specs.Files.{Facts}
-use Rattle.engine.specs.Files.{FilesRepresent, IsBlank, IsDamaged, IsOneOf}
+use Rattle.engine.specs.Tending.{TellsWork}
+use Rattle.manifest.specs.{IsNotCreated}
+use Rattle.engine.specs.Files.{Facts, first_facts}
+use Rattle.engine.specs.StoreFiles.{IsDamaged, IsOneOf, OpensAs}
 
 -- ---- which reads are refused
 
@@ -53,6 +56,16 @@ abbrev pub IsOldOrNewSince : {D : Type 0} → Ghosts D → D → D → Facts →
 IsOldOrNewSince g old new facts list facts' list' =
     AlwaysLeaves g old new (IsOneOf facts list facts' list')
 
+-- ---- a tend
+
+-- the disk reads as no files of the engine
+abbrev pub IsAdrift : {D : Type 0} (g : Ghosts D) → Engine D g → Type 0
+IsAdrift g engine = (list : List BatchContent) → EngineReads g engine list → ⊥
+
+-- the answer is that of a tend of its files, with its limit
+abbrev pub TellsTend : {D : Type 0} {g : Ghosts D} → Engine D g → Engine D g → Tended → Type 0
+TellsTend old new answer = TellsWork old.log_limit old.store new.store answer
+
 -- ---- the calls that are given a disk
 
 -- the disk that such a call has handed on, or back
@@ -70,7 +83,7 @@ pub record IsNewEngine {D : Type 0} {g : Ghosts D} (x : ℕ) (ids : List ℕ) (e
   where
     pub works : HasEnded engine → ⊥
     pub told : look_ups engine ≡ record {
-      facts = record { id = x; epoch = 0; ids = ids; floor = 0; kept = 0 };
+      facts = first_facts x ids;
       count = 0;
       committed = 0;
     }
@@ -86,18 +99,16 @@ pub record IsEngineOf {D : Type 0} (g : Ghosts D) (told : Facts) (list : List Ba
   pub facts : facts_of engine ≡ told
   pub holds : EngineHolds g engine list
 
--- the engine is that of a list which its files represented
-pub record IsOpened {D : Type 0} (g : Ghosts D) (old : State) (engine : Engine D g) : Type 0 where
-  pub list : List BatchContent
-  pub had : FilesRepresent (facts_of engine) list (contents old)
-  pub holds : EngineHolds g engine list
+-- the files open as what the engine tells
+abbrev pub IsOpened : {D : Type 0} {g : Ghosts D} → Contents → Engine D g → Type 0
+IsOpened left engine = OpensAs left (facts_of engine) (look_ups engine).count
 
 -- why a store was not opened, by its files
 abbrev pub ExplainsRefusal : EngineError → Contents → Type 0
 ExplainsRefusal engine.Disk left = Unit {0}
 ExplainsRefusal engine.Damaged left = IsDamaged left
 ExplainsRefusal engine.Memory left = Unit {0}
-ExplainsRefusal engine.NotCreated left = IsBlank left
+ExplainsRefusal engine.NotCreated left = IsNotCreated left
 ExplainsRefusal engine.Failed left = ⊥
 ExplainsRefusal engine.TooOld left = ⊥
 ExplainsRefusal engine.NotCommitted left = ⊥

@@ -1,5 +1,5 @@
 -- An engine and the list of batches that its disk represents.
-use Rattle.std.specs.Prelude.{◌≡◌, ℕ, ◌+◌, ◌≤◌, List, length, IsTrue, IsSomeAnd}
+use Rattle.std.specs.Prelude.{◌≡◌, ◌⊎◌, ℕ, ◌+◌, ◌≤◌, List, length, IsTrue, IsSomeAnd}
 use Rattle.kv_types.specs.declared.bounds.TheConstants.{MAX_NUMBER}
 use Rattle.kv_types.specs.{BatchContent}
 use Rattle.disk.specs.declared.Disk.{Ghosts}
@@ -8,8 +8,11 @@ use Rattle.record_log.specs.declared.log.TheConstants.{MAX_RECORD}
 use Rattle.table_files.specs.{inner_disk}
 use Rattle.engine.specs.declared.engine.Engine.{Engine}
 use Rattle.engine.specs.Files.{Facts}
-use Rattle.engine.specs.Files.{FilesRepresent}
-use Rattle.engine.specs.Stores.{IsFullLog, StoreHolds, plain_facts, store_count}
+use Rattle.manifest.specs.{HasFullSlot}
+use Rattle.engine.specs.BatchLogs.{HasFullLog}
+use Rattle.engine.specs.LevelTables.{level_count}
+use Rattle.engine.specs.OpenFiles.{FilesHold, batch_count, known_facts}
+use Rattle.engine.specs.StoreFiles.{FilesRepresent}
 
 -- ---- what an engine tells
 
@@ -21,12 +24,12 @@ pub record LookUps : Type 0 where
 
 module _ {D : Type 0} {g : Ghosts D} where
   abbrev pub facts_of : Engine D g → Facts
-  facts_of engine = plain_facts engine.id engine.config
+  facts_of engine = known_facts engine.store
 
   abbrev pub look_ups : Engine D g → LookUps
   look_ups engine = record {
     facts = facts_of engine;
-    count = store_count engine.store;
+    count = batch_count engine.store;
     committed = engine.committed;
   }
 
@@ -38,9 +41,14 @@ module _ {D : Type 0} {g : Ghosts D} where
   abbrev pub HasEnded : Engine D g → Type 0
   HasEnded engine = IsTrue engine.has_ended
 
-  -- its log is so long that the next append may end past the greatest place of a file
+  -- its newest log, or the counting slot of its manifest, is so long that the next record may end
+  -- past the greatest place of a file
   abbrev pub IsNearlyFull : Engine D g → Type 0
-  IsNearlyFull engine = IsFullLog engine.store
+  IsNearlyFull engine = HasFullLog engine.store.logs ⊎ HasFullSlot engine.store.manifest
+
+  -- so many tables of this level are open
+  abbrev pub table_count : Engine D g → ℕ → ℕ
+  table_count engine level = level_count engine.store.tables level
 
 -- one batch more
 abbrev pub with_one_more : LookUps → LookUps
@@ -62,7 +70,7 @@ pub record AreOrdered (told : LookUps) : Type 0 where
 -- what the engine has in memory is what its files say
 unfoldable pub IsInMemory : {D : Type 0} (g : Ghosts D) → Engine D g → List BatchContent → Type 0
 IsInMemory g engine list =
-    StoreHolds (g.state (engine_disk engine)) engine.store (facts_of engine) list
+    FilesHold (g.state (engine_disk engine)) engine.store list
 
 -- The engine works, and what its disk reads represents the list and what the engine tells.
 pub record EngineReads {D : Type 0} (g : Ghosts D) (engine : Engine D g) (list : List BatchContent)

@@ -37,6 +37,14 @@ error_of_manifest manifest.NotCreated = engine.NotCreated
 error_of_manifest manifest.Memory = engine.Memory
 error_of_manifest manifest.Failed = engine.Failed
 
+-- what the disk did to an edit of a manifest that works
+abbrev pub error_of_edit : ManifestError → EngineError
+error_of_edit manifest.Disk = engine.Disk
+error_of_edit manifest.Damaged = engine.Damaged
+error_of_edit manifest.NotCreated = engine.Damaged
+error_of_edit manifest.Memory = engine.Memory
+error_of_edit manifest.Failed = engine.Damaged
+
 abbrev pub error_of_cursor : CursorError → EngineError
 error_of_cursor cursor.Disk = engine.Disk
 error_of_cursor cursor.Damaged = engine.Damaged
@@ -66,14 +74,3 @@ IsEnd engine.Exhausted = ⊥
 abbrev pub EndsEngine : {T : Type 0} → Result T EngineError → Type 0
 EndsEngine (Ok x) = ⊥
 EndsEngine (Err e) = IsEnd e
-
--- what a refusal says about whether a store was ever created on a disk
-abbrev pub MatchesBlank : EngineError → Type 0 → Type 0
-MatchesBlank engine.Disk is_blank = Unit {0}
-MatchesBlank engine.Damaged is_blank = is_blank → ⊥
-MatchesBlank engine.Memory is_blank = Unit {0}
-MatchesBlank engine.NotCreated is_blank = is_blank
-MatchesBlank engine.Failed is_blank = ⊥
-MatchesBlank engine.TooOld is_blank = ⊥
-MatchesBlank engine.NotCommitted is_blank = ⊥
-MatchesBlank engine.Exhausted is_blank = ⊥

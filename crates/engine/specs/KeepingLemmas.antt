@@ -34,8 +34,8 @@ module _ {D : Type 0} (g : Ghosts D) {first cause : Type 0} {R : State → State
   }
 
   -- a call that did not fail, and one behind it
-  pub kept_behind : {old mid new : D} {told : Type 0} {S Q : State → State → Type 0} →
-      ((a b c : State) → R a b → S b c → Q a c) → KeepsDisk g old mid first ⊥ R → (first → ⊥) →
+  pub kept_behind : {old mid new : D} {told other : Type 0} {S Q : State → State → Type 0} →
+      ((a b c : State) → R a b → S b c → Q a c) → KeepsDisk g old mid first other R → (first → ⊥) →
       KeepsDisk g mid new told cause S → KeepsDisk g old new told cause Q
   kept_behind {old = old} {mid = mid} {new = new} both before works kept = record {
     honest = (

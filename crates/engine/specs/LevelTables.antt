@@ -92,6 +92,12 @@ with_flushed [] table = table ∷ []
 with_flushed (t ∷ others) table =
     if t.level == 0 then t ∷ with_flushed others table else table ∷ t ∷ others
 
+-- .. and its line
+abbrev pub with_flushed_line : List TableLine → TableLine → List TableLine
+with_flushed_line [] line = line ∷ []
+with_flushed_line (l ∷ others) line =
+    if l.level == 0 then l ∷ with_flushed_line others line else line ∷ l ∷ others
+
 -- with a table of level 0 more, tables still stand in order of level
 abbrev pub FlushedTablesRise : Type 0
 FlushedTablesRise =

@@ -8,20 +8,22 @@ pub mod LogExamples
 pub mod Stores
 pub mod Settling
 pub mod OpenFiles
+pub mod UsableProps
 pub mod Openings
 pub mod Replaying
 pub mod TableWriting
+pub mod Tending
 pub mod Engines
 pub mod Calls
 pub mod KeepingLemmas
 -- What crates above name.
 pub use Rattle.engine.specs.Calls.{Goes, IsNewEngine, IsEngineOf, IsJustOpened, IsOldOrNewSince, IsOpened}
 pub use Rattle.engine.specs.Calls.{KeepsEngine, ExplainsRefusal, RefusedByDevice, TellsReadable}
-pub use Rattle.engine.specs.Calls.{disk_after}
+pub use Rattle.engine.specs.Calls.{IsAdrift, TellsTend, disk_after}
 pub use Rattle.engine.specs.Engines.{AreOrdered, HasEnded, HasLongFile, EngineHolds, IsNearlyFull}
 pub use Rattle.engine.specs.Engines.{LookUps, EngineReads, engine_disk, facts_of, look_ups}
-pub use Rattle.engine.specs.Engines.{with_one_more, with_committed}
+pub use Rattle.engine.specs.Engines.{table_count, with_one_more, with_committed}
 pub use Rattle.engine.specs.Errors.{EndsEngine, FailsDevice, IsEnd, IsOfMachine}
-pub use Rattle.engine.specs.Files.{Facts}
-pub use Rattle.engine.specs.Files.{FilesRepresent, IsBlank, IsDamaged, IsOneOf, IsRecovered}
-pub use Rattle.engine.specs.Files.{KeepsOthers}
+pub use Rattle.engine.specs.Files.{Facts, IsOwned, first_facts}
+pub use Rattle.engine.specs.StoreFiles.{FilesRepresent, IsDamaged, IsOneOf, OpensAs}
+pub use Rattle.manifest.specs.{IsNotCreated}

@@ -120,6 +120,13 @@ pub record AreOrderedNumbers (version : StoreVersion) (trimmed count : ℕ) : Ty
   pub floor_count : version.floor ≤ count
   pub few : count ≤ MAX_NUMBER
 
+-- the numbers of open files and this committed number are in order
+pub record AreCounted (store : StoreFiles) (number : ℕ) : Type 0 where
+  pub kept : trimmed_count store ≤ (known_facts store).floor
+  pub floor : (known_facts store).floor ≤ number
+  pub committed : number ≤ batch_count store
+  pub few : batch_count store ≤ MAX_NUMBER
+
 -- the open files can take another batch
 pub record AreUsableFiles (files : StoreFiles) : Type 0 where
   pub works : ManifestHasFailed files.manifest → ⊥

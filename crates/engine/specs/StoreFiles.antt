@@ -12,11 +12,11 @@ use Rattle.store_model.specs.{StoreFinds}
 use Rattle.store_model.specs.{IsFlush}
 use Rattle.manifest.specs.declared.LogLine.{LogLine}
 use Rattle.manifest.specs.declared.TableLine.{TableLine}
-use Rattle.manifest.specs.{IsSlotFile, ManifestRepresents, NodeVersion, StoreVersion}
+use Rattle.manifest.specs.{IsNotCreated, IsSlotFile, ManifestRepresents, NodeVersion, StoreVersion}
 use Rattle.manifest.specs.{Change, changed, first_version}
 use Rattle.engine.specs.Files.{Facts, IsLog}
 use Rattle.engine.specs.BatchLogs.{HaveBatches}
-use Rattle.engine.specs.LevelTables.{AreTablesOf, IsTableOf}
+use Rattle.engine.specs.LevelTables.{AreTablesOf, HasLength, IsTableOf}
 
 -- how many batches come before the newest log
 abbrev pub before_newest : List LogLine → ℕ
@@ -36,7 +36,7 @@ store_of_version version kept tables = record {
 
 -- The slots represent a version, its logs have the batches behind the first `kept` ones, and its
 -- tables and these batches together represent the list.
-pub record StoreFilesRepresent (facts : Facts) (list : List BatchContent) (left : Contents)
+pub record FilesRepresent (facts : Facts) (list : List BatchContent) (left : Contents)
     : Type 0 where
   pub version : StoreVersion
   pub manifest : ManifestRepresents (record { id = facts.id; version = version }) left
@@ -49,6 +49,31 @@ pub record StoreFilesRepresent (facts : Facts) (list : List BatchContent) (left 
   pub store : StoreRepresents list (store_of_version version facts.kept tables)
   pub each : All IsBatch list
   pub few : length list ≤ MAX_NUMBER
+
+-- the files neither are those of no store nor represent one
+pub record IsDamaged (left : Contents) : Type 0 where
+  pub created : IsNotCreated left → ⊥
+  pub no_store : (facts : Facts) (list : List BatchContent) → FilesRepresent facts list left → ⊥
+
+-- the files represent one of two stores
+abbrev pub IsOneOf : Facts → List BatchContent → Facts → List BatchContent → Contents → Type 0
+IsOneOf facts list facts' list' left =
+    FilesRepresent facts list left ⊎ FilesRepresent facts' list' left
+
+-- The slots represent a version with these facts, its logs have the batches behind the first `kept`
+-- ones, so many in all, and the files of its tables have their lengths. An opening asks no more: it
+-- reads no block of a table.
+pub record OpensAs (left : Contents) (facts : Facts) (count : ℕ) : Type 0 where
+  pub version : StoreVersion
+  pub manifest : ManifestRepresents (record { id = facts.id; version = version }) left
+  pub epoch : version.epoch ≡ facts.epoch
+  pub ids : version.ids ≡ facts.ids
+  pub floor : version.floor ≡ facts.floor
+  pub batches : List BatchContent
+  pub logs : HaveBatches left (suc facts.kept) version.logs batches
+  pub each : All IsBatch batches
+  pub counted : count ≡ facts.kept + length batches
+  pub tables : All (HasLength left) version.tables
 
 -- the version has the file as a log or as a table
 abbrev pub NamesStoreFile : StoreVersion → ℕ → Type 0
@@ -67,13 +92,13 @@ IsStoreFile left file =
 -- what the files represent depends on the named files alone
 abbrev pub StoreFilesAreNamed : Type 0
 StoreFilesAreNamed = (facts : Facts) (list : List BatchContent) →
-    LooksAt IsStoreFile (StoreFilesRepresent facts list)
+    LooksAt IsStoreFile (FilesRepresent facts list)
 
 -- what a lookup in memory and tables finds, at a number from the floor on, is what the map has
 abbrev pub StoreFilesShowMaps : Type 0
 StoreFilesShowMaps =
     (facts : Facts) (list : List BatchContent) (left : Contents)
-    → (files : StoreFilesRepresent facts list left) → (at : ℕ) → facts.floor ≤ at
+    → (files : FilesRepresent facts list left) → (at : ℕ) → facts.floor ≤ at
     → at ≤ length list → (key : List ℕ) (found : Option (Option (List ℕ)))
     → StoreFinds at list (store_of_version files.version facts.kept files.tables) key found
     → option_flatten found ≡ map_of (take at list) key
@@ -83,7 +108,7 @@ abbrev pub FirstFilesRepresent : Type 0
 FirstFilesRepresent =
     (id : ℕ) (ids : List ℕ) (left : Contents) → ManifestRepresents (first_version id ids) left
     → IsLog (left 3) []
-    → StoreFilesRepresent (record { id = id; epoch = 0; ids = ids; floor = 0; kept = 0 }) [] left
+    → FilesRepresent (record { id = id; epoch = 0; ids = ids; floor = 0; kept = 0 }) [] left
 
 -- ---- a flush
 
@@ -121,14 +146,14 @@ pub record HasFlushed (list : List BatchContent) (store : StoreState) (version :
 abbrev pub FlushesRepresent : Type 0
 FlushesRepresent =
     (facts : Facts) (list : List BatchContent) (line : TableLine) (left other : Contents)
-    → (files : StoreFilesRepresent facts list left)
+    → (files : FilesRepresent facts list left)
     → HasFlushed list (store_of_version files.version facts.kept files.tables) files.version line
     left other
     → ManifestRepresents (record {
       id = facts.id;
       version = changed files.version (flush_change files.version (length list) line);
     }) other
-    → StoreFilesRepresent facts list other
+    → FilesRepresent facts list other
 
 -- ---- an append
 
@@ -136,8 +161,8 @@ FlushesRepresent =
 abbrev pub LongerLogsRepresent : Type 0
 LongerLogsRepresent =
     (facts : Facts) (list : List BatchContent) (batch : BatchContent) (left other : Contents)
-    → (files : StoreFilesRepresent facts list left) → IsBatch batch → length list < MAX_NUMBER
+    → (files : FilesRepresent facts list left) → IsBatch batch → length list < MAX_NUMBER
     → HaveBatches other (suc facts.kept) files.version.logs (drop facts.kept (list ++ batch ∷ []))
     → ((file : ℕ) → IsSlotFile file → other file ≡ left file)
     → ((line : TableLine) → Contains files.version.tables line → other line.file ≡ left line.file)
-    → StoreFilesRepresent facts (list ++ batch ∷ []) other
+    → FilesRepresent facts (list ++ batch ∷ []) other

@@ -1,5 +1,5 @@
 -- The calls that write a table from sorted entries.
-use Rattle.std.specs.Prelude.{ℕ, ◌<◌, List, [], ◌∷◌, ◌++◌, All, Bool, true, false, Contains}
+use Rattle.std.specs.Prelude.{◌≡◌, ℕ, ◌<◌, List, [], ◌∷◌, ◌++◌, All, Bool, true, false, Contains}
 use Rattle.disk.specs.declared.Disk.{Ghosts}
 use Rattle.disk.specs.{AlwaysLeaves, IsLeftAt, IsSameBut, KeepsDisk, Slot}
 use Rattle.kv_types.specs.{Entry}
@@ -8,7 +8,10 @@ use Rattle.table_format.specs.declared.TableError.{TableError}
 use Rattle.table_format.specs.declared.TableError.TheVariants as table
 use Rattle.table_format.specs.declared.sizes.TheConstants.{MAX_DATA}
 use Rattle.table_format.specs.{AreRising}
+use Rattle.manifest.specs.declared.TableLine.{TableLine}
+use Rattle.manifest.specs.{IsTableLine}
 use Rattle.table_builder.specs.declared.Builder.{Builder}
+use Rattle.table_builder.specs.declared.Finished.{Finished}
 use Rattle.table_builder.specs.{Builds, data_size}
 use Rattle.engine.specs.declared.error.EngineError.{EngineError}
 use Rattle.engine.specs.declared.error.EngineError.TheVariants as engine
@@ -23,6 +26,24 @@ error_of_writing table.Memory = engine.Memory
 error_of_writing table.Order = engine.Damaged
 error_of_writing table.TooLarge = engine.Damaged
 error_of_writing table.Failed = engine.Damaged
+
+-- ---- the line of a table
+
+-- the line of a finished table of level 0 in this file
+abbrev pub finished_line : ℕ → Finished → TableLine
+finished_line file done = record {
+  level = 0;
+  file = file;
+  length = done.length;
+  least = done.least;
+  greatest = done.greatest;
+}
+
+-- the line is that of a table of level 0 in the file of this number
+pub record IsNewLine (number : ℕ) (line : TableLine) : Type 0 where
+  pub file : line.file ≡ number
+  pub level : line.level ≡ 0
+  pub proper : IsTableLine line
 
 -- ---- the calls
 

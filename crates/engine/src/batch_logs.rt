@@ -4,11 +4,13 @@ ghost use Rattle.std.specs.Prelude.{◌≡◌, ◌≢◌, ℕ, ◌+◌, ◌-◌,
 ghost use Rattle.std.specs.Prelude.{All, Contains, IfErr, MatchResult, Some, slice_get, ◌⊎◌};
 ghost use Rattle.kv_types.specs.declared.bounds.TheConstants.{MAX_NUMBER};
 ghost use Rattle.kv_types.specs.{BatchContent, IsBatch};
-ghost use Rattle.disk.specs.{AlwaysLeaves, IsSame, IsSameBut, IsStill, KeepsDisk, seen};
+ghost use Rattle.disk.specs.{AlwaysLeaves, IsLeftAt, IsSame, IsSameBut, IsStill, KeepsDisk, State};
+ghost use Rattle.disk.specs.{seen};
 ghost use Rattle.record_log.specs.{EndsInRange, LogHolds, file_of};
 ghost use Rattle.engine.specs.BatchLogs.{AreBeside, AreJoined, AreLeftWith, AreUsable, HasFullLog};
 ghost use Rattle.engine.specs.BatchLogs.{IsWorking, LogsHold, first_number, oldest_first, line_of};
-ghost use Rattle.engine.specs.BatchLogs.{lines_of, newest_file, next_number, end_of_log, with_line};
+ghost use Rattle.engine.specs.BatchLogs.{lines_of, newest_file, newest_length, next_number};
+ghost use Rattle.engine.specs.BatchLogs.{end_of_log, with_line};
 ghost use Rattle.engine.specs.Errors.{FailsDevice, IsEnd, IsOfMachine};
 ghost use Rattle.engine.specs.Layout.{records_from};
 
@@ -18,7 +20,7 @@ use disk::Disk;
 use disk::laws::{durable_file_is_left, durable_is_left};
 use kv_types::laws::spellings_differ;
 use kv_types::{Batch, Number};
-use record_log::Log;
+use record_log::{Log, gates_are_in_files};
 use std::alloc::Global;
 use std::mem;
 
@@ -112,6 +114,15 @@ impl BatchLogs {
         Number::new(next.saturating_sub(1)).unwrap()
     }
 
+    /// The length of the newest log's file, up to its closed gate.
+    pub(crate) fn newest_length(&self) -> u64
+        ensures { (disk : State) (first : ℕ) (batches : List BatchContent) →
+            LogsHold disk self.now first batches → result ≡ newest_length self.now }
+    {
+        gates_are_in_files(); // law: a log's gate is within its file
+        self.newest.log.gate() + 1
+    }
+
     /// Appends the batch with the next number to the newest log. It needs four device calls.
     pub(crate) fn append<D: Disk>(
         &mut self,
@@ -191,8 +202,13 @@ impl BatchLogs {
         ensures told { MatchResult result
             (λ _. AreUsable self.new × (next_number self.new ≡ next_number self.old)
             × (lines_of self.new ≡ with_line self.old file))
-            (λ _. lines_of self.new ≡ lines_of self.old) }
+            (λ _. (next_number self.new ≡ next_number self.old)
+            × (lines_of self.new ≡ lines_of self.old)) }
         ensures causes { IfErr result IsEnd }
+
+        // A crash at any moment since the call began leaves each other file as it was.
+        ensures any_moment { D.is_honest disk.old → AlwaysLeaves D.Disk disk.old disk.new
+            (IsLeftAt (D.state disk.old) file (λ left. Unit {0})) }
     {
         self.older.reserve(1)?;
         let log = Log::create(alloc, disk, file)?;

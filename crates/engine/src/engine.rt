@@ -1,15 +1,16 @@
 //! One node's store.
 ghost use Rattle.std.specs.Prelude.{◌≡◌, IfOk, IfErr, false};
 ghost use Rattle.table_files.specs.{inner_disk};
-ghost use Rattle.engine.specs.Stores.{AreCounted, IsUsable};
+ghost use Rattle.engine.specs.OpenFiles.{AreCounted, AreUsableFiles};
+ghost use Rattle.engine.specs.UsableProps.{props};
 
-use crate::EngineError;
-use crate::recovery::recover;
-use crate::store::Store;
+use crate::store_files::StoreFiles;
+use crate::{EngineError, Tended};
 use configurations::{Config, Epoch, NodeId};
-use disk::laws::durable_is_left;
+use disk::laws::{durable_file_is_left, reads_are_outcomes};
 use disk::{Crash, Disk, Fault};
 use kv_types::{Batch, Key, Limits, Number, Value};
+use manifest::laws::held_versions_are_left;
 use std::alloc::Global;
 use table_files::Files;
 
@@ -20,13 +21,13 @@ use table_files::Files;
 #[derive(Drop)]
 pub struct Engine<D: Disk + Drop> {
     files: Files<D>,
-    id: NodeId,
-    config: Config,
-    store: Store,
+    store: StoreFiles,
+    // The size of a log above which a flush is due.
+    log_limit: u64,
     committed: Number,
     has_ended: bool,
     ghost counted: { AreCounted store committed },
-    ghost usable: { has_ended ≡ false → IsUsable store },
+    ghost usable: { has_ended ≡ false → AreUsableFiles store } by { Prim.hlevel props },
 }
 
 // The disk with its cache of blocks; a refusal returns the disk.
@@ -47,45 +48,47 @@ fn files_over<D: Disk + Drop>(
 
 impl<D: Disk + Drop> Engine<D> {
     ghost use Rattle.std.specs.Prelude.{◌≡◌, ◌⊎◌, ◌↔◌, ℕ, ◌<◌, ◌≤◌, [], ◌∷◌, ◌++◌, List, take};
-    ghost use Rattle.std.specs.Prelude.{IfOk, IfErr, IsErrOf, OnOk, MatchResult, replicate, Some};
+    ghost use Rattle.std.specs.Prelude.{IfOk, IfErr, IsErrOf, OnOk, MatchResult, slice_index, Some};
     ghost use Rattle.kv_types.specs.declared.bounds.TheConstants.{MAX_NUMBER};
     ghost use Rattle.kv_types.specs.{BatchContent, map_of};
-    ghost use Rattle.disk.specs.{contents, IsSame, IsStill, KeepsDisk};
+    ghost use Rattle.disk.specs.{AlwaysLeaves, contents, IsSame, IsStill, KeepsDisk, OnlyLeaves};
     ghost use Rattle.chain_model.specs.{place};
     ghost use Rattle.engine.specs.Calls.{ExplainsRefusal, Goes, IsEngineOf, IsJustOpened};
     ghost use Rattle.engine.specs.Calls.{IsNewEngine, IsNoDamage, IsOldOrNewSince, IsOpened};
-    ghost use Rattle.engine.specs.Calls.{KeepsEngine, RefusedByDevice, TellsReadable, disk_after};
+    ghost use Rattle.engine.specs.Calls.{IsAdrift, KeepsEngine, RefusedByDevice, TellsReadable};
+    ghost use Rattle.engine.specs.Calls.{TellsTend, disk_after};
     ghost use Rattle.engine.specs.Engines.{AreOrdered, EngineHolds, EngineReads, HasEnded};
     ghost use Rattle.engine.specs.Engines.{IsNearlyFull, engine_disk, facts_of, look_ups};
-    ghost use Rattle.engine.specs.Engines.{with_one_more, with_committed};
+    ghost use Rattle.engine.specs.Engines.{table_count, with_one_more, with_committed};
     ghost use Rattle.engine.specs.Errors.{IsOfMachine};
-    ghost use Rattle.engine.specs.Files.{Facts};
-    ghost use Rattle.engine.specs.Files.{FilesRepresent, IsRecovered, KeepsOthers};
+    ghost use Rattle.engine.specs.Files.{Facts, IsOwned};
+    ghost use Rattle.engine.specs.StoreFiles.{FilesRepresent};
 
-    /// Creates a store without batches on a disk, or overwrites an existing one. A refusal returns
-    /// the disk, with none, one or both of the files begun.
+    /// Creates a store without batches on a disk, whose files are all removed first. A refusal
+    /// returns the disk, with any files.
     pub fn create(
         alloc: Global,
         disk: D,
         id: NodeId,
-        config: Config,
+        config: &Config,
         limits: &Limits,
     ) -> Result<Engine<D>, (EngineError, D)>
-        ensures kept { KeepsDisk D.Disk disk (disk_after result) (RefusedByDevice result) ⊥
-            KeepsOthers }
+        ensures kept { KeepsDisk D.Disk disk (disk_after result) (RefusedByDevice result) ⊥ IsOwned }
         ensures created { D.is_honest disk →
             MatchResult result (λ engine. EngineHolds D.Disk engine [])
             (λ refused. IsOfMachine refused.0) }
-        ensures begun { IfOk result (IsNewEngine id config) }
+        ensures begun { IfOk result (IsNewEngine id config.now) }
     {
-        durable_is_left(); // law: a crash leaves what is durable
+        // laws: what a crash leaves of the files that are named, and what a disk reads
+        held_versions_are_left();
+        durable_file_is_left();
+        reads_are_outcomes();
         let mut files = files_over(alloc, disk, limits)?;
-        match Store::create(alloc, &mut files, id, &config) {
+        match StoreFiles::create(alloc, &mut files, id, config) {
             Ok(store) => Ok(Engine {
                 files,
-                id,
-                config,
                 store,
+                log_limit: limits.log,
                 committed: Number::ZERO,
                 has_ended: false,
             }),
@@ -93,32 +96,41 @@ impl<D: Disk + Drop> Engine<D> {
         }
     }
 
-    /// Opens the store of a disk: its files are synced, and its log is read. A refusal returns the
-    /// disk.
+    /// Opens the store of a disk: the files that its manifest names are synced, the logs are read
+    /// from the first batch that no table has, and the other files are removed. A refusal returns
+    /// the disk.
     pub fn open(alloc: Global, disk: D, limits: &Limits) -> Result<Engine<D>, (EngineError, D)>
-        ensures kept { KeepsDisk D.Disk disk (disk_after result) (RefusedByDevice result) ⊥
-            IsRecovered }
+        ensures kept { KeepsDisk D.Disk disk (disk_after result) (RefusedByDevice result) ⊥ IsOwned }
         ensures opened { (facts : Facts) (list : List BatchContent) → D.is_honest disk →
             FilesRepresent facts list (contents (D.state disk)) →
             MatchResult result (IsEngineOf D.Disk facts list)
             (λ refused. IsOfMachine refused.0) }
         ensures told { D.is_honest disk →
-            MatchResult result (IsOpened D.Disk (D.state disk))
+            MatchResult result (IsOpened (contents (D.state disk)))
             (λ refused. ExplainsRefusal refused.0 (contents (D.state disk))) }
         ensures fresh { IfOk result IsJustOpened }
-        ensures still { IsStill D.Disk disk (disk_after result) }
+
+        // Where a crash before it leaves only files of this store, so does one at any moment since.
+        ensures any_moment { (facts : Facts) (list : List BatchContent) → D.is_honest disk →
+            OnlyLeaves (FilesRepresent facts list) (D.state disk) →
+            AlwaysLeaves D.Disk disk (disk_after result) (FilesRepresent facts list) }
     {
-        durable_is_left(); // law: a crash leaves what is durable
+        // laws: what a crash leaves of the files that are named, and what a disk reads
+        held_versions_are_left();
+        durable_file_is_left();
+        reads_are_outcomes();
         let mut files = files_over(alloc, disk, limits)?;
-        match recover(alloc, &mut files) {
-            Ok((identity, store)) => Ok(Engine {
-                files,
-                id: identity.id,
-                config: identity.config,
-                store,
-                committed: Number::ZERO,
-                has_ended: false,
-            }),
+        match StoreFiles::open(alloc, &mut files) {
+            Ok(store) => {
+                let committed = store.floor();
+                Ok(Engine {
+                    files,
+                    store,
+                    log_limit: limits.log,
+                    committed,
+                    has_ended: false,
+                })
+            }
             Err(e) => Err((e, files.into_disk())),
         }
     }
@@ -127,7 +139,7 @@ impl<D: Disk + Drop> Engine<D> {
     fn next_number(&self) -> Result<Number, EngineError>
         ensures next { IfOk result (λ n. n ≡ (with_one_more (look_ups self.now)).count) }
         ensures closed { IsErrOf result EngineError.Failed ↔ HasEnded self.now }
-        ensures usable { OnOk result (IsUsable self.now.store) }
+        ensures usable { OnOk result (AreUsableFiles self.now.store) }
         ensures only { IfErr result (λ e. (e ≡ EngineError.Failed)
             ⊎ ((e ≡ EngineError.Exhausted) × (MAX_NUMBER ≤ (look_ups self.now).count))) }
     {
@@ -141,7 +153,7 @@ impl<D: Disk + Drop> Engine<D> {
     /// durable.
     pub fn append(&mut self, alloc: Global, batch: &Batch) -> Result<Number, EngineError>
         ensures keeps { KeepsEngine D.Disk self.old self.new result (IsNearlyFull self.old)
-            KeepsOthers }
+            IsOwned }
         ensures told { MatchResult result
             (λ n. (look_ups self.new ≡ with_one_more (look_ups self.old))
             × (n ≡ (look_ups self.new).count))
@@ -158,7 +170,10 @@ impl<D: Disk + Drop> Engine<D> {
             IsOldOrNewSince D.Disk (engine_disk self.old) (engine_disk self.new)
             (facts_of self.old) list (facts_of self.old) (list ++ batch.now ∷ []) }
     {
-        durable_is_left(); // law: a crash leaves what is durable
+        // laws: what a crash leaves of the files that are named, and what a disk reads
+        held_versions_are_left();
+        durable_file_is_left();
+        reads_are_outcomes();
         let number = self.next_number()?;
         self.has_ended = true;
         self.store.append(alloc, &mut self.files, number, batch)?;
@@ -172,7 +187,7 @@ impl<D: Disk + Drop> Engine<D> {
         ensures closed { IsErrOf result EngineError.Failed ↔ HasEnded self.now }
         ensures only { IfErr result (λ e. (e ≡ EngineError.Failed)
             ⊎ (e ≡ EngineError.TooOld) ⊎ (e ≡ EngineError.NotCommitted)) }
-        ensures usable { OnOk result (IsUsable self.now.store) }
+        ensures usable { OnOk result (AreUsableFiles self.now.store) }
     {
         if self.has_ended {
             return Err(EngineError::Failed);
@@ -187,7 +202,12 @@ impl<D: Disk + Drop> Engine<D> {
     }
 
     /// The value of a key in the map of the first `at` batches.
-    pub fn get(&mut self, at: Number, key: &Key) -> Result<Option<Value>, EngineError>
+    pub fn get(
+        &mut self,
+        alloc: Global,
+        at: Number,
+        key: &Key,
+    ) -> Result<Option<Value>, EngineError>
         ensures keeps { KeepsEngine D.Disk self.old self.new result ⊥ IsSame }
         ensures told { look_ups self.new ≡ look_ups self.old }
         ensures readable { TellsReadable (look_ups self.old) at result }
@@ -196,9 +216,12 @@ impl<D: Disk + Drop> Engine<D> {
         ensures kept { (list : List BatchContent) → Goes D.Disk self.old self.new list list result }
         ensures still { IsStill D.Disk (engine_disk self.old) (engine_disk self.new) }
     {
-        durable_is_left(); // law: a crash leaves what is durable
+        // laws: what a crash leaves of the files that are named, and what a disk reads
+        held_versions_are_left();
+        durable_file_is_left();
+        reads_are_outcomes();
         self.may_read(at)?;
-        let answer = self.store.get(at, key);
+        let answer = self.store.get(alloc, &mut self.files, at, key);
         self.has_ended = answer.is_err();
         answer
     }
@@ -214,11 +237,43 @@ impl<D: Disk + Drop> Engine<D> {
         ensures kept { (list : List BatchContent) → Goes D.Disk self.old self.new list list result }
         ensures still { IsStill D.Disk (engine_disk self.old) (engine_disk self.new) }
     {
-        durable_is_left(); // law: a crash leaves what is durable
+        // laws: what a crash leaves of the files that are named, and what a disk reads
+        held_versions_are_left();
+        durable_file_is_left();
+        reads_are_outcomes();
         if self.has_ended {
             return Err(EngineError::Failed);
         }
         let answer = self.store.batch(alloc, &mut self.files, number);
+        self.has_ended = answer.is_err();
+        answer
+    }
+
+    /// Does the first that is due: a rewrite of the manifest, where its slot is longer than twice its
+    /// first edit and 65,536 bytes; or a flush, where the newest log is longer than the limit and
+    /// entries are in memory. `Full` where that has no place.
+    pub fn tend(&mut self, alloc: Global) -> Result<Tended, EngineError>
+        ensures keeps { KeepsEngine D.Disk self.old self.new result
+            (IsNearlyFull self.old ⊎ IsAdrift D.Disk self.old) IsOwned }
+        ensures told { look_ups self.new ≡ look_ups self.old }
+        ensures tended { (list : List BatchContent) →
+            Goes D.Disk self.old self.new list list result }
+        ensures work { (list : List BatchContent) → EngineReads D.Disk self.old list →
+            MatchResult result (TellsTend self.old self.new) IsOfMachine }
+
+        // A crash at any moment since the call began leaves files of the same store.
+        ensures any_moment { (list : List BatchContent) → EngineHolds D.Disk self.old list →
+            AlwaysLeaves D.Disk (engine_disk self.old) (engine_disk self.new)
+            (FilesRepresent (facts_of self.old) list) }
+    {
+        // laws: what a crash leaves of the files that are named, and what a disk reads
+        held_versions_are_left();
+        durable_file_is_left();
+        reads_are_outcomes();
+        if self.has_ended {
+            return Err(EngineError::Failed);
+        }
+        let answer = self.store.tend(alloc, &mut self.files, self.log_limit);
         self.has_ended = answer.is_err();
         answer
     }
@@ -235,7 +290,10 @@ impl<D: Disk + Drop> Engine<D> {
         ensures holds { (list : List BatchContent) → EngineHolds D.Disk self.old list →
             EngineHolds D.Disk self.new list }
     {
-        durable_is_left(); // law: a crash leaves what is durable
+        // laws: what a crash leaves of the files that are named, and what a disk reads
+        held_versions_are_left();
+        durable_file_is_left();
+        reads_are_outcomes();
         self.committed = number;
     }
 
@@ -243,21 +301,21 @@ impl<D: Disk + Drop> Engine<D> {
     pub fn id(&self) -> NodeId
         ensures { result ≡ (look_ups self.now).facts.id }
     {
-        self.id
+        self.store.manifest.state().id
     }
 
     /// The place of the configuration in the list of configurations.
     pub fn epoch(&self) -> Epoch
         ensures { result ≡ (look_ups self.now).facts.epoch }
     {
-        Epoch::FIRST
+        Epoch::new(self.store.manifest.state().epoch).unwrap()
     }
 
     /// The configuration.
     pub fn config(&self) -> &Config
         ensures { result.now ≡ (look_ups self.now).facts.ids }
     {
-        &self.config
+        &self.store.manifest.state().config
     }
 
     /// The number of batches.
@@ -279,21 +337,21 @@ impl<D: Disk + Drop> Engine<D> {
     pub fn floor(&self) -> Number
         ensures { result ≡ (look_ups self.now).facts.floor }
     {
-        Number::ZERO
+        self.store.floor()
     }
 
     /// The number of batches trimmed from the front of the logs.
     pub fn kept(&self) -> Number
         ensures { result ≡ (look_ups self.now).facts.kept }
     {
-        Number::ZERO
+        Number::new(self.store.logs.first_number().saturating_sub(1)).unwrap()
     }
 
-    /// The number of tables of each level: there are none in this layout.
+    /// The number of tables of each level.
     pub fn tables(&self) -> [u64; 7]
-        ensures { result ≡ replicate 7 0 }
+        ensures { (level : ℕ) → level < 7 → slice_index result level ≡ table_count self.now level }
     {
-        [0; 7]
+        self.store.tables.counts()
     }
 
     /// The disk. What is in memory is freed.
@@ -322,7 +380,10 @@ impl<D: Crash + Drop> Engine<D> {
         ensures holds { (list : List BatchContent) → EngineHolds D.Disk self.old list →
             EngineHolds D.Disk self.new list }
     {
-        durable_is_left(); // law: a crash leaves what is durable
+        // laws: what a crash leaves of the files that are named, and what a disk reads
+        held_versions_are_left();
+        durable_file_is_left();
+        reads_are_outcomes();
         self.files.arm(fault);
     }
 }

@@ -1,7 +1,7 @@
 //! Why a store refused.
 ghost use Rattle.std.specs.Prelude.{◌≡◌};
 ghost use Rattle.engine.specs.declared.error.EngineError.TheVariants.{Memory};
-ghost use Rattle.engine.specs.Errors.{error_of_cursor, error_of_disk, error_of_log};
+ghost use Rattle.engine.specs.Errors.{error_of_cursor, error_of_disk, error_of_edit, error_of_log};
 ghost use Rattle.engine.specs.Errors.{error_of_manifest, error_of_memtable};
 
 use disk::DiskError;
@@ -75,6 +75,20 @@ impl From<ManifestError> for EngineError {
             ManifestError::NotCreated => EngineError::NotCreated,
             ManifestError::Memory => EngineError::Memory,
             ManifestError::Failed => EngineError::Failed,
+        }
+    }
+}
+
+/// Why a manifest that works was not changed. It refuses an edit otherwise only where the disk did
+/// not keep what was written.
+pub(crate) fn refusal_of_edit(e: ManifestError) -> EngineError
+    ensures { result ≡ error_of_edit e }
+{
+    match e {
+        ManifestError::Disk => EngineError::Disk,
+        ManifestError::Memory => EngineError::Memory,
+        ManifestError::Damaged | ManifestError::NotCreated | ManifestError::Failed => {
+            EngineError::Damaged
         }
     }
 }

@@ -1,11 +1,43 @@
-// Whether a flush has anything to write.
-ghost use Rattle.std.specs.Prelude.{◌≡◌, ◌↔◌, IfErr, IfOk, IsTrue};
+// A flush: the entries in memory become a table of level 0, and a new log takes the next batches.
+ghost use Rattle.std.specs.Prelude.{◌≡◌, ◌≢◌, ◌↔◌, ◌≤◌, List, IfErr, IfOk, IsTrue, MatchOption};
+ghost use Rattle.std.specs.Prelude.{MatchResult, OnOk};
+ghost use Rattle.kv_types.specs.declared.bounds.TheConstants.{MAX_NUMBER};
+ghost use Rattle.kv_types.specs.{BatchContent};
+ghost use Rattle.disk.specs.{AlwaysLeaves, IsSameBut, KeepsDisk};
+ghost use Rattle.manifest.specs.{HasFullSlot, IsChange, IsFit, IsVersion};
 ghost use Rattle.memtable.specs.{HasFailedAdd};
-ghost use Rattle.engine.specs.OpenFiles.{HasEntry};
+ghost use Rattle.engine.specs.Errors.{FailsDevice, IsEnd, IsOfMachine};
+ghost use Rattle.engine.specs.Files.{IsOwned};
+ghost use Rattle.engine.specs.OpenFiles.{AreUsableFiles, FilesHold, HasEntry, IsTooLarge};
+ghost use Rattle.engine.specs.OpenFiles.{batch_count, known_facts, known_version};
+ghost use Rattle.engine.specs.StoreFiles.{FilesRepresent, flush_change};
+ghost use Rattle.engine.specs.Tending.{HasSpilled, HeldAndSpilled, IsNextTable, LacksPlace};
+ghost use Rattle.engine.specs.Tending.{TendMayFail};
 
 use crate::EngineError;
+use crate::error::refusal_of_edit;
+use crate::levels::OpenTable;
+use crate::store_files::StoreFiles;
+use crate::table_writing::write_table;
+use disk::Disk;
+use disk::laws::{durable_file_is_left, durable_is_left};
+use kv_types::Number;
+use kv_types::bounds::MAX_NUMBER;
+use manifest::laws::{edits_keep_versions, held_versions_are_left};
+use manifest::laws::{manifest_has_slots, slots_reach_gates};
+use manifest::{LogLine, StoreVersion, TableLine, VersionEdit};
 use memtable::Memtable;
 use merge_iter::Cursor;
+use std::alloc::{AllocError, Global};
+use std::mem;
+use store_model::flushes_keep;
+
+/// A new table of level 0: its line, and the open table.
+#[derive(Drop)]
+pub(crate) struct Flushed {
+    pub(crate) line: TableLine,
+    pub(crate) table: OpenTable,
+}
 
 /// Whether the memtable has entries.
 pub(crate) fn has_entries(memtable: &Memtable) -> Result<bool, EngineError>
@@ -16,4 +48,139 @@ pub(crate) fn has_entries(memtable: &Memtable) -> Result<bool, EngineError>
     let mut cursor = memtable.cursor()?;
     cursor.first(&mut ())?;
     Ok(cursor.valid())
+}
+
+/// Whether a flush lacks a place in the version, where there are so many batches.
+pub(crate) fn lacks_place(version: &StoreVersion, count: Number) -> bool
+    ensures { IsTrue result ↔ LacksPlace version.now.version count }
+{
+    version.tables.len() >= 4096
+        || version.logs.len() >= 4096
+        || version.next_file > MAX_NUMBER - 2
+        || count.get() >= MAX_NUMBER
+}
+
+// The edit of a flush, where there are so many batches: a table more, and a log for the next ones.
+fn flush_edit(
+    alloc: Global,
+    version: &StoreVersion,
+    count: Number,
+    line: TableLine,
+) -> Result<VersionEdit, AllocError>
+    requires place { LacksPlace version.now.version count → ⊥ }
+    requires flushed { version.now.version.flushed ≤ count }
+    requires next { IsNextTable version.now.version line }
+    ensures edit { IfOk result (λ edit. edit ≡ flush_change version.now.version count line) }
+    ensures fit { IfOk result (λ edit. IsFit version.now.version edit × IsChange edit) }
+{
+    let mut logs_added = Vec::new(alloc);
+    logs_added.push(LogLine {
+        file: version.next_file + 1,
+        first: count.get() + 1,
+    })?;
+    let mut tables_added = Vec::new(alloc);
+    tables_added.push(line)?;
+    Ok(VersionEdit {
+        next_file: version.next_file + 2,
+        floor: version.floor,
+        flushed: count.get(),
+        epoch: version.epoch,
+        config: version.config.clone()?,
+        logs_gone: Vec::new(alloc),
+        logs_added,
+        tables_gone: Vec::new(alloc),
+        tables_added,
+    })
+}
+
+impl StoreFiles {
+    /// Writes the entries in memory as a table of level 0 into the next file, and opens it. Where
+    /// the table would pass the limit of its data there is none.
+    pub(crate) fn spill<D: Disk>(
+        &self,
+        alloc: Global,
+        disk: &mut D,
+    ) -> Result<Option<Flushed>, EngineError>
+        requires usable { AreUsableFiles self.now }
+        requires some { HasEntry self.now.memtable }
+        ensures kept { KeepsDisk D.Disk disk.old disk.new (FailsDevice result)
+            (TendMayFail D.Disk disk.old self.now)
+            (IsSameBut (known_version self.now).version.next_file) }
+        ensures spilled { (list : List BatchContent) → D.is_honest disk.old →
+            FilesHold (D.state disk.old) self.now list → MatchResult result
+            (λ made. MatchOption made
+            (IsTooLarge self.now.memtable × FilesHold (D.state disk.new) self.now list)
+            (HasSpilled (D.state disk.old) (D.state disk.new) self.now)) IsOfMachine }
+        ensures line { IfOk result (λ made. MatchOption made Unit
+            (λ it. IsNextTable (known_version self.now).version it.line)) }
+        ensures opened { IfOk result (λ made. MatchOption made (Unit {0})
+            (λ it. it.table.line ≡ it.line)) }
+        ensures causes { IfErr result IsEnd }
+
+        // A crash at any moment since the call began leaves files of the same store.
+        ensures any_moment { (list : List BatchContent) → D.is_honest disk.old →
+            FilesHold (D.state disk.old) self.now list → AlwaysLeaves D.Disk disk.old disk.new
+            (FilesRepresent (known_facts self.now) list) }
+    {
+        // laws: what a crash leaves of the files that are named
+        held_versions_are_left();
+        durable_file_is_left();
+        let file = self.manifest.state().next_file;
+        let Some(line) = write_table(alloc, disk, file, &self.memtable)? else {
+            return Ok(None);
+        };
+        let table = OpenTable::open(alloc, disk, &line)?;
+        Ok(Some(Flushed { line, table }))
+    }
+
+    /// Names a new table of level 0 in the manifest, with a new log for the next batches. No entry
+    /// is in memory then.
+    pub(crate) fn install<D: Disk>(
+        &mut self,
+        alloc: Global,
+        disk: &mut D,
+        made: Flushed,
+    ) -> Result<(), EngineError>
+        requires usable { AreUsableFiles self.old }
+        requires place { LacksPlace (known_version self.old).version (batch_count self.old) → ⊥ }
+        requires next { IsNextTable (known_version self.old).version made.line }
+        requires opened { made.table.line ≡ made.line }
+        ensures kept { KeepsDisk D.Disk disk.old disk.new (FailsDevice result)
+            (HasFullSlot self.old.manifest) IsOwned }
+        ensures installed { (list : List BatchContent) → D.is_honest disk.old →
+            HeldAndSpilled (D.state disk.old) self.old list made → MatchResult result
+            (λ _. FilesHold (D.state disk.new) self.new list) IsOfMachine }
+        ensures told { MatchResult result
+            (λ _. AreUsableFiles self.new × ((batch_count self.new ≡ batch_count self.old)
+            × ((known_version self.new).version.flushed ≡ batch_count self.old)))
+            (λ _. batch_count self.new ≡ batch_count self.old) }
+        ensures facts { known_facts self.new ≡ known_facts self.old }
+        ensures causes { IfErr result IsEnd }
+
+        // A crash at any moment since the call began leaves files of the same store.
+        ensures any_moment { (list : List BatchContent) → D.is_honest disk.old →
+            HeldAndSpilled (D.state disk.old) self.old list made →
+            AlwaysLeaves D.Disk disk.old disk.new
+            (FilesRepresent (known_facts self.old) list) }
+    {
+        // laws: what a crash leaves of the files that are named; that a manifest has the slots,
+        // and an edit gives a version; and that a flush keeps the list
+        held_versions_are_left();
+        durable_file_is_left();
+        manifest_has_slots();
+        slots_reach_gates();
+        edits_keep_versions();
+        flushes_keep();
+        let count = self.logs.last_number();
+        let Flushed { line, table } = made;
+        let file = self.manifest.state().next_file + 1;
+        let edit = flush_edit(alloc, self.manifest.state(), count, line)?;
+        self.logs.begin(alloc, disk, file)?;
+        if let Err(e) = self.manifest.record(alloc, disk, &edit) {
+            return Err(refusal_of_edit(e));
+        }
+        self.tables.add(table)?;
+        drop(mem::replace(&mut self.memtable, Memtable::new(alloc)));
+        Ok(())
+    }
 }

@@ -12,16 +12,19 @@ ghost use Rattle.engine.specs.StoreFiles.{StoreFilesShowMaps};
 ghost use Rattle.engine.specs.LogExamples.{LaterLogIsBehind, TwoLogsHaveThree};
 
 use disk::Disk;
+use manifest::laws::slots_reach_gates;
 use record_log::gates_are_in_files;
 use store_model::{appends_keep, empty_represents, flushes_keep, look_ups_are_maps};
 
-/// Where an engine's log is nearly full, its disk has a file nearly as long as a file can be.
+/// Where an engine's log or its manifest is nearly full, its disk has a file nearly as long as a file
+/// can be.
 pub fn full_logs_are_long<D: Disk + Drop>()
     ensures { (engine : Engine D D.Disk) (list : List BatchContent) →
         EngineReads D.Disk engine list → IsNearlyFull engine →
         HasLongFile (D.state (engine_disk engine)) }
 {
     gates_are_in_files(); // law: a log's gate is within its file
+    slots_reach_gates(); // law: so is that of the manifest's counting slot
 }
 
 /// Tables stand in order of level where their lines in a manifest stand in order, and with a table
@@ -43,13 +46,13 @@ pub fn table_look_ups_are_maps()
 }
 
 /// What slots, logs and tables represent together depends on the files that they name alone.
-// law: of `StoreFilesRepresent`
+// law: of `FilesRepresent`
 pub fn store_files_are_named()
     ensures { StoreFilesAreNamed }
 {}
 
 /// What a lookup in memory and tables finds is what the map of so many first batches has.
-// law: of `StoreFilesRepresent`
+// law: of `FilesRepresent`
 pub fn store_files_show_maps()
     ensures { StoreFilesShowMaps }
 {
@@ -57,7 +60,7 @@ pub fn store_files_show_maps()
 }
 
 /// The first version of a node and a log without records represent the empty list.
-// law: of `StoreFilesRepresent`
+// law: of `FilesRepresent`
 pub fn first_files_represent()
     ensures { FirstFilesRepresent }
 {
@@ -66,7 +69,7 @@ pub fn first_files_represent()
 
 /// With the memtable in a table, a new log, and both in the manifest, the files represent the same
 /// list.
-// law: of `StoreFilesRepresent`
+// law: of `FilesRepresent`
 pub fn flushes_represent()
     ensures { FlushesRepresent }
 {
@@ -74,7 +77,7 @@ pub fn flushes_represent()
 }
 
 /// With one more batch in the logs, the files represent the list with that batch.
-// law: of `StoreFilesRepresent`
+// law: of `FilesRepresent`
 pub fn longer_logs_represent()
     ensures { LongerLogsRepresent }
 {

@@ -12,7 +12,7 @@ ghost use Rattle.engine.specs.Errors.{FailsDevice, IsEnd, IsOfMachine};
 ghost use Rattle.engine.specs.LevelTables.{AreServed, AreTablesOf, EntriesFind, HasLength};
 ghost use Rattle.engine.specs.LevelTables.{IsServed, IsTableOf, LevelsRise, TablesFind};
 ghost use Rattle.engine.specs.LevelTables.{error_of_table, is_flushed, level_count, line_range};
-ghost use Rattle.engine.specs.LevelTables.{table_lines, with_flushed};
+ghost use Rattle.engine.specs.LevelTables.{table_lines, with_flushed, with_flushed_line};
 
 use crate::EngineError;
 use bloom::KeyHashes;
@@ -190,6 +190,8 @@ impl LevelTables {
             AreServed disk self.old tables → IsServed disk opened table →
             MatchResult result (λ _. AreServed disk self.new (with_flushed tables table))
             (λ _. AreServed disk self.new tables) }
+        ensures lines { OnOk result (table_lines self.new
+            ≡ with_flushed_line (table_lines self.old) opened.line) }
         ensures memory { IfErr result (λ e. e ≡ EngineError.Memory) }
     {
         let place = self.flushed();

@@ -9,12 +9,13 @@ pub mod laws;
 mod layout;
 mod levels;
 mod opening;
-mod recovery;
 mod replaying;
 mod settling;
-mod store;
 mod store_files;
 mod table_writing;
+mod tended;
+mod tending;
 
 pub use engine::Engine;
 pub use error::EngineError;
+pub use tended::Tended;

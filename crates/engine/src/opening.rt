@@ -4,11 +4,10 @@ ghost use Rattle.std.specs.Prelude.{MatchResult};
 ghost use Rattle.kv_types.specs.{BatchContent};
 ghost use Rattle.disk.specs.{AlwaysLeaves, IsStill, KeepsDisk, OnlyLeaves, contents};
 ghost use Rattle.engine.specs.Errors.{FailsDevice, IsEnd, IsOfMachine};
-ghost use Rattle.engine.specs.Files.{Facts, IsOwned};
-ghost use Rattle.engine.specs.Stores.{plain_facts};
-ghost use Rattle.engine.specs.StoreFiles.{StoreFilesRepresent, before_newest};
+ghost use Rattle.engine.specs.Files.{Facts, IsOwned, first_facts};
+ghost use Rattle.engine.specs.StoreFiles.{FilesRepresent, before_newest};
 ghost use Rattle.engine.specs.OpenFiles.{AreBatchesOf, AreOrderedNumbers, AreUsableFiles};
-ghost use Rattle.engine.specs.OpenFiles.{FilesHold, FilesOpenAs, OpeningRefusal, known_facts};
+ghost use Rattle.engine.specs.OpenFiles.{FilesHold, FilesOpenAs, OpeningRefusal, batch_count, known_facts};
 ghost use Rattle.engine.specs.Openings.{AreParts, FilesAreRead, PartsHold, WereParts, kept_files};
 ghost use Rattle.engine.specs.LevelTables.{AreTablesOf};
 ghost use Rattle.store_model.specs.{LevelTable};
@@ -124,7 +123,7 @@ fn read_parts<D: Disk>(
 fn read_files<D: Disk>(alloc: Global, disk: &mut D) -> Result<StoreFiles, EngineError>
     ensures kept { KeepsDisk D.Disk disk.old disk.new (FailsDevice result) ⊥ IsOwned }
     ensures opened { (facts : Facts) (list : List BatchContent) → D.is_honest disk.old →
-        StoreFilesRepresent facts list (contents (D.state disk.old)) → MatchResult result
+        FilesRepresent facts list (contents (D.state disk.old)) → MatchResult result
         (λ files. (known_facts files ≡ facts) × FilesAreRead (D.state disk.new) files list)
         IsOfMachine }
     ensures told { D.is_honest disk.old → MatchResult result
@@ -158,7 +157,8 @@ impl StoreFiles {
         ensures kept { KeepsDisk D.Disk disk.old disk.new (FailsDevice result) ⊥ IsOwned }
         ensures created { D.is_honest disk.old → MatchResult result
             (λ files. FilesHold (D.state disk.new) files []) IsOfMachine }
-        ensures facts { IfOk result (λ files. known_facts files ≡ plain_facts id config.now) }
+        ensures facts { IfOk result (λ files. known_facts files ≡ first_facts id config.now) }
+        ensures none { IfOk result (λ files. batch_count files ≡ 0) }
         ensures usable { IfOk result AreUsableFiles }
     {
         empty_represents(); // law: a store without batches represents the empty list
@@ -183,7 +183,7 @@ impl StoreFiles {
     pub(crate) fn open<D: Disk>(alloc: Global, disk: &mut D) -> Result<StoreFiles, EngineError>
         ensures kept { KeepsDisk D.Disk disk.old disk.new (FailsDevice result) ⊥ IsOwned }
         ensures opened { (facts : Facts) (list : List BatchContent) → D.is_honest disk.old →
-            StoreFilesRepresent facts list (contents (D.state disk.old)) → MatchResult result
+            FilesRepresent facts list (contents (D.state disk.old)) → MatchResult result
             (λ files. (known_facts files ≡ facts) × FilesHold (D.state disk.new) files list)
             IsOfMachine }
         ensures told { D.is_honest disk.old → MatchResult result
@@ -192,8 +192,8 @@ impl StoreFiles {
 
         // Where a crash before it leaves only files of this store, so does one at any moment since.
         ensures any_moment { (facts : Facts) (list : List BatchContent) → D.is_honest disk.old →
-            OnlyLeaves (StoreFilesRepresent facts list) (D.state disk.old) →
-            AlwaysLeaves D.Disk disk.old disk.new (StoreFilesRepresent facts list) }
+            OnlyLeaves (FilesRepresent facts list) (D.state disk.old) →
+            AlwaysLeaves D.Disk disk.old disk.new (FilesRepresent facts list) }
         ensures usable { IfOk result AreUsableFiles }
     {
         // laws: what a crash leaves of the files that are named, and what a disk reads

@@ -13,7 +13,7 @@ ghost use Rattle.engine.specs.OpenFiles.{AreUsableFiles, FilesHold, batch_count,
 ghost use Rattle.engine.specs.OpenFiles.{trimmed_count};
 ghost use Rattle.memtable.specs.{HasFailedAdd, TableHolds};
 ghost use Rattle.engine.specs.LevelTables.{EntriesHave, found_value};
-ghost use Rattle.engine.specs.StoreFiles.{StoreFilesRepresent};
+ghost use Rattle.engine.specs.StoreFiles.{FilesRepresent};
 
 use crate::EngineError;
 use crate::batch_logs::BatchLogs;
@@ -76,6 +76,13 @@ fn value_of(found: Option<FoundVersion>) -> Result<Option<Value>, EngineError>
 }
 
 impl StoreFiles {
+    /// The least number that can be read.
+    pub(crate) fn floor(&self) -> Number
+        ensures { result ≡ (known_facts self.now).floor }
+    {
+        Number::new(self.manifest.state().floor).unwrap()
+    }
+
     /// Appends the batch with the next number. It needs four device calls.
     pub(crate) fn append<D: Disk>(
         &mut self,
@@ -97,8 +104,8 @@ impl StoreFiles {
         ensures any_moment { (list : List BatchContent) → D.is_honest disk.old →
             FilesHold (D.state disk.old) self.old list →
             AlwaysLeaves D.Disk disk.old disk.new (λ left.
-            StoreFilesRepresent (known_facts self.old) list left
-            ⊎ StoreFilesRepresent (known_facts self.old) (list ++ batch.now ∷ []) left) }
+            FilesRepresent (known_facts self.old) list left
+            ⊎ FilesRepresent (known_facts self.old) (list ++ batch.now ∷ []) left) }
         ensures counts { MatchResult result
             (λ _. AreUsableFiles self.new × (batch_count self.new ≡ batch_count self.old + 1))
             (λ _. batch_count self.new ≡ batch_count self.old) }

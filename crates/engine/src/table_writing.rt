@@ -1,10 +1,11 @@
 //! Writing a table from the entries of a memtable.
 ghost use Rattle.std.specs.Prelude.{◌≡◌, ◌≤◌, List, [], IfErr, IsNone, MatchOption, MatchResult};
-ghost use Rattle.std.specs.Prelude.{OnOk};
+ghost use Rattle.std.specs.Prelude.{IfOk, OnOk};
 ghost use Rattle.disk.specs.{AlwaysLeaves, IsLeftAt, IsSameBut, KeepsDisk, seen};
 ghost use Rattle.kv_types.specs.declared.bounds.TheConstants.{MAX_NUMBER};
 ghost use Rattle.kv_types.specs.{Entry};
 ghost use Rattle.merge_iter.specs.{IfOn, IsOn};
+ghost use Rattle.manifest.specs.{IsTableLine};
 ghost use Rattle.memtable.specs.declared.Memtable.{Memtable};
 ghost use Rattle.memtable.specs.{HasFailedAdd, KeepsEntryLimits, TableHolds};
 ghost use Rattle.table_format.specs.{CanFollow, IsTableEntry, lent_entry};
@@ -12,15 +13,16 @@ ghost use Rattle.table_builder.specs.{Builds, BuildsNothing, IsFresh, builder_fi
 ghost use Rattle.engine.specs.Errors.{FailsDevice, IsEnd, IsOfMachine};
 ghost use Rattle.engine.specs.OpenFiles.{HasEntry, IsTooLarge, IsWrittenTable};
 ghost use Rattle.engine.specs.TableWriting.{BuildsAll, HasAddedAll, HasAddedOne, WritesInto};
-ghost use Rattle.engine.specs.TableWriting.{error_of_writing};
+ghost use Rattle.engine.specs.TableWriting.{IsNewLine, error_of_writing, finished_line};
 
 use crate::EngineError;
 use disk::{Disk, DiskError};
+use kv_types::bounds::MAX_NUMBER;
 use manifest::TableLine;
 use memtable::{MemCursor, Memtable};
 use merge_iter::Cursor;
 use std::alloc::Global;
-use table_builder::Builder;
+use table_builder::{Builder, Finished};
 use table_format::{LentEntry, TableError};
 
 // Why a table could not be written. A builder refuses an entry for its order, or has failed
@@ -127,6 +129,26 @@ fn add_memtable<D: Disk>(
     add_all(alloc, disk, builder, &mut cursor)
 }
 
+// The line of a finished table of level 0 in this file. `Damaged` where a manifest may not have
+// it, which only a disk that is not honest brings about.
+fn line_of(file: u64, done: Finished) -> Result<TableLine, EngineError>
+    requires named { file ≤ MAX_NUMBER }
+    ensures { MatchResult result
+        (λ line. (line ≡ finished_line file done) × IsTableLine line)
+        (λ e. (e ≡ EngineError.Damaged) × (IsTableLine (finished_line file done) → ⊥)) }
+{
+    if done.length > MAX_NUMBER || done.greatest.is_below(&done.least) {
+        return Err(EngineError::Damaged);
+    }
+    Ok(TableLine {
+        level: 0,
+        file,
+        length: done.length,
+        least: done.least,
+        greatest: done.greatest,
+    })
+}
+
 // Finishes a table of level 0 in this file, which has all entries of a memtable.
 fn finish_table<D: Disk>(
     alloc: Global,
@@ -141,19 +163,14 @@ fn finish_table<D: Disk>(
     ensures written { (memtable : Memtable) → HasEntry memtable → D.is_honest disk.old →
         BuildsAll (TableHolds memtable) (D.state disk.old file) builder →
         MatchResult result (IsWrittenTable (D.state disk.new) memtable file) IsOfMachine }
+    ensures line { IfOk result (IsNewLine file) }
     ensures causes { IfErr result IsEnd }
 {
     if builder.len() == 0 {
         return Err(EngineError::Damaged);
     }
     match builder.finish(alloc, disk) {
-        Ok(done) => Ok(TableLine {
-            level: 0,
-            file,
-            length: done.length,
-            least: done.least,
-            greatest: done.greatest,
-        }),
+        Ok(done) => line_of(file, done),
         Err(e) => Err(refusal_of(e)),
     }
 }
@@ -188,6 +205,7 @@ pub(crate) fn write_table<D: Disk>(
         MatchResult result (λ line. MatchOption line
         (IsTooLarge memtable.now × IsNone (seen (D.state disk.new file)))
         (IsWrittenTable (D.state disk.new) memtable.now file)) IsOfMachine }
+    ensures line { IfOk result (λ line. MatchOption line (Unit {0}) (IsNewLine file)) }
     ensures causes { IfErr result IsEnd }
 
     // A crash at any moment since the call began leaves each other file as it was.

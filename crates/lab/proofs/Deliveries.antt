@@ -22,13 +22,14 @@ use Rattle.disk.specs.declared.Disk.{Ghosts}
 use Rattle.lab.specs.declared.input.NodeInput.{NodeInput}
 use Rattle.lab.specs.declared.input.StepOutcome.{StepOutcome}
 use Rattle.lab.specs.declared.event.EventKind.{EventKind}
-use Rattle.lab.specs.declared.event.EventKind.TheVariants.{Submit, Get, Deliver, Tick, Start, Stop}
+use Rattle.lab.specs.declared.event.EventKind.TheVariants.{Submit, Get, Deliver, Tick, Tend, Start}
+use Rattle.lab.specs.declared.event.EventKind.TheVariants.{Stop}
 use Rattle.lab.specs.declared.node_state.NodeState.{NodeState}
 use Rattle.lab.specs.declared.report.Line.TheVariants as line
 use Rattle.lab.specs.Events.{modelled, reply_line, told_cause}
 use Rattle.lab.specs.Deliveries.{IsDeliveryOf, HasNoDelivery, input_of}
 use Rattle.lab.specs.Outcomes.{HasStarted, Starts, Fails, RunsOn, HasStopped, Stops, RestsOn}
-use Rattle.lab.specs.Outcomes.{OutcomeRefines, input_junk}
+use Rattle.lab.specs.Outcomes.{HasTended, Halts, OutcomeRefines, Tends, TendsNot, input_junk}
 use Rattle.lab.specs.Disks.{junk_of}
 use Rattle.lab.specs.SimNodes.{Choice, is_honest, state}
 use Rattle.lab.proofs.Outcomes.{IsOutcome, IsTraced, chosen, as_chosen, given, stop_traced}
@@ -99,11 +100,11 @@ module _ {g : Ghosts Slots} (cs : Configurations) (w : SystemState BatchContent)
     deliver p (frame.Forward epoch from number batch) f there same was =
         given cs w i x (Deliver p) it struck (input.Forward epoch from number batch) new did
         (λ choice. to_addressee p (frame.Forward epoch from number batch) f choice there same)
-        (λ choice. refl) (λ o. refl) (forward_replies p epoch from number batch) was
+        (λ choice. refl) (λ choice o. refl) (forward_replies p epoch from number batch) was
     deliver p (frame.Ack epoch from committed have) f there same was =
         given cs w i x (Deliver p) it struck (input.Ack epoch from committed have) new did
         (λ choice. to_addressee p (frame.Ack epoch from committed have) f choice there same)
-        (λ choice. refl) (λ o. refl) (ack_replies p epoch from committed have) was
+        (λ choice. refl) (λ choice o. refl) (ack_replies p epoch from committed have) was
     deliver p (frame.Notice epoch config) f there same was = absurd (cc)
     deliver p (frame.Submit request batch) f there same was = absurd (cc)
     deliver p (frame.Get request at key) f there same was = absurd (cc)
@@ -147,6 +148,38 @@ module _ {g : Ghosts Slots} (cs : Configurations) (w : SystemState BatchContent)
         (drop_traced x (with_fault (Start x) it) plain (w.nodes x) reason.Running traced.0
         traced.2 refl))
 
+    tend : HasTended is_honest state it struck x (w.nodes x) new did →
+        IsOutcome cs w i x (Tend x) it struck new did
+    tend (Tends up is traced) =
+        let o = answers x (silent (w.nodes x)) in
+        let choice : Choice =
+        record { went = Answered; struck = struck; cause = Disk; tended = traced.0 } in
+        as_chosen cs w i x (Tend x) it new did choice o (w.nodes x) (cond-true _ _ _ up) refl is
+        (subst (λ (d : StepOutcome). IsTraced x (with_fault (Tend x) it) choice d o) (sym traced.1)
+        (record {
+          frames = refl;
+          traced = λ n. refl;
+          counted = λ n. refl;
+          fits = λ stops. absurd (false≢true stops);
+          ends = refl;
+        }))
+    tend (Halts up by is) =
+        as_chosen cs w i x (Tend x) it new did (chosen StoppedBefore struck by.cause)
+        (stops x (w.nodes x)) (stopped (w.nodes x)) (cond-true _ _ _ up) refl is
+        (subst (λ (d : StepOutcome). IsTraced x (with_fault (Tend x) it)
+        (chosen StoppedBefore struck by.cause) d (stops x (w.nodes x))) (sym by.told)
+        (stop_traced x (with_fault (Tend x) it) (chosen StoppedBefore struck by.cause)
+        (told_cause it struck by.cause) (w.nodes x) refl by.device
+        (told_fits it struck by.cause by.environmental)))
+    tend (TendsNot off is traced) =
+        let o = answers x (dropped_for (w.nodes x) reason.NotRunning) in
+        as_chosen cs w i x (Tend x) it new did plain o (w.nodes x)
+        (cond-false _ _ _ off) refl is
+        (subst (λ (d : StepOutcome). IsTraced x (with_fault (Tend x) it) plain d o)
+        (sym traced.1)
+        (drop_traced x (with_fault (Tend x) it) plain (w.nodes x) reason.NotRunning
+        traced.0 traced.2 refl))
+
     stop : (junk : Junk) → HasStopped is_honest state x (w.nodes x) new did →
         IsOutcome cs w i x (Stop x junk) it struck new did
     stop junk (Stops up is traced) =
@@ -173,13 +206,13 @@ module _ {g : Ghosts Slots} (cs : Configurations) (w : SystemState BatchContent)
     refined (Submit node batch) node_input brings was =
         subst (λ (y : ℕ). IsOutcome cs w i x (Submit y batch) it struck new did) brings.0
         (given cs w i x (Submit x batch) it struck (input.Submit i batch) new did (λ choice. refl)
-        (λ choice. refl) (λ o. refl) (submit_replies x i batch)
+        (λ choice. refl) (λ choice o. refl) (submit_replies x i batch)
         (subst (λ (k : NodeInput). OutcomeRefines is_honest state it struck x
         (w.nodes x) k new did) brings.1 was))
     refined (Get node key at) node_input brings was =
         subst (λ (y : ℕ). IsOutcome cs w i x (Get y key at) it struck new did) brings.0
         (given cs w i x (Get x key at) it struck (input.Get i key at) new did (λ choice. refl)
-        (λ choice. refl) (λ o. refl) (get_replies x i key at)
+        (λ choice. refl) (λ choice o. refl) (get_replies x i key at)
         (subst (λ (k : NodeInput). OutcomeRefines is_honest state it struck x
         (w.nodes x) k new did) brings.1 was))
     refined (Deliver p) node_input brings was =
@@ -189,9 +222,13 @@ module _ {g : Ghosts Slots} (cs : Configurations) (w : SystemState BatchContent)
     refined (Tick node) node_input brings was =
         subst (λ (y : ℕ). IsOutcome cs w i x (Tick y) it struck new did) brings.0
         (given cs w i x (Tick x) it struck input.Tick new did (λ choice. refl)
-        (λ choice. refl) (λ o. refl) (tick_replies x)
+        (λ choice. refl) (λ choice o. refl) (tick_replies x)
         (subst (λ (k : NodeInput). OutcomeRefines is_honest state it struck x
         (w.nodes x) k new did) brings.1 was))
+    refined (Tend node) node_input brings was =
+        subst (λ (y : ℕ). IsOutcome cs w i x (Tend y) it struck new did) brings.0
+        (tend (subst (λ (k : NodeInput). OutcomeRefines is_honest state it struck x (w.nodes x) k
+        new did) brings.1 was))
     refined (Start node) node_input brings was =
         subst (λ (y : ℕ). IsOutcome cs w i x (Start y) it struck new did) brings.0
         (start (subst (λ (k : NodeInput). OutcomeRefines is_honest state it struck x (w.nodes x) k
@@ -223,5 +260,6 @@ junk_same frames i x (Deliver p) node_input brings = ap input_junk brings.is ∙
     none_with (frame.Ack epoch from committed have) = refl
     none_with _ = refl
 junk_same frames i x (Tick node) node_input brings = ap input_junk brings.1
+junk_same frames i x (Tend node) node_input brings = ap input_junk brings.1
 junk_same frames i x (Start node) node_input brings = ap input_junk brings.1
 junk_same frames i x (Stop node junk) node_input brings = ap input_junk brings.1

@@ -18,7 +18,8 @@ use Rattle.lab.specs.declared.input.StepOutcome.{StepOutcome}
 use Rattle.lab.specs.declared.input.StepOutcome.TheVariants as done
 use Rattle.lab.specs.declared.event.Event.{Event}
 use Rattle.lab.specs.declared.event.EventKind.{EventKind}
-use Rattle.lab.specs.declared.event.EventKind.TheVariants.{Submit, Get, Deliver, Tick, Start, Stop}
+use Rattle.lab.specs.declared.event.EventKind.TheVariants.{Submit, Get, Deliver, Tick, Tend, Start}
+use Rattle.lab.specs.declared.event.EventKind.TheVariants.{Stop}
 use Rattle.lab.specs.declared.node_state.NodeState.{NodeState}
 use Rattle.lab.specs.declared.node_state.NodeState.TheVariants.{Up, Down}
 use Rattle.lab.specs.Outcomes.{HasCrashed, DiskEnds, DiskFits, IsExplained}
@@ -72,6 +73,7 @@ pub at_most_one : {g : Ghosts Slots} (junk : Option Junk) (it : Fault) (struck :
 at_most_one junk it struck (done.Answered output) old new left may = omega (arith, left.count)
 at_most_one junk it struck (done.Started epoch count committed) old new left may =
     omega (arith, left.count)
+at_most_one junk it struck (done.Tended did) old new left may = omega (arith, left.count)
 at_most_one None it struck (done.Stopped None) old new left may =
     at_end (junk_at_end it struck) Disk old (disk_in new) left may
 at_most_one (Some junk) it struck (done.Stopped None) old new left may =
@@ -137,6 +139,8 @@ module _ {g : Ghosts Slots} (old : Slots) (new : NodeState Slots g) (may : MayRi
       ended_by it choice traced is device left why
   stop_of (Tick x) it choice traced is device left why =
       ended_by it choice traced is device left why
+  stop_of (Tend x) it choice traced is device left why =
+      ended_by it choice traced is device left why
   stop_of (Start x) it choice traced is device left why =
       ended_by it choice traced is device left why
 
@@ -159,6 +163,7 @@ module _ {g : Ghosts Slots} (old : Slots) (new : NodeState Slots g) (may : MayRi
     stops_so (done.Answered output) ends left e = absurd (false≢true (sym left.spared ∙ e))
     stops_so (done.Started epoch count committed) ends left e =
         absurd (false≢true (sym left.spared ∙ e))
+    stops_so (done.Tended did) ends left e = absurd (false≢true (sym left.spared ∙ e))
     stops_so (done.Stopped traced) ends left e = (ends.0, ends.2 e)
 
     -- what the node left is what the event's outcome leaves
@@ -174,6 +179,12 @@ module _ {g : Ghosts Slots} (old : Slots) (new : NodeState Slots g) (may : MayRi
       rests = λ _. λ off. left.same (rests_so new x n is off);
     }
     follows (done.Started epoch count committed) is struck ends left why = record {
+      fault = struck;
+      stops = λ stops. absurd (false≢true (sym ends ∙ stops));
+      count = λ _. left.count;
+      rests = λ _. λ off. left.same (rests_so new x n is off);
+    }
+    follows (done.Tended did) is struck ends left why = record {
       fault = struck;
       stops = λ stops. absurd (false≢true (sym ends ∙ stops));
       count = λ _. left.count;

@@ -12,7 +12,7 @@ use Rattle.lab.specs.declared.input.StepOutcome.TheVariants as done
 use Rattle.lab.specs.declared.node_state.NodeState.{NodeState}
 use Rattle.lab.specs.declared.node_state.NodeState.TheVariants.{Up, Down}
 use Rattle.lab.specs.Outcomes.{DropsResting, HasDispatched, IsAnswerAtRest, OutcomeRefines, Rests}
-use Rattle.lab.specs.Outcomes.{RestsOn, StateFollows, has_struck_in}
+use Rattle.lab.specs.Outcomes.{RestsOn, StateFollows, TendsNot, has_struck_in}
 use Rattle.lab.specs.SimNodes.{StateIsReady, StateRefines, calls_of, disk_in}
 use Rattle.lab.proofs.Faults.{idle}
 
@@ -56,6 +56,9 @@ answered_at_rest g it (to_node.Step inp) disk output other is =
 answered_at_rest g it (to_node.BadFrame why) disk output other is =
     answered_only g it (to_node.BadFrame why) (Down disk) output (ready_down g disk)
     (λ x n r. DropsResting r.2 r (output, refl, is)) refl
+answered_at_rest g it to_node.Tend disk output other is =
+    answered_only g it to_node.Tend (Down disk) output (ready_down g disk)
+    (λ x n r. TendsNot r.2 r (output, refl, is)) refl
 answered_at_rest g it to_node.Start disk output other is = absurd (other refl)
 answered_at_rest g it (to_node.Stop junk) disk output other is =
     answered_only g it (to_node.Stop junk) (Down disk) output (ready_down g disk)

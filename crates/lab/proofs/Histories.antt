@@ -13,12 +13,14 @@ use Rattle.chain_model.specs.declared.DropReason.{DropReason}
 use Rattle.chain_core.specs.{Machine}
 use Rattle.lab.specs.declared.event.Event.{Event}
 use Rattle.lab.specs.declared.event.EventKind.{EventKind}
-use Rattle.lab.specs.declared.event.EventKind.TheVariants.{Submit, Get, Deliver, Tick, Start, Stop}
+use Rattle.lab.specs.declared.event.EventKind.TheVariants.{Submit, Get, Deliver, Tick, Tend, Start}
+use Rattle.lab.specs.declared.event.EventKind.TheVariants.{Stop}
 use Rattle.lab.specs.declared.report.Line.{Line}
 use Rattle.lab.specs.declared.report.Line.TheVariants.{Stopped}
 use Rattle.lab.specs.Events.{modelled, lines_of_event, lines_at, lines_if, dropped_lines}
-use Rattle.lab.specs.Events.{if_started}
-use Rattle.lab.specs.Events.{start_trace, frame_lines, reply_line, reply_lines, reported_cause}
+use Rattle.lab.specs.Events.{if_started, if_tended}
+use Rattle.engine.specs.declared.Tended.{Tended}
+use Rattle.lab.specs.Events.{turn_trace, frame_lines, reply_line, reply_lines, reported_cause}
 use Rattle.lab.specs.SimNodes.{Choice}
 use Rattle.lab.specs.Traces.{modelled_from, lines_from}
 use Rattle.lab.specs.History.{Placed, LineSpeaksOf, StepSpeaksOf, submitted_from}
@@ -44,6 +46,8 @@ numbered_same i (event ∷ events) (ch ∷ chs) = one event.kind (numbered_same 
         = ap (λ (l : List (ModelEvent BatchContent)). modelled i (Deliver p) ch ∷ l) later
     one (Tick x) later
         = ap (λ (l : List (ModelEvent BatchContent)). modelled i (Tick x) ch ∷ l) later
+    one (Tend x) later
+        = ap (λ (l : List (ModelEvent BatchContent)). modelled i (Tend x) ch ∷ l) later
     one (Start x) later
         = ap (λ (l : List (ModelEvent BatchContent)). modelled i (Start x) ch ∷ l) later
     one (Stop x junk) later
@@ -66,6 +70,7 @@ submitted_same i (event ∷ events) (ch ∷ chs) same = one event.kind
     one (Get x key at) later = later
     one (Deliver p) later = later
     one (Tick x) later = later
+    one (Tend x) later = later
     one (Start x) later = later
     one (Stop x junk) later = later
 
@@ -101,19 +106,24 @@ module _ (B : List Placed) (kind : EventKind) where
   if_start None (Some at) = (tt, tt)
   if_start (Some why) at = tt
 
+  if_tend : (why : Option DropReason) (did : Tended) → Each (if_tended why did)
+  if_tend None did = (tt, tt)
+  if_tend (Some why) did = tt
+
   sent : (n : ℕ) (frames : List (Message BatchContent)) → Each (frame_lines n frames)
   sent n [] = tt
   sent n (Forward to epoch from number batch ∷ frames) = (tt, sent (suc n) frames)
   sent n (Ack to epoch from committed have ∷ frames) = (tt, sent (suc n) frames)
 
-starts : (B : List Placed) (kind : EventKind) (o : Outcome BatchContent) →
-    Each B kind (start_trace kind o)
-starts B (Submit x batch) o = tt
-starts B (Get x key at) o = tt
-starts B (Deliver p) o = tt
-starts B (Tick x) o = tt
-starts B (Start x) o = if_start B (Start x) o.dropped o.acted_on
-starts B (Stop x junk) o = tt
+turns : (B : List Placed) (kind : EventKind) (choice : Choice) (o : Outcome BatchContent) →
+    Each B kind (turn_trace kind choice o)
+turns B (Submit x batch) choice o = tt
+turns B (Get x key at) choice o = tt
+turns B (Deliver p) choice o = tt
+turns B (Tick x) choice o = tt
+turns B (Tend x) choice o = if_tend B (Tend x) o.dropped choice.tended
+turns B (Start x) choice o = if_start B (Start x) o.dropped o.acted_on
+turns B (Stop x junk) choice o = tt
 
 -- a read's reply speaks of B where the model's does
 shown : (B : List Placed) (kind : EventKind) (i s : ℕ) (l : List BatchContent) →
@@ -123,6 +133,7 @@ shown B (Get x key at) i s l agrees =
     ((agrees.0, ap (λ (m : List BatchContent). map_of m key) agrees.1), tt)
 shown B (Deliver p) i s l agrees = tt
 shown B (Tick x) i s l agrees = tt
+shown B (Tend x) i s l agrees = tt
 shown B (Start x) i s l agrees = tt
 shown B (Stop x junk) i s l agrees = tt
 
@@ -151,11 +162,12 @@ lines_speak_at B x n event choice o agree =
     let Of = LineSpeaksOf B kind in
     let replies = reply_lines kind o.replies in
     cond_both o.stopped (Stopped x (reported_cause kind event.fault choice) ∷ [])
-    (dropped_lines o.dropped ++ (start_trace kind o ++ (frame_lines n o.frames ++ replies)))
+    (dropped_lines o.dropped ++ (turn_trace kind choice o ++ (frame_lines n o.frames ++ replies)))
     (Each B kind) (λ stops. (tt, tt))
     (λ goes_on. both Of (dropped_lines o.dropped)
-    (start_trace kind o ++ (frame_lines n o.frames ++ replies)) (dropped B kind o.dropped)
-    (both Of (start_trace kind o) (frame_lines n o.frames ++ replies) (starts B kind o)
+    (turn_trace kind choice o ++ (frame_lines n o.frames ++ replies)) (dropped B kind o.dropped)
+    (both Of (turn_trace kind choice o) (frame_lines n o.frames ++ replies)
+    (turns B kind choice o)
     (both Of (frame_lines n o.frames) replies (sent B kind n o.frames)
     (replied B kind o.replies agree))))
 

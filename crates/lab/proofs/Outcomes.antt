@@ -20,6 +20,7 @@ use Rattle.chain_core.specs.declared.Input.{Input}
 use Rattle.chain_core.specs.declared.Input.TheVariants as input
 use Rattle.chain_core.specs.declared.Sent.{Sent}
 use Rattle.chain_core.specs.{AreFrames, answer_to, frame_as, Machine}
+use Rattle.engine.specs.declared.Tended.TheVariants as tended
 use Rattle.node.specs.declared.Output.{Output}
 use Rattle.node.specs.declared.Reply.{Reply}
 use Rattle.node.specs.declared.Stop.{Stop as Cause}
@@ -33,7 +34,7 @@ use Rattle.lab.specs.declared.event.EventKind.{EventKind}
 use Rattle.lab.specs.declared.node_state.NodeState.{NodeState}
 use Rattle.lab.specs.declared.report.Line.{Line}
 use Rattle.lab.specs.declared.report.Line.TheVariants as line
-use Rattle.lab.specs.Events.{modelled, lines_of_event, dropped_lines, start_trace, frame_line}
+use Rattle.lab.specs.Events.{modelled, lines_of_event, dropped_lines, turn_trace, frame_line}
 use Rattle.lab.specs.Events.{frame_lines}
 use Rattle.lab.specs.Events.{reply_line, reply_lines, reported_cause, told_cause}
 use Rattle.lab.specs.SimNodes.{StateRefines, Choice, is_honest, state}
@@ -119,6 +120,7 @@ CauseFits event choice o =
 abbrev pub StopsSo : Event → Choice → StepOutcome → Bool → Type 0
 StopsSo event choice (done.Answered output) stopped = stopped ≡ false
 StopsSo event choice (done.Started epoch count committed) stopped = stopped ≡ false
+StopsSo event choice (done.Tended did) stopped = stopped ≡ false
 StopsSo event choice (done.Stopped traced) stopped =
     (stopped ≡ true)
     × (reported_cause event.kind event.fault choice ≡ traced)
@@ -157,7 +159,8 @@ pub record IsTraced (x : ℕ) (event : Event) (choice : Choice) (did : StepOutco
   pub ends : StopsSo event choice did o.stopped
 
 abbrev pub chosen : StepResult → Bool → Cause → Choice
-chosen went struck cause = record { went = went; struck = struck; cause = cause }
+chosen went struck cause =
+    record { went = went; struck = struck; cause = cause; tended = tended.Idle }
 
 module _ {g : Ghosts Slots} (cs : Configurations) (w : SystemState BatchContent) (i x : ℕ)
     (kind : EventKind) (it : Fault) (new : NodeState Slots g) (did : StepOutcome) where
@@ -215,7 +218,7 @@ module _ (x : ℕ) (event : Event) (inp : Input) (choice : Choice) (a : Answer B
       (lines_same n output.frames.items a.frames is.frames)
       ∙ ap (λ (rs : List Reply). answered_lines n a rs) is.replied
 
-  answer_traced : (start_trace event.kind (answers x a) ≡ []) →
+  answer_traced : (turn_trace event.kind choice (answers x a) ≡ []) →
       (reply_lines event.kind a.replies
       ≡ map (λ reply. line.Replied reply) (replies_of inp a.replies)) →
       IsTraced x event choice (done.Answered output) (answers x a)
@@ -254,7 +257,7 @@ told_fits (fault.Stop call junk) false cause is = is
 -- a drop has a line with its reason
 pub drop_traced : (x : ℕ) (event : Event) (choice : Choice) (n : Machine)
     (why : DropReason) (output : Output) → IsDrop why output →
-    start_trace event.kind (answers x (dropped_for n why)) ≡ [] →
+    turn_trace event.kind choice (answers x (dropped_for n why)) ≡ [] →
     IsTraced x event choice (done.Answered output) (answers x (dropped_for n why))
 drop_traced x event choice n why output is starts =
     answer_traced x event input.Tick choice (dropped_for n why) output (record {
@@ -285,7 +288,7 @@ module _ {g : Ghosts Slots} (cs : Configurations) (w : SystemState BatchContent)
     (answers x (down_answer (w.nodes x) inp)))
     (causes : (choice : Choice) →
     reported_cause kind it choice ≡ told_cause it choice.struck choice.cause)
-    (starts : (o : Outcome BatchContent) → start_trace kind o ≡ [])
+    (starts : (choice : Choice) (o : Outcome BatchContent) → turn_trace kind choice o ≡ [])
     (replies : (r : request.Response BatchContent) → reply_line kind r
     ≡ map (λ reply. line.Replied reply) (replies_to_response inp r)) where
   runs : (choice : Choice) → (w.nodes x).running ≡ true → outcome w cs (modelled i kind choice)
@@ -303,7 +306,7 @@ module _ {g : Ghosts Slots} (cs : Configurations) (w : SystemState BatchContent)
       (chosen Answered struck Disk) d (answers x a))
       (sym traced.1)
       (answer_traced x (with_fault kind it) inp (chosen Answered struck Disk) a traced.0 traced.2
-      (starts (answers x a))
+      (starts (chosen Answered struck Disk) (answers x a))
       (shows_so inp kind a.replies replies))
 
   -- .. or stops so

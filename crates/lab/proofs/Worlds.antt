@@ -31,7 +31,9 @@ use Rattle.lab.specs.declared.input.NodeInput.TheVariants as to_node
 use Rattle.lab.specs.declared.input.StepOutcome.{StepOutcome}
 use Rattle.lab.specs.declared.event.Event.{Event}
 use Rattle.lab.specs.declared.event.EventKind.{EventKind}
-use Rattle.lab.specs.declared.event.EventKind.TheVariants.{Submit, Get, Deliver, Tick, Start, Stop}
+use Rattle.lab.specs.declared.event.EventKind.TheVariants.{Submit, Get, Deliver, Tick, Tend, Start}
+use Rattle.lab.specs.declared.event.EventKind.TheVariants.{Stop}
+use Rattle.engine.specs.declared.Tended.TheVariants as tended
 use Rattle.lab.specs.declared.delivery.Posted.{Posted}
 use Rattle.lab.specs.declared.report.Line.{Line}
 use Rattle.lab.specs.declared.report.Line.TheVariants.{Nothing}
@@ -189,6 +191,8 @@ module _ (in_order : AlwaysInOrder) (cs : Configurations) (events : List Event)
           brings.there brings.same
       has_it (Tick node) names brings =
           subst (λ (y : ℕ). has (at_epoch cs 0) y ≡ true) (sym brings.0) names
+      has_it (Tend node) names brings =
+          subst (λ (y : ℕ). has (at_epoch cs 0) y ≡ true) (sym brings.0) names
       has_it (Start node) names brings =
           subst (λ (y : ℕ). has (at_epoch cs 0) y ≡ true) (sym brings.0) names
       has_it (Stop node junk) names brings =
@@ -291,6 +295,7 @@ module _ (in_order : AlwaysInOrder) (cs : Configurations) (events : List Event)
       named (Get node key at) brings = has_it node brings.0
       named (Deliver p) brings = tt
       named (Tick node) brings = has_it node brings.0
+      named (Tend node) brings = has_it node brings.0
       named (Start node) brings = has_it node brings.0
       named (Stop node junk) brings = has_it node brings.0
 
@@ -315,13 +320,15 @@ module _ (in_order : AlwaysInOrder) (cs : Configurations) (events : List Event)
   stopped_next (Get node key at) x node_input lines now more brings t = tt
   stopped_next (Deliver p) x node_input lines now more brings t = tt
   stopped_next (Tick node) x node_input lines now more brings t = tt
+  stopped_next (Tend node) x node_input lines now more brings t = tt
   stopped_next (Start node) x node_input lines now more brings t = tt
 
   -- no frame has the place
   nothing_next : HasNoDelivery w.frames event.kind →
       RunRefines sims posted cs (events ++ event ∷ []) (steps ++ (Nothing ∷ []) ∷ [])
   nothing_next brings =
-      let choice : Choice = record { went = Answered; struck = false; cause = Disk } in
+      let choice : Choice =
+      record { went = Answered; struck = false; cause = Disk; tended = tended.Idle } in
       let none = nothing_done cs w i event.kind choice brings in
       let same : after w nothing ≡ state_after cs w (modelled i event.kind choice) =
       ap (after w) (sym none) in

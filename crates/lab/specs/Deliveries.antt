@@ -11,7 +11,8 @@ use Rattle.chain_core.specs.{frame_as}
 use Rattle.lab.specs.declared.input.NodeInput.{NodeInput}
 use Rattle.lab.specs.declared.input.NodeInput.TheVariants as to_node
 use Rattle.lab.specs.declared.event.EventKind.{EventKind}
-use Rattle.lab.specs.declared.event.EventKind.TheVariants.{Submit, Get, Deliver, Tick, Start, Stop}
+use Rattle.lab.specs.declared.event.EventKind.TheVariants.{Submit, Get, Deliver, Tick, Tend, Start}
+use Rattle.lab.specs.declared.event.EventKind.TheVariants.{Stop}
 use Rattle.lab.specs.declared.delivery.Posted.{Posted}
 
 -- the input that a frame is to its addressee
@@ -48,6 +49,7 @@ IsDeliveryOf frames i (Get node key at) x node_input =
     (x ≡ node) × (node_input ≡ to_node.Step (input.Get i key at))
 IsDeliveryOf frames i (Deliver p) x node_input = IsDelivered frames p x node_input
 IsDeliveryOf frames i (Tick node) x node_input = (x ≡ node) × (node_input ≡ to_node.Step input.Tick)
+IsDeliveryOf frames i (Tend node) x node_input = (x ≡ node) × (node_input ≡ to_node.Tend)
 IsDeliveryOf frames i (Start node) x node_input = (x ≡ node) × (node_input ≡ to_node.Start)
 IsDeliveryOf frames i (Stop node junk) x node_input = (x ≡ node) × (node_input ≡ to_node.Stop junk)
 

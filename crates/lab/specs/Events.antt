@@ -10,13 +10,15 @@ use Rattle.chain_model.specs.{SystemEvent}
 use Rattle.chain_model.specs.declared.DropReason.{DropReason}
 use Rattle.chain_model.specs as model_frame
 use Rattle.chain_core.specs.{Machine}
+use Rattle.engine.specs.declared.Tended.{Tended}
 use Rattle.node.specs.declared.Stop.{Stop as Cause}
 use Rattle.node.specs.declared.Stop.TheVariants.{Disk}
 use Rattle.node.specs.declared.Reply.TheVariants as reply
 use Rattle.node.specs.{IsEnvironmental}
 use Rattle.lab.specs.declared.event.Event.{Event}
 use Rattle.lab.specs.declared.event.EventKind.{EventKind}
-use Rattle.lab.specs.declared.event.EventKind.TheVariants.{Submit, Get, Deliver, Tick, Start, Stop}
+use Rattle.lab.specs.declared.event.EventKind.TheVariants.{Submit, Get, Deliver, Tick, Tend, Start}
+use Rattle.lab.specs.declared.event.EventKind.TheVariants.{Stop}
 use Rattle.lab.specs.declared.report.Line.{Line}
 use Rattle.lab.specs.declared.report.Line.TheVariants as line
 use Rattle.lab.specs.SimNodes.{Choice}
@@ -27,6 +29,7 @@ node_in (Submit node batch) = Some node
 node_in (Get node key at) = Some node
 node_in (Deliver place) = None
 node_in (Tick node) = Some node
+node_in (Tend node) = Some node
 node_in (Start node) = Some node
 node_in (Stop node junk) = Some node
 
@@ -45,6 +48,7 @@ modelled i (Submit node batch) choice =
 modelled i (Get node key at) choice = SystemEvent.Ask node i (Request.Read at) choice.went
 modelled i (Deliver place) choice = SystemEvent.Deliver place choice.went
 modelled i (Tick node) choice = SystemEvent.Tick node choice.went
+modelled i (Tend node) choice = SystemEvent.Tend node false 0 choice.went
 modelled i (Start node) choice = SystemEvent.Start node choice.went
 modelled i (Stop node junk) choice = SystemEvent.Stop node
 
@@ -62,13 +66,19 @@ if_started None None = []
 if_started None (Some at) = start_line at.0 at.1 ∷ []
 if_started (Some why) at = []
 
-abbrev pub start_trace : EventKind → model_frame.Outcome BatchContent → List Line
-start_trace (Start node) o = if_started o.dropped o.acted_on
-start_trace (Submit node batch) o = []
-start_trace (Get node key at) o = []
-start_trace (Deliver place) o = []
-start_trace (Tick node) o = []
-start_trace (Stop node junk) o = []
+-- a node that tended has a line of what it did
+abbrev pub if_tended : Option DropReason → Tended → List Line
+if_tended None did = line.Tended did ∷ []
+if_tended (Some why) did = []
+
+abbrev pub turn_trace : EventKind → Choice → model_frame.Outcome BatchContent → List Line
+turn_trace (Start node) choice o = if_started o.dropped o.acted_on
+turn_trace (Tend node) choice o = if_tended o.dropped choice.tended
+turn_trace (Submit node batch) choice o = []
+turn_trace (Get node key at) choice o = []
+turn_trace (Deliver place) choice o = []
+turn_trace (Tick node) choice o = []
+turn_trace (Stop node junk) choice o = []
 
 -- a frame that is sent has a line with its place among all, from 1
 abbrev pub frame_line : ℕ → model_frame.Message BatchContent → Line
@@ -89,6 +99,7 @@ value_lines (Get node key at) i s batches =
 value_lines (Submit node batch) i s batches = []
 value_lines (Deliver place) i s batches = []
 value_lines (Tick node) i s batches = []
+value_lines (Tend node) i s batches = []
 value_lines (Start node) i s batches = []
 value_lines (Stop node junk) i s batches = []
 
@@ -117,14 +128,15 @@ reported_cause (Submit node batch) fault choice = told_cause fault choice.struck
 reported_cause (Get node key at) fault choice = told_cause fault choice.struck choice.cause
 reported_cause (Deliver place) fault choice = told_cause fault choice.struck choice.cause
 reported_cause (Tick node) fault choice = told_cause fault choice.struck choice.cause
+reported_cause (Tend node) fault choice = told_cause fault choice.struck choice.cause
 reported_cause (Start node) fault choice = told_cause fault choice.struck choice.cause
 
--- the lines of an event at node x: why it was dropped, then a start, then frames, then
+-- the lines of an event at node x: why it was dropped, then a start or a tend, then frames, then
 -- replies
 abbrev pub lines_at : ℕ → ℕ → Event → Choice → model_frame.Outcome BatchContent → List Line
 lines_at x sent event choice o =
     if o.stopped then line.Stopped x (reported_cause event.kind event.fault choice) ∷ []
-    else dropped_lines o.dropped ++ (start_trace event.kind o
+    else dropped_lines o.dropped ++ (turn_trace event.kind choice o
     ++ (frame_lines sent o.frames ++ reply_lines event.kind o.replies))
 
 -- the lines of an event, after so many frames

@@ -10,7 +10,8 @@ use Rattle.node.specs.declared.Reply.{Reply}
 use Rattle.node.specs.declared.Reply.TheVariants.{Committed, Value, Refused}
 use Rattle.lab.specs.declared.event.Event.{Event}
 use Rattle.lab.specs.declared.event.EventKind.{EventKind}
-use Rattle.lab.specs.declared.event.EventKind.TheVariants.{Submit, Get, Deliver, Tick, Start, Stop}
+use Rattle.lab.specs.declared.event.EventKind.TheVariants.{Submit, Get, Deliver, Tick, Tend, Start}
+use Rattle.lab.specs.declared.event.EventKind.TheVariants.{Stop}
 use Rattle.lab.specs.declared.report.Line.{Line}
 use Rattle.lab.specs.declared.report.Line.TheVariants as line
 use Rattle.lab.specs.declared.report.NodeReport.{NodeReport}
@@ -27,6 +28,7 @@ with_batch i (Submit node batch) later = (i, batch) ∷ later
 with_batch i (Get node key at) later = later
 with_batch i (Deliver place) later = later
 with_batch i (Tick node) later = later
+with_batch i (Tend node) later = later
 with_batch i (Start node) later = later
 with_batch i (Stop node junk) later = later
 
@@ -41,6 +43,7 @@ ShowsOf B (Get node key at) s value =
 ShowsOf B (Submit node batch) s value = ⊥
 ShowsOf B (Deliver place) s value = ⊥
 ShowsOf B (Tick node) s value = ⊥
+ShowsOf B (Tend node) s value = ⊥
 ShowsOf B (Start node) s value = ⊥
 ShowsOf B (Stop node junk) s value = ⊥
 
@@ -58,6 +61,7 @@ LineSpeaksOf B kind (line.Started node epoch count committed) = Unit {0}
 LineSpeaksOf B kind (line.Forwarded place from to epoch number) = Unit {0}
 LineSpeaksOf B kind (line.Acknowledged place from to epoch committed have) = Unit {0}
 LineSpeaksOf B kind (line.Stopped node cause) = Unit {0}
+LineSpeaksOf B kind (line.Tended did) = Unit {0}
 
 -- each line of an event speaks of B
 abbrev pub StepSpeaksOf : List Placed → Event → List Line → Type 0

@@ -7,6 +7,7 @@ use Rattle.disk.specs.declared.Fault.{Fault}
 use Rattle.disk.specs.declared.Junk.{Junk}
 use Rattle.disk.specs.{RisesByOne, CrashOutcome, State, struck_call}
 use Rattle.chain_model.specs.{Answer, dropped_for, refused, started, stopped}
+use Rattle.engine.specs.declared.Tended.{Tended}
 use Rattle.link_messages.specs.declared.Frame.{Frame}
 use Rattle.link_messages.specs.declared.Frame.TheVariants as frame
 use Rattle.chain_model.specs.declared.Refusal.TheVariants as refusal
@@ -65,6 +66,7 @@ pub record IsRefusal (i : ℕ) (output : Output) : Type 0 where
 abbrev pub IsAnswerAtRest : NodeInput → Output → Type 0
 IsAnswerAtRest (to_node.Step inp) output = (n : Machine) → IsAnswer inp (down_answer n inp) output
 IsAnswerAtRest (to_node.BadFrame why) output = IsDrop reason.NotRunning output
+IsAnswerAtRest to_node.Tend output = IsDrop reason.NotRunning output
 IsAnswerAtRest to_node.Start output = Unit {0}
 IsAnswerAtRest (to_node.Stop junk) output = IsDrop reason.NotRunning output
 
@@ -109,6 +111,19 @@ pub data HasHandled {D : Type 0} {g : Ghosts D} (is_honest : D → Type 0) (stat
       → HasAnswered did (IsAnswer inp (down_answer n inp))
       → HasHandled is_honest state fault struck x n inp new did
 
+-- a tend: the node ran, is as it was, and tells what it did; or it stopped by itself; or it is down
+pub data HasTended {D : Type 0} {g : Ghosts D} (is_honest : D → Type 0) (state : D → State) (fault : Fault)
+    (struck : Bool) (x : ℕ) (n : Machine) (new : NodeState D g) (did : StepOutcome) : Type 0 where
+  Tends : n.running ≡ true → StateRefines is_honest state new x n
+      → (answer : Tended) × (did ≡ done.Tended answer)
+      → HasTended is_honest state fault struck x n new did
+  Halts : n.running ≡ true → StopsByItself fault struck did
+      → StateRefines is_honest state new x (stopped n)
+      → HasTended is_honest state fault struck x n new did
+  TendsNot : n.running ≡ false → StateRefines is_honest state new x n
+      → HasAnswered did (IsDrop reason.NotRunning)
+      → HasTended is_honest state fault struck x n new did
+
 -- a node was started: it runs as the machine that was started, or stopped by itself; or it ran
 pub data HasStarted {D : Type 0} {g : Ghosts D} (is_honest : D → Type 0) (state : D → State) (fault : Fault)
     (struck : Bool) (x : ℕ) (n : Machine) (new : NodeState D g) (did : StepOutcome) : Type 0 where
@@ -149,6 +164,8 @@ OutcomeRefines is_honest state fault struck x n (to_node.Step inp) new did =
     HasHandled is_honest state fault struck x n inp new did
 OutcomeRefines is_honest state fault struck x n (to_node.BadFrame why) new did =
     HasDropped is_honest state x n why new did
+OutcomeRefines is_honest state fault struck x n to_node.Tend new did =
+    HasTended is_honest state fault struck x n new did
 OutcomeRefines is_honest state fault struck x n to_node.Start new did =
     HasStarted is_honest state fault struck x n new did
 OutcomeRefines is_honest state fault struck x n (to_node.Stop junk) new did =
@@ -161,6 +178,7 @@ abbrev pub input_junk : NodeInput → Option Junk
 input_junk (to_node.Stop junk) = Some junk
 input_junk (to_node.Step inp) = None
 input_junk (to_node.BadFrame why) = None
+input_junk to_node.Tend = None
 input_junk to_node.Start = None
 
 -- no call of the disk failed, so no fault struck, and a node that is down has the same one
@@ -198,6 +216,8 @@ abbrev pub DiskFits : {D : Type 0} {g : Ghosts D} → (D → State) → (D → �
     → StepOutcome → D → NodeState D g → Type 0
 DiskFits state failures calls junk fault struck (done.Answered output) old new =
     DiskStays failures struck old new
+DiskFits state failures calls junk fault struck (done.Tended answer) old new =
+    DiskStays failures struck old new
 DiskFits state failures calls junk fault struck (done.Started epoch count committed) old new =
     DiskStays failures struck old new
 DiskFits state failures calls junk fault struck (done.Stopped None) old new =
@@ -213,11 +233,13 @@ abbrev pub StateFollows : {D : Type 0} {g : Ghosts D} → (D → Type 0) → (D 
     → NodeState D g → NodeInput → NodeState D g → Type 0
 StateFollows is_honest state failures calls (Up node) (to_node.Step inp) new = Unit {0}
 StateFollows is_honest state failures calls (Up node) (to_node.BadFrame why) new = new ≡ Up node
+StateFollows is_honest state failures calls (Up node) to_node.Tend new = Unit {0}
 StateFollows is_honest state failures calls (Up node) to_node.Start new = new ≡ Up node
 StateFollows is_honest state failures calls (Up node) (to_node.Stop junk) new =
     is_honest (disk_of node) → HasCrashed state failures calls junk (disk_of node) new
 StateFollows is_honest state failures calls (Down disk) (to_node.Step inp) new = new ≡ Down disk
 StateFollows is_honest state failures calls (Down disk) (to_node.BadFrame why) new = new ≡ Down disk
+StateFollows is_honest state failures calls (Down disk) to_node.Tend new = new ≡ Down disk
 StateFollows is_honest state failures calls (Down disk) to_node.Start new = Unit {0}
 StateFollows is_honest state failures calls (Down disk) (to_node.Stop junk) new = new ≡ Down disk
 
@@ -248,6 +270,7 @@ abbrev pub sent_by : StepOutcome → List Sent
 sent_by (done.Answered output) = output.frames.items
 sent_by (done.Started epoch count committed) = []
 sent_by (done.Stopped cause) = []
+sent_by (done.Tended answer) = []
 
 -- the line of a frame that was sent, with its place among all, from 1. (Nodes send these two.)
 abbrev pub sent_as : ℕ → ℕ → Frame → Line
@@ -273,3 +296,4 @@ outcome_lines x before (done.Answered output) =
 outcome_lines x before (done.Started epoch count committed) =
     line.Started x epoch count committed ∷ []
 outcome_lines x before (done.Stopped cause) = line.Stopped x cause ∷ []
+outcome_lines x before (done.Tended answer) = line.Tended answer ∷ []

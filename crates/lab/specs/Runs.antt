@@ -1,6 +1,5 @@
 -- The report of a run, and the run of the model that it refines.
 use Rattle.std.specs.Prelude.{◌≡◌, List, length, Option, Some, None, true, false, All}
-use Rattle.std.specs.Prelude.{replicate}
 use Rattle.chain_model.specs.{Configurations}
 use Rattle.chain_model.specs as model
 use Rattle.chain_core.specs.{Machine}
@@ -12,14 +11,13 @@ use Rattle.lab.specs.Disks.{HaveDisks}
 use Rattle.lab.specs.SimNodes.{Choice, IsUnarmed, state, failures, calls}
 use Rattle.lab.specs.Traces.{modelled_from, IsTrace}
 
--- the numbers are the machine's; it has no tables yet
+-- the numbers are the machine's; how many tables a node has is its store's, and no matter of a run
 pub record NumbersRefine (n : Machine) (numbers : Numbers) : Type 0 where
   pub epoch : numbers.epoch ≡ n.epoch
   pub count : numbers.count ≡ length n.list
   pub committed : numbers.committed ≡ n.committed
   pub floor : numbers.floor ≡ n.floor
   pub kept : numbers.kept ≡ n.kept
-  pub tables : numbers.tables ≡ replicate 7 0
 
 -- a running machine has its numbers in a report, and one that is down has none
 abbrev pub RunningRefines : Option Numbers → Machine → Type 0

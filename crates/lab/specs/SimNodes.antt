@@ -3,6 +3,7 @@ use Rattle.std.specs.Prelude.{◌≡◌, ℕ, Bool, None, false, length}
 use Rattle.disk.specs.{State, Slots, past_states, state_of}
 use Rattle.disk.specs.declared.disk.Disk.{Ghosts}
 use Rattle.chain_model.specs as model
+use Rattle.engine.specs.declared.Tended.{Tended}
 use Rattle.chain_core.specs.{Machine}
 use Rattle.node.specs.declared.Node.{Node}
 use Rattle.node.specs.declared.Stop.{Stop as Cause}
@@ -35,12 +36,13 @@ abbrev pub StateRefines : {D : Type 0} {g : Ghosts D} → (D → Type 0) → (D 
 StateRefines is_honest state (Up node) x n = NodeRefines is_honest state node x n
 StateRefines is_honest state (Down disk) x n = DownRefines is_honest state disk x n
 
--- what the code may choose in a step: how it went, whether the event's fault struck in it, and why
--- the node stopped if it did
+-- what the code may choose in a step: how it went, whether the event's fault struck in it, why the
+-- node stopped if it did, and what it did if it tended
 pub record Choice : Type 0 where
   pub went : model.StepResult
   pub struck : Bool
   pub cause : Cause
+  pub tended : Tended
 
 -- how many calls a disk ever had
 abbrev pub calls_of : {D : Type 0} → Ghosts D → D → ℕ

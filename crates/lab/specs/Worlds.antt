@@ -19,7 +19,8 @@ use Rattle.lab.specs.declared.input.StepOutcome.{StepOutcome}
 use Rattle.lab.specs.declared.event.Event.{Event}
 use Rattle.lab.specs.declared.event.EventRecord.{EventRecord}
 use Rattle.lab.specs.declared.event.EventKind.{EventKind}
-use Rattle.lab.specs.declared.event.EventKind.TheVariants.{Submit, Get, Deliver, Tick, Start, Stop}
+use Rattle.lab.specs.declared.event.EventKind.TheVariants.{Submit, Get, Deliver, Tick, Tend, Start}
+use Rattle.lab.specs.declared.event.EventKind.TheVariants.{Stop}
 use Rattle.lab.specs.declared.node_state.NodeState.TheVariants.{Up}
 use Rattle.lab.specs.declared.report.Line.{Line}
 use Rattle.lab.specs.declared.report.Line.TheVariants as line
@@ -46,6 +47,7 @@ frames_in (line.Dropped reason) = 0
 frames_in (line.Started node epoch count committed) = 0
 frames_in (line.Replied reply) = 0
 frames_in (line.Stopped node cause) = 0
+frames_in (line.Tended did) = 0
 
 -- how many frames the lines of a step show, and those of all steps
 abbrev pub frames_of_step : List Line → ℕ
@@ -165,6 +167,7 @@ StopsNode (Submit node batch) old new = Unit {0}
 StopsNode (Get node key at) old new = Unit {0}
 StopsNode (Deliver place) old new = Unit {0}
 StopsNode (Tick node) old new = Unit {0}
+StopsNode (Tend node) old new = Unit {0}
 StopsNode (Start node) old new = Unit {0}
 
 -- Nodes, posted frames and lines refine the model's run of these events: how each step went was

@@ -140,6 +140,7 @@ pub fn delivery_of(
         }
         EventKind::Deliver { place } => return delivered(alloc, posted, *place),
         EventKind::Tick { node } => (*node, NodeInput::Step(Input::Tick)),
+        EventKind::Tend { node } => (*node, NodeInput::Tend),
         EventKind::Start { node } => (*node, NodeInput::Start),
         EventKind::Stop { node, junk } => (*node, NodeInput::Stop(junk.clone()?)),
     };

@@ -55,6 +55,10 @@ pub enum EventKind {
     Tick {
         node: NodeId,
     },
+    /// A turn to work on the node's files.
+    Tend {
+        node: NodeId,
+    },
     Start {
         node: NodeId,
     },
@@ -74,6 +78,7 @@ impl EventKind {
             EventKind::Submit { node, .. }
             | EventKind::Get { node, .. }
             | EventKind::Tick { node }
+            | EventKind::Tend { node }
             | EventKind::Start { node }
             | EventKind::Stop { node, .. } => Some(*node),
             EventKind::Deliver { .. } => None,
@@ -95,6 +100,7 @@ impl EventKind {
             },
             EventKind::Deliver { place } => EventKind::Deliver { place: *place },
             EventKind::Tick { node } => EventKind::Tick { node: *node },
+            EventKind::Tend { node } => EventKind::Tend { node: *node },
             EventKind::Start { node } => EventKind::Start { node: *node },
             EventKind::Stop { node, junk } => EventKind::Stop {
                 node: *node,

@@ -5,6 +5,7 @@ ghost use Rattle.lab.specs.Outcomes.{IsAnswer, IsAnswerAtRest, IsDrop, IsRefusal
 
 use configurations::Epoch;
 use disk::Junk;
+use engine::Tended;
 use kv_types::Number;
 use link_messages::Refusal;
 use node::{DropReason, Input, Output, Reply, Stop};
@@ -16,6 +17,8 @@ pub enum NodeInput {
     Step(Input),
     /// No frame between nodes, and the reason to drop it.
     BadFrame(DropReason),
+    /// A turn to work on its files.
+    Tend,
     Start,
     /// The machine stops, and its disk crashes.
     Stop(Junk),
@@ -25,6 +28,7 @@ pub enum NodeInput {
 #[derive(Drop)]
 pub enum StepOutcome {
     Answered(Output),
+    Tended(Tended),
     Started {
         epoch: Epoch,
         count: Number,

@@ -15,6 +15,7 @@ mod world;
 // The types that events, lines and reports have, so that a caller names this crate alone.
 pub use configurations::{Config, ConfigError, Configs, Epoch, NodeId};
 pub use disk::{Fault, Junk, JunkBytes, MemDisk};
+pub use engine::Tended;
 pub use error::LabError;
 pub use event::{Event, EventKind, EventRecord, names_node, names_nodes};
 pub use kv_types::{Batch, Key, Limits, Number, Value};

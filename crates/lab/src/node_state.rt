@@ -9,6 +9,7 @@ ghost use Rattle.lab.specs.Disks.{junk_at_end};
 ghost use Rattle.lab.specs.Events.{told_cause};
 ghost use Rattle.lab.specs.SimNodes.{DownRefines, StateRefines, StateIsReady, calls_of, disk_in};
 ghost use Rattle.lab.specs.Outcomes.{DiskFits, HasCrashed, HasHandled, HasStarted, HasDispatched};
+ghost use Rattle.lab.specs.Outcomes.{HasTended};
 ghost use Rattle.lab.specs.Outcomes.{IsExplained, has_struck_in};
 
 use crate::input::{NodeInput, StepOutcome, dropped, output_at_rest};
@@ -135,6 +136,38 @@ fn step<D: Crash + Drop>(
     }
 }
 
+// A node that is up tends its store, on a disk with this fault.
+fn tend<D: Crash + Drop>(
+    alloc: Global,
+    mut node: Node<D>,
+    fault: Fault,
+) -> (NodeState<D>, StepOutcome)
+    requires { IsReady node }
+    ensures ready { StateIsReady result.0 }
+    ensures refines { (x : ℕ) (n : Machine) → NodeRefines D.is_honest D.state node x n →
+        HasTended D.is_honest D.state fault
+        (has_struck_in (calls_of D.Disk) fault (disk_of node) result.0) x n result.0 result.1 }
+    ensures disk { D.is_honest (disk_of node) →
+        DiskFits D.state D.failures (calls_of D.Disk) None fault
+        (has_struck_in (calls_of D.Disk) fault (disk_of node) result.0) result.1 (disk_of node)
+        result.0 }
+    ensures only { (x : ℕ) (n : Machine) → NodeRefines D.is_honest D.state node x n →
+        D.is_reliable (disk_of node) → IsExplained (D.state (disk_of node))
+        (has_struck_in (calls_of D.Disk) fault (disk_of node) result.0) result.1 }
+    ensures forgets { D.is_honest (disk_of node) → D.fault_at (disk_in result.0) ≡ None }
+{
+    full_logs_are_long::<D>(); // law: where a log is nearly full, a file is long
+    node.arm(&fault);
+    match node.tend(alloc) {
+        Ok(did) => {
+            drop(fault);
+            node.arm(&Fault::None);
+            (NodeState::Up(node), StepOutcome::Tended(did))
+        }
+        Err(stop) => stop_by_itself(node.into_disk(), stop, fault),
+    }
+}
+
 // A node that is up takes an input, on a disk with this fault.
 fn dispatch_up<D: Crash + Drop>(
     alloc: Global,
@@ -147,6 +180,7 @@ fn dispatch_up<D: Crash + Drop>(
 {
     match input {
         NodeInput::Step(input) => step(alloc, node, input, fault),
+        NodeInput::Tend => tend(alloc, node, fault),
         NodeInput::BadFrame(why) => {
             drop(fault);
             let output = dropped(alloc, why);

@@ -3,6 +3,7 @@ ghost use Rattle.std.specs.Prelude.{◌≡◌};
 
 use configurations::{Epoch, NodeId};
 use disk::MemDisk;
+use engine::Tended;
 use kv_types::Number;
 use node::{DropReason, Reply, Stop};
 use std::marker::Model;
@@ -42,6 +43,8 @@ pub enum Line {
         node: NodeId,
         cause: Option<Stop>,
     },
+    /// What a node did in a tend.
+    Tended(Tended),
 }
 
 /// The lines of one event, in order.

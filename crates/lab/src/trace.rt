@@ -145,6 +145,7 @@ pub fn trace_of(
 {
     match outcome {
         StepOutcome::Answered(output) => Ok(Lines::new(trace_output(alloc, frames, output)?)),
+        StepOutcome::Tended(did) => one_line(alloc, Line::Tended(did)),
         StepOutcome::Started {
             epoch,
             count,

@@ -2,7 +2,7 @@
 //! laws.
 ghost use Rattle.manifest.specs.Edits.{ChangesDiffer};
 ghost use Rattle.manifest.specs.Examples.{FirstSlotIs, TableIs};
-ghost use Rattle.manifest.specs.Laws.{HeldVersionIsLeft, HeldVersionStays};
+ghost use Rattle.manifest.specs.Laws.{EditsKeepVersions, HeldVersionIsLeft, HeldVersionStays};
 ghost use Rattle.manifest.specs.Laws.{VersionIsOne, VersionsAreCreated, VersionsAreLawful};
 ghost use Rattle.manifest.specs.Manifests.{ManifestHasSlots, NoRoomIsFull, SlotsReachGates};
 
@@ -15,6 +15,11 @@ pub fn changes_differ()
 {
     test_decides_config(); // law: the test succeeds exactly for the configurations
 }
+
+/// An edit that a version may take gives a version.
+pub fn edits_keep_versions()
+    ensures { EditsKeepVersions }
+{}
 
 /// The files that a manifest changes are the two slots.
 pub fn manifest_has_slots()

@@ -1,21 +1,21 @@
 -- A running node after its store's part and after a start, and what its disk leaves.
 use Rattle.std.proofs.Common.{◌≡◌, ◌↔◌, ℕ, ◌+◌, ◌<◌, ◌≤◌, List, [], ◌∷◌, ◌++◌, length, true, inl, inr}
-use Rattle.std.proofs.Common.{suc, arith, map, Option, Some, None, refl, sym, ap, subst, ◌∙◌}
+use Rattle.std.proofs.Common.{suc, arith, map, Some, None, refl, sym, ap, subst, ◌∙◌}
 use Rattle.std.proofs.Common.{replicate, length-append}
 use Rattle.std.specs.Prelude.{◌⊎◌, Result, Ok, Err, IfOk, IfErr, IsErrAnd, MatchResult, OnOk}
 use Rattle.std.proofs.lemmas.List.{length-replicate}
 use Rattle.kv_types.specs.{BatchContent}
 use Rattle.disk.specs.declared.Disk.{Ghosts}
-use Rattle.disk.specs.{AlwaysLeaves, Contents, IsCrashOutcome, KeepsDisk, State, contents}
+use Rattle.disk.specs.{AlwaysLeaves, Contents, IsCrashOutcome, KeepsDisk, State}
 use Rattle.disk.specs.MomentsLemmas.{weaker}
 use Rattle.disk.specs.StillLemmas.{still}
 use Rattle.engine.specs.declared.Engine.{Engine}
 use Rattle.engine.specs.{EngineHolds, Facts, FailsDevice, FilesRepresent, IsOfMachine, IsOneOf, engine_disk}
-use Rattle.engine.specs.{LookUps, TellsReadable, facts_of, look_ups}
+use Rattle.engine.specs.{LookUps, OpensAs, TellsReadable, facts_of, look_ups}
 use Rattle.engine.specs.declared.EngineError.TheVariants as engine
 use Rattle.kv_types.specs.declared.bounds.TheConstants.{MAX_NUMBER}
 use Rattle.engine.specs.declared.EngineError.{EngineError}
-use Rattle.chain_model.specs.{place, Answer, created, started, Message}
+use Rattle.chain_model.specs.{place, Answer, started, Message}
 use Rattle.chain_core.specs.declared.Done.{Done}
 use Rattle.chain_core.specs.declared.Done.TheVariants as done
 use Rattle.chain_core.specs.declared.Input.{Input}
@@ -278,6 +278,17 @@ module _ {D : Type 0} (g : Ghosts D) where
           inl (subst (λ (f : Facts). FilesRepresent f n.list left) r.facts it)
       one_of left (inr it) = inr (after left it)
 
+  -- a tend leaves it
+  pub tends : (old : Node D g) (new : D) (x : ℕ) (n : Machine) →
+      NodeRefines g.is_honest g.state old x n →
+      AlwaysLeaves g (disk_of old) new (FilesRepresent (facts_of old.engine) n.list) →
+      AlwaysRefines g (disk_of old) new x n n
+  tends old new x n r run =
+      weaker (FilesRepresent (facts_of old.engine) n.list)
+      (λ left. DiskRefines left x n ⊎ DiskRefines left x n) (g.state (disk_of old))
+      (g.past (disk_of old)) (g.state new) (g.past new)
+      (λ left it. inl (subst (λ (f : Facts). FilesRepresent f n.list left) r.facts it)) run
+
   -- a node whose engine holds what it held runs on
   pub still_runs : (old new : Node D g) (x : ℕ) (n : Machine) →
       NodeRefines g.is_honest g.state old x n → EngineHolds g new.engine n.list →
@@ -366,32 +377,18 @@ module _ {D : Type 0} (g : Ghosts D) where
         (engine_rests engine x n holds facts),
   )
 
-  -- the machine of an engine's facts and a list
-  abbrev pub machine_of : Engine D g → List BatchContent → Machine
-  machine_of engine list = record (created (facts_of engine).ids) {
-    list = list;
-    epoch = (facts_of engine).epoch;
-    floor = (facts_of engine).floor;
-    kept = (facts_of engine).kept;
-  }
-
-  -- the node that runs is one that the disk represented
-  pub started_from : (result : Result (Node D g) (Stop × D)) (disk : D) (engine : Engine D g)
-      (list : List BatchContent) →
-      FilesRepresent (facts_of engine) list (contents (g.state disk)) →
-      IfOk result (λ node. NodeRefines g.is_honest g.state node (facts_of engine).id
-      (started (facts_of engine).id (machine_of engine list))) →
+  -- the files open as what the running node's store tells
+  pub started_from : (result : Result (Node D g) (Stop × D)) (left : Contents)
+      (engine : Engine D g) → OpensAs left (facts_of engine) (look_ups engine).count →
+      IfOk result (λ node. (facts_of node.engine ≡ facts_of engine)
+      × ((look_ups node.engine).count ≡ (look_ups engine).count)) →
       IfErr result (λ refused. refused.0 ≡ stop.Memory) →
-      MatchResult result (IsStarted g.is_honest g.state disk)
-      (λ refused. StartRefusal refused.0 (contents (g.state disk)))
-  started_from (Ok node) disk engine list had runs memory = record {
-    x = (facts_of engine).id;
-    n = machine_of engine list;
-    stood = had;
-    runs = runs;
-  }
-  started_from (Err refused) disk engine list had runs memory =
-      subst (λ (e : Stop). StartRefusal e (contents (g.state disk))) (sym memory) tt
+      MatchResult result (IsStarted left) (λ refused. StartRefusal refused.0 left)
+  started_from (Ok node) left engine opens told memory =
+      subst (λ (k : ℕ). OpensAs left (facts_of node.engine) k) (sym told.1)
+      (subst (λ (f : Facts). OpensAs left f (look_ups engine).count) (sym told.0) opens)
+  started_from (Err refused) left engine opens told memory =
+      subst (λ (e : Stop). StartRefusal e left) (sym memory) tt
 
   -- ---- ends of steps
 

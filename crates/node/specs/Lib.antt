@@ -3,7 +3,7 @@ pub mod Steps
 pub mod Outputs
 pub mod Starts
 -- What crates above name.
-pub use Rattle.engine.specs.{HasLongFile, IsNearlyFull, KeepsOthers}
+pub use Rattle.engine.specs.{HasLongFile, IsAdrift, IsNearlyFull, IsOwned}
 pub use Rattle.node.specs.Steps.{DiskAlwaysRefines, DiskRefines, DiskRepresents, IsReady}
 pub use Rattle.node.specs.Steps.{NodeRefines, StopRefines}
 pub use Rattle.node.specs.Steps.{disk_of, engine_of, replies_of, replies_to_response}

@@ -4,7 +4,7 @@ use Rattle.std.specs.Prelude.{◌≡◌, ◌⊎◌, ℕ, List, Option, Result, M
 use Rattle.kv_types.specs.{BatchContent}
 use Rattle.disk.specs.declared.Disk.{Ghosts}
 use Rattle.disk.specs.{AlwaysLeaves, KeepsDisk, State}
-use Rattle.engine.specs.{IsNearlyFull, KeepsOthers}
+use Rattle.engine.specs.{IsNearlyFull, IsOwned}
 use Rattle.chain_model.specs.{Message, Answer}
 use Rattle.chain_model.specs.declared.DropReason.{DropReason}
 use Rattle.chain_core.specs.declared.Done.{Done}
@@ -72,5 +72,5 @@ StepEnds g old new result x n input a = NodeRefines g.is_honest g.state old x n 
 pub record KeepsNode {D T : Type 0} (g : Ghosts D) (old new : Node D g) (result : Result T Stop) :
     Type 0 where
   pub disk : KeepsDisk g (disk_of old) (disk_of new) (IsDeviceStop result)
-      (IsNearlyFull (engine_of old)) KeepsOthers
+      (IsNearlyFull (engine_of old)) IsOwned
   pub works : OnOk result (IsReady new)

@@ -8,6 +8,7 @@ mod replying;
 mod stop;
 
 pub use chain_core::{DropReason, Input, Sent};
+pub use engine::Tended;
 pub use node::Node;
 pub use output::{Output, Reply};
 pub use stop::Stop;

@@ -1,18 +1,18 @@
 // A running node: its store, and the rules of a step over it.
-ghost use Rattle.std.specs.Prelude.{◌≡◌, ◌↔◌, ℕ, length, replicate};
+ghost use Rattle.std.specs.Prelude.{◌≡◌, ◌⊎◌, ◌↔◌, ℕ, length, slice_index};
 ghost use Rattle.std.specs.Prelude.{◌<◌, ◌≤◌, suc, OnOk, IfOk, IfErr, MatchResult, IsErrAnd};
 ghost use Rattle.kv_types.specs.declared.bounds.TheConstants.{MAX_NUMBER};
-ghost use Rattle.disk.specs.{contents, IsArmed, IsSame, IsStill, KeepsDisk};
+ghost use Rattle.disk.specs.{AlwaysLeaves, contents, IsArmed, IsSame, IsStill, KeepsDisk};
 ghost use Rattle.chain_model.specs.{created, started, accept, append, forwards, on_ack, resend};
-ghost use Rattle.chain_model.specs.{reply_read};
-ghost use Rattle.engine.specs.{EngineHolds, HasEnded, IsJustOpened, IsNearlyFull, IsRecovered};
-ghost use Rattle.engine.specs.{KeepsOthers, engine_disk, facts_of, look_ups};
+ghost use Rattle.chain_model.specs.{reply_read, silent};
+ghost use Rattle.engine.specs.{EngineHolds, HasEnded, IsAdrift, IsJustOpened, IsNearlyFull, IsOwned};
+ghost use Rattle.engine.specs.{TellsTend, engine_disk, facts_of, look_ups, table_count};
 ghost use Rattle.node.specs.Starts.{IsStarted, StartRefusal, disk_behind};
 ghost use Rattle.chain_core.specs.{Machine, CoreRefines, answer_to, done_of, rule_of, AreFrames};
 ghost use Rattle.chain_core.specs.{DecisionFitsCount, IsReadOf};
 ghost use Rattle.chain_core.specs.declared.Decision.{Decision};
-ghost use Rattle.node.specs.Steps.{NodeRefines, DiskAlwaysRefines, IsReady, disk_of, engine_of};
-ghost use Rattle.node.specs.Steps.{HasNumbersOf, facts_for};
+ghost use Rattle.node.specs.Steps.{NodeRefines, DiskAlwaysRefines, DiskRefines, IsReady, disk_of};
+ghost use Rattle.node.specs.Steps.{HasNumbersOf, engine_of, facts_for};
 ghost use Rattle.node.specs.Outputs.{CallRefines, StepEnds, NodeFollows, HasAppended, KeepsNode};
 ghost use Rattle.node.specs.Stops.{IsDeviceStop, IsEnvironmental};
 
@@ -25,7 +25,7 @@ use chain_core::{CoreState, Decision, Done, Input, PendingSubmit, PersistentStat
 use configurations::{Config, Epoch, NodeId};
 use disk::laws::reads_are_outcomes;
 use disk::{Crash, Disk, Fault};
-use engine::Engine;
+use engine::{Engine, Tended};
 use kv_types::{Batch, Key, Limits, Number};
 use std::alloc::Global;
 
@@ -65,6 +65,8 @@ fn run_opened<D: Disk + Drop>(alloc: Global, mut engine: Engine<D>) -> Result<No
     ensures runs { (x : ℕ) (n : Machine) → EngineHolds D.Disk engine n.list →
         facts_of engine ≡ facts_for x n →
         IfOk result (λ node. NodeRefines D.is_honest D.state node x (started x n)) }
+    ensures told { IfOk result (λ node. (facts_of (engine_of node) ≡ facts_of engine)
+        × ((look_ups (engine_of node)).count ≡ (look_ups engine).count)) }
     ensures memory { IfErr result (λ refused. refused.0 ≡ Stop.Memory) }
     ensures works { IfOk result IsReady }
 {
@@ -107,8 +109,8 @@ fn resent<D: Disk + Drop>(
 }
 
 impl<D: Disk + Drop> Node<D> {
-    /// Creates a node's store on a disk, or overwrites an existing one, and runs the node. A
-    /// refusal returns the disk, with none or some of the files begun.
+    /// Creates a node's store on a disk, whose files are all removed first, and runs the node. A
+    /// refusal returns the disk, with any files.
     pub fn create(
         alloc: Global,
         disk: D,
@@ -117,17 +119,17 @@ impl<D: Disk + Drop> Node<D> {
         limits: &Limits,
     ) -> Result<Node<D>, (Stop, D)>
         ensures kept { KeepsDisk D.Disk disk (disk_behind result)
-            (IsErrAnd result (λ refused. refused.0 ≡ Stop.Disk)) ⊥ KeepsOthers }
+            (IsErrAnd result (λ refused. refused.0 ≡ Stop.Disk)) ⊥ IsOwned }
         ensures created { D.is_honest disk →
             MatchResult result (λ node. NodeRefines D.is_honest D.state node id
             (created config.now))
             (λ refused. IsEnvironmental refused.0) }
         ensures works { IfOk result IsReady }
     {
-        let (Ok(known), Ok(stored)) = (config.clone(), config.clone()) else {
+        let Ok(known) = config.clone() else {
             return Err((Stop::Memory, disk));
         };
-        match Engine::create(alloc, disk, id, stored, limits) {
+        match Engine::create(alloc, disk, id, config, limits) {
             Ok(engine) => Ok(Node {
                 engine,
                 core: CoreState::created(alloc, id, known),
@@ -139,16 +141,20 @@ impl<D: Disk + Drop> Node<D> {
     /// Runs the node of the disk. A refusal returns the disk.
     pub fn start(alloc: Global, disk: D, limits: &Limits) -> Result<Node<D>, (Stop, D)>
         ensures kept { KeepsDisk D.Disk disk (disk_behind result)
-            (IsErrAnd result (λ refused. refused.0 ≡ Stop.Disk)) ⊥ IsRecovered }
+            (IsErrAnd result (λ refused. refused.0 ≡ Stop.Disk)) ⊥ IsOwned }
         ensures started { (x : ℕ) (n : Machine) → D.is_honest disk →
             DiskAlwaysRefines (D.state disk) x n →
             MatchResult result (λ node. NodeRefines D.is_honest D.state node x (started x n))
             (λ refused. IsEnvironmental refused.0 × DiskAlwaysRefines (D.state refused.1) x n) }
         ensures told { D.is_honest disk →
-            MatchResult result (IsStarted D.is_honest D.state disk)
+            MatchResult result (IsStarted (contents (D.state disk)))
             (λ refused. StartRefusal refused.0 (contents (D.state disk))) }
         ensures works { IfOk result IsReady }
-        ensures still { IsStill D.Disk disk (disk_behind result) }
+
+        // A crash at any moment since the call began leaves the disk of the same machine.
+        ensures any_moment { (x : ℕ) (n : Machine) → D.is_honest disk →
+            DiskAlwaysRefines (D.state disk) x n →
+            AlwaysLeaves D.Disk disk (disk_behind result) (λ left. DiskRefines left x n) }
     {
         reads_are_outcomes(); // law: what a disk reads is an outcome of a crash
         match Engine::open(alloc, disk, limits) {
@@ -244,7 +250,7 @@ impl<D: Disk + Drop> Node<D> {
             IsReadOf n input (Decision.Read request key at) →
             StepEnds D.Disk self.old self.new result x n input (reply_read n request at) }
     {
-        let value = self.engine.get(at, &key)?;
+        let value = self.engine.get(alloc, at, &key)?;
         value_output(alloc, request, at, value)
     }
 
@@ -278,6 +284,21 @@ impl<D: Disk + Drop> Node<D> {
     {
         let decision = decide(&self.core, input);
         self.perform(alloc, decision)
+    }
+
+    /// Does the first that is due in its store: a rewrite of the manifest, or a flush. After a `Stop`
+    /// the node has ended.
+    pub fn tend(&mut self, alloc: Global) -> Result<Tended, Stop>
+        requires { IsReady self.old }
+        ensures kept { KeepsDisk D.Disk (disk_of self.old) (disk_of self.new) (IsDeviceStop result)
+            (IsNearlyFull (engine_of self.old) ⊎ IsAdrift D.Disk (engine_of self.old)) IsOwned }
+        ensures works { OnOk result (IsReady self.new) }
+        ensures ends { (x : ℕ) (n : Machine) → NodeRefines D.is_honest D.state self.old x n →
+            CallRefines D.Disk self.old self.new x n (silent n)
+            (λ tended. NodeRefines D.is_honest D.state self.new x n
+            × TellsTend (engine_of self.old) (engine_of self.new) tended) result }
+    {
+        Ok(self.engine.tend(alloc)?)
     }
 
     pub fn id(&self) -> NodeId
@@ -338,7 +359,8 @@ impl<D: Disk + Drop> Node<D> {
 
     /// The number of tables of each level.
     pub fn tables(&self) -> [u64; 7]
-        ensures { result ≡ replicate 7 0 }
+        ensures { (level : ℕ) → level < 7 →
+            slice_index result level ≡ table_count (engine_of self.now) level }
     {
         self.engine.tables()
     }

@@ -15,7 +15,7 @@ use Rattle.kv_types.specs.declared.Edit.{Edit}
 use Rattle.kv_types.specs.declared.Edit.TheVariants.{Put, Delete}
 use Rattle.lab.specs.declared.Event.{Event}
 use Rattle.lab.specs.declared.EventKind.{EventKind}
-use Rattle.lab.specs.declared.EventKind.TheVariants.{Submit, Get, Deliver, Tick, Start, Stop}
+use Rattle.lab.specs.declared.EventKind.TheVariants.{Submit, Get, Deliver, Tick, Tend, Start, Stop}
 use Rattle.program.specs.Words.{AreBytes, is_plain, bytes_text}
 use Rattle.program.specs.Words.{begins_fault, has_fault, before_fault, from_fault}
 use Rattle.program.specs.Statements.{AreBytesIn, AreBytesOf, CanBeSaid, edit_word, hex_text, IsJunk}
@@ -81,6 +81,8 @@ no_fault (Get node key (Some at)) words said e =
 no_fault (Deliver place) words said e =
     rw (e, number_begins (decimal place) (number_read place said)) refl
 no_fault (Tick node) words said e =
+    rw (e, number_begins (decimal node) (number_read node said)) refl
+no_fault (Tend node) words said e =
     rw (e, number_begins (decimal node) (number_read node said)) refl
 no_fault (Start node) words said e =
     rw (e, number_begins (decimal node) (number_read node said)) refl
@@ -163,6 +165,7 @@ opens (Get node key None) words e = (_, e)
 opens (Get node key (Some at)) words e = (_, e)
 opens (Deliver place) words e = (_, e)
 opens (Tick node) words e = (_, e)
+opens (Tend node) words e = (_, e)
 opens (Start node) words e = (_, e)
 opens (Stop node junk) words (inl p) = (_, p.1)
 opens (Stop node junk) words (inr p) = (_, p.2)

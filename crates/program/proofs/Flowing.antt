@@ -7,7 +7,7 @@ use Rattle.lab.specs.Configuration.{Configurations}
 use Rattle.lab.specs.declared.Event as lab
 use Rattle.kv_types.specs.declared.KvError.{KvError}
 use Rattle.lab.specs.declared.EventKind.{EventKind}
-use Rattle.lab.specs.declared.EventKind.TheVariants.{Submit, Get, Deliver, Tick, Start, Stop}
+use Rattle.lab.specs.declared.EventKind.TheVariants.{Submit, Get, Deliver, Tick, Tend, Start, Stop}
 use Rattle.lab.specs.declared.Line.{Line}
 use Rattle.lab.specs.declared.World.{World}
 use Rattle.lab.specs.declared.Report.{Report}
@@ -308,6 +308,7 @@ leaves_all (Submit node batch) left other = refl
 leaves_all (Get node key at) left other = refl
 leaves_all (Deliver place) left other = absurd (other place refl)
 leaves_all (Tick node) left other = refl
+leaves_all (Tend node) left other = refl
 leaves_all (Start node) left other = refl
 leaves_all (Stop node junk) left other = refl
 

@@ -7,7 +7,7 @@ use Rattle.std.proofs.lemmas.Bool.{cases_Bool}
 use Rattle.std.proofs.lemmas.Bool.Decides.{nat_tests}
 use Rattle.lab.specs.Machine.{without}
 use Rattle.lab.specs.declared.EventKind.{EventKind}
-use Rattle.lab.specs.declared.EventKind.TheVariants.{Submit, Get, Deliver, Tick, Start, Stop}
+use Rattle.lab.specs.declared.EventKind.TheVariants.{Submit, Get, Deliver, Tick, Tend, Start, Stop}
 use Rattle.program.specs.declared.script.statement.Action.{Action}
 use Rattle.program.specs.declared.script.statement.Action.TheVariants.{Event, Invalid, Flow}
 use Rattle.program.specs.ScriptRuns.{IsRising, places_after, left_after, left_after_event, most}
@@ -108,6 +108,7 @@ event_rises (Submit node batch) xs low high up = up
 event_rises (Get node key at) xs low high up = up
 event_rises (Deliver place) xs low high up = without_rises xs low high place up
 event_rises (Tick node) xs low high up = up
+event_rises (Tend node) xs low high up = up
 event_rises (Start node) xs low high up = up
 event_rises (Stop node junk) xs low high up = up
 

@@ -6,6 +6,7 @@ pub mod Places
 pub mod FirstLine
 pub mod FaultWords
 pub mod Placing
+pub mod Limits
 pub mod Ids
 pub mod Going
 pub mod Escape

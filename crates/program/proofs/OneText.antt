@@ -20,7 +20,7 @@ use Rattle.program.specs.Statements.{edit_word, hex_text, IsJunk, IsSpelled}
 use Rattle.program.specs.Words.{AreBytes}
 use Rattle.program.specs.Statements.{AreBytesIn, AreBytesOf, CanBeSaid}
 use Rattle.lab.specs.declared.EventKind.{EventKind}
-use Rattle.lab.specs.declared.EventKind.TheVariants.{Submit, Get, Deliver, Tick, Start, Stop}
+use Rattle.lab.specs.declared.EventKind.TheVariants.{Submit, Get, Deliver, Tick, Tend, Start, Stop}
 
 abbrev head : List ℕ → ℕ
 head [] = 0
@@ -229,6 +229,7 @@ name_of (Submit node edits) = codes "submit"
 name_of (Get node key at) = codes "get"
 name_of (Deliver place) = codes "deliver"
 name_of (Tick node) = codes "tick"
+name_of (Tend node) = codes "tend"
 name_of (Start node) = codes "start"
 name_of (Stop node junk) = codes "stop"
 
@@ -239,6 +240,7 @@ named (Get node key None) words e = ap first_word e
 named (Get node key (Some at)) words e = ap first_word e
 named (Deliver place) words e = ap first_word e
 named (Tick node) words e = ap first_word e
+named (Tend node) words e = ap first_word e
 named (Start node) words e = ap first_word e
 named (Stop node junk) words (inl p) = ap first_word p.1
 named (Stop node junk) words (inr p) = ap first_word p.2
@@ -312,6 +314,8 @@ one_event (Submit m es) (Deliver n) words la lb e f =
     clash 98 108 (apart (Submit m es) (Deliver n) words e f) refl
 one_event (Submit m es) (Tick n) words la lb e f =
     clash 98 99 (apart (Submit m es) (Tick n) words e f) refl
+one_event (Submit m es) (Tend n) words la lb e f =
+    clash 98 110 (apart (Submit m es) (Tend n) words e f) refl
 one_event (Submit m es) (Start n) words la lb e f =
     clash 98 97 (apart (Submit m es) (Start n) words e f) refl
 one_event (Submit m es) (Stop n j) words la lb e f =
@@ -323,6 +327,8 @@ one_event (Get m k o) (Deliver n) words la lb e f =
     clash 116 108 (apart (Get m k o) (Deliver n) words e f) refl
 one_event (Get m k o) (Tick n) words la lb e f =
     clash 116 99 (apart (Get m k o) (Tick n) words e f) refl
+one_event (Get m k o) (Tend n) words la lb e f =
+    clash 116 110 (apart (Get m k o) (Tend n) words e f) refl
 one_event (Get m k o) (Start n) words la lb e f =
     clash 116 97 (apart (Get m k o) (Start n) words e f) refl
 one_event (Get m k o) (Stop n j) words la lb e f =
@@ -335,6 +341,8 @@ one_event (Deliver m) (Deliver n) words la lb e f =
     rw (one_number m n la lb (ap (λ w. first_word (words_behind w)) (sym e ∙ f))) refl
 one_event (Deliver m) (Tick n) words la lb e f =
     clash 108 99 (apart (Deliver m) (Tick n) words e f) refl
+one_event (Deliver m) (Tend n) words la lb e f =
+    clash 108 110 (apart (Deliver m) (Tend n) words e f) refl
 one_event (Deliver m) (Start n) words la lb e f =
     clash 108 97 (apart (Deliver m) (Start n) words e f) refl
 one_event (Deliver m) (Stop n j) words la lb e f =
@@ -347,10 +355,26 @@ one_event (Tick m) (Deliver n) words la lb e f =
     clash 99 108 (apart (Tick m) (Deliver n) words e f) refl
 one_event (Tick m) (Tick n) words la lb e f =
     rw (one_number m n la lb (ap (λ w. first_word (words_behind w)) (sym e ∙ f))) refl
+one_event (Tick m) (Tend n) words la lb e f =
+    clash 99 110 (apart (Tick m) (Tend n) words e f) refl
 one_event (Tick m) (Start n) words la lb e f =
     clash 99 97 (apart (Tick m) (Start n) words e f) refl
 one_event (Tick m) (Stop n j) words la lb e f =
     clash 99 111 (apart (Tick m) (Stop n j) words e f) refl
+one_event (Tend m) (Submit n fs) words la lb e f =
+    clash 110 98 (apart (Tend m) (Submit n fs) words e f) refl
+one_event (Tend m) (Get n l p) words la lb e f =
+    clash 110 116 (apart (Tend m) (Get n l p) words e f) refl
+one_event (Tend m) (Deliver n) words la lb e f =
+    clash 110 108 (apart (Tend m) (Deliver n) words e f) refl
+one_event (Tend m) (Tick n) words la lb e f =
+    clash 110 99 (apart (Tend m) (Tick n) words e f) refl
+one_event (Tend m) (Tend n) words la lb e f =
+    rw (one_number m n la lb (ap (λ w. first_word (words_behind w)) (sym e ∙ f))) refl
+one_event (Tend m) (Start n) words la lb e f =
+    clash 110 97 (apart (Tend m) (Start n) words e f) refl
+one_event (Tend m) (Stop n j) words la lb e f =
+    clash 110 111 (apart (Tend m) (Stop n j) words e f) refl
 one_event (Start m) (Submit n fs) words la lb e f =
     clash 97 98 (apart (Start m) (Submit n fs) words e f) refl
 one_event (Start m) (Get n l p) words la lb e f =
@@ -359,6 +383,8 @@ one_event (Start m) (Deliver n) words la lb e f =
     clash 97 108 (apart (Start m) (Deliver n) words e f) refl
 one_event (Start m) (Tick n) words la lb e f =
     clash 97 99 (apart (Start m) (Tick n) words e f) refl
+one_event (Start m) (Tend n) words la lb e f =
+    clash 97 110 (apart (Start m) (Tend n) words e f) refl
 one_event (Start m) (Start n) words la lb e f =
     rw (one_number m n la lb (ap (λ w. first_word (words_behind w)) (sym e ∙ f))) refl
 one_event (Start m) (Stop n j) words la lb e f =
@@ -371,6 +397,8 @@ one_event (Stop m i) (Deliver n) words la lb e f =
     clash 111 108 (apart (Stop m i) (Deliver n) words e f) refl
 one_event (Stop m i) (Tick n) words la lb e f =
     clash 111 99 (apart (Stop m i) (Tick n) words e f) refl
+one_event (Stop m i) (Tend n) words la lb e f =
+    clash 111 110 (apart (Stop m i) (Tend n) words e f) refl
 one_event (Stop m i) (Start n) words la lb e f =
     clash 111 97 (apart (Stop m i) (Start n) words e f) refl
 one_event (Stop m i) (Stop n j) words la lb e f = one_stop m n i j words la lb e f

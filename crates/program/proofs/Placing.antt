@@ -12,7 +12,7 @@ use Rattle.lab.specs.Configs.{IsConfig}
 use Rattle.lab.specs.Fault.{Fault}
 use Rattle.lab.specs.declared.Event as lab
 use Rattle.lab.specs.declared.EventKind.{EventKind}
-use Rattle.lab.specs.declared.EventKind.TheVariants.{Submit, Get, Deliver, Tick, Start, Stop}
+use Rattle.lab.specs.declared.EventKind.TheVariants.{Submit, Get, Deliver, Tick, Tend, Start, Stop}
 use Rattle.lab.specs.{node_in, NamesNode}
 use Rattle.program.specs.declared.script.error.ScriptError.{ScriptError}
 use Rattle.program.specs.declared.script.error.ScriptError.TheVariants.{OutOfPlace}
@@ -43,6 +43,7 @@ names (Get n key None) words said e = rw (e, number_back n said.0) refl
 names (Get n key (Some at)) words said e = rw (e, number_back n said.0) refl
 names (Deliver place) words said e = rw e refl
 names (Tick n) words said e = rw (e, number_back n said) refl
+names (Tend n) words said e = rw (e, number_back n said) refl
 names (Start n) words said e = rw (e, number_back n said) refl
 names (Stop n junk) words said (inl e) = rw (e.1, number_back n said.0) refl
 names (Stop n junk) words said (inr e) = rw (e.2, number_back n said.0) refl
@@ -52,6 +53,7 @@ bears_by_name (Submit node edits) = refl
 bears_by_name (Get node key at) = refl
 bears_by_name (Deliver place) = refl
 bears_by_name (Tick node) = refl
+bears_by_name (Tend node) = refl
 bears_by_name (Start node) = refl
 bears_by_name (Stop node junk) = refl
 

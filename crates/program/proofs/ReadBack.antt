@@ -21,7 +21,7 @@ use Rattle.lab.specs.Junk.TheVariants.{Old, New, Bytes}
 use Rattle.kv_types.specs.declared.Edit.{Edit}
 use Rattle.kv_types.specs.declared.Edit.TheVariants.{Put, Delete}
 use Rattle.lab.specs.declared.EventKind.{EventKind}
-use Rattle.lab.specs.declared.EventKind.TheVariants.{Submit, Get, Deliver, Tick, Start, Stop}
+use Rattle.lab.specs.declared.EventKind.TheVariants.{Submit, Get, Deliver, Tick, Tend, Start, Stop}
 use Rattle.program.specs.Words.{is_plain, byte_text, bytes_text, is_hex, hex_value, escaped}
 use Rattle.program.specs.Words.{are_bytes, is_byte_string, is_number}
 use Rattle.program.specs.Statements.{edit_word, hex_text, IsJunk, IsSpelled, is_edit, is_junk}
@@ -209,6 +209,7 @@ event_read (Get node key (Some at)) words la e =
     rw (e, number_read node la.0, bytes_read key la.1, number_read at la.2) refl
 event_read (Deliver place) words la e = rw (e, number_read place la) refl
 event_read (Tick node) words la e = rw (e, number_read node la) refl
+event_read (Tend node) words la e = rw (e, number_read node la) refl
 event_read (Start node) words la e = rw (e, number_read node la) refl
 event_read (Stop node junk) words la (inl p) = rw (p.1, number_read node la.0) refl
 event_read (Stop node junk) words la (inr p) =

@@ -11,7 +11,7 @@ use Rattle.std.proofs.lemmas.Bool.Decides.{nat_tests}
 use Rattle.std.proofs.lemmas.List.Elements.{All-head, All-tail}
 use Rattle.lab.specs.declared.Event as lab
 use Rattle.lab.specs.declared.EventKind.{EventKind}
-use Rattle.lab.specs.declared.EventKind.TheVariants.{Submit, Get, Deliver, Tick, Start, Stop}
+use Rattle.lab.specs.declared.EventKind.TheVariants.{Submit, Get, Deliver, Tick, Tend, Start, Stop}
 use Rattle.lab.specs.{node_in, NamesNode}
 use Rattle.lab.specs.Configuration.{Configurations, has, at_epoch}
 use Rattle.lab.specs.Configs.{IsConfig}
@@ -22,11 +22,13 @@ use Rattle.program.specs.declared.script.statement.Statement.{Statement}
 use Rattle.program.specs.Words.{before_fault}
 use Rattle.program.specs.Events.{SpellsEvent}
 use Rattle.program.specs.Scripts.{words_of, is_skipped, AreStatements, IsStatement, IsScript}
+use Rattle.program.specs.Scripts.{IsScriptWith, SetsLog, default_log}
 use Rattle.program.specs.Faults.{statement_fault, words_fault, line_fault, after_words, after_line}
 use Rattle.program.specs.Faults.{script_fault, start, node_fault}
 use Rattle.program.proofs.FaultWords.{all_before}
-use Rattle.program.proofs.Placing.{is_of_place}
-use Rattle.program.proofs.Ids.{ids_read, config_is}
+use Rattle.program.proofs.Placing.{is_of_place, number_back}
+use Rattle.program.proofs.Ids.{config_is, ids_read, number_begins}
+use Rattle.program.proofs.ReadBack.{number_read}
 use Rattle.program.proofs.OneText.{name_of}
 use Rattle.program.proofs.EventWords.{divides, divided_read, opens}
 
@@ -54,38 +56,43 @@ not_skipped (b ∷ bs) c e letter = elim (cases_Bool (b == 32)) [
 
 -- ---- a line that is a statement has no fault
 
-abbrev behind_configs : Configurations → Bool → ParserState
-behind_configs cs begun = record { configs = Some cs; begun = begun }
+abbrev behind_configs : Configurations → Bool → ℕ → ParserState
+behind_configs cs begun log = record { configs = Some cs; begun = begun; log = log }
+
+-- before the configuration, where logs have this size
+abbrev before_configs : ℕ → ParserState
+before_configs log = record { configs = None; begun = false; log = log }
 
 -- what is to be said of the words of such a line
-pub record IsPassed (cs : Configurations) (begun : Bool) (words : List (List ℕ)) : Type 0 where
-  pub good : words_fault (behind_configs cs begun) words ≡ None
-  pub after : after_words (behind_configs cs begun) words ≡ behind_configs cs true
-  pub letter : 97 ≤ first_byte words
+pub record IsPassed (cs : Configurations) (begun : Bool) (log : ℕ) (words : List (List ℕ)) : Type 0
+  where
+    pub good : words_fault (behind_configs cs begun log) words ≡ None
+    pub after : after_words (behind_configs cs begun log) words ≡ behind_configs cs true log
+    pub letter : 97 ≤ first_byte words
 
 free : (cs : Configurations) (node : Option ℕ) → IfSome node (λ x. has (at_epoch cs 0) x ≡ true) →
     node_fault (Some cs) node ≡ None
 free cs None is = refl
 free cs (Some x) is = rw is refl
 
-good_statement : (cs : Configurations) (begun : Bool) (event : lab.Event) (name : List ℕ)
+good_statement : (cs : Configurations) (begun : Bool) (log : ℕ) (event : lab.Event) (name : List ℕ)
     (args : List (List ℕ)) → SpellsEvent (name ∷ args) event →
-    NamesNode cs event.kind → statement_fault (behind_configs cs begun) name args ≡ None
-good_statement cs begun event name args spells named =
+    NamesNode cs event.kind → statement_fault (behind_configs cs begun log) name args ≡ None
+good_statement cs begun log event name args spells named =
     let d = divides event name args spells in
-    is_of_place (behind_configs cs begun) name args event.kind (divided_read event name args d)
+    is_of_place (behind_configs cs begun log) name args event.kind (divided_read event name args d)
     d.kind_said d.kind
     ∙ free cs (node_in event.kind) named
 
-passes : (cs : Configurations) (begun : Bool) (event : lab.Event) (words : List (List ℕ))
+passes : (cs : Configurations) (begun : Bool) (log : ℕ) (event : lab.Event) (words : List (List ℕ))
     (name : List ℕ)
     (args : List (List ℕ)) → words ≡ name ∷ args → bytes_eq name (codes "config") ≡ false →
-    97 ≤ first_byte (name ∷ args) → SpellsEvent words event →
-    NamesNode cs event.kind → IsPassed cs begun words
-passes cs begun event words name args e other letter spells named = record {
-  good = rw (e, other) (good_statement cs begun event name args
+    bytes_eq name (codes "limit") ≡ false → 97 ≤ first_byte (name ∷ args) → SpellsEvent words event →
+    NamesNode cs event.kind → IsPassed cs begun log words
+passes cs begun log event words name args e other third letter spells named = record {
+  good = rw (e, other, third) (good_statement cs begun log event name args
       (subst (λ (ws : List (List ℕ)). SpellsEvent ws event) e spells) named);
-  after = rw (e, other) refl;
+  after = rw (e, other, third) refl;
   letter = rw e letter;
 }
 
@@ -95,35 +102,47 @@ no_config (Submit node edits) = refl
 no_config (Get node key at) = refl
 no_config (Deliver place) = refl
 no_config (Tick node) = refl
+no_config (Tend node) = refl
 no_config (Start node) = refl
 no_config (Stop node junk) = refl
+
+no_limit : (what : EventKind) → bytes_eq (name_of what) (codes "limit") ≡ false
+no_limit (Submit node edits) = refl
+no_limit (Get node key at) = refl
+no_limit (Deliver place) = refl
+no_limit (Tick node) = refl
+no_limit (Tend node) = refl
+no_limit (Start node) = refl
+no_limit (Stop node junk) = refl
 
 lettered : (what : EventKind) (args : List (List ℕ)) → 97 ≤ first_byte (name_of what ∷ args)
 lettered (Submit node edits) args = omega arith
 lettered (Get node key at) args = omega arith
 lettered (Deliver place) args = omega arith
 lettered (Tick node) args = omega arith
+lettered (Tend node) args = omega arith
 lettered (Start node) args = omega arith
 lettered (Stop node junk) args = omega arith
 
-event_passes : (cs : Configurations) (begun : Bool) (event : lab.Event) (words : List (List ℕ)) →
-    SpellsEvent words event → NamesNode cs event.kind → IsPassed cs begun words
-event_passes cs begun event words spells named =
+event_passes : (cs : Configurations) (begun : Bool) (log : ℕ) (event : lab.Event) (words : List (List ℕ)) →
+    SpellsEvent words event → NamesNode cs event.kind → IsPassed cs begun log words
+event_passes cs begun log event words spells named =
     let front = opens event.kind spells.first spells.kind in
     let args = front.0 ++ spells.behind in
     let is : words ≡ name_of event.kind ∷ args = rw front.1 at spells.parts in
-    passes cs begun event words (name_of event.kind) args is (no_config event.kind)
+    passes cs begun log event words (name_of event.kind) args is (no_config event.kind)
+    (no_limit event.kind)
     (lettered event.kind args) spells named
 
-statement_passes : (cs : Configurations) (begun : Bool) (words : List (List ℕ))
-    (action : Action) → IsStatement cs words action → IsPassed cs begun words
-statement_passes cs begun words action (inl is) = record {
+statement_passes : (cs : Configurations) (begun : Bool) (log : ℕ) (words : List (List ℕ))
+    (action : Action) → IsStatement cs words action → IsPassed cs begun log words
+statement_passes cs begun log words action (inl is) = record {
   good = rw is.1 refl;
   after = rw is.1 refl;
   letter = rw is.1 (omega arith);
 }
-statement_passes cs begun words action (inr (event, spells, named, same)) =
-    event_passes cs begun event words spells named
+statement_passes cs begun log words action (inr (event, spells, named, same)) =
+    event_passes cs begun log event words spells named
 
 -- ---- line by line
 
@@ -157,30 +176,31 @@ stated before after n line lines short few letter good later rest =
 abbrev AreShort : List (List ℕ) → Type 0
 AreShort lines = All (λ line. length line ≤ 262144) lines
 
-statements_read : (cs : Configurations) (begun : Bool) (n : ℕ) (lines : List (List ℕ))
+statements_read : (cs : Configurations) (begun : Bool) (log : ℕ) (n : ℕ) (lines : List (List ℕ))
     (statements : List Statement) → AreShort lines → n + length lines ≤ 100001 →
     AreStatements cs n lines statements →
-    script_fault (behind_configs cs begun) n lines ≡ None
-statements_read cs begun n [] statements short few are = refl
-statements_read cs begun n (line ∷ lines) statements short few (inl more) =
-    skipped (behind_configs cs begun) n line lines
+    script_fault (behind_configs cs begun log) n lines ≡ None
+statements_read cs begun log n [] statements short few are = refl
+statements_read cs begun log n (line ∷ lines) statements short few (inl more) =
+    skipped (behind_configs cs begun log) n line lines
     (All-head (λ l. length l ≤ 262144) line lines short) (omega (arith, few)) more.0
-    (statements_read cs begun (suc n) lines statements
+    (statements_read cs begun log (suc n) lines statements
     (All-tail (λ l. length l ≤ 262144) line lines short) (omega (arith, few)) more.1)
-statements_read cs begun n (line ∷ lines) statements short few
+statements_read cs begun log n (line ∷ lines) statements short few
     (inr (action, rest, is, same, more)) =
-    let p = statement_passes cs begun (words_of line) action is in
-    stated (behind_configs cs begun) (behind_configs cs true) n line lines
+    let p = statement_passes cs begun log (words_of line) action is in
+    stated (behind_configs cs begun log) (behind_configs cs true log) n line lines
     (All-head (λ l. length l ≤ 262144) line lines short) (omega (arith, few)) p.letter p.good
     p.after
-    (statements_read cs true (suc n) lines rest
+    (statements_read cs true log (suc n) lines rest
     (All-tail (λ l. length l ≤ 262144) line lines short) (omega (arith, few)) more)
 
--- the configuration stands first
-config_good : (ids : List ℕ) (words : List (List ℕ)) → IsConfig ids →
+-- a configuration
+config_good : (log : ℕ) (ids : List ℕ) (words : List (List ℕ)) → IsConfig ids →
     words ≡ codes "config" ∷ map decimal ids →
-    (words_fault start words ≡ None) × (after_words start words ≡ behind_configs (ids ∷ []) false)
-config_good ids words is e =
+    (words_fault (before_configs log) words ≡ None)
+    × (after_words (before_configs log) words ≡ behind_configs (ids ∷ []) false log)
+config_good log ids words is e =
     let r = ids_read ids is.each in
     let before : map decimal ids ≡ before_fault (map decimal ids) =
     all_before (map decimal ids) (sym r.none) in (
@@ -188,25 +208,44 @@ config_good ids words is e =
       rw (e, r.back) refl,
     )
 
-lines_read : (n : ℕ) (lines : List (List ℕ)) (setup : Setup) (statements : List Statement) →
-    AreShort lines → n + length lines ≤ 100001 → IsScript n lines setup statements →
-    script_fault start n lines ≡ None
-lines_read n [] setup statements short few is = absurd is
-lines_read n (line ∷ lines) setup statements short few (inl more) =
-    skipped start n line lines (All-head (λ l. length l ≤ 262144) line lines short)
+-- a limit
+limit_good : (log size : ℕ) (words : List (List ℕ)) → SetsLog words size →
+    (words_fault (before_configs log) words ≡ None)
+    × (after_words (before_configs log) words ≡ before_configs size)
+limit_good log size words (e, good, small) =
+    let read = number_read size small in
+    let alone = number_begins (decimal size) read in
+    let back = number_back size small in (
+      rw (e, alone, read, back, good) refl,
+      rw (e, back) refl,
+    )
+
+lines_read : (log n : ℕ) (lines : List (List ℕ)) (setup : Setup) (statements : List Statement) →
+    AreShort lines → n + length lines ≤ 100001 → IsScriptWith log n lines setup statements →
+    script_fault (before_configs log) n lines ≡ None
+lines_read log n [] setup statements short few is = absurd is
+lines_read log n (line ∷ lines) setup statements short few (inl more) =
+    skipped (before_configs log) n line lines (All-head (λ l. length l ≤ 262144) line lines short)
     (omega (arith, few)) more.0
-    (lines_read (suc n) lines setup statements
+    (lines_read log (suc n) lines setup statements
     (All-tail (λ l. length l ≤ 262144) line lines short) (omega (arith, few)) more.1)
-lines_read n (line ∷ lines) setup statements short few (inr (ids, e, is, up, more)) =
-    let good = config_good ids (words_of line) is e in
-    stated start (behind_configs (ids ∷ []) false) n line lines
+lines_read log n (line ∷ lines) setup statements short few (inr (inl (size, sets, more))) =
+    let good = limit_good log size (words_of line) sets in
+    stated (before_configs log) (before_configs size) n line lines
+    (All-head (λ l. length l ≤ 262144) line lines short) (omega (arith, few))
+    (rw sets.0 (omega arith)) good.0 good.1
+    (lines_read size (suc n) lines setup statements
+    (All-tail (λ l. length l ≤ 262144) line lines short) (omega (arith, few)) more)
+lines_read log n (line ∷ lines) setup statements short few (inr (inr (ids, e, is, up, more))) =
+    let good = config_good log ids (words_of line) is e in
+    stated (before_configs log) (behind_configs (ids ∷ []) false log) n line lines
     (All-head (λ l. length l ≤ 262144) line lines short) (omega (arith, few))
     (rw e (omega arith)) good.0 good.1
-    (statements_read (ids ∷ []) false (suc n) lines statements
+    (statements_read (ids ∷ []) false log (suc n) lines statements
     (All-tail (λ l. length l ≤ 262144) line lines short) (omega (arith, few)) more)
 
 pub script_read : (lines : List (List ℕ)) (setup : Setup) (statements : List Statement) →
     AreShort lines → length lines ≤ 100000 → IsScript 1 lines setup statements →
     script_fault start 1 lines ≡ None
 script_read lines setup statements short few is =
-    lines_read 1 lines setup statements short (omega (arith, few)) is
+    lines_read default_log 1 lines setup statements short (omega (arith, few)) is

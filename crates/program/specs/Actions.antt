@@ -11,7 +11,7 @@ use Rattle.kv_types.specs.declared.KvError.TheVariants.{TooManyEdits, BatchTooLo
 use Rattle.kv_types.specs.{batch_bytes}
 use Rattle.lab.specs.declared.Event as lab
 use Rattle.lab.specs.declared.EventKind.{EventKind}
-use Rattle.lab.specs.declared.EventKind.TheVariants.{Submit, Get, Deliver, Tick, Start, Stop}
+use Rattle.lab.specs.declared.EventKind.TheVariants.{Submit, Get, Deliver, Tick, Tend, Start, Stop}
 use Rattle.program.specs.declared.script.statement.Action.{Action}
 use Rattle.program.specs.declared.script.statement.Action.TheVariants.{Event, Invalid}
 
@@ -44,6 +44,7 @@ error_of (Submit node edits) = option_or (edits_error edits) (size_error edits)
 error_of (Get node key at) = key_error key
 error_of (Deliver place) = None
 error_of (Tick node) = None
+error_of (Tend node) = None
 error_of (Start node) = None
 error_of (Stop node junk) = None
 

@@ -9,7 +9,7 @@ use Rattle.lab.specs.Fault.{Fault}
 use Rattle.lab.specs.Fault.TheVariants as disk
 use Rattle.lab.specs.declared.Event.{Event}
 use Rattle.lab.specs.declared.EventKind.{EventKind}
-use Rattle.lab.specs.declared.EventKind.TheVariants.{Submit, Get, Deliver, Tick, Start, Stop}
+use Rattle.lab.specs.declared.EventKind.TheVariants.{Submit, Get, Deliver, Tick, Tend, Start, Stop}
 use Rattle.program.specs.declared.script.error.ScriptError.{ScriptError}
 use Rattle.program.specs.declared.script.error.ScriptError.TheVariants.{BadFault}
 use Rattle.program.specs.Words.{is_number}
@@ -38,6 +38,7 @@ bears_fault (Submit node edits) = true
 bears_fault (Get node key at) = true
 bears_fault (Deliver place) = true
 bears_fault (Tick node) = true
+bears_fault (Tend node) = true
 bears_fault (Start node) = true
 bears_fault (Stop node junk) = false
 

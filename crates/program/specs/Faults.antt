@@ -1,5 +1,5 @@
 -- The least fault of the first faulty line of a script.
-use Rattle.std.specs.Prelude.{ℕ, suc, true, false, ◌||◌, not, nat_lt}
+use Rattle.std.specs.Prelude.{ℕ, suc, Bool, true, false, ◌||◌, ◌&&◌, not, nat_lt}
 use Rattle.std.specs.Prelude.{if◌then◌else◌, List, [], ◌∷◌, length, map, codes, is_some, is_none}
 use Rattle.std.specs.Prelude.{Option, Some, None}
 use Rattle.std.specs.List.{list_all}
@@ -11,6 +11,7 @@ use Rattle.lab.specs.Configs.{is_config}
 use Rattle.program.specs.declared.script.error.ScriptError.{ScriptError}
 use Rattle.program.specs.declared.script.error.ScriptError.TheVariants.{LineTooLong, BadNumber}
 use Rattle.program.specs.declared.script.error.ScriptError.TheVariants.{UnknownStatement}
+use Rattle.program.specs.declared.script.error.ScriptError.TheVariants.{WrongNumberOfWords, BadLimit}
 use Rattle.program.specs.declared.script.error.ScriptError.TheVariants.{BadFault, OutOfPlace}
 use Rattle.program.specs.declared.script.error.ScriptError.TheVariants.{BadConfiguration}
 use Rattle.program.specs.declared.script.error.ScriptError.TheVariants.{UnknownNode}
@@ -19,7 +20,7 @@ use Rattle.program.specs.declared.script.statement.ParserState.{ParserState}
 use Rattle.program.specs.Words.{is_number, has_fault, before_fault, from_fault}
 use Rattle.program.specs.Statements.{fault_of_words}
 use Rattle.program.specs.Events.{fault_word}
-use Rattle.program.specs.Scripts.{is_skipped, words_of}
+use Rattle.program.specs.Scripts.{default_log, is_log_size, is_skipped, words_of}
 
 -- the numbers that words spell
 abbrev pub numbers_of : List (List ℕ) → List ℕ
@@ -33,6 +34,25 @@ config_fault before args =
     if before.begun then Some OutOfPlace else
     if is_some before.configs || not (is_config (numbers_of args)) then Some BadConfiguration
     else None
+
+-- the number in the second of some words
+abbrev pub limit_size : List (List ℕ) → ℕ
+limit_size [] = 0
+limit_size (name ∷ []) = 0
+limit_size (name ∷ word ∷ words) = digits_value 10 word
+
+-- the least fault of the words of a limit, where a fault stands behind them or not: it stands before
+-- the configuration, and only the size of logs can be set
+abbrev pub limit_words_fault : ParserState → Bool → List (List ℕ) → Option ScriptError
+limit_words_fault before faulty (name ∷ word ∷ []) =
+    if not (is_number word) then Some BadNumber else
+    if faulty then Some BadFault else
+    if is_some before.configs then Some OutOfPlace else
+    if bytes_eq name (codes "log") && is_log_size (digits_value 10 word) then None else Some BadLimit
+limit_words_fault before faulty words = Some WrongNumberOfWords
+
+abbrev pub limit_fault : ParserState → List (List ℕ) → Option ScriptError
+limit_fault before args = limit_words_fault before (has_fault args) (before_fault args)
 
 -- a statement needs a configuration, and a node of the first one where it names one
 abbrev pub node_fault : Option Configurations → Option ℕ → Option ScriptError
@@ -61,7 +81,8 @@ statement_fault before name args =
 abbrev pub words_fault : ParserState → List (List ℕ) → Option ScriptError
 words_fault before [] = Some UnknownStatement
 words_fault before (name ∷ args) =
-    if bytes_eq name (codes "config") then config_fault before args
+    if bytes_eq name (codes "config") then config_fault before args else
+    if bytes_eq name (codes "limit") then limit_fault before args
     else statement_fault before name args
 
 -- the least fault of a line, but for the number of lines
@@ -74,8 +95,10 @@ abbrev pub after_words : ParserState → List (List ℕ) → ParserState
 after_words before [] = before
 after_words before (name ∷ args) =
     if bytes_eq name (codes "config")
-    then record { configs = Some (numbers_of args ∷ []); begun = before.begun }
-    else record { configs = before.configs; begun = true }
+    then record { configs = Some (numbers_of args ∷ []); begun = before.begun; log = before.log } else
+    if bytes_eq name (codes "limit")
+    then record { configs = before.configs; begun = before.begun; log = limit_size args }
+    else record { configs = before.configs; begun = true; log = before.log }
 
 -- what stands before the line after this one
 abbrev pub after_line : ParserState → List ℕ → ParserState
@@ -97,4 +120,4 @@ script_fault before n (line ∷ lines) =
 
 -- nothing stands before the first line
 abbrev pub start : ParserState
-start = record { configs = None; begun = false }
+start = record { configs = None; begun = false; log = default_log }

@@ -11,16 +11,16 @@ use Rattle.lab.specs.Configs.{IsConfig}
 use Rattle.program.specs.declared.script.error.ScriptError.{ScriptError}
 use Rattle.program.specs.declared.script.error.ScriptError.TheVariants.{OutOfMemory}
 use Rattle.program.specs.declared.script.command.Command.{Command}
-use Rattle.program.specs.declared.script.command.Command.TheVariants.{Submit, Get, Tick}
+use Rattle.program.specs.declared.script.command.Command.TheVariants.{Submit, Get, Tick, Tend}
 use Rattle.program.specs.declared.script.command.Command.TheVariants.{Stop, Start}
 use Rattle.program.specs.declared.script.statement.ParserState.{ParserState}
 use Rattle.program.specs.declared.script.statement.LineItem.{LineItem}
-use Rattle.program.specs.declared.script.statement.LineItem.TheVariants.{Skipped, Config, Asks}
+use Rattle.program.specs.declared.script.statement.LineItem.TheVariants.{Skipped, Limit, Config, Asks}
 use Rattle.program.specs.declared.script.statement.Action.{Action}
 use Rattle.program.specs.declared.script.statement.Statement.{Statement}
 use Rattle.program.specs.Statements.{CanBeSaid, IsSpelled, fault_of_words}
 use Rattle.program.specs.Events.{FaultCanBeSaid, IsFault, fault_word, takes_fault}
-use Rattle.program.specs.Scripts.{IsStatement, is_skipped, words_of, statement}
+use Rattle.program.specs.Scripts.{IsStatement, SetsLog, is_skipped, words_of, statement}
 use Rattle.program.specs.Faults.{statement_fault, words_fault, after_words, line_fault}
 use Rattle.program.specs.Faults.{after_line, numbered_fault}
 
@@ -30,6 +30,7 @@ what_of (Submit node changes) = what.Submit node changes
 what_of (Get node key at) = what.Get node key at
 what_of (Stop node junk) = what.Stop node junk
 what_of (Tick node) = what.Tick node
+what_of (Tend node) = what.Tend node
 what_of (Start node) = what.Start node
 
 -- a reader gives the statement that is spelled, or the least fault, unless memory runs out
@@ -52,6 +53,7 @@ ReadsFault name words (Err e) = (e ≢ OutOfMemory) → fault_word name words �
 -- the words say so, behind such lines
 abbrev pub IsItemOfWords : ParserState → List (List ℕ) → LineItem → Type 0
 IsItemOfWords before words Skipped = ⊥
+IsItemOfWords before words (Limit size) = SetsLog words size × (before.configs ≡ None)
 IsItemOfWords before words (Config cs) =
     (ids : List ℕ) × (words ≡ codes "config" ∷ map decimal ids) × IsConfig ids
     × (cs ≡ ids ∷ []) × (before.configs ≡ None)
@@ -66,11 +68,16 @@ IsItem before line item = IsItemOfWords before (words_of line) item
 -- what an item leaves for the lines behind it
 abbrev pub after_item : ParserState → LineItem → ParserState
 after_item before Skipped = before
-after_item before (Config cs) = record { configs = Some cs; begun = before.begun }
-after_item before (Asks action) = record { configs = before.configs; begun = true }
+after_item before (Limit size) =
+    record { configs = before.configs; begun = before.begun; log = size }
+after_item before (Config cs) =
+    record { configs = Some cs; begun = before.begun; log = before.log }
+after_item before (Asks action) =
+    record { configs = before.configs; begun = true; log = before.log }
 
 abbrev pub statements_of : ℕ → LineItem → List Statement
 statements_of n Skipped = []
+statements_of n (Limit size) = []
 statements_of n (Config cs) = []
 statements_of n (Asks action) = statement n action ∷ []
 

@@ -6,7 +6,7 @@ use Rattle.lab.specs.Machine.{without}
 use Rattle.lab.specs.Fault.TheVariants as fault
 use Rattle.lab.specs.declared.Event as lab
 use Rattle.lab.specs.declared.EventKind.{EventKind}
-use Rattle.lab.specs.declared.EventKind.TheVariants.{Submit, Get, Deliver, Tick, Start, Stop}
+use Rattle.lab.specs.declared.EventKind.TheVariants.{Submit, Get, Deliver, Tick, Tend, Start, Stop}
 use Rattle.lab.specs.declared.Line.{Line}
 use Rattle.lab.specs.{frames_in_steps}
 use Rattle.program.specs.declared.script.statement.Action.{Action}
@@ -44,6 +44,7 @@ left_after_event (Deliver place) left = without place left
 left_after_event (Submit node batch) left = left
 left_after_event (Get node key at) left = left
 left_after_event (Tick node) left = left
+left_after_event (Tend node) left = left
 left_after_event (Start node) left = left
 left_after_event (Stop node junk) left = left
 

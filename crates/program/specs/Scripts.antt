@@ -1,6 +1,6 @@
--- A whole script: lines that are skipped, one configuration, and statements for its nodes.
-use Rattle.std.specs.Prelude.{◌≡◌, ◌⊎◌, ℕ, suc, Bool, true, ◌==◌, if◌then◌else◌, List, [], ◌∷◌}
-use Rattle.std.specs.Prelude.{map, codes}
+-- A whole script: lines that are skipped, limits, one configuration, and statements for its nodes.
+use Rattle.std.specs.Prelude.{◌≡◌, ◌⊎◌, ◌<◌, ◌^◌, ◌&&◌, ℕ, suc, Bool, true, nat_le, ◌==◌}
+use Rattle.std.specs.Prelude.{if◌then◌else◌, List, [], ◌∷◌, map, codes}
 use Rattle.std.specs.Fmt.{decimal}
 use Rattle.std.specs.List.{slice_split, onto_first}
 use Rattle.lab.specs.Configuration.{Configurations}
@@ -47,25 +47,43 @@ AreStatements cs n (line ∷ lines) statements =
     ⊎ ((action : Action) × (rest : List Statement) × IsStatement cs (words_of line) action
     × (statements ≡ statement n action ∷ rest) × AreStatements cs (suc n) lines rest)
 
--- the limits of a script that sets none
-abbrev pub AreDefault : Limits → Type 0
-AreDefault limits =
-    (limits.log ≡ 4194304) × (limits.l0 ≡ 4) × (limits.table ≡ 2097152)
+-- the size of a log, in bytes, above which it is flushed, where a script sets none
+abbrev pub default_log : ℕ
+default_log = 4194304
+
+-- the sizes that a script may set
+abbrev pub is_log_size : ℕ → Bool
+is_log_size size = nat_le 16 size && nat_le size (2 ^ 30)
+
+-- the limits of a script whose logs have this size
+abbrev pub AreLimits : ℕ → Limits → Type 0
+AreLimits log limits =
+    (limits.log ≡ log) × (limits.l0 ≡ 4) × (limits.table ≡ 2097152)
     × (limits.level ≡ 10485760) × (limits.cache ≡ 256)
 
--- a script that sets up these configurations, and no limit
-pub record SetsUp (setup : Setup) (cs : Configurations) : Type 0 where
+-- a script that sets up these configurations, with logs of this size
+pub record SetsUp (setup : Setup) (log : ℕ) (cs : Configurations) : Type 0 where
   pub configs : setup.configs ≡ cs
-  pub limits : AreDefault setup.limits
+  pub limits : AreLimits log setup.limits
 
--- lines that are a script, the first with number n: skipped ones, then a configuration, then what
--- may stand behind it
-abbrev pub IsScript : ℕ → List (List ℕ) → Setup → List Statement → Type 0
-IsScript n [] setup statements = ⊥
-IsScript n (line ∷ lines) setup statements =
-    ((is_skipped line ≡ true) × IsScript (suc n) lines setup statements)
+-- the words that set the size of logs
+abbrev pub SetsLog : List (List ℕ) → ℕ → Type 0
+SetsLog words size =
+    (words ≡ codes "limit" ∷ codes "log" ∷ decimal size ∷ []) × (is_log_size size ≡ true)
+    × (size < 2 ^ 63)
+
+-- lines that are a script, the first with number n, behind lines that set this size of logs: skipped
+-- ones and limits, then a configuration, then what may stand behind it
+abbrev pub IsScriptWith : ℕ → ℕ → List (List ℕ) → Setup → List Statement → Type 0
+IsScriptWith log n [] setup statements = ⊥
+IsScriptWith log n (line ∷ lines) setup statements =
+    ((is_skipped line ≡ true) × IsScriptWith log (suc n) lines setup statements)
+    ⊎ (((size : ℕ) × SetsLog (words_of line) size × IsScriptWith size (suc n) lines setup statements)
     ⊎ ((ids : List ℕ) × (words_of line ≡ codes "config" ∷ map decimal ids) × IsConfig ids
-    × SetsUp setup (ids ∷ []) × AreStatements (ids ∷ []) (suc n) lines statements)
+    × SetsUp setup log (ids ∷ []) × AreStatements (ids ∷ []) (suc n) lines statements))
+
+abbrev pub IsScript : ℕ → List (List ℕ) → Setup → List Statement → Type 0
+IsScript = IsScriptWith default_log
 
 -- an event names a node of the first configuration, if it names one
 abbrev pub Names : Configurations → Action → Type 0

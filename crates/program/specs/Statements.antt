@@ -12,7 +12,7 @@ use Rattle.kv_types.specs.declared.Edit.TheVariants.{Put, Delete}
 use Rattle.lab.specs.Junk.{Junk}
 use Rattle.lab.specs.Junk.TheVariants.{Old, New, Bytes}
 use Rattle.lab.specs.declared.EventKind.{EventKind}
-use Rattle.lab.specs.declared.EventKind.TheVariants.{Submit, Get, Deliver, Tick, Start, Stop}
+use Rattle.lab.specs.declared.EventKind.TheVariants.{Submit, Get, Deliver, Tick, Tend, Start, Stop}
 use Rattle.program.specs.declared.script.error.ScriptError.{ScriptError}
 use Rattle.program.specs.declared.script.error.ScriptError.TheVariants.{UnknownStatement}
 use Rattle.program.specs.declared.script.error.ScriptError.TheVariants.{WrongNumberOfWords}
@@ -52,6 +52,7 @@ CanBeSaid (Get node key None) = (node < 2 ^ 63) × AreBytes key
 CanBeSaid (Get node key (Some at)) = (node < 2 ^ 63) × AreBytes key × (at < 2 ^ 63)
 CanBeSaid (Deliver place) = place < 2 ^ 63
 CanBeSaid (Tick node) = node < 2 ^ 63
+CanBeSaid (Tend node) = node < 2 ^ 63
 CanBeSaid (Start node) = node < 2 ^ 63
 CanBeSaid (Stop node junk) = (node < 2 ^ 63) × AreBytesOf junk
 
@@ -67,6 +68,7 @@ IsSpelled (Stop node junk) words =
     ⊎ ((word : List ℕ) × IsJunk junk word × (words ≡ codes "stop" ∷ decimal node ∷ word ∷ []))
 IsSpelled (Deliver place) words = words ≡ codes "deliver" ∷ decimal place ∷ []
 IsSpelled (Tick node) words = words ≡ codes "tick" ∷ decimal node ∷ []
+IsSpelled (Tend node) words = words ≡ codes "tend" ∷ decimal node ∷ []
 IsSpelled (Start node) words = words ≡ codes "start" ∷ decimal node ∷ []
 
 -- what stands in a word's place
@@ -144,7 +146,7 @@ abbrev pub is_name : List ℕ → Bool
 is_name w =
     bytes_eq w (codes "submit") || bytes_eq w (codes "get") || bytes_eq w (codes "stop")
     || bytes_eq w (codes "start") || bytes_eq w (codes "deliver") || bytes_eq w (codes "flow")
-    || bytes_eq w (codes "tick")
+    || bytes_eq w (codes "tick") || bytes_eq w (codes "tend")
 
 -- the least fault of the words of a statement, as far as they are words
 abbrev pub fault_of_words : List (List ℕ) → Option ScriptError

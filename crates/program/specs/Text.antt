@@ -12,6 +12,8 @@ use Rattle.lab.specs.Reply.{Reply}
 use Rattle.lab.specs.Reply.TheVariants.{Committed, Value, Refused}
 use Rattle.lab.specs.Stop.{Stop}
 use Rattle.lab.specs.Stop.TheVariants as stop
+use Rattle.lab.specs.Tended.{Tended}
+use Rattle.lab.specs.Tended.TheVariants as tended
 use Rattle.lab.specs.DropReason.{DropReason}
 use Rattle.lab.specs.DropReason.TheVariants as reason
 use Rattle.lab.specs.declared.Line.{Line}
@@ -97,6 +99,12 @@ stopped_text node None = codes "node " ++ (decimal node ++ codes " stopped")
 stopped_text node (Some cause) =
     codes "node " ++ (decimal node ++ (codes " stopped: " ++ cause_text cause))
 
+-- what a tend did
+abbrev pub tended_text : Tended → List ℕ
+tended_text tended.Idle = codes "idle"
+tended_text tended.Worked = codes "tended"
+tended_text tended.Full = codes "full"
+
 abbrev pub line_text : Line → List ℕ
 line_text line.Nothing = codes "nothing"
 line_text (line.Dropped reason) = codes "dropped " ++ reason_text reason
@@ -107,6 +115,7 @@ line_text (line.Acknowledged place from to epoch committed have) =
     acknowledged_text place from to epoch committed have
 line_text (line.Replied reply) = reply_text reply
 line_text (line.Stopped node cause) = stopped_text node cause
+line_text (line.Tended did) = tended_text did
 
 -- the lines that are printed for a line of a report: one for each of today's
 abbrev pub line_texts : Line → List (List ℕ)
@@ -139,6 +148,7 @@ reply_place events here (line.Started node epoch count committed) = here
 reply_place events here (line.Forwarded place from to epoch number) = here
 reply_place events here (line.Acknowledged place from to epoch committed have) = here
 reply_place events here (line.Stopped node cause) = here
+reply_place events here (line.Tended did) = here
 
 abbrev pub line_output : List ℕ → ℕ → Line → List ℕ
 line_output events here line =

@@ -121,7 +121,37 @@ const PLACES: &[Fault] = &[
     ("config 1\nget 2 a\n", "line 2: unknown node\n"),
     ("config 1\nget 0 a\n", "line 2: unknown node\n"),
     ("config 1\nstart 65537\n", "line 2: unknown node\n"),
+    ("config 1\ntend\n", "line 2: wrong number of words\n"),
+    ("config 1\ntend x\n", "line 2: bad number\n"),
+    ("config 1\ntend 2\n", "line 2: unknown node\n"),
+    ("tend 1\nconfig 1\n", "line 1: out of place\n"),
 ];
+
+// Limits.
+const LIMITS: &[Fault] = &[
+    ("limit\nconfig 1\n", "line 1: wrong number of words\n"),
+    ("limit log\nconfig 1\n", "line 1: wrong number of words\n"),
+    (
+        "limit log 16 16\nconfig 1\n",
+        "line 1: wrong number of words\n",
+    ),
+    ("limit log x\nconfig 1\n", "line 1: bad number\n"),
+    ("limit fly x\nconfig 1\n", "line 1: bad number\n"),
+    ("limit log 16 !fail 1\nconfig 1\n", "line 1: bad fault\n"),
+    ("config 1\nlimit log 15\n", "line 2: out of place\n"),
+    ("limit log 15\nconfig 1\n", "line 1: bad limit\n"),
+    ("limit log 1073741825\nconfig 1\n", "line 1: bad limit\n"),
+    ("limit l0 4\nconfig 1\n", "line 1: bad limit\n"),
+    (
+        "limit log 16\nlimit log 1073741824\n",
+        "line 3: bad configuration\n",
+    ),
+];
+
+#[test]
+fn limits(rt: HostRuntime) {
+    all_told(&rt, first_silent(&rt, LIMITS));
+}
 
 #[test]
 fn ticks_and_deliveries(rt: HostRuntime) {

@@ -126,6 +126,28 @@ const RUNS: &[(&str, &str)] = &[
          4: #3 2>1 ack 0 0 1\n5: #4 3>2 ack 0 1 1\n5: #5 2>1 ack 0 1 1\n2: committed 1\n\
          6: value 1 at 1\n",
     ),
+    // A batch goes to a table, where a start finds it.
+    (
+        "limit log 16\nconfig 1\nsubmit 1 a=1\ntend 1\nstop 1\nstart 1\nget 1 a\ntend 1\n",
+        "3: committed 1\n4: tended\n5: node 1 stopped\n\
+         6: node 1 started epoch 0 count 1 committed 1\n7: value 1 at 1\n8: idle\n",
+    ),
+    // The machine stops in the first call of a flush; the next one does it.
+    (
+        "limit log 16\nconfig 1\nsubmit 1 a=1\ntend 1 !stop 1 01\nstart 1\nget 1 a\ntend 1\n\
+         tend 1\n",
+        "3: committed 1\n4: node 1 stopped\n5: node 1 started epoch 0 count 1 committed 1\n\
+         6: value 1 at 1\n7: tended\n8: idle\n",
+    ),
+    // Of several limits the last counts; a log that is short enough is left, and so is one of a
+    // node that is down.
+    (
+        "limit log 16\n# none\nlimit log 23\nconfig 1\nsubmit 1 a=1\ntend 1\nsubmit 1 b=1\n\
+         stop 1\ntend 1\nstart 1\ntend 1 !fail 1\nget 1 b\n",
+        "5: committed 1\n6: idle\n7: committed 2\n8: node 1 stopped\n9: dropped NotRunning\n\
+         10: node 1 started epoch 0 count 2 committed 2\n11: node 1 stopped: disk\n\
+         12: refused 1 NotRunning\n",
+    ),
     // The order of a configuration is that of its line.
     (
         "config 9 4\nsubmit 9 a=1\nflow\nget 4 a\n",

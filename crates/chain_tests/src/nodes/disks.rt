@@ -7,11 +7,27 @@ use node::{Input, Stop};
 use std::alloc::Global;
 use std::process::Abort;
 
-// Node 1: an open gate, the length, the id, one id, that id, and a closed gate.
-const NODE_1: &[u8] = &[1, 0, 0, 0, 5, 0, 1, 1, 0, 1, 0];
+// The slot of a new node 1: an open gate, generation 1, the id; an open gate and the length of the
+// edit; next file 4, floor, flushed and epoch 0; the ids; no log given up, log 3 from batch 1 added;
+// no table given up, none added, and a closed gate.
+const NODE_1: &[u8] = &[
+    1, 0, 0, 0, 0, 0, 0, 0, 1, 0, 1, //
+    1, 0, 0, 0, 0x37, //
+    0, 0, 0, 0, 0, 0, 0, 4, 0, 0, 0, 0, 0, 0, 0, 0, 0, 0, 0, 0, 0, 0, 0, 0, 0, 0, 0, 0, //
+    1, 0, 1, //
+    0, 0, 0, 1, 0, 0, 0, 0, 0, 0, 0, 3, 0, 0, 0, 0, 0, 0, 0, 1, //
+    0, 0, 0, 0, 0,
+];
 
-// Node 2 of the configuration 1 2 3.
-const NODE_2: &[u8] = &[1, 0, 0, 0, 9, 0, 2, 3, 0, 1, 0, 2, 0, 3, 0];
+// The same of node 2 of the configuration 1 2 3.
+const NODE_2: &[u8] = &[
+    1, 0, 0, 0, 0, 0, 0, 0, 1, 0, 2, //
+    1, 0, 0, 0, 0x3b, //
+    0, 0, 0, 0, 0, 0, 0, 4, 0, 0, 0, 0, 0, 0, 0, 0, 0, 0, 0, 0, 0, 0, 0, 0, 0, 0, 0, 0, //
+    3, 0, 1, 0, 2, 0, 3, //
+    0, 0, 0, 1, 0, 0, 0, 0, 0, 0, 0, 3, 0, 0, 0, 0, 0, 0, 0, 1, //
+    0, 0, 0, 0, 0,
+];
 
 // Batch 1 is a=1: an open gate, the length, the number, the batch, and a closed gate.
 const BATCH_1: &[u8] = &[
@@ -25,8 +41,8 @@ fn put(rt: &impl Abort, disk: &mut MemDisk, file: u64, bytes: Option<&[u8]>) {
     }
 }
 
-// The bytes of the identity file and of the file of batches, the refusal of a start from them, and
-// the number of the node's batches.
+// The bytes of slot 1 and of log 3, beside slot 2 with a closed gate; the refusal of a start from
+// them, and the number of the node's batches.
 struct Start(
     Option<&'static [u8]>,
     Option<&'static [u8]>,
@@ -38,6 +54,7 @@ impl Start {
     fn disk(&self, rt: &impl Abort, alloc: Global) -> MemDisk {
         let mut disk = MemDisk::new(alloc);
         put(rt, &mut disk, 1, self.0);
+        put(rt, &mut disk, 2, Some(&[0]));
         put(rt, &mut disk, 3, self.1);
         disk
     }
@@ -71,48 +88,22 @@ const DAMAGED: Option<Stop> = Some(Stop::Damaged);
 
 const ALONE: Option<&[u8]> = Some(BATCH_1);
 
-// Identity files beside batch 1.
-static IDENTITIES: [Start; 15] = [
+// Slots beside batch 1. The tests of the manifest have each damage of a slot.
+static SLOTS: [Start; 7] = [
     Start(None, ALONE, BLANK, 0),
     Start(Some(&[]), ALONE, BLANK, 0),
     Start(Some(&[0]), ALONE, BLANK, 0),
     Start(Some(NODE_1), ALONE, None, 1),
-    // The file ends before its last gate, and in its record.
-    Start(Some(&[1, 0, 0, 0, 5, 0, 1, 1, 0, 1]), ALONE, DAMAGED, 0),
-    Start(Some(&[1, 0, 0, 0, 5, 0, 1]), ALONE, DAMAGED, 0),
-    // The node is in another configuration, or in none.
+    // The node is in another configuration.
     Start(Some(NODE_2), ALONE, None, 1),
-    Start(Some(&[1, 0, 0, 0, 5, 0, 1, 1, 0, 2, 0]), ALONE, None, 1),
-    // Id 0 as its own and among the ids, a repeated id, no id, too few, half an id, two records.
-    Start(Some(&[1, 0, 0, 0, 5, 0, 0, 1, 0, 1, 0]), ALONE, DAMAGED, 0),
-    Start(Some(&[1, 0, 0, 0, 5, 0, 1, 1, 0, 0, 0]), ALONE, DAMAGED, 0),
-    Start(
-        Some(&[1, 0, 0, 0, 7, 0, 1, 2, 0, 1, 0, 1, 0]),
-        ALONE,
-        DAMAGED,
-        0,
-    ),
-    Start(Some(&[1, 0, 0, 0, 3, 0, 1, 0, 0]), ALONE, DAMAGED, 0),
-    Start(Some(&[1, 0, 0, 0, 5, 0, 1, 2, 0, 1, 0]), ALONE, DAMAGED, 0),
-    Start(
-        Some(&[1, 0, 0, 0, 6, 0, 1, 1, 0, 1, 0, 0]),
-        ALONE,
-        DAMAGED,
-        0,
-    ),
-    Start(
-        Some(&[
-            1, 0, 0, 0, 5, 0, 1, 1, 0, 1, 1, 0, 0, 0, 5, 0, 1, 1, 0, 1, 0,
-        ]),
-        ALONE,
-        DAMAGED,
-        0,
-    ),
+    // The slot ends behind its gate, and before its log.
+    Start(Some(&[1]), ALONE, DAMAGED, 0),
+    Start(Some(&[1, 0, 0, 0, 0, 0, 0, 0, 1, 0, 1]), ALONE, DAMAGED, 0),
 ];
 
 #[test]
-fn identity_files(rt: HostRuntime) {
-    all_hold(&rt, rt.alloc(), &IDENTITIES);
+fn slots(rt: HostRuntime) {
+    all_hold(&rt, rt.alloc(), &SLOTS);
 }
 
 // Batches 1 and 2, of a=1 and a=2.
@@ -143,7 +134,7 @@ const TORN: &[u8] = &[
     1, 1, 1, 1, 1, 1, 1, 1, 1, 1, 1, 1, 1, 1, 1, 1, 1, 1, 1, 1, 1, 1,
 ];
 
-// Files of batches of node 1.
+// Logs of node 1.
 static BATCHES: [Start; 11] = [
     Start(Some(NODE_1), None, DAMAGED, 0),
     Start(Some(NODE_1), Some(&[]), DAMAGED, 0),
@@ -172,21 +163,23 @@ static BATCHES: [Start; 11] = [
 ];
 
 #[test]
-fn files_of_batches(rt: HostRuntime) {
+fn logs_of_batches(rt: HostRuntime) {
     all_hold(&rt, rt.alloc(), &BATCHES);
 }
 
-// Whether these bytes stand in the file, which has so many, of at most 64.
+// Whether these bytes stand in the file, which has so many, of at most 80.
 fn is_content(rt: &impl Abort, disk: &mut MemDisk, file: u64, want: &[u8]) -> bool {
-    let mut bytes = [0; 64];
-    let into = bytes.get_mut(..want.len()).expect(rt, "at most 64 bytes");
+    let mut bytes = [0; 80];
+    let into = bytes.get_mut(..want.len()).expect(rt, "at most 80 bytes");
     disk.read(file, 0, into).expect(rt, "a read");
     *into == *want && disk.length(file) == Ok(want.len() as u64)
 }
 
 /// Whether these files stand on the disk.
-fn has_files(rt: &impl Abort, disk: &mut MemDisk, identity: &[u8], batches: &[u8]) -> bool {
-    is_content(rt, disk, 1, identity) && is_content(rt, disk, 3, batches)
+fn has_files(rt: &impl Abort, disk: &mut MemDisk, slot: &[u8], batches: &[u8]) -> bool {
+    is_content(rt, disk, 1, slot)
+        && is_content(rt, disk, 2, &[0])
+        && is_content(rt, disk, 3, batches)
 }
 
 /// The disk of node 1 with the batch a=1.

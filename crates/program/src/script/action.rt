@@ -108,6 +108,7 @@ pub fn action(
             Err(e) => return Ok(Action::Invalid(e)),
         },
         Command::Tick(_) => EventKind::Tick { node },
+        Command::Tend(_) => EventKind::Tend { node },
         Command::Stop(_, junk) => EventKind::Stop { node, junk },
         Command::Start(_) => EventKind::Start { node },
     };

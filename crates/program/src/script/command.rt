@@ -89,6 +89,7 @@ pub enum Command {
     Submit(u64, RawEdits),
     Get(u64, Bytes, Option<Number>),
     Tick(u64),
+    Tend(u64),
     Stop(u64, Junk),
     Start(u64),
 }
@@ -102,6 +103,7 @@ impl Command {
             Command::Submit(node, _) => *node,
             Command::Get(node, _, _) => *node,
             Command::Tick(node) => *node,
+            Command::Tend(node) => *node,
             Command::Stop(node, _) => *node,
             Command::Start(node) => *node,
         }

@@ -8,8 +8,10 @@ ghost use Rattle.lab.specs.Configs.{IsConfig, is_config};
 ghost use Rattle.program.specs.declared.script.error.ScriptError.TheVariants.{OutOfMemory};
 ghost use Rattle.program.specs.declared.script.error.ScriptError.TheVariants.{BadConfiguration};
 ghost use Rattle.program.specs.Words.{is_number};
-ghost use Rattle.program.specs.Scripts.{script_lines, is_skipped, IsScript, Names};
-ghost use Rattle.program.specs.Faults.{numbers_of, config_fault, script_fault, start};
+ghost use Rattle.program.specs.Scripts.{script_lines, is_log_size, is_skipped, AreLimits, IsScript};
+ghost use Rattle.program.specs.Scripts.{Names, SetsLog};
+ghost use Rattle.program.specs.Faults.{numbers_of, config_fault, limit_fault, limit_size};
+ghost use Rattle.program.specs.Faults.{script_fault, start};
 ghost use Rattle.program.specs.Reading.{ReadsLine, ReadsWords, Places, ReadsNext};
 
 use super::action::action;
@@ -136,6 +138,33 @@ fn config(alloc: Global, before: &ParserState, args: &[&[u8]]) -> Result<Config,
     config_of(alloc, &numbers)
 }
 
+// The size of logs that a line sets.
+fn limit(before: &ParserState, args: &[&[u8]]) -> Result<u64, ScriptError>
+    ensures { MatchResult result
+        (λ size. (limit_fault before.now (map (λ w. w.now) args.now) ≡ None)
+        × SetsLog (codes "limit" ∷ map (λ w. w.now) args.now) size
+        × (limit_size (map (λ w. w.now) args.now) ≡ size) × (before.now.configs ≡ None))
+        (λ e. limit_fault before.now (map (λ w. w.now) args.now) ≡ Some e) }
+{
+    let (words, behind) = split_fault(args);
+    let [name, word] = words else {
+        return Err(ScriptError::WrongNumberOfWords);
+    };
+    let Some(size) = number(word) else {
+        return Err(ScriptError::BadNumber);
+    };
+    if !behind.is_empty() {
+        return Err(ScriptError::BadFault);
+    }
+    if before.configs.is_some() {
+        return Err(ScriptError::OutOfPlace);
+    }
+    if *name != b"log".as_slice() || size < 16 || size > 1 << 30 {
+        return Err(ScriptError::BadLimit);
+    }
+    Ok(size)
+}
+
 // A frame's delivery, if it may stand here.
 fn deliver(alloc: Global, before: &ParserState, args: &[&[u8]]) -> Result<Action, ScriptError>
     ensures { Places before.now (codes "deliver") (map (λ w. w.now) args.now) result }
@@ -234,6 +263,9 @@ fn item_of_words(
         let config = config(alloc, before, args)?;
         return Ok(LineItem::Config(only(alloc, config)?));
     }
+    if *name == b"limit".as_slice() {
+        return Ok(LineItem::Limit(limit(before, args)?));
+    }
     Ok(LineItem::Asks(statement(alloc, before, name, args)?))
 }
 
@@ -249,6 +281,18 @@ fn item_of(alloc: Global, before: &ParserState, line: &[u8]) -> Result<LineItem,
     }
     let words = words(alloc, line)?;
     item_of_words(alloc, before, &words)
+}
+
+// The limits of a store whose logs have this size.
+fn limits_of(log: u64) -> Limits
+    requires { is_log_size log ≡ true }
+    ensures { AreLimits log result }
+{
+    let others = Limits::default();
+    match Limits::new(log, others.l0, others.table, others.level, others.cache) {
+        Ok(limits) => limits,
+        Err(_) => others,
+    }
 }
 
 /// A script: what it sets up, and its statements in order.
@@ -303,6 +347,7 @@ pub fn read_script(alloc: Global, text: &[u8]) -> Result<Script, ScriptFault>
     let mut before = ParserState {
         configs: None,
         begun: false,
+        log: Limits::default().log,
     };
     let mut statements = Vec::new(alloc);
     let mut number = 1u32;
@@ -316,13 +361,14 @@ pub fn read_script(alloc: Global, text: &[u8]) -> Result<Script, ScriptFault>
         }
         number += 1;
     }
+    let log = before.log;
     let Some(configs) = before.into_configs() else {
         return Err(ScriptFault {
             line: number,
             error: ScriptError::BadConfiguration,
         });
     };
-    let limits = Limits::default();
+    let limits = limits_of(log);
     let setup = Setup { configs, limits };
     Ok(Script { setup, statements })
 }

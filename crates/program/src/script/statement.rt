@@ -32,16 +32,19 @@ pub struct Statement {
 #[derive(Drop)]
 pub enum LineItem {
     Skipped,
+    /// The size of logs above which they are flushed.
+    Limit(u64),
     /// The configurations up to this line.
     Config(Configs),
     Asks(Action),
 }
 
-/// What stands before a line: the configurations, and whether a statement.
+/// What stands before a line: the configurations, whether a statement, and the size of logs.
 #[derive(Drop)]
 pub struct ParserState {
     pub configs: Option<Configs>,
     pub begun: bool,
+    pub log: u64,
 }
 
 // The node of this number, if it is one of these.
@@ -70,15 +73,22 @@ impl ParserState {
     {
         match item {
             LineItem::Skipped => Ok(self),
+            LineItem::Limit(log) => Ok(ParserState {
+                configs: self.configs,
+                begun: self.begun,
+                log,
+            }),
             LineItem::Config(configs) => Ok(ParserState {
                 configs: Some(configs),
                 begun: self.begun,
+                log: self.log,
             }),
             LineItem::Asks(action) => {
                 statements.push(Statement { line, action })?;
                 Ok(ParserState {
                     configs: self.configs,
                     begun: true,
+                    log: self.log,
                 })
             }
         }

@@ -47,6 +47,18 @@ fn tick(args: &[&[u8]]) -> Result<Command, ScriptError>
     }
 }
 
+fn tend(args: &[&[u8]]) -> Result<Command, ScriptError>
+    ensures { ReadsCommand (codes "tend" ∷ map (λ w. w.now) args.now) result }
+{
+    match args {
+        [node] => match number(node) {
+            None => Err(ScriptError::BadNumber),
+            Some(node) => Ok(Command::Tend(node)),
+        },
+        _ => Err(ScriptError::WrongNumberOfWords),
+    }
+}
+
 fn start(args: &[&[u8]]) -> Result<Command, ScriptError>
     ensures { ReadsCommand (codes "start" ∷ map (λ w. w.now) args.now) result }
 {
@@ -111,6 +123,8 @@ pub fn command_of(alloc: Global, name: &[u8], args: &[&[u8]]) -> Result<Command,
         start(args)
     } else if name == b"tick".as_slice() {
         tick(args)
+    } else if name == b"tend".as_slice() {
+        tend(args)
     } else {
         Err(ScriptError::UnknownStatement)
     }

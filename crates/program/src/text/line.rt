@@ -3,7 +3,7 @@ ghost use Rattle.std.specs.Prelude.{◌≡◌, Some};
 ghost use Rattle.program.specs.Text.{reply_text, started_text, frame_text, stopped_text};
 ghost use Rattle.program.specs.Text.{line_text};
 
-use super::names::{cause_name, reason_name, refusal_name};
+use super::names::{cause_name, reason_name, refusal_name, tended_name};
 use super::spelled::Spelled;
 use kv_types::Number;
 use lab::{Epoch, Line, NodeId, Reply, Stop};
@@ -168,6 +168,7 @@ impl fmt::Display for LineText<'_> {
                 write!(f, "{frame} {} {}", committed.get(), have.get())
             }
             Line::Stopped { node, cause } => StoppedText(node, cause).fmt(f),
+            Line::Tended(did) => f.write_str(tended_name(did)),
         }
     }
 }

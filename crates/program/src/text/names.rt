@@ -1,11 +1,11 @@
 //! The names of refusals, drop reasons, causes and faults, as they are printed.
 ghost use Rattle.std.specs.Prelude.{◌≡◌};
 ghost use Rattle.program.specs.Text.{refusal_text, error_text, reason_text, cause_text};
-ghost use Rattle.program.specs.Text.{fault_text};
+ghost use Rattle.program.specs.Text.{fault_text, tended_text};
 
 use crate::script::ScriptError;
 use kv_types::KvError;
-use lab::{DropReason, Refusal, Stop};
+use lab::{DropReason, Refusal, Stop, Tended};
 
 /// A refusal's number and name.
 pub fn refusal_name(refusal: Refusal) -> &'static str
@@ -68,6 +68,17 @@ pub fn cause_name(cause: Stop) -> &'static str
         Stop::Damaged => "damaged",
         Stop::Memory => "memory",
         Stop::NotCreated => "not created",
+    }
+}
+
+/// What a tend did.
+pub fn tended_name(did: Tended) -> &'static str
+    ensures { result.now ≡ tended_text did }
+{
+    match did {
+        Tended::Idle => "idle",
+        Tended::Worked => "tended",
+        Tended::Full => "full",
     }
 }
 

@@ -1,6 +1,8 @@
 use Rattle.std.proofs.Common.{ℕ, subst, sym}
 use Rattle.table_builder.specs.{Builds, IsFinishedTable}
-use Rattle.engine.proofs.FinishedTables.{written_table}
+use Rattle.engine.specs.OpenFiles.{IsWrittenTable}
+use Rattle.engine.specs.TableWriting.{finished_line}
+use Rattle.engine.proofs.FinishedTables.{line_told, written_table}
 use Rattle.engine.proofs.Keeping.{refused}
 use Rattle.engine.proofs.TableCalls.{writes_nothing}
 use Rattle.engine.proofs.table_writing.finish_table.Goals as goal
@@ -16,5 +18,7 @@ returns-in-Ok-clause-written g c = λ memtable some honest all.
     all.entries) (sym c.requires.file) all.builds in
     let finished = subst (λ (f : ℕ). IsFinishedTable (new f) all.entries c.in-Ok.done)
     c.requires.file (c.in-Ok.ensures.finished all.entries honest builds) in
-    written_table new memtable c.args.file all.entries c.in-Ok.done c.requires.named finished
-    all.alike
+    let written = written_table new memtable c.args.file all.entries c.in-Ok.done c.requires.named
+    finished all.alike in
+    line_told (IsWrittenTable new memtable c.args.file) (finished_line c.args.file c.in-Ok.done)
+    c.line_of.result c.line_of.ensures written.proper written

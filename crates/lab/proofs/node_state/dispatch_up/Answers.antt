@@ -23,6 +23,19 @@ returns-in-Step g c =
       forgets = λ honest unarmed. e.forgets honest;
     })
 
+pub returns-in-Tend : goal.returns-in-Tend
+returns-in-Tend g c =
+    let e = c.tend.ensures in
+    subst (λ (k : NodeInput). HasDispatched g.D.Disk c.args.fault k (Up c.args.node) c.tend.result.0
+    c.tend.result.1) (sym c.in-Tend.is) (record {
+      ready = e.ready;
+      refines = e.refines;
+      disk = e.disk;
+      only = e.only;
+      follows = tt;
+      forgets = λ honest unarmed. e.forgets honest;
+    })
+
 pub returns-in-BadFrame : goal.returns-in-BadFrame
 returns-in-BadFrame g c =
     let output = c.dropped-output in

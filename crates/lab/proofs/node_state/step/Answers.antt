@@ -3,7 +3,7 @@ use Rattle.chain_core.specs.{answer_to}
 use Rattle.disk.specs.{KeepsDisk, State}
 use Rattle.node.specs.declared.Output.{Output}
 use Rattle.node.specs.declared.Stop.{Stop as Cause}
-use Rattle.node.specs.{HasLongFile, IsDeviceStop, IsNearlyFull, KeepsOthers, StopRefines}
+use Rattle.node.specs.{HasLongFile, IsDeviceStop, IsNearlyFull, IsOwned, StopRefines}
 use Rattle.node.specs.{disk_of, engine_of}
 use Rattle.lab.specs.Outcomes.{Answers, Ends}
 use Rattle.lab.proofs.Faults.{IsSpent, disk_fits, explained, same_state, spent, stopped_so}
@@ -34,10 +34,10 @@ left_of g c honest =
     let engine = engine_of c.arm.new.self in
     let kept = subst
     (λ d. KeepsDisk g.D.Disk (disk_of c.arm.new.self) d (IsDeviceStop ended) (IsNearlyFull engine)
-    (KeepsOthers))
+    (IsOwned))
     (sym c.into_disk.ensures.disk) c.in-Err.ensures.kept.disk in
     spent g.D.Disk c.args.fault (disk_of c.args.node) (disk_of c.arm.new.self) c.into_disk.result
-    (IsDeviceStop ended) (IsNearlyFull engine) (KeepsOthers) c.arm.ensures.armed kept
+    (IsDeviceStop ended) (IsNearlyFull engine) (IsOwned) c.arm.ensures.armed kept
     honest
 
 pub returns-in-Err-clause-refines : goal.returns-in-Err-clause-refines

@@ -22,7 +22,6 @@ returns-in-Up-clause-left c = λ n disk is own.
           committed = c.committed.ensures x n r;
           floor = c.floor.ensures x n r;
           kept = c.kept.ensures x n r;
-          tables = c.tables.ensures;
         },
       );
     }

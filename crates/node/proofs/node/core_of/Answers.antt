@@ -1,6 +1,7 @@
-use Rattle.std.proofs.Common.{ℕ, List, [], replicate, refl, sym, ◌∙◌}
+use Rattle.std.proofs.Common.{ℕ, ◌≤◌, List, [], length, replicate, arith, refl, sym, ◌∙◌}
+use Rattle.std.proofs.lemmas.Bool.{cond_both}
 use Rattle.std.proofs.lemmas.List.{length-replicate}
-use Rattle.chain_model.specs.{created}
+use Rattle.chain_model.specs.{created, is_tail}
 use Rattle.chain_core.specs.{Machine}
 use Rattle.node.proofs.node.core_of.Goals as goal
 
@@ -32,3 +33,18 @@ returns-clause-kept g c =
     let is = c.started.ensures.is n
     (record { epoch = refl; ids = refl; count = size; floor = refl; kept = refl }) in
     sym is.kept ∙ c.kept.ensures
+
+-- its committed number is no less than the floor
+pub returns-clause-rises : goal.returns-clause-rises
+returns-clause-rises g c =
+    let count = c.count.result in
+    let n = resting c.args.config c.epoch.result count c.floor.result c.kept.result in
+    let size = length-replicate count [] in
+    let is = c.started.ensures.is n
+    (record { epoch = refl; ids = refl; count = size; floor = refl; kept = refl }) in
+    let told = c.count.ensures.ordered in
+    let known = cond_both (is_tail n.ids c.id.result) (length n.list) n.floor
+    (λ (k : ℕ). c.floor.result ≤ k)
+    (λ tail. omega (arith, size, c.floor.ensures, c.count.ensures.count, told.floor, told.committed))
+    (λ other. omega arith) in
+    omega (arith, is.committed, c.floor.ensures, known)

@@ -84,7 +84,10 @@ loop-number-init g c = record {
   works = c.requires.works;
   still = λ honest. still _ _;
   keeps = unchanged g.D.Disk same_files;
-  sent = λ n is holds. (holds, search rules);
+  sent = λ n is holds.
+      let none : c.resends-numbers.result.start - c.resends-numbers.result.start ≡ 0 =
+      omega arith in
+      (holds, rw (none, c.new-sent.ensures.items) refl);
 }
 
 -- the batch of one number more was sent

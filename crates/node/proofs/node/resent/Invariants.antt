@@ -1,4 +1,4 @@
-use Rattle.std.proofs.Common.{◌≡◌, ℕ, ◌-◌, ◌≤◌, max}
+use Rattle.std.proofs.Common.{◌≡◌, ◌-◌, ◌≤◌, max}
 use Rattle.disk.specs.{IsSame, IsStill, KeepsDisk}
 use Rattle.chain_model.specs.{forwards}
 use Rattle.chain_core.specs.{Machine, CoreRefines, AreFrames}

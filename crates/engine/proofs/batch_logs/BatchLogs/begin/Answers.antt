@@ -1,4 +1,5 @@
 use Rattle.std.proofs.Common.{◌+◌, ◌∷◌, [], ◌++◌, ap, sym, subst, ◌∙◌}
+use Rattle.disk.specs.BesideLemmas.{at_start}
 use Rattle.record_log.specs.{LogHolds}
 use Rattle.engine.specs.declared.batch_logs.BatchLog.{BatchLog}
 use Rattle.engine.specs.declared.batch_logs.BatchLogs.{BatchLogs}
@@ -43,3 +44,9 @@ returns-clause-begun g c = λ first batches honest ends h.
     batches h (c.create.ensures.kept.files honest) c.requires.new.0 c.requires.new.1
     (subst (λ (one : BatchLog). LogHolds new one.log []) (sym c.replace-last.ensures.after)
     (c.in_ok-log.ensures.created honest ends))
+
+-- no call of the disk
+pub returns-in_err-reserve-clause-any_moment : goal.returns-in_err-reserve-clause-any_moment
+returns-in_err-reserve-clause-any_moment g c = λ honest.
+    at_start (λ left. Unit {0}) c.args.file (g.D.Disk.state c.args.disk.now)
+    (g.D.Disk.past c.args.disk.now) (λ left now. tt)

@@ -1,12 +1,25 @@
 use Rattle.std.proofs.Common.{[], subst, sym}
-use Rattle.engine.proofs.Engines.{holds_of, not_true, reads_of}
+use Rattle.engine.proofs.Engines.{LeftFiles, holds_of, reads_of, told_of}
+use Rattle.engine.proofs.Records.{not_true}
 use Rattle.engine.proofs.engine.Engine.create.Goals as goal
 
 -- the store has no batch
 pub returns-in-Ok-clause-created : goal.returns-in-Ok-clause-created
 returns-in-Ok-clause-created g c = λ honest.
-    let law = c.durable_is_left.ensures in
+    let laws : LeftFiles = record {
+      reads = c.reads_are_outcomes.ensures;
+      durable = c.durable_file_is_left.ensures;
+      version = c.held_versions_are_left.ensures.left;
+      stays = c.held_versions_are_left.ensures.same;
+    } in
     let honest' = subst g.D.Disk.is_honest (sym c.in_ok-files.ensures.files) honest in
-    holds_of g.D.Disk law _ []
-    (reads_of g.D.Disk law _ [] (c.create.ensures.kept.honest.1 honest') not_true
+    holds_of g.D.Disk laws _ []
+    (reads_of g.D.Disk laws _ [] (c.create.ensures.kept.honest.1 honest') not_true
     (c.in-Ok.ensures.created honest'))
+
+-- nor does it tell any
+pub returns-in-Ok-clause-begun : goal.returns-in-Ok-clause-begun
+returns-in-Ok-clause-begun g c = record {
+  works = not_true;
+  told = told_of c.in-Ok.ensures.facts c.in-Ok.ensures.none;
+}

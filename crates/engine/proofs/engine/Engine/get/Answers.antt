@@ -1,28 +1,33 @@
-use Rattle.std.proofs.Common.{refl}
+use Rattle.std.proofs.Common.{◌≤◌, arith, refl}
 use Rattle.disk.specs.StillLemmas.{still}
-use Rattle.engine.proofs.Causes.{memory_undamaged}
-use Rattle.engine.proofs.Engines.{goes_on, store_of, works_on_ok}
+use Rattle.engine.specs.OpenFiles.{batch_count}
+use Rattle.engine.proofs.Engines.{LeftFiles, answers_or_machine, goes_on, held_of, works_on_ok}
 use Rattle.engine.proofs.engine.Engine.get.Goals as goal
 
 -- no call of the disk is made
 pub returns-in_err-may_read-clause-still : goal.returns-in_err-may_read-clause-still
 returns-in_err-may_read-clause-still g c = λ honest. still _ _
 
-pub returns-clause-still : goal.returns-clause-still
-returns-clause-still g c = λ honest. still _ _
-
--- what the memtable has is what the list has
+-- what memory and tables have is what the list has
 pub returns-clause-found : goal.returns-clause-found
-returns-clause-found g c = λ list r. (
-  c.get-answer.ensures.found list (store_of g.D.Disk c.args.self.now list r).entries,
-  memory_undamaged c.get-answer.result c.get-answer.ensures.causes,
-)
+returns-clause-found g c = λ list r.
+    let readable = c.in_ok-may_read.ensures.readable in
+    let counted = c.args.self.now.counted.committed in
+    let count : c.args.at ≤ batch_count c.args.self.now.store =
+    omega (arith, readable.1, counted) in
+    answers_or_machine c.get-answer.result _ (c.get-answer.ensures.found list r.honest
+    (held_of g.D.Disk c.args.self.now list r) readable.0 count)
 
 pub returns-clause-kept : goal.returns-clause-kept
 returns-clause-kept g c = λ list.
-    goes_on g.D.Disk c.durable_is_left.ensures c.args.self.now _ list c.get-answer.result (record {
-      facts = refl;
+    let laws : LeftFiles = record {
+      reads = c.reads_are_outcomes.ensures;
+      durable = c.durable_file_is_left.ensures;
+      version = c.held_versions_are_left.ensures.left;
+      stays = c.held_versions_are_left.ensures.same;
+    } in
+    goes_on g.D.Disk laws c.args.self.now _ list c.get-answer.result (record {
       store = refl;
-      honest = λ honest. honest;
-      same = λ honest file. refl;
+      honest = c.get-answer.ensures.kept.honest.1;
+      same = c.get-answer.ensures.kept.files;
     }) (works_on_ok c.get-answer.result c.is_err-self.result c.is_err-self.ensures.value)

@@ -1,12 +1,17 @@
 use Rattle.std.proofs.Common.{refl}
-use Rattle.engine.proofs.Engines.{holds_of, reads_on}
+use Rattle.engine.proofs.Engines.{LeftFiles, holds_of, reads_on}
 use Rattle.engine.proofs.engine.Engine.set_committed.Goals as goal
 
 -- the list stays
 pub returns-clause-reads : goal.returns-clause-reads
 returns-clause-reads g c = λ list r.
-    reads_on g.D.Disk c.durable_is_left.ensures c.args.self.now _ list (record {
-      facts = refl;
+    let laws : LeftFiles = record {
+      reads = c.reads_are_outcomes.ensures;
+      durable = c.durable_file_is_left.ensures;
+      version = c.held_versions_are_left.ensures.left;
+      stays = c.held_versions_are_left.ensures.same;
+    } in
+    reads_on g.D.Disk laws c.args.self.now _ list (record {
       store = refl;
       honest = λ honest. honest;
       same = λ honest file. refl;
@@ -14,9 +19,13 @@ returns-clause-reads g c = λ list r.
 
 pub returns-clause-holds : goal.returns-clause-holds
 returns-clause-holds g c = λ list h.
-    holds_of g.D.Disk c.durable_is_left.ensures _ list
-    (reads_on g.D.Disk c.durable_is_left.ensures c.args.self.now _ list (record {
-      facts = refl;
+    let laws : LeftFiles = record {
+      reads = c.reads_are_outcomes.ensures;
+      durable = c.durable_file_is_left.ensures;
+      version = c.held_versions_are_left.ensures.left;
+      stays = c.held_versions_are_left.ensures.same;
+    } in
+    holds_of g.D.Disk laws _ list (reads_on g.D.Disk laws c.args.self.now _ list (record {
       store = refl;
       honest = λ honest. honest;
       same = λ honest file. refl;

@@ -1,8 +1,9 @@
-use Rattle.std.proofs.Common.{List, ℕ, subst, sym, ap, arith, ◌∙◌}
+use Rattle.std.proofs.Common.{List, ℕ, map, subst, sym, ap, arith, ◌∙◌}
 use Rattle.std.specs.List.{AllZip, insert}
 use Rattle.std.proofs.lemmas.List.Sums.{prefix_len-le-length}
 use Rattle.engine.specs.declared.levels.OpenTable.{OpenTable}
 use Rattle.engine.specs.LevelTables.{IsServed, is_flushed, with_flushed}
+use Rattle.engine.proofs.FlushedTables.{lines_with}
 use Rattle.engine.proofs.LevelLemmas.{served_with}
 use Rattle.engine.proofs.levels.LevelTables.add.Goals as goal
 
@@ -15,6 +16,14 @@ returns-clause-added c = λ disk tables table served is.
     (sym (c.in_ok-insert.ensures.items
     ∙ ap (λ (n : ℕ). insert items n one) c.flushed-place.ensures))
     (served_with disk one table is items tables served)
+
+-- and so its line among theirs
+pub returns-clause-lines : goal.returns-clause-lines
+returns-clause-lines c =
+    let items = c.args.self.now.tables.items in
+    ap (λ (l : List OpenTable). map (λ one. one.line) l) (c.in_ok-insert.ensures.items
+    ∙ ap (λ (n : ℕ). insert items n c.args.opened) c.flushed-place.ensures)
+    ∙ lines_with items c.args.opened
 
 -- that place is in the list, or right behind it
 pub insert-requires : goal.insert-requires

@@ -5,10 +5,9 @@ use Rattle.manifest.specs.declared.TableLine.{TableLine}
 use Rattle.manifest.specs.{IsVersion, NodeVersion}
 use Rattle.engine.specs.Errors.{IsOfMachine}
 use Rattle.engine.specs.LevelTables.{AreTablesOf}
-use Rattle.engine.proofs.BegunFiles.{first_hold, log_is_spared, no_file_ends, no_slot_yet}
+use Rattle.engine.proofs.BegunFiles.{counts_none, first_hold, first_line, log_is_spared, no_file_ends, no_slot_yet}
 use Rattle.engine.proofs.BegunFiles.{rest_is_unused}
 use Rattle.engine.proofs.Causes.{refuses}
-use Rattle.engine.proofs.Held.{first_line}
 use Rattle.engine.proofs.Parts.{holds_in}
 use Rattle.engine.proofs.store_files.StoreFiles.create.Goals as goal
 
@@ -25,6 +24,13 @@ returns-in_err-tables-clause-created g c = λ honest.
     AreTablesOf (contents (g.D.Disk.state c.create-2.new.disk)) lines []) (sym none) tt in
     refuses c.from_residual-in_err-tables.result _ IsOfMachine
     c.from_residual-in_err-tables.ensures.1 (c.in_err-tables.ensures.opened [] honest3 read)
+
+-- the new log has no batch
+pub returns-clause-none : goal.returns-clause-none
+returns-clause-none g c =
+    counts_none c.new-logs.result (record { first = 1; log = c.in_ok-log.log })
+    (record { older = c.new-logs.ensures.alone.0; newest = c.new-logs.ensures.alone.1 }) refl
+    c.in_ok-log.ensures.empty.1
 
 -- a new log and a new manifest, and no other file
 pub returns-clause-created : goal.returns-clause-created

@@ -3,7 +3,7 @@ use Rattle.disk.specs.{contents}
 use Rattle.manifest.specs.{NodeVersion}
 use Rattle.engine.specs.Errors.{IsOfMachine}
 use Rattle.engine.specs.Openings.{kept_files}
-use Rattle.engine.specs.StoreFiles.{StoreFilesRepresent}
+use Rattle.engine.specs.StoreFiles.{FilesRepresent}
 use Rattle.engine.proofs.Causes.{refuses}
 use Rattle.engine.proofs.KeptFiles.{settled_as, settling_keeps, still_keeps}
 use Rattle.engine.proofs.store_files.StoreFiles.open.Goals as goal
@@ -32,13 +32,13 @@ returns-clause-opened g c = λ facts list honest represents.
 -- at each moment the disk leaves only files of this store
 pub returns-in_err-files-clause-any_moment : goal.returns-in_err-files-clause-any_moment
 returns-in_err-files-clause-any_moment g c = λ facts list honest only.
-    still_keeps (StoreFilesRepresent facts list) (g.D.Disk.state c.args.disk.now)
+    still_keeps (FilesRepresent facts list) (g.D.Disk.state c.args.disk.now)
     (g.D.Disk.past c.args.disk.now) (g.D.Disk.state c.read_files.new.disk)
     (g.D.Disk.past c.read_files.new.disk) only (c.read_files.ensures.still honest)
 
 pub returns-in_err-kept-clause-any_moment : goal.returns-in_err-kept-clause-any_moment
 returns-in_err-kept-clause-any_moment g c = λ facts list honest only.
-    still_keeps (StoreFilesRepresent facts list) (g.D.Disk.state c.args.disk.now)
+    still_keeps (FilesRepresent facts list) (g.D.Disk.state c.args.disk.now)
     (g.D.Disk.past c.args.disk.now) (g.D.Disk.state c.read_files.new.disk)
     (g.D.Disk.past c.read_files.new.disk) only (c.read_files.ensures.still honest)
 

@@ -1,5 +1,5 @@
 use Rattle.std.proofs.Common.{◌≡◌, ℕ, suc, List, [], ◌++◌, length}
-use Rattle.std.proofs.Common.{ap, subst, sym, ◌∙◌, inr}
+use Rattle.std.proofs.Common.{ap, subst, sym, ◌∙◌}
 use Rattle.std.proofs.lemmas.Result.{err_from_is_err_and}
 use Rattle.std.proofs.lemmas.List.{append-nil}
 use Rattle.kv_types.specs.{BatchContent}

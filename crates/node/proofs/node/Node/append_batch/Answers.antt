@@ -1,9 +1,9 @@
-use Rattle.std.proofs.Common.{◌≡◌, ◌+◌, ◌++◌, ◌∷◌, [], ap, arith, sym, subst, ℕ, inr, ◌∙◌}
+use Rattle.std.proofs.Common.{◌+◌, ◌++◌, ◌∷◌, [], ap, arith, sym, subst, ℕ, inr, ◌∙◌}
 use Rattle.std.proofs.lemmas.Result.{err_from_is_err_and}
 use Rattle.chain_core.specs as core
 use Rattle.chain_core.specs.{done_of}
 use Rattle.engine.specs.KeepingLemmas.{answered, kept_as, neither}
-use Rattle.engine.specs.{EngineHolds, LookUps, engine_disk, look_ups}
+use Rattle.engine.specs.{LookUps, engine_disk, look_ups}
 use Rattle.node.specs.Outputs.{AlwaysRefines}
 use Rattle.node.specs.Steps.{disk_of}
 use Rattle.node.specs.Stops.{IsEnvironmental}

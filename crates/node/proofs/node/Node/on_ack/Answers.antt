@@ -1,4 +1,4 @@
-use Rattle.std.proofs.Common.{◌≡◌, ◌≤◌, ℕ, List, [], arith, refl}
+use Rattle.std.proofs.Common.{◌≡◌, ℕ, List, [], arith, refl}
 use Rattle.std.proofs.Common.{Bool, nat_lt, if◌then◌else◌, ap, subst, sym, ◌∙◌, inr}
 use Rattle.std.proofs.lemmas.Result.{err_from_is_err_and}
 use Rattle.kv_types.specs.{BatchContent}
@@ -6,7 +6,7 @@ use Rattle.chain_model.specs.{Message, ack, on_ack}
 use Rattle.chain_core.specs.declared.Done.TheVariants as done
 use Rattle.chain_core.specs as core
 use Rattle.chain_core.specs.{AreFrames, done_of}
-use Rattle.engine.specs.{LookUps, engine_disk, look_ups}
+use Rattle.engine.specs.{LookUps}
 use Rattle.node.specs.Outputs.{AlwaysRefines}
 use Rattle.node.specs.Steps.{disk_of}
 use Rattle.node.proofs.Outputs.{greater}

@@ -1,5 +1,5 @@
 use Rattle.kv_types.specs.declared.Value.{Value}
-use Rattle.std.proofs.Common.{Option, Err, ap, arith, refl, sym, subst, ◌∙◌}
+use Rattle.std.proofs.Common.{Option, Err, ap, arith, refl, sym, subst}
 use Rattle.std.proofs.lemmas.Result.{err_from_is_err_and}
 use Rattle.chain_model.specs.{reply_read}
 use Rattle.engine.specs.{Facts, LookUps, engine_disk, look_ups}

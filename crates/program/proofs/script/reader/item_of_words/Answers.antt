@@ -1,6 +1,7 @@
 use Rattle.std.proofs.Common.{rules, codes, map, take, drop, length, ◌-◌, arith}
 use Rattle.std.proofs.lemmas.Grind.{common_steps}
 use Rattle.program.proofs.Places.{named_word}
+use Rattle.program.proofs.Limits.{is_limit_line}
 use Rattle.program.proofs.Placing.{is_config}
 use Rattle.program.proofs.script.reader.item_of_words.Goals as goal
 
@@ -11,6 +12,13 @@ returns-then-eq c =
     (drop 1 ws))) c.in_ok-config.config
     (named_word ws (codes "config") c.in-len1-up.len_at_least (search rules)) e.1 e.2 e.3 e.4 e.0
     c.in_ok-only.field-0 c.in_ok-only.ensures
+
+pub returns-then-eq-2 : goal.returns-then-eq-2
+returns-then-eq-2 c =
+    let e = c.in_ok-limit.ensures in let ws = c.args.words.now in
+    is_limit_line c.args.before.now (map (λ w. w.now) ws) (map (λ w. w.now) (take (length ws - 1)
+    (drop 1 ws))) c.in_ok-limit.field-0
+    (named_word ws (codes "limit") c.in-len1-up.len_at_least (search rules)) e.0 e.1 e.2 e.3
 
 pub returns-in_default : goal.returns-in_default
 returns-in_default c = grind (arith, common_steps)

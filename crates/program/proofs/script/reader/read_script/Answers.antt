@@ -1,7 +1,7 @@
 use Rattle.std.proofs.Common.{arith, append-nil, refl, sym, ◌∙◌, []}
 use Rattle.program.specs.declared.script.setup.Setup.{Setup}
-use Rattle.program.specs.Scripts.{script_lines, IsScript}
-use Rattle.program.proofs.Going.{takes_on, keeps_fault, all_name}
+use Rattle.program.specs.Scripts.{default_log, script_lines, IsScript}
+use Rattle.program.proofs.Going.{takes_on, keeps_fault, all_name, sized}
 use Rattle.program.proofs.script.reader.read_script.Goals as goal
 
 pub loop-line-preserved : goal.loop-line-preserved
@@ -17,29 +17,30 @@ loop-line-preserved c =
       fault = keeps_fault before c.in-Ok.after n line lines old _ taken
           ∙ rw c.in-Some.ensures.steps at c.loop-line.invariant.fault;
       few = omega (arith, taken.1);
+      size = sized before c.in-Ok.after n line old _ taken c.loop-line.invariant.size;
     }
 
 pub returns-clause-found : goal.returns-clause-found
 returns-clause-found c =
     let setup : Setup = record {
       configs = c.in-Some-into_configs.configs;
-      limits = c.default-limits.result;
+      limits = c.limits_of-limits.result;
     } in
     rw (← append-nil c.loop-line.statements.items)
     (c.loop-line.invariant.found setup [] (rw (
       c.in-None.ensures.steps.0,
       sym c.into_configs.ensures ∙ c.in-Some-into_configs.is,
-    ) (record { configs = refl; limits = c.default-limits.ensures }, refl)))
+    ) (record { configs = refl; limits = c.limits_of-limits.ensures }, refl)))
 
 pub returns-clause-node : goal.returns-clause-node
 returns-clause-node c =
     let setup : Setup = record {
       configs = c.in-Some-into_configs.configs;
-      limits = c.default-limits.result;
+      limits = c.limits_of-limits.result;
     } in
-    all_name 1 (script_lines c.args.text.now) setup c.loop-line.statements.items
+    all_name default_log 1 (script_lines c.args.text.now) setup c.loop-line.statements.items
     (rw (← append-nil c.loop-line.statements.items)
     (c.loop-line.invariant.found setup [] (rw (
       c.in-None.ensures.steps.0,
       sym c.into_configs.ensures ∙ c.in-Some-into_configs.is,
-    ) (record { configs = refl; limits = c.default-limits.ensures }, refl))))
+    ) (record { configs = refl; limits = c.limits_of-limits.ensures }, refl))))

@@ -1,0 +1,105 @@
+-- The files of a store while its manifest is rewritten, and what a tend tells.
+use Rattle.std.proofs.Common.{◌≤◌, ℕ, List, Contains, ap, arith, inl, inr, refl, subst, sym}
+use Rattle.std.proofs.lemmas.List.Elements.{All-contains}
+use Rattle.std.proofs.Common.{Result, Ok, Err}
+use Rattle.std.specs.Prelude.{IsNone, MatchResult}
+use Rattle.kv_types.specs.{BatchContent}
+use Rattle.disk.specs.{DurableFileIsLeft, IsSameBut, LeavesSince, Slot, State, seen}
+use Rattle.disk.specs.MomentsLemmas.{started, weaker}
+use Rattle.manifest.specs.declared.LogLine.{LogLine}
+use Rattle.manifest.specs.declared.Manifest.{Manifest}
+use Rattle.manifest.specs.declared.ManifestError.{ManifestError}
+use Rattle.manifest.specs.declared.TableLine.{TableLine}
+use Rattle.manifest.specs.Lawful.{IsGiven}
+use Rattle.manifest.specs.{HeldVersionIsLeft, IsManifestExternal, IsSlotFile, ManifestHolds}
+use Rattle.manifest.specs.{ManifestRepresents, SlotsAreLeft, StoreVersion}
+use Rattle.engine.specs.declared.store_files.StoreFiles.{StoreFiles}
+use Rattle.engine.specs.declared.error.EngineError.{EngineError}
+use Rattle.engine.specs.declared.tended.Tended.{Tended}
+use Rattle.engine.specs.Errors.{IsEnd, IsOfMachine, error_of_edit}
+use Rattle.engine.specs.OpenFiles.{FilesHold, known_facts, known_version}
+use Rattle.engine.specs.StoreFiles.{FilesRepresent}
+use Rattle.engine.specs.Tending.{FlushIsDue, RewriteIsDue, TellsFlush, TellsRewrite, TellsWork}
+use Rattle.engine.specs.Tending.{TellsWork as work}
+use Rattle.engine.proofs.Appended.{left_now}
+use Rattle.engine.proofs.FilesApart.{given_no_slot}
+use Rattle.engine.proofs.KeptFiles.{held_with, kept_is_given, lines_are_left, slot_is_kept}
+use Rattle.engine.proofs.KeptFiles.{with_manifest}
+use Rattle.engine.proofs.Spills.{are_read}
+
+-- ---- refusals
+
+-- a refusal of the machine is told as one
+pub edit_of_machine : (e : ManifestError) → IsManifestExternal e → IsOfMachine (error_of_edit e)
+edit_of_machine e (inl failed) = inl (ap error_of_edit failed)
+edit_of_machine e (inr memory) = inr (ap error_of_edit memory)
+
+-- ---- what a tend tells
+
+module _ (limit : ℕ) (old new : StoreFiles) (held : Type 0) where
+  -- a rewrite that was due
+  pub tells_rewrite : (result : Result Tended EngineError) → RewriteIsDue old →
+      MatchResult result (λ _. held) IsOfMachine →
+      MatchResult result (TellsRewrite old new) IsEnd →
+      MatchResult result (λ answer. held × TellsWork limit old new answer) IsOfMachine
+  tells_rewrite (Ok answer) due holds tells = (holds, work.Rewrites due tells)
+  tells_rewrite (Err e) due machine ends = machine
+
+  -- a flush that was due
+  pub tells_flush : (result : Result Tended EngineError) → (RewriteIsDue old → ⊥) →
+      FlushIsDue limit old →
+      MatchResult result (λ answer. held × TellsFlush old new answer) IsOfMachine →
+      MatchResult result (λ answer. held × TellsWork limit old new answer) IsOfMachine
+  tells_flush (Ok answer) short due tells = (tells.0, work.Flushes short due tells.1)
+  tells_flush (Err e) short due machine = machine
+
+-- ---- the files
+
+module _ (disk : State) (files : StoreFiles) (list : List BatchContent)
+    (h : FilesHold disk files list) where
+  abbrev version : StoreVersion
+  version = (known_version files).version
+
+  -- no line names a slot
+  log_no_slot : (line : LogLine) → Contains version.logs line → IsSlotFile line.file → ⊥
+  log_no_slot line has slot = given_no_slot version line.file
+      (All-contains (λ (one : LogLine). IsGiven version one.file) version.logs line
+      h.usable.version.lines.log_files has) line.file slot refl
+
+  table_no_slot : (line : TableLine) → Contains version.tables line → IsSlotFile line.file → ⊥
+  table_no_slot line has slot = given_no_slot version line.file
+      (All-contains (λ (one : TableLine). IsGiven version one.file) version.tables line
+      h.usable.version.lines.table_files has) line.file slot refl
+
+  -- before the first call
+  pub nothing_called : DurableFileIsLeft → HeldVersionIsLeft → (past : List State) →
+      LeavesSince disk past disk past (FilesRepresent (known_facts files) list)
+  nothing_called durable_is_left held_is_left past =
+      started (FilesRepresent (known_facts files) list) disk past
+      (left_now disk files list h durable_is_left held_is_left)
+
+  -- while slots that represent the version are written
+  pub slots_are_written : DurableFileIsLeft → (past since : List State) (new : State) →
+      LeavesSince disk past new since (SlotsAreLeft disk (ManifestRepresents (known_version files)))
+      → LeavesSince disk past new since (FilesRepresent (known_facts files) list)
+  slots_are_written durable_is_left past since new run =
+      weaker (SlotsAreLeft disk (ManifestRepresents (known_version files)))
+      (FilesRepresent (known_facts files) list) disk past new since
+      (λ left at. lines_are_left disk files list (are_read disk files list h) durable_is_left left
+      at.here (λ line has. at.others line.file (log_no_slot line has))
+      (λ line has. at.others line.file (table_no_slot line has))) run
+
+  -- with the manifest that wrote one they hold what they held
+  pub held_rewritten : (new : State) (manifest : Manifest) (slot : ℕ) → IsSlotFile slot →
+      IsSameBut slot disk new → ManifestHolds new manifest (known_version files) →
+      FilesHold new (with_manifest files manifest) list
+  held_rewritten new manifest slot is spares holds =
+      held_with disk files list (are_read disk files list h) new manifest holds
+      (λ line has. spares line.file (λ same. log_no_slot line has (subst IsSlotFile (sym same) is)))
+      (λ line has. spares line.file
+      (λ same. table_no_slot line has (subst IsSlotFile (sym same) is))) unused
+    where
+      unused : (file : ℕ) → version.next_file ≤ file → IsNone (seen (new file))
+      unused file above = subst (λ (one : Slot). IsNone (seen one)) (sym (spares file (λ same.
+          let below = kept_is_given version h.usable.version slot (slot_is_kept version slot is) in
+          omega (arith, same, below, above)))) (h.unused file above)

@@ -1,0 +1,53 @@
+use Rattle.engine.proofs.Engines.{LeftFiles, closed_by, ends_by, goes_to, may_fail, no_refusal}
+use Rattle.engine.proofs.Engines.{on_first, on_second, held_of, works_on_ok}
+use Rattle.engine.proofs.engine.Engine.tend.Goals as goal
+
+-- a device that works fails where the files are full or are none of the engine
+pub returns-clause-keeps : goal.returns-clause-keeps
+returns-clause-keeps g c =
+    let answer = c.tend-answer.result in
+    let kept = c.tend-answer.ensures.kept in
+    record {
+      disk = record {
+        honest = kept.honest;
+        failed = kept.failed;
+        count = kept.count;
+        only = λ reliable spared fails. may_fail g.D.Disk c.args.self.now
+            (kept.only reliable spared fails);
+        reliable = kept.reliable;
+        files = kept.files;
+        fault = kept.fault;
+        spared = kept.spared;
+      };
+      closed = closed_by answer c.args.self.now.has_ended c.if-self.false
+          c.tend-answer.ensures.causes;
+      ends = ends_by answer c.args.self.now.has_ended c.is_err-self.result c.if-self.false
+          c.is_err-self.ensures.value c.tend-answer.ensures.causes;
+      refusal = λ told. absurd (no_refusal answer c.tend-answer.ensures.causes told);
+    }
+
+-- the list stays
+pub returns-clause-tended : goal.returns-clause-tended
+returns-clause-tended g c = λ list.
+    let laws : LeftFiles = record {
+      reads = c.reads_are_outcomes.ensures;
+      durable = c.durable_file_is_left.ensures;
+      version = c.held_versions_are_left.ensures.left;
+      stays = c.held_versions_are_left.ensures.same;
+    } in
+    goes_to g.D.Disk laws c.args.self.now _ list list c.tend-answer.result
+    c.tend-answer.ensures.kept.honest.1
+    (works_on_ok c.tend-answer.result c.is_err-self.result c.is_err-self.ensures.value)
+    (λ honest held. on_first c.tend-answer.result _ _
+    (c.tend-answer.ensures.tended list honest held))
+
+-- what was due was done
+pub returns-clause-work : goal.returns-clause-work
+returns-clause-work g c = λ list r.
+    on_second c.tend-answer.result _ _ (c.tend-answer.ensures.tended list r.honest
+    (held_of g.D.Disk c.args.self.now list r))
+
+pub returns-clause-any_moment : goal.returns-clause-any_moment
+returns-clause-any_moment g c = λ list h.
+    c.tend-answer.ensures.any_moment list h.reads.honest
+    (held_of g.D.Disk c.args.self.now list h.reads)

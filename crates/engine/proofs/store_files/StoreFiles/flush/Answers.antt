@@ -1,0 +1,114 @@
+use Rattle.std.proofs.Common.{Option, inl, inr, refl, subst}
+use Rattle.std.specs.Prelude.{MatchOption}
+use Rattle.disk.specs.MomentsLemmas.{join}
+use Rattle.engine.specs.declared.flushing.Flushed.{Flushed}
+use Rattle.engine.specs.Errors.{IsOfMachine}
+use Rattle.engine.specs.KeepingLemmas.{answered, kept_as, kept_behind, kept_but}
+use Rattle.engine.specs.OpenFiles.{FilesHold, IsTooLarge, known_facts}
+use Rattle.engine.specs.StoreFiles.{FilesRepresent}
+use Rattle.engine.specs.Tending.{HasSpilled, HeldAndSpilled}
+use Rattle.engine.proofs.Causes.{refuses}
+use Rattle.engine.proofs.Keeping.{passed_on}
+use Rattle.engine.proofs.Tends.{nothing_called}
+use Rattle.engine.proofs.store_files.StoreFiles.flush.Goals as goal
+
+-- no call of the disk
+pub returns-then-lacks_place-clause-any_moment : goal.returns-then-lacks_place-clause-any_moment
+returns-then-lacks_place-clause-any_moment g c = λ list honest h.
+    nothing_called (g.D.Disk.state c.args.disk.now) c.args.self.now list h
+    c.durable_file_is_left.ensures c.held_versions_are_left.ensures.left
+    (g.D.Disk.past c.args.disk.now)
+
+-- the table was not written
+pub returns-in_err-made-clause-tended : goal.returns-in_err-made-clause-tended
+returns-in_err-made-clause-tended g c = λ list honest h.
+    refuses c.from_residual.result _ IsOfMachine c.from_residual.ensures.1
+    (c.in_err-made.ensures.spilled list honest h)
+
+-- it would be too large
+pub returns-in-None-clause-tended : goal.returns-in-None-clause-tended
+returns-in-None-clause-tended g c = λ list honest h.
+    let disk = g.D.Disk.state c.args.disk.now in
+    let files = c.args.self.now in
+    let mid = g.D.Disk.state c.spill.new.disk in
+    let told = subst (λ (o : Option Flushed). MatchOption o
+    (IsTooLarge files.memtable × FilesHold mid files list) (HasSpilled disk mid files)) c.in-None.is
+    (c.in_ok-made.ensures.spilled list honest h) in
+    (told.1, (inr told.0, refl))
+
+-- ---- it was written
+
+pub returns-in_err-install-in-Some-clause-kept : goal.returns-in_err-install-in-Some-clause-kept
+returns-in_err-install-in-Some-clause-kept g c =
+    let same = passed_on c.install.result c.in_err-install-in-Some.field-0.0
+    c.from_residual-in_err-install-in-Some.result c.in_err-install-in-Some.was
+    c.from_residual-in_err-install-in-Some.ensures.1 in
+    kept_behind g.D.Disk (λ a b d before after. tt) c.spill.ensures.kept
+    (answered c.spill.result c.in_ok-made.was)
+    (kept_but g.D.Disk (λ full. inl full)
+    (kept_as g.D.Disk same (λ a b owned. owned) c.install.ensures.kept))
+
+pub returns-in_err-install-in-Some-clause-tended :
+    goal.returns-in_err-install-in-Some-clause-tended
+returns-in_err-install-in-Some-clause-tended g c = λ list honest h.
+    let disk = g.D.Disk.state c.args.disk.now in
+    let files = c.args.self.now in
+    let mid = g.D.Disk.state c.spill.new.disk in
+    let told = subst (λ (o : Option Flushed). MatchOption o
+    (IsTooLarge files.memtable × FilesHold mid files list) (HasSpilled disk mid files)) c.in-Some.is
+    (c.in_ok-made.ensures.spilled list honest h) in
+    let held : HeldAndSpilled mid files list c.in-Some.made =
+    record { before = disk; held = h; spilled = told } in
+    let between = c.spill.ensures.kept.honest.1 honest in
+    refuses c.from_residual-in_err-install-in-Some.result _ IsOfMachine
+    c.from_residual-in_err-install-in-Some.ensures.1
+    (c.in_err-install-in-Some.ensures.installed list between held)
+
+pub returns-in_ok-install-in-Some-clause-tended : goal.returns-in_ok-install-in-Some-clause-tended
+returns-in_ok-install-in-Some-clause-tended g c = λ list honest h.
+    let disk = g.D.Disk.state c.args.disk.now in
+    let files = c.args.self.now in
+    let mid = g.D.Disk.state c.spill.new.disk in
+    let told = subst (λ (o : Option Flushed). MatchOption o
+    (IsTooLarge files.memtable × FilesHold mid files list) (HasSpilled disk mid files)) c.in-Some.is
+    (c.in_ok-made.ensures.spilled list honest h) in
+    let held : HeldAndSpilled mid files list c.in-Some.made =
+    record { before = disk; held = h; spilled = told } in
+    let between = c.spill.ensures.kept.honest.1 honest in
+    (c.in_ok-install-in-Some.ensures.installed list between held, c.in_ok-install-in-Some.ensures.told.1.1)
+
+-- ---- the moments of both calls
+
+pub returns-in_err-install-in-Some-clause-any_moment :
+    goal.returns-in_err-install-in-Some-clause-any_moment
+returns-in_err-install-in-Some-clause-any_moment g c = λ list honest h.
+    let disk = g.D.Disk.state c.args.disk.now in
+    let files = c.args.self.now in
+    let mid = g.D.Disk.state c.spill.new.disk in
+    let told = subst (λ (o : Option Flushed). MatchOption o
+    (IsTooLarge files.memtable × FilesHold mid files list) (HasSpilled disk mid files)) c.in-Some.is
+    (c.in_ok-made.ensures.spilled list honest h) in
+    let held : HeldAndSpilled mid files list c.in-Some.made =
+    record { before = disk; held = h; spilled = told } in
+    let between = c.spill.ensures.kept.honest.1 honest in
+    join (FilesRepresent (known_facts files) list) disk mid
+    (g.D.Disk.state c.install.new.disk) (g.D.Disk.past c.args.disk.now)
+    (g.D.Disk.past c.spill.new.disk) (g.D.Disk.past c.install.new.disk)
+    (c.spill.ensures.any_moment list honest h) (c.install.ensures.any_moment list between held)
+
+pub returns-in_ok-install-in-Some-clause-any_moment :
+    goal.returns-in_ok-install-in-Some-clause-any_moment
+returns-in_ok-install-in-Some-clause-any_moment g c = λ list honest h.
+    let disk = g.D.Disk.state c.args.disk.now in
+    let files = c.args.self.now in
+    let mid = g.D.Disk.state c.spill.new.disk in
+    let told = subst (λ (o : Option Flushed). MatchOption o
+    (IsTooLarge files.memtable × FilesHold mid files list) (HasSpilled disk mid files)) c.in-Some.is
+    (c.in_ok-made.ensures.spilled list honest h) in
+    let held : HeldAndSpilled mid files list c.in-Some.made =
+    record { before = disk; held = h; spilled = told } in
+    let between = c.spill.ensures.kept.honest.1 honest in
+    join (FilesRepresent (known_facts files) list) disk mid
+    (g.D.Disk.state c.install.new.disk) (g.D.Disk.past c.args.disk.now)
+    (g.D.Disk.past c.spill.new.disk) (g.D.Disk.past c.install.new.disk)
+    (c.spill.ensures.any_moment list honest h) (c.install.ensures.any_moment list between held)

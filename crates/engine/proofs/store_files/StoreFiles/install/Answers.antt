@@ -1,0 +1,329 @@
+use Rattle.std.proofs.Common.{◌+◌, ap, drop, inr, refl, subst, suc, sym, ◌∙◌}
+use Rattle.kv_types.specs.{Entry}
+use Rattle.manifest.specs.declared.TableLine.{TableLine}
+use Rattle.manifest.specs.{NodeVersion}
+use Rattle.memtable.specs.declared.Memtable.{Memtable}
+use Rattle.memtable.specs.{HasFailedAdd, TableHolds}
+use Rattle.engine.specs.Errors.{IsOfMachine}
+use Rattle.engine.specs.LevelTables.{table_lines, with_flushed_line}
+use Rattle.engine.specs.OpenFiles.{batch_count, known_version, trimmed_count}
+use Rattle.engine.specs.StoreFiles.{flush_change}
+use Rattle.engine.proofs.Causes.{refuses}
+use Rattle.engine.proofs.Installed.{beside_new, count_kept, edit_is, edit_is_recorded, facts_kept}
+use Rattle.engine.proofs.Installed.{flushed_told, installed_holds, installed_usable, log_begins}
+use Rattle.engine.proofs.Installed.{manifest_begun, new_ends, new_served, none_begun, old_served}
+use Rattle.engine.proofs.Installed.{spilled_named}
+use Rattle.engine.proofs.Tends.{edit_of_machine}
+use Rattle.engine.proofs.store_files.StoreFiles.install.Goals as goal
+
+-- nothing was called yet
+pub returns-in_err-edit-clause-any_moment : goal.returns-in_err-edit-clause-any_moment
+returns-in_err-edit-clause-any_moment g c = λ list honest hs.
+    let files = c.args.self.now in
+    let line = c.args.made.line in
+    let version = (known_version files).version in
+    none_begun files c.requires.usable line c.requires.place c.requires.next
+    (version.next_file + 1) refl (flush_change version (batch_count files) line) refl
+    (g.D.Disk.state c.args.disk.now) list c.args.made.table hs c.durable_file_is_left.ensures c.held_versions_are_left.ensures.left
+    c.held_versions_are_left.ensures.same
+    (g.D.Disk.past c.args.disk.now)
+
+-- the new log has a file of its own
+pub begin-requires-clause-new : goal.begin-requires-clause-new
+begin-requires-clause-new g c =
+    let files = c.args.self.now in
+    let line = c.args.made.line in
+    let at = ap (λ (n : NodeVersion). n.version.next_file + 1)
+    (c.behind-self.view_is ∙ c.state.ensures) in
+    let is = edit_is files line c.state-2.result.now c.last_number-count.result c.in_ok-edit.edit
+    c.state-2.ensures c.last_number-count.ensures c.in_ok-edit.ensures.edit in
+    beside_new files c.requires.usable line c.requires.place c.requires.next
+    (c.behind-self.inside.next_file + 1) at c.in_ok-edit.edit is
+
+-- the log was not begun
+pub returns-in_err-begin-clause-installed : goal.returns-in_err-begin-clause-installed
+returns-in_err-begin-clause-installed g c = λ list honest hs.
+    let files = c.args.self.now in
+    let line = c.args.made.line in
+    let at = ap (λ (n : NodeVersion). n.version.next_file + 1)
+    (c.behind-self.view_is ∙ c.state.ensures) in
+    let is = edit_is files line c.state-2.result.now c.last_number-count.result c.in_ok-edit.edit
+    c.state-2.ensures c.last_number-count.ensures c.in_ok-edit.ensures.edit in
+    let s1 = g.D.Disk.state c.args.disk.now in
+    let trimmed = trimmed_count files in
+    refuses c.from_residual-in_err-begin.result _ IsOfMachine
+    c.from_residual-in_err-begin.ensures.1 (c.in_err-begin.ensures.begun (suc trimmed)
+    (drop trimmed list) honest (new_ends files c.requires.usable line c.requires.place c.requires.next
+    (c.behind-self.inside.next_file + 1) at c.in_ok-edit.edit is s1 list c.args.made.table hs)
+    (spilled_named files c.requires.usable line c.requires.place c.requires.next
+    (c.behind-self.inside.next_file + 1) at c.in_ok-edit.edit is s1 list c.args.made.table hs).held)
+
+pub returns-in_err-begin-clause-any_moment : goal.returns-in_err-begin-clause-any_moment
+returns-in_err-begin-clause-any_moment g c = λ list honest hs.
+    let files = c.args.self.now in
+    let line = c.args.made.line in
+    let at = ap (λ (n : NodeVersion). n.version.next_file + 1)
+    (c.behind-self.view_is ∙ c.state.ensures) in
+    let is = edit_is files line c.state-2.result.now c.last_number-count.result c.in_ok-edit.edit
+    c.state-2.ensures c.last_number-count.ensures c.in_ok-edit.ensures.edit in
+    log_begins files c.requires.usable line c.requires.place c.requires.next
+    (c.behind-self.inside.next_file + 1) at c.in_ok-edit.edit is (g.D.Disk.state c.args.disk.now) list c.args.made.table hs c.durable_file_is_left.ensures c.held_versions_are_left.ensures.left
+    c.held_versions_are_left.ensures.same
+    (g.D.Disk.past c.args.disk.now) (g.D.Disk.past c.begin.new.disk)
+    (g.D.Disk.state c.begin.new.disk) (c.begin.ensures.any_moment honest)
+
+-- the edit was not recorded, or a crash may leave it recorded
+pub returns-in-Err-clause-installed : goal.returns-in-Err-clause-installed
+returns-in-Err-clause-installed g c = λ list honest hs.
+    let files = c.args.self.now in
+    let line = c.args.made.line in
+    let at = ap (λ (n : NodeVersion). n.version.next_file + 1)
+    (c.behind-self.view_is ∙ c.state.ensures) in
+    let is = edit_is files line c.state-2.result.now c.last_number-count.result c.in_ok-edit.edit
+    c.state-2.ensures c.last_number-count.ensures c.in_ok-edit.ensures.edit in
+    let s1 = g.D.Disk.state c.args.disk.now in
+    let s2 = g.D.Disk.state c.begin.new.disk in
+    let trimmed = trimmed_count files in
+    let stays = c.held_versions_are_left.ensures.same in
+    let spares = c.begin.ensures.kept.files honest in
+    let honest2 = c.begin.ensures.kept.honest.1 honest in
+    let began = c.in_ok-begin.ensures.begun (suc trimmed) (drop trimmed list) honest
+    (new_ends files c.requires.usable line c.requires.place c.requires.next
+    (c.behind-self.inside.next_file + 1) at c.in_ok-edit.edit is s1 list c.args.made.table hs)
+    (spilled_named files c.requires.usable line c.requires.place c.requires.next
+    (c.behind-self.inside.next_file + 1) at c.in_ok-edit.edit is s1 list c.args.made.table hs).held in
+    let held = manifest_begun files c.requires.usable line c.requires.place c.requires.next
+    (c.behind-self.inside.next_file + 1) at c.in_ok-edit.edit is s1 list c.args.made.table hs s2 spares c.begin.new.self
+    c.in_ok-begin.ensures.told.2 began c.flushes_keep.ensures.list stays in
+    subst IsOfMachine (sym c.refusal_of_edit.ensures) (edit_of_machine c.in-Err.e
+    (c.in-Err.ensures.recorded (known_version files) honest2 held))
+
+pub returns-in-Err-clause-any_moment : goal.returns-in-Err-clause-any_moment
+returns-in-Err-clause-any_moment g c = λ list honest hs.
+    let files = c.args.self.now in
+    let line = c.args.made.line in
+    let at = ap (λ (n : NodeVersion). n.version.next_file + 1)
+    (c.behind-self.view_is ∙ c.state.ensures) in
+    let is = edit_is files line c.state-2.result.now c.last_number-count.result c.in_ok-edit.edit
+    c.state-2.ensures c.last_number-count.ensures c.in_ok-edit.ensures.edit in
+    let s1 = g.D.Disk.state c.args.disk.now in
+    let s2 = g.D.Disk.state c.begin.new.disk in
+    let trimmed = trimmed_count files in
+    let stays = c.held_versions_are_left.ensures.same in
+    let spares = c.begin.ensures.kept.files honest in
+    let honest2 = c.begin.ensures.kept.honest.1 honest in
+    let began = c.in_ok-begin.ensures.begun (suc trimmed) (drop trimmed list) honest
+    (new_ends files c.requires.usable line c.requires.place c.requires.next
+    (c.behind-self.inside.next_file + 1) at c.in_ok-edit.edit is s1 list c.args.made.table hs)
+    (spilled_named files c.requires.usable line c.requires.place c.requires.next
+    (c.behind-self.inside.next_file + 1) at c.in_ok-edit.edit is s1 list c.args.made.table hs).held in
+    let held = manifest_begun files c.requires.usable line c.requires.place c.requires.next
+    (c.behind-self.inside.next_file + 1) at c.in_ok-edit.edit is s1 list c.args.made.table hs s2 spares c.begin.new.self
+    c.in_ok-begin.ensures.told.2 began c.flushes_keep.ensures.list stays in
+    edit_is_recorded files c.requires.usable line c.requires.place c.requires.next
+    (c.behind-self.inside.next_file + 1) at c.in_ok-edit.edit is s1 list c.args.made.table hs s2 spares c.begin.new.self
+    c.in_ok-begin.ensures.told.2 began c.flushes_keep.ensures.list
+    c.durable_file_is_left.ensures c.held_versions_are_left.ensures.left stays
+    c.edits_keep_versions.ensures (g.D.Disk.past c.args.disk.now)
+    (g.D.Disk.past c.begin.new.disk) (g.D.Disk.past c.record.new.disk)
+    (g.D.Disk.state c.record.new.disk) (c.begin.ensures.any_moment honest)
+    (c.record.ensures.any_moment (known_version files) honest2 held)
+
+-- the table was not added
+pub returns-in_err-add-clause-installed : goal.returns-in_err-add-clause-installed
+returns-in_err-add-clause-installed g c = λ list honest hs.
+    refuses c.from_residual-in_err-add.result _ IsOfMachine c.from_residual-in_err-add.ensures.1
+    (inr c.in_err-add.ensures.memory)
+
+pub returns-in_err-add-clause-facts : goal.returns-in_err-add-clause-facts
+returns-in_err-add-clause-facts g c =
+    let files = c.args.self.now in
+    let line = c.args.made.line in
+    let at = ap (λ (n : NodeVersion). n.version.next_file + 1)
+    (c.behind-self.view_is ∙ c.state.ensures) in
+    let is = edit_is files line c.state-2.result.now c.last_number-count.result c.in_ok-edit.edit
+    c.state-2.ensures c.last_number-count.ensures c.in_ok-edit.ensures.edit in
+    facts_kept files c.requires.usable line c.requires.place c.requires.next
+    (c.behind-self.inside.next_file + 1) at c.in_ok-edit.edit is (record {
+      manifest = c.record.new.self;
+      logs = c.begin.new.self;
+      tables = files.tables;
+      memtable = files.memtable;
+    }) c.in_default.ensures.told.0 c.in_ok-begin.ensures.told.2
+
+pub returns-in_err-add-clause-any_moment : goal.returns-in_err-add-clause-any_moment
+returns-in_err-add-clause-any_moment g c = λ list honest hs.
+    let files = c.args.self.now in
+    let line = c.args.made.line in
+    let at = ap (λ (n : NodeVersion). n.version.next_file + 1)
+    (c.behind-self.view_is ∙ c.state.ensures) in
+    let is = edit_is files line c.state-2.result.now c.last_number-count.result c.in_ok-edit.edit
+    c.state-2.ensures c.last_number-count.ensures c.in_ok-edit.ensures.edit in
+    let s1 = g.D.Disk.state c.args.disk.now in
+    let s2 = g.D.Disk.state c.begin.new.disk in
+    let trimmed = trimmed_count files in
+    let stays = c.held_versions_are_left.ensures.same in
+    let spares = c.begin.ensures.kept.files honest in
+    let honest2 = c.begin.ensures.kept.honest.1 honest in
+    let began = c.in_ok-begin.ensures.begun (suc trimmed) (drop trimmed list) honest
+    (new_ends files c.requires.usable line c.requires.place c.requires.next
+    (c.behind-self.inside.next_file + 1) at c.in_ok-edit.edit is s1 list c.args.made.table hs)
+    (spilled_named files c.requires.usable line c.requires.place c.requires.next
+    (c.behind-self.inside.next_file + 1) at c.in_ok-edit.edit is s1 list c.args.made.table hs).held in
+    let held = manifest_begun files c.requires.usable line c.requires.place c.requires.next
+    (c.behind-self.inside.next_file + 1) at c.in_ok-edit.edit is s1 list c.args.made.table hs s2 spares c.begin.new.self
+    c.in_ok-begin.ensures.told.2 began c.flushes_keep.ensures.list stays in
+    edit_is_recorded files c.requires.usable line c.requires.place c.requires.next
+    (c.behind-self.inside.next_file + 1) at c.in_ok-edit.edit is s1 list c.args.made.table hs s2 spares c.begin.new.self
+    c.in_ok-begin.ensures.told.2 began c.flushes_keep.ensures.list
+    c.durable_file_is_left.ensures c.held_versions_are_left.ensures.left stays
+    c.edits_keep_versions.ensures (g.D.Disk.past c.args.disk.now)
+    (g.D.Disk.past c.begin.new.disk) (g.D.Disk.past c.record.new.disk)
+    (g.D.Disk.state c.record.new.disk) (c.begin.ensures.any_moment honest)
+    (c.record.ensures.any_moment (known_version files) honest2 held)
+
+-- the new version names the log and the table
+pub returns-clause-any_moment : goal.returns-clause-any_moment
+returns-clause-any_moment g c = λ list honest hs.
+    let files = c.args.self.now in
+    let line = c.args.made.line in
+    let at = ap (λ (n : NodeVersion). n.version.next_file + 1)
+    (c.behind-self.view_is ∙ c.state.ensures) in
+    let is = edit_is files line c.state-2.result.now c.last_number-count.result c.in_ok-edit.edit
+    c.state-2.ensures c.last_number-count.ensures c.in_ok-edit.ensures.edit in
+    let s1 = g.D.Disk.state c.args.disk.now in
+    let s2 = g.D.Disk.state c.begin.new.disk in
+    let trimmed = trimmed_count files in
+    let stays = c.held_versions_are_left.ensures.same in
+    let spares = c.begin.ensures.kept.files honest in
+    let honest2 = c.begin.ensures.kept.honest.1 honest in
+    let began = c.in_ok-begin.ensures.begun (suc trimmed) (drop trimmed list) honest
+    (new_ends files c.requires.usable line c.requires.place c.requires.next
+    (c.behind-self.inside.next_file + 1) at c.in_ok-edit.edit is s1 list c.args.made.table hs)
+    (spilled_named files c.requires.usable line c.requires.place c.requires.next
+    (c.behind-self.inside.next_file + 1) at c.in_ok-edit.edit is s1 list c.args.made.table hs).held in
+    let held = manifest_begun files c.requires.usable line c.requires.place c.requires.next
+    (c.behind-self.inside.next_file + 1) at c.in_ok-edit.edit is s1 list c.args.made.table hs s2 spares c.begin.new.self
+    c.in_ok-begin.ensures.told.2 began c.flushes_keep.ensures.list stays in
+    edit_is_recorded files c.requires.usable line c.requires.place c.requires.next
+    (c.behind-self.inside.next_file + 1) at c.in_ok-edit.edit is s1 list c.args.made.table hs s2 spares c.begin.new.self
+    c.in_ok-begin.ensures.told.2 began c.flushes_keep.ensures.list
+    c.durable_file_is_left.ensures c.held_versions_are_left.ensures.left stays
+    c.edits_keep_versions.ensures (g.D.Disk.past c.args.disk.now)
+    (g.D.Disk.past c.begin.new.disk) (g.D.Disk.past c.record.new.disk)
+    (g.D.Disk.state c.record.new.disk) (c.begin.ensures.any_moment honest)
+    (c.record.ensures.any_moment (known_version files) honest2 held)
+
+pub returns-clause-facts : goal.returns-clause-facts
+returns-clause-facts g c =
+    let files = c.args.self.now in
+    let line = c.args.made.line in
+    let at = ap (λ (n : NodeVersion). n.version.next_file + 1)
+    (c.behind-self.view_is ∙ c.state.ensures) in
+    let is = edit_is files line c.state-2.result.now c.last_number-count.result c.in_ok-edit.edit
+    c.state-2.ensures c.last_number-count.ensures c.in_ok-edit.ensures.edit in
+    facts_kept files c.requires.usable line c.requires.place c.requires.next
+    (c.behind-self.inside.next_file + 1) at c.in_ok-edit.edit is (record {
+      manifest = c.record.new.self;
+      logs = c.begin.new.self;
+      tables = c.add.new.self;
+      memtable = c.replace.new.dest;
+    }) c.in_default.ensures.told.0 c.in_ok-begin.ensures.told.2
+
+pub returns-clause-told : goal.returns-clause-told
+returns-clause-told g c =
+    let files = c.args.self.now in
+    let line = c.args.made.line in
+    let at = ap (λ (n : NodeVersion). n.version.next_file + 1)
+    (c.behind-self.view_is ∙ c.state.ensures) in
+    let is = edit_is files line c.state-2.result.now c.last_number-count.result c.in_ok-edit.edit
+    c.state-2.ensures c.last_number-count.ensures c.in_ok-edit.ensures.edit in
+    let begun = c.in_ok-begin.ensures.told in (
+      (installed_usable files c.requires.usable line c.requires.place c.requires.next
+    (c.behind-self.inside.next_file + 1) at c.in_ok-edit.edit is (record {
+      manifest = c.record.new.self;
+      logs = c.begin.new.self;
+      tables = c.add.new.self;
+      memtable = c.replace.new.dest;
+    }) c.in_default.ensures.told.0 begun.2 begun.1
+      c.edits_keep_versions.ensures c.in_default.ensures.told.1 begun.0
+      (c.in_ok-add.ensures.lines ∙ ap (λ (l : TableLine).
+      with_flushed_line (table_lines files.tables) l) c.requires.opened)
+      (subst (λ (m : Memtable). HasFailedAdd m → ⊥) (sym c.replace.ensures.after)
+      c.new.ensures.works)
+      (subst (λ (m : Memtable). (entry : Entry) → TableHolds m entry → ⊥)
+      (sym c.replace.ensures.after) c.new.ensures.empty)),
+      (count_kept files c.requires.usable line c.requires.place c.requires.next
+    (c.behind-self.inside.next_file + 1) at c.in_ok-edit.edit is (record {
+      manifest = c.record.new.self;
+      logs = c.begin.new.self;
+      tables = c.add.new.self;
+      memtable = c.replace.new.dest;
+    }) c.in_default.ensures.told.0 begun.2 begun.1,
+      flushed_told files c.requires.usable line c.requires.place c.requires.next
+    (c.behind-self.inside.next_file + 1) at c.in_ok-edit.edit is (record {
+      manifest = c.record.new.self;
+      logs = c.begin.new.self;
+      tables = c.add.new.self;
+      memtable = c.replace.new.dest;
+    }) c.in_default.ensures.told.0 begun.2),
+    )
+
+pub returns-clause-installed : goal.returns-clause-installed
+returns-clause-installed g c = λ list honest hs.
+    let files = c.args.self.now in
+    let line = c.args.made.line in
+    let at = ap (λ (n : NodeVersion). n.version.next_file + 1)
+    (c.behind-self.view_is ∙ c.state.ensures) in
+    let is = edit_is files line c.state-2.result.now c.last_number-count.result c.in_ok-edit.edit
+    c.state-2.ensures c.last_number-count.ensures c.in_ok-edit.ensures.edit in
+    let s1 = g.D.Disk.state c.args.disk.now in
+    let s2 = g.D.Disk.state c.begin.new.disk in
+    let trimmed = trimmed_count files in
+    let stays = c.held_versions_are_left.ensures.same in
+    let spares = c.begin.ensures.kept.files honest in
+    let honest2 = c.begin.ensures.kept.honest.1 honest in
+    let began = c.in_ok-begin.ensures.begun (suc trimmed) (drop trimmed list) honest
+    (new_ends files c.requires.usable line c.requires.place c.requires.next
+    (c.behind-self.inside.next_file + 1) at c.in_ok-edit.edit is s1 list c.args.made.table hs)
+    (spilled_named files c.requires.usable line c.requires.place c.requires.next
+    (c.behind-self.inside.next_file + 1) at c.in_ok-edit.edit is s1 list c.args.made.table hs).held in
+    let held = manifest_begun files c.requires.usable line c.requires.place c.requires.next
+    (c.behind-self.inside.next_file + 1) at c.in_ok-edit.edit is s1 list c.args.made.table hs s2 spares c.begin.new.self
+    c.in_ok-begin.ensures.told.2 began c.flushes_keep.ensures.list stays in
+    let s3 = g.D.Disk.state c.record.new.disk in
+    let slot = (c.manifest_has_slots.ensures s2 files.manifest (known_version files) held).0 in
+    let same = c.record.ensures.kept.files honest2 in
+    let one = c.args.made.table in
+    let keeps = c.flushes_keep.ensures.list in
+    let begun = c.in_ok-begin.ensures.told in
+    let memtable = sym c.replace.ensures.after in
+    installed_holds files c.requires.usable line c.requires.place c.requires.next
+    (c.behind-self.inside.next_file + 1) at c.in_ok-edit.edit is s1 list one hs s2 spares c.begin.new.self begun.2 began keeps s3 _ slot
+    same c.edits_keep_versions.ensures (record {
+      manifest = c.record.new.self;
+      logs = c.begin.new.self;
+      tables = c.add.new.self;
+      memtable = c.replace.new.dest;
+    }) refl c.in_default.ensures.told.0 begun.1 (installed_usable files c.requires.usable line c.requires.place c.requires.next
+    (c.behind-self.inside.next_file + 1) at c.in_ok-edit.edit is (record {
+      manifest = c.record.new.self;
+      logs = c.begin.new.self;
+      tables = c.add.new.self;
+      memtable = c.replace.new.dest;
+    }) c.in_default.ensures.told.0 begun.2 begun.1
+      c.edits_keep_versions.ensures c.in_default.ensures.told.1 begun.0
+      (c.in_ok-add.ensures.lines ∙ ap (λ (l : TableLine).
+      with_flushed_line (table_lines files.tables) l) c.requires.opened)
+      (subst (λ (m : Memtable). HasFailedAdd m → ⊥) (sym c.replace.ensures.after)
+      c.new.ensures.works)
+      (subst (λ (m : Memtable). (entry : Entry) → TableHolds m entry → ⊥)
+      (sym c.replace.ensures.after) c.new.ensures.empty))
+    (c.in_default.ensures.recorded (known_version files) honest2 held)
+    (c.in_ok-add.ensures.added s3 hs.held.tables hs.spilled.written.table
+    (old_served files c.requires.usable line c.requires.place c.requires.next
+    (c.behind-self.inside.next_file + 1) at c.in_ok-edit.edit is s1 list one hs s2 spares c.begin.new.self begun.2 began keeps s3 _ slot same)
+    (new_served files c.requires.usable line c.requires.place c.requires.next
+    (c.behind-self.inside.next_file + 1) at c.in_ok-edit.edit is s1 list one hs s2 spares c.begin.new.self begun.2 began keeps s3 _ slot same))
+    (subst (λ (m : Memtable). (entry : Entry) → TableHolds m entry → ⊥) memtable
+    c.new.ensures.empty)

@@ -1,0 +1,45 @@
+use Rattle.std.proofs.Common.{subst, sym}
+use Rattle.engine.specs.Errors.{IsOfMachine}
+use Rattle.engine.specs.OpenFiles.{known_version}
+use Rattle.engine.proofs.Tends.{edit_of_machine, held_rewritten, nothing_called, slots_are_written}
+use Rattle.engine.proofs.store_files.StoreFiles.shorten.Goals as goal
+
+-- no call of the disk
+pub returns-then-generation-ge-MAX_NUMBER-clause-any_moment :
+    goal.returns-then-generation-ge-MAX_NUMBER-clause-any_moment
+returns-then-generation-ge-MAX_NUMBER-clause-any_moment g c = λ list honest h.
+    nothing_called (g.D.Disk.state c.args.disk.now) c.args.self.now list h
+    c.durable_file_is_left.ensures c.held_versions_are_left.ensures.left
+    (g.D.Disk.past c.args.disk.now)
+
+-- the manifest was rewritten
+pub returns-in-Ok-clause-tended : goal.returns-in-Ok-clause-tended
+returns-in-Ok-clause-tended g c = λ list honest h.
+    let disk = g.D.Disk.state c.args.disk.now in
+    let files = c.args.self.now in
+    held_rewritten disk files list h (g.D.Disk.state c.rewrite.new.disk) c.rewrite.new.self _
+    (c.manifest_has_slots.ensures disk files.manifest (known_version files) h.manifest).1
+    (c.rewrite.ensures.kept.files honest)
+    (c.in-Ok.ensures.rewritten (known_version files) honest h.manifest)
+
+-- whether the manifest answered or not, each slot that it wrote represents the version
+pub returns-in-Ok-clause-any_moment : goal.returns-in-Ok-clause-any_moment
+returns-in-Ok-clause-any_moment g c = λ list honest h.
+    let files = c.args.self.now in
+    slots_are_written (g.D.Disk.state c.args.disk.now) files list h c.durable_file_is_left.ensures
+    (g.D.Disk.past c.args.disk.now) (g.D.Disk.past c.rewrite.new.disk)
+    (g.D.Disk.state c.rewrite.new.disk)
+    (c.rewrite.ensures.any_moment (known_version files) honest h.manifest)
+
+pub returns-in-Err-clause-any_moment : goal.returns-in-Err-clause-any_moment
+returns-in-Err-clause-any_moment g c = λ list honest h.
+    let files = c.args.self.now in
+    slots_are_written (g.D.Disk.state c.args.disk.now) files list h c.durable_file_is_left.ensures
+    (g.D.Disk.past c.args.disk.now) (g.D.Disk.past c.rewrite.new.disk)
+    (g.D.Disk.state c.rewrite.new.disk)
+    (c.rewrite.ensures.any_moment (known_version files) honest h.manifest)
+
+pub returns-in-Err-clause-tended : goal.returns-in-Err-clause-tended
+returns-in-Err-clause-tended g c = λ list honest h.
+    subst IsOfMachine (sym c.refusal_of_edit.ensures) (edit_of_machine c.in-Err.e
+    (c.in-Err.ensures.rewritten (known_version c.args.self.now) honest h.manifest))

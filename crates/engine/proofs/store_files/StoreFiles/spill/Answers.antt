@@ -1,0 +1,90 @@
+use Rattle.std.proofs.Common.{◌≡◌, ◌∙◌, Option, ap, subst}
+use Rattle.std.specs.Prelude.{IsNone, MatchOption}
+use Rattle.disk.specs.{seen}
+use Rattle.manifest.specs.declared.TableLine.{TableLine}
+use Rattle.manifest.specs.{NodeVersion}
+use Rattle.engine.specs.OpenFiles.{IsTooLarge, IsWrittenTable, known_version}
+use Rattle.engine.proofs.Spills.{has_spilled, held_again, next_is_fresh, next_is_opened}
+use Rattle.engine.proofs.Spills.{next_is_written}
+use Rattle.engine.proofs.store_files.StoreFiles.spill.Goals as goal
+
+-- ---- the table is written
+
+pub returns-in_err-line-clause-any_moment : goal.returns-in_err-line-clause-any_moment
+returns-in_err-line-clause-any_moment g c = λ list honest h.
+    next_is_written (g.D.Disk.state c.args.disk.now) c.args.self.now list h
+    c.behind-self.inside.next_file
+    (ap (λ (n : NodeVersion). n.version.next_file) (c.behind-self.view_is ∙ c.state.ensures))
+    c.held_versions_are_left.ensures.left c.durable_file_is_left.ensures
+    (g.D.Disk.past c.args.disk.now) (g.D.Disk.past c.write_table.new.disk)
+    (g.D.Disk.state c.write_table.new.disk) (c.write_table.ensures.any_moment honest)
+
+-- ---- it is too large, and gone
+
+pub returns-in_default-clause-spilled : goal.returns-in_default-clause-spilled
+returns-in_default-clause-spilled g c = λ list honest h.
+    let disk = g.D.Disk.state c.args.disk.now in
+    let files = c.args.self.now in
+    let next = c.behind-self.inside.next_file in
+    let at : next ≡ (known_version files).version.next_file =
+    ap (λ (n : NodeVersion). n.version.next_file) (c.behind-self.view_is ∙ c.state.ensures) in
+    let new = g.D.Disk.state c.write_table.new.disk in
+    let told = subst (λ (o : Option TableLine). MatchOption o
+    (IsTooLarge files.memtable × IsNone (seen (new next)))
+    (IsWrittenTable new files.memtable next)) c.in_default.is
+    (c.in_ok-line.ensures.written honest (next_is_fresh disk files list h next at)) in (
+      told.0,
+      held_again disk files list h next at c.held_versions_are_left.ensures.same new
+          (c.write_table.ensures.kept.files honest) told.1,
+    )
+
+pub returns-in_default-clause-any_moment : goal.returns-in_default-clause-any_moment
+returns-in_default-clause-any_moment g c = λ list honest h.
+    next_is_written (g.D.Disk.state c.args.disk.now) c.args.self.now list h
+    c.behind-self.inside.next_file
+    (ap (λ (n : NodeVersion). n.version.next_file) (c.behind-self.view_is ∙ c.state.ensures))
+    c.held_versions_are_left.ensures.left c.durable_file_is_left.ensures
+    (g.D.Disk.past c.args.disk.now) (g.D.Disk.past c.write_table.new.disk)
+    (g.D.Disk.state c.write_table.new.disk) (c.write_table.ensures.any_moment honest)
+
+-- ---- it is opened
+
+pub returns-in_err-table-clause-any_moment : goal.returns-in_err-table-clause-any_moment
+returns-in_err-table-clause-any_moment g c = λ list honest h.
+    next_is_opened (g.D.Disk.state c.args.disk.now) c.args.self.now list h
+    c.behind-self.inside.next_file
+    (ap (λ (n : NodeVersion). n.version.next_file) (c.behind-self.view_is ∙ c.state.ensures))
+    c.held_versions_are_left.ensures.left c.durable_file_is_left.ensures
+    (g.D.Disk.past c.args.disk.now) (g.D.Disk.past c.write_table.new.disk)
+    (g.D.Disk.past c.open.new.disk) (g.D.Disk.state c.write_table.new.disk)
+    (g.D.Disk.state c.open.new.disk) (c.write_table.ensures.any_moment honest)
+    (c.open.ensures.still (c.write_table.ensures.kept.honest.1 honest))
+
+pub returns-clause-spilled : goal.returns-clause-spilled
+returns-clause-spilled g c = λ list honest h.
+    let disk = g.D.Disk.state c.args.disk.now in
+    let files = c.args.self.now in
+    let next = c.behind-self.inside.next_file in
+    let at : next ≡ (known_version files).version.next_file =
+    ap (λ (n : NodeVersion). n.version.next_file) (c.behind-self.view_is ∙ c.state.ensures) in
+    let mid = g.D.Disk.state c.write_table.new.disk in
+    let new = g.D.Disk.state c.open.new.disk in
+    let between = c.write_table.ensures.kept.honest.1 honest in
+    let told = subst (λ (o : Option TableLine). MatchOption o
+    (IsTooLarge files.memtable × IsNone (seen (mid next)))
+    (IsWrittenTable mid files.memtable next)) c.in-Some.is
+    (c.in_ok-line.ensures.written honest (next_is_fresh disk files list h next at)) in
+    has_spilled disk mid new files next c.in-Some.line c.in_ok-table.table at
+    (c.write_table.ensures.kept.files honest) (c.open.ensures.kept.files between) told
+    (c.in_ok-table.ensures.opened told.table between told.is)
+
+pub returns-clause-any_moment : goal.returns-clause-any_moment
+returns-clause-any_moment g c = λ list honest h.
+    next_is_opened (g.D.Disk.state c.args.disk.now) c.args.self.now list h
+    c.behind-self.inside.next_file
+    (ap (λ (n : NodeVersion). n.version.next_file) (c.behind-self.view_is ∙ c.state.ensures))
+    c.held_versions_are_left.ensures.left c.durable_file_is_left.ensures
+    (g.D.Disk.past c.args.disk.now) (g.D.Disk.past c.write_table.new.disk)
+    (g.D.Disk.past c.open.new.disk) (g.D.Disk.state c.write_table.new.disk)
+    (g.D.Disk.state c.open.new.disk) (c.write_table.ensures.any_moment honest)
+    (c.open.ensures.still (c.write_table.ensures.kept.honest.1 honest))

@@ -1,0 +1,85 @@
+use Rattle.std.proofs.Common.{◌<◌, arith, drop, refl, suc}
+use Rattle.engine.specs.BatchLogs.{newest_length}
+use Rattle.engine.specs.OpenFiles.{known_version, trimmed_count}
+use Rattle.engine.specs.Tending.{FlushIsDue, RewriteIsDue, TellsWork as work}
+use Rattle.engine.proofs.Tends.{nothing_called, tells_flush, tells_rewrite}
+use Rattle.engine.proofs.store_files.StoreFiles.tend.Goals as goal
+
+-- ---- a rewrite is due
+
+pub returns-then-has_long_slot-clause-tended : goal.returns-then-has_long_slot-clause-tended
+returns-then-has_long_slot-clause-tended g c = λ list honest h.
+    let files = c.args.self.now in
+    let due : RewriteIsDue files =
+    (c.has_long_slot.ensures (g.D.Disk.state c.args.disk.now) (known_version files) h.manifest).0
+    c.if-has_long_slot.true in
+    tells_rewrite c.args.limit files c.shorten.new.self _ c.shorten.result due
+    (c.shorten.ensures.tended list honest h) c.shorten.ensures.work
+
+-- ---- nothing is due
+
+pub returns-then-newest_length-limit-clause-tended :
+    goal.returns-then-newest_length-limit-clause-tended
+returns-then-newest_length-limit-clause-tended g c = λ list honest h.
+    let disk = g.D.Disk.state c.args.disk.now in
+    let files = c.args.self.now in
+    let short : RewriteIsDue files → ⊥ = λ long.
+    let yes_then = (c.has_long_slot.ensures disk (known_version files) h.manifest).1 long in
+    let no = c.if-has_long_slot.false in cc in
+    let is = c.newest_length.ensures disk (suc (trimmed_count files))
+    (drop (trimmed_count files) list) h.logs in
+    let few = c.if-newest_length-limit.true in
+    let rests : FlushIsDue c.args.limit files → ⊥ = λ due.
+    let more = due.0 in omega (arith, is, few, more) in
+    (h, work.Rests short rests refl refl)
+
+pub returns-then-not-branch-clause-tended : goal.returns-then-not-branch-clause-tended
+returns-then-not-branch-clause-tended g c = λ list honest h.
+    let disk = g.D.Disk.state c.args.disk.now in
+    let files = c.args.self.now in
+    let short : RewriteIsDue files → ⊥ = λ long.
+    let yes_then = (c.has_long_slot.ensures disk (known_version files) h.manifest).1 long in
+    let no = c.if-has_long_slot.false in cc in
+    let rests : FlushIsDue c.args.limit files → ⊥ = λ due.
+    let any = c.in_ok-has_entries.ensures.any.1 due.1 in
+    let none = c.if-not-branch.true in cc in
+    (h, work.Rests short rests refl refl)
+
+-- no call of the disk
+pub returns-then-newest_length-limit-clause-any_moment :
+    goal.returns-then-newest_length-limit-clause-any_moment
+returns-then-newest_length-limit-clause-any_moment g c = λ list honest h.
+    nothing_called (g.D.Disk.state c.args.disk.now) c.args.self.now list h
+    c.durable_file_is_left.ensures c.held_versions_are_left.ensures.left
+    (g.D.Disk.past c.args.disk.now)
+
+pub returns-in_err-has_entries-clause-any_moment :
+    goal.returns-in_err-has_entries-clause-any_moment
+returns-in_err-has_entries-clause-any_moment g c = λ list honest h.
+    nothing_called (g.D.Disk.state c.args.disk.now) c.args.self.now list h
+    c.durable_file_is_left.ensures c.held_versions_are_left.ensures.left
+    (g.D.Disk.past c.args.disk.now)
+
+pub returns-then-not-branch-clause-any_moment :
+    goal.returns-then-not-branch-clause-any_moment
+returns-then-not-branch-clause-any_moment g c = λ list honest h.
+    nothing_called (g.D.Disk.state c.args.disk.now) c.args.self.now list h
+    c.durable_file_is_left.ensures c.held_versions_are_left.ensures.left
+    (g.D.Disk.past c.args.disk.now)
+
+-- ---- a flush is due
+
+pub returns-clause-tended : goal.returns-clause-tended
+returns-clause-tended g c = λ list honest h.
+    let disk = g.D.Disk.state c.args.disk.now in
+    let files = c.args.self.now in
+    let short : RewriteIsDue files → ⊥ = λ long.
+    let yes_then = (c.has_long_slot.ensures disk (known_version files) h.manifest).1 long in
+    let no = c.if-has_long_slot.false in cc in
+    let is = c.newest_length.ensures disk (suc (trimmed_count files))
+    (drop (trimmed_count files) list) h.logs in
+    let more = c.if-newest_length-limit.false in
+    let long : c.args.limit < newest_length files.logs = omega (arith, is, more) in
+    tells_flush c.args.limit files c.flush.new.self _ c.flush.result short
+    (long, c.in_ok-has_entries.ensures.any.0 c.if-not-branch.false)
+    (c.flush.ensures.tended list honest h)

@@ -1,0 +1,87 @@
+-- A tend of a store's open files: what is due, and what the answers of a tend say.
+use Rattle.std.specs.Prelude.{◌≡◌, ◌⊎◌, ℕ, ◌+◌, ◌<◌, ◌≤◌, List, length}
+use Rattle.kv_types.specs.declared.bounds.TheConstants.{MAX_NUMBER}
+use Rattle.kv_types.specs.{BatchContent}
+use Rattle.disk.specs.declared.Disk.{Ghosts}
+use Rattle.disk.specs.{IsSameBut, State}
+use Rattle.manifest.specs.declared.TableLine.{TableLine}
+use Rattle.manifest.specs.{HasFullSlot, HasLongSlot, StoreVersion, generation_of}
+use Rattle.engine.specs.BatchLogs.{newest_length}
+use Rattle.engine.specs.declared.flushing.Flushed.{Flushed}
+use Rattle.engine.specs.declared.store_files.StoreFiles.{StoreFiles}
+use Rattle.engine.specs.declared.tended.Tended.{Tended}
+use Rattle.engine.specs.declared.tended.Tended.TheVariants as tended
+use Rattle.engine.specs.LevelTables.{IsServed}
+use Rattle.engine.specs.OpenFiles.{FilesHold, HasEntry, IsTooLarge, IsWrittenTable, batch_count}
+use Rattle.engine.specs.OpenFiles.{known_version}
+use Rattle.engine.specs.TableWriting.{IsNewLine}
+
+-- ---- what is due
+
+-- the slot that counts is so long that the manifest is to be rewritten
+abbrev pub RewriteIsDue : StoreFiles → Type 0
+RewriteIsDue files = HasLongSlot files.manifest
+
+-- the newest log is longer than the limit, and there are entries that no table has
+abbrev pub FlushIsDue : ℕ → StoreFiles → Type 0
+FlushIsDue limit files = (limit < newest_length files.logs) × HasEntry files.memtable
+
+-- A flush lacks a place in the version: there are as many tables or logs as there may be, or no
+-- number is left for its files or for the first batch of its log.
+abbrev pub LacksPlace : StoreVersion → ℕ → Type 0
+LacksPlace version count =
+    ((4096 ≤ length version.tables) ⊎ (4096 ≤ length version.logs))
+    ⊎ ((MAX_NUMBER < version.next_file + 2) ⊎ (MAX_NUMBER ≤ count))
+
+-- ---- a flush
+
+-- the line is that of a table of level 0 in the next file
+abbrev pub IsNextTable : StoreVersion → TableLine → Type 0
+IsNextTable version = IsNewLine version.next_file
+
+-- The entries in memory are durably in a table of level 0, in the next file, which is open. No other
+-- file changed.
+pub record HasSpilled (old new : State) (files : StoreFiles) (it : Flushed) : Type 0 where
+  pub spares : IsSameBut (known_version files).version.next_file old new
+  pub written : IsWrittenTable new files.memtable (known_version files).version.next_file it.line
+  pub served : IsServed new it.table written.table
+
+-- the disk had such files before, and then their entries were spilled
+pub record HeldAndSpilled (disk : State) (files : StoreFiles) (list : List BatchContent)
+    (it : Flushed) : Type 0 where
+  pub before : State
+  pub held : FilesHold before files list
+  pub spilled : HasSpilled before disk files it
+
+-- ---- the answers of a tend
+
+-- a rewrite that is due: the manifest was rewritten, or its generation cannot rise
+abbrev pub TellsRewrite : StoreFiles → StoreFiles → Tended → Type 0
+TellsRewrite old new tended.Idle = ⊥
+TellsRewrite old new tended.Worked =
+    (generation_of new.manifest ≡ generation_of old.manifest + 1)
+    × (known_version new ≡ known_version old)
+TellsRewrite old new tended.Full = (MAX_NUMBER ≤ generation_of old.manifest) × (new ≡ old)
+
+-- a flush that is due: the tables have all batches, or it had no place
+abbrev pub TellsFlush : StoreFiles → StoreFiles → Tended → Type 0
+TellsFlush old new tended.Idle = ⊥
+TellsFlush old new tended.Worked = (known_version new).version.flushed ≡ batch_count old
+TellsFlush old new tended.Full =
+    (LacksPlace (known_version old).version (batch_count old) ⊎ IsTooLarge old.memtable)
+    × (new ≡ old)
+
+-- a tend does the first that is due
+pub data TellsWork (limit : ℕ) (old new : StoreFiles) (answer : Tended) : Type 0 where
+  Rewrites : RewriteIsDue old → TellsRewrite old new answer → TellsWork limit old new answer
+  Flushes : (RewriteIsDue old → ⊥) → FlushIsDue limit old → TellsFlush old new answer →
+      TellsWork limit old new answer
+  Rests : (RewriteIsDue old → ⊥) → (FlushIsDue limit old → ⊥) → new ≡ old →
+      answer ≡ tended.Idle → TellsWork limit old new answer
+
+-- ---- why a device that works may fail in a tend
+
+-- its files are not those that the open files hold, or the slot that counts is full
+abbrev pub TendMayFail : {D : Type 0} → Ghosts D → D → StoreFiles → Type 0
+TendMayFail g disk files = HasFullSlot files.manifest
+    ⊎ ((list : List BatchContent) → g.is_honest disk → FilesHold (g.state disk) files list → ⊥)

@@ -1,0 +1,32 @@
+use Rattle.std.proofs.Common.{ap, refl, subst, sym}
+use Rattle.std.proofs.lemmas.Result.{err_from_is_err_and}
+use Rattle.chain_model.specs.{silent}
+use Rattle.engine.specs.{LookUps, engine_disk}
+use Rattle.node.specs.Stops.{IsEnvironmental}
+use Rattle.node.proofs.Running.{ends_stopped, env_of, still_runs, tends}
+use Rattle.node.proofs.node.Node.tend.Goals as goal
+
+-- the store stopped, and a crash leaves its list
+pub returns-in_err-tend-clause-ends : goal.returns-in_err-tend-clause-ends
+returns-in_err-tend-clause-ends g c = λ x n r.
+    let old = c.args.self.now in
+    let p = err_from_is_err_and c.from_residual.result c.from_residual.ensures.1 in
+    let why = env_of c.in_err-tend.field-0.0 (c.in_err-tend.ensures.work n.list r.store.reads) in
+    ends_stopped g.D.Disk old _ x n (silent n) _ c.from_residual.result p.0 p.1
+    (subst IsEnvironmental (sym p.2) why) (c.tend.ensures.keeps.disk.honest.1 r.honest)
+    (tends g.D.Disk old (engine_disk c.tend.new.self) x n r
+    (c.tend.ensures.any_moment n.list r.store))
+
+-- the node goes on with the list
+pub returns-clause-ends : goal.returns-clause-ends
+returns-clause-ends g c = λ x n r.
+    let old = c.args.self.now in
+    let holds = (c.in_ok-tend.ensures.tended n.list).holds r.store in
+    let runs = still_runs g.D.Disk old _ x n r holds
+    (ap (λ (l : LookUps). l.facts) c.tend.ensures.told) refl in
+    record {
+      done = (runs, c.in_ok-tend.ensures.work n.list r.store.reads);
+      honest = runs.honest;
+      any_moment = tends g.D.Disk old (engine_disk c.tend.new.self) x n r
+          (c.tend.ensures.any_moment n.list r.store);
+    }
