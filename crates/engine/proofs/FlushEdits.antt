@@ -202,8 +202,12 @@ module _ (version : StoreVersion) (is : IsVersion version) (count : ℕ) (line :
       (λ (l : TableLine). (l.file == file) ≡ false)
       (λ l lt. ne_eqb l.file file (λ same. omega (arith, same, lt, low))) version.tables
       table_files) in
-      rw (le-leb 3 file (omega (arith, least, low)), lt-ltb file (version.next_file + 2) high,
-      no_log, no_table) refl
+      rw (
+        le-leb 3 file (omega (arith, least, low)),
+        lt-ltb file (version.next_file + 2) high,
+        no_log,
+        no_table,
+      ) refl
 
   logs_between : IsBetween version.logs begun after.logs
   logs_between = subst (λ (l : List LogLine). IsBetween version.logs begun (with_log l begun))

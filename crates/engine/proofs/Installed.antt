@@ -481,7 +481,7 @@ module _ (files : StoreFiles) (u : AreUsableFiles files) (line : TableLine)
               kept = trimmed;
               current = n;
             })) (sym hs.held.count) (keeps list (known_store files tables) table
-            (with_flushed tables table) hs.held.store is_flush (flushed_edited table tables)));
+                (with_flushed tables table) hs.held.store is_flush (flushed_edited table tables)));
             each = hs.held.each;
             few = named_old.few;
           }
@@ -515,86 +515,86 @@ module _ (files : StoreFiles) (u : AreUsableFiles files) (line : TableLine)
       -- ---- with the new version
 
       module _ (s3 : State) (slot : ℕ) (is_slot : IsSlotFile slot) (same : IsSameBut slot s2 s3)
-          where
-        stays_behind : (file : ℕ) → version.next_file ≤ file → s3 file ≡ s2 file
-        stays_behind file above = same file
-            (λ is. let lt = slot_less slot is_slot in omega (arith, is, lt, above))
+        where
+          stays_behind : (file : ℕ) → version.next_file ≤ file → s3 file ≡ s2 file
+          stays_behind file above = same file
+              (λ is. let lt = slot_less slot is_slot in omega (arith, is, lt, above))
 
-        old_table_stays : (old : TableLine) → Contains version.tables old
-            → s3 old.file ≡ s0 old.file
-        old_table_stays old has =
-            let lt = table_less old has in
-            same old.file (λ is. table_no_slot version u.version old has
-            (subst IsSlotFile (sym is) is_slot))
-            ∙ spares old.file (λ is. omega (arith, is, lt, at))
-            ∙ hs.spilled.spares old.file (λ is. omega (arith, is, lt))
+          old_table_stays : (old : TableLine) → Contains version.tables old
+              → s3 old.file ≡ s0 old.file
+          old_table_stays old has =
+              let lt = table_less old has in
+              same old.file (λ is. table_no_slot version u.version old has
+              (subst IsSlotFile (sym is) is_slot))
+              ∙ spares old.file (λ is. omega (arith, is, lt, at))
+              ∙ hs.spilled.spares old.file (λ is. omega (arith, is, lt))
 
-        -- the old tables are still served, and so is the new one
-        pub old_served : AreServed s3 files.tables tables
-        old_served = served_in s0 s3 version.tables files.tables.tables.items tables
-            old_table_stays hs.held.read hs.held.served
+          -- the old tables are still served, and so is the new one
+          pub old_served : AreServed s3 files.tables tables
+          old_served = served_in s0 s3 version.tables files.tables.tables.items tables
+              old_table_stays hs.held.read hs.held.served
 
-        pub new_served : IsServed s3 one table
-        new_served = one_served_in s1 s3 line one table
-            (stays_behind line.file (omega (arith, next.file)) ∙ new_stays)
-            hs.spilled.written.is hs.spilled.served
+          pub new_served : IsServed s3 one table
+          new_served = one_served_in s1 s3 line one table
+              (stays_behind line.file (omega (arith, next.file)) ∙ new_stays)
+              hs.spilled.written.is hs.spilled.served
 
-        named_last : EditsKeepVersions
-            → NamedHold s3 after logs trimmed (with_flushed tables table) list
-        named_last versions =
-            named_in s2 after logs trimmed (with_flushed tables table) list named_new s3
-            (λ one has. same one.file (λ is. log_no_slot after (after_is versions) one has
-            (subst IsSlotFile (sym is) is_slot)))
-            (λ one has. same one.file (λ is. table_no_slot after (after_is versions) one has
-            (subst IsSlotFile (sym is) is_slot)))
+          named_last : EditsKeepVersions
+              → NamedHold s3 after logs trimmed (with_flushed tables table) list
+          named_last versions =
+              named_in s2 after logs trimmed (with_flushed tables table) list named_new s3
+              (λ one has. same one.file (λ is. log_no_slot after (after_is versions) one has
+              (subst IsSlotFile (sym is) is_slot)))
+              (λ one has. same one.file (λ is. table_no_slot after (after_is versions) one has
+              (subst IsSlotFile (sym is) is_slot)))
 
-        -- the open files after the flush hold the list
-        pub installed_holds : EditsKeepVersions → (new : StoreFiles) → new.logs ≡ logs
-            → known_version new ≡ node_version_after (known_version files) edit
-            → next_number new.logs ≡ next_number files.logs → AreUsableFiles new
-            → ManifestHolds s3 new.manifest (node_version_after (known_version files) edit)
-            → AreServed s3 new.tables (with_flushed tables table)
-            → ((entry : Entry) → TableHolds new.memtable entry → ⊥) → FilesHold s3 new list
-        installed_holds versions new of told counts usable manifest served empty =
-            let lines_new = ap lines_of of ∙ lines in
-            let now = known new told lines_new in
-            let back = sym now in
-            let cut = sym (trimmed_kept new told lines_new) in
-            let last = named_last versions in
-            let count = count_kept new told lines_new counts in
-            let was = hs.held.count in
-            let flushed = flushed_told new told lines_new in
-            let next_file = ap (λ (n : NodeVersion). n.version.next_file) now in
-            let held = subst (λ (l : BatchLogs). LogsHold s3 l (suc trimmed) (drop trimmed list))
-            (sym of) last.held in
-            let P : TableLine → Type 0 = λ old. IsDurable (s3 old.file) in
-            record {
-              usable = usable;
-              manifest = subst (ManifestHolds s3 new.manifest) (sym told) manifest;
-              logs = subst (λ (k : ℕ). LogsHold s3 new.logs (suc k) (drop k list)) cut held;
-              tables = with_flushed tables table;
-              read = subst (λ (n : NodeVersion).
-                  AreTablesOf (contents s3) n.version.tables (with_flushed tables table)) back
-                  last.read;
-              served = served;
-              durable = subst (λ (n : NodeVersion). All P n.version.tables) back last.durable;
-              store = subst (λ (n : NodeVersion). StoreRepresents list
-                  (store_of_version n.version (trimmed_count new) (with_flushed tables table))) back
-                  (subst (λ (k : ℕ). StoreRepresents list
-                  (store_of_version after k (with_flushed tables table))) cut last.store);
-              entries = λ entry. (
-                λ holds. absurd (empty entry holds),
-                λ among.
-                    let lt = among.1 in
-                    let le = entry_within list entry among.2 in
-                    absurd (omega (arith, lt, le, flushed, was)),
-              );
-              count = count ∙ was;
-              each = hs.held.each;
-              unused = λ other above.
-                  subst (λ (s : Slot). IsNone (seen s)) (sym (stays_behind other
-                  (omega (arith, above, next_file))
-                  ∙ spares other (λ is. omega (arith, is, above, next_file, at))
-                  ∙ hs.spilled.spares other (λ is. omega (arith, is, above, next_file))))
-                  (hs.held.unused other (omega (arith, above, next_file)));
-            }
+          -- the open files after the flush hold the list
+          pub installed_holds : EditsKeepVersions → (new : StoreFiles) → new.logs ≡ logs
+              → known_version new ≡ node_version_after (known_version files) edit
+              → next_number new.logs ≡ next_number files.logs → AreUsableFiles new
+              → ManifestHolds s3 new.manifest (node_version_after (known_version files) edit)
+              → AreServed s3 new.tables (with_flushed tables table)
+              → ((entry : Entry) → TableHolds new.memtable entry → ⊥) → FilesHold s3 new list
+          installed_holds versions new of told counts usable manifest served empty =
+              let lines_new = ap lines_of of ∙ lines in
+              let now = known new told lines_new in
+              let back = sym now in
+              let cut = sym (trimmed_kept new told lines_new) in
+              let last = named_last versions in
+              let count = count_kept new told lines_new counts in
+              let was = hs.held.count in
+              let flushed = flushed_told new told lines_new in
+              let next_file = ap (λ (n : NodeVersion). n.version.next_file) now in
+              let held = subst (λ (l : BatchLogs). LogsHold s3 l (suc trimmed) (drop trimmed list))
+              (sym of) last.held in
+              let P : TableLine → Type 0 = λ old. IsDurable (s3 old.file) in
+              record {
+                usable = usable;
+                manifest = subst (ManifestHolds s3 new.manifest) (sym told) manifest;
+                logs = subst (λ (k : ℕ). LogsHold s3 new.logs (suc k) (drop k list)) cut held;
+                tables = with_flushed tables table;
+                read = subst (λ (n : NodeVersion).
+                    AreTablesOf (contents s3) n.version.tables (with_flushed tables table)) back
+                    last.read;
+                served = served;
+                durable = subst (λ (n : NodeVersion). All P n.version.tables) back last.durable;
+                store = subst (λ (n : NodeVersion). StoreRepresents list
+                    (store_of_version n.version (trimmed_count new) (with_flushed tables table))) back
+                    (subst (λ (k : ℕ). StoreRepresents list
+                    (store_of_version after k (with_flushed tables table))) cut last.store);
+                entries = λ entry. (
+                  λ holds. absurd (empty entry holds),
+                  λ among.
+                      let lt = among.1 in
+                      let le = entry_within list entry among.2 in
+                      absurd (omega (arith, lt, le, flushed, was)),
+                );
+                count = count ∙ was;
+                each = hs.held.each;
+                unused = λ other above.
+                    subst (λ (s : Slot). IsNone (seen s)) (sym (stays_behind other
+                    (omega (arith, above, next_file))
+                    ∙ spares other (λ is. omega (arith, is, above, next_file, at))
+                    ∙ hs.spilled.spares other (λ is. omega (arith, is, above, next_file))))
+                    (hs.held.unused other (omega (arith, above, next_file)));
+              }

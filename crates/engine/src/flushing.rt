@@ -23,8 +23,9 @@ use disk::Disk;
 use disk::laws::{durable_file_is_left, durable_is_left};
 use kv_types::Number;
 use kv_types::bounds::MAX_NUMBER;
-use manifest::laws::{edits_keep_versions, held_versions_are_left};
-use manifest::laws::{manifest_has_slots, slots_reach_gates};
+use manifest::laws::{
+    edits_keep_versions, held_versions_are_left, manifest_has_slots, slots_reach_gates,
+};
 use manifest::{LogLine, StoreVersion, TableLine, VersionEdit};
 use memtable::Memtable;
 use merge_iter::Cursor;

@@ -240,33 +240,35 @@ returns-clause-told g c =
     c.state-2.ensures c.last_number-count.ensures c.in_ok-edit.ensures.edit in
     let begun = c.in_ok-begin.ensures.told in (
       (installed_usable files c.requires.usable line c.requires.place c.requires.next
-    (c.behind-self.inside.next_file + 1) at c.in_ok-edit.edit is (record {
-      manifest = c.record.new.self;
-      logs = c.begin.new.self;
-      tables = c.add.new.self;
-      memtable = c.replace.new.dest;
-    }) c.in_default.ensures.told.0 begun.2 begun.1
-      c.edits_keep_versions.ensures c.in_default.ensures.told.1 begun.0
-      (c.in_ok-add.ensures.lines ∙ ap (λ (l : TableLine).
-      with_flushed_line (table_lines files.tables) l) c.requires.opened)
-      (subst (λ (m : Memtable). HasFailedAdd m → ⊥) (sym c.replace.ensures.after)
-      c.new.ensures.works)
-      (subst (λ (m : Memtable). (entry : Entry) → TableHolds m entry → ⊥)
-      (sym c.replace.ensures.after) c.new.ensures.empty)),
-      (count_kept files c.requires.usable line c.requires.place c.requires.next
-    (c.behind-self.inside.next_file + 1) at c.in_ok-edit.edit is (record {
-      manifest = c.record.new.self;
-      logs = c.begin.new.self;
-      tables = c.add.new.self;
-      memtable = c.replace.new.dest;
-    }) c.in_default.ensures.told.0 begun.2 begun.1,
-      flushed_told files c.requires.usable line c.requires.place c.requires.next
-    (c.behind-self.inside.next_file + 1) at c.in_ok-edit.edit is (record {
-      manifest = c.record.new.self;
-      logs = c.begin.new.self;
-      tables = c.add.new.self;
-      memtable = c.replace.new.dest;
-    }) c.in_default.ensures.told.0 begun.2),
+          (c.behind-self.inside.next_file + 1) at c.in_ok-edit.edit is (record {
+            manifest = c.record.new.self;
+            logs = c.begin.new.self;
+            tables = c.add.new.self;
+            memtable = c.replace.new.dest;
+          }) c.in_default.ensures.told.0 begun.2 begun.1
+          c.edits_keep_versions.ensures c.in_default.ensures.told.1 begun.0
+          (c.in_ok-add.ensures.lines ∙ ap (λ (l : TableLine).
+          with_flushed_line (table_lines files.tables) l) c.requires.opened)
+          (subst (λ (m : Memtable). HasFailedAdd m → ⊥) (sym c.replace.ensures.after)
+          c.new.ensures.works)
+          (subst (λ (m : Memtable). (entry : Entry) → TableHolds m entry → ⊥)
+          (sym c.replace.ensures.after) c.new.ensures.empty)),
+      (
+        count_kept files c.requires.usable line c.requires.place c.requires.next
+            (c.behind-self.inside.next_file + 1) at c.in_ok-edit.edit is (record {
+              manifest = c.record.new.self;
+              logs = c.begin.new.self;
+              tables = c.add.new.self;
+              memtable = c.replace.new.dest;
+            }) c.in_default.ensures.told.0 begun.2 begun.1,
+        flushed_told files c.requires.usable line c.requires.place c.requires.next
+            (c.behind-self.inside.next_file + 1) at c.in_ok-edit.edit is (record {
+              manifest = c.record.new.self;
+              logs = c.begin.new.self;
+              tables = c.add.new.self;
+              memtable = c.replace.new.dest;
+            }) c.in_default.ensures.told.0 begun.2,
+      ),
     )
 
 pub returns-clause-installed : goal.returns-clause-installed
@@ -312,13 +314,13 @@ returns-clause-installed g c = λ list honest hs.
       tables = c.add.new.self;
       memtable = c.replace.new.dest;
     }) c.in_default.ensures.told.0 begun.2 begun.1
-      c.edits_keep_versions.ensures c.in_default.ensures.told.1 begun.0
-      (c.in_ok-add.ensures.lines ∙ ap (λ (l : TableLine).
-      with_flushed_line (table_lines files.tables) l) c.requires.opened)
-      (subst (λ (m : Memtable). HasFailedAdd m → ⊥) (sym c.replace.ensures.after)
-      c.new.ensures.works)
-      (subst (λ (m : Memtable). (entry : Entry) → TableHolds m entry → ⊥)
-      (sym c.replace.ensures.after) c.new.ensures.empty))
+    c.edits_keep_versions.ensures c.in_default.ensures.told.1 begun.0
+    (c.in_ok-add.ensures.lines ∙ ap (λ (l : TableLine).
+    with_flushed_line (table_lines files.tables) l) c.requires.opened)
+    (subst (λ (m : Memtable). HasFailedAdd m → ⊥) (sym c.replace.ensures.after)
+    c.new.ensures.works)
+    (subst (λ (m : Memtable). (entry : Entry) → TableHolds m entry → ⊥)
+    (sym c.replace.ensures.after) c.new.ensures.empty))
     (c.in_default.ensures.recorded (known_version files) honest2 held)
     (c.in_ok-add.ensures.added s3 hs.held.tables hs.spilled.written.table
     (old_served files c.requires.usable line c.requires.place c.requires.next
