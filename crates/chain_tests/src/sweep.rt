@@ -422,5 +422,5 @@ fn every_run_with_a_fault_has_one_list(rt: HostRuntime) {
     for run in &RUNS {
         runs = runs.saturating_add(sweep_events(&rt, rt.alloc(), *run));
     }
-    assert!(rt; runs == 672, "{runs} runs");
+    assert!(rt; runs == 1542, "{runs} runs");
 }
