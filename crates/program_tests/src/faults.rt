@@ -25,10 +25,7 @@ const STATEMENTS: &[Fault] = &[
     ("config 1\nfly 1\n", "line 2: unknown statement\n"),
     ("config 1\n!fail 1\n", "line 2: unknown statement\n"),
     ("config 1\n get 1 a\n", "line 2: unknown statement\n"),
-    (
-        "limit log 100000\nconfig 1\n",
-        "line 1: unknown statement\n",
-    ),
+    ("limits log 16\nconfig 1\n", "line 1: unknown statement\n"),
     ("config 1\nget 1\n", "line 2: wrong number of words\n"),
     ("config 1\nget 1 a 0 0\n", "line 2: wrong number of words\n"),
     ("config 1\nsubmit\n", "line 2: wrong number of words\n"),
