@@ -15,7 +15,7 @@ import collections
 import re
 import sys
 
-ANSWERED = ("get", "submit", "stop", "start")
+ANSWERED = ("get", "submit", "tend", "stop", "start")
 SENT = re.compile(r"#(\d+) (\d+)>(\d+) (forward|ack) (.+)")
 STARTED = re.compile(r"started epoch (\d+) count (\d+) committed (\d+)")
 READ = re.compile(r"(?:value (\S+)|none) at (\d+)")
@@ -87,6 +87,8 @@ class History:
             first = next((i for i, word in enumerate(words) if word[:1] == "!"), len(words))
             if words[0] == "config":
                 self.chain = words[1:]
+            elif words[0] == "limit":
+                continue
             elif line and line[0] != "#":
                 self.words[at] = words[:first]
                 self.faults[at] = "".join(words[first : first + 1])
@@ -212,13 +214,19 @@ class History:
 
     def dropped(self, line, words, text):
         """A drop has its cause, as far as the statement says which node it was for."""
-        if words[0] in ("tick", "stop", "start"):
+        if words[0] in ("tick", "tend", "stop", "start"):
             is_up = words[1] in self.up
             why = "Running" if is_up else "NotRunning"
             expect(is_up == (words[0] == "start"), "dropped without cause")
             expect(text == f"dropped {why}", "dropped for another reason")
         else:
             expect(text.split(" ")[1] in ("NotRunning", "OtherNumber"), "dropped without cause")
+
+    def tended(self, line, words, text):
+        """A node tends only while it runs."""
+        expect(words[1] in self.up, "a tend of a node that does not run")
+
+    idle = full = tended
 
     def nothing(self, line, words, text):
         """No frame has the place."""
@@ -284,8 +292,11 @@ WORDS = {
     "invalid": ("submit", "get"),
     "nothing": ("deliver",),
     "busy": ("flow",),
-    "dropped": ("deliver", "tick", "start", "stop", "flow"),
-    "node": ("submit", "get", "deliver", "tick", "start", "stop"),
+    "tended": ("tend",),
+    "idle": ("tend",),
+    "full": ("tend",),
+    "dropped": ("deliver", "tick", "tend", "start", "stop", "flow"),
+    "node": ("submit", "get", "deliver", "tick", "tend", "start", "stop"),
 }
 
 

@@ -27,6 +27,8 @@ def read_script(text):
         words = line.split(" ")
         if words[0] == "config":
             nodes = [int(word) for word in words[1:]]
+        elif words[0] == "limit":
+            continue
         elif line and not line.startswith("#"):
             first = next((i for i, word in enumerate(words) if word[:1] == "!"), len(words))
             statements.append(Statement(at, line, words[:first], " ".join(words[first:])))
