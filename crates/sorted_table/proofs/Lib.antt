@@ -7,6 +7,7 @@ pub mod TailsLemmas
 pub mod FilterLemmas
 pub mod KeptDisk
 pub mod TableLookups
+pub mod GreatestKeys
 -- cursors
 pub mod StartWalks
 pub mod StartSearches

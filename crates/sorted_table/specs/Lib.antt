@@ -10,4 +10,4 @@ pub mod TableCursors
 pub mod Tails
 -- What crates above name.
 pub use Rattle.sorted_table.specs.Open.{FileRepresents, FinishedTablesAreFiles, LookupFinds}
-pub use Rattle.sorted_table.specs.Open.{TableServes, found_entry, table_file, table_filter}
+pub use Rattle.sorted_table.specs.Open.{TableServes, found_entry, greatest_key, table_file, table_filter}

@@ -5,7 +5,7 @@ use Rattle.std.specs.Rc.{rc_slice_items}
 use Rattle.disk.specs.{Slot, seen}
 use Rattle.kv_types.specs.{Entry, IsNewest, IsUnseen}
 use Rattle.table_builder.specs.{HoldsTable}
-use Rattle.table_format.specs.{TableRepresents, block_lines}
+use Rattle.table_format.specs.{TableRepresents, block_lines, last_entry}
 use Rattle.sorted_table.specs.declared.found.FoundVersion.{FoundVersion}
 use Rattle.sorted_table.specs.declared.table.Table.{Table}
 
@@ -31,6 +31,10 @@ pub record TableServes (file : Slot) (table : Table) (entries : List Entry) : Ty
   pub represents : TableRepresents bytes entries
   pub lines : rc_slice_items table.lines ≡ block_lines 0 represents.blocks
   pub filter : table.filter.items ≡ represents.filter
+
+-- the key of the last of these entries, if there is one
+abbrev pub greatest_key : List Entry → Option (List ℕ)
+greatest_key entries = option_map (λ entry. entry.key) (last_entry entries)
 
 -- a file that a builder has finished represents the entries that were added
 abbrev pub FinishedTablesAreFiles : Type 0

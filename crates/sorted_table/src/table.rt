@@ -1,7 +1,8 @@
 //! Open tables.
 ghost use Rattle.std.specs.Prelude.{◌≡◌, ◌↔◌, List, IfOk, IfErr, IsTrue, MatchResult, Contains};
+ghost use Rattle.std.specs.Prelude.{option_map};
 ghost use Rattle.bloom.specs.{Covers, CoversHashed, hashes_of};
-ghost use Rattle.disk.specs.{IsSame, IsStill, KeepsDisk};
+ghost use Rattle.disk.specs.{IsSame, IsStill, KeepsDisk, Slot};
 ghost use Rattle.kv_types.specs.{Entry};
 ghost use Rattle.merge_iter.specs.{IsAlike, Off};
 ghost use Rattle.table_format.specs.{IsBuilderError, IsEnvironmentError, ReportsDevice};
@@ -14,6 +15,7 @@ use crate::tail::{parts_of, read_tail};
 use bloom::laws::filters_cover;
 use bloom::{KeyHashes, may_hold_hashed};
 use disk::Disk;
+use kv_types::Key;
 use merge_iter::Cursor;
 use std::alloc::Global;
 use std::rc::RcSlice;
@@ -31,7 +33,7 @@ pub struct Table {
 
 impl Table {
     ghost use Rattle.sorted_table.specs.Open.{FileRepresents, LookupFinds, TableServes, table_file};
-    ghost use Rattle.sorted_table.specs.Open.{table_filter};
+    ghost use Rattle.sorted_table.specs.Open.{greatest_key, table_filter};
 
     /// Opens the table of a file. It needs three device calls, reads no block, and takes no more
     /// memory than the file is long.
@@ -53,6 +55,16 @@ impl Table {
             filter,
         })
     }
+
+    /// The key of the last entry, by the index. `None` only where the table serves no entries.
+    pub fn greatest(&self) -> Option<&Key>
+        ensures { (file : Slot) (entries : List Entry) → TableServes file self.now entries →
+            option_map (λ key. key.now) result ≡ greatest_key entries }
+    {
+        let line = self.lines.last()?;
+        Some(&line.key)
+    }
+
     // Whether the filter denies the key with these hashes.
     fn denies(&self, hashes: KeyHashes) -> bool
         ensures { IsTrue result ↔ (CoversHashed (table_filter self.now) hashes → ⊥) }
