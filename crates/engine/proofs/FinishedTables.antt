@@ -3,6 +3,7 @@ use Rattle.std.proofs.Common.{◌≡◌, ◌≤◌, ◌<◌, ◌^◌, ℕ, List,
 use Rattle.std.proofs.Common.{Contains, IfSome, inl, inr, refl, sym, ap, subst, ◌∙◌, arith}
 use Rattle.std.proofs.Common.{length-append}
 use Rattle.std.proofs.Common.{Result, Ok, Err}
+use Rattle.std.specs.Option.{option_map}
 use Rattle.std.specs.Prelude.{IsSomeAnd, MatchResult, ◌↔◌}
 use Rattle.std.specs.Cmp.Lexicographic.{nat_list_cmp_total, slice_cmp}
 use Rattle.std.specs.Ordering.{nat_cmp, ordering_reverse, ordering_then}
@@ -23,6 +24,7 @@ use Rattle.table_format.specs.{AreRising, IsTableEntry, TableRepresents, block_l
 use Rattle.table_format.specs.{filter_part, index_part, last_entry}
 use Rattle.table_builder.specs.declared.Finished.{Finished}
 use Rattle.table_builder.specs.{IsFinishedTable, first_entry}
+use Rattle.sorted_table.specs.{greatest_key}
 use Rattle.store_model.specs.Keys.{KeyPrecedes}
 use Rattle.store_model.specs.KeysLemmas.{key_never}
 use Rattle.store_model.specs.{LevelTable}
@@ -31,7 +33,7 @@ use Rattle.manifest.specs.{IsTableLine}
 use Rattle.engine.specs.declared.error.EngineError.{EngineError}
 use Rattle.engine.specs.declared.error.EngineError.TheVariants as engine
 use Rattle.engine.specs.Errors.{IsOfMachine}
-use Rattle.engine.specs.LevelTables.{line_range}
+use Rattle.engine.specs.LevelTables.{least_key, line_range}
 use Rattle.engine.specs.OpenFiles.{IsWrittenTable}
 use Rattle.engine.specs.TableWriting.{finished_line}
 
@@ -73,6 +75,8 @@ pub record HasEnds (entries : List Entry) (least greatest : List ℕ) : Type 0 w
   pub proper : KeyPrecedes greatest least → ⊥
   pub after : (e : Entry) → Contains entries e → KeyPrecedes e.key least → ⊥
   pub until : (e : Entry) → Contains entries e → KeyPrecedes greatest e.key → ⊥
+  pub first : least_key entries ≡ Some least
+  pub last : greatest_key entries ≡ Some greatest
 
 entries_end : (x : Entry) (xs : List Entry) (last : Entry) → last_entry (x ∷ xs) ≡ Some last
     → All IsTableEntry (x ∷ xs) → AreRising (x ∷ xs) → HasEnds (x ∷ xs) x.key last.key
@@ -86,6 +90,8 @@ entries_end x xs last is each rising =
       proper = first_least x xs rises last there;
       after = λ e c. first_least x xs rises e (among_from_Contains entries e c);
       until = λ e c. last_greatest entries last is rises e (among_from_Contains entries e c);
+      first = refl;
+      last = ap (option_map (λ (e : Entry). e.key)) is;
     }
 
 has_ends : (entries : List Entry) (least greatest : List ℕ) → All IsTableEntry entries
@@ -161,6 +167,8 @@ written_table disk memtable file entries done named f alike =
             (λ (slot : Slot). IsSomeAnd (seen slot)
             (λ bytes. (length bytes ≡ done.length) × TableRepresents bytes entries))
             (sym f.holds.durable) (sym f.len, r);
+        least = ends.first;
+        greatest = ends.last;
       };
       at = refl;
       level = refl;

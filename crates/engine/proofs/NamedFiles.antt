@@ -79,6 +79,8 @@ module _ (left other : Contents) where
     represents = subst (λ (o : Option (List ℕ)). IsSomeAnd o
         (λ bytes. (length bytes ≡ line.length) × TableRepresents bytes table.entries))
         (sym same) h.represents;
+    least = h.least;
+    greatest = h.greatest;
   }
 
   pub tables_same : (lines : List TableLine) (tables : List LevelTable)

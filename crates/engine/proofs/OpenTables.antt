@@ -8,7 +8,8 @@ use Rattle.disk.specs.StillLemmas.{still, still_more}
 use Rattle.kv_types.specs.{Entry}
 use Rattle.table_format.specs.{IsEnvironmentError, TableRepresents}
 use Rattle.table_format.specs.declared.TableError.{TableError}
-use Rattle.sorted_table.specs.{FileRepresents, LookupFinds, TableServes, table_file}
+use Rattle.sorted_table.specs.{FileRepresents, LookupFinds, TableServes, greatest_key}
+use Rattle.sorted_table.specs.{table_file}
 use Rattle.sorted_table.specs.declared.FoundVersion.{FoundVersion}
 use Rattle.table_files.specs.{inner_disk}
 use Rattle.table_files.specs.declared.Files.{Files}
@@ -18,7 +19,8 @@ use Rattle.engine.specs.declared.levels.OpenTable.{OpenTable}
 use Rattle.engine.specs.KeepingLemmas.{kept_as, kept_behind, neither, same_files, same_then_same}
 use Rattle.engine.specs.KeepingLemmas.{unchanged}
 use Rattle.engine.specs.Errors.{IsOfMachine}
-use Rattle.engine.specs.LevelTables.{EntriesFind, HasLength, IsServed, IsTableOf, error_of_table}
+use Rattle.engine.specs.LevelTables.{EntriesFind, FileFits, FitsLine, IsServed, IsTableOf}
+use Rattle.engine.specs.LevelTables.{error_of_table}
 
 -- a refusal that says nothing of a file
 pub of_table : (e : TableError) → IsEnvironmentError e → IsOfMachine (error_of_table e)
@@ -38,6 +40,14 @@ file_represents left line table slot is same =
     (sym same)
     (second_of (λ bytes. length bytes ≡ line.length) (λ bytes. TableRepresents bytes table.entries)
     (left line.file) is.represents)
+
+-- a file that reads the same represents the same entries
+pub represents_same : (entries : List Entry) (slot : Slot) (file : Option (List ℕ))
+    → seen slot ≡ file → IsSomeAnd file (λ bytes. TableRepresents bytes entries)
+    → FileRepresents slot entries
+represents_same entries slot file same has =
+    subst (λ (o : Option (List ℕ)). IsSomeAnd o (λ bytes. TableRepresents bytes entries))
+    (sym same) has
 
 -- a lookup in a table finds what its entries have
 pub found_in : (entries : List Entry) (key : List ℕ) (at : ℕ) (found : Option FoundVersion)
@@ -65,20 +75,24 @@ lines_same old new line table same is = record {
   represents = subst (λ (o : Option (List ℕ)). IsSomeAnd o
       (λ bytes. (length bytes ≡ line.length) × TableRepresents bytes table.entries))
       (ap seen (sym (same line.file))) is.represents;
+  least = is.least;
+  greatest = is.greatest;
 }
 
-pub length_same : (old new : State) (line : TableLine) → IsSame old new
-    → HasLength (contents new) line → HasLength (contents old) line
-length_same old new line same long =
-    subst (λ (o : Option (List ℕ)). IsSomeAnd o (λ bytes. length bytes ≡ line.length))
-    (ap seen (same line.file)) long
+pub fit_same : (old new : State) (line : TableLine) → IsSame old new
+    → FileFits (contents new) line → FileFits (contents old) line
+fit_same old new line same fit =
+    subst (λ (o : Option (List ℕ)). IsSomeAnd o (FitsLine line)) (ap seen (same line.file)) fit
 
--- the length that was read is that of the line
-pub length_read : (file : Option (List ℕ)) (len of_line : ℕ)
-    → IsSomeAnd file (λ bytes. (len ≡ length bytes) × (len < 2 ^ 63)) → len ≡ of_line
-    → IsSomeAnd file (λ bytes. length bytes ≡ of_line)
-length_read None len of_line answer same = absurd answer
-length_read (Some bytes) len of_line answer same = sym answer.0 ∙ same
+-- the length that was read is the line's, and so is the greatest key
+pub fit_read : (file : Option (List ℕ)) (line : TableLine) (len : ℕ)
+    → IsSomeAnd file (λ bytes. (len ≡ length bytes) × (len < 2 ^ 63)) → len ≡ line.length
+    → ((entries : List Entry) → IsSomeAnd file (λ bytes. TableRepresents bytes entries)
+    → greatest_key entries ≡ Some line.greatest)
+    → IsSomeAnd file (FitsLine line)
+fit_read None line len answer same ends = absurd answer
+fit_read (Some bytes) line len answer same ends =
+    record { len = sym answer.0 ∙ same; greatest = ends }
 
 pub same_back : (old new : State) → IsSame old new → IsSame new old
 same_back old new same file = sym (same file)

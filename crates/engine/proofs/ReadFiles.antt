@@ -25,7 +25,7 @@ use Rattle.engine.specs.declared.opening.ReadParts.{ReadParts}
 use Rattle.engine.specs.declared.store_files.StoreFiles.{StoreFiles}
 use Rattle.engine.specs.BatchLogs.{LogsHold, first_number}
 use Rattle.engine.specs.Files.{Facts}
-use Rattle.engine.specs.LevelTables.{AreTablesOf, HasLength}
+use Rattle.engine.specs.LevelTables.{AreTablesOf, FileFits, FitsLine}
 use Rattle.engine.specs.OpenFiles.{AreBatchesOf, AreOrderedNumbers, AreUsableFiles}
 use Rattle.engine.specs.OpenFiles.{FilesOpenAs, OpeningRefusal, known_facts}
 use Rattle.engine.specs.OpenFiles.{known_version}
@@ -142,13 +142,13 @@ module _ (version : StoreVersion) (is : IsVersion version) (old new : State)
   tables_then tables h =
       tables_same (contents old) (contents new) version.tables tables table_reads h
 
-  pub long_before : All (HasLength (contents new)) version.tables
-      → All (HasLength (contents old)) version.tables
-  long_before long =
-      All-weaker (Contains version.tables) (HasLength (contents old))
-      (λ line has. subst (λ (o : Option (List ℕ)). IsSomeAnd o
-      (λ bytes. length bytes ≡ line.length)) (table_reads line has)
-      (All-contains (HasLength (contents new)) version.tables line long has)) version.tables
+  pub fit_before : All (FileFits (contents new)) version.tables
+      → All (FileFits (contents old)) version.tables
+  fit_before fit =
+      All-weaker (Contains version.tables) (FileFits (contents old))
+      (λ line has. subst (λ (o : Option (List ℕ)). IsSomeAnd o (FitsLine line))
+      (table_reads line has)
+      (All-contains (FileFits (contents new)) version.tables line fit has)) version.tables
       (All-contains_itself version.tables)
 
 -- ---- what represented files give
@@ -325,7 +325,7 @@ opens_as s0 s1 s2 spares manifest parts is had w =
           w.had.batches) first (batches_before (version_of manifest).version is s0 s1 spares
           (first_number parts.logs) w.had.batches w.had.had);
       count = omega (arith, positive, count);
-      tables = long_before (version_of manifest).version is s0 s1 spares w.long;
+      tables = fit_before (version_of manifest).version is s0 s1 spares w.fits;
     }
 
 -- a refusal after the manifest was opened is of a store that was created

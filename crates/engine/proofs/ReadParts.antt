@@ -16,7 +16,7 @@ use Rattle.manifest.specs.{IsVersion, StoreVersion}
 use Rattle.engine.specs.declared.batch_logs.BatchLog.{BatchLog}
 use Rattle.engine.specs.declared.batch_logs.BatchLogs.{BatchLogs}
 use Rattle.engine.specs.BatchLogs.{AreParted, HoldsPart, LogsHold, first_number, oldest_first}
-use Rattle.engine.specs.LevelTables.{AreTablesOf, HasLength}
+use Rattle.engine.specs.LevelTables.{AreTablesOf, FileFits, FitsLine}
 use Rattle.engine.specs.OpenFiles.{AreBatchesOf, AreReplayed}
 use Rattle.engine.specs.Settling.{AreSynced, AreThere, SlotSettles, SparesAllBut}
 use Rattle.engine.proofs.FilesApart.{log_no_table}
@@ -117,13 +117,13 @@ module _ (version : StoreVersion) (is : IsVersion version) (s1 s2 s3 : State)
       tables_same (contents s3) (contents s4) version.tables tables
       (λ line has. ap seen (same line.file)) (tables_then tables h)
 
-  pub were_long : All (HasLength (contents s3)) version.tables
-      → All (HasLength (contents s1)) version.tables
-  were_long long =
-      All-weaker (Contains version.tables) (HasLength (contents s1))
-      (λ line has. subst (λ (o : Option (List ℕ)). IsSomeAnd o
-      (λ bytes. length bytes ≡ line.length)) (table_reads line has)
-      (All-contains (HasLength (contents s3)) version.tables line long has)) version.tables
+  pub were_fit : All (FileFits (contents s3)) version.tables
+      → All (FileFits (contents s1)) version.tables
+  were_fit fit =
+      All-weaker (Contains version.tables) (FileFits (contents s1))
+      (λ line has. subst (λ (o : Option (List ℕ)). IsSomeAnd o (FitsLine line))
+      (table_reads line has)
+      (All-contains (FileFits (contents s3)) version.tables line fit has)) version.tables
       (All-contains_itself version.tables)
 
   pub tables_durable : (s4 : State) → IsSame s3 s4

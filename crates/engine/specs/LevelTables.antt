@@ -5,10 +5,11 @@ use Rattle.std.specs.List.{AllZip, count_by}
 use Rattle.std.specs.Option.{option_map, option_flatten}
 use Rattle.disk.specs.{State, Contents}
 use Rattle.kv_types.specs.{BatchContent, Entry, IsNewest, IsUnseen, map_of}
+use Rattle.table_builder.specs.{first_entry}
 use Rattle.table_format.specs.{TableRepresents}
 use Rattle.table_format.specs.declared.TableError.{TableError}
 use Rattle.table_format.specs.declared.TableError.TheVariants as table
-use Rattle.sorted_table.specs.{TableServes, found_entry, table_file}
+use Rattle.sorted_table.specs.{TableServes, found_entry, greatest_key, table_file}
 use Rattle.sorted_table.specs.declared.FoundVersion.{FoundVersion}
 use Rattle.store_model.specs.{KeyRange, LevelTable, NewestHas, StoreFinds, StoreRepresents, StoreState}
 use Rattle.store_model.specs.{TableLacks, level_entries, memory_entries}
@@ -34,21 +35,34 @@ error_of_table table.Failed = engine.Failed
 abbrev pub line_range : TableLine → KeyRange
 line_range line = record { least = line.least; greatest = line.greatest }
 
--- the line names the table: its file has the line's length, and represents the table's entries
+-- the key of the first of these entries, if there is one
+abbrev pub least_key : List Entry → Option (List ℕ)
+least_key entries = option_map (λ entry. entry.key) (first_entry entries)
+
+-- The line names the table: its file has the line's length, and represents the table's entries, which
+-- run from the line's least key to its greatest.
 pub record IsTableOf (left : Contents) (line : TableLine) (table : LevelTable) : Type 0 where
   pub level : table.level ≡ line.level
   pub file : table.file ≡ line.file
   pub range : table.range ≡ line_range line
   pub represents : IsSomeAnd (left line.file)
       (λ bytes. (length bytes ≡ line.length) × TableRepresents bytes table.entries)
+  pub least : least_key table.entries ≡ Some line.least
+  pub greatest : greatest_key table.entries ≡ Some line.greatest
 
 -- line by line
 abbrev pub AreTablesOf : Contents → List TableLine → List LevelTable → Type 0
 AreTablesOf left = AllZip (IsTableOf left)
 
--- the line's file has the line's length
-abbrev pub HasLength : Contents → TableLine → Type 0
-HasLength left line = IsSomeAnd (left line.file) (λ bytes. length bytes ≡ line.length)
+-- The bytes have the line's length, and where they represent a table, its greatest key is the line's.
+pub record FitsLine (line : TableLine) (bytes : List ℕ) : Type 0 where
+  pub len : length bytes ≡ line.length
+  pub greatest : (entries : List Entry) → TableRepresents bytes entries →
+      greatest_key entries ≡ Some line.greatest
+
+-- the line's file fits the line
+abbrev pub FileFits : Contents → TableLine → Type 0
+FileFits left line = IsSomeAnd (left line.file) (FitsLine line)
 
 -- no table stands behind one of a deeper level
 abbrev pub LevelsRise : List LevelTable → Type 0

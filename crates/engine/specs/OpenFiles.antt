@@ -22,7 +22,7 @@ use Rattle.engine.specs.declared.store_files.StoreFiles.{StoreFiles}
 use Rattle.engine.specs.Files.{Facts}
 use Rattle.engine.specs.BatchLogs.{AreUsable, HaveBatches, LogsHold, first_number, lines_of}
 use Rattle.engine.specs.BatchLogs.{next_number}
-use Rattle.engine.specs.LevelTables.{AreServed, AreTablesOf, HasLength, IsTableOf, table_lines}
+use Rattle.engine.specs.LevelTables.{AreServed, AreTablesOf, FileFits, IsTableOf, table_lines}
 use Rattle.engine.specs.Stores.{IsNumberedTo}
 use Rattle.engine.specs.StoreFiles.{before_newest, store_of_version}
 
@@ -161,14 +161,14 @@ pub record FilesHold (disk : State) (files : StoreFiles) (list : List BatchConte
 -- ---- what an opening tells
 
 -- The slots represent the version that the open files know, its logs have so many batches, and its
--- tables' files have their lengths.
+-- tables' files fit their lines.
 pub record FilesOpenAs (left : Contents) (files : StoreFiles) : Type 0 where
   pub version : ManifestRepresents (known_version files) left
   pub batches : List BatchContent
   pub logs : AreBatchesOf left (known_version files).version.logs (suc (trimmed_count files))
       batches
   pub count : batch_count files ≡ trimmed_count files + length batches
-  pub tables : All (HasLength left) (known_version files).version.tables
+  pub tables : All (FileFits left) (known_version files).version.tables
 
 -- why files were not opened: the machine refused, no store was created, or one was
 abbrev pub OpeningRefusal : EngineError → Contents → Type 0

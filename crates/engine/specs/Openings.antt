@@ -9,7 +9,7 @@ use Rattle.manifest.specs.Versions.{files_of}
 use Rattle.engine.specs.declared.opening.ReadParts.{ReadParts}
 use Rattle.engine.specs.declared.store_files.StoreFiles.{StoreFiles}
 use Rattle.engine.specs.BatchLogs.{LogsHold, first_number, next_number}
-use Rattle.engine.specs.LevelTables.{AreServed, AreTablesOf, HasLength, table_lines}
+use Rattle.engine.specs.LevelTables.{AreServed, AreTablesOf, FileFits, table_lines}
 use Rattle.engine.specs.Settling.{SlotSettles}
 use Rattle.engine.specs.OpenFiles.{AreOpenLogs, AreOrderedNumbers, AreReplayed, HasReplayed}
 use Rattle.engine.specs.OpenFiles.{AreUsableFiles, batch_count, known_store, known_version}
@@ -44,11 +44,11 @@ pub record AreParts (version : StoreVersion) (parts : ReadParts) : Type 0 where
   pub numbers : AreOrderedNumbers version (first_number parts.logs - 1)
       (next_number parts.logs - 1)
 
--- The files had the batches of the logs, and tables of these lengths. Of the other files none has
+-- The files had the batches of the logs, and tables that fit their lines. Of the other files none has
 -- changed, but for a sync.
 pub record WereParts (old new : State) (version : StoreVersion) (parts : ReadParts) : Type 0 where
   pub had : AreReplayed (contents old) version.logs version.flushed parts.logs parts.memtable
-  pub long : All (HasLength (contents old)) version.tables
+  pub fits : All (FileFits (contents old)) version.tables
   pub others : (file : ℕ) → All (λ line. line.file ≢ file) version.logs → SlotSettles old new file
 
 -- the parts hold these batches and these tables, which the disk durably has

@@ -16,7 +16,7 @@ use Rattle.manifest.specs.{IsNotCreated, IsSlotFile, ManifestRepresents, NodeVer
 use Rattle.manifest.specs.{Change, changed, first_version}
 use Rattle.engine.specs.Files.{Facts, IsLog}
 use Rattle.engine.specs.BatchLogs.{HaveBatches}
-use Rattle.engine.specs.LevelTables.{AreTablesOf, HasLength, IsTableOf}
+use Rattle.engine.specs.LevelTables.{AreTablesOf, FileFits, IsTableOf}
 
 -- how many batches come before the newest log
 abbrev pub before_newest : List LogLine → ℕ
@@ -61,8 +61,8 @@ IsOneOf facts list facts' list' left =
     FilesRepresent facts list left ⊎ FilesRepresent facts' list' left
 
 -- The slots represent a version with these facts, its logs have the batches behind the first `kept`
--- ones, so many in all, and the files of its tables have their lengths. An opening asks no more: it
--- reads no block of a table.
+-- ones, so many in all, and the files of its tables fit their lines. An opening asks no more: it reads
+-- no block of a table.
 pub record OpensAs (left : Contents) (facts : Facts) (count : ℕ) : Type 0 where
   pub version : StoreVersion
   pub manifest : ManifestRepresents (record { id = facts.id; version = version }) left
@@ -73,7 +73,7 @@ pub record OpensAs (left : Contents) (facts : Facts) (count : ℕ) : Type 0 wher
   pub logs : HaveBatches left (suc facts.kept) version.logs batches
   pub each : All IsBatch batches
   pub counted : count ≡ facts.kept + length batches
-  pub tables : All (HasLength left) version.tables
+  pub tables : All (FileFits left) version.tables
 
 -- the version has the file as a log or as a table
 abbrev pub NamesStoreFile : StoreVersion → ℕ → Type 0

@@ -1,15 +1,16 @@
-//! Open tables, level by level, and lookups in them. The store has no tables yet, and does not use
-//! them.
+//! Open tables, level by level, and lookups in them.
 ghost use Rattle.std.specs.Prelude.{◌≡◌, ◌⊎◌, ◌↔◌, ℕ, List, IfOk, IfErr, IsTrue, MatchResult};
-ghost use Rattle.std.specs.Prelude.{◌<◌, All, OnOk, slice_index};
+ghost use Rattle.std.specs.Prelude.{◌<◌, All, OnOk, Some, slice_index};
 ghost use Rattle.std.specs.List.{prefix_len};
 ghost use Rattle.std.specs.Prelude.{Contains, [], ◌∷◌, ◌++◌};
 ghost use Rattle.bloom.specs.{hashes_of};
-ghost use Rattle.disk.specs.{IsSame, IsStill, KeepsDisk, State, contents};
+ghost use Rattle.disk.specs.{IsSame, IsStill, KeepsDisk, Slot, State, contents};
+ghost use Rattle.kv_types.specs.{Entry};
+ghost use Rattle.sorted_table.specs.{TableServes, greatest_key};
 ghost use Rattle.store_model.specs.{AreLeveled, FitsRange, LevelTable, RangeHolds};
 ghost use Rattle.store_model.specs.{level_entries};
 ghost use Rattle.engine.specs.Errors.{FailsDevice, IsEnd, IsOfMachine};
-ghost use Rattle.engine.specs.LevelTables.{AreServed, AreTablesOf, EntriesFind, HasLength};
+ghost use Rattle.engine.specs.LevelTables.{AreServed, AreTablesOf, EntriesFind, FileFits};
 ghost use Rattle.engine.specs.LevelTables.{IsServed, IsTableOf, LevelsRise, TablesFind};
 ghost use Rattle.engine.specs.LevelTables.{error_of_table, is_flushed, level_count, line_range};
 ghost use Rattle.engine.specs.LevelTables.{table_lines, with_flushed, with_flushed_line};
@@ -37,6 +38,17 @@ impl From<TableError> for EngineError {
     }
 }
 
+// Whether the last entry of the table has this key.
+fn ends_with(table: &Table, key: &Key) -> bool
+    ensures { (file : Slot) (entries : List Entry) → TableServes file table.now entries →
+        IsTrue result ↔ (greatest_key entries ≡ Some key.now) }
+{
+    match table.greatest() {
+        Some(greatest) => greatest == key,
+        None => false,
+    }
+}
+
 /// An open table, and its line in the manifest.
 #[derive(Drop)]
 pub(crate) struct OpenTable {
@@ -45,8 +57,8 @@ pub(crate) struct OpenTable {
 }
 
 impl OpenTable {
-    /// Opens the table that a line names. `Damaged` where the file has not the line's length, or
-    /// represents no table.
+    /// Opens the table that a line names. `Damaged` where the file has not the line's length,
+    /// represents no table, or one whose greatest key is not the line's.
     pub(crate) fn open<D: Disk>(
         alloc: Global,
         disk: &mut D,
@@ -57,8 +69,8 @@ impl OpenTable {
             IsTableOf (contents (D.state disk.old)) line.now table →
             MatchResult result (λ it. IsServed (D.state disk.new) it table) IsOfMachine }
         ensures line { IfOk result (λ it. it.line ≡ line.now) }
-        ensures long { D.is_honest disk.old →
-            OnOk result (HasLength (contents (D.state disk.old)) line.now) }
+        ensures fits { D.is_honest disk.old →
+            OnOk result (FileFits (contents (D.state disk.old)) line.now) }
         ensures causes { IfErr result IsEnd }
         ensures still { IsStill D.Disk disk.old disk.new }
     {
@@ -66,6 +78,9 @@ impl OpenTable {
             return Err(EngineError::Damaged);
         }
         let table = Table::open(alloc, disk, line.file)?;
+        if !ends_with(&table, &line.greatest) {
+            return Err(EngineError::Damaged);
+        }
         let line = line.clone()?;
         Ok(OpenTable { line, table })
     }
@@ -134,7 +149,7 @@ pub(crate) struct LevelTables {
 
 impl LevelTables {
     /// Opens the tables that these lines name. `Damaged` only where they name none: where a file has
-    /// not its line's length, or represents no table.
+    /// not its line's length, represents no table, or one whose ends are not the line's.
     pub(crate) fn open<D: Disk>(
         alloc: Global,
         disk: &mut D,
@@ -145,8 +160,8 @@ impl LevelTables {
             AreTablesOf (contents (D.state disk.old)) lines.now tables →
             MatchResult result (λ it. AreServed (D.state disk.new) it tables) IsOfMachine }
         ensures lines { IfOk result (λ it. table_lines it ≡ lines.now) }
-        ensures long { D.is_honest disk.old →
-            OnOk result (All (HasLength (contents (D.state disk.old))) lines.now) }
+        ensures fits { D.is_honest disk.old →
+            OnOk result (All (FileFits (contents (D.state disk.old))) lines.now) }
         ensures causes { IfErr result IsEnd }
         ensures still { IsStill D.Disk disk.old disk.new }
     {

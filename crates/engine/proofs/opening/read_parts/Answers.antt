@@ -4,7 +4,7 @@ use Rattle.disk.specs.StillLemmas.{still_more}
 use Rattle.manifest.specs.declared.TableLine.{TableLine}
 use Rattle.manifest.specs.{IsVersion, NodeVersion}
 use Rattle.engine.specs.Errors.{IsOfMachine}
-use Rattle.engine.specs.LevelTables.{AreTablesOf, HasLength}
+use Rattle.engine.specs.LevelTables.{AreTablesOf, FileFits}
 use Rattle.engine.specs.OpenFiles.{AreOrderedNumbers}
 use Rattle.engine.specs.Settling.{AreSynced, AreThere}
 use Rattle.std.specs.Prelude.{All}
@@ -13,7 +13,7 @@ use Rattle.engine.proofs.Parts.{held_count, logs_in}
 use Rattle.engine.proofs.ReadParts.{batches_same, begins_at, others_settle}
 use Rattle.engine.proofs.ReadParts.{replayed_same, tables_are_there, tables_durable, tables_now}
 use Rattle.engine.proofs.Records.{not_true}
-use Rattle.engine.proofs.ReadParts.{synced_reads, tables_then, were_long}
+use Rattle.engine.proofs.ReadParts.{synced_reads, tables_then, were_fit}
 use Rattle.engine.proofs.opening.read_parts.Goals as goal
 
 -- the files of tables that are named are there
@@ -128,8 +128,8 @@ returns-clause-told g c = λ honest.
       had = replayed_same (contents s2) (contents s1)
           (λ file. sym (synced_reads s1 s2 version.tables synced file)) version.logs version.flushed
           c.in_ok-logs.logs c.in_ok-logs.memtable (c.in_ok-logs.ensures.told honest2);
-      long = were_long version is s1 s2 s3 synced others
-          (subst (All (HasLength (contents s3))) lines2 (c.in_ok-tables.ensures.long honest3));
+      fits = were_fit version is s1 s2 s3 synced others
+          (subst (All (FileFits (contents s3))) lines2 (c.in_ok-tables.ensures.fits honest3));
       others = others_settle version is s1 s2 s3 synced others s4
           (c.open.ensures.kept.files honest3);
     }

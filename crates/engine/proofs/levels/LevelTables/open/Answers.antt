@@ -8,9 +8,9 @@ use Rattle.store_model.specs.{LevelTable}
 use Rattle.engine.specs.declared.levels.OpenTable.{OpenTable}
 use Rattle.engine.specs.Errors.{IsOfMachine}
 use Rattle.engine.specs.KeepingLemmas.{answered}
-use Rattle.engine.specs.LevelTables.{HasLength, IsServed, IsTableOf}
+use Rattle.engine.specs.LevelTables.{FileFits, IsServed, IsTableOf}
 use Rattle.engine.proofs.Causes.{refuses}
-use Rattle.engine.proofs.OpenTables.{length_same, lines_same, none_read, read_more, same_back, served_same}
+use Rattle.engine.proofs.OpenTables.{fit_same, lines_same, none_read, read_more, same_back, served_same}
 use Rattle.engine.proofs.OpenTables.{still_then}
 use Rattle.engine.proofs.SideBySide.{all_taken, beside, map_more, zip_map, zip_push}
 use Rattle.engine.proofs.levels.LevelTables.open.Goals as goal
@@ -20,7 +20,7 @@ pub loop-line-init : goal.loop-line-init
 loop-line-init g c = record {
   read = none_read g.D.Disk c.args.disk.now;
   lines = ap (λ items. map (λ (one : OpenTable). one.line) items) c.new-tables.ensures.items;
-  long = λ honest. All-nil (HasLength (contents (g.D.Disk.state c.args.disk.now)));
+  fits = λ honest. All-nil (FileFits (contents (g.D.Disk.state c.args.disk.now)));
   served = λ tables honest are.
       subst (λ (items : List OpenTable).
       AllZip (IsServed (g.D.Disk.state c.args.disk.now)) items [])
@@ -48,11 +48,11 @@ loop-line-preserved g c =
       read = read;
       lines = map_more (λ (it : OpenTable). it.line) items c.push.new.self.items one lines i line
           pushed before.lines c.in_ok-open.ensures.line c.loop-line-test.true c.line-item.is;
-      long = λ honest.
-          let here = length_same s0 s1 line (before.read.kept.files honest)
-          (c.in_ok-open.ensures.long (before.read.kept.honest.1 honest)) in
-          All-more (HasLength (contents s0)) lines i line c.loop-line-test.true (before.long honest)
-          (subst (λ (l : TableLine). HasLength (contents s0) l) c.line-item.is here);
+      fits = λ honest.
+          let here = fit_same s0 s1 line (before.read.kept.files honest)
+          (c.in_ok-open.ensures.fits (before.read.kept.honest.1 honest)) in
+          All-more (FileFits (contents s0)) lines i line c.loop-line-test.true (before.fits honest)
+          (subst (λ (l : TableLine). FileFits (contents s0) l) c.line-item.is here);
       served = λ tables honest are.
           let b = beside (IsTableOf (contents s0)) lines tables i line are c.loop-line-test.true
           c.line-item.is in
@@ -90,11 +90,11 @@ returns-in_err-push-clause-still g c =
     c.open.ensures.still
 
 -- all lines were passed
-pub returns-clause-long : goal.returns-clause-long
-returns-clause-long g c = λ honest.
-    subst (λ (l : List TableLine). All (HasLength (contents (g.D.Disk.state c.args.disk.now))) l)
+pub returns-clause-fits : goal.returns-clause-fits
+returns-clause-fits g c = λ honest.
+    subst (λ (l : List TableLine). All (FileFits (contents (g.D.Disk.state c.args.disk.now))) l)
     (take_all c.loop-line.line-index c.args.lines.now c.loop-line-test.false)
-    (c.loop-line.invariant.long honest)
+    (c.loop-line.invariant.fits honest)
 
 -- all tables are open
 pub returns-clause-opened : goal.returns-clause-opened

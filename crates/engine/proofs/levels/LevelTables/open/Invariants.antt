@@ -2,7 +2,7 @@ use Rattle.std.proofs.Common.{◌≡◌, All, List, map, take}
 use Rattle.std.specs.List.{AllZip}
 use Rattle.disk.specs.{contents}
 use Rattle.store_model.specs.{LevelTable}
-use Rattle.engine.specs.LevelTables.{AreTablesOf, HasLength, IsServed}
+use Rattle.engine.specs.LevelTables.{AreTablesOf, FileFits, IsServed}
 use Rattle.engine.proofs.OpenTables.{HasOnlyRead}
 use Rattle.engine.proofs.levels.LevelTables.open.Given as goal
 
@@ -11,8 +11,8 @@ abbrev pub invariant-loop-line : goal.invariant-loop-line
 invariant-loop-line g l = record {
   read : HasOnlyRead g.D.Disk l.fn.disk l.disk;
   lines : map (λ one. one.line) l.tables.items ≡ take l.line-index l.lines;
-  long : g.D.Disk.is_honest l.fn.disk
-      → All (HasLength (contents (g.D.Disk.state l.fn.disk))) (take l.line-index l.lines);
+  fits : g.D.Disk.is_honest l.fn.disk
+      → All (FileFits (contents (g.D.Disk.state l.fn.disk))) (take l.line-index l.lines);
   served : (tables : List LevelTable) → g.D.Disk.is_honest l.fn.disk
       → AreTablesOf (contents (g.D.Disk.state l.fn.disk)) l.lines tables
       → AllZip (IsServed (g.D.Disk.state l.fn.disk)) l.tables.items (take l.line-index tables);

@@ -1,10 +1,13 @@
-use Rattle.std.proofs.Common.{ap}
+use Rattle.std.proofs.Common.{◌≡◌, Bool, IsTrue, ap, false}
 use Rattle.disk.specs.{contents, seen}
 use Rattle.disk.specs.StillLemmas.{still, still_more, still_same}
 use Rattle.engine.specs.Errors.{IsOfMachine}
 use Rattle.engine.proofs.Causes.{refuses}
-use Rattle.engine.proofs.OpenTables.{file_represents, length_read, of_table}
+use Rattle.engine.proofs.OpenTables.{file_represents, fit_read, of_table, represents_same}
 use Rattle.engine.proofs.levels.OpenTable.open.Goals as goal
+
+never : (b : Bool) → b ≡ false → IsTrue b → ⊥
+never b is_false is_true = absurd cc
 
 -- the length was read, and then the table
 pub returns-in_err-length-clause-still : goal.returns-in_err-length-clause-still
@@ -19,6 +22,13 @@ returns-then-branch-line-clause-still g c = λ honest.
 
 pub returns-in_err-table-clause-still : goal.returns-in_err-table-clause-still
 returns-in_err-table-clause-still g c = λ honest.
+    still_more
+    (still_same (still (g.D.Disk.state c.args.disk.now) (g.D.Disk.past c.args.disk.now))
+    (c.length.ensures.passes honest).moment (c.length.ensures.kept.disk.files honest))
+    (c.open.ensures.still (c.length.ensures.kept.disk.honest.1 honest))
+
+pub returns-then-not-ends_with-clause-still : goal.returns-then-not-ends_with-clause-still
+returns-then-not-ends_with-clause-still g c = λ honest.
     still_more
     (still_same (still (g.D.Disk.state c.args.disk.now) (g.D.Disk.past c.args.disk.now))
     (c.length.ensures.passes honest).moment (c.length.ensures.kept.disk.files honest))
@@ -50,9 +60,26 @@ returns-in_err-table-clause-opened g c = λ table honest is.
     c.from_residual-in_err-table.ensures.1 (of_table c.in_err-table.field-0.0
     (c.in_err-table.ensures.opened table.entries (c.length.ensures.kept.disk.honest.1 honest) has))
 
--- the file had the length of the line
-pub returns-clause-long : goal.returns-clause-long
-returns-clause-long g c = λ honest.
-    length_read (contents (g.D.Disk.state c.args.disk.now) c.args.line.now.file)
-    c.in_ok-length.field-0 c.args.line.now.length (c.in_ok-length.ensures.length honest)
-    c.if-branch-line.false
+-- the file's greatest key is that of the line, whatever entries the file represents
+pub returns-then-not-ends_with-clause-opened : goal.returns-then-not-ends_with-clause-opened
+returns-then-not-ends_with-clause-opened g c = λ table honest is.
+    let line = c.args.line.now in
+    let has = file_represents (contents (g.D.Disk.state c.args.disk.now)) line table
+    (g.D.Disk.state c.length.new.self line.file) is
+    (ap seen (c.length.ensures.kept.disk.files honest line.file)) in
+    let serves = c.in_ok-table.ensures.opened table.entries
+    (c.length.ensures.kept.disk.honest.1 honest) has in
+    absurd (never c.ends_with.result c.if-not-ends_with.true
+    ((c.ends_with.ensures _ table.entries serves).1 is.greatest))
+
+-- the file had the length of the line, and its greatest key
+pub returns-clause-fits : goal.returns-clause-fits
+returns-clause-fits g c = λ honest.
+    let line = c.args.line.now in
+    fit_read (contents (g.D.Disk.state c.args.disk.now) line.file) line c.in_ok-length.field-0
+    (c.in_ok-length.ensures.length honest) c.if-branch-line.false
+    (λ entries has.
+    let serves = c.in_ok-table.ensures.opened entries (c.length.ensures.kept.disk.honest.1 honest)
+    (represents_same entries _ _
+    (ap seen (c.length.ensures.kept.disk.files honest line.file)) has) in
+    (c.ends_with.ensures _ entries serves).0 c.if-not-ends_with.false)
