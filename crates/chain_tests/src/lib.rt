@@ -16,6 +16,8 @@ mod nodes;
 #[cfg(test)]
 mod one_node;
 #[cfg(test)]
+mod openings;
+#[cfg(test)]
 mod sweep;
 #[cfg(test)]
 mod tends;
