@@ -18,6 +18,8 @@ mod one_node;
 #[cfg(test)]
 mod openings;
 #[cfg(test)]
+mod rewrites;
+#[cfg(test)]
 mod sweep;
 #[cfg(test)]
 mod tends;
