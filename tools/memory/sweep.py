@@ -41,7 +41,7 @@ def run(program, library, folder, script, settings):
         [program, "lab", "-"], input=script, env=env, capture_output=True, text=True, timeout=60
     )
     with open(count, encoding="ascii") as file:
-        requests = int(file.read())
+        requests = int(file.readline())
     return done.returncode, done.stdout.splitlines(), done.stderr, requests
 
 

@@ -16,6 +16,10 @@ mod nodes;
 #[cfg(test)]
 mod one_node;
 #[cfg(test)]
+mod openings;
+#[cfg(test)]
+mod rewrites;
+#[cfg(test)]
 mod sweep;
 #[cfg(test)]
 mod tends;

@@ -116,13 +116,13 @@ static RUNS: [(&[u16], &[Step]); 7] = [
 
 // How a fault strikes: the call fails, or the machine stops in it and leaves this junk.
 #[derive(Clone, Copy)]
-enum Way {
+pub enum Way {
     Fail,
     Old,
     Bytes(&'static [u8]),
 }
 
-static ALL_WAYS: [Way; 6] = [
+pub static ALL_WAYS: [Way; 6] = [
     Way::Fail,
     Way::Old,
     // Without bytes it is as written.
@@ -132,7 +132,7 @@ static ALL_WAYS: [Way; 6] = [
     Way::Bytes(b"\x01\x00"),
 ];
 
-fn fault_at(rt: &impl Abort, alloc: Global, way: Way, call: u64) -> Fault {
+pub fn fault_at(rt: &impl Abort, alloc: Global, way: Way, call: u64) -> Fault {
     match way {
         Way::Fail => Fault::Fail(call),
         Way::Old => Fault::Stop(call, Junk::Old),
