@@ -34,12 +34,15 @@ def kind_of(text):
 
 
 def read_script(text):
-    """The words of a script's nodes, from head to tail, and its statements."""
+    """The words of a script's nodes, from head to tail, and its statements. A second configuration
+    is a ValueError."""
     nodes, statements = [], []
     for at, line in enumerate(text.split("\n"), 1):
         words = line.split(" ")
         first = next((i for i, word in enumerate(words) if word[:1] == "!"), len(words))
         if words[0] == "config":
+            if nodes:
+                raise ValueError(f"the script's line {at}, '{line}', is a second configuration")
             nodes = words[1:]
         elif line and words[0] != "limit" and line[0] != "#":
             statements.append(Statement(at, line, words[:first], words[first:]))

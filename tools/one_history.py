@@ -283,7 +283,7 @@ def main():
             texts.append(it.read())
     try:
         history = History(*texts, collections.Counter())
-    except Broken as what:
+    except (Broken, ValueError) as what:
         sys.exit(f"broken: {what}")
     print("one history, of the submits in lines", *history.batch_lines)
 

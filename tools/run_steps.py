@@ -64,7 +64,7 @@ class Run:
         if it.words[0] != "flow" and not number.isdecimal():
             raise ValueError(f"the script's line {it.line}, '{it.text}', has no number")
         if it.words[0] not in ("flow", "deliver") and int(number) not in self.nodes:
-            raise ValueError(f"the script's line {it.line} names node {number}, which it lacks")
+            raise ValueError(f"the script's line {it.line}, '{it.text}', names no known node")
 
     def add_statement(self, it):
         """The steps of a statement: one, or in a flow one for each delivery."""
