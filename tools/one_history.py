@@ -15,8 +15,9 @@ import collections
 import re
 import sys
 
-ANSWERED = ("get", "submit", "tend", "stop", "start")
-SENT = re.compile(r"#(\d+) (\d+)>(\d+) (forward|ack) (.+)")
+sys.dont_write_bytecode = True
+from lab_texts import ANSWERED, CAUSES, SENT, kind_of, read_script
+
 STARTED = re.compile(r"started epoch (\d+) count (\d+) committed (\d+)")
 READ = re.compile(r"(?:value (\S+)|none) at (\d+)")
 
@@ -56,8 +57,10 @@ class History:
 
     def __init__(self, script, output, seen):
         """Checks a whole output, and counts its outcomes in what was seen."""
-        self.seen, self.words, self.faults, self.chain = seen, {}, {}, []
-        self.read_script(script)
+        self.chain, statements = read_script(script)
+        self.words = {it.line: it.words for it in statements}
+        self.faults = {it.line: "".join(it.fault[:1]) for it in statements}
+        self.seen = seen
         self.head, self.tail = self.chain[0], self.chain[-1]
         # The batches with the lines of their submits; the submit in which the head stopped last.
         self.batches, self.batch_lines, self.unsure = [], [], None
@@ -80,27 +83,14 @@ class History:
                 raise Broken(f"{line}: {what}") from None
         self.finish()
 
-    def read_script(self, script):
-        """The words of each statement by its line, the chain, and which statements bear a fault."""
-        for at, line in enumerate(script.split("\n"), 1):
-            words = line.split(" ")
-            first = next((i for i, word in enumerate(words) if word[:1] == "!"), len(words))
-            if words[0] == "config":
-                self.chain = words[1:]
-            elif words[0] == "limit":
-                continue
-            elif line and line[0] != "#":
-                self.words[at] = words[:first]
-                self.faults[at] = "".join(words[first : first + 1])
-
     def add(self, line, text):
         """One line of the output. Only an acknowledgement has the number of an earlier line."""
         expect(line in self.words, "a line of no statement")
         expect(text.startswith("committed") or line >= self.now, "lines out of order")
         self.now, words = max(line, self.now), self.words[line]
-        kind = "sent" if text[0] == "#" else text.split(" ")[0]
-        expect(kind in WORDS, "a line of no form")
-        expect(words[0] in WORDS[kind], f"'{kind}' for a statement that can't have it")
+        kind = kind_of(text)
+        expect(kind in CAUSES, "a line of no form")
+        expect(words[0] in CAUSES[kind], f"'{kind}' for a statement that can't have it")
         if words[0] in ANSWERED and kind != "sent":
             expect(line not in self.answered, "a second answer")
             expect(kind == "committed" or line not in self.forwarded, "a second answer")
@@ -283,23 +273,6 @@ class History:
             expect(words[0] not in ANSWERED or is_answered, f"no answer to line {line}")
 
 
-WORDS = {
-    "sent": ("submit", "deliver", "tick", "flow"),
-    "committed": ("submit",),
-    "value": ("get",),
-    "none": ("get",),
-    "refused": ("submit", "get"),
-    "invalid": ("submit", "get"),
-    "nothing": ("deliver",),
-    "busy": ("flow",),
-    "tended": ("tend",),
-    "idle": ("tend",),
-    "full": ("tend",),
-    "dropped": ("deliver", "tick", "tend", "start", "stop", "flow"),
-    "node": ("submit", "get", "deliver", "tick", "tend", "start", "stop"),
-}
-
-
 def main():
     """Checks the output of one script."""
     if len(sys.argv) != 3:
@@ -310,7 +283,7 @@ def main():
             texts.append(it.read())
     try:
         history = History(*texts, collections.Counter())
-    except Broken as what:
+    except (Broken, ValueError) as what:
         sys.exit(f"broken: {what}")
     print("one history, of the submits in lines", *history.batch_lines)
 

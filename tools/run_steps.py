@@ -7,48 +7,64 @@ number: which delivery one belongs to follows from what each delivery can have c
 import collections
 import re
 
-MOST_IN_FLOW, LONGEST_VALUE = 10_000, 12
-SENT = re.compile(r"#(\d+) (\d+)>(\d+) (forward|ack) (.+)")
+from lab_texts import ANSWERED, CAUSES, SENT, kind_of, read_script
 
-# A line of the script: its number and text, its words, and the text of its fault.
-Statement = collections.namedtuple("Statement", "line text words fault")
+MOST_IN_FLOW, LONGEST_VALUE = 10_000, 12
 # A frame that was sent, by its place.
 Frame = collections.namedtuple("Frame", "place sender addressee kind numbers")
 # A step of a node, with the frame that it delivers, if any. Of no node where nothing came.
 Step = collections.namedtuple("Step", "line text node frame notes")
 # A line of the output at its node: the mark and words, and the place of the frame, if it is one.
 Note = collections.namedtuple("Note", "node shape text frame")
+# The marks of the lines of these forms.
+SHAPES = {
+    r"committed \d+": "diamond",
+    r"dropped \w+": "cross",
+    r"(refused|invalid) \d+ \w+": "square",
+    r"(value \S*|none) at \d+": "circle",
+    r"tended|idle|full": "tend",
+}
+STEPS = ("deliver", "flow", "tick", *ANSWERED)
 
 
-def read_script(text):
-    """The nodes of a script, from head to tail, and its statements."""
-    nodes, statements = [], []
-    for at, line in enumerate(text.split("\n"), 1):
-        words = line.split(" ")
-        if words[0] == "config":
-            nodes = [int(word) for word in words[1:]]
-        elif words[0] == "limit":
-            continue
-        elif line and not line.startswith("#"):
-            first = next((i for i, word in enumerate(words) if word[:1] == "!"), len(words))
-            statements.append(Statement(at, line, words[:first], " ".join(words[first:])))
-    return nodes, statements
+def shorten(words, length):
+    """Words that are too long lose their end."""
+    return words if len(words) <= length else words[: length - 2] + ".."
 
 
 class Run:
     """A run as steps: what each statement, or each delivery of a flow, printed."""
 
     def __init__(self, script, output):
-        """Reads both texts. A line of the output that fits no statement is a ValueError."""
-        self.nodes, statements = read_script(script)
-        lines = (line.partition(": ") for line in output.split("\n") if line)
-        self.lines = collections.deque((int(number), text) for number, _, text in lines)
+        """Reads both texts. A ValueError says where the output does not fit the script."""
+        nodes, statements = read_script(script)
+        self.nodes = [int(node) for node in nodes]
+        self.lines = collections.deque(map(self.line_of, filter(None, output.split("\n"))))
         self.frames, self.steps = {}, []
         self.delivered, self.up = set(), set(self.nodes)
         for it in statements:
+            self.check(it)
             self.add_statement(it)
         if self.lines:
-            raise ValueError(f"the line '{'%d: %s' % self.lines[0]}' does not fit the script")
+            line, text = self.lines[0]
+            raise ValueError(f"the output's line '{line}: {text}' does not fit the script")
+
+    def line_of(self, text):
+        """A line of the output as its number and the rest."""
+        number, colon, rest = text.partition(": ")
+        if not colon or not number.isdecimal():
+            raise ValueError(f"the output's line '{text}' has no number")
+        return int(number), rest
+
+    def check(self, it):
+        """A statement is one that is drawn, and names a node of the configuration."""
+        if it.words[0] not in STEPS:
+            raise ValueError(f"the script's line {it.line}, '{it.text}', is no statement")
+        number = "".join(it.words[1:2])
+        if it.words[0] != "flow" and not number.isdecimal():
+            raise ValueError(f"the script's line {it.line}, '{it.text}', has no number")
+        if it.words[0] not in ("flow", "deliver") and int(number) not in self.nodes:
+            raise ValueError(f"the script's line {it.line}, '{it.text}', names no known node")
 
     def add_statement(self, it):
         """The steps of a statement: one, or in a flow one for each delivery."""
@@ -58,7 +74,11 @@ class Run:
             self.add_delivery(it, int(it.words[1]), it.text)
         else:
             node, notes = int(it.words[1]), []
-            while text := self.take(it.line, ""):
+            texts = list(iter(lambda: self.take(it.line, ""), None))
+            if len(texts) != 1 and it.words[0] in ANSWERED:
+                number = len(texts) or "no"
+                raise ValueError(f"the output has {number} answers to '{it.line}: {it.text}'")
+            for text in texts:
                 notes += self.notes_of(text, node, it)
             self.steps.append(Step(it.line, it.text, node, None, notes))
 
@@ -79,8 +99,9 @@ class Run:
         """The step of one delivery. Of a flow the first alone has the number of the line."""
         frame, line = self.frames.get(place), "" if text.startswith(" ") else it.line
         if frame is None:
-            nothing = ": nothing" if self.take(it.line, "nothing") else ""
-            self.steps.append(Step(line, text + nothing, None, None, []))
+            if not self.take(it.line, "nothing"):
+                raise ValueError(f"the output has no frame #{place} before line {it.line}")
+            self.steps.append(Step(line, f"{text}: nothing", None, None, []))
             return
         self.delivered.add(place)
         notes = self.take_delivery(it, frame)
@@ -112,7 +133,7 @@ class Run:
     def take_replies(self, committed):
         """The acknowledgements that are due when so many batches are known as committed."""
         notes = []
-        while self.lines and self.lines[0][1].startswith("committed "):
+        while self.lines and re.fullmatch(r"committed \d+", self.lines[0][1]):
             if int(self.lines[0][1].split()[1]) > committed:
                 break
             line, text = self.lines.popleft()
@@ -121,26 +142,34 @@ class Run:
 
     def notes_of(self, text, node, it):
         """A line of the output as notes: where it is drawn, with what mark and words."""
-        if sent := SENT.match(text):
-            frame = Frame(*map(int, sent.groups()[:3]), *sent.groups()[3:])
-            self.frames[frame.place] = frame
-            label = f"#{frame.place} {frame.kind} {frame.numbers}"
-            return [Note(frame.sender, "dot", label, frame.place)]
-        if text.startswith("node "):
-            return self.turn_of(text.split(" ", 2)[2], node, it)
-        shapes = {"committed": "diamond", "dropped": "cross", "refused": "square"}
-        shapes |= {"invalid": "square", "value": "circle", "none": "circle"}
-        words = text.split(" ")
-        if len(words[1]) > LONGEST_VALUE:
-            words[1] = words[1][:LONGEST_VALUE] + ".."
-        return [Note(node, shapes[words[0]], " ".join(words), None)]
+        if it.words[0] not in CAUSES.get(kind_of(text), ()):
+            raise ValueError(f"the output's line '{it.line}: {text}' does not fit '{it.text}'")
+        if sent := SENT.fullmatch(text):
+            return [self.frame_of(it, sent)]
+        if turn := re.fullmatch(rf"node {node} ((started|stopped).*)", text):
+            return self.turn_of(turn[1], node, it)
+        for form, shape in SHAPES.items():
+            if re.fullmatch(form, text):
+                words = " ".join(shorten(word, LONGEST_VALUE) for word in text.split(" "))
+                return [Note(node, shape, words, None)]
+        raise ValueError(f"the output's line '{it.line}: {text}' has no form")
+
+    def frame_of(self, it, sent):
+        """The note of a frame that was sent, which has the next place."""
+        frame = Frame(*map(int, sent.groups()[:3]), *sent.groups()[3:])
+        if frame.place in self.frames or not {frame.sender, frame.addressee} <= {*self.nodes}:
+            raise ValueError(f"the output's line '{it.line}: {sent[0]}' does not fit the script")
+        self.frames[frame.place] = frame
+        words = f"#{frame.place} {frame.kind} {frame.numbers}"
+        return Note(frame.sender, "dot", words, frame.place)
 
     def turn_of(self, text, node, it):
-        """The notes of a node that stopped or started."""
+        """The notes of a node that stopped, with the statement or fault that did it, or started."""
         if text.startswith("started"):
             self.up.add(node)
             rest = Note(node, "none", text.removeprefix("started "), None)
             return [Note(node, "start", "started", None), rest]
         self.up.discard(node)
-        cause = f" by {it.fault}" if it.fault and text == "stopped" else ""
+        by = ["stop", *it.words[2:]] if it.words[0] == "stop" else it.fault
+        cause = f" by {' '.join(by)}" if by and text in ("stopped", "stopped: disk") else ""
         return [Note(node, "stop", text + cause, None)]

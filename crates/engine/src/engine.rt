@@ -17,7 +17,7 @@ use table_files::Files;
 /// A store of batches on a disk, which it owns. The batches are numbered from 1.
 ///
 /// Files represent a list of batches and facts beside it (`FilesRepresent`); an engine holds that
-/// list (`EngineHolds`), of which the code keeps the entries alone.
+/// list (`EngineHolds`). In memory are the entries of the batches that no table has.
 #[derive(Drop)]
 pub struct Engine<D: Disk + Drop> {
     files: Files<D>,
@@ -96,9 +96,9 @@ impl<D: Disk + Drop> Engine<D> {
         }
     }
 
-    /// Opens the store of a disk: the files that its manifest names are synced, the logs are read
-    /// from the first batch that no table has, and the other files are removed. A refusal returns
-    /// the disk.
+    /// Opens the store of a disk: the files that its manifest names are synced, its logs are read,
+    /// of which memory gets the entries that no table has, and the other files are removed. A
+    /// refusal returns the disk.
     pub fn open(alloc: Global, disk: D, limits: &Limits) -> Result<Engine<D>, (EngineError, D)>
         ensures kept { KeepsDisk D.Disk disk (disk_after result) (RefusedByDevice result) ⊥ IsOwned }
         ensures opened { (facts : Facts) (list : List BatchContent) → D.is_honest disk →
@@ -226,7 +226,7 @@ impl<D: Disk + Drop> Engine<D> {
         answer
     }
 
-    /// The batch of a number that the log has, read from the disk.
+    /// The batch of a number that the logs have, read from the disk.
     pub fn batch(&mut self, alloc: Global, number: Number) -> Result<Batch, EngineError>
         requires { ((look_ups self.old).facts.kept < number)
             × (number ≤ (look_ups self.old).count) }

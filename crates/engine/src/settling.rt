@@ -1,4 +1,4 @@
-// What an opening makes of the files of a store.
+// What an opening does to the files of a store: it syncs tables, and removes what nothing names.
 ghost use Rattle.std.specs.Prelude.{◌≡◌, IfErr, OnOk, MatchResult};
 ghost use Rattle.disk.specs.{AlwaysLeaves, IsStill, KeepsDisk};
 ghost use Rattle.engine.specs.Errors.{FailsDevice, IsEnd, IsOfMachine};

@@ -1,4 +1,4 @@
-// What the slots represent is opened.
+// Opening the slots: which one counts, and the version that its records give.
 ghost use Rattle.std.specs.Prelude.{◌≡◌, MatchResult};
 ghost use Rattle.disk.specs.{Contents, IsSameBut, IsStill, KeepsDisk, contents};
 ghost use Rattle.disk.specs.{synced};

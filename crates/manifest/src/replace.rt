@@ -8,7 +8,7 @@ ghost use Rattle.manifest.specs.Replace.{HasGate, IsReplaced, IsClosedFile, IsDi
 use disk::{Disk, DiskError};
 
 /// Closes the gate of a file, if it is open. Before the sync a gate that was closed is left as it
-/// is: while loose it might become 1.
+/// is: while unsynced it might become 1.
 fn shut<D: Disk>(disk: &mut D, file: u64, is_open: bool) -> Result<(), DiskError>
     ensures kept { KeepsDisk D.Disk disk.old disk.new (IsErrOf result DiskError.Failed)
         ⊥ (IsSameBut file) }

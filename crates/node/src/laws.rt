@@ -14,8 +14,8 @@ pub fn disks_represent<D: Disk + Drop>()
         DiskAlwaysRefines (D.state (disk_of node)) x n }
 {}
 
-/// Where the log of a running node is nearly full, its disk has a file nearly as long as a file can
-/// be.
+/// Where the newest log or the manifest of a running node is nearly full, its disk has a file nearly
+/// as long as a file can be.
 pub fn full_logs_are_long<D: Disk + Drop>()
     ensures { (node : Node D D.Disk) (x : ℕ) (n : Machine) → NodeRefines D.is_honest D.state node x n →
         IsNearlyFull (engine_of node) → HasLongFile (D.state (disk_of node)) }

@@ -72,8 +72,9 @@ impl Table {
         !may_hold_hashed(&self.filter, hashes)
     }
 
-    /// The newest version of the key with at most this number, if the table has one. It reads no
-    /// block where the filter denies the key, and otherwise one, unless that is in the cache.
+    /// The newest version of the key with at most this number, if the table has one. It reads one
+    /// block at most: none where the filter denies the key, where every block ends before the key
+    /// and number, or where the block is in the cache.
     pub fn get<D: Disk + Drop>(
         &self,
         alloc: Global,

@@ -1,4 +1,4 @@
--- What the bytes of a part stand for, and that they stand for one thing.
+-- What the bytes of a part represent, and that they represent one thing.
 use Rattle.std.proofs.Common.{◌≡◌, ℕ, ◌<◌, ◌^◌, List, ◌++◌, length, Option, Some, None, refl}
 use Rattle.std.proofs.lemmas.List.{take_at}
 use Rattle.std.proofs.Common.{take, sym, ap, subst, ◌∙◌, arith}

@@ -1,4 +1,4 @@
--- The bytes of a table tell its entries.
+-- The bytes of a table determine its entries.
 use Rattle.std.proofs.Common.{◌≡◌, ℕ, ◌+◌, ◌<◌, ◌^◌, List, ◌++◌, length, refl, sym, ap, subst}
 use Rattle.std.proofs.Common.{◌∙◌, arith, append_assoc, length-append}
 use Rattle.std.specs.List.{AllByRecursion}
@@ -12,7 +12,7 @@ use Rattle.table_format.specs.Tables.{Block, TableIsUnique, block_lines, data_by
 use Rattle.table_format.specs.Tables.{footer_content, index_part, table_footer, table_spelling}
 use Rattle.table_format.specs.declared.footer.Footer.{Footer}
 
--- a footer tells where the filter is
+-- a footer says where the filter is
 pub same_footer : (a b : Footer) → a.filter < 2 ^ 64 → b.filter < 2 ^ 64
     → footer_content a ≡ footer_content b → a.filter ≡ b.filter
 same_footer a b small_a small_b is =

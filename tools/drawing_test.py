@@ -1,0 +1,126 @@
+"""The test of `draw_run`: two known runs are drawn, and the drawings are read back."""
+
+import collections
+import pathlib
+import re
+import xml.etree.ElementTree as tree
+
+DOCS = pathlib.Path(__file__).resolve().parent.parent / "docs"
+WIDTH, ABOVE, BELOW = 6.63, 9, 2
+# What the drawing of each run has: arrows by their ends, marks by their shapes, and words.
+RUNS = {
+    "frame_twice": {"head": 5, "lost": 1, "dot": 5, "cross": 1, "diamond": 1},
+    "node_stops": {"head": 3, "dot": 3, "cross": 1, "diamond": 1, "stop": 1, "start": 1}
+    | {"circle": 1, "square": 1, "tend": 2},
+}
+WORDS = {
+    "frame_twice": ["#2 forward 0 1", "#3 ack 0 0 1", "dropped OtherNumber"]
+    + ["committed 1 (line 2)"],
+    "node_stops": ["stopped by !stop 3 new", "epoch 0 count 1 committed 1", "refused 1 NotRunning"]
+    + ["#3 ack 0 1 1", "value 1 at 1", "tended", "idle"],
+}
+# Outputs that do not fit their script: a form in the output, and what stands in its place.
+MISFITS = {
+    "an answer left out": (r"9: value 1 at 1\n", ""),
+    "an answer to another statement": ("9: value", "2: value"),
+    "an answer of another statement": ("9: value 1 at 1", "9: tended"),
+    "two answers": ("9: value 1 at 1", "9: value 1 at 1\n9: none at 0"),
+    "a stop of another node": ("node 2 stopped", "node 1 stopped"),
+    "a frame of an unknown node": ("2>1 ack", "2>7 ack"),
+    "a place twice": ("#3", "#2"),
+    "no frame to deliver": (r"3: #1.*\n", ""),
+    "a line of no form": ("refused 1 NotRunning", "refused"),
+    "a line without a number": ("11: idle", "idle"),
+    "a line too many": ("11: idle", "11: idle\n12: idle"),
+}
+
+
+def parts_of(page):
+    """The arrows and marks of a page by kind, those of its legend apart, its texts, its size."""
+    root, kinds, boxes = tree.fromstring(page), collections.Counter(), []
+    for group in [root, *root.iterfind("{*}g")]:
+        for it in group:
+            tag, style = it.tag.rpartition("}")[2], it.get("class", "").split(" ")
+            if tag == "text":
+                boxes.append(box_of(it, style))
+            elif group is root and it.get("marker-end"):
+                kinds[it.get("marker-end")[5:].partition("-")[0]] += 1
+            elif group is root and tag == "path":
+                kinds[style[1]] += 1
+    return kinds, boxes, float(root.get("width")), float(root.get("height"))
+
+
+def box_of(it, style):
+    """A text and its box: left, right, top and bottom."""
+    width, x, y = len(it.text) * WIDTH, float(it.get("x")), float(it.get("y"))
+    left = x - width * (1 if "end" in style else 0.5 if "mid" in style else 0)
+    return it.text, left, left + width, y - ABOVE, y + BELOW
+
+
+def misplaced(page):
+    """The texts of a page that lie on one another, or not on the paper."""
+    _, boxes, width, height = parts_of(page)
+    for at, (text, left, right, top, bottom) in enumerate(boxes):
+        if left < 0 or top < 0 or right > width or bottom > height:
+            yield f"'{text}' leaves the page"
+        for other, start, end, high, low in boxes[:at]:
+            if left < end and start < right and top < low and high < bottom:
+                yield f"'{text}' lies on '{other}'"
+
+
+def faults_of(pages, name):
+    """What is wrong with the pages of a known run."""
+    kinds, texts = collections.Counter(), []
+    for page in pages:
+        kinds += parts_of(page)[0]
+        texts += [box[0] for box in parts_of(page)[1]]
+        yield from misplaced(page)
+    for kind in {*kinds, *RUNS[name]}:
+        if kinds[kind] != RUNS[name].get(kind, 0):
+            yield f"{kinds[kind]} of {kind}, and not {RUNS[name].get(kind, 0)}"
+    yield from (f"no text '{words}'" for words in WORDS[name] if texts.count(words) != 1)
+
+
+def page_faults(name, script, output, pages_of):
+    """What is wrong with a run's drawing, with its copy in the docs, and with its quotation."""
+    pages = pages_of(script, output, 80)
+    yield from faults_of(pages, name)
+    if [(DOCS / f"pictures/{name}.svg").read_text(encoding="utf-8")] != pages:
+        yield "docs/pictures has another picture"
+    quoted = f"```text\n{script}```\n\nprints\n\n```text\n{output}```\n"
+    if quoted not in (DOCS / "SCRIPT.md").read_text(encoding="utf-8"):
+        yield "docs/SCRIPT.md does not quote the run as it stands"
+
+
+def cut_faults(name, script, output, pages_of):
+    """What is wrong with a run that is cut into pages: an arrow then has one end all the same."""
+    pages = pages_of(script, output, 4)
+    if len(pages) < 2:
+        yield "one page of four rows"
+    yield from faults_of(pages, name)
+
+
+def misfit_faults(script, output, pages_of):
+    """The outputs that do not fit, and are drawn."""
+    for what, (form, new) in MISFITS.items():
+        changed = re.sub(form, new, output, count=1)
+        try:
+            pages_of(script, changed, 80)
+        except ValueError as fault:
+            print(f"{what}: {fault}")
+            if changed != output:
+                continue
+        yield f"{what} is drawn"
+
+
+def self_test(pages_of):
+    """Draws the known runs, and prints what is wrong. The status to end with."""
+    faults = []
+    for name in RUNS:
+        texts = [DOCS / f"pictures/{name}.{kind}" for kind in ("script", "output")]
+        script, output = (it.read_text(encoding="utf-8") for it in texts)
+        for find in (page_faults, cut_faults):
+            faults += [f"{name}: {fault}" for fault in find(name, script, output, pages_of)]
+    faults += misfit_faults(script, output, pages_of)
+    print(*faults, f"{len(RUNS)} runs, {len(faults)} faults", sep="\n")
+    return 1 if faults else 0

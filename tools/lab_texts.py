@@ -1,0 +1,57 @@
+"""The texts of a run, for the tools that read them: a script's statements, and what is printed."""
+
+import collections
+import re
+import subprocess
+
+# A statement: the number and text of its line, its words, and those of its fault.
+Statement = collections.namedtuple("Statement", "line text words fault")
+# A frame that was sent: its place, sender and addressee, its kind, and its numbers.
+SENT = re.compile(r"#(\d+) (\d+)>(\d+) (forward|ack) (\d+ \d+(?: \d+)?)")
+# The statements that always have an answer: a submit may have a frame in place of it.
+ANSWERED = ("get", "submit", "tend", "stop", "start")
+# The statements that a line of each kind can be printed for.
+CAUSES = {
+    "sent": ("submit", "deliver", "tick", "flow"),
+    "committed": ("submit",),
+    "value": ("get",),
+    "none": ("get",),
+    "refused": ("submit", "get"),
+    "invalid": ("submit", "get"),
+    "nothing": ("deliver",),
+    "busy": ("flow",),
+    "tended": ("tend",),
+    "idle": ("tend",),
+    "full": ("tend",),
+    "dropped": ("deliver", "tick", "tend", "start", "stop", "flow"),
+    "node": ("submit", "get", "deliver", "tick", "tend", "start", "stop"),
+}
+
+
+def kind_of(text):
+    """The kind of a line of the output, by how it begins."""
+    return "sent" if text.startswith("#") else text.split(" ")[0]
+
+
+def read_script(text):
+    """The words of a script's nodes, from head to tail, and its statements. A second configuration
+    is a ValueError."""
+    nodes, statements = [], []
+    for at, line in enumerate(text.split("\n"), 1):
+        words = line.split(" ")
+        first = next((i for i, word in enumerate(words) if word[:1] == "!"), len(words))
+        if words[0] == "config":
+            if nodes:
+                raise ValueError(f"the script's line {at}, '{line}', is a second configuration")
+            nodes = words[1:]
+        elif line and words[0] != "limit" and line[0] != "#":
+            statements.append(Statement(at, line, words[:first], words[first:]))
+    return nodes, statements
+
+
+def output_of(program, script):
+    """What `PROGRAM lab -` prints of a script. Another end than a good one is a ValueError."""
+    done = subprocess.run([program, "lab", "-"], input=script.encode(), capture_output=True)
+    if done.returncode or done.stderr:
+        raise ValueError(f"status {done.returncode} {done.stderr.decode().strip()}")
+    return done.stdout.decode()
