@@ -9,7 +9,7 @@ Statement = collections.namedtuple("Statement", "line text words fault")
 # A frame that was sent: its place, sender and addressee, its kind, and its numbers.
 SENT = re.compile(r"#(\d+) (\d+)>(\d+) (forward|ack) (\d+ \d+(?: \d+)?)")
 # The statements that always have an answer: a submit may have a frame in place of it.
-ANSWERED = ("get", "submit", "tend", "stop", "start")
+ANSWERED = ("get", "submit", "tend", "settle", "show", "stop", "start")
 # The statements that a line of each kind can be printed for.
 CAUSES = {
     "sent": ("submit", "deliver", "tick", "flow"),
@@ -19,12 +19,12 @@ CAUSES = {
     "refused": ("submit", "get"),
     "invalid": ("submit", "get"),
     "nothing": ("deliver",),
-    "busy": ("flow",),
+    "busy": ("flow", "settle"),
     "tended": ("tend",),
-    "idle": ("tend",),
-    "full": ("tend",),
-    "dropped": ("deliver", "tick", "tend", "start", "stop", "flow"),
-    "node": ("submit", "get", "deliver", "tick", "tend", "start", "stop"),
+    "idle": ("tend", "settle"),
+    "full": ("tend", "settle"),
+    "dropped": ("deliver", "tick", "tend", "settle", "start", "stop", "flow"),
+    "node": ("submit", "get", "deliver", "tick", "tend", "show", "start", "stop"),
 }
 
 

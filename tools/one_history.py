@@ -19,6 +19,7 @@ sys.dont_write_bytecode = True
 from lab_texts import ANSWERED, CAUSES, SENT, kind_of, read_script
 
 STARTED = re.compile(r"started epoch (\d+) count (\d+) committed (\d+)")
+SHOWN = re.compile(r"epoch 0 count (\d+) committed (\d+) floor 0 kept 0 tables (\d+)( 0){6}")
 READ = re.compile(r"(?:value (\S+)|none) at (\d+)")
 
 
@@ -69,6 +70,8 @@ class History:
         # Of each node how many batches were reported to it as committed, and its last own number.
         self.reported, self.shown = dict.fromkeys(self.chain, 0), dict.fromkeys(self.chain, 0)
         self.up, self.stopped = set(self.chain), set()
+        # Of each node how many tables were shown last.
+        self.tables = dict.fromkeys(self.chain, 0)
         self.answered, self.forwarded, self.waiting = set(), set(), {}
         # The greatest number acknowledged or read, the last acknowledged, the last place and line.
         self.known, self.acked, self.places, self.now = 0, 0, 0, 0
@@ -204,7 +207,7 @@ class History:
 
     def dropped(self, line, words, text):
         """A drop has its cause, as far as the statement says which node it was for."""
-        if words[0] in ("tick", "tend", "stop", "start"):
+        if words[0] in ("tick", "tend", "settle", "stop", "start"):
             is_up = words[1] in self.up
             why = "Running" if is_up else "NotRunning"
             expect(is_up == (words[0] == "start"), "dropped without cause")
@@ -231,6 +234,9 @@ class History:
         node, what = text.split(" ", 2)[1:]
         expect(node in self.most, "no such node")
         expect(words[0] == "deliver" or words[1] == node, "another node")
+        if words[0] == "show":
+            self.show(node, what)
+            return
         self.shown[node] = 0
         if started := STARTED.fullmatch(what):
             expect(words[0] == "start" and node not in self.up, "started without cause")
@@ -245,6 +251,23 @@ class History:
         if node == self.head:
             self.waiting = {}
             self.unsure = line if words[0] == "submit" else self.unsure
+
+    def show(self, node, what):
+        """A node that runs has numbers: all that is known of it, and no more than there is."""
+        expect((what == "stopped") == (node not in self.up), "not whether the node runs")
+        if what == "stopped":
+            return
+        form = SHOWN.fullmatch(what)
+        expect(form, "numbers that no node has yet")
+        count, committed, tables = map(int, form.groups()[:3])
+        expect(committed <= count <= self.most[node], "more than the node can have")
+        expect(committed <= self.committed_at(node), "committed without the tail")
+        expect(node != self.tail or committed == count, "a tail commits all that it has")
+        expect(count >= self.least[node], "a node lost batches")
+        expect(self.shown[node] <= committed, "a node shows less than it told")
+        expect(self.tables[node] <= tables <= count, "tables lost, or more than batches")
+        self.shown[node], self.tables[node] = committed, tables
+        self.least[node] = count
 
     def start(self, node, epoch, count, committed):
         """A node starts with what it has: all that was known of it, and no more than there is."""

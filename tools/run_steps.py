@@ -22,8 +22,9 @@ SHAPES = {
     r"dropped \w+": "cross",
     r"(refused|invalid) \d+ \w+": "square",
     r"(value \S*|none) at \d+": "circle",
-    r"tended|idle|full": "tend",
+    r"tended|idle|full|busy": "tend",
 }
+SHOWN = re.compile(r"epoch \d+ (count \d+ committed \d+) floor \d+ kept \d+ tables.*|stopped")
 STEPS = ("deliver", "flow", "tick", *ANSWERED)
 
 
@@ -146,6 +147,8 @@ class Run:
             raise ValueError(f"the output's line '{it.line}: {text}' does not fit '{it.text}'")
         if sent := SENT.fullmatch(text):
             return [self.frame_of(it, sent)]
+        if it.words[0] == "show" and (shown := SHOWN.fullmatch(text.removeprefix(f"node {node} "))):
+            return [Note(node, "circle", shown[1] or "is down", None)]
         if turn := re.fullmatch(rf"node {node} ((started|stopped).*)", text):
             return self.turn_of(turn[1], node, it)
         for form, shape in SHAPES.items():

@@ -124,42 +124,43 @@ pub record Next (cs : Configurations) (w : SystemState BatchContent) (old : ℕ 
   pub unarmed : (x : ℕ) → IsUnarmed (disks x)
   pub each : All (SimNodeRefines (state_after cs w (modelled i event.kind choice)).nodes disks) sims
 
-module _ (cs : Configurations) (events : List Event) (steps : List (List Line))
-    (sims : List SimNode) (posted : List Posted) (made : RunRefines sims posted cs events steps)
+module _ (cs : Configurations) (events : List Event) (choices : List Choice)
+    (steps : List (List Line)) (sims : List SimNode) (posted : List Posted)
+    (made : RunRefines sims posted cs events choices steps)
   where
     -- the world of the model so far
     abbrev pub so_far : SystemState BatchContent
-    so_far = reached cs (modelled_from 1 events made.choices)
+    so_far = reached cs (modelled_from 1 events choices)
 
     -- there are as many steps as events
     pub length-steps : length steps ≡ length events
     length-steps = ap length made.trace.traced
-        ∙ length-lines_from cs 1 events made.choices (first_state cs) made.trace.one_each
+        ∙ length-lines_from cs 1 events choices (first_state cs) made.trace.one_each
 
     -- the next step is one event more
     pub grown : (i : ℕ) (event : Event) (choice : Choice) (now : List SimNode) (more : List Posted)
         (lines : List Line) → i ≡ length events + 1 →
         Next cs so_far made.disks i event choice now more lines →
-        RunRefines now more cs (events ++ event ∷ []) (steps ++ lines ∷ [])
+        RunRefines now more cs (events ++ event ∷ []) (choices ++ choice ∷ [])
+        (steps ++ lines ∷ [])
     grown i event choice now more lines at next =
         let place : i ≡ 1 + length events = omega (arith, at) in
-        let here = run-push cs event choice 1 i events made.choices (first_state cs)
+        let here = run-push cs event choice 1 i events choices (first_state cs)
         made.trace.one_each place in
         record {
           lawful = made.lawful;
-          choices = made.choices ++ choice ∷ [];
           trace = record {
             one_each = omega (
               arith,
-              length-append made.choices (choice ∷ []),
+              length-append choices (choice ∷ []),
               length-append events (event ∷ []),
               made.trace.one_each,
             );
-            fits = fit-push cs event choice 1 i events made.choices (first_state cs)
+            fits = fit-push cs event choice 1 i events choices (first_state cs)
                 made.trace.one_each place made.trace.fits next.fits;
             traced = ap₂ (λ (a : List (List Line)) (b : List Line). a ++ b ∷ []) made.trace.traced
                 next.traced
-                ∙ sym (lines_from-push cs event choice 1 i events made.choices (first_state cs)
+                ∙ sym (lines_from-push cs event choice 1 i events choices (first_state cs)
                 made.trace.one_each place);
           };
           frames = subst (λ (v : SystemState BatchContent). AllZip PostedRefines more v.frames)
@@ -181,7 +182,7 @@ module _ (cs : Configurations) (events : List Event) (steps : List (List Line))
           after = record {
             first = made.after.first;
             begun = made.after.begun;
-            follow = follow-push cs event choice 1 i events made.choices (first_state cs)
+            follow = follow-push cs event choice 1 i events choices (first_state cs)
                 made.after.first made.disks next.disks made.trace.one_each place made.after.follow
                 next.follow;
           };

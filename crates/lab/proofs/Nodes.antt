@@ -124,13 +124,12 @@ all_have config (s ∷ sims) differ all = (
 
 -- a world whose nodes were just created has made the run of no events
 pub begun : (cs : Configurations) (sims : List SimNode) → Lawful cs →
-    AreCreated (at_epoch cs 0) (at_epoch cs 0) sims → RunRefines sims [] cs [] []
+    AreCreated (at_epoch cs 0) (at_epoch cs 0) sims → RunRefines sims [] cs [] [] []
 begun cs sims lawful are =
     let all = recursion_from_All (IsCreated (at_epoch cs 0)) sims are.each in
     let none = none_failed (at_epoch cs 0) sims all in
     record {
       lawful = lawful;
-      choices = [];
       trace = record { one_each = refl; fits = tt; traced = refl };
       frames = tt;
       sent = refl;

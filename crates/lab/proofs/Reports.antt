@@ -81,18 +81,18 @@ disk_represents law (Up node) x n is = law node x n is
 disk_represents law (Down disk) x n is = is.1
 
 module _ (sims : List SimNode) (posted : List Posted) (cs : Configurations) (events : List Event)
-    (steps : List (List Line)) (made : RunRefines sims posted cs events steps) where
+    (choices : List Choice) (steps : List (List Line))
+    (made : RunRefines sims posted cs events choices steps) where
   -- what is left of a world's nodes is a run
   pub run_left : (report : Report) → report.steps.items ≡ steps →
-      AreLeft sims report.nodes.items → IsRun cs events report
+      AreLeft sims report.nodes.items → IsRun cs events choices report
   run_left report same left =
       let nodes = report.nodes.items in
-      let machines = node_of cs (modelled_from 1 events made.choices) in
+      let machines = node_of cs (modelled_from 1 events choices) in
       let each = left.each machines made.disks made.each in
       let Left : NodeReport → Type 0 = λ n. IsLeft (machines n.id) (made.disks n.id) n in
       record {
-        choices = made.choices;
-        trace = subst (λ (l : List (List Line)). IsTrace cs events made.choices l) (sym same)
+        trace = subst (λ (l : List (List Line)). IsTrace cs events choices l) (sym same)
             made.trace;
         disks = record {
           ids = left.ids ∙ made.nodes;
@@ -113,7 +113,7 @@ module _ (sims : List SimNode) (posted : List Posted) (cs : Configurations) (eve
   -- no disk of its nodes has a fault
   pub unarmed_so_far : All (λ (sim : SimNode). IsUnarmed (disk_in sim.state)) sims
   unarmed_so_far =
-      All-weaker (SimNodeRefines (node_of cs (modelled_from 1 events made.choices)) made.disks)
+      All-weaker (SimNodeRefines (node_of cs (modelled_from 1 events choices)) made.disks)
       (λ sim. IsUnarmed (disk_in sim.state))
       (λ sim refined_at. subst (λ (d : Slots). IsUnarmed d) (sym refined_at.disk)
       (made.unarmed sim.id)) sims made.each
@@ -124,9 +124,9 @@ module _ (sims : List SimNode) (posted : List Posted) (cs : Configurations) (eve
       DiskAlwaysRefines (state (disk_in sim.state)) x n) →
       HaveDisks state failures calls (λ (sim : SimNode). sim.id)
       (λ (sim : SimNode). disk_in sim.state) cs
-      events made.choices sims
+      events choices sims
   disks_so_far law =
-      let machines = node_of cs (modelled_from 1 events made.choices) in
+      let machines = node_of cs (modelled_from 1 events choices) in
       record {
         ids = made.nodes;
         disks = made.disks;

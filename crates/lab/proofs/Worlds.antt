@@ -74,16 +74,17 @@ pub record IsNext (events : List Event) (i : ℕ) : Type 0 where
 
 -- an event's place is one more than there are steps
 pub place_of : (world : LabWorld) (cs : Configurations) (events : List Event)
-    (steps : List (List Line)) → HasRun world cs events steps → (n i : ℕ) →
+    (choices : List Choice) (steps : List (List Line)) → HasRun world cs events choices steps →
+    (n i : ℕ) →
     n ≡ world.steps.len → n + 1 ≤ MAX_NUMBER → i ≡ n + 1 → IsNext events i
-place_of world cs events steps run n i long fits is = record {
+place_of world cs events choices steps run n i long fits is = record {
   at = omega (
     arith,
     is,
     long,
     world.steps.ok.0,
     ap length run.kept,
-    length-steps cs events steps world.nodes.items world.frames.items run.made,
+    length-steps cs events choices steps world.nodes.items world.frames.items run.made,
   );
   fits = subst (λ (k : ℕ). k ≤ MAX_NUMBER) (sym is) fits;
 }
@@ -154,19 +155,19 @@ AlwaysInOrder = (cs : Configurations) (es : List (ModelEvent BatchContent)) → 
     InOrder cs es
 
 module _ (in_order : AlwaysInOrder) (cs : Configurations) (events : List Event)
-    (steps : List (List Line)) (sims : List SimNode) (posted : List Posted)
-    (made : RunRefines sims posted cs events steps) (i : ℕ) (next : IsNext events i)
+    (choices : List Choice) (steps : List (List Line)) (sims : List SimNode) (posted : List Posted)
+    (made : RunRefines sims posted cs events choices steps) (i : ℕ) (next : IsNext events i)
     (event : Event) where
   -- the world of the model so far
   abbrev pub w : SystemState BatchContent
-  w = reached cs (modelled_from 1 events made.choices)
+  w = reached cs (modelled_from 1 events choices)
 
   -- what the event sends is numbered
   sent_numbered : (choice : Choice) →
       AllByRecursion IsNumbered (outcome w cs (modelled i event.kind choice)).frames
   sent_numbered choice =
-      let more = modelled_from 1 (events ++ event ∷ []) (made.choices ++ choice ∷ []) in
-      let here = run-push cs event choice 1 i events made.choices (first_state cs)
+      let more = modelled_from 1 (events ++ event ∷ []) (choices ++ choice ∷ []) in
+      let here = run-push cs event choice 1 i events choices (first_state cs)
       made.trace.one_each (omega (arith, next.at)) in
       back IsNumbered w.frames (outcome w cs (modelled i event.kind choice)).frames
       (subst (λ (v : SystemState BatchContent). AllByRecursion IsNumbered v.frames) here
@@ -186,7 +187,7 @@ module _ (in_order : AlwaysInOrder) (cs : Configurations) (events : List Event)
       has_it (Get node key at) names brings =
           subst (λ (y : ℕ). has (at_epoch cs 0) y ≡ true) (sym brings.0) names
       has_it (Deliver p) names brings =
-          let es = modelled_from 1 events made.choices in
+          let es = modelled_from 1 events choices in
           addressed cs es (in_order cs es made.lawful) p x brings.it brings.frame
           brings.there brings.same
       has_it (Tick node) names brings =
@@ -198,11 +199,16 @@ module _ (in_order : AlwaysInOrder) (cs : Configurations) (events : List Event)
       has_it (Stop node junk) names brings =
           subst (λ (y : ℕ). has (at_epoch cs 0) y ≡ true) (sym brings.0) names
 
+  -- nodes, frames and lines refine one event more, in which something was chosen
+  abbrev pub Grows : List SimNode → List Posted → List Line → Type 0
+  Grows now more lines = (choice : Choice)
+      × RunRefines now more cs (events ++ event ∷ []) (choices ++ choice ∷ []) (steps ++ lines ∷ [])
+
   -- a step of the node refines one event more
   refined_next : (x : ℕ) (node_input : NodeInput) (lines : List Line) (now : List SimNode)
       (more : List Posted) → IsDeliveryOf w.frames i event.kind x node_input →
       HasStepped sims posted x node_input event.fault lines now more →
-      RunRefines now more cs (events ++ event ∷ []) (steps ++ lines ∷ [])
+      Grows now more lines
   refined_next x node_input lines now more brings t =
       let sim = t.took.sim in
       let all = recursion_from_All (SimNodeRefines w.nodes made.disks) sims made.each in
@@ -239,7 +245,8 @@ module _ (in_order : AlwaysInOrder) (cs : Configurations) (events : List Event)
       let o = outcome w cs (modelled i event.kind out.choice) in
       let id : sim.id ≡ x = t.took.id in
       let long = AllZip-long PostedRefines posted w.frames made.frames in
-      grown cs events steps sims posted made i event out.choice now more lines next.at (record {
+      let came = grown cs events choices steps sims posted made i event out.choice now more lines
+      next.at (record {
         traced = t.traced ∙ out.traced (length posted)
             ∙ ap (λ n. lines_of_event n event out.choice o) (sym long);
         fits = record {
@@ -275,6 +282,7 @@ module _ (in_order : AlwaysInOrder) (cs : Configurations) (events : List Event)
             (subst (λ (c : List ℕ). AllDifferent c) (sym made.nodes) made.lawful.different)
             was id out.is refl all));
       })
+      in (out.choice, came)
 
   -- the event of a step names a node of configuration 0, if it names one
   named_next : (x : ℕ) (node_input : NodeInput) (lines : List Line) (now : List SimNode)
@@ -324,16 +332,15 @@ module _ (in_order : AlwaysInOrder) (cs : Configurations) (events : List Event)
   stopped_next (Start node) x node_input lines now more brings t = tt
 
   -- no frame has the place
-  nothing_next : HasNoDelivery w.frames event.kind →
-      RunRefines sims posted cs (events ++ event ∷ []) (steps ++ (Nothing ∷ []) ∷ [])
+  nothing_next : HasNoDelivery w.frames event.kind → Grows sims posted (Nothing ∷ [])
   nothing_next brings =
       let choice : Choice =
       record { went = Answered; struck = false; cause = Disk; tended = tended.Idle } in
       let none = nothing_done cs w i event.kind choice brings in
       let same : after w nothing ≡ state_after cs w (modelled i event.kind choice) =
       ap (after w) (sym none) in
-      grown cs events steps sims posted made i event choice sims posted (Nothing ∷ []) next.at
-      (record {
+      let came = grown cs events choices steps sims posted made i event choice sims posted
+      (Nothing ∷ []) next.at (record {
         traced = ap (lines_of_event (length w.frames) event choice) (sym none);
         fits = record {
           cause = λ stops. absurd (false≢true
@@ -354,12 +361,12 @@ module _ (in_order : AlwaysInOrder) (cs : Configurations) (events : List Event)
             sims) same
             made.each;
       })
+      in (choice, came)
 
   -- the same, by what an event was found to bring
   module _ (found : Option (ℕ × NodeInput)) (fits : FitsDelivery posted i event.kind found)
     where
-      pub nothing_after : found ≡ None →
-          RunRefines sims posted cs (events ++ event ∷ []) (steps ++ (Nothing ∷ []) ∷ [])
+      pub nothing_after : found ≡ None → Grows sims posted (Nothing ∷ [])
       nothing_after is = nothing_next (MatchOption-at_none (HasNoDelivery w.frames event.kind)
           (λ it. IsDeliveryOf w.frames i event.kind it.0 it.1) is (fits w.frames made.frames))
 
@@ -399,15 +406,14 @@ module _ (in_order : AlwaysInOrder) (cs : Configurations) (events : List Event)
             stopped_next event.kind it.0 it.1 lines now more brings t
 
         pub refined_after : (lines : List Line) (now : List SimNode) (more : List Posted) →
-            HasStepped sims posted it.0 it.1 event.fault lines now more →
-            RunRefines now more cs (events ++ event ∷ []) (steps ++ lines ∷ [])
+            HasStepped sims posted it.0 it.1 event.fault lines now more → Grows now more lines
         refined_after lines now more t = refined_next it.0 it.1 lines now more brings t
 
 -- The next event of a world, by what it was found to bring.
 module _ (in_order : AlwaysInOrder) (cs : Configurations) (events : List Event)
-    (steps : List (List Line)) (old new : LabWorld) (run : HasRun old cs events steps) (i : ℕ)
-    (next : IsNext events i) (event : Event) (found : Option (ℕ × NodeInput))
-    (fits : FitsDelivery old.frames.items i event.kind found) where
+    (choices : List Choice) (steps : List (List Line)) (old new : LabWorld)
+    (run : HasRun old cs events choices steps) (i : ℕ) (next : IsNext events i) (event : Event)
+    (found : Option (ℕ × NodeInput)) (fits : FitsDelivery old.frames.items i event.kind found) where
   abbrev sims : List SimNode
   sims = old.nodes.items
 
@@ -416,44 +422,45 @@ module _ (in_order : AlwaysInOrder) (cs : Configurations) (events : List Event)
 
   -- one that brings nothing is applied where it is kept
   pub passed_after : found ≡ None → HasPassed old new event →
-      HasApplied old new cs events steps event
+      HasApplied old new cs events choices steps event
   passed_after none p =
-      let more : List Event = events ++ event ∷ [] in
-      let lines : List (List Line) = steps ++ (Nothing ∷ []) ∷ [] in
-      Takes (nothing_named in_order cs events steps sims posted run.made i next event found fits
-      none) (Nothing ∷ [])
+      let lines : List Line = Nothing ∷ [] in
+      let grows = nothing_after in_order cs events choices steps sims posted run.made i next event
+      found fits none in
+      let Refines : List SimNode → List Posted → Type 0 = λ now posts. RunRefines now posts cs
+      (events ++ event ∷ []) (choices ++ grows.0 ∷ []) (steps ++ lines ∷ []) in
+      Takes (nothing_named in_order cs events choices steps sims posted run.made i next event found
+      fits none) grows.0 lines
       (record {
         kept = p.keeps.kept ∙ ap (λ (a : List (List Line)). a ++ (Nothing ∷ []) ∷ []) run.kept;
         taken = p.keeps.taken ∙ ap (λ (l : List Event). l ++ event ∷ []) run.taken;
-        made = subst (λ (l : List SimNode). RunRefines l new.frames.items cs more lines)
-            (sym p.nodes)
-            (subst (λ (l : List Posted). RunRefines sims l cs more lines) (sym p.frames)
-            (nothing_after in_order cs events steps sims posted run.made i next event found fits
-            none));
+        made = subst (λ (l : List SimNode). Refines l new.frames.items) (sym p.nodes)
+            (subst (λ (l : List Posted). Refines sims l) (sym p.frames) grows.1);
       })
-      (nothing_stopped in_order cs events steps sims posted run.made i next event found fits none
-      new.nodes.items)
+      (nothing_stopped in_order cs events choices steps sims posted run.made i next event found fits
+      none new.nodes.items)
 
   -- one that is for a node is applied by the node's step
   pub delivered_after : (it : ℕ × NodeInput) → found ≡ Some it →
-      HasDelivered old new event it.0 it.1 → HasApplied old new cs events steps event
+      HasDelivered old new event it.0 it.1 → HasApplied old new cs events choices steps event
   delivered_after it is h =
       let now : List SimNode = new.nodes.items in
       let more : List Posted = new.frames.items in
-      Takes (named_after in_order cs events steps sims posted run.made i next event found fits it
-      is h.lines now more h.stepped) h.lines
+      let grows = refined_after in_order cs events choices steps sims posted run.made i next event
+      found fits it is h.lines now more h.stepped in
+      Takes (named_after in_order cs events choices steps sims posted run.made i next event found
+      fits it is h.lines now more h.stepped) grows.0 h.lines
       (record {
         kept = h.keeps.kept ∙ ap (λ (a : List (List Line)). a ++ h.lines ∷ []) run.kept;
         taken = h.keeps.taken ∙ ap (λ (l : List Event). l ++ event ∷ []) run.taken;
-        made = refined_after in_order cs events steps sims posted run.made i next event found fits
-            it is h.lines now more h.stepped;
+        made = grows.1;
       })
-      (stopped_after in_order cs events steps sims posted run.made i next event found fits it is
-      h.lines now more h.stepped)
+      (stopped_after in_order cs events choices steps sims posted run.made i next event found fits
+      it is h.lines now more h.stepped)
 
   -- one that is for a node which the world does not have is not applied
   pub ignored_after : (it : ℕ × NodeInput) → found ≡ Some it → HasNoNode sims it.0 →
-      HasRun new cs events steps → HasApplied old new cs events steps event
+      HasRun new cs events choices steps → HasApplied old new cs events choices steps event
   ignored_after it is none unchanged =
-      Ignores (λ names. node_after in_order cs events steps sims posted run.made i next event found
-      fits it is names none) unchanged
+      Ignores (λ names. node_after in_order cs events choices steps sims posted run.made i next event
+      found fits it is names none) unchanged

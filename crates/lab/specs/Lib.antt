@@ -22,5 +22,6 @@ pub use Rattle.engine.specs.declared.tended.Tended
 -- What crates above name.
 pub use Rattle.lab.specs.Events.{NamesNode, node_in}
 pub use Rattle.lab.specs.History.{OneHistory}
-pub use Rattle.lab.specs.Runs.{IsRun}
+pub use Rattle.lab.specs.Runs.{AreNumbersOf, IsRun}
+pub use Rattle.lab.specs.SimNodes.{Choice}
 pub use Rattle.lab.specs.Worlds.{HasRun, frames_of_step, frames_in_steps}

@@ -1,5 +1,5 @@
 -- The report of a run, and the run of the model that it refines.
-use Rattle.std.specs.Prelude.{◌≡◌, List, length, Option, Some, None, true, false, All}
+use Rattle.std.specs.Prelude.{◌≡◌, ℕ, List, length, Option, Some, None, true, false, All}
 use Rattle.chain_model.specs.{Configurations}
 use Rattle.chain_model.specs as model
 use Rattle.chain_core.specs.{Machine}
@@ -24,14 +24,19 @@ abbrev pub RunningRefines : Option Numbers → Machine → Type 0
 RunningRefines None n = n.running ≡ false
 RunningRefines (Some numbers) n = (n.running ≡ true) × NumbersRefine n numbers
 
--- The report is a run of the model over exactly these events: how each step went was chosen, and
+-- the numbers of node x after these events, in each of which was chosen so: none if it is down
+abbrev pub AreNumbersOf : Configurations → List Event → List Choice → ℕ → Option Numbers → Type 0
+AreNumbersOf cs events choices x told =
+    RunningRefines told (model.node_of cs (modelled_from 1 events choices) x)
+
+-- The report is a run of the model over exactly these events: how each step went was chosen so, and
 -- then each event has the lines of its outcome, and each node is the one behind the run. Its disk
 -- is the one that the events left, represents its machine's whole list, and has no fault.
-pub record IsRun (cs : Configurations) (events : List Event) (report : Report) : Type 0 where
-  pub choices : List Choice
+pub record IsRun (cs : Configurations) (events : List Event) (choices : List Choice)
+    (report : Report) : Type 0 where
   pub trace : IsTrace cs events choices report.steps.items
   pub disks : HaveDisks state failures calls (λ (node : NodeReport). node.id)
       (λ (node : NodeReport). node.disk) cs events choices report.nodes.items
   pub unarmed : All (λ node. IsUnarmed node.disk) report.nodes.items
-  pub numbers : All (λ node. RunningRefines node.running
-      (model.node_of cs (modelled_from 1 events choices) node.id)) report.nodes.items
+  pub numbers : All (λ node. AreNumbersOf cs events choices node.id node.running)
+      report.nodes.items

@@ -1,15 +1,17 @@
 -- A world of simulated nodes, and the run of the model that it refines.
 use Rattle.std.specs.Prelude.{◌≡◌, ℕ, ◌+◌, ◌≤◌, List, [], ◌∷◌, ◌++◌, length, map, Some}
-use Rattle.std.specs.Prelude.{All, true, ◌≢◌, ◌<◌, get_or, slice_set}
+use Rattle.std.specs.Prelude.{All, true, ◌≢◌, ◌<◌, get_or, slice_index, slice_set}
 use Rattle.std.specs.List.{AllZip, HoldsAt}
 use Rattle.kv_types.specs.{BatchContent}
 use Rattle.chain_model.specs.{Configurations, Lawful, at_epoch, created}
 use Rattle.chain_model.specs as model_frame
 use Rattle.disk.specs.declared.Fault.{Fault}
 use Rattle.disk.specs.declared.Junk.{Junk}
+use Rattle.disk.specs.declared.disk.Disk.{Ghosts}
 use Rattle.disk.specs.{IsReliable, Slots}
 use Rattle.node.specs.declared.Node.{Node}
-use Rattle.node.specs.{disk_of}
+use Rattle.engine.specs.{table_count}
+use Rattle.node.specs.{disk_of, engine_of}
 use Rattle.link_messages.specs.declared.Frame.{Frame}
 use Rattle.link_messages.specs.{IsFrame, HasBounds, frame_bytes}
 use Rattle.chain_core.specs.{frame_as, Machine}
@@ -21,11 +23,13 @@ use Rattle.lab.specs.declared.event.EventRecord.{EventRecord}
 use Rattle.lab.specs.declared.event.EventKind.{EventKind}
 use Rattle.lab.specs.declared.event.EventKind.TheVariants.{Submit, Get, Deliver, Tick, Tend, Start}
 use Rattle.lab.specs.declared.event.EventKind.TheVariants.{Stop}
-use Rattle.lab.specs.declared.node_state.NodeState.TheVariants.{Up}
+use Rattle.lab.specs.declared.node_state.NodeState.{NodeState}
+use Rattle.lab.specs.declared.node_state.NodeState.TheVariants.{Up, Down}
 use Rattle.lab.specs.declared.report.Line.{Line}
 use Rattle.lab.specs.declared.report.Line.TheVariants as line
 use Rattle.lab.specs.declared.delivery.Posted.{Posted}
 use Rattle.lab.specs.declared.report.NodeReport.{NodeReport}
+use Rattle.lab.specs.declared.report.Numbers.{Numbers}
 use Rattle.lab.specs.declared.sim_node.SimNode.{SimNode}
 use Rattle.lab.specs.declared.world.World.{World}
 use Rattle.lab.specs.SimNodes.{Choice, StateRefines, disk_in, is_honest, state, failures, calls}
@@ -115,6 +119,22 @@ pub record AreLeft (sims : List SimNode) (nodes : List NodeReport) : Type 0 wher
       (SimNodeRefines machines disks) sims →
       All (λ node. IsLeft (machines node.id) (disks node.id) node) nodes
 
+-- the numbers say how many tables each level of a running node's store has
+abbrev pub HasTablesOf : {D : Type 0} {g : Ghosts D} → Node D g → Numbers → Type 0
+HasTablesOf node numbers = (level : ℕ) → level < 7 →
+    slice_index numbers.tables level ≡ table_count (engine_of node) level
+
+-- .. of a node that is up
+abbrev pub HasTablesIn : {D : Type 0} {g : Ghosts D} → NodeState D g → Numbers → Type 0
+HasTablesIn (Up node) numbers = HasTablesOf node numbers
+HasTablesIn (Down disk) numbers = ⊥
+
+-- the numbers are those of node x, which is up: they say how many tables it has
+pub record TellsTables (sims : List SimNode) (x : ℕ) (numbers : Numbers) : Type 0 where
+  pub index : ℕ
+  pub at : IsIndexOf sims index x
+  pub tables : HoldsAt (λ sim. HasTablesIn sim.state numbers) sims index
+
 -- Node x took this input with this fault: this outcome and its new state refine every machine that
 -- it was. Every other node is as it was.
 pub record HasMoved (sims : List SimNode) (x : ℕ) (node_input : NodeInput) (fault : Fault)
@@ -171,11 +191,10 @@ StopsNode (Tend node) old new = Unit {0}
 StopsNode (Start node) old new = Unit {0}
 
 -- Nodes, posted frames and lines refine the model's run of these events: how each step went was
--- chosen, and then nodes, disks, frames and lines are those of that run.
+-- chosen so, and then nodes, disks, frames and lines are those of that run.
 pub record RunRefines (sims : List SimNode) (posted : List Posted) (cs : Configurations)
-    (events : List Event) (steps : List (List Line)) : Type 0 where
+    (events : List Event) (choices : List Choice) (steps : List (List Line)) : Type 0 where
   pub lawful : Lawful cs
-  pub choices : List Choice
   pub trace : IsTrace cs events choices steps
   pub frames : AllZip PostedRefines posted (model_frame.reached cs
       (modelled_from 1 events choices)).frames
@@ -193,12 +212,13 @@ pub record RunRefines (sims : List SimNode) (posted : List Posted) (cs : Configu
 abbrev pub events_in : List EventRecord → List Event
 events_in taken = map (λ it. it.event) taken
 
--- the world has applied these events, and keeps them and the lines of each
+-- the world has applied these events, in each of which was chosen so, and keeps them and the lines
+-- of each
 pub record HasRun (world : World) (cs : Configurations) (events : List Event)
-    (steps : List (List Line)) : Type 0 where
+    (choices : List Choice) (steps : List (List Line)) : Type 0 where
   pub kept : world.steps.items ≡ steps
   pub taken : events_in world.events.items ≡ events
-  pub made : RunRefines world.nodes.items world.frames.items cs events steps
+  pub made : RunRefines world.nodes.items world.frames.items cs events choices steps
 
 -- the world kept an event with its lines
 pub record HasKept (old new : World) (event : Event) (lines : List Line) : Type 0 where
@@ -222,13 +242,13 @@ pub record HasDelivered (old new : World) (event : Event) (x : ℕ) (node_input 
 -- The event names a node of the world, or none, and was applied with its lines. Or it names another
 -- node, and the run is as it was.
 pub data HasApplied (old new : World) (cs : Configurations) (events : List Event)
-    (steps : List (List Line)) (event : Event) : Type 0 where
-  Takes : NamesNode cs event.kind → (lines : List Line)
-      → HasRun new cs (events ++ event ∷ []) (steps ++ lines ∷ [])
+    (choices : List Choice) (steps : List (List Line)) (event : Event) : Type 0 where
+  Takes : NamesNode cs event.kind → (choice : Choice) → (lines : List Line)
+      → HasRun new cs (events ++ event ∷ []) (choices ++ choice ∷ []) (steps ++ lines ∷ [])
       → StopsNode event.kind old.nodes.items new.nodes.items
-      → HasApplied old new cs events steps event
-  Ignores : (NamesNode cs event.kind → ⊥) → HasRun new cs events steps
-      → HasApplied old new cs events steps event
+      → HasApplied old new cs events choices steps event
+  Ignores : (NamesNode cs event.kind → ⊥) → HasRun new cs events choices steps
+      → HasApplied old new cs events choices steps event
 
 -- a step was refused, and so is every later one
 abbrev pub HasEnded : World → Type 0
@@ -237,8 +257,7 @@ HasEnded world = world.ended ≡ true
 -- the lines so far are those of a run of the model over these events, and each node has the disk
 -- that they left, which represents its machine's whole list, and which has no fault
 pub record IsRunSoFar (world : World) (cs : Configurations) (events : List Event)
-    (steps : List (List Line)) : Type 0 where
-  pub choices : List Choice
+    (choices : List Choice) (steps : List (List Line)) : Type 0 where
   pub trace : IsTrace cs events choices steps
   pub disks : HaveDisks state failures calls (λ (sim : SimNode). sim.id)
       (λ (sim : SimNode). disk_in sim.state) cs events choices world.nodes.items

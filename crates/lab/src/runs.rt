@@ -1,7 +1,8 @@
 // A whole run: a list of events, from created nodes to a report.
-ghost use Rattle.std.specs.Prelude.{IfOk};
+ghost use Rattle.std.specs.Prelude.{IfOk, List};
 ghost use Rattle.lab.specs.Events.{NamesNodes};
 ghost use Rattle.lab.specs.Runs.{IsRun};
+ghost use Rattle.lab.specs.SimNodes.{Choice};
 ghost use Rattle.lab.specs.History.{OneHistory};
 
 use crate::{Event, LabError, Report, World};
@@ -18,7 +19,8 @@ pub fn run(
     limits: &Limits,
 ) -> Result<Report, LabError>
     requires named { NamesNodes configs.now events.now }
-    ensures run { IfOk result (IsRun configs.now events.now) }
+    ensures run { IfOk result (λ report. (choices : List Choice)
+        × IsRun configs.now events.now choices report) }
     ensures history { IfOk result (OneHistory configs.now events.now) }
 {
     let mut world = World::new(alloc, configs, limits)?;

@@ -2,19 +2,20 @@
 ghost use Rattle.std.specs.Prelude.{◌≡◌, ℕ, List, [], ◌∷◌, ◌++◌, IfOk, IsErr, MatchResult, OnOk};
 ghost use Rattle.std.specs.Prelude.{MatchOption};
 ghost use Rattle.std.specs.Prelude.{map};
-ghost use Rattle.chain_model.specs.{Configurations};
+ghost use Rattle.std.specs.Prelude.{IfSome, true};
+ghost use Rattle.chain_model.specs.{Configurations, at_epoch, has};
 ghost use Rattle.lab.specs.declared.event.Event.{Event};
 ghost use Rattle.lab.specs.declared.report.Line.{Line};
 ghost use Rattle.lab.specs.Events.{NamesNode};
 ghost use Rattle.chain_core.specs.{Machine};
 ghost use Rattle.disk.specs.{Slots};
-ghost use Rattle.node.specs.{disk_of};
-ghost use Rattle.lab.specs.SimNodes.{StateRefines, disk_in, is_honest, state};
-ghost use Rattle.lab.specs.Runs.{IsRun};
+ghost use Rattle.node.specs.{NodeRefines, disk_of};
+ghost use Rattle.lab.specs.SimNodes.{Choice, StateRefines, disk_in, is_honest, state};
+ghost use Rattle.lab.specs.Runs.{AreNumbersOf, IsRun, NumbersRefine};
 ghost use Rattle.lab.specs.History.{OneHistory};
 ghost use Rattle.lab.specs.Worlds.{HasRun, HasApplied, HasEnded, AreCreated, AreLeft, IsCreated};
 ghost use Rattle.lab.specs.Worlds.{IsLeft, IsRunSoFar, HasHistory, StopsNode, IsIndexOf, HasNoNode};
-ghost use Rattle.lab.specs.Worlds.{HasDelivered, HasMoved, HasPassed};
+ghost use Rattle.lab.specs.Worlds.{HasDelivered, HasMoved, HasPassed, HasTablesOf, TellsTables};
 ghost use Rattle.lab.specs.Worlds.{events_in, frames_in_steps};
 
 use crate::delivery::{Posted, delivery_of};
@@ -82,6 +83,22 @@ fn created_nodes(alloc: Global, config: &Config, limits: &Limits) -> Result<Vec<
     Ok(nodes)
 }
 
+// The numbers of a running node.
+fn numbers_of(node: &Node<MemDisk>) -> Numbers
+    ensures refines { (x : ℕ) (n : Machine) → NodeRefines is_honest state node.now x n →
+        NumbersRefine n result }
+    ensures tables { HasTablesOf node.now result }
+{
+    Numbers {
+        epoch: node.epoch(),
+        count: node.count(),
+        committed: node.committed(),
+        floor: node.floor(),
+        kept: node.kept(),
+        tables: node.tables(),
+    }
+}
+
 // The report of a node, at the end of a run.
 fn left_of(node: SimNode) -> NodeReport
     ensures left { (n : Machine) (disk : Slots) →
@@ -94,14 +111,7 @@ fn left_of(node: SimNode) -> NodeReport
     let SimNode { id, state } = node;
     match state {
         NodeState::Up(node) => {
-            let running = Some(Numbers {
-                epoch: node.epoch(),
-                count: node.count(),
-                committed: node.committed(),
-                floor: node.floor(),
-                kept: node.kept(),
-                tables: node.tables(),
-            });
+            let running = Some(numbers_of(&node));
             let disk = node.into_disk();
             NodeReport { id, disk, running }
         }
@@ -167,7 +177,7 @@ fn step_at(
 impl World {
     /// Creates the nodes of the first configuration.
     pub fn new(alloc: Global, configs: &Configs, limits: &Limits) -> Result<World, LabError>
-        ensures ran { IfOk result (λ world. HasRun world configs.now [] []) }
+        ensures ran { IfOk result (λ world. HasRun world configs.now [] [] []) }
         ensures goes_on { IfOk result (λ world. HasEnded world → ⊥) }
     {
         Ok(World {
@@ -217,9 +227,10 @@ impl World {
 
     // Applies an event to the node that it is for, if the world has it.
     fn apply(&mut self, alloc: Global, event: &Event) -> Result<(), LabError>
-        ensures { (cs : Configurations) (events : List Event) (steps : List (List Line)) →
-            HasRun self.old cs events steps →
-            OnOk result (HasApplied self.old self.new cs events steps event.now) }
+        ensures { (cs : Configurations) (events : List Event) (choices : List Choice)
+            (steps : List (List Line)) →
+            HasRun self.old cs events choices steps →
+            OnOk result (HasApplied self.old self.new cs events choices steps event.now) }
     {
         // No run that memory holds has more events than there are numbers.
         let Some(request) = Number::new(self.steps.len() as u64 + 1) else {
@@ -241,15 +252,18 @@ impl World {
     /// Applies an event to the node that it is for. One that names a node which the world does not
     /// have does nothing. After an error the world is at its end: every later step is refused.
     pub fn step(&mut self, alloc: Global, event: &Event) -> Result<(), LabError>
-        ensures ran { (cs : Configurations) (events : List Event) (steps : List (List Line)) →
-            HasRun self.old cs events steps → NamesNode cs event.now.kind →
-            OnOk result ((lines : List Line) ×
-            HasRun self.new cs (events ++ event.now ∷ []) (steps ++ lines ∷ [])) }
-        ensures nothing { (cs : Configurations) (events : List Event) (steps : List (List Line)) →
-            HasRun self.old cs events steps → (NamesNode cs event.now.kind → ⊥) →
-            OnOk result (HasRun self.new cs events steps) }
-        ensures stopped { (cs : Configurations) (events : List Event) (steps : List (List Line)) →
-            HasRun self.old cs events steps → NamesNode cs event.now.kind →
+        ensures ran { (cs : Configurations) (events : List Event) (choices : List Choice)
+            (steps : List (List Line)) →
+            HasRun self.old cs events choices steps → NamesNode cs event.now.kind →
+            OnOk result ((choice : Choice) × (lines : List Line) × HasRun self.new cs
+            (events ++ event.now ∷ []) (choices ++ choice ∷ []) (steps ++ lines ∷ [])) }
+        ensures nothing { (cs : Configurations) (events : List Event) (choices : List Choice)
+            (steps : List (List Line)) →
+            HasRun self.old cs events choices steps → (NamesNode cs event.now.kind → ⊥) →
+            OnOk result (HasRun self.new cs events choices steps) }
+        ensures stopped { (cs : Configurations) (events : List Event) (choices : List Choice)
+            (steps : List (List Line)) →
+            HasRun self.old cs events choices steps → NamesNode cs event.now.kind →
             OnOk result (StopsNode event.now.kind self.old.nodes.items self.new.nodes.items) }
         ensures ends { MatchResult result (λ _. HasEnded self.new → ⊥) (λ _. HasEnded self.new) }
         ensures again { HasEnded self.old → IsErr result }
@@ -264,20 +278,41 @@ impl World {
 
     /// How many frames were sent so far.
     pub fn sent(&self) -> u64
-        ensures { (cs : Configurations) (events : List Event) (steps : List (List Line)) →
-            HasRun self.now cs events steps → result ≡ frames_in_steps steps }
+        ensures { (cs : Configurations) (events : List Event) (choices : List Choice)
+            (steps : List (List Line)) →
+            HasRun self.now cs events choices steps → result ≡ frames_in_steps steps }
     {
         self.frames.len() as u64
     }
 
+    /// The numbers of a node as it is now: none of one that is down, or that the world does not have.
+    pub fn numbers(&self, id: NodeId) -> Option<Numbers>
+        ensures run { (cs : Configurations) (events : List Event) (choices : List Choice)
+            (steps : List (List Line)) →
+            HasRun self.now cs events choices steps → has (at_epoch cs 0) id ≡ true →
+            AreNumbersOf cs events choices id result }
+        ensures tables { IfSome result (TellsTables self.now.nodes.items id) }
+    {
+        let Some(index) = index_of(&self.nodes, id) else {
+            return None;
+        };
+        match &self.nodes[index].state {
+            NodeState::Up(node) => Some(numbers_of(node)),
+            NodeState::Down(_) => None,
+        }
+    }
+
     /// The lines of each event so far. The world keeps the disks.
     pub fn report(&self) -> &[Lines]
-        ensures steps { (cs : Configurations) (events : List Event) (steps : List (List Line)) →
-            HasRun self.now cs events steps → result.now ≡ steps }
-        ensures run { (cs : Configurations) (events : List Event) (steps : List (List Line)) →
-            HasRun self.now cs events steps → IsRunSoFar self.now cs events result.now }
-        ensures history { (cs : Configurations) (events : List Event) (steps : List (List Line)) →
-            HasRun self.now cs events steps → HasHistory self.now cs events result.now }
+        ensures steps { (cs : Configurations) (events : List Event) (choices : List Choice)
+            (steps : List (List Line)) →
+            HasRun self.now cs events choices steps → result.now ≡ steps }
+        ensures run { (cs : Configurations) (events : List Event) (choices : List Choice)
+            (steps : List (List Line)) →
+            HasRun self.now cs events choices steps → IsRunSoFar self.now cs events choices result.now }
+        ensures history { (cs : Configurations) (events : List Event) (choices : List Choice)
+            (steps : List (List Line)) →
+            HasRun self.now cs events choices steps → HasHistory self.now cs events result.now }
     {
         // laws: a run of the model has one history, and is made of its outcomes
         one_history::<Batch>(); // law: a run has one history
@@ -289,20 +324,24 @@ impl World {
 
     /// The events that were applied so far.
     pub fn events(&self) -> &[EventRecord]
-        ensures { (cs : Configurations) (events : List Event) (steps : List (List Line)) →
-            HasRun self.now cs events steps → events_in result.now ≡ events }
+        ensures { (cs : Configurations) (events : List Event) (choices : List Choice)
+            (steps : List (List Line)) →
+            HasRun self.now cs events choices steps → events_in result.now ≡ events }
     {
         &self.events
     }
 
     /// The report of the run: its lines, and each node at the end.
     pub fn finish(self, alloc: Global) -> Result<Report, LabError>
-        ensures steps { (cs : Configurations) (events : List Event) (steps : List (List Line)) →
-            HasRun self cs events steps → IfOk result (λ report. report.steps.items ≡ steps) }
-        ensures run { (cs : Configurations) (events : List Event) (steps : List (List Line)) →
-            HasRun self cs events steps → IfOk result (IsRun cs events) }
-        ensures history { (cs : Configurations) (events : List Event) (steps : List (List Line)) →
-            HasRun self cs events steps → IfOk result (OneHistory cs events) }
+        ensures steps { (cs : Configurations) (events : List Event) (choices : List Choice)
+            (steps : List (List Line)) →
+            HasRun self cs events choices steps → IfOk result (λ report. report.steps.items ≡ steps) }
+        ensures run { (cs : Configurations) (events : List Event) (choices : List Choice)
+            (steps : List (List Line)) →
+            HasRun self cs events choices steps → IfOk result (IsRun cs events choices) }
+        ensures history { (cs : Configurations) (events : List Event) (choices : List Choice)
+            (steps : List (List Line)) →
+            HasRun self cs events choices steps → IfOk result (OneHistory cs events) }
         ensures ended { HasEnded self → IsErr result }
     {
         let World {

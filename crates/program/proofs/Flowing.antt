@@ -2,27 +2,34 @@
 use Rattle.std.proofs.Common.{◌≡◌, ◌≤◌, ◌<◌, ◌+◌, ◌-◌, ℕ, zero, suc, List, [], ◌∷◌, ◌++◌}
 use Rattle.std.proofs.Common.{length, map, take, drop, refl, sym, ap, ap₂, subst, ◌∙◌, arith}
 use Rattle.std.proofs.Common.{append_assoc, append-nil, length-append, Option, Some, None, get_or}
+use Rattle.std.specs.Prelude.{slice_get}
+use Rattle.std.specs.Option.{option_map_or}
+use Rattle.std.proofs.Common.{All, Bool, true, false, if◌then◌else◌, replicate}
+use Rattle.std.proofs.lemmas.Bool.{false≢true}
+use Rattle.std.proofs.lemmas.List.Elements.{All-cons, All-head, All-nil, All-push, All-tail}
 use Rattle.lab.specs.Machine.{without}
 use Rattle.lab.specs.Configuration.{Configurations}
 use Rattle.lab.specs.declared.Event as lab
-use Rattle.kv_types.specs.declared.KvError.{KvError}
 use Rattle.lab.specs.declared.EventKind.{EventKind}
 use Rattle.lab.specs.declared.EventKind.TheVariants.{Submit, Get, Deliver, Tick, Tend, Start, Stop}
 use Rattle.lab.specs.declared.Line.{Line}
 use Rattle.lab.specs.declared.World.{World}
 use Rattle.lab.specs.declared.Report.{Report}
-use Rattle.lab.specs.{IsRun, OneHistory, HasRun, frames_in_steps, frames_of_step}
+use Rattle.lab.specs.declared.Numbers.{Numbers}
+use Rattle.lab.specs.{AreNumbersOf, Choice, IsRun, OneHistory, frames_in_steps, frames_of_step}
 use Rattle.std.proofs.Math.Seq.{drop-cons}
 use Rattle.program.specs.declared.script.setup.Setup.{Setup}
+use Rattle.program.specs.declared.script_run.ScriptRun.{ScriptRun}
 use Rattle.program.specs.declared.script.statement.Statement.{Statement}
-use Rattle.program.specs.declared.script.statement.Action.TheVariants.{Event, Invalid, Flow}
+use Rattle.program.specs.declared.script.statement.Action.TheVariants.{Event, Flow, Settle, Show}
 use Rattle.program.specs.declared.statement_result.StatementResult.{StatementResult}
 use Rattle.program.specs.declared.statement_result.Note.{Note}
 use Rattle.program.specs.declared.statement_result.Note.TheVariants as note
 use Rattle.program.specs.Runs.{HasRunStatements}
 use Rattle.program.specs.ScriptRuns.{places_after, delivery, deliveries, left_after}
-use Rattle.program.specs.ScriptRuns.{left_after_event}
-use Rattle.program.specs.ScriptRuns.{most, busy, IsResult, IsRising, AreResults}
+use Rattle.program.specs.ScriptRuns.{left_after_event, HasRunTo, HasSettled, HasTurned, IsShown}
+use Rattle.program.specs.ScriptRuns.{IsResultOfAction, Stretch, has_worked, joined, nothing, one}
+use Rattle.program.specs.ScriptRuns.{most, busy, shown, tending, IsResult, IsRising, AreResults}
 use Rattle.program.proofs.Leaving.{left_rises}
 
 -- ---- places and frames add up
@@ -72,24 +79,34 @@ added before now left old steps lines was is e =
 abbrev pub all_left : List ℕ → List (List Line) → List (List Line) → List ℕ
 all_left left steps own = left ++ places_after (frames_in_steps steps) (frames_in_steps own)
 
+-- stretches of a run are joined as lists are
+pub joined_assoc : (a b c : Stretch) → joined (joined a b) c ≡ joined a (joined b c)
+joined_assoc a b c = rw (
+  append_assoc a.events b.events c.events,
+  append_assoc a.choices b.choices c.choices,
+  append_assoc a.steps b.steps c.steps,
+) refl
+
+pub joined_nothing : (a : Stretch) → joined a nothing ≡ a
+joined_nothing a = rw (append-nil a.events, append-nil a.choices, append-nil a.steps) refl
+
 -- so many of them were delivered
-pub record Flows (world : World) (cs : Configurations) (events : List lab.Event)
-    (steps : List (List Line)) (old left : List ℕ) (count : ℕ) : Type 0 where
-  pub own : List (List Line)
-  pub run : HasRun world cs (events ++ map delivery (take count (all_left old steps own)))
-      (steps ++ own)
-  pub each : count ≡ length own
-  pub behind : left ≡ drop count (all_left old steps own)
-  pub within : count ≤ length (all_left old steps own)
+pub record Flows (world : World) (cs : Configurations) (past : Stretch) (old left : List ℕ)
+    (count : ℕ) : Type 0 where
+  pub own : Stretch
+  pub run : HasRunTo world cs (joined past own)
+  pub events : own.events ≡ map delivery (take count (all_left old past.steps own.steps))
+  pub each : count ≡ length own.steps
+  pub behind : left ≡ drop count (all_left old past.steps own.steps)
+  pub within : count ≤ length (all_left old past.steps own.steps)
   pub few : count ≤ most
 
-pub flows_none : (world : World) (cs : Configurations) (events : List lab.Event)
-    (steps : List (List Line)) (old : List ℕ) → HasRun world cs events steps →
-    Flows world cs events steps old old 0
-flows_none world cs events steps old run = record {
-  own = [];
-  run = subst (λ (e : List lab.Event). HasRun world cs e (steps ++ [])) (sym (append-nil events))
-      (subst (λ (s : List (List Line)). HasRun world cs events s) (sym (append-nil steps)) run);
+pub flows_none : (world : World) (cs : Configurations) (past : Stretch) (old : List ℕ) →
+    HasRunTo world cs past → Flows world cs past old old 0
+flows_none world cs past old run = record {
+  own = nothing;
+  run = subst (λ (s : Stretch). HasRunTo world cs s) (sym (joined_nothing past)) run;
+  events = refl;
   each = refl;
   behind = sym (append-nil old);
   within = omega arith;
@@ -124,57 +141,49 @@ map-more [] p = refl
 map-more (x ∷ xs) p = ap (λ (l : List lab.Event). delivery x ∷ l) (map-more xs p)
 
 -- one frame more
-module _ (cs : Configurations) (events : List lab.Event) (steps : List (List Line)) (old : List ℕ)
-  where
-    -- all that is left grows by what is sent
-    grown : (own : List (List Line)) (lines : List Line) →
-        all_left old steps (own ++ lines ∷ []) ≡ all_left old steps own
-        ++ places_after (frames_in_steps (steps ++ own)) (frames_of_step lines)
-    grown own lines =
-        ap (λ (k : ℕ). old ++ places_after (frames_in_steps steps) k)
-        (frames_in_steps-push own lines)
-        ∙ ap (λ (l : List ℕ). old ++ l)
-        (places_after-more (frames_in_steps steps) (frames_in_steps own) (frames_of_step lines))
-        ∙ ap (λ (s : ℕ). old ++ (places_after (frames_in_steps steps) (frames_in_steps own)
-        ++ places_after s (frames_of_step lines))) (sym (frames_in_steps-more steps own))
-        ∙ sym (append_assoc old (places_after (frames_in_steps steps) (frames_in_steps own))
-        (places_after (frames_in_steps (steps ++ own)) (frames_of_step lines)))
+module _ (cs : Configurations) (past : Stretch) (old : List ℕ) where
+  -- all that is left grows by what is sent
+  grown : (own : List (List Line)) (lines : List Line) →
+      all_left old past.steps (own ++ lines ∷ []) ≡ all_left old past.steps own
+      ++ places_after (frames_in_steps (past.steps ++ own)) (frames_of_step lines)
+  grown own lines =
+      ap (λ (k : ℕ). old ++ places_after (frames_in_steps past.steps) k)
+      (frames_in_steps-push own lines)
+      ∙ ap (λ (l : List ℕ). old ++ l)
+      (places_after-more (frames_in_steps past.steps) (frames_in_steps own) (frames_of_step lines))
+      ∙ ap (λ (s : ℕ). old ++ (places_after (frames_in_steps past.steps) (frames_in_steps own)
+      ++ places_after s (frames_of_step lines))) (sym (frames_in_steps-more past.steps own))
+      ∙ sym (append_assoc old (places_after (frames_in_steps past.steps) (frames_in_steps own))
+      (places_after (frames_in_steps (past.steps ++ own)) (frames_of_step lines)))
 
-    pub flows_on : (world after : World) (left rest next : List ℕ) (count p : ℕ)
-        (f : Flows world cs events steps old left count) → left ≡ p ∷ rest → suc count ≤ most →
-        (lines : List Line) → HasRun after cs
-        ((events ++ map delivery (take count (all_left old steps f.own))) ++ delivery p ∷ [])
-        ((steps ++ f.own) ++ lines ∷ []) →
-        next ≡ rest ++ places_after (frames_in_steps (steps ++ f.own)) (frames_of_step lines) →
-        Flows after cs events steps old next (suc count)
-    flows_on world after left rest next count p f first few lines run is =
-        let all = all_left old steps f.own in
-        let new = places_after (frames_in_steps (steps ++ f.own)) (frames_of_step lines) in
-        let front : p ∷ rest ≡ drop count all = sym first ∙ f.behind in
-        let more = grown f.own lines in
-        let taken : take (suc count) (all_left old steps (f.own ++ lines ∷ []))
-        ≡ take count all ++ p ∷ [] =
-        ap (λ (l : List ℕ). take (suc count) l) more ∙ take_more all new rest count p front in
-        let happened : (events ++ map delivery (take count all)) ++ delivery p ∷ []
-        ≡ events ++ map delivery (take (suc count) (all_left old steps (f.own ++ lines ∷ []))) =
-        append_assoc events (map delivery (take count all)) (delivery p ∷ [])
-        ∙ ap (λ (l : List lab.Event). events ++ l)
-        (sym (map-more (take count all) p) ∙ ap (λ (l : List ℕ). map delivery l) (sym taken)) in
-        record {
-          own = f.own ++ lines ∷ [];
-          run = subst (λ (s : List (List Line)). HasRun after cs
-              (events ++ map delivery (take (suc count)
-              (all_left old steps (f.own ++ lines ∷ [])))) s)
-              (append_assoc steps f.own (lines ∷ []))
-              (subst (λ (e : List lab.Event). HasRun after cs e ((steps ++ f.own) ++ lines ∷ []))
-              happened run);
-          each = omega (arith, f.each, length-append f.own (lines ∷ []));
-          behind = is ∙ sym (drop_more all new rest count p front)
-              ∙ ap (λ (l : List ℕ). drop (suc count) l) (sym more);
-          within = subst (λ (l : List ℕ). suc count ≤ length l) (sym more)
-              (reaches all new rest count p front);
-          few = few;
-        }
+  pub flows_on : (world after : World) (left rest next : List ℕ) (count p : ℕ)
+      (f : Flows world cs past old left count) → left ≡ p ∷ rest → suc count ≤ most →
+      (choice : Choice) (lines : List Line) →
+      HasRunTo after cs (joined (joined past f.own) (one (delivery p) choice lines)) →
+      next ≡ rest ++ places_after (frames_in_steps (past.steps ++ f.own.steps))
+      (frames_of_step lines) → Flows after cs past old next (suc count)
+  flows_on world after left rest next count p f first few choice lines run is =
+      let all = all_left old past.steps f.own.steps in
+      let new = places_after (frames_in_steps (past.steps ++ f.own.steps)) (frames_of_step lines)
+      in
+      let front : p ∷ rest ≡ drop count all = sym first ∙ f.behind in
+      let more = grown f.own.steps lines in
+      let taken : take (suc count) (all_left old past.steps (f.own.steps ++ lines ∷ []))
+      ≡ take count all ++ p ∷ [] =
+      ap (λ (l : List ℕ). take (suc count) l) more ∙ take_more all new rest count p front in
+      record {
+        own = joined f.own (one (delivery p) choice lines);
+        run = subst (λ (s : Stretch). HasRunTo after cs s)
+            (joined_assoc past f.own (one (delivery p) choice lines)) run;
+        events = ap (λ (l : List lab.Event). l ++ delivery p ∷ []) f.events
+            ∙ (sym (map-more (take count all) p) ∙ ap (λ (l : List ℕ). map delivery l) (sym taken));
+        each = omega (arith, f.each, length-append f.own.steps (lines ∷ []));
+        behind = is ∙ sym (drop_more all new rest count p front)
+            ∙ ap (λ (l : List ℕ). drop (suc count) l) (sym more);
+        within = subst (λ (l : List ℕ). suc count ≤ length l) (sym more)
+            (reaches all new rest count p front);
+        few = few;
+      }
 
 take_none : (n : ℕ) → ◌≡◌ {A = List ℕ} (take n []) []
 take_none zero = refl
@@ -205,98 +214,246 @@ length-take (x ∷ xs) zero le = refl
 length-take (x ∷ xs) (suc k) le = ap suc (length-take xs k (omega (arith, le)))
 
 -- what a flow promises
-abbrev pub HasFlowed : World → Configurations → List lab.Event → List (List Line) → List ℕ
-    → List ℕ → ℕ → Type 0
-HasFlowed world cs events steps old left count = (own : List (List Line))
-    × HasRun world cs (events ++ deliveries (all_left old steps own)) (steps ++ own)
-    × (count ≡ length own) × (count ≡ length (deliveries (all_left old steps own)))
-    × (left ≡ drop most (all_left old steps own))
+abbrev pub HasFlowed : World → Configurations → Stretch → List ℕ → List ℕ → ℕ → Type 0
+HasFlowed world cs past old left count = (own : Stretch) × HasRunTo world cs (joined past own)
+    × (own.events ≡ deliveries (all_left old past.steps own.steps))
+    × (count ≡ length own.steps) × (count ≡ length own.events)
+    × (left ≡ drop most (all_left old past.steps own.steps))
+
+-- the frames that were delivered are as many as there were events
+counted : (xs : List ℕ) (events : List lab.Event) (count : ℕ) →
+    events ≡ map delivery (take count xs) → count ≤ length xs → count ≡ length events
+counted xs events count is within = sym (length-take xs count within)
+    ∙ (sym (length-map (take count xs)) ∙ ap length (sym is))
 
 -- no frame is left
-pub flowed_all : (world : World) (cs : Configurations) (events : List lab.Event)
-    (steps : List (List Line)) (old left : List ℕ) (count : ℕ) →
-    Flows world cs events steps old left count → left ≡ [] →
-    HasFlowed world cs events steps old left count
-flowed_all world cs events steps old left count f empty =
-    let all = all_left old steps f.own in
+pub flowed_all : (world : World) (cs : Configurations) (past : Stretch) (old left : List ℕ)
+    (count : ℕ) → Flows world cs past old left count → left ≡ [] →
+    HasFlowed world cs past old left count
+flowed_all world cs past old left count f empty =
+    let all = all_left old past.steps f.own.steps in
     let u = used_up all count most (sym empty ∙ f.behind) f.few in (
       f.own,
-      subst (λ (l : List ℕ). HasRun world cs (events ++ map delivery l) (steps ++ f.own))
-          (sym u.0) f.run,
+      f.run,
+      f.events ∙ ap (λ (l : List ℕ). map delivery l) (sym u.0),
       f.each,
-      sym (length-take all count f.within) ∙ sym (ap length u.0) ∙ sym (length-map (take most all)),
+      counted all f.own.events count f.events f.within,
       empty ∙ sym u.1,
     )
 
 -- the bound is reached
-pub flowed_most : (world : World) (cs : Configurations) (events : List lab.Event)
-    (steps : List (List Line)) (old left : List ℕ) (count : ℕ) →
-    Flows world cs events steps old left count → most ≤ count →
-    HasFlowed world cs events steps old left count
-flowed_most world cs events steps old left count f reached =
+pub flowed_most : (world : World) (cs : Configurations) (past : Stretch) (old left : List ℕ)
+    (count : ℕ) → Flows world cs past old left count → most ≤ count →
+    HasFlowed world cs past old left count
+flowed_most world cs past old left count f reached =
     let same : count ≡ most = omega (arith, reached, f.few) in
-    let all = all_left old steps f.own in (
+    let all = all_left old past.steps f.own.steps in (
       f.own,
-      subst (λ (k : ℕ). HasRun world cs (events ++ map delivery (take k all)) (steps ++ f.own))
-          same f.run,
+      f.run,
+      f.events ∙ ap (λ (k : ℕ). map delivery (take k all)) same,
       f.each,
-      sym (length-take all count f.within) ∙ ap (λ (k : ℕ). length (take k all)) same
-          ∙ sym (length-map (take most all)),
-      subst (λ (k : ℕ). left ≡ drop k all) same f.behind,
+      counted all f.own.events count f.events f.within,
+      f.behind ∙ ap (λ (k : ℕ). drop k all) same,
     )
+
+-- ---- a settle
+
+-- a node tended so often, and each tend worked
+pub record Settles (world : World) (cs : Configurations) (past : Stretch) (node : ℕ)
+    (old left : List ℕ) (count : ℕ) : Type 0 where
+  pub own : Stretch
+  pub run : HasRunTo world cs (joined past own)
+  pub events : own.events ≡ replicate count (tending node)
+  pub each : count ≡ length own.steps
+  pub worked : All (λ step. has_worked step ≡ true) own.steps
+  pub behind : left ≡ all_left old past.steps own.steps
+  pub few : count ≤ most
+
+pub settles_none : (world : World) (cs : Configurations) (past : Stretch) (node : ℕ)
+    (old : List ℕ) → HasRunTo world cs past → Settles world cs past node old old 0
+settles_none world cs past node old run = record {
+  own = nothing;
+  run = subst (λ (s : Stretch). HasRunTo world cs s) (sym (joined_nothing past)) run;
+  events = refl;
+  each = refl;
+  worked = All-nil (λ step. has_worked step ≡ true);
+  behind = sym (append-nil old);
+  few = omega arith;
+}
+
+replicate-length : {A : Type 0} (k : ℕ) (x : A) → length (replicate k x) ≡ k
+replicate-length zero x = refl
+replicate-length (suc k) x = ap suc (replicate-length k x)
+
+replicate-more : {A : Type 0} (k : ℕ) (x : A) → replicate k x ++ x ∷ [] ≡ replicate (suc k) x
+replicate-more zero x = refl
+replicate-more {A = A} (suc k) x = ap (λ (l : List A). x ∷ l) (replicate-more k x)
+
+-- the last step
+got_behind : (before : List (List Line)) (last : List Line) →
+    slice_get (before ++ last ∷ []) (length before) ≡ Some last
+got_behind [] last = refl
+got_behind (step ∷ before) last = got_behind before last
+
+pub last_got : (steps reported before : List (List Line)) (last : List Line) (n : ℕ) →
+    reported ≡ steps → steps ≡ before ++ last ∷ [] → n ≡ length reported - 1 →
+    slice_get reported n ≡ Some last
+last_got steps reported before last n same is at =
+    let whole : reported ≡ before ++ last ∷ [] = same ∙ is in
+    let place : n ≡ length before =
+    omega (arith, at, ap length whole, length-append before (last ∷ [])) in
+    rw (whole, place) (got_behind before last)
+
+pub same_step : (one other : List Line) → Some one ≡ Some other → one ≡ other
+same_step one other e = ap (λ o. option_map_or (λ l. l) o []) e
+
+-- what a settle promises
+abbrev pub HasSettledSo : World → Configurations → Stretch → ℕ → List ℕ → List ℕ → ℕ → Type 0
+HasSettledSo world cs past node old left count = (own : Stretch)
+    × HasRunTo world cs (joined past own)
+    × (own.events ≡ replicate count (tending node)) × (count ≡ length own.steps)
+    × HasSettled own.steps × (left ≡ all_left old past.steps own.steps)
+
+module _ (cs : Configurations) (past : Stretch) (node : ℕ) (old : List ℕ) (world after : World)
+    (left next : List ℕ) (count : ℕ) (s : Settles world cs past node old left count)
+    (few : suc count ≤ most) (choice : Choice) (lines : List Line)
+    (run : HasRunTo after cs (joined (joined past s.own) (one (tending node) choice lines)))
+    (is : next ≡ left ++ places_after (frames_in_steps (past.steps ++ s.own.steps))
+    (frames_of_step lines)) where
+  abbrev more : Stretch
+  more = joined s.own (one (tending node) choice lines)
+
+  happened : HasRunTo after cs (joined past more)
+  happened = subst (λ (it : Stretch). HasRunTo after cs it)
+      (joined_assoc past s.own (one (tending node) choice lines)) run
+
+  tended : more.events ≡ replicate (suc count) (tending node)
+  tended = ap (λ (l : List lab.Event). l ++ tending node ∷ []) s.events
+      ∙ replicate-more count (tending node)
+
+  behind : next ≡ all_left old past.steps more.steps
+  behind = is ∙ (ap (λ (l : List ℕ). l ++ places_after
+      (frames_in_steps (past.steps ++ s.own.steps)) (frames_of_step lines)) s.behind
+      ∙ sym (grown cs past old s.own.steps lines))
+
+  -- a tend worked
+  pub settles_on : has_worked lines ≡ true → Settles after cs past node old next (suc count)
+  settles_on worked = record {
+    own = more;
+    run = happened;
+    events = tended;
+    each = omega (arith, s.each, length-append s.own.steps (lines ∷ []));
+    worked = All-push (λ step. has_worked step ≡ true) s.own.steps lines s.worked worked;
+    behind = behind;
+    few = few;
+  }
+
+  -- a tend did not work
+  pub settled : has_worked lines ≡ false → HasSettledSo after cs past node old next (suc count)
+  settled idle = (
+    more,
+    happened,
+    tended,
+    omega (arith, s.each, length-append s.own.steps (lines ∷ [])),
+    record {
+      before = s.own.steps;
+      last = lines;
+      all = refl;
+      each = s.worked;
+      few = omega (arith, few, s.each, length-append s.own.steps (lines ∷ []));
+      bound = λ worked. absurd (false≢true (sym idle ∙ worked));
+    },
+    behind,
+  )
+
+-- all but the last of some steps, and the last
+front_of : (steps : List (List Line)) → 0 < length steps →
+    (before : List (List Line)) × (last : List Line) × (steps ≡ before ++ last ∷ [])
+front_of [] some = absurd (omega (arith, some))
+front_of (step ∷ []) some = ([], step, refl)
+front_of (step ∷ next ∷ steps) some =
+    let rest = front_of (next ∷ steps) (omega arith) in
+    (step ∷ rest.0, rest.1, ap (λ (l : List (List Line)). step ∷ l) rest.2)
+
+front_all : (P : List Line → Type 0) (before : List (List Line)) (last : List Line) →
+    All P (before ++ last ∷ []) → All P before
+front_all P [] last all = All-nil P
+front_all P (step ∷ before) last all =
+    All-cons P step before (All-head P step (before ++ last ∷ []) all)
+    (front_all P before last (All-tail P step (before ++ last ∷ []) all))
+
+All-before : (P : List Line → Type 0) (steps before : List (List Line)) (last : List Line) →
+    steps ≡ before ++ last ∷ [] → All P steps → All P before
+All-before P steps before last is all =
+    front_all P before last (subst (λ (l : List (List Line)). All P l) is all)
+
+-- the steps of a settle that reached its bound
+all_worked : (steps : List (List Line)) → length steps ≡ most →
+    All (λ step. has_worked step ≡ true) steps → HasSettled steps
+all_worked steps many worked = record {
+  before = (front_of steps (omega (arith, many))).0;
+  last = (front_of steps (omega (arith, many))).1;
+  all = (front_of steps (omega (arith, many))).2;
+  each = All-before (λ step. has_worked step ≡ true) steps
+      (front_of steps (omega (arith, many))).0 (front_of steps (omega (arith, many))).1
+      (front_of steps (omega (arith, many))).2 worked;
+  few = omega (arith, many);
+  bound = λ _. many;
+}
+
+pub settled_most : (world : World) (cs : Configurations) (past : Stretch) (node : ℕ)
+    (old left : List ℕ) (count : ℕ) → Settles world cs past node old left count → most ≤ count →
+    HasSettledSo world cs past node old left count
+settled_most world cs past node old left count s reached = (
+  s.own,
+  s.run,
+  s.events,
+  s.each,
+  all_worked s.own.steps (omega (arith, reached, s.few, s.each)) s.worked,
+  s.behind,
+)
 
 -- ---- a course
 
 -- statements ran so far, and with those that are left make the whole
 pub record Goes (world : World) (cs : Configurations) (left : List ℕ) (behind all : List Statement)
     (turns : List StatementResult) : Type 0 where
-  pub events : List lab.Event
-  pub steps : List (List Line)
-  pub run : HasRun world cs events steps
-  pub rising : IsRising 0 (frames_in_steps steps) left
-  pub whole : (ts : List StatementResult) (es : List lab.Event) (ss : List (List Line)) →
-      AreResults (frames_in_steps steps) left behind ts es ss →
-      AreResults 0 [] all (turns ++ ts) (events ++ es) (steps ++ ss)
+  pub past : Stretch
+  pub run : HasRunTo world cs past
+  pub rising : IsRising 0 (frames_in_steps past.steps) left
+  pub whole : (ts : List StatementResult) (rest : Stretch) →
+      AreResults cs past left behind ts rest →
+      AreResults cs nothing [] all (turns ++ ts) (joined past rest)
 
 pub goes_nowhere : (world : World) (cs : Configurations) (left : List ℕ) (all : List Statement) →
-    HasRun world cs [] [] → left ≡ [] → Goes world cs left all all []
+    HasRunTo world cs nothing → left ≡ [] → Goes world cs left all all []
 goes_nowhere world cs left all run none = record {
-  events = [];
-  steps = [];
+  past = nothing;
   run = run;
   rising = rw none (omega arith);
-  whole = λ ts es ss c. subst (λ (l : List ℕ). AreResults 0 l all ts es ss) none c;
+  whole = λ ts rest c. subst (λ (l : List ℕ). AreResults cs nothing l all ts rest) none c;
 }
 
 -- one statement more
-pub goes_on : (world after : World) (cs : Configurations) (left next : List ℕ) (it : Statement)
+pub goes_on : (old new : ScriptRun) (cs : Configurations) (it : Statement)
     (behind all : List Statement) (turns : List StatementResult) (turn : StatementResult)
-    (g : Goes world cs left (it ∷ behind) all turns) (own : List lab.Event)
-    (lines : List (List Line)) → IsResult (frames_in_steps g.steps) left it turn own lines →
-    HasRun after cs (g.events ++ own) (g.steps ++ lines) →
-    next ≡ left_after it.action
-    (left ++ places_after (frames_in_steps g.steps) (frames_in_steps lines)) →
-    Goes after cs next behind all (turns ++ turn ∷ [])
-goes_on world after cs left next it behind all turns turn g own lines is run left_is = record {
-  events = g.events ++ own;
-  steps = g.steps ++ lines;
-  run = run;
-  rising = rw (left_is, frames_in_steps-more g.steps lines)
-      (left_rises it.action left (frames_in_steps g.steps) (frames_in_steps lines) g.rising);
-  whole = λ ts es ss c.
-      let first = subst (λ (k : ℕ). AreResults k next behind ts es ss)
-      (frames_in_steps-more g.steps lines) c in
-      let second = subst (λ (l : List ℕ). AreResults
-      (frames_in_steps g.steps + frames_in_steps lines) l
-      behind ts es ss) left_is first in
-      let one = g.whole (turn ∷ ts) (own ++ es) (lines ++ ss)
-      (turn, own, lines, ts, es, ss, is, refl, refl, refl, second) in
-      subst (λ (t : List StatementResult). AreResults 0 [] all t ((g.events ++ own) ++ es)
-      ((g.steps ++ lines) ++ ss)) (sym (append_assoc turns (turn ∷ []) ts))
-      (subst (λ (e : List lab.Event). AreResults 0 [] all (turns ++ turn ∷ ts) e
-      ((g.steps ++ lines) ++ ss)) (sym (append_assoc g.events own es))
-      (subst (λ (s : List (List Line)). AreResults 0 [] all (turns ++ turn ∷ ts)
-      (g.events ++ (own ++ es)) s) (sym (append_assoc g.steps lines ss)) one));
+    (g : Goes old.world cs old.left.items (it ∷ behind) all turns) →
+    HasTurned cs g.past it turn old new →
+    Goes new.world cs new.left.items behind all (turns ++ turn ∷ [])
+goes_on old new cs it behind all turns turn g t = record {
+  past = joined g.past t.own;
+  run = t.run;
+  rising = rw (t.left, frames_in_steps-more g.past.steps t.own.steps)
+      (left_rises it.action old.left.items (frames_in_steps g.past.steps)
+      (frames_in_steps t.own.steps) g.rising);
+  whole = λ ts rest c.
+      let one = g.whole (turn ∷ ts) (joined t.own rest)
+      (turn, t.own, ts, rest, t.did, t.shown, refl, refl,
+      subst (λ (l : List ℕ). AreResults cs (joined g.past t.own) l behind ts rest) t.left c) in
+      subst (λ (l : List StatementResult). AreResults cs nothing [] all l
+      (joined (joined g.past t.own) rest)) (sym (append_assoc turns (turn ∷ []) ts))
+      (subst (λ (s : Stretch). AreResults cs nothing [] all (turns ++ turn ∷ ts) s)
+      (sym (joined_assoc g.past t.own rest)) one);
 }
 
 -- ---- the turn of a statement
@@ -323,48 +480,118 @@ left_delivered what place left mid new is same cut = cut
     ∙ (ap (λ (l : List ℕ). without place l) same
     ∙ ap (λ (w : EventKind). left_after_event w left) (sym is))
 
-pub result_of_event : (sent : ℕ) (left : List ℕ) (it : Statement) (event : lab.Event)
-    (lines : List Line) → it.action ≡ Event event →
-    IsResult sent left it (record { line = it.line; events = 1; note = None })
-    (event ∷ []) (lines ∷ [])
-result_of_event sent left it event lines is = record {
-  line = refl;
-  count = refl;
-  each = refl;
-  did = rw is (refl, refl);
-}
+-- a look tells the numbers
+is_shown : (cs : Configurations) (past : Stretch) (node : ℕ) (numbers : Option Numbers) →
+    AreNumbersOf cs past.events past.choices node numbers →
+    IsShown cs past (shown node numbers)
+is_shown cs past node None told = told
+is_shown cs past node (Some numbers) told = told
 
-pub result_of_error : (sent : ℕ) (left : List ℕ) (it : Statement) (e : KvError) →
-    it.action ≡ Invalid e →
-    IsResult sent left it (record { line = it.line; events = 0; note = Some (note.Invalid e) })
-    [] []
-result_of_error sent left it e is = record {
-  line = refl;
-  count = refl;
-  each = refl;
-  did = rw is (refl, refl);
-}
+-- a flow shows no node
+never_shown : (cs : Configurations) (past : Stretch) (left : List ℕ) → IsShown cs past (busy left)
+never_shown cs past [] = tt
+never_shown cs past (place ∷ places) = tt
 
-pub result_of_flow : (sent : ℕ) (left : List ℕ) (it : Statement) (own : List (List Line))
-    (count : ℕ) (said : Option Note) → it.action ≡ Flow → count ≡ length own →
-    count ≡ length (deliveries (left ++ places_after sent (frames_in_steps own))) →
-    busy (drop most (left ++ places_after sent (frames_in_steps own))) ≡ said →
-    IsResult sent left it (record { line = it.line; events = count; note = said })
-    (deliveries (left ++ places_after sent (frames_in_steps own))) own
-result_of_flow sent left it own count said is each events notes = record {
-  line = refl;
-  count = events;
-  each = sym each ∙ events;
-  did = rw is (refl, sym notes);
-}
+-- what statements have done, by their results
+module _ (cs : Configurations) (past : Stretch) (it : Statement) (old new : ScriptRun) where
+  pub turned_by_event : (event : lab.Event) (choice : Choice) (lines : List Line) →
+      it.action ≡ Event event → HasRunTo new.world cs (joined past (one event choice lines)) →
+      new.left.items ≡ left_after_event event.kind (old.left.items
+      ++ places_after (frames_in_steps past.steps) (frames_of_step lines)) →
+      HasTurned cs past it
+      (record { line = it.line; events = 1; silent = 0; note = note.Nothing }) old new
+  turned_by_event event choice lines is run left = record {
+    own = one event choice lines;
+    did = record { line = refl; count = refl; each = refl; did = rw is (refl, refl, refl) };
+    shown = tt;
+    run = run;
+    left =
+        let same : frames_of_step lines ≡ frames_of_step lines + 0 = omega arith in
+        rw is (subst (λ (k : ℕ). new.left.items ≡ left_after_event event.kind
+        (old.left.items ++ places_after (frames_in_steps past.steps) k)) same left);
+  }
 
-pub none_left : (xs : List ℕ) → length xs ≡ 0 → busy xs ≡ None
-none_left [] e = refl
-none_left (x ∷ xs) e = absurd (omega (arith, e))
+  -- nothing happened
+  pub turned_without : (said : Note) → new ≡ old → HasRunTo old.world cs past →
+      IsResultOfAction it.action (old.left.items ++ []) [] [] 0 said → IsShown cs past said →
+      left_after it.action old.left.items ≡ old.left.items →
+      HasTurned cs past it
+      (record { line = it.line; events = 0; silent = 0; note = said }) old new
+  turned_without said same run did told leaves = record {
+    own = nothing;
+    did = record { line = refl; count = refl; each = refl; did = did };
+    shown = told;
+    run = rw same (subst (λ (s : Stretch). HasRunTo old.world cs s) (sym (joined_nothing past)) run);
+    left = rw (same, append-nil old.left.items) (sym leaves);
+  }
 
-pub some_left : (xs : List ℕ) → (length xs ≡ 0 → ⊥) → busy xs ≡ Some note.Busy
-some_left [] e = absurd (e refl)
-some_left (x ∷ xs) e = refl
+  pub turned_by_show : (node : ℕ) (numbers : Option Numbers) (said : Note) →
+      it.action ≡ Show node → said ≡ shown node numbers → new ≡ old →
+      HasRunTo old.world cs past → AreNumbersOf cs past.events past.choices node numbers →
+      HasTurned cs past it
+      (record { line = it.line; events = 0; silent = 0; note = said }) old new
+  turned_by_show node numbers said is same stays run told =
+      turned_without said stays run (rw is (refl, refl, (numbers, same)))
+      (subst (λ (n : Note). IsShown cs past n) (sym same)
+      (is_shown cs past node numbers told)) (rw is refl)
+
+  pub turned_by_flow : (count : ℕ) → it.action ≡ Flow →
+      (flowed : HasFlowed new.world cs past old.left.items new.left.items count) →
+      HasTurned cs past it (record {
+        line = it.line;
+        events = count;
+        silent = 0;
+        note = busy new.left.items;
+      }) old new
+  turned_by_flow count is flowed = record {
+    own = flowed.0;
+    did = record {
+      line = refl;
+      count = flowed.4;
+      each = sym flowed.3 ∙ flowed.4;
+      did = rw is (flowed.2, refl, ap busy flowed.5);
+    };
+    shown = never_shown cs past new.left.items;
+    run = flowed.1;
+    left = rw is flowed.5;
+  }
+
+  pub turned_by_settle : (node count : ℕ) (turn : StatementResult) (goes_on : Bool) →
+      it.action ≡ Settle node →
+      (settles : HasSettledSo new.world cs past node old.left.items new.left.items count) →
+      goes_on ≡ has_worked settles.4.last → turn ≡ (record {
+        line = it.line;
+        events = count;
+        silent = (if goes_on then count else count - 1);
+        note = (if goes_on then note.Busy else note.Nothing);
+      }) → HasTurned cs past it turn old new
+  turned_by_settle node count turn goes_on is settles same told =
+      let tends : length settles.0.events ≡ count = ap (λ (l : List lab.Event). length l) settles.2
+      ∙ replicate-length count (tending node) in
+      record {
+        own = settles.0;
+        did = record {
+          line = ap (λ (t : StatementResult). t.line) told;
+          count = ap (λ (t : StatementResult). t.events) told ∙ sym tends;
+          each = sym settles.3 ∙ sym tends;
+          did = rw is (
+            settles.2 ∙ ap (λ (k : ℕ). replicate k (tending node)) settles.3,
+            (settles.4, record {
+              first = ap (λ (t : StatementResult). t.silent) told
+                  ∙ ap₂ (λ (b : Bool) (k : ℕ). if b then k else k - 1) same settles.3;
+              besides = ap (λ (t : StatementResult). t.note) told
+                  ∙ ap (λ (b : Bool). if b then note.Busy else note.Nothing) same;
+            }),
+          );
+        };
+        shown = rw told (quiet goes_on);
+        run = settles.1;
+        left = rw is settles.5;
+      }
+    where
+      quiet : (b : Bool) → IsShown cs past (if b then note.Busy else note.Nothing)
+      quiet true = tt
+      quiet false = tt
 
 -- a front that is none
 pub emptied : (xs ys : List ℕ) → xs ≡ ys → ys ≡ drop 1 xs → ys ≡ []
@@ -372,54 +599,43 @@ emptied [] ys e f = sym e
 emptied (x ∷ xs) ys e f = absurd (omega (arith, ap length e, ap length f))
 
 -- the next statement of all
-pub goes_next : (world after : World) (cs : Configurations) (left next : List ℕ)
-    (all : List Statement) (i : ℕ) (d it : Statement) (turns : List StatementResult)
-    (turn : StatementResult) →
-    i < length all →
-    it ≡ get_or all i d → (g : Goes world cs left (drop i all) all turns)
-    (own : List lab.Event) (lines : List (List Line)) →
-    IsResult (frames_in_steps g.steps) left it turn own lines →
-    HasRun after cs (g.events ++ own) (g.steps ++ lines) →
-    next ≡ left_after it.action
-    (left ++ places_after (frames_in_steps g.steps) (frames_in_steps lines)) →
-    Goes after cs next (drop (suc i) all) all (turns ++ turn ∷ [])
-goes_next world after cs left next all i d it turns turn within at g own lines is run left_is =
+pub goes_next : (old new : ScriptRun) (cs : Configurations) (all : List Statement) (i : ℕ)
+    (d it : Statement) (turns : List StatementResult) (turn : StatementResult) →
+    i < length all → it ≡ get_or all i d →
+    (g : Goes old.world cs old.left.items (drop i all) all turns) →
+    HasTurned cs g.past it turn old new →
+    Goes new.world cs new.left.items (drop (suc i) all) all (turns ++ turn ∷ [])
+goes_next old new cs all i d it turns turn within at g t =
     let parts : drop i all ≡ it ∷ drop (suc i) all = drop-cons all i d within
     ∙ ap (λ (x : Statement). x ∷ drop (suc i) all) (sym at) in
-    let h : Goes world cs left (it ∷ drop (suc i) all) all turns = record {
-      events = g.events;
-      steps = g.steps;
+    goes_on old new cs it (drop (suc i) all) all turns turn (record {
+      past = g.past;
       run = g.run;
       rising = g.rising;
-      whole = subst (λ (b : List Statement). (ts : List StatementResult) (es : List lab.Event)
-          (ss : List (List Line)) → AreResults (frames_in_steps g.steps) left b ts es ss →
-          AreResults 0 [] all (turns ++ ts) (g.events ++ es) (g.steps ++ ss)) parts g.whole;
-    } in
-    goes_on world after cs left next it (drop (suc i) all) all turns turn h own lines is run
-    left_is
+      whole = subst (λ (b : List Statement). (ts : List StatementResult) (rest : Stretch) →
+          AreResults cs g.past old.left.items b ts rest →
+          AreResults cs nothing [] all (turns ++ ts) (joined g.past rest)) parts g.whole;
+    }) t
 
 -- all statements ran
 pub gone : (world : World) (setup : Setup) (left : List ℕ) (all behind : List Statement)
     (turns : List StatementResult) (report : Report)
     (g : Goes world setup.configs left behind all turns) →
-    behind ≡ [] → report.steps.items ≡ g.steps → IsRun setup.configs g.events report →
-    OneHistory setup.configs g.events report → HasRunStatements setup all turns report
+    behind ≡ [] → report.steps.items ≡ g.past.steps →
+    IsRun setup.configs g.past.events g.past.choices report →
+    OneHistory setup.configs g.past.events report → HasRunStatements setup all turns report
 gone world setup left all behind turns report g none steps run history =
-    let nothing : AreResults (frames_in_steps g.steps) left behind [] [] [] =
-    subst (λ (b : List Statement). AreResults (frames_in_steps g.steps) left b [] [] []) (sym none)
-    (refl, refl, refl) in
-    let whole = g.whole [] [] [] nothing in
-    let first = subst (λ (t : List StatementResult). AreResults 0 [] all t (g.events ++ [])
-    (g.steps ++ []))
-    (append-nil turns) whole in
-    let second = subst (λ (e : List lab.Event). AreResults 0 [] all turns e (g.steps ++ []))
-    (append-nil g.events) first in
-    let third = subst (λ (s : List (List Line)). AreResults 0 [] all turns g.events s)
-    (append-nil g.steps) second in
+    let cs = setup.configs in
+    let last : AreResults cs g.past left behind [] nothing =
+    subst (λ (b : List Statement). AreResults cs g.past left b [] nothing) (sym none) (refl, refl)
+    in
     record {
-      events = g.events;
-      course = subst (λ (s : List (List Line)). AreResults 0 [] all turns g.events s) (sym steps)
-          third;
+      all = g.past;
+      course = subst (λ (t : List StatementResult). AreResults cs nothing [] all t g.past)
+          (append-nil turns)
+          (subst (λ (s : Stretch). AreResults cs nothing [] all (turns ++ []) s)
+          (joined_nothing g.past) (g.whole [] nothing last));
+      lines = steps;
       ran = run;
       history = history;
     }

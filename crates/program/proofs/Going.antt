@@ -87,7 +87,11 @@ has_name cs event (Some x) e = tt
 
 names : (cs : Configurations) (words : List (List ℕ)) (action : Action)
     → IsStatement cs words action → Names cs action
-names cs words action (inl is) = rw is.0 tt
+names cs words action (inl (inl is)) = rw is.0 tt
+names cs words action (inl (inr is)) = elim is.said [
+  | inl said ↦ rw said.0 is.there
+  | inr said ↦ rw said.0 is.there
+]
 names cs words action (inr (event, spells, named, same)) =
     rw same (has_name cs event (error_of event.kind) named)
 

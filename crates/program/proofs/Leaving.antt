@@ -10,6 +10,7 @@ use Rattle.lab.specs.declared.EventKind.{EventKind}
 use Rattle.lab.specs.declared.EventKind.TheVariants.{Submit, Get, Deliver, Tick, Tend, Start, Stop}
 use Rattle.program.specs.declared.script.statement.Action.{Action}
 use Rattle.program.specs.declared.script.statement.Action.TheVariants.{Event, Invalid, Flow}
+use Rattle.program.specs.declared.script.statement.Action.TheVariants.{Settle, Show}
 use Rattle.program.specs.ScriptRuns.{IsRising, places_after, left_after, left_after_event, most}
 
 apart : (x place : ℕ) → (x ≡ place → ⊥) → (place == x) ≡ false
@@ -117,6 +118,8 @@ rest_rises : (action : Action) (xs : List ℕ) (low high : ℕ) → IsRising low
 rest_rises (Event event) xs low high up = event_rises event.kind xs low high up
 rest_rises (Invalid e) xs low high up = up
 rest_rises Flow xs low high up = drop_rises most xs low high up
+rest_rises (Settle node) xs low high up = up
+rest_rises (Show node) xs low high up = up
 
 -- what a statement leaves
 pub left_rises : (action : Action) (left : List ℕ) (sent count : ℕ) → IsRising 0 sent left →

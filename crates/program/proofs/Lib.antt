@@ -14,6 +14,7 @@ pub mod Printed
 pub mod Written
 pub mod Leaving
 pub mod Flowing
+pub mod Items
 pub mod Wholes
 pub mod OneText
 pub mod ReadBack

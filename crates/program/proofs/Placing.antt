@@ -1,7 +1,9 @@
 -- Where a statement stands, and the node that it names.
 use Rattle.std.proofs.Common.{◌≡◌, ◌<◌, ◌^◌, ℕ, List, [], ◌∷◌, refl, ◌∙◌, codes, Option}
 use Rattle.std.proofs.Common.{is_none, Some, None, Ok, Err, inl, inr, true, false, arith, map, ap}
-use Rattle.std.proofs.Common.{subst}
+use Rattle.std.proofs.Common.{subst, sym, length}
+use Rattle.std.specs.Prelude.{◌==◌, MatchResult, Result}
+use Rattle.std.proofs.lemmas.Bool.Decides.{nat_tests}
 use Rattle.std.proofs.lemmas.Bool.{cases_Bool}
 use Rattle.std.proofs.lemmas.Grind.{common_steps}
 use Rattle.std.specs.Str.Parse.{digits_value}
@@ -15,18 +17,20 @@ use Rattle.lab.specs.declared.EventKind.{EventKind}
 use Rattle.lab.specs.declared.EventKind.TheVariants.{Submit, Get, Deliver, Tick, Tend, Start, Stop}
 use Rattle.lab.specs.{node_in, NamesNode}
 use Rattle.program.specs.declared.script.error.ScriptError.{ScriptError}
-use Rattle.program.specs.declared.script.error.ScriptError.TheVariants.{OutOfPlace}
+use Rattle.program.specs.declared.script.error.ScriptError.TheVariants.{OutOfPlace, BadFault}
+use Rattle.program.specs.declared.script.error.ScriptError.TheVariants.{BadNumber}
+use Rattle.program.specs.declared.script.error.ScriptError.TheVariants.{WrongNumberOfWords}
 use Rattle.program.specs.declared.script.statement.ParserState.{ParserState}
 use Rattle.program.specs.declared.script.statement.LineItem.TheVariants.{Config}
 use Rattle.program.specs.declared.script.statement.Action.{Action}
-use Rattle.program.specs.declared.script.statement.Action.TheVariants.{Event, Flow}
-use Rattle.program.specs.Words.{before_fault, from_fault}
+use Rattle.program.specs.declared.script.statement.Action.TheVariants.{Event, Flow, Settle, Show}
+use Rattle.program.specs.Words.{before_fault, from_fault, is_number}
 use Rattle.program.specs.Statements.{CanBeSaid, IsSpelled, fault_of_words}
 use Rattle.program.specs.Actions.{action_of}
 use Rattle.program.specs.Events.{SpellsEvent, bears_fault, fault_word, takes_fault}
 use Rattle.program.specs.Faults.{node_named, node_fault, statement_fault, config_fault, numbers_of}
 use Rattle.program.specs.Faults.{spelling_fault}
-use Rattle.program.specs.Reading.{Places, ReadsFaultAs, ReadsWords}
+use Rattle.program.specs.Reading.{IsOfOneNode, Places, PlacesNode, ReadsFaultAs, ReadsWords}
 use Rattle.program.proofs.FaultWords.{split_words}
 use Rattle.program.proofs.Numbers.{own}
 use Rattle.program.proofs.OneText.{name_of, named}
@@ -189,4 +193,95 @@ pub flows : (before : ParserState) (args : List (List ℕ)) → [] ≡ before_fa
 flows before args first others some =
     let found = some_config before.configs some in
     let empty : args ≡ [] = rw (← first, ← others) at (split_words args) in
-    (rw (empty, found.1) refl, (found.0, found.1, inl (refl, rw empty refl)))
+    (rw (empty, found.1) refl, (found.0, found.1, inl (inl (refl, rw empty refl))))
+
+-- ---- a statement that names one node and is no event
+
+-- where its words are good, its fault is that of its place
+pub of_one_node : (before : ParserState) (name : List ℕ) (args : List (List ℕ)) (word : List ℕ)
+    (node : ℕ) → IsOfOneNode name → before_fault args ≡ word ∷ [] → from_fault args ≡ [] →
+    is_number word ≡ true → digits_value 10 word ≡ node →
+    statement_fault before name args ≡ node_fault before.configs (Some node)
+of_one_node before name args word node (inl is) first others good back =
+    rw (is, first, others, good, back) refl
+of_one_node before name args word node (inr is) first others good back =
+    rw (is, first, others, good, back) refl
+
+pub one_node_placed : (before : ParserState) (name : List ℕ) (args : List (List ℕ))
+    (word : List ℕ) (node : ℕ) → IsOfOneNode name → word ∷ [] ≡ before_fault args →
+    [] ≡ from_fault args → is_number word ≡ true → node < 2 ^ 63 → word ≡ decimal node →
+    digits_value 10 word ≡ node → (result : Result ℕ ScriptError) → MatchResult result
+    (λ id. (id ≡ node) × (node_fault before.configs (Some node) ≡ None))
+    (λ e. node_fault before.configs (Some node) ≡ Some e) → PlacesNode before name args result
+one_node_placed before name args word node of_one first others good small is back (Ok id) found =
+    let stand = stands before.configs node found.1 in
+    let whole : args ≡ decimal id ∷ [] = split_words args
+    ∙ rw (← first, ← others, is, found.0) refl in (
+      of_one_node before name args word node of_one (sym first) (sym others) good back ∙ found.1,
+      whole,
+      subst (λ (n : ℕ). n < 2 ^ 63) (sym found.0) small,
+      (stand.0, stand.1, rw found.0 stand.2),
+    )
+one_node_placed before name args word node of_one first others good small is back (Err e) found =
+    of_one_node before name args word node of_one (sym first) (sym others) good back ∙ found
+
+-- the faults of its words
+pub one_node_count : (before : ParserState) (name : List ℕ) (args cut : List (List ℕ)) →
+    IsOfOneNode name → cut ≡ before_fault args → (length cut == 1) ≡ false →
+    statement_fault before name args ≡ Some WrongNumberOfWords
+one_node_count before name args cut (inl is) first few = rw (is, ← first, few) refl
+one_node_count before name args cut (inr is) first few = rw (is, ← first, few) refl
+
+pub one_node_number : (before : ParserState) (name : List ℕ) (args : List (List ℕ))
+    (word : List ℕ) → IsOfOneNode name → word ∷ [] ≡ before_fault args →
+    is_number word ≡ false → statement_fault before name args ≡ Some BadNumber
+one_node_number before name args word (inl is) first bad = rw (is, ← first, bad) refl
+one_node_number before name args word (inr is) first bad = rw (is, ← first, bad) refl
+
+no_fault_there : (name : List ℕ) (behind : List (List ℕ)) → takes_fault name ≡ false →
+    (length behind == 0) ≡ false → fault_word name behind ≡ Some BadFault
+no_fault_there name [] none some = absurd (grind (arith, nat_tests))
+no_fault_there name (w ∷ ws) none some = rw none refl
+
+pub one_node_fault : (before : ParserState) (name : List ℕ) (args behind : List (List ℕ))
+    (word : List ℕ) → IsOfOneNode name → word ∷ [] ≡ before_fault args →
+    behind ≡ from_fault args → is_number word ≡ true → (length behind == 0) ≡ false →
+    statement_fault before name args ≡ Some BadFault
+one_node_fault before name args behind word (inl is) first others good some =
+    rw (is, ← first, ← others, good, no_fault_there (codes "settle") behind refl some) refl
+one_node_fault before name args behind word (inr is) first others good some =
+    rw (is, ← first, ← others, good, no_fault_there (codes "show") behind refl some) refl
+
+pub settles : (before : ParserState) (args : List (List ℕ)) (node : ℕ) →
+    PlacesNode before (codes "settle") args (Ok node) →
+    Places before (codes "settle") args (Ok (Settle node))
+settles before args node (good, is, small, (cs, at, there)) = (
+  good,
+  (
+    cs,
+    at,
+    inl (inr (record {
+      node = node;
+      small = small;
+      there = there;
+      said = inl (refl, ap (λ (ws : List (List ℕ)). codes "settle" ∷ ws) is);
+    })),
+  ),
+)
+
+pub shows : (before : ParserState) (args : List (List ℕ)) (node : ℕ) →
+    PlacesNode before (codes "show") args (Ok node) →
+    Places before (codes "show") args (Ok (Show node))
+shows before args node (good, is, small, (cs, at, there)) = (
+  good,
+  (
+    cs,
+    at,
+    inl (inr (record {
+      node = node;
+      small = small;
+      there = there;
+      said = inr (refl, ap (λ (ws : List (List ℕ)). codes "show" ∷ ws) is);
+    })),
+  ),
+)

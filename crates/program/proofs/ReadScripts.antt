@@ -2,7 +2,7 @@
 use Rattle.std.proofs.Common.{◌≡◌, ◌+◌, ◌≤◌, ℕ, suc, List, [], ◌∷◌, ◌++◌, codes, subst}
 use Rattle.std.proofs.Common.{refl, sym, ◌∙◌, inl, inr, arith, true, false, Bool, map, length}
 use Rattle.std.proofs.Common.{Option, Some, None}
-use Rattle.std.specs.Prelude.{All, IfSome, ◌==◌, nat_lt}
+use Rattle.std.specs.Prelude.{All, IfSome, ◌==◌, nat_lt, ◌||◌, not, ◌<◌, ◌^◌, ◌⊎◌}
 use Rattle.std.specs.Str.{bytes_eq}
 use Rattle.std.specs.Fmt.{decimal}
 use Rattle.std.specs.List.{onto_first}
@@ -16,6 +16,8 @@ use Rattle.lab.specs.{node_in, NamesNode}
 use Rattle.lab.specs.Configuration.{Configurations, has, at_epoch}
 use Rattle.lab.specs.Configs.{IsConfig}
 use Rattle.program.specs.declared.script.statement.Action.{Action}
+use Rattle.program.specs.declared.script.statement.Action.TheVariants.{Settle, Show}
+use Rattle.program.specs.Reading.{IsOfOneNode}
 use Rattle.program.specs.declared.script.setup.Setup.{Setup}
 use Rattle.program.specs.declared.script.statement.ParserState.{ParserState}
 use Rattle.program.specs.declared.script.statement.Statement.{Statement}
@@ -26,7 +28,7 @@ use Rattle.program.specs.Scripts.{IsScriptWith, SetsLog, default_log}
 use Rattle.program.specs.Faults.{statement_fault, words_fault, line_fault, after_words, after_line}
 use Rattle.program.specs.Faults.{script_fault, start, node_fault}
 use Rattle.program.proofs.FaultWords.{all_before}
-use Rattle.program.proofs.Placing.{is_of_place, number_back}
+use Rattle.program.proofs.Placing.{is_of_place, number_back, of_one_node}
 use Rattle.program.proofs.Ids.{config_is, ids_read, number_begins}
 use Rattle.program.proofs.ReadBack.{number_read}
 use Rattle.program.proofs.OneText.{name_of}
@@ -67,7 +69,8 @@ before_configs log = record { configs = None; begun = false; log = log }
 pub record IsPassed (cs : Configurations) (begun : Bool) (log : ℕ) (words : List (List ℕ)) : Type 0
   where
     pub good : words_fault (behind_configs cs begun log) words ≡ None
-    pub after : after_words (behind_configs cs begun log) words ≡ behind_configs cs true log
+    pub later : Bool
+    pub after : after_words (behind_configs cs begun log) words ≡ behind_configs cs later log
     pub letter : 97 ≤ first_byte words
 
 free : (cs : Configurations) (node : Option ℕ) → IfSome node (λ x. has (at_epoch cs 0) x ≡ true) →
@@ -92,6 +95,7 @@ passes : (cs : Configurations) (begun : Bool) (log : ℕ) (event : lab.Event) (w
 passes cs begun log event words name args e other third letter spells named = record {
   good = rw (e, other, third) (good_statement cs begun log event name args
       (subst (λ (ws : List (List ℕ)). SpellsEvent ws event) e spells) named);
+  later = begun || not (bytes_eq name (codes "show"));
   after = rw (e, other, third) refl;
   letter = rw e letter;
 }
@@ -134,13 +138,45 @@ event_passes cs begun log event words spells named =
     (no_limit event.kind)
     (lettered event.kind args) spells named
 
+-- a node that is settled or shown
+one_node_stands : (cs : Configurations) (begun : Bool) (log node : ℕ) → node < 2 ^ 63 →
+    has (at_epoch cs 0) node ≡ true → (name : List ℕ) → IsOfOneNode name →
+    statement_fault (behind_configs cs begun log) name (decimal node ∷ []) ≡ None
+one_node_stands cs begun log node small there name of_one =
+    let read = number_read node small in
+    let alone = number_begins (decimal node) read in
+    of_one_node (behind_configs cs begun log) name (decimal node ∷ []) (decimal node) node of_one
+    (rw alone refl) (rw alone refl) read (number_back node small)
+    ∙ free cs (Some node) there
+
 statement_passes : (cs : Configurations) (begun : Bool) (log : ℕ) (words : List (List ℕ))
     (action : Action) → IsStatement cs words action → IsPassed cs begun log words
-statement_passes cs begun log words action (inl is) = record {
+statement_passes cs begun log words action (inl (inl is)) = record {
   good = rw is.1 refl;
+  later = begun || true;
   after = rw is.1 refl;
   letter = rw is.1 (omega arith);
 }
+statement_passes cs begun log words action (inl (inr is)) = one_node_passes is.said
+  where
+    one_node_passes : ((action ≡ Settle is.node)
+        × (words ≡ codes "settle" ∷ decimal is.node ∷ []))
+        ⊎ ((action ≡ Show is.node) × (words ≡ codes "show" ∷ decimal is.node ∷ [])) →
+        IsPassed cs begun log words
+    one_node_passes (inl said) = record {
+      good = rw said.1 (one_node_stands cs begun log is.node is.small is.there (codes "settle")
+          (inl refl));
+      later = begun || true;
+      after = rw said.1 refl;
+      letter = rw said.1 (omega arith);
+    }
+    one_node_passes (inr said) = record {
+      good = rw said.1 (one_node_stands cs begun log is.node is.small is.there (codes "show")
+          (inr refl));
+      later = begun || false;
+      after = rw said.1 refl;
+      letter = rw said.1 (omega arith);
+    }
 statement_passes cs begun log words action (inr (event, spells, named, same)) =
     event_passes cs begun log event words spells named
 
@@ -189,10 +225,10 @@ statements_read cs begun log n (line ∷ lines) statements short few (inl more) 
 statements_read cs begun log n (line ∷ lines) statements short few
     (inr (action, rest, is, same, more)) =
     let p = statement_passes cs begun log (words_of line) action is in
-    stated (behind_configs cs begun log) (behind_configs cs true log) n line lines
+    stated (behind_configs cs begun log) (behind_configs cs p.later log) n line lines
     (All-head (λ l. length l ≤ 262144) line lines short) (omega (arith, few)) p.letter p.good
     p.after
-    (statements_read cs true log (suc n) lines rest
+    (statements_read cs p.later log (suc n) lines rest
     (All-tail (λ l. length l ≤ 262144) line lines short) (omega (arith, few)) more)
 
 -- a configuration

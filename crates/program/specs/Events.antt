@@ -67,7 +67,8 @@ is_fault (name ∷ call ∷ junk ∷ more ∷ words) = false
 
 -- a statement of this name may bear a fault
 abbrev pub takes_fault : List ℕ → Bool
-takes_fault name = not (bytes_eq name (codes "stop") || bytes_eq name (codes "flow"))
+takes_fault name = not (bytes_eq name (codes "stop") || bytes_eq name (codes "flow")
+    || bytes_eq name (codes "settle") || bytes_eq name (codes "show"))
 
 -- the fault of the words from the first that begins with !, behind a statement of this name
 abbrev pub fault_word : List ℕ → List (List ℕ) → Option ScriptError

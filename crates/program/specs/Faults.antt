@@ -98,7 +98,11 @@ after_words before (name ∷ args) =
     then record { configs = Some (numbers_of args ∷ []); begun = before.begun; log = before.log } else
     if bytes_eq name (codes "limit")
     then record { configs = before.configs; begun = before.begun; log = limit_size args }
-    else record { configs = before.configs; begun = true; log = before.log }
+    else record {
+      configs = before.configs;
+      begun = before.begun || not (bytes_eq name (codes "show"));
+      log = before.log;
+    }
 
 -- what stands before the line after this one
 abbrev pub after_line : ParserState → List ℕ → ParserState

@@ -1,12 +1,12 @@
 -- What the parts of the script's reader promise.
-use Rattle.std.specs.Prelude.{◌≡◌, ◌≢◌, ◌≤◌, ℕ, true, false, List, [], ◌∷◌, ◌++◌, map, codes}
-use Rattle.std.specs.Prelude.{Some, None, Result, Ok, Err}
+use Rattle.std.specs.Prelude.{◌≡◌, ◌≢◌, ◌≤◌, ℕ, Bool, ◌||◌, true, false, List, [], ◌∷◌, ◌++◌, map, codes}
+use Rattle.std.specs.Prelude.{Some, None, Result, Ok, Err, ◌⊎◌, ◌<◌, ◌^◌}
 use Rattle.std.specs.Fmt.{decimal}
 use Rattle.lab.specs.Fault.{Fault}
 use Rattle.lab.specs.Fault.TheVariants as disk
 use Rattle.lab.specs.declared.EventKind.{EventKind}
 use Rattle.lab.specs.declared.EventKind.TheVariants as what
-use Rattle.lab.specs.Configuration.{Configurations}
+use Rattle.lab.specs.Configuration.{Configurations, at_epoch, has}
 use Rattle.lab.specs.Configs.{IsConfig}
 use Rattle.program.specs.declared.script.error.ScriptError.{ScriptError}
 use Rattle.program.specs.declared.script.error.ScriptError.TheVariants.{OutOfMemory}
@@ -17,6 +17,8 @@ use Rattle.program.specs.declared.script.statement.ParserState.{ParserState}
 use Rattle.program.specs.declared.script.statement.LineItem.{LineItem}
 use Rattle.program.specs.declared.script.statement.LineItem.TheVariants.{Skipped, Limit, Config, Asks}
 use Rattle.program.specs.declared.script.statement.Action.{Action}
+use Rattle.program.specs.declared.script.statement.Action.TheVariants.{Event, Invalid, Flow}
+use Rattle.program.specs.declared.script.statement.Action.TheVariants.{Settle, Show}
 use Rattle.program.specs.declared.script.statement.Statement.{Statement}
 use Rattle.program.specs.Statements.{CanBeSaid, IsSpelled, fault_of_words}
 use Rattle.program.specs.Events.{FaultCanBeSaid, IsFault, fault_word, takes_fault}
@@ -65,6 +67,14 @@ abbrev pub IsItem : ParserState → List ℕ → LineItem → Type 0
 IsItem before line Skipped = is_skipped line ≡ true
 IsItem before line item = IsItemOfWords before (words_of line) item
 
+-- a run has begun with a statement, but not with one that only shows
+abbrev pub begins : Action → Bool
+begins (Event event) = true
+begins (Invalid e) = true
+begins Flow = true
+begins (Settle node) = true
+begins (Show node) = false
+
 -- what an item leaves for the lines behind it
 abbrev pub after_item : ParserState → LineItem → ParserState
 after_item before Skipped = before
@@ -73,7 +83,11 @@ after_item before (Limit size) =
 after_item before (Config cs) =
     record { configs = Some cs; begun = before.begun; log = before.log }
 after_item before (Asks action) =
-    record { configs = before.configs; begun = true; log = before.log }
+    record {
+      configs = before.configs;
+      begun = before.begun || begins action;
+      log = before.log;
+    }
 
 abbrev pub statements_of : ℕ → LineItem → List Statement
 statements_of n Skipped = []
@@ -87,6 +101,17 @@ Places before name args (Ok action) =
     (statement_fault before name args ≡ None)
     × ((cs : Configurations) × (before.configs ≡ Some cs) × IsStatement cs (name ∷ args) action)
 Places before name args (Err e) = (e ≢ OutOfMemory) → statement_fault before name args ≡ Some e
+
+-- the name of a statement that names one node and is no event
+abbrev pub IsOfOneNode : List ℕ → Type 0
+IsOfOneNode name = (name ≡ codes "settle") ⊎ (name ≡ codes "show")
+
+-- such a statement may stand here, with its node
+abbrev pub PlacesNode : ParserState → List ℕ → List (List ℕ) → Result ℕ ScriptError → Type 0
+PlacesNode before name args (Ok node) =
+    (statement_fault before name args ≡ None) × (args ≡ decimal node ∷ []) × (node < 2 ^ 63)
+    × ((cs : Configurations) × (before.configs ≡ Some cs) × (has (at_epoch cs 0) node ≡ true))
+PlacesNode before name args (Err e) = statement_fault before name args ≡ Some e
 
 abbrev pub ReadsWords : ParserState → List (List ℕ) → Result LineItem ScriptError → Type 0
 ReadsWords before words (Ok item) =

@@ -1,7 +1,6 @@
 -- A whole run: from the bytes of a script to the bytes that are printed, and how it can end.
 use Rattle.std.specs.Prelude.{◌≡◌, ◌≢◌, ◌⊎◌, ℕ, List, [], take, Option, None, IfSome}
 use Rattle.std.specs.Io.KnownBytes.{Appends}
-use Rattle.lab.specs.declared.Event as lab
 use Rattle.lab.specs.declared.Report.{Report}
 use Rattle.lab.specs.{IsRun, OneHistory}
 use Rattle.program.specs.declared.failure.Failure.{Failure}
@@ -9,7 +8,7 @@ use Rattle.program.specs.declared.failure.Failure.TheVariants.{Output}
 use Rattle.program.specs.declared.script.setup.Setup.{Setup}
 use Rattle.program.specs.declared.script.statement.Statement.{Statement}
 use Rattle.program.specs.declared.statement_result.StatementResult.{StatementResult}
-use Rattle.program.specs.ScriptRuns.{AreResults}
+use Rattle.program.specs.ScriptRuns.{AreResults, Stretch, nothing}
 use Rattle.program.specs.Scripts.{script_lines, IsScript}
 use Rattle.program.specs.Faults.{script_fault, start}
 use Rattle.program.specs.Failures.{IsFailureOf, failure_line}
@@ -20,10 +19,11 @@ use Rattle.program.specs.Text.{run_text}
 pub record HasRunStatements (setup : Setup) (statements : List Statement)
     (turns : List StatementResult)
     (report : Report) : Type 0 where
-  pub events : List lab.Event
-  pub course : AreResults 0 [] statements turns events report.steps.items
-  pub ran : IsRun setup.configs events report
-  pub history : OneHistory setup.configs events report
+  pub all : Stretch
+  pub course : AreResults setup.configs nothing [] statements turns all
+  pub lines : report.steps.items ≡ all.steps
+  pub ran : IsRun setup.configs all.events all.choices report
+  pub history : OneHistory setup.configs all.events report
 
 -- .. and this was done with the text of exactly that run
 pub record IsRunOf (setup : Setup) (statements : List Statement) (done : List ℕ → Type 0) : Type 0

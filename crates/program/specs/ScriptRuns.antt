@@ -1,22 +1,30 @@
 -- The course of a run: the events of each statement, and the frames that none has delivered yet.
 use Rattle.std.specs.Prelude.{◌≡◌, ◌<◌, ◌≤◌, ℕ, zero, suc, ◌+◌}
 use Rattle.std.specs.Prelude.{List, [], ◌∷◌, ◌++◌, length, map, take, drop}
+use Rattle.std.specs.Prelude.{◌-◌, Bool, true, false, if◌then◌else◌, All, replicate}
 use Rattle.std.specs.Prelude.{Option, Some, None}
+use Rattle.lab.specs.Configuration.{Configurations}
 use Rattle.lab.specs.Machine.{without}
 use Rattle.lab.specs.Fault.TheVariants as fault
 use Rattle.lab.specs.declared.Event as lab
 use Rattle.lab.specs.declared.EventKind.{EventKind}
 use Rattle.lab.specs.declared.EventKind.TheVariants.{Submit, Get, Deliver, Tick, Tend, Start, Stop}
 use Rattle.lab.specs.declared.Line.{Line}
-use Rattle.lab.specs.{frames_in_steps}
+use Rattle.lab.specs.declared.Line.TheVariants as line
+use Rattle.lab.specs.declared.Numbers.{Numbers}
+use Rattle.lab.specs.declared.World.{World}
+use Rattle.lab.specs.Tended.TheVariants as tended
+use Rattle.lab.specs.{AreNumbersOf, Choice, HasRun, frames_in_steps}
 use Rattle.program.specs.declared.script.statement.Action.{Action}
 use Rattle.program.specs.declared.script.statement.Action.TheVariants.{Event, Invalid, Flow}
+use Rattle.program.specs.declared.script.statement.Action.TheVariants.{Settle, Show}
 use Rattle.program.specs.declared.script.statement.Statement.{Statement}
+use Rattle.program.specs.declared.script_run.ScriptRun.{ScriptRun}
 use Rattle.program.specs.declared.statement_result.StatementResult.{StatementResult}
 use Rattle.program.specs.declared.statement_result.Note.{Note}
 use Rattle.program.specs.declared.statement_result.Note.TheVariants as note
 
--- the most frames that one flow delivers
+-- the most frames that one flow delivers, and the most tends of one settle
 abbrev pub most : ℕ
 most = 10000
 
@@ -30,9 +38,13 @@ abbrev pub IsRising : ℕ → ℕ → List ℕ → Type 0
 IsRising low high [] = low ≤ high
 IsRising low high (place ∷ places) = (low < place) × IsRising place high places
 
--- a frame is delivered, without a fault of the disk
+-- something happens, without a fault of the disk
+abbrev pub faultless : EventKind → lab.Event
+faultless kind = record { kind = kind; fault = fault.None }
+
+-- a frame is delivered
 abbrev pub delivery : ℕ → lab.Event
-delivery place = record { kind = Deliver place; fault = fault.None }
+delivery place = faultless (Deliver place)
 
 -- the events of a flow, where these frames had not been delivered by another statement before it
 -- ended: it delivers them in order of place, up to its bound
@@ -53,21 +65,58 @@ abbrev pub left_after : Action → List ℕ → List ℕ
 left_after (Event event) left = left_after_event event.kind left
 left_after (Invalid e) left = left
 left_after Flow left = drop most left
+left_after (Settle node) left = left
+left_after (Show node) left = left
 
 -- a flow that stops at its bound with frames left is told busy
-abbrev pub busy : List ℕ → Option Note
-busy [] = None
-busy (place ∷ places) = Some note.Busy
+abbrev pub busy : List ℕ → Note
+busy [] = note.Nothing
+busy (place ∷ places) = note.Busy
+
+-- a node tends
+abbrev pub tending : ℕ → lab.Event
+tending node = faultless (Tend node)
+
+-- the lines of a tend that worked
+abbrev pub has_worked : List Line → Bool
+has_worked (line.Tended tended.Worked ∷ []) = true
+has_worked lines = false
+
+-- tends of a node, up to the first that did not work, or to the bound
+pub record HasSettled (steps : List (List Line)) : Type 0 where
+  pub before : List (List Line)
+  pub last : List Line
+  pub all : steps ≡ before ++ last ∷ []
+  pub each : All (λ step. has_worked step ≡ true) before
+  pub few : length steps ≤ most
+  pub bound : has_worked last ≡ true → length steps ≡ most
+
+-- what is said of a node that is shown, which has numbers if it runs
+abbrev pub shown : ℕ → Option Numbers → Note
+shown node None = note.Down node
+shown node (Some numbers) = note.Running node numbers
+
+-- what a settle prints: the lines of its last tend, or busy where that worked
+pub record ShowsLast (last : List Line) (silent count : ℕ) (said : Note) : Type 0 where
+  pub first : silent ≡ (if has_worked last then count else count - 1)
+  pub besides : said ≡ (if has_worked last then note.Busy else note.Nothing)
 
 -- what a statement does, where these frames had not been delivered by another one before it ended:
--- the lines of its steps, its events, and what is said besides
-abbrev pub IsResultOfAction : Action → List ℕ → List (List Line) → List lab.Event → Option Note
+-- the lines of its steps, its events, how many of these are silent, and what is said besides
+abbrev pub IsResultOfAction : Action → List ℕ → List (List Line) → List lab.Event → ℕ → Note
     → Type 0
-IsResultOfAction (Event event) left steps events said = (events ≡ event ∷ []) × (said ≡ None)
-IsResultOfAction (Invalid e) left steps events said =
-    (events ≡ []) × (said ≡ Some (note.Invalid e))
-IsResultOfAction Flow left steps events said =
-    (events ≡ deliveries left) × (said ≡ busy (drop most left))
+IsResultOfAction (Event event) left steps events silent said =
+    (events ≡ event ∷ []) × (silent ≡ 0) × (said ≡ note.Nothing)
+IsResultOfAction (Invalid e) left steps events silent said =
+    (events ≡ []) × (silent ≡ 0) × (said ≡ note.Invalid e)
+IsResultOfAction Flow left steps events silent said =
+    (events ≡ deliveries left) × (silent ≡ 0) × (said ≡ busy (drop most left))
+IsResultOfAction (Settle node) left steps events silent said =
+    (events ≡ replicate (length steps) (tending node))
+    × ((settled : HasSettled steps) × ShowsLast settled.last silent (length steps) said)
+IsResultOfAction (Show node) left steps events silent said =
+    (events ≡ []) × (silent ≡ 0)
+    × ((numbers : Option Numbers) × (said ≡ shown node numbers))
 
 -- a statement was run: its turn, its events, and the lines of each. So many frames had been sent,
 -- and these of them not been delivered.
@@ -77,20 +126,63 @@ pub record IsResult (sent : ℕ) (left : List ℕ) (it : Statement) (turn : Stat
   pub count : turn.events ≡ length events
   pub each : length steps ≡ length events
   pub did : IsResultOfAction it.action (left ++ places_after sent (frames_in_steps steps)) steps
-      events
-      turn.note
+      events turn.silent turn.note
 
--- statements were run, one after another
-abbrev pub AreResults : ℕ → List ℕ → List Statement → List StatementResult → List lab.Event
-    → List (List Line) → Type 0
-AreResults sent left [] turns events steps = (turns ≡ []) × (events ≡ []) × (steps ≡ [])
-AreResults sent left (it ∷ statements) turns events steps =
-    (turn : StatementResult) × (own : List lab.Event) × (lines : List (List Line))
-    × (turns_behind : List StatementResult) × (events_behind : List lab.Event)
-    × (steps_behind : List (List Line))
-    × IsResult sent left it turn own lines
-    × (turns ≡ turn ∷ turns_behind) × (events ≡ own ++ events_behind)
-    × (steps ≡ lines ++ steps_behind)
-    × AreResults (sent + frames_in_steps lines)
-    (left_after it.action (left ++ places_after sent (frames_in_steps lines)))
-    statements turns_behind events_behind steps_behind
+-- a stretch of a run: its events, what was chosen in each, and the lines of each
+pub record Stretch : Type 0 where
+  pub events : List lab.Event
+  pub choices : List Choice
+  pub steps : List (List Line)
+
+abbrev pub nothing : Stretch
+nothing = record { events = []; choices = []; steps = [] }
+
+abbrev pub joined : Stretch → Stretch → Stretch
+joined first second = record {
+  events = first.events ++ second.events;
+  choices = first.choices ++ second.choices;
+  steps = first.steps ++ second.steps;
+}
+
+-- .. of one event
+abbrev pub one : lab.Event → Choice → List Line → Stretch
+one event choice lines =
+    record { events = event ∷ []; choices = choice ∷ []; steps = lines ∷ [] }
+
+-- the world has run this far
+abbrev pub HasRunTo : World → Configurations → Stretch → Type 0
+HasRunTo world cs past = HasRun world cs past.events past.choices past.steps
+
+-- what is shown of a node are its numbers after all that happened
+abbrev pub IsShown : Configurations → Stretch → Note → Type 0
+IsShown cs past note.Nothing = Unit {0}
+IsShown cs past (note.Invalid e) = Unit {0}
+IsShown cs past note.Busy = Unit {0}
+IsShown cs past (note.Running node numbers) =
+    AreNumbersOf cs past.events past.choices node (Some numbers)
+IsShown cs past (note.Down node) = AreNumbersOf cs past.events past.choices node None
+
+-- a statement was run behind what had happened: the world and the frames that are left are those
+-- behind its events
+pub record HasTurned (cs : Configurations) (past : Stretch) (it : Statement)
+    (turn : StatementResult) (old new : ScriptRun) : Type 0 where
+  pub own : Stretch
+  pub did : IsResult (frames_in_steps past.steps) old.left.items it turn own.events own.steps
+  pub shown : IsShown cs past turn.note
+  pub run : HasRunTo new.world cs (joined past own)
+  pub left : new.left.items ≡ left_after it.action (old.left.items
+      ++ places_after (frames_in_steps past.steps) (frames_in_steps own.steps))
+
+-- statements were run, one after another, behind what had happened
+abbrev pub AreResults : Configurations → Stretch → List ℕ → List Statement → List StatementResult
+    → Stretch → Type 0
+AreResults cs past left [] turns all = (turns ≡ []) × (all ≡ nothing)
+AreResults cs past left (it ∷ statements) turns all =
+    (turn : StatementResult) × (own : Stretch)
+    × (turns_behind : List StatementResult) × (behind : Stretch)
+    × IsResult (frames_in_steps past.steps) left it turn own.events own.steps
+    × IsShown cs past turn.note
+    × (turns ≡ turn ∷ turns_behind) × (all ≡ joined own behind)
+    × AreResults cs (joined past own) (left_after it.action
+    (left ++ places_after (frames_in_steps past.steps) (frames_in_steps own.steps)))
+    statements turns_behind behind

@@ -3,7 +3,7 @@ use Rattle.std.specs.Prelude.{◌≡◌, ◌⊎◌, ◌<◌, ◌^◌, ◌&&◌, 
 use Rattle.std.specs.Prelude.{if◌then◌else◌, List, [], ◌∷◌, map, codes}
 use Rattle.std.specs.Fmt.{decimal}
 use Rattle.std.specs.List.{slice_split, onto_first}
-use Rattle.lab.specs.Configuration.{Configurations}
+use Rattle.lab.specs.Configuration.{Configurations, at_epoch, has}
 use Rattle.kv_types.specs.declared.Limits.{Limits}
 use Rattle.lab.specs.declared.Event as lab
 use Rattle.lab.specs.Configs.{IsConfig}
@@ -12,6 +12,7 @@ use Rattle.program.specs.declared.script.setup.Setup.{Setup}
 use Rattle.program.specs.declared.script.statement.Statement.{Statement}
 use Rattle.program.specs.declared.script.statement.Action.{Action}
 use Rattle.program.specs.declared.script.statement.Action.TheVariants.{Event, Invalid, Flow}
+use Rattle.program.specs.declared.script.statement.Action.TheVariants.{Settle, Show}
 use Rattle.program.specs.Events.{SpellsEvent}
 use Rattle.program.specs.Actions.{action_of}
 
@@ -32,10 +33,24 @@ is_skipped (b ∷ bs) = b == 35
 abbrev pub statement : ℕ → Action → Statement
 statement n action = record { line = n; action = action }
 
+-- words name a node of the first of these configurations, which settles or is shown
+pub record NamesOneNode (cs : Configurations) (words : List (List ℕ)) (action : Action) : Type 0
+  where
+    pub node : ℕ
+    pub small : node < 2 ^ 63
+    pub there : has (at_epoch cs 0) node ≡ true
+    pub said : ((action ≡ Settle node) × (words ≡ codes "settle" ∷ decimal node ∷ []))
+        ⊎ ((action ≡ Show node) × (words ≡ codes "show" ∷ decimal node ∷ []))
+
+-- words of no event say what a statement comes to
+abbrev pub IsOtherStatement : Configurations → List (List ℕ) → Action → Type 0
+IsOtherStatement cs words action =
+    ((action ≡ Flow) × (words ≡ codes "flow" ∷ [])) ⊎ NamesOneNode cs words action
+
 -- words say what a statement comes to, at nodes of the first of these configurations
 abbrev pub IsStatement : Configurations → List (List ℕ) → Action → Type 0
 IsStatement cs words action =
-    ((action ≡ Flow) × (words ≡ codes "flow" ∷ []))
+    IsOtherStatement cs words action
     ⊎ ((event : lab.Event) × SpellsEvent words event × NamesNode cs event.kind
     × (action ≡ action_of event))
 
@@ -85,8 +100,10 @@ IsScriptWith log n (line ∷ lines) setup statements =
 abbrev pub IsScript : ℕ → List (List ℕ) → Setup → List Statement → Type 0
 IsScript = IsScriptWith default_log
 
--- an event names a node of the first configuration, if it names one
+-- a statement names a node of the first configuration, if it names one
 abbrev pub Names : Configurations → Action → Type 0
 Names cs (Event event) = NamesNode cs event.kind
 Names cs (Invalid e) = Unit {0}
 Names cs Flow = Unit {0}
+Names cs (Settle node) = has (at_epoch cs 0) node ≡ true
+Names cs (Show node) = has (at_epoch cs 0) node ≡ true

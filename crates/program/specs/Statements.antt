@@ -146,7 +146,8 @@ abbrev pub is_name : List ℕ → Bool
 is_name w =
     bytes_eq w (codes "submit") || bytes_eq w (codes "get") || bytes_eq w (codes "stop")
     || bytes_eq w (codes "start") || bytes_eq w (codes "deliver") || bytes_eq w (codes "flow")
-    || bytes_eq w (codes "tick") || bytes_eq w (codes "tend")
+    || bytes_eq w (codes "tick") || bytes_eq w (codes "tend") || bytes_eq w (codes "settle")
+    || bytes_eq w (codes "show")
 
 -- the least fault of the words of a statement, as far as they are words
 abbrev pub fault_of_words : List (List ℕ) → Option ScriptError

@@ -17,6 +17,7 @@ use Rattle.lab.specs.Tended.TheVariants as tended
 use Rattle.lab.specs.DropReason.{DropReason}
 use Rattle.lab.specs.DropReason.TheVariants as reason
 use Rattle.lab.specs.declared.Line.{Line}
+use Rattle.lab.specs.declared.Numbers.{Numbers}
 use Rattle.lab.specs.declared.Line.TheVariants as line
 use Rattle.program.specs.declared.statement_result.StatementResult.{StatementResult}
 use Rattle.program.specs.declared.statement_result.Note.{Note}
@@ -105,6 +106,28 @@ tended_text tended.Idle = codes "idle"
 tended_text tended.Worked = codes "tended"
 tended_text tended.Full = codes "full"
 
+-- a number behind a space
+abbrev pub spaced : ℕ → List ℕ
+spaced n = codes " " ++ decimal n
+
+-- how many batches a node has
+abbrev pub counts_text : ℕ → ℕ → ℕ → List ℕ
+counts_text epoch count committed =
+    codes "epoch " ++ (decimal epoch ++ (codes " count " ++ (decimal count
+    ++ (codes " committed " ++ decimal committed))))
+
+-- what it keeps of them, and how many tables each level has
+abbrev pub kept_text : ℕ → ℕ → List ℕ → List ℕ
+kept_text floor kept tables =
+    codes "floor " ++ (decimal floor ++ (codes " kept " ++ (decimal kept
+    ++ (codes " tables" ++ flat_map spaced tables))))
+
+abbrev pub numbers_text : ℕ → Numbers → List ℕ
+numbers_text node it =
+    codes "node " ++ (decimal node
+    ++ (codes " " ++ (counts_text it.epoch it.count it.committed
+    ++ (codes " " ++ kept_text it.floor it.kept it.tables))))
+
 abbrev pub line_text : Line → List ℕ
 line_text line.Nothing = codes "nothing"
 line_text (line.Dropped reason) = codes "dropped " ++ reason_text reason
@@ -158,15 +181,18 @@ abbrev pub step_text : List ℕ → ℕ → List Line → List ℕ
 step_text events here step = flat_map (line_output events here) step
 
 -- what is said of a statement besides
-abbrev pub note_text : ℕ → Option Note → List ℕ
-note_text here None = []
-note_text here (Some (note.Invalid e)) = numbered_line here (codes "invalid " ++ error_text e)
-note_text here (Some note.Busy) = numbered_line here (codes "busy")
+abbrev pub note_text : ℕ → Note → List ℕ
+note_text here note.Nothing = []
+note_text here (note.Invalid e) = numbered_line here (codes "invalid " ++ error_text e)
+note_text here note.Busy = numbered_line here (codes "busy")
+note_text here (note.Running node numbers) = numbered_line here (numbers_text node numbers)
+note_text here (note.Down node) = numbered_line here (stopped_text node None)
 
--- what is printed at a statement: the lines of its steps, then what is said of it
+-- what is printed at a statement: the lines of its steps, but of the silent first ones, then what is
+-- said of it
 abbrev pub result_text : List ℕ → StatementResult → List (List Line) → List ℕ
 result_text events turn steps =
-    flat_map (step_text events turn.line) (take turn.events steps)
+    flat_map (step_text events turn.line) (drop turn.silent (take turn.events steps))
     ++ note_text turn.line turn.note
 
 abbrev pub results_text : List ℕ → List StatementResult → List (List Line) → List ℕ

@@ -1,24 +1,27 @@
 //! A run of statements: the events of each, one after another.
 ghost use Rattle.std.specs.Prelude.{◌≡◌, ℕ, List, [], ◌∷◌, ◌++◌, length, map, take, drop};
-ghost use Rattle.std.specs.Prelude.{OnOk, IfOk, ◌+◌, ◌-◌};
-ghost use Rattle.lab.specs.Configuration.{Configurations};
+ghost use Rattle.std.specs.Prelude.{OnOk, IfOk, ◌+◌, ◌-◌, if◌then◌else◌, Some, None, replicate};
+ghost use Rattle.std.specs.Prelude.{true};
+ghost use Rattle.lab.specs.Configuration.{Configurations, at_epoch, has};
 ghost use Rattle.lab.specs.Machine.{without};
-ghost use Rattle.lab.specs.declared.Event.{Event as LabEvent};
 ghost use Rattle.lab.specs.declared.Line.{Line};
-ghost use Rattle.lab.specs.{NamesNode, HasRun, frames_in_steps, frames_of_step};
-ghost use Rattle.program.specs.ScriptRuns.{deliveries, delivery, left_after, left_after_event};
-ghost use Rattle.program.specs.ScriptRuns.{IsResult, IsRising, places_after, most};
+ghost use Rattle.lab.specs.{Choice, HasRun, NamesNode, frames_in_steps, frames_of_step};
+ghost use Rattle.program.specs.ScriptRuns.{HasRunTo, HasSettled, HasTurned, IsRising, faultless};
+ghost use Rattle.program.specs.ScriptRuns.{Stretch, busy, deliveries, delivery, has_worked, joined};
+ghost use Rattle.program.specs.ScriptRuns.{left_after, left_after_event, most, nothing, one};
+ghost use Rattle.program.specs.ScriptRuns.{places_after, shown, tending};
 ghost use Rattle.program.specs.Scripts.{Names};
+ghost use Rattle.program.specs.declared.statement_result.Note.TheVariants as note;
 ghost use Rattle.program.specs.declared.statement_result.StatementResult.{StatementResult};
 
 use crate::script::{Action, Statement};
 use crate::statement_result::{Note, StatementResult};
 use kv_types::Limits;
-use lab::{Configs, Event, EventKind, Fault, LabError, World};
+use lab::{Configs, Event, EventKind, Fault, LabError, Line, NodeId, Numbers, Tended, World};
 use std::alloc::{AllocError, Global};
 use std::collections::VecDeque;
 
-/// The most frames that one flow delivers.
+/// The most frames that one flow delivers, and the most tends of one settle.
 const MOST: usize = 10000;
 
 /// A run of statements so far: the world, and the places of the frames that no statement has
@@ -50,9 +53,74 @@ fn remove_place(left: &mut VecDeque<u64>, place: u64)
     }
 }
 
+// Whether these are the lines of a tend that worked.
+fn is_work(lines: &[Line]) -> bool
+    ensures { result ≡ has_worked lines.now }
+{
+    match lines {
+        [Line::Tended(Tended::Worked)] => true,
+        _ => false,
+    }
+}
+
+// What is said of a flow that left these frames.
+fn busy(left: &VecDeque<u64>) -> Note
+    ensures { result ≡ busy left.now.items }
+{
+    if left.is_empty() {
+        Note::Nothing
+    } else {
+        Note::Busy
+    }
+}
+
+// What is said of a node, which has numbers if it runs.
+fn shown(node: NodeId, numbers: Option<Numbers>) -> Note
+    ensures { result ≡ shown node numbers }
+{
+    match numbers {
+        None => Note::Down(node),
+        Some(numbers) => Note::Running(node, numbers),
+    }
+}
+
+// The result of a statement that prints all its lines.
+fn told(line: u32, events: usize, note: Note) -> StatementResult
+    ensures { result ≡ record { line = line; events = events; silent = 0; note = note } }
+{
+    StatementResult {
+        line,
+        events,
+        silent: 0,
+        note,
+    }
+}
+
+// The result of a settle, which prints its last tend, or that there is more to do.
+fn settled(line: u32, tends: usize, more: bool) -> StatementResult
+    ensures { result ≡ record {
+      line = line;
+      events = tends;
+      silent = (if more then tends else tends - 1);
+      note = (if more then note.Busy else note.Nothing);
+    } }
+{
+    let (silent, note) = if more {
+        (tends, Note::Busy)
+    } else {
+        (tends.saturating_sub(1), Note::Nothing)
+    };
+    StatementResult {
+        line,
+        events: tends,
+        silent,
+        note,
+    }
+}
+
 impl ScriptRun {
     pub fn new(alloc: Global, configs: &Configs, limits: &Limits) -> Result<ScriptRun, LabError>
-        ensures run { IfOk result (λ course. HasRun course.world configs.now [] []) }
+        ensures run { IfOk result (λ course. HasRunTo course.world configs.now nothing) }
         ensures left { IfOk result (λ course. course.left.items ≡ []) }
     {
         Ok(ScriptRun {
@@ -63,12 +131,11 @@ impl ScriptRun {
 
     // An event happens, and the frames that it sends are left to be delivered.
     fn step(&mut self, alloc: Global, event: &Event) -> Result<(), LabError>
-        ensures { (cs : Configurations) (events : List LabEvent) (steps : List (List Line)) →
-            HasRun self.old.world cs events steps → NamesNode cs event.now.kind →
-            OnOk result ((lines : List Line)
-            × HasRun self.new.world cs (events ++ event.now ∷ []) (steps ++ lines ∷ [])
+        ensures { (cs : Configurations) (past : Stretch) → HasRunTo self.old.world cs past →
+            NamesNode cs event.now.kind → OnOk result ((choice : Choice) × (lines : List Line)
+            × HasRunTo self.new.world cs (joined past (one event.now choice lines))
             × (self.new.left.items ≡ self.old.left.items
-            ++ places_after (frames_in_steps steps) (frames_of_step lines))) }
+            ++ places_after (frames_in_steps past.steps) (frames_of_step lines))) }
     {
         let before = self.world.sent();
         self.world.step(alloc, event)?;
@@ -78,13 +145,13 @@ impl ScriptRun {
 
     // A statement's event happens. A frame that it delivers is no longer left.
     fn event(&mut self, alloc: Global, event: &Event) -> Result<(), LabError>
-        ensures { (cs : Configurations) (events : List LabEvent) (steps : List (List Line)) →
-            HasRun self.old.world cs events steps → NamesNode cs event.now.kind →
-            IsRising 0 (frames_in_steps steps) self.old.left.items →
-            OnOk result ((lines : List Line)
-            × HasRun self.new.world cs (events ++ event.now ∷ []) (steps ++ lines ∷ [])
+        ensures { (cs : Configurations) (past : Stretch) → HasRunTo self.old.world cs past →
+            NamesNode cs event.now.kind →
+            IsRising 0 (frames_in_steps past.steps) self.old.left.items →
+            OnOk result ((choice : Choice) × (lines : List Line)
+            × HasRunTo self.new.world cs (joined past (one event.now choice lines))
             × (self.new.left.items ≡ left_after_event event.now.kind (self.old.left.items
-            ++ places_after (frames_in_steps steps) (frames_of_step lines)))) }
+            ++ places_after (frames_in_steps past.steps) (frames_of_step lines)))) }
     {
         self.step(alloc, event)?;
         if let EventKind::Deliver { place } = event.kind {
@@ -93,16 +160,14 @@ impl ScriptRun {
         Ok(())
     }
 
-    // The frame in this place is delivered.
-    fn deliver(&mut self, alloc: Global, place: u64) -> Result<(), LabError>
-        ensures { (cs : Configurations) (events : List LabEvent) (steps : List (List Line)) →
-            HasRun self.old.world cs events steps →
-            OnOk result ((lines : List Line)
-            × HasRun self.new.world cs (events ++ delivery place ∷ []) (steps ++ lines ∷ [])
+    // Something happens, without a fault of the disk.
+    fn happen(&mut self, alloc: Global, kind: EventKind) -> Result<(), LabError>
+        ensures { (cs : Configurations) (past : Stretch) → HasRunTo self.old.world cs past →
+            NamesNode cs kind → OnOk result ((choice : Choice) × (lines : List Line)
+            × HasRunTo self.new.world cs (joined past (one (faultless kind) choice lines))
             × (self.new.left.items ≡ self.old.left.items
-            ++ places_after (frames_in_steps steps) (frames_of_step lines))) }
+            ++ places_after (frames_in_steps past.steps) (frames_of_step lines))) }
     {
-        let kind = EventKind::Deliver { place };
         let fault = Fault::None;
         let event = Event { kind, fault };
         let done = self.step(alloc, &event);
@@ -112,61 +177,83 @@ impl ScriptRun {
 
     // The frames that are left are delivered, up to the bound. It answers how many.
     fn flow(&mut self, alloc: Global) -> Result<usize, LabError>
-        ensures { (cs : Configurations) (events : List LabEvent) (steps : List (List Line)) →
-            HasRun self.old.world cs events steps →
-            IfOk result (λ count. (own : List (List Line))
-            × HasRun self.new.world cs (events ++ deliveries (self.old.left.items
-            ++ places_after (frames_in_steps steps) (frames_in_steps own))) (steps ++ own)
-            × (count ≡ length own) × (count ≡ length (deliveries (self.old.left.items
-            ++ places_after (frames_in_steps steps) (frames_in_steps own))))
+        ensures { (cs : Configurations) (past : Stretch) → HasRunTo self.old.world cs past →
+            IfOk result (λ count. (own : Stretch) × HasRunTo self.new.world cs (joined past own)
+            × (own.events ≡ deliveries (self.old.left.items
+            ++ places_after (frames_in_steps past.steps) (frames_in_steps own.steps)))
+            × (count ≡ length own.steps) × (count ≡ length own.events)
             × (self.new.left.items ≡ drop most (self.old.left.items
-            ++ places_after (frames_in_steps steps) (frames_in_steps own)))) }
+            ++ places_after (frames_in_steps past.steps) (frames_in_steps own.steps)))) }
     {
         let mut count = 0;
         while count < MOST {
             let Some(place) = self.left.pop_front() else {
                 return Ok(count);
             };
-            self.deliver(alloc, place)?;
+            self.happen(alloc, EventKind::Deliver { place })?;
             count += 1;
+        }
+        Ok(count)
+    }
+
+    // Whether the last event was a tend that worked.
+    fn has_worked(&self) -> bool
+        ensures { (cs : Configurations) (past : Stretch) (before : List (List Line))
+            (last : List Line) → HasRunTo self.now.world cs past →
+            past.steps ≡ before ++ last ∷ [] → result ≡ has_worked last }
+    {
+        match self.world.report().last() {
+            Some(lines) => is_work(lines.as_slice()),
+            None => false,
+        }
+    }
+
+    // The node tends until a tend does not work, up to the bound. It answers how often.
+    fn settle(&mut self, alloc: Global, node: NodeId) -> Result<usize, LabError>
+        ensures { (cs : Configurations) (past : Stretch) → HasRunTo self.old.world cs past →
+            has (at_epoch cs 0) node ≡ true →
+            IfOk result (λ count. (own : Stretch) × HasRunTo self.new.world cs (joined past own)
+            × (own.events ≡ replicate count (tending node)) × (count ≡ length own.steps)
+            × HasSettled own.steps
+            × (self.new.left.items ≡ self.old.left.items
+            ++ places_after (frames_in_steps past.steps) (frames_in_steps own.steps))) }
+    {
+        let mut count = 0;
+        while count < MOST {
+            self.happen(alloc, EventKind::Tend { node })?;
+            count += 1;
+            if !self.has_worked() {
+                return Ok(count);
+            }
         }
         Ok(count)
     }
 
     // Runs a statement.
     fn run(&mut self, alloc: Global, statement: &Statement) -> Result<StatementResult, LabError>
-        ensures { (cs : Configurations) (events : List LabEvent) (steps : List (List Line)) →
-            HasRun self.old.world cs events steps → Names cs statement.now.action →
-            IsRising 0 (frames_in_steps steps) self.old.left.items →
-            IfOk result (λ turn. (own : List LabEvent) × (lines : List (List Line))
-            × IsResult (frames_in_steps steps) self.old.left.items statement.now turn own lines
-            × HasRun self.new.world cs (events ++ own) (steps ++ lines)
-            × (self.new.left.items ≡ left_after statement.now.action (self.old.left.items
-            ++ places_after (frames_in_steps steps) (frames_in_steps lines)))) }
+        ensures { (cs : Configurations) (past : Stretch) → HasRunTo self.old.world cs past →
+            Names cs statement.now.action →
+            IsRising 0 (frames_in_steps past.steps) self.old.left.items →
+            IfOk result (λ turn. HasTurned cs past statement.now turn self.old self.new) }
     {
         let line = statement.line;
         match &statement.action {
             Action::Event(event) => {
                 self.event(alloc, event)?;
-                Ok(StatementResult {
-                    line,
-                    events: 1,
-                    note: None,
-                })
+                Ok(told(line, 1, Note::Nothing))
             }
-            Action::Invalid(error) => Ok(StatementResult {
-                line,
-                events: 0,
-                note: Some(Note::Invalid(*error)),
-            }),
+            Action::Invalid(error) => Ok(told(line, 0, Note::Invalid(*error))),
             Action::Flow => {
                 let events = self.flow(alloc)?;
-                let note = if self.left.is_empty() {
-                    None
-                } else {
-                    Some(Note::Busy)
-                };
-                Ok(StatementResult { line, events, note })
+                Ok(told(line, events, busy(&self.left)))
+            }
+            Action::Settle(node) => {
+                let tends = self.settle(alloc, *node)?;
+                Ok(settled(line, tends, self.has_worked()))
+            }
+            Action::Show(node) => {
+                let note = shown(*node, self.world.numbers(*node));
+                Ok(told(line, 0, note))
             }
         }
     }
@@ -178,18 +265,25 @@ impl ScriptRun {
         statement: &Statement,
         results: &mut Vec<StatementResult>,
     ) -> Result<(), LabError>
-        ensures { (cs : Configurations) (events : List LabEvent) (steps : List (List Line)) →
-            HasRun self.old.world cs events steps → Names cs statement.now.action →
-            IsRising 0 (frames_in_steps steps) self.old.left.items →
-            OnOk result ((turn : StatementResult) × (own : List LabEvent) × (lines : List (List Line))
+        ensures { (cs : Configurations) (past : Stretch) → HasRunTo self.old.world cs past →
+            Names cs statement.now.action →
+            IsRising 0 (frames_in_steps past.steps) self.old.left.items →
+            OnOk result ((turn : StatementResult)
             × (results.new.items ≡ results.old.items ++ turn ∷ [])
-            × IsResult (frames_in_steps steps) self.old.left.items statement.now turn own lines
-            × HasRun self.new.world cs (events ++ own) (steps ++ lines)
-            × (self.new.left.items ≡ left_after statement.now.action (self.old.left.items
-            ++ places_after (frames_in_steps steps) (frames_in_steps lines)))) }
+            × HasTurned cs past statement.now turn self.old self.new) }
     {
-        let turn = self.run(alloc, statement)?;
-        results.push(turn)?;
+        let StatementResult {
+            line,
+            events,
+            silent,
+            note,
+        } = self.run(alloc, statement)?;
+        results.push(StatementResult {
+            line,
+            events,
+            silent,
+            note,
+        })?;
         Ok(())
     }
 }

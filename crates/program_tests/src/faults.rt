@@ -122,6 +122,18 @@ const PLACES: &[Fault] = &[
     ("config 1\ntend x\n", "line 2: bad number\n"),
     ("config 1\ntend 2\n", "line 2: unknown node\n"),
     ("tend 1\nconfig 1\n", "line 1: out of place\n"),
+    ("config 1\nsettle\n", "line 2: wrong number of words\n"),
+    ("config 1\nsettle x\n", "line 2: bad number\n"),
+    ("config 1\nsettle 2\n", "line 2: unknown node\n"),
+    ("config 1\nsettle 1 !fail 1\n", "line 2: bad fault\n"),
+    ("config 1\nsettle 1\nconfig 1\n", "line 3: out of place\n"),
+    ("settle 1\nconfig 1\n", "line 1: out of place\n"),
+    ("config 1\nshow 1 1\n", "line 2: wrong number of words\n"),
+    ("config 1\nshow x\n", "line 2: bad number\n"),
+    ("config 1\nshow 2\n", "line 2: unknown node\n"),
+    ("config 1\nshow 1 !stop 1 old\n", "line 2: bad fault\n"),
+    ("config 1\nshow 1\nconfig 2\n", "line 3: bad configuration\n"),
+    ("show 1\nconfig 1\n", "line 1: out of place\n"),
 ];
 
 // Limits.

@@ -128,16 +128,32 @@ const RUNS: &[(&str, &str)] = &[
     ),
     // A batch goes to a table, where a start finds it.
     (
-        "limit log 16\nconfig 1\nsubmit 1 a=1\ntend 1\nstop 1\nstart 1\nget 1 a\ntend 1\n",
-        "3: committed 1\n4: tended\n5: node 1 stopped\n\
-         6: node 1 started epoch 0 count 1 committed 1\n7: value 1 at 1\n8: idle\n",
+        "limit log 16\nconfig 1\nsubmit 1 a=1\ntend 1\nshow 1\nstop 1\nstart 1\nget 1 a\ntend 1\n",
+        "3: committed 1\n4: tended\n\
+         5: node 1 epoch 0 count 1 committed 1 floor 0 kept 0 tables 1 0 0 0 0 0 0\n\
+         6: node 1 stopped\n7: node 1 started epoch 0 count 1 committed 1\n8: value 1 at 1\n\
+         9: idle\n",
     ),
     // The machine stops in the first call of a flush; the next one does it.
     (
         "limit log 16\nconfig 1\nsubmit 1 a=1\ntend 1 !stop 1 01\nstart 1\nget 1 a\ntend 1\n\
-         tend 1\n",
+         show 1\ntend 1\n",
         "3: committed 1\n4: node 1 stopped\n5: node 1 started epoch 0 count 1 committed 1\n\
-         6: value 1 at 1\n7: tended\n8: idle\n",
+         6: value 1 at 1\n7: tended\n\
+         8: node 1 epoch 0 count 1 committed 1 floor 0 kept 0 tables 1 0 0 0 0 0 0\n9: idle\n",
+    ),
+    // A settle prints its last tend alone, and a look at a node is no event: the requests keep
+    // their lines.
+    (
+        "limit log 16\nconfig 2 1\nshow 1\nsubmit 2 a=1\nsettle 2\nsettle 1\nshow 2\nflow\n\
+         settle 1\nsubmit 2 b=1\nshow 1\nshow 2\nstop 1\nsettle 1\nshow 1\n",
+        "3: node 1 epoch 0 count 0 committed 0 floor 0 kept 0 tables 0 0 0 0 0 0 0\n\
+         4: #1 2>1 forward 0 1\n5: idle\n6: idle\n\
+         7: node 2 epoch 0 count 1 committed 0 floor 0 kept 0 tables 1 0 0 0 0 0 0\n\
+         8: #2 1>2 ack 0 1 1\n4: committed 1\n9: idle\n10: #3 2>1 forward 0 2\n\
+         11: node 1 epoch 0 count 1 committed 1 floor 0 kept 0 tables 1 0 0 0 0 0 0\n\
+         12: node 2 epoch 0 count 2 committed 1 floor 0 kept 0 tables 1 0 0 0 0 0 0\n\
+         13: node 1 stopped\n14: dropped NotRunning\n15: node 1 stopped\n",
     ),
     // Of several limits the last counts; a log that is short enough is left, and so is one of a
     // node that is down.

@@ -107,7 +107,10 @@ fn fault_of(alloc: Global, words: &[&[u8]]) -> Result<Option<Fault>, AllocError>
 fn takes(name: &[u8]) -> bool
     ensures { result ≡ takes_fault name.now }
 {
-    name != b"stop".as_slice() && name != b"flow".as_slice()
+    name != b"stop".as_slice()
+        && name != b"flow".as_slice()
+        && name != b"settle".as_slice()
+        && name != b"show".as_slice()
 }
 
 /// The fault that a statement of this name bears, by the words behind its own.

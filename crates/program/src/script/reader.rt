@@ -1,6 +1,6 @@
 //! The reader of scripts: all statements, or the first fault.
 ghost use Rattle.std.specs.Prelude.{◌≡◌, ◌≢◌, ◌⊎◌, ◌++◌, ◌∷◌, [], map, codes, true, false};
-ghost use Rattle.std.specs.Prelude.{Some, None, IfOk, OnOk, MatchResult, MatchOption, All};
+ghost use Rattle.std.specs.Prelude.{Some, None, IfOk, OnOk, MatchResult, MatchOption, All, List, ℕ};
 ghost use Rattle.std.specs.Fmt.{decimal};
 ghost use Rattle.std.specs.List.{list_all};
 ghost use Rattle.std.specs.Str.{bytes_eq};
@@ -12,7 +12,8 @@ ghost use Rattle.program.specs.Scripts.{script_lines, is_log_size, is_skipped, A
 ghost use Rattle.program.specs.Scripts.{Names, SetsLog};
 ghost use Rattle.program.specs.Faults.{numbers_of, config_fault, limit_fault, limit_size};
 ghost use Rattle.program.specs.Faults.{script_fault, start};
-ghost use Rattle.program.specs.Reading.{ReadsLine, ReadsWords, Places, ReadsNext};
+ghost use Rattle.program.specs.Reading.{IsOfOneNode, PlacesNode, ReadsLine, ReadsWords, Places};
+ghost use Rattle.program.specs.Reading.{ReadsNext};
 
 use super::action::action;
 use super::error::ScriptError;
@@ -23,7 +24,7 @@ use super::statement::{Action, LineItem, ParserState, Statement};
 use super::statements::command_of;
 use super::word::number;
 use kv_types::Limits;
-use lab::{Config, ConfigError, Configs, Event, EventKind};
+use lab::{Config, ConfigError, Configs, Event, EventKind, NodeId};
 use std::alloc::{AllocError, Global};
 
 /// The most bytes of a line, without its line feed.
@@ -201,6 +202,42 @@ fn flow(before: &ParserState, args: &[&[u8]]) -> Result<Action, ScriptError>
     Ok(Action::Flow)
 }
 
+// The node of a statement that names one and has no event, if it may stand here.
+fn only_node(before: &ParserState, args: &[&[u8]]) -> Result<NodeId, ScriptError>
+    ensures { (name : List ℕ) → IsOfOneNode name →
+        PlacesNode before.now name (map (λ w. w.now) args.now) result }
+{
+    let (words, behind) = split_fault(args);
+    let [word] = words else {
+        return Err(ScriptError::WrongNumberOfWords);
+    };
+    let Some(node) = number(word) else {
+        return Err(ScriptError::BadNumber);
+    };
+    if !behind.is_empty() {
+        return Err(ScriptError::BadFault);
+    }
+    before.place(node)
+}
+
+fn settle(before: &ParserState, args: &[&[u8]]) -> Result<Action, ScriptError>
+    ensures { Places before.now (codes "settle") (map (λ w. w.now) args.now) result }
+{
+    match only_node(before, args) {
+        Ok(node) => Ok(Action::Settle(node)),
+        Err(e) => Err(e),
+    }
+}
+
+fn show(before: &ParserState, args: &[&[u8]]) -> Result<Action, ScriptError>
+    ensures { Places before.now (codes "show") (map (λ w. w.now) args.now) result }
+{
+    match only_node(before, args) {
+        Ok(node) => Ok(Action::Show(node)),
+        Err(e) => Err(e),
+    }
+}
+
 /// What a statement that names a node comes to, if it may stand here.
 fn placed(
     alloc: Global,
@@ -210,6 +247,8 @@ fn placed(
 ) -> Result<Action, ScriptError>
     requires deliver { bytes_eq name.now (codes "deliver") ≡ false }
     requires flow { bytes_eq name.now (codes "flow") ≡ false }
+    requires settle { bytes_eq name.now (codes "settle") ≡ false }
+    requires show { bytes_eq name.now (codes "show") ≡ false }
     ensures { Places before.now name.now (map (λ w. w.now) args.now) result }
 {
     let (words, behind) = split_fault(args);
@@ -244,6 +283,10 @@ fn statement(
         deliver(alloc, before, args)
     } else if name == b"flow".as_slice() {
         flow(before, args)
+    } else if name == b"settle".as_slice() {
+        settle(before, args)
+    } else if name == b"show".as_slice() {
+        show(before, args)
     } else {
         placed(alloc, before, name, args)
     }

@@ -3,7 +3,7 @@ ghost use Rattle.std.specs.Prelude.{◌≡◌, ◌++◌, true, false, Some, None
 ghost use Rattle.std.specs.Prelude.{IfOk, MatchOption, MatchResult};
 ghost use Rattle.lab.specs.Configuration.{has};
 ghost use Rattle.program.specs.Faults.{node_fault};
-ghost use Rattle.program.specs.Reading.{after_item, statements_of};
+ghost use Rattle.program.specs.Reading.{after_item, begins, statements_of};
 
 use super::error::ScriptError;
 use kv_types::KvError;
@@ -19,6 +19,22 @@ pub enum Action {
     Invalid(KvError),
     /// Every frame that no statement has delivered yet is delivered.
     Flow,
+    /// The node tends until nothing is left to do, or it can't.
+    Settle(NodeId),
+    /// The numbers of the node are shown. Nothing happens.
+    Show(NodeId),
+}
+
+impl Action {
+    /// Whether it is more than a look.
+    fn begins(&self) -> bool
+        ensures { result ≡ begins self.now }
+    {
+        match self {
+            Action::Show(_) => false,
+            _ => true,
+        }
+    }
 }
 
 /// A statement, and the number of the line where it stands, from 1.
@@ -39,7 +55,8 @@ pub enum LineItem {
     Asks(Action),
 }
 
-/// What stands before a line: the configurations, whether a statement, and the size of logs.
+/// What stands before a line: the configurations, whether a statement that is more than a look, and
+/// the size of logs.
 #[derive(Drop)]
 pub struct ParserState {
     pub configs: Option<Configs>,
@@ -84,10 +101,11 @@ impl ParserState {
                 log: self.log,
             }),
             LineItem::Asks(action) => {
+                let begun = self.begun || action.begins();
                 statements.push(Statement { line, action })?;
                 Ok(ParserState {
                     configs: self.configs,
-                    begun: true,
+                    begun,
                     log: self.log,
                 })
             }

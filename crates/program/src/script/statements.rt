@@ -111,6 +111,8 @@ fn stop(alloc: Global, args: &[&[u8]]) -> Result<Command, ScriptError>
 pub fn command_of(alloc: Global, name: &[u8], args: &[&[u8]]) -> Result<Command, ScriptError>
     requires deliver { bytes_eq name.now (codes "deliver") ≡ false }
     requires flow { bytes_eq name.now (codes "flow") ≡ false }
+    requires settle { bytes_eq name.now (codes "settle") ≡ false }
+    requires show { bytes_eq name.now (codes "show") ≡ false }
     ensures { ReadsCommand (name.now ∷ map (λ w. w.now) args.now) result }
 {
     if name == b"submit".as_slice() {

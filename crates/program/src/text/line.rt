@@ -75,8 +75,9 @@ impl fmt::Display for StartedText {
     }
 }
 
+/// A node that is down, and for what cause if that is told.
 #[derive(Clone, Copy)]
-struct StoppedText(NodeId, Option<Stop>);
+pub struct StoppedText(pub NodeId, pub Option<Stop>);
 
 impl fmt::Display for StoppedText {
     ghost output = { λ it. Some (stopped_text it.0 it.1) };

@@ -3,6 +3,7 @@
 mod line;
 mod names;
 mod printing;
+mod shown;
 mod spelled;
 
 pub use names::fault_name;

@@ -5,8 +5,9 @@ ghost use Rattle.std.specs.Io.KnownBytes.{Appends};
 ghost use Rattle.program.specs.Text.{event_lines, line_of_request, reply_place, line_output};
 ghost use Rattle.program.specs.Text.{step_text, note_text, result_text, run_text, request_of};
 
-use super::line::LineText;
+use super::line::{LineText, StoppedText};
 use super::names::error_name;
+use super::shown::NumbersText;
 use crate::statement_result::{Note, StatementResult};
 use lab::{Line, Lines, Reply};
 use std::alloc::{AllocError, Global};
@@ -92,17 +93,25 @@ fn print_steps<W: Write>(events: &[u32], here: u32, steps: &[Lines], out: &mut W
     Ok(())
 }
 
-fn print_note<W: Write>(here: u32, note: Option<Note>, out: &mut W) -> io::Result<()>
+fn print_note<W: Write>(here: u32, note: &Note, out: &mut W) -> io::Result<()>
     ensures { OnOk result (Appends (W.contents out.old) (W.contents out.new)
-        (note_text here note)) }
+        (note_text here note.now)) }
 {
-    match note {
-        None => Ok(()),
-        Some(Note::Invalid(error)) => {
+    match *note {
+        Note::Nothing => Ok(()),
+        Note::Invalid(error) => {
             let text = error_name(error);
             writeln!(out, "{here}: invalid {text}")
         }
-        Some(Note::Busy) => writeln!(out, "{here}: busy"),
+        Note::Busy => writeln!(out, "{here}: busy"),
+        Note::Running(node, ref numbers) => {
+            let text = NumbersText(node, numbers);
+            writeln!(out, "{here}: {text}")
+        }
+        Note::Down(node) => {
+            let text = StoppedText(node, None);
+            writeln!(out, "{here}: {text}")
+        }
     }
 }
 
@@ -118,8 +127,9 @@ fn print_result<'a, W: Write>(
     ensures behind { IfOk result (λ left. left.now ≡ drop turn.now.events steps.now) }
 {
     let (own, behind) = steps.split_at(turn.events.min(steps.len()));
-    print_steps(events, turn.line, own, out)?;
-    print_note(turn.line, turn.note, out)?;
+    let (_silent, printed) = own.split_at(turn.silent.min(own.len()));
+    print_steps(events, turn.line, printed, out)?;
+    print_note(turn.line, &turn.note, out)?;
     Ok(behind)
 }
 

@@ -1,7 +1,10 @@
 use Rattle.std.proofs.Common.{List, ◌∷◌, [], ◌++◌, take, sym, ap, subst, ◌∙◌}
 use Rattle.std.proofs.lemmas.List.{take_more, take_all}
+use Rattle.std.proofs.lemmas.Result.{IfOk-weaker}
 use Rattle.lab.specs.declared.event.Event.{Event}
 use Rattle.lab.specs.Events.{NamesNode}
+use Rattle.lab.specs.Runs.{IsRun}
+use Rattle.lab.specs.SimNodes.{Choice}
 use Rattle.lab.specs.Worlds.{HasRun}
 use Rattle.lab.proofs.runs.run.Goals as goal
 
@@ -15,23 +18,28 @@ loop-event-preserved c =
     let was = c.loop-event.invariant in
     let names = subst (λ (e : Event). NamesNode cs e.kind) (sym c.event-item.is)
     (c.requires.named i event c.loop-event-test.true) in
-    let ran = c.in_ok-step.ensures.ran cs (take i events) was.0 was.1 names in
+    let ran = c.in_ok-step.ensures.ran cs (take i events) was.0 was.1 was.2 names in
     let more = ap (λ (e : Event). take i events ++ e ∷ []) c.event-item.is
     ∙ sym (take_more events i event c.loop-event-test.true) in (
       was.0 ++ ran.0 ∷ [],
-      subst (λ (es : List Event). HasRun c.step.new.self cs es (was.0 ++ ran.0 ∷ [])) more ran.1,
+      was.1 ++ ran.1 ∷ [],
+      subst (λ (es : List Event). HasRun c.step.new.self cs es (was.0 ++ ran.0 ∷ [])
+          (was.1 ++ ran.1 ∷ [])) more ran.2,
     )
 
 pub returns-clause-run : goal.returns-clause-run
 returns-clause-run c =
     let was = c.loop-event.invariant in
-    let run = subst (λ (es : List Event). HasRun c.loop-event.world c.args.configs.now es was.0)
-    (take_all c.loop-event.event-index c.args.events.now c.loop-event-test.false) was.1 in
-    c.finish.ensures.run c.args.configs.now c.args.events.now was.0 run
+    let run = subst (λ (es : List Event). HasRun c.loop-event.world c.args.configs.now es was.0
+    was.1) (take_all c.loop-event.event-index c.args.events.now c.loop-event-test.false) was.2 in
+    IfOk-weaker c.finish.result (IsRun c.args.configs.now c.args.events.now was.0)
+    (λ report. (choices : List Choice)
+    × IsRun c.args.configs.now c.args.events.now choices report) (λ report is. (was.0, is))
+    (c.finish.ensures.run c.args.configs.now c.args.events.now was.0 was.1 run)
 
 pub returns-clause-history : goal.returns-clause-history
 returns-clause-history c =
     let was = c.loop-event.invariant in
-    let run = subst (λ (es : List Event). HasRun c.loop-event.world c.args.configs.now es was.0)
-    (take_all c.loop-event.event-index c.args.events.now c.loop-event-test.false) was.1 in
-    c.finish.ensures.history c.args.configs.now c.args.events.now was.0 run
+    let run = subst (λ (es : List Event). HasRun c.loop-event.world c.args.configs.now es was.0
+    was.1) (take_all c.loop-event.event-index c.args.events.now c.loop-event-test.false) was.2 in
+    c.finish.ensures.history c.args.configs.now c.args.events.now was.0 was.1 run

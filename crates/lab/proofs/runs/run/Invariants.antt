@@ -1,9 +1,11 @@
 use Rattle.std.proofs.Common.{List, take}
 use Rattle.lab.specs.declared.report.Line.{Line}
+use Rattle.lab.specs.SimNodes.{Choice}
 use Rattle.lab.specs.Worlds.{HasRun}
 use Rattle.lab.proofs.runs.run.Given as goal
 
 -- the world has applied so many events
 abbrev pub invariant-loop-event : goal.invariant-loop-event
 invariant-loop-event l =
-    (steps : List (List Line)) × HasRun l.world l.fn.configs (take l.event-index l.events) steps
+    (choices : List Choice) × (steps : List (List Line))
+    × HasRun l.world l.fn.configs (take l.event-index l.events) choices steps

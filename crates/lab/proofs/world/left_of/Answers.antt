@@ -16,12 +16,6 @@ returns-in-Up-clause-left c = λ n disk is own.
       };
       numbers = (
         r.core.running,
-        record {
-          epoch = c.epoch.ensures x n r;
-          count = c.count.ensures x n r;
-          committed = c.committed.ensures x n r;
-          floor = c.floor.ensures x n r;
-          kept = c.kept.ensures x n r;
-        },
+        c.numbers_of.ensures.refines x n r,
       );
     }

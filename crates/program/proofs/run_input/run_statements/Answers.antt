@@ -1,8 +1,16 @@
 use Rattle.std.proofs.Common.{subst, sym, arith, add-one, drop}
 use Rattle.program.specs.declared.script.statement.Statement.{Statement}
 use Rattle.program.specs.Scripts.{Names}
-use Rattle.program.proofs.Flowing.{goes_next, gone, drop_past}
+use Rattle.program.proofs.Flowing.{drop_past, goes_next, goes_nowhere, gone}
 use Rattle.program.proofs.run_input.run_statements.Goals as goal
+
+-- nothing ran yet
+pub loop-statement-init : goal.loop-statement-init
+loop-statement-init c =
+    let course = c.in_ok-course.course in
+    rw c.new-turns.ensures.items (goes_nowhere course.world c.args.setup.now.configs
+    course.left.items c.args.statements.now c.in_ok-course.ensures.run
+    c.in_ok-course.ensures.left)
 
 pub loop-statement-preserved : goal.loop-statement-preserved
 loop-statement-preserved c =
@@ -13,11 +21,9 @@ loop-statement-preserved c =
     let it = c.statement-item.result in
     let names = subst (λ (x : Statement). Names cs x.action) (sym c.statement-item.is)
     (c.requires i _ c.loop-statement-test.true) in
-    let took = c.in-Ok.ensures cs g.events g.steps g.run names g.rising in
-    rw (add-one, took.3) (goes_next c.loop-statement.course.world c.run_next.new.self.world cs
-    c.loop-statement.course.left.items c.run_next.new.self.left.items all i _ it
-    c.loop-statement.turns.items took.0 c.loop-statement-test.true c.statement-item.is g took.1
-    took.2 took.4 took.5 took.6)
+    let took = c.in-Ok.ensures cs g.past g.run names g.rising in
+    rw (add-one, took.1) (goes_next c.loop-statement.course c.run_next.new.self cs all i _ it
+    c.loop-statement.turns.items took.0 c.loop-statement-test.true c.statement-item.is g took.2)
 
 pub returns : goal.returns
 returns c =
@@ -26,9 +32,10 @@ returns c =
     let i = c.loop-statement.statement-index in
     let g = c.loop-statement.invariant in
     let made = c.in_ok-report.ensures in
+    let past = g.past in
     gone c.loop-statement.course.world setup c.loop-statement.course.left.items all (drop i all)
     c.loop-statement.turns.items c.in_ok-report.report g
     (drop_past all i (omega (arith, c.loop-statement-test.false)))
-    (made.steps setup.configs g.events g.steps g.run)
-    (made.run setup.configs g.events g.steps g.run)
-    (made.history setup.configs g.events g.steps g.run)
+    (made.steps setup.configs past.events past.choices past.steps g.run)
+    (made.run setup.configs past.events past.choices past.steps g.run)
+    (made.history setup.configs past.events past.choices past.steps g.run)

@@ -9,26 +9,26 @@ use Rattle.lab.proofs.world.World.apply.Goals as goal
 
 -- no frame has the place
 pub returns-in_default-2 : goal.returns-in_default-2
-returns-in_default-2 c = λ cs events steps run.
+returns-in_default-2 c = λ cs events choices steps run.
     let self = c.args.self.now in
     let i = c.in-Some.request in
     let event = c.args.event.now in
-    let at = place_of self cs events steps run c.len.result i c.len.ensures
+    let at = place_of self cs events choices steps run c.len.result i c.len.ensures
     c.in-Some.ensures.0 c.in-Some.ensures.1 in
     let found = c.in_ok-delivery.field-0 in
     let fits = subst (λ (l : List Posted). FitsDelivery l i event.kind found)
     c.deref.ensures.value c.in_ok-delivery.ensures in
-    on_ok_weaker c.pass_over.result (passed_after c.in_order.ensures cs events steps self
+    on_ok_weaker c.pass_over.result (passed_after c.in_order.ensures cs events choices steps self
     c.pass_over.new.self run i at event found fits c.in_default-2.is) c.pass_over.ensures
 
 -- the world does not have the node
 pub returns-in_default-index_of : goal.returns-in_default-index_of
-returns-in_default-index_of c = λ cs events steps run.
+returns-in_default-index_of c = λ cs events choices steps run.
     let self = c.args.self.now in
     let i = c.in-Some.request in
     let event = c.args.event.now in
     let it = c.in-Some-2.delivery in
-    let at = place_of self cs events steps run c.len.result i c.len.ensures
+    let at = place_of self cs events choices steps run c.len.result i c.len.ensures
     c.in-Some.ensures.0 c.in-Some.ensures.1 in
     let found = c.in_ok-delivery.field-0 in
     let fits = subst (λ (l : List Posted). FitsDelivery l i event.kind found)
@@ -37,20 +37,20 @@ returns-in_default-index_of c = λ cs events steps run.
     (MatchOption-at_none (HasNoNode c.deref-2.result.now it.0)
     (λ index. IsIndexOf c.deref-2.result.now index it.0) c.in_default-index_of.is
     c.index_of.ensures) in
-    ignored_after c.in_order.ensures cs events steps self _ run i at event found fits it
+    ignored_after c.in_order.ensures cs events choices steps self _ run i at event found fits it
     c.in-Some-2.is none (record { kept = run.kept; taken = run.taken; made = run.made })
 
 -- the node took its step
 pub returns : goal.returns
-returns c = λ cs events steps run.
+returns c = λ cs events choices steps run.
     let self = c.args.self.now in
     let i = c.in-Some.request in
     let event = c.args.event.now in
-    let at = place_of self cs events steps run c.len.result i c.len.ensures
+    let at = place_of self cs events choices steps run c.len.result i c.len.ensures
     c.in-Some.ensures.0 c.in-Some.ensures.1 in
     let found = c.in_ok-delivery.field-0 in
     let fits = subst (λ (l : List Posted). FitsDelivery l i event.kind found)
     c.deref.ensures.value c.in_ok-delivery.ensures in
-    on_ok_weaker c.deliver.result (delivered_after c.in_order.ensures cs events steps self
+    on_ok_weaker c.deliver.result (delivered_after c.in_order.ensures cs events choices steps self
     c.deliver.new.self run i at event found fits c.in-Some-2.delivery c.in-Some-2.is)
     c.deliver.ensures

@@ -7,18 +7,18 @@ use Rattle.lab.proofs.Reports.{one_of, run_left}
 use Rattle.lab.proofs.world.World.finish.Goals as goal
 
 pub returns-clause-run : goal.returns-clause-run
-returns-clause-run c = λ cs events steps run.
+returns-clause-run c = λ cs events choices steps run.
     let report : Report = record { steps = c.args.self.steps; nodes = c.in_ok-nodes.nodes } in
-    run_left c.args.self.nodes.items c.args.self.frames.items cs events steps run.made report
+    run_left c.args.self.nodes.items c.args.self.frames.items cs events choices steps run.made report
     run.kept c.in_ok-nodes.ensures
 
 pub returns-clause-history : goal.returns-clause-history
-returns-clause-history c = λ cs events steps run.
+returns-clause-history c = λ cs events choices steps run.
     let report : Report = record { steps = c.args.self.steps; nodes = c.in_ok-nodes.nodes } in
-    let is : IsRun cs events report =
-    run_left c.args.self.nodes.items c.args.self.frames.items cs events steps run.made report
+    let is : IsRun cs events choices report =
+    run_left c.args.self.nodes.items c.args.self.frames.items cs events choices steps run.made report
     run.kept c.in_ok-nodes.ensures in
-    let es = modelled_from 1 events is.choices in
+    let es = modelled_from 1 events choices in
     one_of state failures calls (λ (node : NodeReport). node.id) (λ (node : NodeReport). node.disk)
-    cs events is.choices report.steps.items report.nodes.items is.trace is.disks
+    cs events choices report.steps.items report.nodes.items is.trace is.disks
     (c.one_history.ensures cs es run.made.lawful) (c.run_is_outcomes.ensures cs es)

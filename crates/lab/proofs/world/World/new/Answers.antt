@@ -14,6 +14,6 @@ returns-clause-ran c =
     record {
       kept = c.new-3.ensures.items;
       taken = ap (λ (l : List EventRecord). events_in l) c.new-2.ensures.items;
-      made = subst (λ (l : List Posted). RunRefines sims l cs [] []) (sym c.new.ensures.items)
+      made = subst (λ (l : List Posted). RunRefines sims l cs [] [] []) (sym c.new.ensures.items)
           (begun cs sims c.first.ensures.lawful are);
     }

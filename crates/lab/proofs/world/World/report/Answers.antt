@@ -8,27 +8,26 @@ use Rattle.lab.proofs.Reports.{disk_represents, disks_so_far, one_of, unarmed_so
 use Rattle.lab.proofs.world.World.report.Goals as goal
 
 pub returns-clause-run : goal.returns-clause-run
-returns-clause-run c = λ cs events steps run.
+returns-clause-run c = λ cs events choices steps run.
     let self = c.args.self.now in
     let made = run.made in
     record {
-      choices = made.choices;
-      trace = subst (λ (l : List (List Line)). IsTrace cs events made.choices l)
+      trace = subst (λ (l : List (List Line)). IsTrace cs events choices l)
           (sym (c.deref.ensures.value ∙ run.kept)) made.trace;
-      disks = disks_so_far self.nodes.items self.frames.items cs events steps made
+      disks = disks_so_far self.nodes.items self.frames.items cs events choices steps made
           (λ sim. disk_represents c.disks_represent.ensures sim.state);
-      unarmed = unarmed_so_far self.nodes.items self.frames.items cs events steps made;
+      unarmed = unarmed_so_far self.nodes.items self.frames.items cs events choices steps made;
     }
 
 pub returns-clause-history : goal.returns-clause-history
-returns-clause-history c = λ cs events steps run.
+returns-clause-history c = λ cs events choices steps run.
     let self = c.args.self.now in
     let made = run.made in
-    let es = modelled_from 1 events made.choices in
+    let es = modelled_from 1 events choices in
     subst (λ (l : List (List Line)). HasHistory self cs events l)
     (sym (c.deref.ensures.value ∙ run.kept))
     (one_of state failures calls (λ (sim : SimNode). sim.id) (λ (sim : SimNode). disk_in sim.state)
-    cs events made.choices steps self.nodes.items made.trace
-    (disks_so_far self.nodes.items self.frames.items cs events steps made
+    cs events choices steps self.nodes.items made.trace
+    (disks_so_far self.nodes.items self.frames.items cs events choices steps made
     (λ sim. disk_represents c.disks_represent.ensures sim.state)) (c.one_history.ensures cs es made.lawful)
     (c.run_is_outcomes.ensures cs es))

@@ -3,31 +3,32 @@ use Rattle.lab.specs.Worlds.{Takes, Ignores}
 use Rattle.lab.proofs.world.World.step.Goals as goal
 
 pub returns-clause-ran : goal.returns-clause-ran
-returns-clause-ran c = λ cs events steps run names.
+returns-clause-ran c = λ cs events choices steps run names.
     on_ok_weaker c.apply-applied.result
     (elim [
-      | Takes _ lines ran _ ↦ (
+      | Takes _ choice lines ran _ ↦ (
+        choice,
         lines,
         record { kept = ran.kept; taken = ran.taken; made = ran.made },
       )
       | Ignores other _ ↦ absurd (other names)
     ])
-    (c.apply-applied.ensures cs events steps run)
+    (c.apply-applied.ensures cs events choices steps run)
 
 pub returns-clause-nothing : goal.returns-clause-nothing
-returns-clause-nothing c = λ cs events steps run other.
+returns-clause-nothing c = λ cs events choices steps run other.
     on_ok_weaker c.apply-applied.result
     (elim [
-      | Takes names _ _ _ ↦ absurd (other names)
+      | Takes names _ _ _ _ ↦ absurd (other names)
       | Ignores _ same ↦ record { kept = same.kept; taken = same.taken; made = same.made }
     ])
-    (c.apply-applied.ensures cs events steps run)
+    (c.apply-applied.ensures cs events choices steps run)
 
 pub returns-clause-stopped : goal.returns-clause-stopped
-returns-clause-stopped c = λ cs events steps run names.
+returns-clause-stopped c = λ cs events choices steps run names.
     on_ok_weaker c.apply-applied.result
     (elim [
-      | Takes _ _ _ stops ↦ stops
+      | Takes _ _ _ _ stops ↦ stops
       | Ignores other _ ↦ absurd (other names)
     ])
-    (c.apply-applied.ensures cs events steps run)
+    (c.apply-applied.ensures cs events choices steps run)

@@ -1,8 +1,9 @@
-use Rattle.std.proofs.Common.{rules, codes, map, take, drop, length, ◌-◌, arith}
+use Rattle.std.proofs.Common.{[], rules, codes, get_or, map, refl, take, drop, length, ◌-◌, arith}
 use Rattle.std.proofs.lemmas.Grind.{common_steps}
 use Rattle.program.proofs.Places.{named_word}
 use Rattle.program.proofs.Limits.{is_limit_line}
 use Rattle.program.proofs.Placing.{is_config}
+use Rattle.program.proofs.Items.{asks}
 use Rattle.program.proofs.script.reader.item_of_words.Goals as goal
 
 pub returns-then-eq : goal.returns-then-eq
@@ -30,4 +31,10 @@ pub returns-in_err-statement : goal.returns-in_err-statement
 returns-in_err-statement c = grind (arith, common_steps)
 
 pub returns : goal.returns
-returns c = grind (arith, common_steps)
+returns c =
+    let ws = c.args.words.now in
+    asks c.args.before.now (map (λ w. w.now) ws)
+    (get_or ws 0 (record { ref_ptr = (0, 0); now = [] })).now
+    (map (λ w. w.now) (take (length ws - 1) (drop 1 ws))) c.in_ok-statement.field-0
+    (named_word ws _ c.in-len1-up.len_at_least refl) (search rules) (search rules)
+    c.in_ok-statement.ensures

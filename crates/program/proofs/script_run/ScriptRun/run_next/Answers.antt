@@ -1,13 +1,15 @@
 use Rattle.program.proofs.script_run.ScriptRun.run_next.Goals as goal
 
 pub returns : goal.returns
-returns c = λ cs events steps run named up.
-    let went = c.in_ok-turn.ensures cs events steps run named up in (
-      c.in_ok-turn.turn,
-      went.0,
-      went.1,
+returns c = λ cs past run named up.
+    let went = c.in_ok-line.ensures cs past run named up in (
+      c.in_ok-line.field-0,
       c.in_ok-push.ensures.items,
-      went.2,
-      went.3,
-      went.4,
+      record {
+        own = went.own;
+        did = went.did;
+        shown = went.shown;
+        run = went.run;
+        left = went.left;
+      },
     )

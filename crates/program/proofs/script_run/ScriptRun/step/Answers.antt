@@ -2,11 +2,12 @@ use Rattle.program.proofs.Flowing.{added}
 use Rattle.program.proofs.script_run.ScriptRun.step.Goals as goal
 
 pub returns : goal.returns
-returns c = λ cs events steps run named.
-    let ran = c.in_ok-step.ensures.ran cs events steps run named in (
+returns c = λ cs past run named.
+    let ran = c.in_ok-step.ensures.ran cs past.events past.choices past.steps run named in (
       ran.0,
       ran.1,
-      added c.sent-before.result c.sent.result _ c.args.self.now.left.items steps ran.0
-          (c.sent-before.ensures cs events steps run) (c.sent.ensures cs _ _ ran.1)
+      ran.2,
+      added c.sent-before.result c.sent.result _ c.args.self.now.left.items past.steps ran.1
+          (c.sent-before.ensures cs _ _ _ run) (c.sent.ensures cs _ _ _ ran.2)
           c.in_ok-add_places.ensures,
     )
