@@ -27,9 +27,10 @@ use Rattle.program.specs.declared.statement_result.Note.{Note}
 use Rattle.program.specs.declared.statement_result.Note.TheVariants as note
 use Rattle.program.specs.Runs.{HasRunStatements}
 use Rattle.program.specs.ScriptRuns.{places_after, delivery, deliveries, left_after}
-use Rattle.program.specs.ScriptRuns.{left_after_event, HasRunTo, HasSettled, HasTurned, IsShown}
-use Rattle.program.specs.ScriptRuns.{IsResultOfAction, Stretch, has_worked, joined, nothing, one}
-use Rattle.program.specs.ScriptRuns.{most, busy, shown, tending, IsResult, IsRising, AreResults}
+use Rattle.program.specs.ScriptRuns.{left_after_event, HasRunTo, HasSettled, HasTurned, HasToldNumbers}
+use Rattle.program.specs.ScriptRuns.{IsResultOfAction, Stretch, has_worked, followed_by, no_stretch}
+use Rattle.program.specs.ScriptRuns.{one_step}
+use Rattle.program.specs.ScriptRuns.{most, busy, shown, tending, IsRising, AreResults}
 use Rattle.program.proofs.Leaving.{left_rises}
 
 -- ---- places and frames add up
@@ -79,22 +80,22 @@ added before now left old steps lines was is e =
 abbrev pub all_left : List ℕ → List (List Line) → List (List Line) → List ℕ
 all_left left steps own = left ++ places_after (frames_in_steps steps) (frames_in_steps own)
 
--- stretches of a run are joined as lists are
-pub joined_assoc : (a b c : Stretch) → joined (joined a b) c ≡ joined a (joined b c)
+-- stretches of a run are followed_by as lists are
+pub joined_assoc : (a b c : Stretch) → followed_by (followed_by a b) c ≡ followed_by a (followed_by b c)
 joined_assoc a b c = rw (
   append_assoc a.events b.events c.events,
   append_assoc a.choices b.choices c.choices,
   append_assoc a.steps b.steps c.steps,
 ) refl
 
-pub joined_nothing : (a : Stretch) → joined a nothing ≡ a
+pub joined_nothing : (a : Stretch) → followed_by a no_stretch ≡ a
 joined_nothing a = rw (append-nil a.events, append-nil a.choices, append-nil a.steps) refl
 
 -- so many of them were delivered
 pub record Flows (world : World) (cs : Configurations) (past : Stretch) (old left : List ℕ)
     (count : ℕ) : Type 0 where
   pub own : Stretch
-  pub run : HasRunTo world cs (joined past own)
+  pub run : HasRunTo world cs (followed_by past own)
   pub events : own.events ≡ map delivery (take count (all_left old past.steps own.steps))
   pub each : count ≡ length own.steps
   pub behind : left ≡ drop count (all_left old past.steps own.steps)
@@ -104,7 +105,7 @@ pub record Flows (world : World) (cs : Configurations) (past : Stretch) (old lef
 pub flows_none : (world : World) (cs : Configurations) (past : Stretch) (old : List ℕ) →
     HasRunTo world cs past → Flows world cs past old old 0
 flows_none world cs past old run = record {
-  own = nothing;
+  own = no_stretch;
   run = subst (λ (s : Stretch). HasRunTo world cs s) (sym (joined_nothing past)) run;
   events = refl;
   each = refl;
@@ -159,7 +160,7 @@ module _ (cs : Configurations) (past : Stretch) (old : List ℕ) where
   pub flows_on : (world after : World) (left rest next : List ℕ) (count p : ℕ)
       (f : Flows world cs past old left count) → left ≡ p ∷ rest → suc count ≤ most →
       (choice : Choice) (lines : List Line) →
-      HasRunTo after cs (joined (joined past f.own) (one (delivery p) choice lines)) →
+      HasRunTo after cs (followed_by (followed_by past f.own) (one_step (delivery p) choice lines)) →
       next ≡ rest ++ places_after (frames_in_steps (past.steps ++ f.own.steps))
       (frames_of_step lines) → Flows after cs past old next (suc count)
   flows_on world after left rest next count p f first few choice lines run is =
@@ -172,9 +173,9 @@ module _ (cs : Configurations) (past : Stretch) (old : List ℕ) where
       ≡ take count all ++ p ∷ [] =
       ap (λ (l : List ℕ). take (suc count) l) more ∙ take_more all new rest count p front in
       record {
-        own = joined f.own (one (delivery p) choice lines);
+        own = followed_by f.own (one_step (delivery p) choice lines);
         run = subst (λ (s : Stretch). HasRunTo after cs s)
-            (joined_assoc past f.own (one (delivery p) choice lines)) run;
+            (joined_assoc past f.own (one_step (delivery p) choice lines)) run;
         events = ap (λ (l : List lab.Event). l ++ delivery p ∷ []) f.events
             ∙ (sym (map-more (take count all) p) ∙ ap (λ (l : List ℕ). map delivery l) (sym taken));
         each = omega (arith, f.each, length-append f.own.steps (lines ∷ []));
@@ -215,7 +216,7 @@ length-take (x ∷ xs) (suc k) le = ap suc (length-take xs k (omega (arith, le))
 
 -- what a flow promises
 abbrev pub HasFlowed : World → Configurations → Stretch → List ℕ → List ℕ → ℕ → Type 0
-HasFlowed world cs past old left count = (own : Stretch) × HasRunTo world cs (joined past own)
+HasFlowed world cs past old left count = (own : Stretch) × HasRunTo world cs (followed_by past own)
     × (own.events ≡ deliveries (all_left old past.steps own.steps))
     × (count ≡ length own.steps) × (count ≡ length own.events)
     × (left ≡ drop most (all_left old past.steps own.steps))
@@ -262,7 +263,7 @@ flowed_most world cs past old left count f reached =
 pub record Settles (world : World) (cs : Configurations) (past : Stretch) (node : ℕ)
     (old left : List ℕ) (count : ℕ) : Type 0 where
   pub own : Stretch
-  pub run : HasRunTo world cs (joined past own)
+  pub run : HasRunTo world cs (followed_by past own)
   pub events : own.events ≡ replicate count (tending node)
   pub each : count ≡ length own.steps
   pub worked : All (λ step. has_worked step ≡ true) own.steps
@@ -272,7 +273,7 @@ pub record Settles (world : World) (cs : Configurations) (past : Stretch) (node 
 pub settles_none : (world : World) (cs : Configurations) (past : Stretch) (node : ℕ)
     (old : List ℕ) → HasRunTo world cs past → Settles world cs past node old old 0
 settles_none world cs past node old run = record {
-  own = nothing;
+  own = no_stretch;
   run = subst (λ (s : Stretch). HasRunTo world cs s) (sym (joined_nothing past)) run;
   events = refl;
   each = refl;
@@ -310,22 +311,22 @@ same_step one other e = ap (λ o. option_map_or (λ l. l) o []) e
 -- what a settle promises
 abbrev pub HasSettledSo : World → Configurations → Stretch → ℕ → List ℕ → List ℕ → ℕ → Type 0
 HasSettledSo world cs past node old left count = (own : Stretch)
-    × HasRunTo world cs (joined past own)
+    × HasRunTo world cs (followed_by past own)
     × (own.events ≡ replicate count (tending node)) × (count ≡ length own.steps)
     × HasSettled own.steps × (left ≡ all_left old past.steps own.steps)
 
 module _ (cs : Configurations) (past : Stretch) (node : ℕ) (old : List ℕ) (world after : World)
     (left next : List ℕ) (count : ℕ) (s : Settles world cs past node old left count)
     (few : suc count ≤ most) (choice : Choice) (lines : List Line)
-    (run : HasRunTo after cs (joined (joined past s.own) (one (tending node) choice lines)))
+    (run : HasRunTo after cs (followed_by (followed_by past s.own) (one_step (tending node) choice lines)))
     (is : next ≡ left ++ places_after (frames_in_steps (past.steps ++ s.own.steps))
     (frames_of_step lines)) where
   abbrev more : Stretch
-  more = joined s.own (one (tending node) choice lines)
+  more = followed_by s.own (one_step (tending node) choice lines)
 
-  happened : HasRunTo after cs (joined past more)
+  happened : HasRunTo after cs (followed_by past more)
   happened = subst (λ (it : Stretch). HasRunTo after cs it)
-      (joined_assoc past s.own (one (tending node) choice lines)) run
+      (joined_assoc past s.own (one_step (tending node) choice lines)) run
 
   tended : more.events ≡ replicate (suc count) (tending node)
   tended = ap (λ (l : List lab.Event). l ++ tending node ∷ []) s.events
@@ -423,15 +424,15 @@ pub record Goes (world : World) (cs : Configurations) (left : List ℕ) (behind 
   pub rising : IsRising 0 (frames_in_steps past.steps) left
   pub whole : (ts : List StatementResult) (rest : Stretch) →
       AreResults cs past left behind ts rest →
-      AreResults cs nothing [] all (turns ++ ts) (joined past rest)
+      AreResults cs no_stretch [] all (turns ++ ts) (followed_by past rest)
 
 pub goes_nowhere : (world : World) (cs : Configurations) (left : List ℕ) (all : List Statement) →
-    HasRunTo world cs nothing → left ≡ [] → Goes world cs left all all []
+    HasRunTo world cs no_stretch → left ≡ [] → Goes world cs left all all []
 goes_nowhere world cs left all run none = record {
-  past = nothing;
+  past = no_stretch;
   run = run;
   rising = rw none (omega arith);
-  whole = λ ts rest c. subst (λ (l : List ℕ). AreResults cs nothing l all ts rest) none c;
+  whole = λ ts rest c. subst (λ (l : List ℕ). AreResults cs no_stretch l all ts rest) none c;
 }
 
 -- one statement more
@@ -441,18 +442,26 @@ pub goes_on : (old new : ScriptRun) (cs : Configurations) (it : Statement)
     HasTurned cs g.past it turn old new →
     Goes new.world cs new.left.items behind all (turns ++ turn ∷ [])
 goes_on old new cs it behind all turns turn g t = record {
-  past = joined g.past t.own;
+  past = followed_by g.past t.own;
   run = t.run;
   rising = rw (t.left, frames_in_steps-more g.past.steps t.own.steps)
       (left_rises it.action old.left.items (frames_in_steps g.past.steps)
       (frames_in_steps t.own.steps) g.rising);
   whole = λ ts rest c.
-      let one = g.whole (turn ∷ ts) (joined t.own rest)
-      (turn, t.own, ts, rest, t.did, t.shown, refl, refl,
-      subst (λ (l : List ℕ). AreResults cs (joined g.past t.own) l behind ts rest) t.left c) in
-      subst (λ (l : List StatementResult). AreResults cs nothing [] all l
-      (joined (joined g.past t.own) rest)) (sym (append_assoc turns (turn ∷ []) ts))
-      (subst (λ (s : Stretch). AreResults cs nothing [] all (turns ++ turn ∷ ts) s)
+      let one = g.whole (turn ∷ ts) (followed_by t.own rest) (
+        turn,
+        t.own,
+        ts,
+        rest,
+        t.did,
+        t.shown,
+        refl,
+        refl,
+        subst (λ (l : List ℕ). AreResults cs (followed_by g.past t.own) l behind ts rest) t.left c,
+      ) in
+      subst (λ (l : List StatementResult). AreResults cs no_stretch [] all l
+      (followed_by (followed_by g.past t.own) rest)) (sym (append_assoc turns (turn ∷ []) ts))
+      (subst (λ (s : Stretch). AreResults cs no_stretch [] all (turns ++ turn ∷ ts) s)
       (sym (joined_assoc g.past t.own rest)) one);
 }
 
@@ -483,25 +492,25 @@ left_delivered what place left mid new is same cut = cut
 -- a look tells the numbers
 is_shown : (cs : Configurations) (past : Stretch) (node : ℕ) (numbers : Option Numbers) →
     AreNumbersOf cs past.events past.choices node numbers →
-    IsShown cs past (shown node numbers)
+    HasToldNumbers cs past (shown node numbers)
 is_shown cs past node None told = told
 is_shown cs past node (Some numbers) told = told
 
 -- a flow shows no node
-never_shown : (cs : Configurations) (past : Stretch) (left : List ℕ) → IsShown cs past (busy left)
+never_shown : (cs : Configurations) (past : Stretch) (left : List ℕ) → HasToldNumbers cs past (busy left)
 never_shown cs past [] = tt
 never_shown cs past (place ∷ places) = tt
 
 -- what statements have done, by their results
 module _ (cs : Configurations) (past : Stretch) (it : Statement) (old new : ScriptRun) where
   pub turned_by_event : (event : lab.Event) (choice : Choice) (lines : List Line) →
-      it.action ≡ Event event → HasRunTo new.world cs (joined past (one event choice lines)) →
+      it.action ≡ Event event → HasRunTo new.world cs (followed_by past (one_step event choice lines)) →
       new.left.items ≡ left_after_event event.kind (old.left.items
       ++ places_after (frames_in_steps past.steps) (frames_of_step lines)) →
       HasTurned cs past it
       (record { line = it.line; events = 1; silent = 0; note = note.Nothing }) old new
   turned_by_event event choice lines is run left = record {
-    own = one event choice lines;
+    own = one_step event choice lines;
     did = record { line = refl; count = refl; each = refl; did = rw is (refl, refl, refl) };
     shown = tt;
     run = run;
@@ -513,12 +522,12 @@ module _ (cs : Configurations) (past : Stretch) (it : Statement) (old new : Scri
 
   -- nothing happened
   pub turned_without : (said : Note) → new ≡ old → HasRunTo old.world cs past →
-      IsResultOfAction it.action (old.left.items ++ []) [] [] 0 said → IsShown cs past said →
+      IsResultOfAction it.action (old.left.items ++ []) [] [] 0 said → HasToldNumbers cs past said →
       left_after it.action old.left.items ≡ old.left.items →
       HasTurned cs past it
       (record { line = it.line; events = 0; silent = 0; note = said }) old new
   turned_without said same run did told leaves = record {
-    own = nothing;
+    own = no_stretch;
     did = record { line = refl; count = refl; each = refl; did = did };
     shown = told;
     run = rw same (subst (λ (s : Stretch). HasRunTo old.world cs s) (sym (joined_nothing past)) run);
@@ -532,7 +541,7 @@ module _ (cs : Configurations) (past : Stretch) (it : Statement) (old new : Scri
       (record { line = it.line; events = 0; silent = 0; note = said }) old new
   turned_by_show node numbers said is same stays run told =
       turned_without said stays run (rw is (refl, refl, (numbers, same)))
-      (subst (λ (n : Note). IsShown cs past n) (sym same)
+      (subst (λ (n : Note). HasToldNumbers cs past n) (sym same)
       (is_shown cs past node numbers told)) (rw is refl)
 
   pub turned_by_flow : (count : ℕ) → it.action ≡ Flow →
@@ -576,12 +585,15 @@ module _ (cs : Configurations) (past : Stretch) (it : Statement) (old new : Scri
           each = sym settles.3 ∙ sym tends;
           did = rw is (
             settles.2 ∙ ap (λ (k : ℕ). replicate k (tending node)) settles.3,
-            (settles.4, record {
-              first = ap (λ (t : StatementResult). t.silent) told
-                  ∙ ap₂ (λ (b : Bool) (k : ℕ). if b then k else k - 1) same settles.3;
-              besides = ap (λ (t : StatementResult). t.note) told
-                  ∙ ap (λ (b : Bool). if b then note.Busy else note.Nothing) same;
-            }),
+            (
+              settles.4,
+              record {
+                first = ap (λ (t : StatementResult). t.silent) told
+                    ∙ ap₂ (λ (b : Bool) (k : ℕ). if b then k else k - 1) same settles.3;
+                besides = ap (λ (t : StatementResult). t.note) told
+                    ∙ ap (λ (b : Bool). if b then note.Busy else note.Nothing) same;
+              },
+            ),
           );
         };
         shown = rw told (quiet goes_on);
@@ -589,7 +601,7 @@ module _ (cs : Configurations) (past : Stretch) (it : Statement) (old new : Scri
         left = rw is settles.5;
       }
     where
-      quiet : (b : Bool) → IsShown cs past (if b then note.Busy else note.Nothing)
+      quiet : (b : Bool) → HasToldNumbers cs past (if b then note.Busy else note.Nothing)
       quiet true = tt
       quiet false = tt
 
@@ -614,7 +626,7 @@ goes_next old new cs all i d it turns turn within at g t =
       rising = g.rising;
       whole = subst (λ (b : List Statement). (ts : List StatementResult) (rest : Stretch) →
           AreResults cs g.past old.left.items b ts rest →
-          AreResults cs nothing [] all (turns ++ ts) (joined g.past rest)) parts g.whole;
+          AreResults cs no_stretch [] all (turns ++ ts) (followed_by g.past rest)) parts g.whole;
     }) t
 
 -- all statements ran
@@ -626,15 +638,15 @@ pub gone : (world : World) (setup : Setup) (left : List ℕ) (all behind : List 
     OneHistory setup.configs g.past.events report → HasRunStatements setup all turns report
 gone world setup left all behind turns report g none steps run history =
     let cs = setup.configs in
-    let last : AreResults cs g.past left behind [] nothing =
-    subst (λ (b : List Statement). AreResults cs g.past left b [] nothing) (sym none) (refl, refl)
+    let last : AreResults cs g.past left behind [] no_stretch =
+    subst (λ (b : List Statement). AreResults cs g.past left b [] no_stretch) (sym none) (refl, refl)
     in
     record {
       all = g.past;
-      course = subst (λ (t : List StatementResult). AreResults cs nothing [] all t g.past)
+      course = subst (λ (t : List StatementResult). AreResults cs no_stretch [] all t g.past)
           (append-nil turns)
-          (subst (λ (s : Stretch). AreResults cs nothing [] all (turns ++ []) s)
-          (joined_nothing g.past) (g.whole [] nothing last));
+          (subst (λ (s : Stretch). AreResults cs no_stretch [] all (turns ++ []) s)
+          (joined_nothing g.past) (g.whole [] no_stretch last));
       lines = steps;
       ran = run;
       history = history;

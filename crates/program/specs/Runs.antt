@@ -8,7 +8,7 @@ use Rattle.program.specs.declared.failure.Failure.TheVariants.{Output}
 use Rattle.program.specs.declared.script.setup.Setup.{Setup}
 use Rattle.program.specs.declared.script.statement.Statement.{Statement}
 use Rattle.program.specs.declared.statement_result.StatementResult.{StatementResult}
-use Rattle.program.specs.ScriptRuns.{AreResults, Stretch, nothing}
+use Rattle.program.specs.ScriptRuns.{AreResults, Stretch, no_stretch}
 use Rattle.program.specs.Scripts.{script_lines, IsScript}
 use Rattle.program.specs.Faults.{script_fault, start}
 use Rattle.program.specs.Failures.{IsFailureOf, failure_line}
@@ -20,7 +20,7 @@ pub record HasRunStatements (setup : Setup) (statements : List Statement)
     (turns : List StatementResult)
     (report : Report) : Type 0 where
   pub all : Stretch
-  pub course : AreResults setup.configs nothing [] statements turns all
+  pub course : AreResults setup.configs no_stretch [] statements turns all
   pub lines : report.steps.items ≡ all.steps
   pub ran : IsRun setup.configs all.events all.choices report
   pub history : OneHistory setup.configs all.events report

@@ -1,5 +1,5 @@
 -- The course of a run: the events of each statement, and the frames that none has delivered yet.
-use Rattle.std.specs.Prelude.{◌≡◌, ◌<◌, ◌≤◌, ℕ, zero, suc, ◌+◌}
+use Rattle.std.specs.Prelude.{◌≡◌, ◌<◌, ◌≤◌, ℕ, zero, suc}
 use Rattle.std.specs.Prelude.{List, [], ◌∷◌, ◌++◌, length, map, take, drop}
 use Rattle.std.specs.Prelude.{◌-◌, Bool, true, false, if◌then◌else◌, All, replicate}
 use Rattle.std.specs.Prelude.{Option, Some, None}
@@ -134,19 +134,19 @@ pub record Stretch : Type 0 where
   pub choices : List Choice
   pub steps : List (List Line)
 
-abbrev pub nothing : Stretch
-nothing = record { events = []; choices = []; steps = [] }
+abbrev pub no_stretch : Stretch
+no_stretch = record { events = []; choices = []; steps = [] }
 
-abbrev pub joined : Stretch → Stretch → Stretch
-joined first second = record {
+abbrev pub followed_by : Stretch → Stretch → Stretch
+followed_by first second = record {
   events = first.events ++ second.events;
   choices = first.choices ++ second.choices;
   steps = first.steps ++ second.steps;
 }
 
 -- .. of one event
-abbrev pub one : lab.Event → Choice → List Line → Stretch
-one event choice lines =
+abbrev pub one_step : lab.Event → Choice → List Line → Stretch
+one_step event choice lines =
     record { events = event ∷ []; choices = choice ∷ []; steps = lines ∷ [] }
 
 -- the world has run this far
@@ -154,13 +154,13 @@ abbrev pub HasRunTo : World → Configurations → Stretch → Type 0
 HasRunTo world cs past = HasRun world cs past.events past.choices past.steps
 
 -- what is shown of a node are its numbers after all that happened
-abbrev pub IsShown : Configurations → Stretch → Note → Type 0
-IsShown cs past note.Nothing = Unit {0}
-IsShown cs past (note.Invalid e) = Unit {0}
-IsShown cs past note.Busy = Unit {0}
-IsShown cs past (note.Running node numbers) =
+abbrev pub HasToldNumbers : Configurations → Stretch → Note → Type 0
+HasToldNumbers cs past note.Nothing = Unit {0}
+HasToldNumbers cs past (note.Invalid e) = Unit {0}
+HasToldNumbers cs past note.Busy = Unit {0}
+HasToldNumbers cs past (note.Running node numbers) =
     AreNumbersOf cs past.events past.choices node (Some numbers)
-IsShown cs past (note.Down node) = AreNumbersOf cs past.events past.choices node None
+HasToldNumbers cs past (note.Down node) = AreNumbersOf cs past.events past.choices node None
 
 -- a statement was run behind what had happened: the world and the frames that are left are those
 -- behind its events
@@ -168,21 +168,21 @@ pub record HasTurned (cs : Configurations) (past : Stretch) (it : Statement)
     (turn : StatementResult) (old new : ScriptRun) : Type 0 where
   pub own : Stretch
   pub did : IsResult (frames_in_steps past.steps) old.left.items it turn own.events own.steps
-  pub shown : IsShown cs past turn.note
-  pub run : HasRunTo new.world cs (joined past own)
+  pub shown : HasToldNumbers cs past turn.note
+  pub run : HasRunTo new.world cs (followed_by past own)
   pub left : new.left.items ≡ left_after it.action (old.left.items
       ++ places_after (frames_in_steps past.steps) (frames_in_steps own.steps))
 
 -- statements were run, one after another, behind what had happened
 abbrev pub AreResults : Configurations → Stretch → List ℕ → List Statement → List StatementResult
     → Stretch → Type 0
-AreResults cs past left [] turns all = (turns ≡ []) × (all ≡ nothing)
+AreResults cs past left [] turns all = (turns ≡ []) × (all ≡ no_stretch)
 AreResults cs past left (it ∷ statements) turns all =
     (turn : StatementResult) × (own : Stretch)
     × (turns_behind : List StatementResult) × (behind : Stretch)
     × IsResult (frames_in_steps past.steps) left it turn own.events own.steps
-    × IsShown cs past turn.note
-    × (turns ≡ turn ∷ turns_behind) × (all ≡ joined own behind)
-    × AreResults cs (joined past own) (left_after it.action
+    × HasToldNumbers cs past turn.note
+    × (turns ≡ turn ∷ turns_behind) × (all ≡ followed_by own behind)
+    × AreResults cs (followed_by past own) (left_after it.action
     (left ++ places_after (frames_in_steps past.steps) (frames_in_steps own.steps)))
     statements turns_behind behind

@@ -7,8 +7,9 @@ ghost use Rattle.lab.specs.Machine.{without};
 ghost use Rattle.lab.specs.declared.Line.{Line};
 ghost use Rattle.lab.specs.{Choice, HasRun, NamesNode, frames_in_steps, frames_of_step};
 ghost use Rattle.program.specs.ScriptRuns.{HasRunTo, HasSettled, HasTurned, IsRising, faultless};
-ghost use Rattle.program.specs.ScriptRuns.{Stretch, busy, deliveries, delivery, has_worked, joined};
-ghost use Rattle.program.specs.ScriptRuns.{left_after, left_after_event, most, nothing, one};
+ghost use Rattle.program.specs.ScriptRuns.{Stretch, busy, deliveries, delivery, has_worked, followed_by};
+ghost use Rattle.program.specs.ScriptRuns.{left_after, left_after_event, most, no_stretch};
+ghost use Rattle.program.specs.ScriptRuns.{one_step};
 ghost use Rattle.program.specs.ScriptRuns.{places_after, shown, tending};
 ghost use Rattle.program.specs.Scripts.{Names};
 ghost use Rattle.program.specs.declared.statement_result.Note.TheVariants as note;
@@ -120,7 +121,7 @@ fn settled(line: u32, tends: usize, more: bool) -> StatementResult
 
 impl ScriptRun {
     pub fn new(alloc: Global, configs: &Configs, limits: &Limits) -> Result<ScriptRun, LabError>
-        ensures run { IfOk result (λ course. HasRunTo course.world configs.now nothing) }
+        ensures run { IfOk result (λ course. HasRunTo course.world configs.now no_stretch) }
         ensures left { IfOk result (λ course. course.left.items ≡ []) }
     {
         Ok(ScriptRun {
@@ -133,7 +134,7 @@ impl ScriptRun {
     fn step(&mut self, alloc: Global, event: &Event) -> Result<(), LabError>
         ensures { (cs : Configurations) (past : Stretch) → HasRunTo self.old.world cs past →
             NamesNode cs event.now.kind → OnOk result ((choice : Choice) × (lines : List Line)
-            × HasRunTo self.new.world cs (joined past (one event.now choice lines))
+            × HasRunTo self.new.world cs (followed_by past (one_step event.now choice lines))
             × (self.new.left.items ≡ self.old.left.items
             ++ places_after (frames_in_steps past.steps) (frames_of_step lines))) }
     {
@@ -149,7 +150,7 @@ impl ScriptRun {
             NamesNode cs event.now.kind →
             IsRising 0 (frames_in_steps past.steps) self.old.left.items →
             OnOk result ((choice : Choice) × (lines : List Line)
-            × HasRunTo self.new.world cs (joined past (one event.now choice lines))
+            × HasRunTo self.new.world cs (followed_by past (one_step event.now choice lines))
             × (self.new.left.items ≡ left_after_event event.now.kind (self.old.left.items
             ++ places_after (frames_in_steps past.steps) (frames_of_step lines)))) }
     {
@@ -164,7 +165,7 @@ impl ScriptRun {
     fn happen(&mut self, alloc: Global, kind: EventKind) -> Result<(), LabError>
         ensures { (cs : Configurations) (past : Stretch) → HasRunTo self.old.world cs past →
             NamesNode cs kind → OnOk result ((choice : Choice) × (lines : List Line)
-            × HasRunTo self.new.world cs (joined past (one (faultless kind) choice lines))
+            × HasRunTo self.new.world cs (followed_by past (one_step (faultless kind) choice lines))
             × (self.new.left.items ≡ self.old.left.items
             ++ places_after (frames_in_steps past.steps) (frames_of_step lines))) }
     {
@@ -178,7 +179,7 @@ impl ScriptRun {
     // The frames that are left are delivered, up to the bound. It answers how many.
     fn flow(&mut self, alloc: Global) -> Result<usize, LabError>
         ensures { (cs : Configurations) (past : Stretch) → HasRunTo self.old.world cs past →
-            IfOk result (λ count. (own : Stretch) × HasRunTo self.new.world cs (joined past own)
+            IfOk result (λ count. (own : Stretch) × HasRunTo self.new.world cs (followed_by past own)
             × (own.events ≡ deliveries (self.old.left.items
             ++ places_after (frames_in_steps past.steps) (frames_in_steps own.steps)))
             × (count ≡ length own.steps) × (count ≡ length own.events)
@@ -212,7 +213,7 @@ impl ScriptRun {
     fn settle(&mut self, alloc: Global, node: NodeId) -> Result<usize, LabError>
         ensures { (cs : Configurations) (past : Stretch) → HasRunTo self.old.world cs past →
             has (at_epoch cs 0) node ≡ true →
-            IfOk result (λ count. (own : Stretch) × HasRunTo self.new.world cs (joined past own)
+            IfOk result (λ count. (own : Stretch) × HasRunTo self.new.world cs (followed_by past own)
             × (own.events ≡ replicate count (tending node)) × (count ≡ length own.steps)
             × HasSettled own.steps
             × (self.new.left.items ≡ self.old.left.items

@@ -4,7 +4,7 @@ use Rattle.program.specs.Scripts.{Names}
 use Rattle.program.proofs.Flowing.{drop_past, goes_next, goes_nowhere, gone}
 use Rattle.program.proofs.run_input.run_statements.Goals as goal
 
--- nothing ran yet
+-- no_stretch ran yet
 pub loop-statement-init : goal.loop-statement-init
 loop-statement-init c =
     let course = c.in_ok-course.course in

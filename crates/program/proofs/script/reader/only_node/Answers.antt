@@ -3,7 +3,6 @@ use Rattle.std.specs.Str.Parse.{digits_value}
 use Rattle.program.specs.Words.{is_number}
 use Rattle.std.proofs.lemmas.Bool.Decides.{nat_tests}
 use Rattle.program.proofs.Places.{no_word, only_word}
-use Rattle.program.proofs.Placing.{one_node_count, one_node_fault, one_node_number}
 use Rattle.program.proofs.Placing.{one_node_placed}
 use Rattle.program.proofs.script.reader.only_node.Goals as goal
 

@@ -1,9 +1,9 @@
 use Rattle.std.proofs.Common.{ℕ, List, subst, add-one, arith}
-use Rattle.program.specs.ScriptRuns.{joined}
+use Rattle.program.specs.ScriptRuns.{followed_by}
 use Rattle.program.proofs.Flowing.{Flows, flows_none, flows_on, flowed_all, flowed_most, emptied}
 use Rattle.program.proofs.script_run.ScriptRun.flow.Goals as goal
 
--- nothing is delivered yet
+-- no_stretch is delivered yet
 pub loop-count-init : goal.loop-count-init
 loop-count-init c = λ cs past run.
     flows_none c.args.self.now.world cs past c.args.self.now.left.items run
@@ -23,7 +23,7 @@ returns-in_default c = λ cs past run.
 pub loop-count-preserved : goal.loop-count-preserved
 loop-count-preserved c = λ cs past run.
     let f = c.loop-count.invariant cs past run in
-    let gave = c.in_ok-happen.ensures cs (joined past f.own) f.run tt in
+    let gave = c.in_ok-happen.ensures cs (followed_by past f.own) f.run tt in
     rw add-one (flows_on cs past c.args.self.now.left.items c.loop-count.self.world
     c.happen.new.self.world c.loop-count.self.left.items c.pop_front.new.self.items
     c.happen.new.self.left.items c.loop-count.count c.in-Some.place f c.in-Some.ensures.items

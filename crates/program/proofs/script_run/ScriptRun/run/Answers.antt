@@ -1,6 +1,6 @@
 use Rattle.std.proofs.Common.{List, ◌++◌, refl, sym, ap, ◌∙◌, append_assoc}
 use Rattle.lab.specs.declared.Line.{Line}
-use Rattle.program.specs.ScriptRuns.{joined}
+use Rattle.program.specs.ScriptRuns.{followed_by}
 use Rattle.program.specs.declared.statement_result.Note.TheVariants as note
 use Rattle.program.proofs.Flowing.{turned_by_event, turned_by_flow, turned_by_settle}
 use Rattle.program.proofs.Flowing.{turned_by_show, turned_without}
@@ -31,7 +31,7 @@ returns-in_ok-tends-in-Settle c = λ cs past run named up.
     let last = went.4 in
     turned_by_settle cs past c.args.statement.now c.args.self.now c.settle.new.self node
     c.in_ok-tends-in-Settle.tends c.settled.result c.has_worked.result c.in-Settle.is went
-    (c.has_worked.ensures cs (joined past went.0) (past.steps ++ last.before) last.last went.1
+    (c.has_worked.ensures cs (followed_by past went.0) (past.steps ++ last.before) last.last went.1
     (ap (λ (l : List (List Line)). past.steps ++ l) last.all
     ∙ sym (append_assoc past.steps last.before _))) c.settled.ensures
 

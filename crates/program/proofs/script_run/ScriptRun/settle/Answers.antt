@@ -1,5 +1,5 @@
-use Rattle.std.proofs.Common.{◌++◌, ◌∙◌, add-one, append_assoc, arith, refl, sym}
-use Rattle.program.specs.ScriptRuns.{joined, one, tending}
+use Rattle.std.proofs.Common.{◌++◌, ◌∙◌, add-one, arith, refl, sym}
+use Rattle.program.specs.ScriptRuns.{followed_by, one_step, tending}
 use Rattle.program.proofs.Flowing.{settles_none, settles_on, settled, settled_most}
 use Rattle.program.proofs.script_run.ScriptRun.settle.Goals as goal
 
@@ -12,23 +12,23 @@ loop-count-init c = λ cs past run named.
 pub returns-then-not-has_worked : goal.returns-then-not-has_worked
 returns-then-not-has_worked c = λ cs past run named.
     let s = c.loop-count.invariant cs past run named in
-    let gave = c.in_ok-happen.ensures cs (joined past s.own) s.run named in
+    let gave = c.in_ok-happen.ensures cs (followed_by past s.own) s.run named in
     rw add-one (settled cs past c.args.node c.args.self.now.left.items c.loop-count.self.world
     c.happen.new.self.world c.loop-count.self.left.items c.happen.new.self.left.items
     c.loop-count.count s (omega (arith, c.loop-count-test.true)) gave.0 gave.1 gave.2 gave.3
-    (sym (c.has_worked.ensures cs (joined (joined past s.own)
-    (one (tending c.args.node) gave.0 gave.1)) (past.steps ++ s.own.steps) gave.1 gave.2 refl)
+    (sym (c.has_worked.ensures cs (followed_by (followed_by past s.own)
+    (one_step (tending c.args.node) gave.0 gave.1)) (past.steps ++ s.own.steps) gave.1 gave.2 refl)
     ∙ c.if-not-has_worked.true))
 
 pub loop-count-preserved : goal.loop-count-preserved
 loop-count-preserved c = λ cs past run named.
     let s = c.loop-count.invariant cs past run named in
-    let gave = c.in_ok-happen.ensures cs (joined past s.own) s.run named in
+    let gave = c.in_ok-happen.ensures cs (followed_by past s.own) s.run named in
     rw add-one (settles_on cs past c.args.node c.args.self.now.left.items c.loop-count.self.world
     c.happen.new.self.world c.loop-count.self.left.items c.happen.new.self.left.items
     c.loop-count.count s (omega (arith, c.loop-count-test.true)) gave.0 gave.1 gave.2 gave.3
-    (sym (c.has_worked.ensures cs (joined (joined past s.own)
-    (one (tending c.args.node) gave.0 gave.1)) (past.steps ++ s.own.steps) gave.1 gave.2 refl)
+    (sym (c.has_worked.ensures cs (followed_by (followed_by past s.own)
+    (one_step (tending c.args.node) gave.0 gave.1)) (past.steps ++ s.own.steps) gave.1 gave.2 refl)
     ∙ c.if-not-has_worked.false))
 
 -- the bound is reached
