@@ -132,7 +132,10 @@ const PLACES: &[Fault] = &[
     ("config 1\nshow x\n", "line 2: bad number\n"),
     ("config 1\nshow 2\n", "line 2: unknown node\n"),
     ("config 1\nshow 1 !stop 1 old\n", "line 2: bad fault\n"),
-    ("config 1\nshow 1\nconfig 2\n", "line 3: bad configuration\n"),
+    (
+        "config 1\nshow 1\nconfig 2\n",
+        "line 3: bad configuration\n",
+    ),
     ("show 1\nconfig 1\n", "line 1: out of place\n"),
 ];
 
