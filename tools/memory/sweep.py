@@ -20,6 +20,13 @@ SCRIPTS = {
     "a deletion in a batch": "config 1\nsubmit 1 a=1 -a a=2\nget 1 a\n",
     "a stop with junk": "config 1\nsubmit 1 a=1\nstop 1 01\nstart 1\nget 1 a\n",
     "a running node started": "config 1\nstart 1\nstop 1\nget 1 a\n",
+    "a stop in an append": (
+        "config 1\nsubmit 1 a=1\nsubmit 1 a=2 !stop 2 01\nstart 1\nget 1 a\n"
+    ),
+    "a flush and a look": (
+        "limit log 16\nconfig 1\nsubmit 1 a=1\ntend 1\nshow 1\nstop 1\nstart 1\nget 1 a\n"
+        "settle 1\n"
+    ),
     "a chain of three": (
         "config 1 2 3\nsubmit 1 a=1\ndeliver 1\ndeliver 1\nflow\ntick 2\nflow\nget 2 a\n"
     ),

@@ -49,8 +49,8 @@ junk_at_end (fault.Stop call junk) false = Old
 junk_at_end (fault.Fail call) struck = Old
 junk_at_end fault.None struck = Old
 
--- A node stopped by itself. If it stopped for the disk, one call of that failed, else none; and
--- what the step left crashed with this junk.
+-- A node stopped by itself. If it stopped for the disk, one call of that failed, else none; and its
+-- disk is what a crash with this junk leaves of some state.
 pub record IsEndOf {D : Type 0} (state : D → State) (failures : D → ℕ) (junk : Junk)
     (choice : Choice) (old new : D) : Type 0 where
   pub failed : choice.cause ≡ Disk → failures new ≡ failures old + 1

@@ -33,7 +33,7 @@ node_in (Tend node) = Some node
 node_in (Start node) = Some node
 node_in (Stop node junk) = Some node
 
--- an event names a node of configuration 0
+-- an event names a node of configuration 0, if it names one
 abbrev pub NamesNode : Configurations → EventKind → Type 0
 NamesNode cs kind = IfSome (node_in kind) (λ x. has (at_epoch cs 0) x ≡ true)
 

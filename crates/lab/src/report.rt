@@ -38,7 +38,7 @@ pub enum Line {
         have: Number,
     },
     Replied(Reply),
-    /// The node stopped: for the event's sake, or by itself and then for this cause.
+    /// The node stopped: by itself for this cause, or the event or its fault stopped it.
     Stopped {
         node: NodeId,
         cause: Option<Stop>,

@@ -435,6 +435,18 @@ goes_nowhere world cs left all run none = record {
   whole = λ ts rest c. subst (λ (l : List ℕ). AreResults cs no_stretch l all ts rest) none c;
 }
 
+-- in a stretch between two worlds something was chosen in each event
+chosen_each : (old new : World) (cs : Configurations) (past own : Stretch) →
+    HasRunTo old cs past → HasRunTo new cs (followed_by past own) →
+    length own.choices ≡ length own.events
+chosen_each old new cs past own before after = omega (
+  arith,
+  before.made.trace.one_each,
+  after.made.trace.one_each,
+  length-append past.choices own.choices,
+  length-append past.events own.events,
+)
+
 -- one statement more
 pub goes_on : (old new : ScriptRun) (cs : Configurations) (it : Statement)
     (behind all : List Statement) (turns : List StatementResult) (turn : StatementResult)
@@ -454,6 +466,7 @@ goes_on old new cs it behind all turns turn g t = record {
         ts,
         rest,
         t.did,
+        chosen_each old.world new.world cs g.past t.own g.run t.run,
         t.shown,
         refl,
         refl,

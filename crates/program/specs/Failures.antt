@@ -27,7 +27,8 @@ failure_text Memory = codes "run: memory"
 abbrev pub failure_line : Failure → List ℕ
 failure_line failure = failure_text failure ++ 10 ∷ []
 
--- a fault of the script is the least of its first faulty line; only want of memory may come before
+-- a fault of the script is the least of its first faulty line; only want of memory may come in its
+-- place, then with any line
 abbrev pub IsFailureOf : List ℕ → Failure → Type 0
 IsFailureOf text (Script f) =
     f.error ≢ OutOfMemory → script_fault start 1 (script_lines text) ≡ Some (f.line, f.error)

@@ -78,7 +78,7 @@ RunEnds text old_out new_out old_err new_err answer =
     RunIsPrinted text old_out new_out old_err new_err answer
     ⊎ FailureIsReported text old_out new_out old_err new_err answer
 
--- .. whatever standard error takes of the line
+-- .. of standard error nothing is said
 abbrev pub RunEndsAs : Option (List ℕ) → Option (List ℕ) → Option (List ℕ) → ℕ → Type 0
 RunEndsAs text old new answer =
     ((answer ≡ 0) × IsRunOfText text (Appends old new))

@@ -173,7 +173,8 @@ pub record HasTurned (cs : Configurations) (past : Stretch) (it : Statement)
   pub left : new.left.items ≡ left_after it.action (old.left.items
       ++ places_after (frames_in_steps past.steps) (frames_in_steps own.steps))
 
--- statements were run, one after another, behind what had happened
+-- statements were run, one after another, behind what had happened; something was chosen in each
+-- event
 abbrev pub AreResults : Configurations → Stretch → List ℕ → List Statement → List StatementResult
     → Stretch → Type 0
 AreResults cs past left [] turns all = (turns ≡ []) × (all ≡ no_stretch)
@@ -181,7 +182,7 @@ AreResults cs past left (it ∷ statements) turns all =
     (turn : StatementResult) × (own : Stretch)
     × (turns_behind : List StatementResult) × (behind : Stretch)
     × IsResult (frames_in_steps past.steps) left it turn own.events own.steps
-    × HasToldNumbers cs past turn.note
+    × (length own.choices ≡ length own.events) × HasToldNumbers cs past turn.note
     × (turns ≡ turn ∷ turns_behind) × (all ≡ followed_by own behind)
     × AreResults cs (followed_by past own) (left_after it.action
     (left ++ places_after (frames_in_steps past.steps) (frames_in_steps own.steps)))

@@ -16,7 +16,7 @@ use std::io::{self, Read, Write};
 use std::rt::Files;
 
 /// Does what the words ask for, and answers the exit status: 0 for a run, whatever became of its
-/// node, 1 for a fault in script, output or memory, 2 for words that ask for nothing. A fault is
+/// nodes, 1 for a fault in script, output or memory, 2 for words that ask for nothing. A fault is
 /// reported in one line on `err`.
 pub fn serve<F: Files + Alloc<A = Global>, R: Read, O: Write, E: Write>(
     rt: &F,

@@ -1,4 +1,4 @@
-//! What a statement asks for: an event, all frames that are left, or nothing valid.
+//! What a command comes to: an event, or the first error of its keys, values, batch.
 ghost use Rattle.std.specs.Prelude.{◌≡◌, None, Some, map, IfOk, MatchResult};
 ghost use Rattle.std.specs.Option.{option_or};
 ghost use Rattle.lab.specs.{node_in};

@@ -238,7 +238,7 @@ fn show(before: &ParserState, args: &[&[u8]]) -> Result<Action, ScriptError>
     }
 }
 
-/// What a statement that names a node comes to, if it may stand here.
+/// What a statement with an event at a named node comes to, if it may stand here.
 fn placed(
     alloc: Global,
     before: &ParserState,

@@ -17,9 +17,9 @@ pub enum Action {
     Event(Event),
     /// A key, value or batch that there can't be.
     Invalid(KvError),
-    /// Every frame that no statement has delivered yet is delivered.
+    /// The frames that no statement has delivered yet are delivered, up to the bound.
     Flow,
-    /// The node tends until nothing is left to do, or it can't.
+    /// The node tends up to the first tend that does not work, or to the bound.
     Settle(NodeId),
     /// The numbers of the node are shown. Nothing happens.
     Show(NodeId),

@@ -107,7 +107,8 @@ fn stop(alloc: Global, args: &[&[u8]]) -> Result<Command, ScriptError>
     Ok(Command::Stop(node, junk))
 }
 
-/// What the words behind the name of a statement that names a node ask for, or their least fault.
+/// What the words behind the name of a statement with an event at a node ask for, or their least
+/// fault.
 pub fn command_of(alloc: Global, name: &[u8], args: &[&[u8]]) -> Result<Command, ScriptError>
     requires deliver { bytes_eq name.now (codes "deliver") ≡ false }
     requires flow { bytes_eq name.now (codes "flow") ≡ false }
