@@ -1,5 +1,5 @@
 -- How many bytes the entries of a memtable take (docs/FORMATS.md).
-use Rattle.std.specs.Prelude.{ℕ, ◌+◌, ◌-◌, ◌^◌, min, List, [], ◌∷◌, length, Option, Some, None}
+use Rattle.std.specs.Prelude.{◌≡◌, ℕ, ◌+◌, ◌-◌, ◌^◌, min, List, [], ◌∷◌, length, Option, Some, None}
 use Rattle.std.specs.Prelude.{is_some, if◌then◌else◌}
 use Rattle.kv_types.specs.declared.edit.Edit.{Edit}
 use Rattle.kv_types.specs.{BatchContent}
@@ -10,6 +10,10 @@ use Rattle.memtable.specs.declared.bounds.TheConstants.{ENTRY_BYTES}
 -- a sum that stops at the greatest number of 64 bits
 abbrev pub capped_sum : ℕ → ℕ → ℕ
 capped_sum a b = min (a + b) (2 ^ 64 - 1)
+
+-- what an entry counts beside the bytes of its key and its value
+abbrev pub EntryBytesAre : Type 0
+EntryBytesAre = ENTRY_BYTES ≡ 64
 
 -- the length of a value; a deletion has none
 abbrev pub value_size : Option (List ℕ) → ℕ

@@ -5,6 +5,7 @@ mod bounds;
 mod cursor;
 mod error;
 mod found;
+pub mod laws;
 mod memtable;
 mod place;
 mod put;

@@ -1,5 +1,5 @@
 -- Entries and blocks of them, and their one spelling.
-use Rattle.std.specs.Prelude.{◌≡◌, ℕ, ◌≤◌, ◌<◌, ◌^◌, List, [], ◌∷◌, ◌++◌, ◌+◌, length, take}
+use Rattle.std.specs.Prelude.{◌≡◌, ℕ, ◌≤◌, ◌<◌, ◌^◌, List, [], ◌∷◌, ◌++◌, length, take}
 use Rattle.std.specs.Prelude.{Option, Some, None, IfSome, All, AllPairs}
 use Rattle.std.specs.List.{flat_map}
 use Rattle.std.specs.Int.{w32, w64, to_be_bytes}
@@ -93,11 +93,3 @@ IsCheckedBlock part = (entries : List Entry) × IsBlock part entries
 -- the bytes are a block of some entries, and the text is the spelling of its entries alone
 abbrev pub IsBlockText : List ℕ → List ℕ → Type 0
 IsBlockText part text = (entries : List Entry) × IsBlock part entries × (text ≡ entries_bytes entries)
-
--- ---- the entries inside a block
-
--- the places of entries in their spelling, of which the first stands at this place
-abbrev pub starts_from : ℕ → List Entry → List ℕ
-starts_from place [] = []
-starts_from place (entry ∷ entries) =
-    place ∷ starts_from (place + length (entry_bytes entry)) entries

@@ -1,5 +1,6 @@
 pub mod Blocks
 pub mod Tables
+pub mod Sizes
 pub mod Parts
 pub mod Reading
 pub mod Errors
@@ -9,7 +10,6 @@ pub mod FrontsLemmas
 pub mod PartsLemmas
 pub mod PassedLemmas
 pub mod RisingLemmas
-pub mod EntryPlacesLemmas
 pub mod SealedLemmas
 pub mod CasesLemmas
 pub mod TablesLemmas
@@ -19,7 +19,6 @@ pub use Rattle.table_format.specs.Blocks.{AreRising, CanFollow, IsBlock, IsBlock
 pub use Rattle.table_format.specs.Blocks.{IsCheckedBlock, last_entry}
 pub use Rattle.table_format.specs.Blocks.{IsStoredKey, IsTableEntry, be32, be64, block_content}
 pub use Rattle.table_format.specs.Blocks.{block_part, entries_bytes, entry_bytes, sealed}
-pub use Rattle.table_format.specs.Blocks.{starts_from}
 unfoldable pub use Rattle.table_format.specs.Blocks.{digest}
 pub use Rattle.table_format.specs.Errors.{IsBuilderError, IsEnvironmentError, ReportsDevice}
 pub use Rattle.table_format.specs.Errors.{table_error}

@@ -1,5 +1,5 @@
 -- Reading entries, lines and footers from left to right.
-use Rattle.std.specs.Prelude.{◌≡◌, ℕ, zero, suc, List, [], ◌∷◌, ◌++◌, Option, Some, None, nat_le}
+use Rattle.std.specs.Prelude.{ℕ, zero, suc, List, [], ◌∷◌, Option, Some, None, nat_le}
 use Rattle.std.specs.Option.{option_map}
 use Rattle.std.specs.Int.{w32, w64}
 use Rattle.kv_types.specs.declared.bounds.TheConstants.{MAX_KEY, MAX_VALUE, MAX_NUMBER}
@@ -9,8 +9,6 @@ use Rattle.table_format.specs.declared.line.IndexLine.{IndexLine}
 use Rattle.table_format.specs.declared.line.LentLine.{LentLine}
 use Rattle.table_format.specs.declared.footer.Footer.{Footer}
 use Rattle.table_format.specs.declared.entry.LentEntry.{LentEntry}
-use Rattle.table_format.specs.Tables.{line_bytes}
-use Rattle.table_format.specs.Parts.{IsIndexLine}
 
 -- ---- entries
 
@@ -55,11 +53,6 @@ unfoldable pub line_at : Reader IndexLine
 line_at bytes =
     mapped as_line (both (number_at w64) (both (number_at w32) (both key_at stored_number_at)))
     bytes
-
--- where a line is read, it is the one that is spelled there
-abbrev pub LinesAreRead : Type 0
-LinesAreRead = (line : IndexLine) (rest : List ℕ) → IsIndexLine line →
-    line_at (line_bytes line ++ rest) ≡ Some (line, rest)
 
 -- ---- the footer
 

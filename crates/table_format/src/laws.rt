@@ -1,7 +1,7 @@
 //! Laws of the definitions that contracts use. The functions do nothing: their clauses are the
 //! laws.
 ghost use Rattle.table_format.specs.Tables.{TableIsUnique};
-ghost use Rattle.table_format.specs.Reading.{LinesAreRead};
+ghost use Rattle.table_format.specs.Sizes.{SizesAre};
 ghost use Rattle.table_format.specs.Examples.{TableExamples};
 
 /// Bytes represent at most one list of entries.
@@ -10,10 +10,10 @@ pub fn tables_are_unique()
     ensures { TableIsUnique }
 {}
 
-/// Where a line is read, it is the one that is spelled there.
-// law: of `line_bytes`
-pub fn lines_are_read()
-    ensures { LinesAreRead }
+/// The value of each size as a number.
+// law: of the constants in `sizes`
+pub fn sizes_are()
+    ensures { SizesAre }
 {}
 
 /// The tables of one entry, worked out.

@@ -12,7 +12,6 @@ pub mod laws;
 mod line;
 mod part;
 pub mod sizes;
-mod starts;
 mod writing;
 
 pub use block::{entries_in, entries_of};
@@ -23,5 +22,4 @@ pub use footer::{Footer, footer_of, footer_part_of};
 pub use index::lines_of;
 pub use line::IndexLine;
 pub use part::{seal, unsealed};
-pub use starts::{entry_at, starts_of};
 pub use writing::{entry_len, put_entry, put_line};

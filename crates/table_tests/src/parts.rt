@@ -3,8 +3,8 @@ use crate::sequence::{copy_of, key_of};
 use std::alloc::Global;
 use std::process::Abort;
 use table_format::{
-    Footer, IndexLine, LentEntry, entries_of, entry_at, filter_of, filter_part_of, footer_of,
-    footer_part_of, lines_of, put_entry, put_line, seal, starts_of,
+    Footer, IndexLine, LentEntry, entries_of, entry_of, filter_of, filter_part_of, footer_of,
+    footer_part_of, lines_of, put_entry, put_line, seal,
 };
 
 /// The block of one entry: `1` was put at `a` by the batch with number 1.
@@ -90,21 +90,15 @@ fn parts_are_written(rt: HostRuntime) {
     assert!(rt; footer.as_slice() == FOOTER.as_slice());
 }
 
-/// Whether the text of a block has that one entry at place 0, and how many places it has.
-fn is_entry(text: &[u8], places: usize) -> bool {
-    let Some(entry) = entry_at(text, 0) else {
-        return false;
-    };
-    places == 1 && entry.key == b"a".as_slice() && entry.number == 1 && entry.value.is_some()
-}
-
-/// Whether the block has that one entry, at place 0.
-fn is_block(rt: &impl Abort, alloc: Global, part: &[u8]) -> bool {
+/// Whether the block has that one entry.
+fn is_block(part: &[u8]) -> bool {
     let Some(text) = entries_of(part) else {
         return false;
     };
-    let places = starts_of(alloc, text).expect(rt, "the places").len();
-    is_entry(text, places)
+    let Some((entry, rest)) = entry_of(text) else {
+        return false;
+    };
+    rest.is_empty() && entry.key == b"a".as_slice() && entry.number == 1 && entry.value.is_some()
 }
 
 fn is_filter(part: &[u8]) -> bool {
@@ -134,7 +128,7 @@ fn is_footer(part: &[u8]) -> bool {
 
 #[test]
 fn parts_are_read(rt: HostRuntime) {
-    assert!(rt; is_block(&rt, rt.alloc(), &BLOCK));
+    assert!(rt; is_block(&BLOCK));
     assert!(rt; is_filter(&FILTER));
     assert!(rt; is_index(rt.alloc(), &INDEX));
     assert!(rt; is_footer(&FOOTER));
