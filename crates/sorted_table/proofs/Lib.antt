@@ -14,6 +14,8 @@ pub mod StartSearches
 pub mod BlockNumbers
 pub mod FirstBlocks
 pub mod ListPositions
+pub mod OpenLookups
+pub mod OpenTails
 pub mod TablePlaces
 pub mod CursorMoves
 pub mod CursorSteps

@@ -9,5 +9,7 @@ pub mod TableCursorLaws
 pub mod TableCursors
 pub mod Tails
 -- What crates above name.
-pub use Rattle.sorted_table.specs.Open.{FileRepresents, FinishedTablesAreFiles, LookupFinds}
+pub use Rattle.sorted_table.specs.Open.{FileRepresents, FinishedTablesAreFiles, HasBlockOf}
+pub use Rattle.sorted_table.specs.Open.{IsOpenOn, LookupAnswer, LookupFinds}
 pub use Rattle.sorted_table.specs.Open.{TableServes, found_entry, greatest_key, table_file, table_filter}
+pub use Rattle.sorted_table.specs.Tails.{HasTail}

@@ -1,11 +1,20 @@
 -- An open table, and what a lookup in it finds.
-use Rattle.std.specs.Prelude.{◌≡◌, ℕ, List, Option, Some, None, IsSomeAnd, Contains}
+use Rattle.std.specs.Prelude.{◌≡◌, ◌⊎◌, ℕ, List, length, Option, Some, None, Result, Ok, Err}
+use Rattle.std.specs.Prelude.{IsSomeAnd, Contains}
 use Rattle.std.specs.Option.{option_map}
 use Rattle.std.specs.Rc.{rc_slice_items}
+use Rattle.bloom.specs.{Covers}
 use Rattle.disk.specs.{Slot, seen}
 use Rattle.kv_types.specs.{Entry, IsNewest, IsUnseen}
+use Rattle.merge_iter.specs.{spot}
 use Rattle.table_builder.specs.{HoldsTable}
-use Rattle.table_format.specs.{TableRepresents, block_lines, last_entry}
+use Rattle.table_files.specs.{IsPartAt}
+use Rattle.table_format.specs.{IsBlock, TableRepresents, block_lines, last_entry}
+use Rattle.table_format.specs.declared.IndexLine.{IndexLine}
+use Rattle.table_format.specs.declared.TableError.{TableError}
+use Rattle.table_format.specs.declared.TableError.TheVariants.{Damaged}
+use Rattle.sorted_table.specs.Searches.{EndsEarlier, FindsFirstWithout}
+use Rattle.sorted_table.specs.Tails.{HasTail}
 use Rattle.sorted_table.specs.declared.found.FoundVersion.{FoundVersion}
 use Rattle.sorted_table.specs.declared.table.Table.{Table}
 
@@ -32,6 +41,11 @@ pub record TableServes (file : Slot) (table : Table) (entries : List Entry) : Ty
   pub lines : rc_slice_items table.lines ≡ block_lines 0 represents.blocks
   pub filter : table.filter.items ≡ represents.filter
 
+-- the table is open on this file: the bytes end in the table's filter and its lines
+abbrev pub IsOpenOn : Slot → Table → Type 0
+IsOpenOn file table =
+    IsSomeAnd (seen file) (λ bytes. HasTail bytes (rc_slice_items table.lines) table.filter.items)
+
 -- the key of the last of these entries, if there is one
 abbrev pub greatest_key : List Entry → Option (List ℕ)
 greatest_key entries = option_map (λ entry. entry.key) (last_entry entries)
@@ -55,3 +69,36 @@ found_entry key found = record {
 abbrev pub LookupFinds : List Entry → List ℕ → ℕ → Option FoundVersion → Type 0
 LookupFinds entries key at None = IsUnseen at (Contains entries) key
 LookupFinds entries key at (Some found) = IsNewest at (Contains entries) (found_entry key found)
+
+-- ---- lookups in any open table
+
+-- the file has a block of these entries at the line's place, of the line's length
+pub record HasBlockOf (line : IndexLine) (file : Slot) (entries : List Entry) : Type 0 where
+  pub part : List ℕ
+  pub len : length part ≡ line.len
+  pub there : IsPartAt (seen file) line.place part
+  pub is_block : IsBlock part entries
+
+-- the file has a block for the line, and this is found in it
+abbrev pub FindsInBlock : IndexLine → Slot → List ℕ → ℕ → Option FoundVersion → Type 0
+FindsInBlock line file key at found =
+    (entries : List Entry) × HasBlockOf line file entries × LookupFinds entries key at found
+
+-- The answer by a line: what is found in its block, and `Damaged` only where the file has no block
+-- for it. Without a line nothing is found.
+abbrev pub LineAnswer : Option IndexLine → Slot → List ℕ → ℕ
+    → Result (Option FoundVersion) TableError → Type 0
+LineAnswer None file key at result = result ≡ Ok None
+LineAnswer (Some line) file key at (Ok found) = ∥ FindsInBlock line file key at found ∥₁
+LineAnswer (Some line) file key at (Err e) =
+    e ≡ Damaged → (entries : List Entry) → HasBlockOf line file entries → ⊥
+
+-- The answer by filter and lines: nothing where the filter denies the key, and else the answer by
+-- the first line whose block does not end before key and number.
+abbrev pub LookupAnswer : Slot → Table → List ℕ → ℕ → Result (Option FoundVersion) TableError
+    → Type 0
+LookupAnswer file table key at result =
+    ((Covers table.filter.items key → ⊥) × (result ≡ Ok None))
+    ⊎ ((line : Option IndexLine)
+    × FindsFirstWithout (EndsEarlier (spot key at)) (rc_slice_items table.lines) line
+    × LineAnswer line file key at result)

@@ -32,8 +32,8 @@ pub struct Table {
 }
 
 impl Table {
-    ghost use Rattle.sorted_table.specs.Open.{FileRepresents, LookupFinds, TableServes, table_file};
-    ghost use Rattle.sorted_table.specs.Open.{greatest_key, table_filter};
+    ghost use Rattle.sorted_table.specs.Open.{FileRepresents, IsOpenOn, LookupAnswer, LookupFinds};
+    ghost use Rattle.sorted_table.specs.Open.{TableServes, greatest_key, table_file, table_filter};
 
     /// Opens the table of a file. It needs three device calls, reads no block, and takes no more
     /// memory than the file is long.
@@ -44,6 +44,8 @@ impl Table {
             FileRepresents (D.state disk.old file) entries →
             MatchResult result (λ table. TableServes (D.state disk.new file) table entries)
             IsEnvironmentError }
+        ensures checked { D.is_honest disk.old →
+            IfOk result (IsOpenOn (D.state disk.new file)) }
         ensures refusals { IfErr result (λ e. IsBuilderError e → ⊥) }
         ensures still { IsStill D.Disk disk.old disk.new }
     {
@@ -87,6 +89,10 @@ impl Table {
         ensures found { (entries : List Entry) → ⟦<Files<D> as Disk>⟧.is_honest files.old →
             TableServes (⟦<Files<D> as Disk>⟧.state files.old (table_file self.now)) self.now
             entries → MatchResult result (LookupFinds entries key.now at) IsEnvironmentError }
+        ensures checked { ⟦<Files<D> as Disk>⟧.is_honest files.old →
+            IsOpenOn (⟦<Files<D> as Disk>⟧.state files.old (table_file self.now)) self.now →
+            LookupAnswer (⟦<Files<D> as Disk>⟧.state files.old (table_file self.now)) self.now
+            key.now at result }
         ensures unread { (Covers (table_filter self.now) key.now → ⊥) → files.new ≡ files.old }
         ensures refusals { IfErr result (λ e. IsBuilderError e → ⊥) }
         ensures still { IsStill ⟦<Files<D> as Disk>⟧ files.old files.new }
@@ -109,6 +115,10 @@ impl Table {
         ensures found { (entries : List Entry) → ⟦<Files<D> as Disk>⟧.is_honest files.old →
             TableServes (⟦<Files<D> as Disk>⟧.state files.old (table_file self.now)) self.now
             entries → MatchResult result (LookupFinds entries key.now at) IsEnvironmentError }
+        ensures checked { ⟦<Files<D> as Disk>⟧.is_honest files.old →
+            IsOpenOn (⟦<Files<D> as Disk>⟧.state files.old (table_file self.now)) self.now →
+            LookupAnswer (⟦<Files<D> as Disk>⟧.state files.old (table_file self.now)) self.now
+            key.now at result }
         ensures unread { (CoversHashed (table_filter self.now) hashes → ⊥) →
             files.new ≡ files.old }
         ensures refusals { IfErr result (λ e. IsBuilderError e → ⊥) }

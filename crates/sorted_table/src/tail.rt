@@ -1,12 +1,12 @@
 //! The tail of a table: its filter and its index, read from a file.
 ghost use Rattle.std.specs.Prelude.{◌≡◌, ◌≤◌, ◌+◌, ◌↔◌, ◌⊎◌, ℕ, List, length, take, drop, Some, IsTrue};
-ghost use Rattle.std.specs.Prelude.{IfOk, IfErr, IfSome, MatchOption, MatchResult};
+ghost use Rattle.std.specs.Prelude.{IfOk, IfErr, IfSome, IsSome, IsSomeAnd, MatchOption, MatchResult};
 ghost use Rattle.std.specs.Rc.{rc_slice_items};
 ghost use Rattle.disk.specs.{IsSame, IsStill, KeepsDisk, seen};
 ghost use Rattle.kv_types.specs.{Entry};
 ghost use Rattle.table_format.specs.{IsBuilderError, IsEnvironmentError, ReportsDevice};
-ghost use Rattle.table_format.specs.{TableRepresents, block_lines};
-ghost use Rattle.sorted_table.specs.Tails.{IsTail, tail_bytes};
+ghost use Rattle.table_format.specs.{IsFilterPart, IsIndex, TableRepresents, block_lines};
+ghost use Rattle.sorted_table.specs.Tails.{FooterSays, IsTail, ReadsTail, tail_bytes};
 
 use disk::Disk;
 use std::alloc::Global;
@@ -37,6 +37,7 @@ fn are_placed(footer: Footer, end: u64) -> bool
 fn tail_of(footer: &[u8], end: u64) -> Option<Tail>
     ensures within { IfSome result (λ tail. tail.filter_len ≤ tail.len) }
     ensures ends { IfSome result (λ tail. tail.place + tail.len ≡ end) }
+    ensures says { IfSome result (FooterSays footer.now end) }
     ensures tail { (bytes : List ℕ) (entries : List Entry) (table : TableRepresents bytes entries) →
         end + FOOTER_SIZE ≡ length bytes → footer.now ≡ take FOOTER_SIZE (drop end bytes) →
         MatchOption result ⊥ (IsTail table.blocks table.filter) }
@@ -56,9 +57,12 @@ fn tail_of(footer: &[u8], end: u64) -> Option<Tail>
 fn read_footer<D: Disk>(disk: &mut D, file: u64) -> Result<([u8; FOOTER_SIZE], u64), TableError>
     ensures kept { KeepsDisk D.Disk disk.old disk.new (ReportsDevice result) ⊥ IsSame }
     ensures footer { (bytes : List ℕ) → D.is_honest disk.old →
-        seen (D.state disk.old file) ≡ Some bytes → FOOTER_SIZE ≤ length bytes →
+        seen (D.state disk.old file) ≡ Some bytes →
         MatchResult result (λ x. (x.1 + FOOTER_SIZE ≡ length bytes)
-        × (x.0 ≡ take FOOTER_SIZE (drop x.1 bytes))) IsEnvironmentError }
+        × (x.0 ≡ take FOOTER_SIZE (drop x.1 bytes)))
+        (λ e. FOOTER_SIZE ≤ length bytes → IsEnvironmentError e) }
+    ensures present { D.is_honest disk.old → IfOk result (λ _.
+        IsSome (seen (D.state disk.old file))) }
     ensures refusals { IfErr result (λ e. IsBuilderError e → ⊥) }
     ensures still { IsStill D.Disk disk.old disk.new }
 {
@@ -82,8 +86,9 @@ fn read_part<D: Disk>(
 ) -> Result<Vec<u8>, TableError>
     ensures kept { KeepsDisk D.Disk disk.old disk.new (ReportsDevice result) ⊥ IsSame }
     ensures read { (bytes : List ℕ) → D.is_honest disk.old →
-        seen (D.state disk.old file) ≡ Some bytes → at + len ≤ length bytes →
-        MatchResult result (λ part. part.items ≡ take len (drop at bytes)) IsEnvironmentError }
+        seen (D.state disk.old file) ≡ Some bytes →
+        MatchResult result (λ part. part.items ≡ take len (drop at bytes))
+        (λ e. at + len ≤ length bytes → IsEnvironmentError e) }
     ensures len { IfOk result (λ part. length part.items ≡ len) }
     ensures refusals { IfErr result (λ e. IsBuilderError e → ⊥) }
     ensures still { IsStill D.Disk disk.old disk.new }
@@ -105,6 +110,8 @@ pub fn read_tail<D: Disk>(
         D.is_honest disk.old → seen (D.state disk.old file) ≡ Some bytes →
         MatchResult result (λ x. (x.0.items ≡ tail_bytes table.blocks table.filter)
         × IsTail table.blocks table.filter x.1) IsEnvironmentError }
+    ensures there { D.is_honest disk.old → IfOk result (λ x.
+        IsSomeAnd (seen (D.state disk.old file)) (ReadsTail x.0.items x.1)) }
     ensures within { IfOk result (λ x. x.1.filter_len ≤ length x.0.items) }
     ensures refusals { IfErr result (λ e. IsBuilderError e → ⊥) }
     ensures still { IsStill D.Disk disk.old disk.new }
@@ -128,6 +135,8 @@ pub fn parts_of(
         bytes.now ≡ tail_bytes table.blocks table.filter → IsTail table.blocks table.filter tail →
         MatchResult result (λ x. (rc_slice_items x.0 ≡ block_lines 0 table.blocks)
         × (x.1.items ≡ table.filter)) (λ e. e ≡ TableError.Memory) }
+    ensures checked { IfOk result (λ x. IsFilterPart (take tail.filter_len bytes.now) x.1.items
+        × IsIndex (drop tail.filter_len bytes.now) tail.place (rc_slice_items x.0)) }
     ensures only { IfErr result (λ e. (e ≡ TableError.Memory) ⊎ (e ≡ TableError.Damaged)) }
 {
     let (filter, index) = bytes.split_at(tail.filter_len);

@@ -1,7 +1,8 @@
-use Rattle.std.proofs.Common.{◌≡◌, take, drop, sym, ap, ◌∙◌, rules}
+use Rattle.std.proofs.Common.{◌≡◌, ℕ, List, take, drop, sym, ap, subst, ◌∙◌, rules}
 use Rattle.std.proofs.lemmas.List.{take_at, drop_at}
 use Rattle.std.proofs.lemmas.Result.{err_from_is_err_and}
-use Rattle.table_format.specs.{block_lines, filter_part, index_part}
+use Rattle.table_format.specs.{IsFilterPart, IsIndex, block_lines, filter_part, index_part}
+use Rattle.table_format.specs.declared.IndexLine.{IndexLine}
 use Rattle.sorted_table.proofs.TailsLemmas.{filter_here, index_here, only_memory}
 use Rattle.sorted_table.proofs.tail.parts_of.Goals as goal
 
@@ -34,4 +35,18 @@ returns-clause-parts c = λ all entries s is t.
       c.in_ok-lines-2.ensures ∙ sym (c.in_ok-lines.ensures.1 lines
           (index_here all entries s c.split_at.result.1.now c.args.tail.place back t.place)),
       copied ∙ sym filter,
+    )
+
+-- filter and lines were checked
+pub returns-clause-checked : goal.returns-clause-checked
+returns-clause-checked c =
+    let len = c.args.tail.filter_len in
+    let copied : c.in_ok-to_vec.field-0.items ≡ c.in-Some.filter.now = search rules in (
+      subst (λ (f : List ℕ). IsFilterPart (take len c.args.bytes.now) f) (sym copied)
+          (subst (λ (p : List ℕ). IsFilterPart p c.in-Some.filter.now) c.split_at.ensures.front
+          c.in-Some.ensures.0),
+      subst (λ (l : List IndexLine). IsIndex (drop len c.args.bytes.now) c.args.tail.place l)
+          (sym c.in_ok-lines-2.ensures)
+          (subst (λ (p : List ℕ). IsIndex p c.args.tail.place c.in_ok-lines.lines.items)
+          c.split_at.ensures.back c.in_ok-lines.ensures.0),
     )

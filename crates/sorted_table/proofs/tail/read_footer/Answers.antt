@@ -1,5 +1,6 @@
 -- Calls that only read leave nothing new.
 use Rattle.disk.specs.StillLemmas.{still, still_same}
+use Rattle.sorted_table.proofs.OpenTails.{some_of}
 use Rattle.sorted_table.proofs.tail.read_footer.Goals as goal
 
 pub returns-in_err-length-clause-still : goal.returns-in_err-length-clause-still
@@ -25,3 +26,7 @@ returns-clause-still g c = λ honest.
     still_same (still_same (still (g.D.Disk.state c.args.disk.now) (g.D.Disk.past c.args.disk.now))
     (c.length.ensures.passes honest).moment (c.length.ensures.kept.disk.files honest))
     (c.read.ensures.passes honest').moment (c.read.ensures.kept.disk.files honest')
+
+-- a file with a length is there
+pub returns-clause-present : goal.returns-clause-present
+returns-clause-present g c = λ honest. some_of _ _ (c.in_ok-length.ensures.length honest)

@@ -1,8 +1,10 @@
-use Rattle.std.proofs.Common.{ap, ◌∙◌, arith}
+use Rattle.std.proofs.Common.{ℕ, List, ap, subst, ◌∙◌, arith}
 use Rattle.std.proofs.lemmas.Result.{err_from_is_err_and}
 use Rattle.disk.specs.StillLemmas.{still_more}
 use Rattle.disk.specs.{seen}
 use Rattle.sorted_table.proofs.TailsLemmas.{long_enough, tail_at, tail_within}
+use Rattle.sorted_table.specs.Tails.{FooterSays, ReadsTail}
+use Rattle.sorted_table.proofs.OpenTails.{some_and}
 use Rattle.sorted_table.proofs.tail.read_tail.Goals as goal
 
 -- the footer was not read
@@ -17,14 +19,14 @@ returns-in_err-footer-clause-tail g c = λ bytes entries s honest there.
 pub returns-in_default-clause-tail : goal.returns-in_default-clause-tail
 returns-in_default-clause-tail g c = λ bytes entries s honest there.
     let long = long_enough bytes entries s in
-    let foot = c.in_ok-footer.ensures.footer bytes honest there (omega (arith, long)) in
+    let foot = c.in_ok-footer.ensures.footer bytes honest there in
     absurd (c.in_default.ensures.tail bytes entries s foot.0 foot.1)
 
 -- the tail was not read
 pub returns-in_err-bytes-clause-tail : goal.returns-in_err-bytes-clause-tail
 returns-in_err-bytes-clause-tail g c = λ bytes entries s honest there.
     let long = long_enough bytes entries s in
-    let foot = c.in_ok-footer.ensures.footer bytes honest there (omega (arith, long)) in
+    let foot = c.in_ok-footer.ensures.footer bytes honest there in
     let tail = c.in-Some.ensures.tail bytes entries s foot.0 foot.1 in
     let there' = ap seen (c.read_footer.ensures.kept.files honest c.args.file) ∙ there in
     let why = c.in_err-bytes.ensures.read bytes (c.read_footer.ensures.kept.honest.1 honest) there'
@@ -36,11 +38,10 @@ returns-in_err-bytes-clause-tail g c = λ bytes entries s honest there.
 pub returns-clause-tail : goal.returns-clause-tail
 returns-clause-tail g c = λ bytes entries s honest there.
     let long = long_enough bytes entries s in
-    let foot = c.in_ok-footer.ensures.footer bytes honest there (omega (arith, long)) in
+    let foot = c.in_ok-footer.ensures.footer bytes honest there in
     let tail = c.in-Some.ensures.tail bytes entries s foot.0 foot.1 in
     let there' = ap seen (c.read_footer.ensures.kept.files honest c.args.file) ∙ there in
-    let read = c.in_ok-bytes.ensures.read bytes (c.read_footer.ensures.kept.honest.1 honest) there'
-    (tail_within bytes entries s c.in-Some.tail tail) in
+    let read = c.in_ok-bytes.ensures.read bytes (c.read_footer.ensures.kept.honest.1 honest) there' in
     (read ∙ tail_at bytes entries s c.in-Some.tail tail, tail)
 
 pub returns-in_err-bytes-clause-still : goal.returns-in_err-bytes-clause-still
@@ -52,3 +53,19 @@ pub returns-clause-still : goal.returns-clause-still
 returns-clause-still g c = λ honest.
     still_more (c.read_footer.ensures.still honest)
     (c.read_part.ensures.still (c.read_footer.ensures.kept.honest.1 honest))
+
+-- the footer says where the content stands that was read
+pub returns-clause-there : goal.returns-clause-there
+returns-clause-there g c = λ honest.
+    let slot = g.D.Disk.state c.args.disk.now c.args.file in
+    some_and (ReadsTail c.in_ok-bytes.bytes.items c.in-Some.tail) (seen slot)
+    (c.in_ok-footer.ensures.present honest) (λ bytes there.
+    let foot = c.in_ok-footer.ensures.footer bytes honest there in
+    let there' = ap seen (c.read_footer.ensures.kept.files honest c.args.file) ∙ there in
+    record {
+      end = c.in_ok-footer.end;
+      len = foot.0;
+      says = subst (λ (p : List ℕ). FooterSays p c.in_ok-footer.end c.in-Some.tail) foot.1
+          c.in-Some.ensures.says;
+      content = c.in_ok-bytes.ensures.read bytes (c.read_footer.ensures.kept.honest.1 honest) there';
+    })

@@ -1,4 +1,4 @@
-use Rattle.std.proofs.Common.{◌≡◌, refl, Bool, false, IsTrue}
+use Rattle.std.proofs.Common.{◌≡◌, refl, sym, arith, Bool, false, IsTrue}
 use Rattle.table_format.specs.{table_footer}
 use Rattle.sorted_table.proofs.TailsLemmas.{footer_here, placed, tail_by}
 use Rattle.sorted_table.proofs.tail.tail_of.Goals as goal
@@ -23,3 +23,21 @@ returns-clause-tail c = λ bytes entries s is there.
     let same = c.in_ok-footer.ensures.1 (table_footer s.blocks s.filter)
     (footer_here bytes entries s c.args.end c.args.footer.now is there) in
     tail_by bytes entries s c.args.end c.in_ok-footer.footer _ is same refl refl refl
+
+-- the footer that was read says so
+pub returns-clause-says : goal.returns-clause-says
+returns-clause-says c =
+    let it = c.in_ok-footer.footer in
+    let placed = c.are_placed.ensures.0 c.if-not-are_placed.false in
+    let index = placed.0 in
+    let end = placed.1 in
+    record {
+      footer = it;
+      is_footer = c.in_ok-footer.ensures.0;
+      filter = refl;
+      filter_len = refl;
+      index = sym index;
+      index_len = end;
+      ends = omega (arith, index, end);
+      within = omega (arith, index, end);
+    }

@@ -1,4 +1,4 @@
-use Rattle.std.proofs.Common.{List, ℕ, Err, Ok, sym, subst, ◌∙◌}
+use Rattle.std.proofs.Common.{List, ℕ, Err, Ok, Some, None, inl, refl, sym, subst, ◌∙◌}
 use Rattle.std.proofs.lemmas.Result.{err_from_is_err_and}
 use Rattle.bloom.specs.{CoversHashed, hashes_of}
 use Rattle.disk.specs.StillLemmas.{still}
@@ -6,6 +6,7 @@ use Rattle.table_files.specs.{known_block_answered}
 use Rattle.table_format.specs.{IsBlock}
 use Rattle.sorted_table.proofs.FilterLemmas.{denied_unseen}
 use Rattle.sorted_table.proofs.KeptDisk.{kept_alike, kept_uncalled}
+use Rattle.sorted_table.proofs.OpenLookups.{block_answers, block_refused, by_line}
 use Rattle.sorted_table.proofs.TableLookups.{block_for, no_block, not_device, result_up}
 use Rattle.sorted_table.proofs.table.Table.get_hashed.Goals as goal
 
@@ -65,3 +66,43 @@ returns-clause-found g c = λ entries honest s.
     result_up s.bytes entries c.args.key.now c.args.at line b c.find_in.result
     (c.find_in.ensures.found b.mine (subst (λ (p : List ℕ). IsBlock p b.mine)
     (sym (c.deref-2.ensures.value ∙ read)) b.is_block))
+
+-- ---- of any open table
+
+pub returns-then-denies-clause-checked : goal.returns-then-denies-clause-checked
+returns-then-denies-clause-checked g c = λ honest opened.
+    inl (
+      subst (λ (h : ℕ × ℕ). CoversHashed c.args.self.now.filter.items h → ⊥) c.requires
+          (c.denies.ensures.0 c.if-denies.true),
+      refl,
+    )
+
+pub returns-in_default-clause-checked : goal.returns-in_default-clause-checked
+returns-in_default-clause-checked g c = λ honest opened.
+    by_line (g.D.Disk.state c.args.files.now.disk c.args.self.now.file) c.args.self.now
+    c.deref.result.now c.args.key.now c.args.at None (Ok None) opened c.deref.ensures.value
+    c.in_default.ensures refl
+
+pub returns-in_err-block-clause-checked : goal.returns-in_err-block-clause-checked
+returns-in_err-block-clause-checked g c = λ honest opened.
+    let disk = g.D.Disk.state c.args.files.now.disk in
+    let table = c.args.self.now in
+    let line = c.in-Some.line.now in
+    let why = by_line (disk table.file) table c.deref.result.now c.args.key.now c.args.at
+    (Some line) (Err c.in_err-block.field-0.0) opened c.deref.ensures.value c.in-Some.ensures
+    (block_refused disk table.file line c.args.key.now c.args.at c.in_err-block.field-0.0
+    (c.in_err-block.ensures.answers honest)) in
+    let p = err_from_is_err_and c.from_residual.result c.from_residual.ensures.1 in
+    rw (p.1, p.2) why
+
+pub returns-clause-checked : goal.returns-clause-checked
+returns-clause-checked g c = λ honest opened.
+    let disk = g.D.Disk.state c.args.files.now.disk in
+    let table = c.args.self.now in
+    let line = c.in-Some.line.now in
+    by_line (disk table.file) table c.deref.result.now c.args.key.now c.args.at (Some line)
+    c.find_in.result opened c.deref.ensures.value c.in-Some.ensures
+    (block_answers disk table.file line c.args.key.now c.args.at c.in_ok-block.block
+    c.find_in.result (c.in_ok-block.ensures.answers honest) (λ entries is.
+    c.find_in.ensures.found entries
+    (subst (λ (p : List ℕ). IsBlock p entries) (sym c.deref-2.ensures.value) is)))

@@ -1,8 +1,11 @@
-use Rattle.std.proofs.Common.{◌≡◌, ap, ◌∙◌, Option, Some, None, refl, inr}
+use Rattle.std.proofs.Common.{◌≡◌, ℕ, List, ap, sym, subst, take, drop, ◌∙◌, Option, Some, None, refl, inr}
+use Rattle.std.specs.Rc.{rc_slice_items}
 use Rattle.std.proofs.lemmas.Result.{err_from_is_err_and}
 use Rattle.std.specs.Prelude.{IsSomeAnd}
 use Rattle.disk.specs.{seen}
-use Rattle.table_format.specs.{TableRepresents}
+use Rattle.table_format.specs.{IsFilterPart, IsIndex, TableRepresents}
+use Rattle.sorted_table.specs.Tails.{HasTail, ReadsTail}
+use Rattle.sorted_table.proofs.OpenTails.{some_more, tail_there}
 use Rattle.sorted_table.proofs.table.Table.open.Goals as goal
 
 some_and : {A : Type 0} (P : A → Type 0) (o : Option A) → IsSomeAnd o P
@@ -40,3 +43,19 @@ returns-clause-opened g c = λ entries honest has.
       lines = parts.0;
       filter = parts.1;
     }
+
+-- filter and lines are those of the file's tail
+pub returns-clause-checked : goal.returns-clause-checked
+returns-clause-checked g c = λ honest.
+    let old = g.D.Disk.state c.args.disk.now c.args.file in
+    let lines = rc_slice_items c.in_ok-lines.lines in
+    let tail = c.in_ok-bytes.tail in
+    let checked = c.in_ok-lines.ensures.checked in
+    let is = c.deref.ensures.value in
+    subst (λ (file : Option (List ℕ)). IsSomeAnd file (λ bytes. HasTail bytes lines c.in_ok-lines.filter.items))
+    (sym (ap seen (c.read_tail.ensures.kept.files honest c.args.file)))
+    (some_more (ReadsTail c.in_ok-bytes.bytes.items tail) _ (seen old)
+    (c.in_ok-bytes.ensures.there honest) (λ bytes read.
+    tail_there bytes c.in_ok-bytes.bytes.items c.in_ok-lines.filter.items tail lines read
+    (subst (λ (b : List ℕ). IsFilterPart (take tail.filter_len b) c.in_ok-lines.filter.items) is checked.0)
+    (subst (λ (b : List ℕ). IsIndex (drop tail.filter_len b) tail.place lines) is checked.1)))
