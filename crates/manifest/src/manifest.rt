@@ -101,6 +101,7 @@ impl Manifest {
             IsManifestExternal }
         ensures works { IfOk result (λ manifest. (version_of manifest ≡ first_version id config.now)
             × (ManifestHasFailed manifest → ⊥)) }
+        ensures first { IfOk result (λ manifest. generation_of manifest ≡ 1) }
     {
         let version = begun_by(alloc, id, config)?;
         let bytes = whole_bytes(alloc, &version)?;

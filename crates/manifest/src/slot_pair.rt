@@ -80,6 +80,7 @@ impl SlotPair {
         ensures created { D.is_honest disk.old → IsNone (seen (D.state disk.old 1)) →
             IsNone (seen (D.state disk.old 2)) → MatchResult result
             (λ slots. SlotsHold (D.state disk.new) slots id (one.now ∷ [])) IsExternal }
+        ensures first { IfOk result (λ slots. slots.generation ≡ 1) }
     {
         let closed = bytes_of_slot(alloc, 1, id, one)?;
         let log = Log::of_one(alloc, 1, HEAD_LENGTH, one.len())?;
