@@ -5,6 +5,7 @@ pub mod Lawful
 pub mod Replaces
 pub mod Records
 pub mod Rewrites
+pub mod Shortened
 pub mod Begun
 pub mod Kept
 pub mod Spelled

@@ -1,6 +1,6 @@
 // The manifest of a store.
 ghost use Rattle.std.specs.Prelude.{◌≡◌, ◌⊎◌, ◌↔◌, ◌+◌, ◌<◌, ◌≤◌, length, IfOk, MatchResult};
-ghost use Rattle.std.specs.Prelude.{IsErrOf, IsNone, IsTrue, OnOk};
+ghost use Rattle.std.specs.Prelude.{IsErrOf, IsNone, IsTrue};
 ghost use Rattle.kv_types.specs.declared.bounds.TheConstants.{MAX_NUMBER};
 ghost use Rattle.record_log.specs.declared.log.TheConstants.{MAX_RECORD};
 ghost use Rattle.disk.specs.{AlwaysLeaves, IsSameBut, IsStill, KeepsDisk, State, contents, seen};
@@ -180,9 +180,10 @@ impl Manifest {
         requires room { generation_of self.old < MAX_NUMBER }
         ensures kept { KeepsDisk D.Disk disk.old disk.new (ManifestFailsDevice result) ⊥
             (IsSameBut (spare_file self.old)) }
-        ensures told { (version_of self.new ≡ version_of self.old)
-            × OnOk result ((generation_of self.new ≡ generation_of self.old + 1)
-            × (ManifestHasFailed self.new → ⊥)) }
+        ensures told { (version_of self.new ≡ version_of self.old) × MatchResult result
+            (λ _. (generation_of self.new ≡ generation_of self.old + 1)
+            × (HasLongSlot self.new → ⊥) × (ManifestHasFailed self.new → ⊥))
+            (λ _. ManifestHasFailed self.new) }
         ensures failed { ManifestHasFailed self.old → IsErrOf result ManifestError.Failed }
         ensures rewritten { (named : NodeVersion) → D.is_honest disk.old →
             ManifestHolds (D.state disk.old) self.old named → MatchResult result

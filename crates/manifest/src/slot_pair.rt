@@ -16,7 +16,7 @@ use crate::head::CountingSlot;
 use crate::replace::replace;
 use byte_fields::{put_u32, put_u64};
 use disk::Disk;
-use record_log::{Log, LogError, gates_are_in_files};
+use record_log::{Log, LogError, first_lengths_are, gates_are_in_files};
 use std::alloc::{AllocError, Global};
 
 /// The two slots of a store: one counts, and its log has records.
@@ -179,8 +179,12 @@ impl SlotPair {
         ensures rewritten { (id : ℕ) (records : List (List ℕ)) → D.is_honest disk.old →
             SlotsHold (D.state disk.old) self.old id records → MatchResult result
             (λ _. SlotsHold (D.state disk.new) self.new id (one.now ∷ [])) IsExternal }
-        ensures next { OnOk result (self.new.generation ≡ self.old.generation + 1) }
+        ensures next { OnOk result ((self.new.generation ≡ self.old.generation + 1)
+            × (2 * first_length self.new.log + 65536 < gate_of self.new.log + 1 → ⊥)) }
     {
+        // laws: how long the new slot's log is
+        first_lengths_are();
+        gates_are_in_files();
         let generation = self.generation + 1;
         let other = 3u64.saturating_sub(self.slot);
         let closed = bytes_of_slot(alloc, generation, self.id, one)?;

@@ -6,6 +6,7 @@ use Rattle.manifest.specs.Holds.{slot_behind}
 use Rattle.manifest.proofs.Replaces.{OnTheWay}
 use Rattle.manifest.proofs.Records.{others_differ}
 use Rattle.manifest.proofs.Rewrites.{either_since, unmoved, held_new, new_stands, new_long}
+use Rattle.manifest.proofs.Shortened.{new_is_short}
 use Rattle.std.proofs.lemmas.Result.{err_from_is_err_and}
 use Rattle.manifest.proofs.Kept.{behind_fits, disk_fails, fails_disk, kept_as, kept_still}
 use Rattle.manifest.proofs.slot_pair.SlotPair.rewrite.Goals as goal
@@ -132,3 +133,13 @@ returns-clause-kept g c =
     (c.split_at.ensures.back ∙ ap (drop 1) (c.deref.ensures.value ∙ c.in_ok-closed.ensures)) in
     kept_as g.D.Disk _ _ _ _ _ _ _ _ (λ f. absurd cc) (λ f. absurd cc) short
     (λ a b same other apart. same other (λ is. apart (is ∙ file))) c.in_ok-replace.ensures.kept
+
+-- and is short
+pub returns-clause-next : goal.returns-clause-next
+returns-clause-next g c =
+    let one = c.args.one.now in (
+      refl,
+      new_is_short c.gates_are_in_files.ensures c.first_lengths_are.ensures
+          c.saturating_sub-other.result 0 0 one c.in_ok-log.log c.requires.short
+          (λ disk held. c.in_ok-log.ensures.holds disk one refl held),
+    )
