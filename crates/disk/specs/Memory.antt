@@ -1,8 +1,10 @@
 -- A disk in memory, as a state.
-use Rattle.std.specs.Prelude.{ℕ, ◌-◌, ◌^◌, ◌<◌, List, length, map, Option, Some, None}
+use Rattle.std.specs.Prelude.{◌≡◌, ℕ, ◌-◌, ◌^◌, ◌<◌, List, ◌∷◌, length, map}
+use Rattle.std.specs.Prelude.{Option, Some, None}
 use Rattle.std.specs.Map.{lookup}
 use Rattle.std.specs.BTreeMap.{is_at}
 use Rattle.std.specs.Ordering.{nat_cmp}
+use Rattle.disk.specs.Faults.{HasStruckBy}
 use Rattle.disk.specs.States.{Slot, Absent, Fresh, Kept, State, AgreesOutside}
 
 -- the slots by number, the count of failed calls, the slots that each call left, the latest first,
@@ -41,3 +43,13 @@ KeptAgrees (Kept bytes kept touches) = AgreesOutside (length kept) touches kept 
 -- this holds under every number
 abbrev pub AllKeptAgree : State → Type 0
 AllKeptAgree disk = (file : ℕ) → KeptAgrees (disk file)
+
+-- where the fault has struck, these are the slots that the last call left
+abbrev pub IsLeftByFault : Slots → Type 0
+IsLeftByFault disk = HasStruckBy disk.fault_at (length disk.past) →
+    (before : List (List (ℕ × Slot))) × (disk.past ≡ disk.slots ∷ before)
+
+-- what every disk in memory keeps
+pub record IsMemory (disk : Slots) : Type 0 where
+  pub agrees : AllKeptAgree (state_of disk.slots)
+  pub last : IsLeftByFault disk

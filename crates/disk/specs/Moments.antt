@@ -1,6 +1,6 @@
 -- What a crash at any moment since an earlier one may have left. A moment is the list of the states
 -- that calls had left until then, the latest first.
-use Rattle.std.specs.Prelude.{◌≡◌, ◌≢◌, ◌⊎◌, ℕ, List, ◌∷◌, Option}
+use Rattle.std.specs.Prelude.{◌≡◌, ◌≢◌, ◌⊎◌, ℕ, List, [], ◌∷◌, Option}
 use Rattle.disk.specs.States.{State, Contents, IsCrashOutcome, IsFileOutcome, IsSame}
 
 -- every crash outcome of the state has P
@@ -12,6 +12,11 @@ OnlyLeaves P disk = (left : Contents) → IsCrashOutcome disk left → P left
 abbrev pub Passes : List State → State → List State → State → Type 0
 Passes past old since new = ((since ≡ past) × IsSame old new)
     ⊎ ((now : State) × IsSame new now × (since ≡ now ∷ past))
+
+-- the last call left this state
+abbrev pub IsLastLeft : List State → State → Type 0
+IsLastLeft [] now = ⊥
+IsLastLeft (left ∷ before) now = IsSame left now
 
 -- each state that came since leaves only contents with P
 pub data AllLeave (P : Contents → Type 0) (past : List State) : List State → Type 0 where

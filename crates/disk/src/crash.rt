@@ -2,6 +2,7 @@
 ghost use Rattle.std.specs.Prelude.{◌≡◌, ◌↔◌, None, IsTrue};
 ghost use Rattle.disk.specs.Calls.{HasStruck};
 ghost use Rattle.disk.specs.Lent.{IsArmed};
+ghost use Rattle.disk.specs.Moments.{IsLastLeft};
 ghost use Rattle.disk.specs.States.{IsCrashOutcome, contents};
 ghost use Rattle.disk.specs.Crashes.{CrashOutcome};
 
@@ -18,7 +19,10 @@ pub trait Crash: Disk {
 
     /// Whether the fault has struck.
     fn has_struck(&self) -> bool
-        ensures { IsTrue result ↔ HasStruck Self.fault_at Self.past self.now };
+        ensures struck { IsTrue result ↔ HasStruck Self.fault_at Self.past self.now }
+        // Then its state is the one that the last call left.
+        ensures last { Self.is_honest self.now → HasStruck Self.fault_at Self.past self.now →
+            IsLastLeft (Self.past self.now) (Self.state self.now) };
 
     /// Crashes and restarts the machine. A fault is forgotten. It allocates no memory.
     fn crash(&mut self, junk: Junk)

@@ -26,7 +26,7 @@ pub struct MemDisk {
 }
 
 impl Model for MemDisk {
-    ghost use Rattle.disk.specs.Memory.{Slots, state_of, AllKeptAgree};
+    ghost use Rattle.disk.specs.Memory.{Slots, IsMemory};
 
     ghost Value = { Slots };
 
@@ -37,7 +37,12 @@ impl Model for MemDisk {
       fault_at = disk.device.fault_at;
     } };
 
-    ghost invariant = { λ disk. AllKeptAgree (state_of disk.slots.entries) };
+    ghost invariant = { λ disk. IsMemory (record {
+      slots = disk.slots.entries;
+      failures = disk.device.failures;
+      past = disk.device.past;
+      fault_at = disk.device.fault_at;
+    }) };
 }
 
 // The greatest place where a file may end.
@@ -85,7 +90,7 @@ fn clone_slots(
     alloc: Global,
     slots: &BTreeMap<u64, MemSlot>,
 ) -> Result<BTreeMap<u64, MemSlot>, AllocError>
-    ensures { IfOk result (λ copy. IsSame (state_of slots.now.entries) (state_of copy.entries)) }
+    ensures { IfOk result (λ copy. copy.entries ≡ slots.now.entries) }
 {
     let mut copy = BTreeMap::new(alloc);
     for (number, slot) in slots {

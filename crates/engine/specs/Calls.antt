@@ -66,6 +66,12 @@ IsAdrift g engine = (list : List BatchContent) → EngineReads g engine list →
 abbrev pub TellsTend : {D : Type 0} {g : Ghosts D} → Engine D g → Engine D g → Tended → Type 0
 TellsTend old new answer = TellsWork old.log_limit old.store new.store answer
 
+-- two engines tell the same of their tends
+abbrev pub TendsAlike : {D : Type 0} {g : Ghosts D} → Engine D g → Engine D g → Type 0
+TendsAlike {D} {g} old new = (other : Engine D g) (answer : Tended) →
+    (TellsTend new other answer → TellsTend old other answer)
+    × (TellsTend other old answer → TellsTend other new answer)
+
 -- ---- the calls that are given a disk
 
 -- the disk that such a call has handed on, or back

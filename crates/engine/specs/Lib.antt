@@ -19,7 +19,7 @@ pub mod KeepingLemmas
 -- What crates above name.
 pub use Rattle.engine.specs.Calls.{Goes, IsNewEngine, IsEngineOf, IsJustOpened, IsOldOrNewSince, IsOpened}
 pub use Rattle.engine.specs.Calls.{KeepsEngine, ExplainsRefusal, RefusedByDevice, TellsReadable}
-pub use Rattle.engine.specs.Calls.{IsAdrift, TellsTend, disk_after}
+pub use Rattle.engine.specs.Calls.{IsAdrift, TellsTend, TendsAlike, disk_after}
 pub use Rattle.engine.specs.Engines.{AreOrdered, HasEnded, HasLongFile, EngineHolds, IsNearlyFull}
 pub use Rattle.engine.specs.Engines.{LookUps, EngineReads, engine_disk, facts_of, look_ups}
 pub use Rattle.engine.specs.Engines.{table_count, with_one_more, with_committed}

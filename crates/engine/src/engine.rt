@@ -366,6 +366,7 @@ impl<D: Crash + Drop> Engine<D> {
     ghost use Rattle.std.specs.Prelude.{◌≡◌, ◌↔◌, List};
     ghost use Rattle.kv_types.specs.{BatchContent};
     ghost use Rattle.disk.specs.{IsArmed};
+    ghost use Rattle.engine.specs.Calls.{TendsAlike};
     ghost use Rattle.engine.specs.Engines.{EngineHolds, EngineReads, HasEnded, IsNearlyFull};
     ghost use Rattle.engine.specs.Engines.{engine_disk, look_ups};
 
@@ -375,6 +376,7 @@ impl<D: Crash + Drop> Engine<D> {
         ensures told { look_ups self.new ≡ look_ups self.old }
         ensures ended { HasEnded self.new ↔ HasEnded self.old }
         ensures full { IsNearlyFull self.new ↔ IsNearlyFull self.old }
+        ensures tends { TendsAlike self.old self.new }
         ensures reads { (list : List BatchContent) → EngineReads D.Disk self.old list →
             EngineReads D.Disk self.new list }
         ensures holds { (list : List BatchContent) → EngineHolds D.Disk self.old list →

@@ -10,4 +10,4 @@ returns-clause-allowed c = λ honest.
     let left = state_of c.crash_in.new.slots.entries in
     subst (λ (disk : Slots). IsCrashOutcome (state_of disk.slots) (contents left)) c.self.view_is
     (crashes_allowed c.args.junk
-    (state_of c.self.inside.slots.entries) left c.self.invariant c.crash_in.ensures)
+    (state_of c.self.inside.slots.entries) left c.self.invariant.agrees c.crash_in.ensures)

@@ -1,4 +1,4 @@
-use Rattle.std.proofs.Common.{List, map, refl, inl, subst}
+use Rattle.std.proofs.Common.{List, map, refl, inl, rules, subst}
 use Rattle.disk.specs.States.{State}
 use Rattle.disk.specs.Calls.{BegunWrite}
 use Rattle.disk.specs.Faults.{CallPasses}
@@ -22,7 +22,9 @@ returns-then-ends_out_of_range-clause-passes c = λ honest.
 
 -- a write keeps the agreement
 pub invariant_of-self-2 : goal.invariant_of-self-2
-invariant_of-self-2 c =
-    writes_agree c.write_in-answer.result (state_of c.self.inside.slots.entries)
-    (state_of c.write_in-answer.new.slots.entries) c.args.file c.args.at c.args.bytes.now
-    c.write_in-answer.ensures.writes c.write_in-answer.ensures.other c.self.invariant
+invariant_of-self-2 c = record {
+  agrees = writes_agree c.write_in-answer.result (state_of c.self.inside.slots.entries)
+      (state_of c.write_in-answer.new.slots.entries) c.args.file c.args.at c.args.bytes.now
+      c.write_in-answer.ensures.writes c.write_in-answer.ensures.other c.self.invariant.agrees;
+  last = search rules;
+}

@@ -30,3 +30,6 @@ returns-clause-holds g c = λ list h.
       honest = c.arm.ensures.honest.1;
       same = c.arm.ensures.same;
     }) h.reads.works h.reads)
+
+pub returns-clause-tends : goal.returns-clause-tends
+returns-clause-tends g c = λ other answer. (λ tells. tells, λ tells. tells)
