@@ -6,7 +6,8 @@ ghost use Rattle.disk.specs.{AlwaysLeaves, contents, IsArmed, IsSame, IsStill, K
 ghost use Rattle.chain_model.specs.{created, started, accept, append, forwards, on_ack, resend};
 ghost use Rattle.chain_model.specs.{reply_read, silent};
 ghost use Rattle.engine.specs.{EngineHolds, HasEnded, IsAdrift, IsJustOpened, IsNearlyFull, IsOwned};
-ghost use Rattle.engine.specs.{TellsTend, engine_disk, facts_of, look_ups, table_count};
+ghost use Rattle.engine.specs.{TellsTend, TendsAlike, engine_disk, facts_of, look_ups};
+ghost use Rattle.engine.specs.{table_count};
 ghost use Rattle.node.specs.Starts.{IsStarted, StartRefusal, disk_behind};
 ghost use Rattle.chain_core.specs.{Machine, CoreRefines, answer_to, done_of, rule_of, AreFrames};
 ghost use Rattle.chain_core.specs.{DecisionFitsCount, IsReadOf};
@@ -387,6 +388,7 @@ impl<D: Crash + Drop> Node<D> {
             NodeRefines D.is_honest D.state self.new x n }
         ensures ready { IsReady self.old → IsReady self.new }
         ensures full { IsNearlyFull (engine_of self.new) ↔ IsNearlyFull (engine_of self.old) }
+        ensures tends { TendsAlike (engine_of self.old) (engine_of self.new) }
     {
         self.engine.arm(fault);
     }
