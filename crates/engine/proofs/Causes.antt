@@ -52,3 +52,8 @@ pub refuses : {T E : Type 0} (result : Result T E) {e : E} (P : T → Type 0) (Q
     IsErrAnd result (λ s. s ≡ e) → Q e → MatchResult result P Q
 refuses (Ok x) P Q told q = absurd told
 refuses (Err s) P Q told q = subst Q (sym told) q
+
+pub if_refuses : {T E : Type 0} (result : Result T E) {e : E} (Q : E → Type 0) →
+    IsErrAnd result (λ s. s ≡ e) → Q e → IfErr result Q
+if_refuses (Ok x) Q told q = tt
+if_refuses (Err s) Q told q = subst Q (sym told) q

@@ -275,7 +275,7 @@ module _ (files : StoreFiles) (u : AreUsableFiles files) (line : TableLine)
   module _ (new : StoreFiles)
       (told : known_version new ≡ node_version_after (known_version files) edit)
       (lines : lines_of new.logs ≡ with_line files.logs file) where
-    known : known_version new ≡ node_version_after (known_version files) flush_of
+    pub known : known_version new ≡ node_version_after (known_version files) flush_of
     known = told ∙ ap (λ (e : Change). node_version_after (known_version files) e) is
 
     pub trimmed_kept : trimmed_count new ≡ trimmed_count files
@@ -286,9 +286,6 @@ module _ (files : StoreFiles) (u : AreUsableFiles files) (line : TableLine)
     facts_kept =
         ap (λ (n : NodeVersion). facts_of n.id n.version (trimmed_count new)) known
         ∙ ap (λ (k : ℕ). facts_of (known_version files).id version k) trimmed_kept
-
-    pub flushed_told : (known_version new).version.flushed ≡ batch_count files
-    flushed_told = ap (λ (n : NodeVersion). n.version.flushed) known
 
     module _ (same : next_number new.logs ≡ next_number files.logs) where
       pub count_kept : batch_count new ≡ batch_count files
@@ -563,7 +560,8 @@ module _ (files : StoreFiles) (u : AreUsableFiles files) (line : TableLine)
               let last = named_last versions in
               let count = count_kept new told lines_new counts in
               let was = hs.held.count in
-              let flushed = flushed_told new told lines_new in
+              let flushed : (known_version new).version.flushed ≡ batch_count files =
+              ap (λ (n : NodeVersion). n.version.flushed) now in
               let next_file = ap (λ (n : NodeVersion). n.version.next_file) now in
               let held = subst (λ (l : BatchLogs). LogsHold s3 l (suc trimmed) (drop trimmed list))
               (sym of) last.held in

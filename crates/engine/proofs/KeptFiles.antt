@@ -10,7 +10,7 @@ use Rattle.std.proofs.lemmas.List.Elements.{Contains-append_right, Contains-push
 use Rattle.kv_types.specs.{BatchContent}
 use Rattle.disk.specs.{Contents, DurableFileIsLeft, IsDurable, IsFileOutcome, Slot, State, contents}
 use Rattle.disk.specs.{IsCrashOutcome, LeavesSince, OnlyLeaves, seen}
-use Rattle.disk.specs.MomentsLemmas.{join, weaker}
+use Rattle.disk.specs.MomentsLemmas.{weaker}
 use Rattle.store_model.specs.{LevelTable}
 use Rattle.store_model.specs.PlacesLemmas.{contains_cases, contains_head, contains_next}
 use Rattle.manifest.specs.declared.LogLine.{LogLine}
@@ -27,11 +27,10 @@ use Rattle.engine.specs.declared.levels.OpenTable.{OpenTable}
 use Rattle.engine.specs.declared.store_files.StoreFiles.{StoreFiles}
 use Rattle.engine.specs.BatchLogs.{AreParted, HasPart, HaveBatches, HoldsPart, LogsHold, line_of}
 use Rattle.engine.specs.BatchLogs.{lines_of}
-use Rattle.engine.specs.Files.{Facts}
 use Rattle.engine.specs.LevelTables.{AreTablesOf, IsServed, IsTableOf}
 use Rattle.engine.specs.OpenFiles.{FilesHold, known_facts, known_version, trimmed_count}
 use Rattle.engine.specs.Openings.{FilesAreRead, kept_files}
-use Rattle.engine.specs.Settling.{AreAlone, AreLeftOf, SparesFiles}
+use Rattle.engine.specs.Settling.{AreAlone, SparesFiles}
 use Rattle.engine.specs.StoreFiles.{FilesRepresent}
 use Rattle.engine.proofs.NamedFiles.{tables_same}
 use Rattle.engine.proofs.Parts.{AreKept, part_in, part_left, parted_in, parted_push}
@@ -392,24 +391,6 @@ pub still_keeps : (P : Contents → Type 0) (old : State) (past : List State) (n
     LeavesSince old past new since (IsCrashOutcome old) → LeavesSince old past new since P
 still_keeps P old past new since only run =
     weaker (IsCrashOutcome old) P old past new since (λ left at. only left at) run
-
--- .. and so do removals of other files behind them
-pub settling_keeps : HeldVersionIsLeft → DurableFileIsLeft → (facts : Facts)
-    (list : List BatchContent) (files : StoreFiles) (kept : List ℕ) (old mid new : State)
-    (past so_far since : List State) → known_facts files ≡ facts → FilesAreRead mid files list →
-    kept ≡ kept_files (known_version files).version →
-    OnlyLeaves (FilesRepresent facts list) old →
-    LeavesSince old past mid so_far (IsCrashOutcome old) →
-    LeavesSince mid so_far new since (AreLeftOf kept mid) →
-    LeavesSince old past new since (FilesRepresent facts list)
-settling_keeps held_is_left durable_is_left facts list files kept old mid new past so_far since
-    known read is only before removed =
-    let P : Contents → Type 0 = FilesRepresent facts list in
-    join P old mid new past so_far since (still_keeps P old past mid so_far only before)
-    (weaker (AreLeftOf kept mid) P mid so_far new since (λ left at.
-    subst (λ (f : Facts). FilesRepresent f list left) known
-    (read_is_left mid files list read held_is_left durable_is_left left (λ file has.
-    at file (subst (λ (l : List ℕ). Contains l file) (sym is) has)))) removed)
 
 -- the files of another state, where those of the list stay and are alone
 pub settled_as : HeldVersionStays → (list : List BatchContent) (files : StoreFiles) (kept : List ℕ)

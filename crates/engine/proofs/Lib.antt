@@ -25,8 +25,10 @@ pub mod TableCalls
 pub mod FinishedTables
 pub mod BegunFiles
 pub mod KeptFiles
+pub mod OpenMoments
 pub mod NewestLog
 pub mod ReadParts
 pub mod ReadFiles
+pub mod OneList
 pub mod Spills
 pub mod Tends

@@ -153,7 +153,7 @@ module _ (version : StoreVersion) (is : IsVersion version) (old new : State)
 
 -- ---- what represented files give
 
-facts_are : (facts : Facts) (id epoch : ℕ) (ids : List ℕ) (floor kept : ℕ) → id ≡ facts.id
+pub facts_are : (facts : Facts) (id epoch : ℕ) (ids : List ℕ) (floor kept : ℕ) → id ≡ facts.id
     → epoch ≡ facts.epoch → ids ≡ facts.ids → floor ≡ facts.floor → kept ≡ facts.kept
     → record { id = id; epoch = epoch; ids = ids; floor = floor; kept = kept } ≡ facts
 facts_are facts id epoch ids floor kept a b c d e =

@@ -64,7 +64,7 @@ IsAdrift g engine = (list : List BatchContent) → EngineReads g engine list →
 
 -- the answer is that of a tend of its files, with its limit
 abbrev pub TellsTend : {D : Type 0} {g : Ghosts D} → Engine D g → Engine D g → Tended → Type 0
-TellsTend old new answer = TellsWork old.log_limit old.store new.store answer
+TellsTend old new answer = TellsWork (look_ups old).log_limit old.store new.store answer
 
 -- two engines tell the same of their tends
 abbrev pub TendsAlike : {D : Type 0} {g : Ghosts D} → Engine D g → Engine D g → Type 0
@@ -84,20 +84,24 @@ abbrev pub RefusedByDevice : {D : Type 0} {g : Ghosts D} → Result (Engine D g)
     Type 0
 RefusedByDevice result = IsErrAnd result (λ refused. refused.0 ≡ engine.Disk)
 
--- a store without batches, of node x in the first configuration
-pub record IsNewEngine {D : Type 0} {g : Ghosts D} (x : ℕ) (ids : List ℕ) (engine : Engine D g) : Type 0
+-- a store without batches, of node x in the first configuration, with this limit for logs
+pub record IsNewEngine {D : Type 0} {g : Ghosts D} (x : ℕ) (ids : List ℕ) (log_limit : ℕ)
+    (engine : Engine D g) : Type 0 where
+  pub works : HasEnded engine → ⊥
+  pub told : look_ups engine ≡ record {
+    facts = first_facts x ids;
+    count = 0;
+    committed = 0;
+    log_limit = log_limit;
+  }
+
+-- an opened engine has this limit for logs, and knows only the batches below the floor to be
+-- committed
+pub record IsJustOpened {D : Type 0} {g : Ghosts D} (log_limit : ℕ) (engine : Engine D g) : Type 0
   where
     pub works : HasEnded engine → ⊥
-    pub told : look_ups engine ≡ record {
-      facts = first_facts x ids;
-      count = 0;
-      committed = 0;
-    }
-
--- an opened engine knows only the batches below the floor to be committed
-pub record IsJustOpened {D : Type 0} {g : Ghosts D} (engine : Engine D g) : Type 0 where
-  pub works : HasEnded engine → ⊥
-  pub committed : (look_ups engine).committed ≡ (look_ups engine).facts.floor
+    pub committed : (look_ups engine).committed ≡ (look_ups engine).facts.floor
+    pub limit : (look_ups engine).log_limit ≡ log_limit
 
 -- the engine tells these facts, and its disk represents them and the list
 pub record IsEngineOf {D : Type 0} (g : Ghosts D) (told : Facts) (list : List BatchContent)

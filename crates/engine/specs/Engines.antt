@@ -16,11 +16,13 @@ use Rattle.engine.specs.StoreFiles.{FilesRepresent}
 
 -- ---- what an engine tells
 
--- what the look-ups tell: the facts of its files, the number of batches, and of the committed ones
+-- what an engine knows: the facts of its files, the number of batches, that of the committed ones,
+-- and the length of a log above which a flush is due
 pub record LookUps : Type 0 where
   pub facts : Facts
   pub count : ℕ
   pub committed : ℕ
+  pub log_limit : ℕ
 
 module _ {D : Type 0} {g : Ghosts D} where
   abbrev pub facts_of : Engine D g → Facts
@@ -31,6 +33,7 @@ module _ {D : Type 0} {g : Ghosts D} where
     facts = facts_of engine;
     count = batch_count engine.store;
     committed = engine.committed;
+    log_limit = engine.log_limit;
   }
 
   -- the disk that it owns
@@ -41,10 +44,13 @@ module _ {D : Type 0} {g : Ghosts D} where
   abbrev pub HasEnded : Engine D g → Type 0
   HasEnded engine = IsTrue engine.has_ended
 
-  -- its newest log, or the counting slot of its manifest, is so long that the next record may end
-  -- past the greatest place of a file
+  -- its newest log is so long that the next record may end past the greatest place of a file
+  abbrev pub HasNearlyFullLog : Engine D g → Type 0
+  HasNearlyFullLog engine = HasFullLog engine.store.logs
+
+  -- so is that log, or the counting slot of its manifest
   abbrev pub IsNearlyFull : Engine D g → Type 0
-  IsNearlyFull engine = HasFullLog engine.store.logs ⊎ HasFullSlot engine.store.manifest
+  IsNearlyFull engine = HasNearlyFullLog engine ⊎ HasFullSlot engine.store.manifest
 
   -- so many tables of this level are open
   abbrev pub table_count : Engine D g → ℕ → ℕ

@@ -94,6 +94,13 @@ abbrev pub StoreFilesAreNamed : Type 0
 StoreFilesAreNamed = (facts : Facts) (list : List BatchContent) →
     LooksAt IsStoreFile (FilesRepresent facts list)
 
+-- files represent these facts, so many batches, and those of them that logs have, once at most
+abbrev pub StoreFilesAreOne : Type 0
+StoreFilesAreOne = (facts : Facts) (list : List BatchContent) (facts' : Facts)
+    (list' : List BatchContent) (left : Contents) → FilesRepresent facts list left →
+    FilesRepresent facts' list' left → (facts ≡ facts') × (length list ≡ length list')
+    × (drop facts.kept list ≡ drop facts.kept list')
+
 -- what a lookup in memory and tables finds, at a number from the floor on, is what the map has
 abbrev pub StoreFilesShowMaps : Type 0
 StoreFilesShowMaps =

@@ -6,6 +6,7 @@ use Rattle.disk.specs.declared.Disk.{Ghosts}
 use Rattle.disk.specs.{IsSameBut, State}
 use Rattle.manifest.specs.declared.TableLine.{TableLine}
 use Rattle.manifest.specs.{HasFullSlot, HasLongSlot, StoreVersion, generation_of}
+use Rattle.manifest.specs.{node_version_after}
 use Rattle.engine.specs.BatchLogs.{newest_length}
 use Rattle.engine.specs.declared.flushing.Flushed.{Flushed}
 use Rattle.engine.specs.declared.store_files.StoreFiles.{StoreFiles}
@@ -14,6 +15,7 @@ use Rattle.engine.specs.declared.tended.Tended.TheVariants as tended
 use Rattle.engine.specs.LevelTables.{IsServed}
 use Rattle.engine.specs.OpenFiles.{FilesHold, HasEntry, IsTooLarge, IsWrittenTable, batch_count}
 use Rattle.engine.specs.OpenFiles.{known_version}
+use Rattle.engine.specs.StoreFiles.{flush_change}
 use Rattle.engine.specs.TableWriting.{IsNewLine}
 
 -- ---- what is due
@@ -39,6 +41,11 @@ LacksPlace version count =
 abbrev pub IsNextTable : StoreVersion → TableLine → Type 0
 IsNextTable version = IsNewLine version.next_file
 
+-- the version is the one after the edit of a flush with this table
+abbrev pub IsFlushedBy : TableLine → StoreFiles → StoreFiles → Type 0
+IsFlushedBy line old new = known_version new ≡ node_version_after (known_version old)
+    (flush_change (known_version old).version (batch_count old) line)
+
 -- The entries in memory are durably in a table of level 0, in the next file, which is open. No other
 -- file changed.
 pub record HasSpilled (old new : State) (files : StoreFiles) (it : Flushed) : Type 0 where
@@ -55,18 +62,21 @@ pub record HeldAndSpilled (disk : State) (files : StoreFiles) (list : List Batch
 
 -- ---- the answers of a tend
 
--- a rewrite that is due: the manifest was rewritten, or its generation cannot rise
+-- a rewrite that is due: the manifest was rewritten, so none is due now, or its generation cannot
+-- rise
 abbrev pub TellsRewrite : StoreFiles → StoreFiles → Tended → Type 0
 TellsRewrite old new tended.Idle = ⊥
 TellsRewrite old new tended.Worked =
     (generation_of new.manifest ≡ generation_of old.manifest + 1)
-    × (known_version new ≡ known_version old)
+    × (known_version new ≡ known_version old) × (RewriteIsDue new → ⊥)
 TellsRewrite old new tended.Full = (MAX_NUMBER ≤ generation_of old.manifest) × (new ≡ old)
 
--- a flush that is due: the tables have all batches, or it had no place
+-- a flush that is due: the version has one table of level 0 more, a log for the next batches, and all
+-- batches so far in tables; or it had no place
 abbrev pub TellsFlush : StoreFiles → StoreFiles → Tended → Type 0
 TellsFlush old new tended.Idle = ⊥
-TellsFlush old new tended.Worked = (known_version new).version.flushed ≡ batch_count old
+TellsFlush old new tended.Worked =
+    (line : TableLine) × IsNextTable (known_version old).version line × IsFlushedBy line old new
 TellsFlush old new tended.Full =
     (LacksPlace (known_version old).version (batch_count old) ⊎ IsTooLarge old.memtable)
     × (new ≡ old)

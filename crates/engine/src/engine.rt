@@ -58,11 +58,12 @@ impl<D: Disk + Drop> Engine<D> {
     ghost use Rattle.engine.specs.Calls.{IsAdrift, KeepsEngine, RefusedByDevice, TellsReadable};
     ghost use Rattle.engine.specs.Calls.{TellsTend, disk_after};
     ghost use Rattle.engine.specs.Engines.{AreOrdered, EngineHolds, EngineReads, HasEnded};
-    ghost use Rattle.engine.specs.Engines.{IsNearlyFull, engine_disk, facts_of, look_ups};
+    ghost use Rattle.engine.specs.Engines.{HasNearlyFullLog, IsNearlyFull, engine_disk, facts_of};
+    ghost use Rattle.engine.specs.Engines.{look_ups};
     ghost use Rattle.engine.specs.Engines.{table_count, with_one_more, with_committed};
     ghost use Rattle.engine.specs.Errors.{IsOfMachine};
     ghost use Rattle.engine.specs.Files.{Facts, IsOwned};
-    ghost use Rattle.engine.specs.StoreFiles.{FilesRepresent};
+    ghost use Rattle.engine.specs.StoreFiles.{FilesRepresent, IsOneOf};
 
     /// Creates a store without batches on a disk, whose files are all removed first. A refusal
     /// returns the disk, with any files.
@@ -77,7 +78,7 @@ impl<D: Disk + Drop> Engine<D> {
         ensures created { D.is_honest disk →
             MatchResult result (λ engine. EngineHolds D.Disk engine [])
             (λ refused. IsOfMachine refused.0) }
-        ensures begun { IfOk result (IsNewEngine id config.now) }
+        ensures begun { IfOk result (IsNewEngine id config.now limits.now.log) }
     {
         // laws: what a crash leaves of the files that are named, and what a disk reads
         held_versions_are_left();
@@ -108,12 +109,18 @@ impl<D: Disk + Drop> Engine<D> {
         ensures told { D.is_honest disk →
             MatchResult result (IsOpened (contents (D.state disk)))
             (λ refused. ExplainsRefusal refused.0 (contents (D.state disk))) }
-        ensures fresh { IfOk result IsJustOpened }
+        ensures fresh { IfOk result (IsJustOpened limits.now.log) }
 
-        // Where a crash before it leaves only files of this store, so does one at any moment since.
-        ensures any_moment { (facts : Facts) (list : List BatchContent) → D.is_honest disk →
-            OnlyLeaves (FilesRepresent facts list) (D.state disk) →
-            AlwaysLeaves D.Disk disk (disk_after result) (FilesRepresent facts list) }
+        // Where a crash before it leaves only files of these two stores, so does one at any moment
+        // since.
+        ensures any_moment { (facts : Facts) (list : List BatchContent) (facts' : Facts)
+            (list' : List BatchContent) → D.is_honest disk →
+            OnlyLeaves (IsOneOf facts list facts' list') (D.state disk) →
+            AlwaysLeaves D.Disk disk (disk_after result) (IsOneOf facts list facts' list') }
+
+        // What is refused for its files is left as it was.
+        ensures still { IfErr result (λ refused. (IsOfMachine refused.0 → ⊥) →
+            IsStill D.Disk disk refused.1) }
     {
         // laws: what a crash leaves of the files that are named, and what a disk reads
         held_versions_are_left();
@@ -152,7 +159,7 @@ impl<D: Disk + Drop> Engine<D> {
     /// Appends a batch, and returns its number. It needs four device calls: after them the batch is
     /// durable.
     pub fn append(&mut self, alloc: Global, batch: &Batch) -> Result<Number, EngineError>
-        ensures keeps { KeepsEngine D.Disk self.old self.new result (IsNearlyFull self.old)
+        ensures keeps { KeepsEngine D.Disk self.old self.new result (HasNearlyFullLog self.old)
             IsOwned }
         ensures told { MatchResult result
             (λ n. (look_ups self.new ≡ with_one_more (look_ups self.old))

@@ -11,8 +11,8 @@ ghost use Rattle.engine.specs.Files.{IsOwned};
 ghost use Rattle.engine.specs.OpenFiles.{AreUsableFiles, FilesHold, HasEntry, IsTooLarge};
 ghost use Rattle.engine.specs.OpenFiles.{batch_count, known_facts, known_version};
 ghost use Rattle.engine.specs.StoreFiles.{FilesRepresent, flush_change};
-ghost use Rattle.engine.specs.Tending.{HasSpilled, HeldAndSpilled, IsNextTable, LacksPlace};
-ghost use Rattle.engine.specs.Tending.{TendMayFail};
+ghost use Rattle.engine.specs.Tending.{HasSpilled, HeldAndSpilled, IsFlushedBy, IsNextTable};
+ghost use Rattle.engine.specs.Tending.{LacksPlace, TendMayFail};
 
 use crate::EngineError;
 use crate::error::refusal_of_edit;
@@ -153,7 +153,7 @@ impl StoreFiles {
             (λ _. FilesHold (D.state disk.new) self.new list) IsOfMachine }
         ensures told { MatchResult result
             (λ _. AreUsableFiles self.new × ((batch_count self.new ≡ batch_count self.old)
-            × ((known_version self.new).version.flushed ≡ batch_count self.old)))
+            × IsFlushedBy made.line self.old self.new))
             (λ _. batch_count self.new ≡ batch_count self.old) }
         ensures facts { known_facts self.new ≡ known_facts self.old }
         ensures causes { IfErr result IsEnd }

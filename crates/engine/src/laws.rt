@@ -8,12 +8,14 @@ ghost use Rattle.engine.specs.LevelTables.{FlushedTablesRise, LinesInOrderRise};
 ghost use Rattle.engine.specs.LevelTables.{TableLookUpsAreMaps, TablesFindForStores};
 ghost use Rattle.engine.specs.StoreFiles.{FirstFilesRepresent, FlushesRepresent};
 ghost use Rattle.engine.specs.StoreFiles.{LongerLogsRepresent, StoreFilesAreNamed};
+ghost use Rattle.engine.specs.StoreFiles.{StoreFilesAreOne};
 ghost use Rattle.engine.specs.StoreFiles.{StoreFilesShowMaps};
 ghost use Rattle.engine.specs.LogExamples.{LaterLogIsBehind, TwoLogsHaveThree};
 
 use disk::Disk;
-use manifest::laws::slots_reach_gates;
-use record_log::gates_are_in_files;
+use kv_types::laws::spellings_differ;
+use manifest::laws::{slots_reach_gates, version_is_one};
+use record_log::{gates_are_in_files, records_are_unique};
 use store_model::{appends_keep, empty_represents, flushes_keep, look_ups_are_maps};
 
 /// Where an engine's log or its manifest is nearly full, its disk has a file nearly as long as a file
@@ -50,6 +52,17 @@ pub fn table_look_ups_are_maps()
 pub fn store_files_are_named()
     ensures { StoreFilesAreNamed }
 {}
+
+/// Files represent one node's facts and one list of batches at most, the trimmed batches apart.
+// law: of `FilesRepresent`
+pub fn store_files_are_one()
+    ensures { StoreFilesAreOne }
+{
+    version_is_one(); // law: files represent one version at most
+    // laws: and each log one list of batches
+    records_are_unique();
+    spellings_differ();
+}
 
 /// What a lookup in memory and tables finds is what the map of so many first batches has.
 // law: of `FilesRepresent`

@@ -5,11 +5,13 @@ ghost use Rattle.kv_types.specs.{BatchContent};
 ghost use Rattle.disk.specs.{AlwaysLeaves, IsStill, KeepsDisk, OnlyLeaves, contents};
 ghost use Rattle.engine.specs.Errors.{FailsDevice, IsEnd, IsOfMachine};
 ghost use Rattle.engine.specs.Files.{Facts, IsOwned, first_facts};
-ghost use Rattle.engine.specs.StoreFiles.{FilesRepresent, before_newest};
+ghost use Rattle.engine.specs.StoreFiles.{FilesRepresent, IsOneOf, before_newest};
 ghost use Rattle.engine.specs.OpenFiles.{AreBatchesOf, AreOrderedNumbers, AreUsableFiles};
-ghost use Rattle.engine.specs.OpenFiles.{FilesHold, FilesOpenAs, OpeningRefusal, batch_count, known_facts};
+ghost use Rattle.engine.specs.OpenFiles.{FilesHold, FilesOpenAs, OpeningRefusal, batch_count};
+ghost use Rattle.engine.specs.OpenFiles.{known_facts, known_version};
 ghost use Rattle.engine.specs.Openings.{AreParts, FilesAreRead, PartsHold, WereParts, kept_files};
 ghost use Rattle.engine.specs.LevelTables.{AreTablesOf};
+ghost use Rattle.manifest.specs.{ManifestHolds};
 ghost use Rattle.store_model.specs.{LevelTable};
 
 use crate::EngineError;
@@ -20,7 +22,6 @@ use crate::settling::{remove_others, sync_tables};
 use crate::store_files::StoreFiles;
 use configurations::{Config, NodeId};
 use disk::Disk;
-use disk::laws::{durable_file_is_left, reads_are_outcomes};
 use kv_types::Number;
 use manifest::laws::{held_versions_are_left, version_is_one};
 use manifest::{LogLine, Manifest, StoreVersion};
@@ -129,6 +130,8 @@ fn read_files<D: Disk>(alloc: Global, disk: &mut D) -> Result<StoreFiles, Engine
     ensures told { D.is_honest disk.old → MatchResult result
         (FilesOpenAs (contents (D.state disk.old)))
         (λ e. OpeningRefusal e (contents (D.state disk.old))) }
+    ensures held { D.is_honest disk.old → IfOk result
+        (λ files. ManifestHolds (D.state disk.new) files.manifest (known_version files)) }
     ensures usable { IfOk result AreUsableFiles }
     ensures still { IsStill D.Disk disk.old disk.new }
 {
@@ -190,16 +193,20 @@ impl StoreFiles {
             (FilesOpenAs (contents (D.state disk.old)))
             (λ e. OpeningRefusal e (contents (D.state disk.old))) }
 
-        // Where a crash before it leaves only files of this store, so does one at any moment since.
-        ensures any_moment { (facts : Facts) (list : List BatchContent) → D.is_honest disk.old →
-            OnlyLeaves (FilesRepresent facts list) (D.state disk.old) →
-            AlwaysLeaves D.Disk disk.old disk.new (FilesRepresent facts list) }
+        // Where a crash before it leaves only files of these two stores, so does one at any moment
+        // since.
+        ensures any_moment { (facts : Facts) (list : List BatchContent) (facts' : Facts)
+            (list' : List BatchContent) → D.is_honest disk.old →
+            OnlyLeaves (IsOneOf facts list facts' list') (D.state disk.old) →
+            AlwaysLeaves D.Disk disk.old disk.new (IsOneOf facts list facts' list') }
         ensures usable { IfOk result AreUsableFiles }
+
+        // What is refused for its files is left as it was.
+        ensures still { IfErr result (λ e. (IsOfMachine e → ⊥) →
+            IsStill D.Disk disk.old disk.new) }
     {
-        // laws: what a crash leaves of the files that are named, and what a disk reads
-        held_versions_are_left();
-        durable_file_is_left();
-        reads_are_outcomes();
+        held_versions_are_left(); // law: a crash leaves the version of an open manifest
+        version_is_one(); // law: files represent one version at most
         let files = read_files(alloc, disk)?;
         let kept = named_files(alloc, files.manifest.state())?;
         remove_others(disk, &kept)?;

@@ -10,7 +10,7 @@ use Rattle.disk.specs.{AlwaysLeaves, Contents, IsCrashOutcome, KeepsDisk, State}
 use Rattle.disk.specs.MomentsLemmas.{weaker}
 use Rattle.disk.specs.StillLemmas.{still}
 use Rattle.engine.specs.declared.Engine.{Engine}
-use Rattle.engine.specs.{EngineHolds, Facts, FailsDevice, FilesRepresent, IsOfMachine, IsOneOf, engine_disk}
+use Rattle.engine.specs.{EngineHolds, Facts, FailsDevice, FilesRepresent, IsOfMachine, IsOneOf}
 use Rattle.engine.specs.{LookUps, OpensAs, TellsReadable, facts_of, look_ups}
 use Rattle.engine.specs.declared.EngineError.TheVariants as engine
 use Rattle.kv_types.specs.declared.bounds.TheConstants.{MAX_NUMBER}
@@ -30,7 +30,7 @@ use Rattle.node.specs.declared.output.Output.{Output}
 use Rattle.node.specs.declared.stop.Stop.{Stop}
 use Rattle.node.specs.declared.stop.Stop.TheVariants as stop
 use Rattle.node.specs.Steps.{DiskRefines, NodeRefines, DiskAlwaysRefines, StepRefines, disk_of}
-use Rattle.node.specs.Starts.{IsStarted, StartRefusal, disk_behind}
+use Rattle.node.specs.Starts.{IsStarted, StartRefusal}
 use Rattle.node.specs.Steps.{HasNumbersOf, facts_for}
 use Rattle.node.specs.Stops.{IsDeviceStop, IsEnvironmental, engine_stop}
 use Rattle.node.proofs.Outputs.{tells_rule}
@@ -355,27 +355,21 @@ module _ {D : Type 0} (g : Ghosts D) where
     kept = sym (ap (λ (f : Facts). f.kept) facts);
   }
 
-  -- an engine that holds a machine's list leaves its disk so
-  pub engine_rests : (engine : Engine D g) (x : ℕ) (n : Machine) → EngineHolds g engine n.list →
-      facts_of engine ≡ facts_for x n → DiskAlwaysRefines (g.state (engine_disk engine)) x n
-  engine_rests engine x n holds facts left leaves =
-      subst (λ (f : Facts). FilesRepresent f n.list left) facts (holds.crash left leaves)
-
   -- the node runs, or the disk is returned for want of memory
-  pub started_or_back : (result : Result (Node D g) (Stop × D)) (engine : Engine D g) (x : ℕ)
-      (n : Machine) →
+  pub started_or_memory : (result : Result (Node D g) (Stop × D)) (x : ℕ) (n : Machine) →
       IfOk result (λ node. NodeRefines g.is_honest g.state node x (started x n)) →
       IfErr result (λ refused. refused.0 ≡ stop.Memory) →
-      disk_behind result ≡ engine_disk engine → EngineHolds g engine n.list →
-      facts_of engine ≡ facts_for x n →
       MatchResult result (λ node. NodeRefines g.is_honest g.state node x (started x n))
-      (λ refused. IsEnvironmental refused.0 × DiskAlwaysRefines (g.state refused.1) x n)
-  started_or_back (Ok node) engine x n runs memory back holds facts = runs
-  started_or_back (Err refused) engine x n runs memory back holds facts = (
-    inr memory,
-    subst (λ (d : D). DiskAlwaysRefines (g.state d) x n) (sym back)
-        (engine_rests engine x n holds facts),
-  )
+      (λ refused. IsEnvironmental refused.0)
+  started_or_memory (Ok node) x n runs memory = runs
+  started_or_memory (Err refused) x n runs memory = inr memory
+
+  -- so it says nothing of the files
+  pub not_for_files : (Q : Stop × D → Type 0) (result : Result (Node D g) (Stop × D)) →
+      IfErr result (λ refused. refused.0 ≡ stop.Memory) →
+      IfErr result (λ refused. (IsEnvironmental refused.0 → ⊥) → Q refused)
+  not_for_files Q (Ok node) memory = tt
+  not_for_files Q (Err refused) memory = λ other. absurd (other (inr memory))
 
   -- the files open as what the running node's store tells
   pub started_from : (result : Result (Node D g) (Stop × D)) (left : Contents)

@@ -39,6 +39,11 @@ DiskRefines left x n = DiskRepresents left x n.epoch n.ids n.list n.floor n.kept
 abbrev pub DiskAlwaysRefines : State → ℕ → Machine → Type 0
 DiskAlwaysRefines disk x n = (left : Contents) → IsCrashOutcome disk left → DiskRefines left x n
 
+-- in every crash outcome the disk represents node x with one of these machines
+abbrev pub DiskRefinesOneOf : State → ℕ → Machine → Machine → Type 0
+DiskRefinesOneOf disk x n m = (left : Contents) → IsCrashOutcome disk left →
+    DiskRefines left x n ⊎ DiskRefines left x m
+
 module _ {D : Type 0} {g : Ghosts D} where
   -- the engine of a node
   abbrev pub engine_of : Node D g → Engine D g
@@ -47,6 +52,10 @@ module _ {D : Type 0} {g : Ghosts D} where
   -- the disk that it owns
   abbrev pub disk_of : Node D g → D
   disk_of node = engine_disk node.engine
+
+  -- the length of a log above which a flush is due
+  abbrev pub log_limit_of : Node D g → ℕ
+  log_limit_of node = (look_ups node.engine).log_limit
 
 -- a machine has the numbers of an engine
 pub record HasNumbersOf (told : LookUps) (n : Machine) : Type 0 where
@@ -107,5 +116,4 @@ pub record StepRefines {D : Type 0} {g : Ghosts D} (is_honest : D → Type 0) (s
 
 -- The disk of a node that stopped in a step represents the machine before the step or after it.
 abbrev pub StopRefines : State → ℕ → Machine → model.Answer BatchContent → Type 0
-StopRefines disk x n a = (left : Contents) → IsCrashOutcome disk left → DiskRefines left x n ⊎
-    DiskRefines left x a.node
+StopRefines disk x n a = DiskRefinesOneOf disk x n a.node

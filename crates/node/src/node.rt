@@ -2,7 +2,7 @@
 ghost use Rattle.std.specs.Prelude.{◌≡◌, ◌⊎◌, ◌↔◌, ℕ, length, slice_index};
 ghost use Rattle.std.specs.Prelude.{◌<◌, ◌≤◌, suc, OnOk, IfOk, IfErr, MatchResult, IsErrAnd};
 ghost use Rattle.kv_types.specs.declared.bounds.TheConstants.{MAX_NUMBER};
-ghost use Rattle.disk.specs.{AlwaysLeaves, contents, IsArmed, IsSame, IsStill, KeepsDisk};
+ghost use Rattle.disk.specs.{contents, IsArmed, IsSame, IsStill, KeepsDisk};
 ghost use Rattle.chain_model.specs.{created, started, accept, append, forwards, on_ack, resend};
 ghost use Rattle.chain_model.specs.{reply_read, silent};
 ghost use Rattle.engine.specs.{EngineHolds, HasEnded, IsAdrift, IsJustOpened, IsNearlyFull, IsOwned};
@@ -13,8 +13,10 @@ ghost use Rattle.chain_core.specs.{Machine, CoreRefines, answer_to, done_of, rul
 ghost use Rattle.chain_core.specs.{DecisionFitsCount, IsReadOf};
 ghost use Rattle.chain_core.specs.declared.Decision.{Decision};
 ghost use Rattle.node.specs.Steps.{NodeRefines, DiskAlwaysRefines, DiskRefines, IsReady, disk_of};
-ghost use Rattle.node.specs.Steps.{HasNumbersOf, engine_of, facts_for};
-ghost use Rattle.node.specs.Outputs.{CallRefines, StepEnds, NodeFollows, HasAppended, KeepsNode};
+ghost use Rattle.node.specs.Steps.{DiskRefinesOneOf, HasNumbersOf, engine_of, facts_for};
+ghost use Rattle.node.specs.Steps.{log_limit_of};
+ghost use Rattle.node.specs.Outputs.{AlwaysRefines, CallRefines, StepEnds, NodeFollows};
+ghost use Rattle.node.specs.Outputs.{HasAppended, KeepsNode};
 ghost use Rattle.node.specs.Stops.{IsDeviceStop, IsEnvironmental};
 
 use crate::replying::{
@@ -24,7 +26,6 @@ use crate::{Output, Stop};
 use chain_core::laws::{one_by_one, stands_last, steps_leave};
 use chain_core::{CoreState, Decision, Done, Input, PendingSubmit, PersistentState, Sent, decide};
 use configurations::{Config, Epoch, NodeId};
-use disk::laws::reads_are_outcomes;
 use disk::{Crash, Disk, Fault};
 use engine::{Engine, Tended};
 use kv_types::{Batch, Key, Limits, Number};
@@ -61,13 +62,14 @@ fn core_of<D: Disk + Drop>(alloc: Global, engine: &Engine<D>, config: Config) ->
 
 // The node of an engine that was opened. A refusal for want of memory returns the disk.
 fn run_opened<D: Disk + Drop>(alloc: Global, mut engine: Engine<D>) -> Result<Node<D>, (Stop, D)>
-    requires { IsJustOpened engine }
+    requires { IsJustOpened (look_ups engine).log_limit engine }
     ensures disk { disk_behind result ≡ engine_disk engine }
     ensures runs { (x : ℕ) (n : Machine) → EngineHolds D.Disk engine n.list →
         facts_of engine ≡ facts_for x n →
         IfOk result (λ node. NodeRefines D.is_honest D.state node x (started x n)) }
     ensures told { IfOk result (λ node. (facts_of (engine_of node) ≡ facts_of engine)
         × ((look_ups (engine_of node)).count ≡ (look_ups engine).count)) }
+    ensures limit { IfOk result (λ node. log_limit_of node ≡ (look_ups engine).log_limit) }
     ensures memory { IfErr result (λ refused. refused.0 ≡ Stop.Memory) }
     ensures works { IfOk result IsReady }
 {
@@ -126,6 +128,7 @@ impl<D: Disk + Drop> Node<D> {
             (created config.now))
             (λ refused. IsEnvironmental refused.0) }
         ensures works { IfOk result IsReady }
+        ensures limit { IfOk result (λ node. log_limit_of node ≡ limits.now.log) }
     {
         let Ok(known) = config.clone() else {
             return Err((Stop::Memory, disk));
@@ -144,20 +147,25 @@ impl<D: Disk + Drop> Node<D> {
         ensures kept { KeepsDisk D.Disk disk (disk_behind result)
             (IsErrAnd result (λ refused. refused.0 ≡ Stop.Disk)) ⊥ IsOwned }
         ensures started { (x : ℕ) (n : Machine) → D.is_honest disk →
-            DiskAlwaysRefines (D.state disk) x n →
+            DiskRefines (contents (D.state disk)) x n →
             MatchResult result (λ node. NodeRefines D.is_honest D.state node x (started x n))
-            (λ refused. IsEnvironmental refused.0 × DiskAlwaysRefines (D.state refused.1) x n) }
+            (λ refused. IsEnvironmental refused.0) }
         ensures told { D.is_honest disk →
             MatchResult result (IsStarted (contents (D.state disk)))
             (λ refused. StartRefusal refused.0 (contents (D.state disk))) }
         ensures works { IfOk result IsReady }
+        ensures limit { IfOk result (λ node. log_limit_of node ≡ limits.now.log) }
 
-        // A crash at any moment since the call began leaves the disk of the same machine.
-        ensures any_moment { (x : ℕ) (n : Machine) → D.is_honest disk →
-            DiskAlwaysRefines (D.state disk) x n →
-            AlwaysLeaves D.Disk disk (disk_behind result) (λ left. DiskRefines left x n) }
+        // Where a crash before it leaves only disks of these two machines, so does one at any
+        // moment since.
+        ensures any_moment { (x : ℕ) (n m : Machine) → D.is_honest disk →
+            DiskRefinesOneOf (D.state disk) x n m →
+            AlwaysRefines D.Disk disk (disk_behind result) x n m }
+
+        // What is refused for its files is left as it was.
+        ensures still { IfErr result (λ refused. (IsEnvironmental refused.0 → ⊥) →
+            IsStill D.Disk disk refused.1) }
     {
-        reads_are_outcomes(); // law: what a disk reads is an outcome of a crash
         match Engine::open(alloc, disk, limits) {
             Ok(engine) => run_opened(alloc, engine),
             Err((e, disk)) => Err((Stop::from(e), disk)),
@@ -220,6 +228,7 @@ impl<D: Disk + Drop> Node<D> {
         requires may { IsReady self.old }
         requires there { (committed ≤ have) × (have ≤ self.old.core.count) }
         ensures disk { disk_of self.new ≡ disk_of self.old }
+        ensures limit { log_limit_of self.new ≡ log_limit_of self.old }
         ensures ends { (x : ℕ) (n : Machine) (input : Input) →
             StepEnds D.Disk self.old self.new result x n input (on_ack x n committed have) }
         ensures memory { IfErr result (λ e. e ≡ Stop.Memory) }
@@ -294,6 +303,7 @@ impl<D: Disk + Drop> Node<D> {
         ensures kept { KeepsDisk D.Disk (disk_of self.old) (disk_of self.new) (IsDeviceStop result)
             (IsNearlyFull (engine_of self.old) ⊎ IsAdrift D.Disk (engine_of self.old)) IsOwned }
         ensures works { OnOk result (IsReady self.new) }
+        ensures limit { log_limit_of self.new ≡ log_limit_of self.old }
         ensures ends { (x : ℕ) (n : Machine) → NodeRefines D.is_honest D.state self.old x n →
             CallRefines D.Disk self.old self.new x n (silent n)
             (λ tended. NodeRefines D.is_honest D.state self.new x n
@@ -387,6 +397,7 @@ impl<D: Crash + Drop> Node<D> {
         ensures refines { (x : ℕ) (n : Machine) → NodeRefines D.is_honest D.state self.old x n →
             NodeRefines D.is_honest D.state self.new x n }
         ensures ready { IsReady self.old → IsReady self.new }
+        ensures limit { log_limit_of self.new ≡ log_limit_of self.old }
         ensures full { IsNearlyFull (engine_of self.new) ↔ IsNearlyFull (engine_of self.old) }
         ensures tends { TendsAlike (engine_of self.old) (engine_of self.new) }
     {

@@ -1,7 +1,7 @@
 use Rattle.std.proofs.Common.{◌∙◌, suc, drop, subst}
 use Rattle.disk.specs.{contents}
 use Rattle.disk.specs.StillLemmas.{still_more}
-use Rattle.manifest.specs.{NodeVersion}
+use Rattle.manifest.specs.{NodeVersion, version_of}
 use Rattle.engine.specs.Errors.{IsOfMachine}
 use Rattle.engine.specs.OpenFiles.{FilesOpenAs, OpeningRefusal}
 use Rattle.engine.specs.Openings.{AreParts, PartsHold, WereParts}
@@ -62,6 +62,21 @@ returns-clause-told g c = λ honest.
     (c.version_is_one.ensures.lawful _ (contents s0) had) had
     (subst (λ (n : NodeVersion). WereParts s1 s2 n.version parts) c.state.ensures
     (c.in_ok-parts.ensures.told (c.open.ensures.kept.honest.1 honest)))
+
+-- which the slots durably represent
+pub returns-clause-held : goal.returns-clause-held
+returns-clause-held g c = λ honest.
+    let s0 = g.D.Disk.state c.args.disk.now in
+    let s1 = g.D.Disk.state c.open.new.disk in
+    let s2 = g.D.Disk.state c.read_parts.new.disk in
+    let manifest = c.in_ok-manifest.manifest in
+    let parts = c.in_ok-parts.parts in
+    let it = c.in_ok-manifest.ensures.told honest in
+    let were = subst (λ (n : NodeVersion). WereParts s1 s2 n.version parts) c.state.ensures
+    (c.in_ok-parts.ensures.told (c.open.ensures.kept.honest.1 honest)) in
+    slots_stay c.held_versions_are_left.ensures.same s1 s2 manifest (version_of manifest)
+    (version_of manifest).version (c.version_is_one.ensures.lawful _ (contents s0) it.had) it.holds
+    were.others
 
 -- and hold the list that they represented
 pub returns-clause-opened : goal.returns-clause-opened

@@ -1,6 +1,7 @@
 use Rattle.std.proofs.Common.{refl, inl, inr, subst}
 use Rattle.chain_model.specs.{started, stopped, silent}
-use Rattle.disk.specs.{State}
+use Rattle.disk.specs.{State, contents}
+use Rattle.disk.specs.StepsLemmas.{read_is_outcome}
 use Rattle.node.specs.{DiskAlwaysRefines}
 use Rattle.lab.specs.SimNodes.{StateRefines}
 use Rattle.lab.specs.Outcomes.{Starts, Fails}
@@ -11,7 +12,9 @@ pub returns-in-Ok-clause-refines : goal.returns-in-Ok-clause-refines
 returns-in-Ok-clause-refines g c = λ x n r.
     let represents = subst (λ (s : State). DiskAlwaysRefines s x n)
     (same_state (c.arm.ensures.same r.0)) r.1 in
-    let began = c.in-Ok.ensures.started x n (c.arm.ensures.honest.1 r.0) represents in
+    let disk = g.D.Disk.state c.arm.new.self in
+    let began = c.in-Ok.ensures.started x n (c.arm.ensures.honest.1 r.0)
+    (represents (contents disk) (λ file. read_is_outcome (disk file))) in
     let runs = c.arm-in-Ok.ensures.refines x (started x n) began in
     Starts r.2 runs (rw (
       c.epoch.ensures x (started x n) runs,
@@ -24,11 +27,15 @@ returns-in-Err-clause-refines g c = λ x n r.
     let armed = c.arm.ensures in
     let represents = subst (λ (s : State). DiskAlwaysRefines s x n)
     (same_state (armed.same r.0)) r.1 in
-    let left = c.in-Err.ensures.started x n (armed.honest.1 r.0) represents in
+    let honest = armed.honest.1 r.0 in
+    let disk = g.D.Disk.state c.arm.new.self in
+    let why = c.in-Err.ensures.started x n honest
+    (represents (contents disk) (λ file. read_is_outcome (disk file))) in
+    let left = c.in-Err.ensures.any_moment x n n honest (λ left now. inl (represents left now)) in
     let was = spent g.D.Disk c.args.fault c.args.disk c.arm.new.self c.in-Err.disk _ _ _ armed
     c.in-Err.ensures.kept r.0 in
     let rests = elim (c.stop_by_itself.ensures.refines x n (silent n) was.honest
-    (λ after now. inl (left.1 after now))) as
+    left.now) as
     (λ _. StateRefines g.D.Disk.is_honest g.D.Disk.state c.stop_by_itself.result.0 x (stopped n)) [
       | inl before ↦ before
       | inr behind ↦ behind
@@ -36,7 +43,7 @@ returns-in-Err-clause-refines g c = λ x n r.
     Fails r.2
     (stopped_so g.D.Disk c.args.fault c.args.disk c.in-Err.disk c.in-Err.stop
     c.stop_by_itself.result.0 c.stop_by_itself.result.1 _ _ was (λ fails. fails) (λ is. is)
-    c.stop_by_itself.ensures.told c.stop_by_itself.ensures.crashes left.0) rests
+    c.stop_by_itself.ensures.told c.stop_by_itself.ensures.crashes why) rests
 
 pub returns-in-Err-clause-disk : goal.returns-in-Err-clause-disk
 returns-in-Err-clause-disk g c = λ honest.

@@ -1,8 +1,8 @@
 use Rattle.std.proofs.Common.{subst, sym}
 use Rattle.std.proofs.lemmas.Result.{err_from_is_err_and}
-use Rattle.disk.specs.{OnlyLeaves, contents}
+use Rattle.disk.specs.{AlwaysLeaves, OnlyLeaves, contents}
 use Rattle.engine.specs.OpenFiles.{OpeningRefusal}
-use Rattle.engine.specs.StoreFiles.{FilesRepresent}
+use Rattle.engine.specs.StoreFiles.{FilesRepresent, IsOneOf}
 use Rattle.engine.proofs.Engines.{LeftFiles, explains, holds_of, reads_of, since_same}
 use Rattle.engine.proofs.Engines.{still_refused}
 use Rattle.engine.proofs.Records.{not_true}
@@ -10,9 +10,9 @@ use Rattle.engine.proofs.engine.Engine.open.Goals as goal
 
 -- there was no memory for the cache
 pub returns-in_err-files-clause-any_moment : goal.returns-in_err-files-clause-any_moment
-returns-in_err-files-clause-any_moment g c = λ facts list honest only.
+returns-in_err-files-clause-any_moment g c = λ facts list facts' list' honest only.
     let p = err_from_is_err_and c.from_residual.result c.from_residual.ensures.1 in
-    still_refused g.D.Disk (FilesRepresent facts list) c.args.disk c.from_residual.result p.0
+    still_refused g.D.Disk (IsOneOf facts list facts' list') c.args.disk c.from_residual.result p.0
     c.in_err-files.field-0.0 p.1 p.2 c.in_err-files.ensures.refused.1 only
 
 -- what the files represent is held
@@ -37,13 +37,24 @@ returns-in-Ok-clause-opened g c = λ facts list honest represents.
 
 -- each moment leaves files of the store
 pub returns-in-Ok-clause-any_moment : goal.returns-in-Ok-clause-any_moment
-returns-in-Ok-clause-any_moment g c = λ facts list honest only.
+returns-in-Ok-clause-any_moment g c = λ facts list facts' list' honest only.
     let is = c.in_ok-files.ensures.files in
     let honest' = subst g.D.Disk.is_honest (sym is) honest in
-    let left = subst (λ d. OnlyLeaves (FilesRepresent facts list) (g.D.Disk.state d)) (sym is)
+    let left = subst (λ d. OnlyLeaves (IsOneOf facts list facts' list') (g.D.Disk.state d)) (sym is)
     only in
-    since_same g.D.Disk (FilesRepresent facts list) is
-    (c.open.ensures.any_moment facts list honest' left)
+    since_same g.D.Disk (IsOneOf facts list facts' list') is
+    (c.open.ensures.any_moment facts list facts' list' honest' left)
+
+-- also of a refused opening
+pub returns-in-Err-clause-any_moment : goal.returns-in-Err-clause-any_moment
+returns-in-Err-clause-any_moment g c = λ facts list facts' list' honest only.
+    let is = c.in_ok-files.ensures.files in
+    let honest' = subst g.D.Disk.is_honest (sym is) honest in
+    let left = subst (λ d. OnlyLeaves (IsOneOf facts list facts' list') (g.D.Disk.state d)) (sym is)
+    only in
+    subst (λ d. AlwaysLeaves g.D.Disk c.args.disk d (IsOneOf facts list facts' list'))
+    (sym c.into_disk.ensures) (since_same g.D.Disk (IsOneOf facts list facts' list') is
+    (c.in-Err.ensures.any_moment facts list facts' list' honest' left))
 
 -- a refusal says what is wrong
 pub returns-in-Err-clause-opened : goal.returns-in-Err-clause-opened

@@ -4,9 +4,9 @@ use Rattle.disk.specs.MomentsLemmas.{join}
 use Rattle.engine.specs.declared.flushing.Flushed.{Flushed}
 use Rattle.engine.specs.Errors.{IsOfMachine}
 use Rattle.engine.specs.KeepingLemmas.{answered, kept_as, kept_behind, kept_but}
-use Rattle.engine.specs.OpenFiles.{FilesHold, IsTooLarge, known_facts}
+use Rattle.engine.specs.OpenFiles.{FilesHold, IsTooLarge, known_facts, known_version}
 use Rattle.engine.specs.StoreFiles.{FilesRepresent}
-use Rattle.engine.specs.Tending.{HasSpilled, HeldAndSpilled}
+use Rattle.engine.specs.Tending.{HasSpilled, HeldAndSpilled, IsNextTable}
 use Rattle.engine.proofs.Causes.{refuses}
 use Rattle.engine.proofs.Keeping.{passed_on}
 use Rattle.engine.proofs.Tends.{nothing_called}
@@ -75,7 +75,12 @@ returns-in_ok-install-in-Some-clause-tended g c = λ list honest h.
     let held : HeldAndSpilled mid files list c.in-Some.made =
     record { before = disk; held = h; spilled = told } in
     let between = c.spill.ensures.kept.honest.1 honest in
-    (c.in_ok-install-in-Some.ensures.installed list between held, c.in_ok-install-in-Some.ensures.told.1.1)
+    let next = subst (λ (o : Option Flushed). MatchOption o Unit
+    (λ it. IsNextTable (known_version files).version it.line)) c.in-Some.is
+    c.in_ok-made.ensures.line in (
+      c.in_ok-install-in-Some.ensures.installed list between held,
+      (c.in-Some.made.line, next, c.in_ok-install-in-Some.ensures.told.1.1),
+    )
 
 -- ---- the moments of both calls
 

@@ -10,7 +10,7 @@ use Rattle.engine.specs.OpenFiles.{batch_count, known_version, trimmed_count}
 use Rattle.engine.specs.StoreFiles.{flush_change}
 use Rattle.engine.proofs.Causes.{refuses}
 use Rattle.engine.proofs.Installed.{beside_new, count_kept, edit_is, edit_is_recorded, facts_kept}
-use Rattle.engine.proofs.Installed.{flushed_told, installed_holds, installed_usable, log_begins}
+use Rattle.engine.proofs.Installed.{installed_holds, installed_usable, known, log_begins}
 use Rattle.engine.proofs.Installed.{manifest_begun, new_ends, new_served, none_begun, old_served}
 use Rattle.engine.proofs.Installed.{spilled_named}
 use Rattle.engine.proofs.Tends.{edit_of_machine}
@@ -261,7 +261,7 @@ returns-clause-told g c =
               tables = c.add.new.self;
               memtable = c.replace.new.dest;
             }) c.in_default.ensures.told.0 begun.2 begun.1,
-        flushed_told files c.requires.usable line c.requires.place c.requires.next
+        known files c.requires.usable line c.requires.place c.requires.next
             (c.behind-self.inside.next_file + 1) at c.in_ok-edit.edit is (record {
               manifest = c.record.new.self;
               logs = c.begin.new.self;

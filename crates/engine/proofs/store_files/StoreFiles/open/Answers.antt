@@ -1,11 +1,11 @@
 use Rattle.std.proofs.Common.{◌∙◌, ap}
-use Rattle.disk.specs.{contents}
 use Rattle.manifest.specs.{NodeVersion}
 use Rattle.engine.specs.Errors.{IsOfMachine}
 use Rattle.engine.specs.Openings.{kept_files}
-use Rattle.engine.specs.StoreFiles.{FilesRepresent}
-use Rattle.engine.proofs.Causes.{refuses}
-use Rattle.engine.proofs.KeptFiles.{settled_as, settling_keeps, still_keeps}
+use Rattle.engine.specs.StoreFiles.{IsOneOf}
+use Rattle.engine.proofs.Causes.{if_refuses, refuses}
+use Rattle.engine.proofs.KeptFiles.{settled_as, still_keeps}
+use Rattle.engine.proofs.OpenMoments.{one_of_is_named, settling_keeps}
 use Rattle.engine.proofs.store_files.StoreFiles.open.Goals as goal
 
 -- the files that are read are those that the disk represents
@@ -29,46 +29,59 @@ returns-clause-opened g c = λ facts list honest represents.
           (c.in_ok-remove_others.ensures.alone honest1),
     )
 
--- at each moment the disk leaves only files of this store
+-- at each moment the disk leaves only files of these stores
 pub returns-in_err-files-clause-any_moment : goal.returns-in_err-files-clause-any_moment
-returns-in_err-files-clause-any_moment g c = λ facts list honest only.
-    still_keeps (FilesRepresent facts list) (g.D.Disk.state c.args.disk.now)
+returns-in_err-files-clause-any_moment g c = λ facts list facts' list' honest only.
+    still_keeps (IsOneOf facts list facts' list') (g.D.Disk.state c.args.disk.now)
     (g.D.Disk.past c.args.disk.now) (g.D.Disk.state c.read_files.new.disk)
     (g.D.Disk.past c.read_files.new.disk) only (c.read_files.ensures.still honest)
 
 pub returns-in_err-kept-clause-any_moment : goal.returns-in_err-kept-clause-any_moment
-returns-in_err-kept-clause-any_moment g c = λ facts list honest only.
-    still_keeps (FilesRepresent facts list) (g.D.Disk.state c.args.disk.now)
+returns-in_err-kept-clause-any_moment g c = λ facts list facts' list' honest only.
+    still_keeps (IsOneOf facts list facts' list') (g.D.Disk.state c.args.disk.now)
     (g.D.Disk.past c.args.disk.now) (g.D.Disk.state c.read_files.new.disk)
     (g.D.Disk.past c.read_files.new.disk) only (c.read_files.ensures.still honest)
 
 pub returns-in_err-remove_others-clause-any_moment :
     goal.returns-in_err-remove_others-clause-any_moment
-returns-in_err-remove_others-clause-any_moment g c = λ facts list honest only.
-    let s0 = g.D.Disk.state c.args.disk.now in
+returns-in_err-remove_others-clause-any_moment g c = λ facts list facts' list' honest only.
     let honest1 = c.read_files.ensures.kept.honest.1 honest in
-    let files = c.in_ok-files.files in
-    let represents = only (contents s0) (c.reads_are_outcomes.ensures s0) in
-    let found = c.in_ok-files.ensures.opened facts list honest represents in
     let is = c.deref.ensures.value ∙ c.in_ok-kept.ensures
     ∙ ap (λ (n : NodeVersion). kept_files n.version) c.state.ensures in
-    settling_keeps c.held_versions_are_left.ensures.left c.durable_file_is_left.ensures facts list
-    files c.deref.result.now s0 (g.D.Disk.state c.read_files.new.disk)
+    settling_keeps (IsOneOf facts list facts' list') (one_of_is_named facts list facts' list')
+    c.held_versions_are_left.ensures.left c.version_is_one.ensures.one c.in_ok-files.files
+    c.deref.result.now (g.D.Disk.state c.args.disk.now) (g.D.Disk.state c.read_files.new.disk)
     (g.D.Disk.state c.remove_others.new.disk) (g.D.Disk.past c.args.disk.now)
-    (g.D.Disk.past c.read_files.new.disk) (g.D.Disk.past c.remove_others.new.disk) found.0 found.1 is
-    only (c.read_files.ensures.still honest) (c.remove_others.ensures.any_moment honest1)
+    (g.D.Disk.past c.read_files.new.disk) (g.D.Disk.past c.remove_others.new.disk)
+    (c.in_ok-files.ensures.held honest) is only (c.read_files.ensures.still honest)
+    (c.remove_others.ensures.any_moment honest1)
 
 pub returns-clause-any_moment : goal.returns-clause-any_moment
-returns-clause-any_moment g c = λ facts list honest only.
-    let s0 = g.D.Disk.state c.args.disk.now in
+returns-clause-any_moment g c = λ facts list facts' list' honest only.
     let honest1 = c.read_files.ensures.kept.honest.1 honest in
-    let files = c.in_ok-files.files in
-    let represents = only (contents s0) (c.reads_are_outcomes.ensures s0) in
-    let found = c.in_ok-files.ensures.opened facts list honest represents in
     let is = c.deref.ensures.value ∙ c.in_ok-kept.ensures
     ∙ ap (λ (n : NodeVersion). kept_files n.version) c.state.ensures in
-    settling_keeps c.held_versions_are_left.ensures.left c.durable_file_is_left.ensures facts list
-    files c.deref.result.now s0 (g.D.Disk.state c.read_files.new.disk)
+    settling_keeps (IsOneOf facts list facts' list') (one_of_is_named facts list facts' list')
+    c.held_versions_are_left.ensures.left c.version_is_one.ensures.one c.in_ok-files.files
+    c.deref.result.now (g.D.Disk.state c.args.disk.now) (g.D.Disk.state c.read_files.new.disk)
     (g.D.Disk.state c.remove_others.new.disk) (g.D.Disk.past c.args.disk.now)
-    (g.D.Disk.past c.read_files.new.disk) (g.D.Disk.past c.remove_others.new.disk) found.0 found.1 is
-    only (c.read_files.ensures.still honest) (c.remove_others.ensures.any_moment honest1)
+    (g.D.Disk.past c.read_files.new.disk) (g.D.Disk.past c.remove_others.new.disk)
+    (c.in_ok-files.ensures.held honest) is only (c.read_files.ensures.still honest)
+    (c.remove_others.ensures.any_moment honest1)
+
+-- a refusal of the reading left what there was, and one of a removal is of the machine
+pub returns-in_err-files-clause-still : goal.returns-in_err-files-clause-still
+returns-in_err-files-clause-still g c =
+    if_refuses c.from_residual.result _ c.from_residual.ensures.1
+    (λ other. c.read_files.ensures.still)
+
+pub returns-in_err-kept-clause-still : goal.returns-in_err-kept-clause-still
+returns-in_err-kept-clause-still g c =
+    if_refuses c.from_residual-in_err-kept.result _ c.from_residual-in_err-kept.ensures.1
+    (λ other. c.read_files.ensures.still)
+
+pub returns-in_err-remove_others-clause-still : goal.returns-in_err-remove_others-clause-still
+returns-in_err-remove_others-clause-still g c =
+    if_refuses c.from_residual-in_err-remove_others.result _
+    c.from_residual-in_err-remove_others.ensures.1 (λ other honest. absurd (other
+    (c.in_err-remove_others.ensures.alone (c.read_files.ensures.kept.honest.1 honest))))

@@ -1,8 +1,8 @@
-use Rattle.std.proofs.Common.{◌+◌, ◌++◌, ◌∷◌, [], ap, arith, sym, subst, ℕ, inr, ◌∙◌}
+use Rattle.std.proofs.Common.{◌+◌, ◌++◌, ◌∷◌, [], ap, arith, sym, subst, ℕ, inl, inr, ◌∙◌}
 use Rattle.std.proofs.lemmas.Result.{err_from_is_err_and}
 use Rattle.chain_core.specs as core
 use Rattle.chain_core.specs.{done_of}
-use Rattle.engine.specs.KeepingLemmas.{answered, kept_as, neither}
+use Rattle.engine.specs.KeepingLemmas.{answered, kept_as, kept_but, neither}
 use Rattle.engine.specs.{LookUps, engine_disk, look_ups}
 use Rattle.node.specs.Outputs.{AlwaysRefines}
 use Rattle.node.specs.Steps.{disk_of}
@@ -100,8 +100,9 @@ returns-clause-kept g c =
     let known = c.set_committed.ensures.told in
     record {
       disk = kept_on g.D.Disk (sym c.set_committed.ensures.disk)
+          (kept_but g.D.Disk (λ full. inl full)
           (kept_as g.D.Disk (neither (answered c.append.result c.in_ok-append.was) done_told)
-          (λ a b kept. kept) c.append.ensures.keeps.disk);
+          (λ a b kept. kept) c.append.ensures.keeps.disk));
       works = record {
         works = λ ended. still_works c.in_ok-append.ensures.keeps.ends may.works
             (c.set_committed.ensures.ended.0 ended);
@@ -112,4 +113,5 @@ returns-clause-kept g c =
             ∙ sym (ap (λ (l : LookUps). l.facts.kept) known);
         committed = sym c.committed.ensures.same ∙ sym (ap (λ (l : LookUps). l.committed) known);
       };
+      limit = ap (λ (l : LookUps). l.log_limit) known ∙ ap (λ (l : LookUps). l.log_limit) told;
     }

@@ -1,34 +1,37 @@
 use Rattle.std.proofs.Common.{subst, sym}
-use Rattle.disk.specs.{AlwaysLeaves, contents}
-use Rattle.node.specs.Steps.{DiskRefines, facts_for}
+use Rattle.disk.specs.{contents}
+use Rattle.node.specs.Outputs.{AlwaysRefines}
+use Rattle.node.specs.Steps.{facts_for}
 use Rattle.node.specs.Stops.{IsEnvironmental}
-use Rattle.node.proofs.Running.{env_of, started_from, started_or_back}
+use Rattle.node.proofs.Running.{env_of, not_for_files, started_from, started_or_memory}
 use Rattle.node.proofs.node.Node.start.Goals as goal
 
--- a disk that always represents a machine represents it as it reads
+-- the machine that the files represent runs
 pub returns-in-Ok-clause-started : goal.returns-in-Ok-clause-started
-returns-in-Ok-clause-started g c = λ x n honest rests.
-    let s0 = g.D.Disk.state c.args.disk in
-    let read = rests (contents s0) (c.reads_are_outcomes.ensures s0) in
+returns-in-Ok-clause-started g c = λ x n honest read.
     let opened = c.in-Ok.ensures.opened (facts_for x n) n.list honest read in
-    let engine = c.in-Ok.engine in
-    started_or_back g.D.Disk c.run_opened.result engine x n
+    started_or_memory g.D.Disk c.run_opened.result x n
     (c.run_opened.ensures.runs x n opened.holds opened.facts) c.run_opened.ensures.memory
-    c.run_opened.ensures.disk opened.holds opened.facts
 
 pub returns-in-Err-clause-started : goal.returns-in-Err-clause-started
-returns-in-Err-clause-started g c = λ x n honest rests.
-    let s0 = g.D.Disk.state c.args.disk in
-    let read = rests (contents s0) (c.reads_are_outcomes.ensures s0) in
-    let why = c.in-Err.ensures.opened (facts_for x n) n.list honest read in (
-      subst IsEnvironmental (sym c.from.ensures) (env_of c.in-Err.e why),
-      (c.in-Err.ensures.any_moment (facts_for x n) n.list honest rests).now,
-    )
+returns-in-Err-clause-started g c = λ x n honest read.
+    subst IsEnvironmental (sym c.from.ensures) (env_of c.in-Err.e
+    (c.in-Err.ensures.opened (facts_for x n) n.list honest read))
 
 -- a refused opening leaves at every moment what the disk left before
 pub returns-in-Err-clause-any_moment : goal.returns-in-Err-clause-any_moment
-returns-in-Err-clause-any_moment g c = λ x n honest rests.
-    c.in-Err.ensures.any_moment (facts_for x n) n.list honest rests
+returns-in-Err-clause-any_moment g c = λ x n m honest rests.
+    c.in-Err.ensures.any_moment (facts_for x n) n.list (facts_for x m) m.list honest rests
+
+-- .. and one for the files no more than was there
+pub returns-in-Err-clause-still : goal.returns-in-Err-clause-still
+returns-in-Err-clause-still g c = λ other.
+    c.in-Err.ensures.still (λ machine.
+    other (subst IsEnvironmental (sym c.from.ensures) (env_of c.in-Err.e machine)))
+
+pub returns-in-Ok-clause-still : goal.returns-in-Ok-clause-still
+returns-in-Ok-clause-still g c =
+    not_for_files g.D.Disk _ c.run_opened.result c.run_opened.ensures.memory
 
 -- the node's store tells what was opened
 pub returns-in-Ok-clause-told : goal.returns-in-Ok-clause-told
@@ -38,7 +41,6 @@ returns-in-Ok-clause-told g c = λ honest.
 
 -- what the opened engine's disk leaves, the returned one does
 pub returns-in-Ok-clause-any_moment : goal.returns-in-Ok-clause-any_moment
-returns-in-Ok-clause-any_moment g c = λ x n honest rests.
-    subst (λ d. AlwaysLeaves g.D.Disk c.args.disk d (λ left. DiskRefines left x n))
-    (sym c.run_opened.ensures.disk)
-    (c.in-Ok.ensures.any_moment (facts_for x n) n.list honest rests)
+returns-in-Ok-clause-any_moment g c = λ x n m honest rests.
+    subst (λ d. AlwaysRefines g.D.Disk c.args.disk d x n m) (sym c.run_opened.ensures.disk)
+    (c.in-Ok.ensures.any_moment (facts_for x n) n.list (facts_for x m) m.list honest rests)
