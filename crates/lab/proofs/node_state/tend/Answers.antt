@@ -18,7 +18,7 @@ returns-in-Ok-clause-refines g c = λ x n r.
       _,
       refl,
       (c.arm-in-Ok.ensures.tends (engine_of c.args.node) c.in-Ok.did).1 (
-        (c.arm.ensures.tends (engine_of c.tend.new.self) c.in-Ok.did).0 a.1),
+          (c.arm.ensures.tends (engine_of c.tend.new.self) c.in-Ok.did).0 a.1),
     )
 
 -- why a device that works may fail

@@ -21,9 +21,9 @@ returns-clause-nothing c = λ cs events choices steps run other.
     (elim [
       | Takes names _ ↦ absurd (other names)
       | Ignores _ same ↦ record {
-          run = record { kept = same.run.kept; taken = same.run.taken; made = same.run.made };
-          nodes = same.nodes;
-        }
+        run = record { kept = same.run.kept; taken = same.run.taken; made = same.run.made };
+        nodes = same.nodes;
+      }
     ])
     (c.apply-applied.ensures cs events choices steps run)
 
@@ -32,11 +32,11 @@ returns-clause-follows c = λ cs events choices steps run names.
     on_ok_weaker c.apply-applied.result
     (elim [
       | Takes _ more ↦ record {
-          choice = more.choice;
-          lines = more.lines;
-          run = record { kept = more.run.kept; taken = more.run.taken; made = more.run.made };
-          nodes = more.nodes;
-        }
+        choice = more.choice;
+        lines = more.lines;
+        run = record { kept = more.run.kept; taken = more.run.taken; made = more.run.made };
+        nodes = more.nodes;
+      }
       | Ignores other _ ↦ absurd (other names)
     ])
     (c.apply-applied.ensures cs events choices steps run)
