@@ -80,7 +80,7 @@ tick_replies x (Response.Closed j s) = refl
 tick_replies x (Response.Refused j why) = refl
 
 module _ {g : Ghosts Slots} (cs : Configurations) (w : SystemState BatchContent) (i x : ℕ)
-    (it : Fault) (struck : Bool) (new : NodeState Slots g) (did : StepOutcome)
+    (it : Fault) (struck : Bool) (old new : NodeState Slots g) (did : StepOutcome)
   where
     -- the choice in a step that the node does not stop by itself
     abbrev plain : Choice
@@ -95,7 +95,7 @@ module _ {g : Ghosts Slots} (cs : Configurations) (w : SystemState BatchContent)
 
     deliver : (p : ℕ) (sent : Frame) (f : ModelFrame BatchContent) → place w.frames p ≡ Some f →
         frame_as x sent ≡ Some f → OutcomeRefines is_honest state it struck x (w.nodes x)
-        (input_of sent) new did →
+        (input_of sent) old new did →
         IsOutcome cs w i x (Deliver p) it struck new did
     deliver p (frame.Forward epoch from number batch) f there same was =
         given cs w i x (Deliver p) it struck (input.Forward epoch from number batch) new did
@@ -131,6 +131,7 @@ module _ {g : Ghosts Slots} (cs : Configurations) (w : SystemState BatchContent)
           counted = λ n. refl;
           fits = λ stops. absurd (false≢true stops);
           ends = refl;
+          told = tt;
         }))
     start (Fails off by is) =
         as_chosen cs w i x (Start x) it new did (chosen StoppedBefore struck by.cause)
@@ -148,7 +149,7 @@ module _ {g : Ghosts Slots} (cs : Configurations) (w : SystemState BatchContent)
         (drop_traced x (with_fault (Start x) it) plain (w.nodes x) reason.Running traced.0
         traced.2 refl))
 
-    tend : HasTended is_honest state it struck x (w.nodes x) new did →
+    tend : HasTended is_honest state it struck x (w.nodes x) old new did →
         IsOutcome cs w i x (Tend x) it struck new did
     tend (Tends up is traced) =
         let o = answers x (silent (w.nodes x)) in
@@ -162,6 +163,7 @@ module _ {g : Ghosts Slots} (cs : Configurations) (w : SystemState BatchContent)
           counted = λ n. refl;
           fits = λ stops. absurd (false≢true stops);
           ends = refl;
+          told = refl;
         }))
     tend (Halts up by is) =
         as_chosen cs w i x (Tend x) it new did (chosen StoppedBefore struck by.cause)
@@ -201,42 +203,42 @@ module _ {g : Ghosts Slots} (cs : Configurations) (w : SystemState BatchContent)
     -- the outcome of the input that an event delivers is the event's
     pub refined : (kind : EventKind) (node_input : NodeInput) → IsDeliveryOf w.frames i kind x
         node_input →
-        OutcomeRefines is_honest state it struck x (w.nodes x) node_input new did →
+        OutcomeRefines is_honest state it struck x (w.nodes x) node_input old new did →
         IsOutcome cs w i x kind it struck new did
     refined (Submit node batch) node_input brings was =
         subst (λ (y : ℕ). IsOutcome cs w i x (Submit y batch) it struck new did) brings.0
         (given cs w i x (Submit x batch) it struck (input.Submit i batch) new did (λ choice. refl)
         (λ choice. refl) (λ choice o. refl) (submit_replies x i batch)
         (subst (λ (k : NodeInput). OutcomeRefines is_honest state it struck x
-        (w.nodes x) k new did) brings.1 was))
+        (w.nodes x) k old new did) brings.1 was))
     refined (Get node key at) node_input brings was =
         subst (λ (y : ℕ). IsOutcome cs w i x (Get y key at) it struck new did) brings.0
         (given cs w i x (Get x key at) it struck (input.Get i key at) new did (λ choice. refl)
         (λ choice. refl) (λ choice o. refl) (get_replies x i key at)
         (subst (λ (k : NodeInput). OutcomeRefines is_honest state it struck x
-        (w.nodes x) k new did) brings.1 was))
+        (w.nodes x) k old new did) brings.1 was))
     refined (Deliver p) node_input brings was =
         deliver p brings.it brings.frame brings.there brings.same
         (subst (λ (k : NodeInput). OutcomeRefines is_honest state it struck x
-        (w.nodes x) k new did) brings.is was)
+        (w.nodes x) k old new did) brings.is was)
     refined (Tick node) node_input brings was =
         subst (λ (y : ℕ). IsOutcome cs w i x (Tick y) it struck new did) brings.0
         (given cs w i x (Tick x) it struck input.Tick new did (λ choice. refl)
         (λ choice. refl) (λ choice o. refl) (tick_replies x)
         (subst (λ (k : NodeInput). OutcomeRefines is_honest state it struck x
-        (w.nodes x) k new did) brings.1 was))
+        (w.nodes x) k old new did) brings.1 was))
     refined (Tend node) node_input brings was =
         subst (λ (y : ℕ). IsOutcome cs w i x (Tend y) it struck new did) brings.0
         (tend (subst (λ (k : NodeInput). OutcomeRefines is_honest state it struck x (w.nodes x) k
-        new did) brings.1 was))
+        old new did) brings.1 was))
     refined (Start node) node_input brings was =
         subst (λ (y : ℕ). IsOutcome cs w i x (Start y) it struck new did) brings.0
         (start (subst (λ (k : NodeInput). OutcomeRefines is_honest state it struck x (w.nodes x) k
-        new did) brings.1 was))
+        old new did) brings.1 was))
     refined (Stop node junk) node_input brings was =
         subst (λ (y : ℕ). IsOutcome cs w i x (Stop y junk) it struck new did) brings.0
         (stop junk (subst (λ (k : NodeInput). OutcomeRefines is_honest state it struck x
-        (w.nodes x) k new did)
+        (w.nodes x) k old new did)
         brings.1 was))
 
 -- an event without a frame does nothing

@@ -1,10 +1,10 @@
 -- The disk behind an outcome of its node.
 use Rattle.std.proofs.Common.{◌≡◌, ℕ, ◌+◌, ◌^◌, ◌-◌, ◌<◌, ◌≤◌, Bool, Option, Some, None}
-use Rattle.std.proofs.Common.{true, false, ap, inl, ◌⊎◌}
+use Rattle.std.proofs.Common.{true, false, ap, inl, length, ◌⊎◌}
 use Rattle.std.proofs.Common.{cond, ◌==◌, refl, sym, subst, ◌∙◌, eq-eqb, eqb-true, arith}
 use Rattle.std.proofs.lemmas.Bool.{cond_both, cond-true, cond-false, false≢true}
 use Rattle.kv_types.specs.{BatchContent}
-use Rattle.disk.specs.{Slots, struck_call}
+use Rattle.disk.specs.{Slots, past_states, struck_call}
 use Rattle.disk.specs.declared.Fault.{Fault}
 use Rattle.disk.specs.declared.Fault.TheVariants as fault
 use Rattle.disk.specs.declared.Junk.{Junk}
@@ -27,7 +27,7 @@ use Rattle.lab.specs.Disks.{junk_of, IsCrashOf, IsEndOf, IsStopOf, DiskFollows, 
 use Rattle.lab.specs.Disks.{has_reached, junk_at_end}
 use Rattle.lab.specs.Events.{reported_cause, told_cause}
 use Rattle.lab.specs.SimNodes.{Choice, StateRefines, IsDown, disk_in, is_honest, state, failures}
-use Rattle.lab.specs.SimNodes.{IsUnarmed, calls}
+use Rattle.lab.specs.SimNodes.{IsUnarmed}
 use Rattle.lab.proofs.Outcomes.{StopsSo}
 
 -- a count of failures that may rise
@@ -37,8 +37,8 @@ MayRise disk = failures disk < 2 ^ 64 - 1
 -- ---- one disk
 
 crash_of : {g : Ghosts Slots} (junk : Junk) (old : Slots) (new : NodeState Slots g) →
-    HasCrashed state failures calls junk old new →
-    IsCrashOf state failures calls junk old (disk_in new)
+    HasCrashed state failures past_states junk old new →
+    IsCrashOf state failures past_states junk old (disk_in new)
 crash_of junk old (Up node) crashed = absurd crashed
 crash_of junk old (Down disk) crashed = crashed
 
@@ -48,51 +48,53 @@ FailsOnly old choice = choice.cause ≡ Disk → (choice.struck ≡ true) ⊎ Ha
 
 -- a node that stopped by itself left such an end of its disk
 end_of : (junk : Junk) (choice : Choice) (old new : Slots) →
-    DiskEnds state failures junk choice.cause old new → MayRise old → FailsOnly old choice →
-    IsEndOf state failures junk choice old new
+    DiskEnds state failures past_states junk choice.struck choice.cause old new → MayRise old →
+    FailsOnly old choice → IsEndOf state failures past_states junk choice old new
 end_of junk choice old new ends may only = record {
   failed = λ is. (ends.failed is).below may;
   others = ends.others;
   only = only;
   left = ends.left;
   crashes = ends.crashes;
+  last = ends.last;
 }
 
 -- no call failed but for one of a node that stopped by itself
-at_end : (junk : Junk) (cause : Cause) (old new : Slots) →
-    DiskEnds state failures junk cause old new → MayRise old → failures new ≤ failures old + 1
-at_end junk Disk old new left may = omega (arith, (left.failed refl).below may)
-at_end junk Damaged old new left may = omega (arith, left.others (λ e. cc))
-at_end junk Memory old new left may = omega (arith, left.others (λ e. cc))
-at_end junk NotCreated old new left may = omega (arith, left.others (λ e. cc))
+at_end : (junk : Junk) (struck : Bool) (cause : Cause) (old new : Slots) →
+    DiskEnds state failures past_states junk struck cause old new → MayRise old →
+    failures new ≤ failures old + 1
+at_end junk struck Disk old new left may = omega (arith, (left.failed refl).below may)
+at_end junk struck Damaged old new left may = omega (arith, left.others (λ e. cc))
+at_end junk struck Memory old new left may = omega (arith, left.others (λ e. cc))
+at_end junk struck NotCreated old new left may = omega (arith, left.others (λ e. cc))
 
 pub at_most_one : {g : Ghosts Slots} (junk : Option Junk) (it : Fault) (struck : Bool)
     (did : StepOutcome) (old : Slots) (new : NodeState Slots g) →
-    DiskFits state failures calls junk it struck did old new → MayRise old →
+    DiskFits state failures past_states junk it struck did old new → MayRise old →
     failures (disk_in new) ≤ failures old + 1
 at_most_one junk it struck (done.Answered output) old new left may = omega (arith, left.count)
 at_most_one junk it struck (done.Started epoch count committed) old new left may =
     omega (arith, left.count)
 at_most_one junk it struck (done.Tended did) old new left may = omega (arith, left.count)
 at_most_one None it struck (done.Stopped None) old new left may =
-    at_end (junk_at_end it struck) Disk old (disk_in new) left may
+    at_end (junk_at_end it struck) struck Disk old (disk_in new) left may
 at_most_one (Some junk) it struck (done.Stopped None) old new left may =
     omega (arith, (crash_of junk old new left).count)
 at_most_one junk it struck (done.Stopped (Some cause)) old new left may =
-    at_end (junk_at_end it struck) cause old (disk_in new) left may
+    at_end (junk_at_end it struck) struck cause old (disk_in new) left may
 
 module _ {g : Ghosts Slots} (old : Slots) (new : NodeState Slots g) (may : MayRise old) where
   -- a node stopped by itself for the cause that was chosen, whatever of it was told
   ended_by : (it : Fault) (choice : Choice) (traced : Option Cause) →
       told_cause it choice.struck choice.cause ≡ traced →
       (choice.struck ≡ true → choice.cause ≡ Disk) →
-      DiskFits state failures calls None it choice.struck (done.Stopped traced) old new →
+      DiskFits state failures past_states None it choice.struck (done.Stopped traced) old new →
       IsExplained (state old) choice.struck (done.Stopped traced) →
-      IsEndOf state failures (junk_at_end it choice.struck) choice old (disk_in new)
+      IsEndOf state failures past_states (junk_at_end it choice.struck) choice old (disk_in new)
   ended_by it choice traced is device left why =
       end_of (junk_at_end it choice.struck) choice old (disk_in new)
       (ends it choice.struck device
-      (subst (λ (c : Option Cause). DiskFits state failures calls None it choice.struck
+      (subst (λ (c : Option Cause). DiskFits state failures past_states None it choice.struck
       (done.Stopped c) old new) (sym is) left)) may
       (λ fails. only it choice.struck fails
       (subst (λ (c : Option Cause). IsExplained (state old) choice.struck (done.Stopped c)) (sym is)
@@ -112,24 +114,24 @@ module _ {g : Ghosts Slots} (old : Slots) (new : NodeState Slots g) (may : MayRi
       only (fault.Stop call junk) true fails why = inl refl
 
       ends : (it : Fault) (struck : Bool) → (struck ≡ true → cause ≡ Disk) →
-          DiskFits state failures calls None it struck
+          DiskFits state failures past_states None it struck
           (done.Stopped (told_cause it struck cause)) old new →
-          DiskEnds state failures (junk_at_end it struck) cause old (disk_in new)
+          DiskEnds state failures past_states (junk_at_end it struck) struck cause old (disk_in new)
       ends fault.None struck device left = left
       ends (fault.Fail call) struck device left = left
       ends (fault.Stop call junk) false device left = left
       ends (fault.Stop call junk) true device left =
-          subst (λ (c : Cause). DiskEnds state failures junk c old (disk_in new))
+          subst (λ (c : Cause). DiskEnds state failures past_states junk true c old (disk_in new))
           (sym (device refl)) left
 
   -- a stop is that of the event, or by itself for the cause that was chosen
   stop_of : (kind : EventKind) (it : Fault) (choice : Choice) (traced : Option Cause) →
       reported_cause kind it choice ≡ traced → (choice.struck ≡ true → choice.cause ≡ Disk) →
-      DiskFits state failures calls (junk_of kind) it choice.struck (done.Stopped traced) old new →
+      DiskFits state failures past_states (junk_of kind) it choice.struck (done.Stopped traced) old new →
       IsExplained (state old) choice.struck (done.Stopped traced) →
-      IsStopOf state failures calls (junk_of kind) it choice old (disk_in new)
+      IsStopOf state failures past_states (junk_of kind) it choice old (disk_in new)
   stop_of (Stop x junk) it choice traced is device left why = crash_of junk old new
-      (subst (λ (c : Option Cause). DiskFits state failures calls (Some junk) it choice.struck
+      (subst (λ (c : Option Cause). DiskFits state failures past_states (Some junk) it choice.struck
       (done.Stopped c) old new) (sym is) left)
   stop_of (Submit x batch) it choice traced is device left why =
       ended_by it choice traced is device left why
@@ -153,12 +155,12 @@ module _ {g : Ghosts Slots} (old : Slots) (new : NodeState Slots g) (may : MayRi
   module _ (event : Event) (choice : Choice) (o : Outcome BatchContent) (x : ℕ) (n : Machine) where
     -- the fault struck, then, as the count of calls says
     abbrev pub StruckSo : Type 0
-    StruckSo = choice.struck ≡ has_reached (struck_call event.fault) (calls old)
-        (calls (disk_in new))
+    StruckSo = choice.struck ≡ has_reached (struck_call event.fault) (length (past_states old))
+        (length (past_states (disk_in new)))
 
     -- where it struck, the node stopped, and for its device
     pub stops_so : (did : StepOutcome) → StopsSo event choice did o.stopped →
-        DiskFits state failures calls (junk_of event.kind) event.fault choice.struck did old new →
+        DiskFits state failures past_states (junk_of event.kind) event.fault choice.struck did old new →
         choice.struck ≡ true → (o.stopped ≡ true) × (choice.cause ≡ Disk)
     stops_so (done.Answered output) ends left e = absurd (false≢true (sym left.spared ∙ e))
     stops_so (done.Started epoch count committed) ends left e =
@@ -169,9 +171,9 @@ module _ {g : Ghosts Slots} (old : Slots) (new : NodeState Slots g) (may : MayRi
     -- what the node left is what the event's outcome leaves
     pub follows : (did : StepOutcome) → StateRefines is_honest state new x n → StruckSo →
         StopsSo event choice did o.stopped →
-        DiskFits state failures calls (junk_of event.kind) event.fault choice.struck did old new →
+        DiskFits state failures past_states (junk_of event.kind) event.fault choice.struck did old new →
         IsExplained (state old) choice.struck did →
-        DiskFollows state failures calls event choice o n old (disk_in new)
+        DiskFollows state failures past_states event choice o n old (disk_in new)
     follows (done.Answered output) is struck ends left why = record {
       fault = struck;
       stops = λ stops. absurd (false≢true (sym ends ∙ stops));
@@ -215,15 +217,15 @@ disk_elsewhere disks x own y other = cond-false (y == x) own (disks y) other
 -- what the node that an event was for left is what the event leaves of all disks
 pub all_follow : (event : Event) (choice : Choice) (o : Outcome BatchContent) (x : ℕ) (n : Machine)
     (disks : ℕ → Slots) (own : Slots) → o.acted_on ≡ Some (x, n) →
-    DiskFollows state failures calls event choice o n (disks x) own →
-    DisksFollow state failures calls event choice o disks (with_disk disks x own)
+    DiskFollows state failures past_states event choice o n (disks x) own →
+    DisksFollow state failures past_states event choice o disks (with_disk disks x own)
 all_follow event choice o x n disks own came follow = record {
   at = λ y m is.
       let both : Some (x, n) ≡ Some (y, m) = sym came ∙ is in
       let same : (x, n) ≡ (y, m) = cc in
-      subst (λ (q : ℕ × Machine). DiskFollows state failures calls event choice o q.1 (disks q.0)
+      subst (λ (q : ℕ × Machine). DiskFollows state failures past_states event choice o q.1 (disks q.0)
       (with_disk disks x own q.0)) same
-      (subst (λ (d : Slots). DiskFollows state failures calls event choice o n (disks x) d)
+      (subst (λ (d : Slots). DiskFollows state failures past_states event choice o n (disks x) d)
       (sym (disk_here disks x own)) follow);
   others = λ y none. cond_both (y == x) own (disks y) (λ (d : Slots). d ≡ disks y)
       (λ same. absurd (none n (subst (λ (z : ℕ). o.acted_on ≡ Some (z, n))
@@ -232,7 +234,7 @@ all_follow event choice o x n disks own came follow = record {
 
 -- an event that was for none leaves them
 pub none_follow : (event : Event) (choice : Choice) (o : Outcome BatchContent) (disks : ℕ → Slots) →
-    o.acted_on ≡ None → DisksFollow state failures calls event choice o disks disks
+    o.acted_on ≡ None → DisksFollow state failures past_states event choice o disks disks
 none_follow event choice o disks none = record {
   at = λ x n is.
       let both : None ≡ Some (x, n) = sym none ∙ is in

@@ -1,5 +1,5 @@
 -- A node that takes an input, by the state that it had.
-use Rattle.std.proofs.Common.{◌≡◌, ℕ, refl, subst}
+use Rattle.std.proofs.Common.{◌≡◌, ℕ, length, refl, subst}
 use Rattle.chain_core.specs.{Machine}
 use Rattle.disk.specs.declared.Fault.{Fault}
 use Rattle.disk.specs.declared.disk.Disk.{Ghosts}
@@ -13,7 +13,7 @@ use Rattle.lab.specs.declared.node_state.NodeState.{NodeState}
 use Rattle.lab.specs.declared.node_state.NodeState.TheVariants.{Up, Down}
 use Rattle.lab.specs.Outcomes.{DropsResting, HasDispatched, IsAnswerAtRest, OutcomeRefines, Rests}
 use Rattle.lab.specs.Outcomes.{RestsOn, StateFollows, TendsNot, has_struck_in}
-use Rattle.lab.specs.SimNodes.{StateIsReady, StateRefines, calls_of, disk_in}
+use Rattle.lab.specs.SimNodes.{StateIsReady, StateRefines, disk_in}
 use Rattle.lab.proofs.Faults.{idle}
 
 -- a node that is up is ready where it says so, and one that is down is
@@ -29,15 +29,15 @@ ready_down g disk other same = absurd cc
 pub answered_only : {D : Type 0} (g : Ghosts D) (it : Fault) (node_input : NodeInput)
     (old : NodeState D g) (output : Output) → StateIsReady old →
     ((x : ℕ) (n : Machine) → StateRefines g.is_honest g.state old x n →
-    OutcomeRefines g.is_honest g.state it (has_struck_in (calls_of g) it (disk_in old) old) x n
-    node_input old (done.Answered output)) →
-    StateFollows g.is_honest g.state g.failures (calls_of g) old node_input old →
+    OutcomeRefines g.is_honest g.state it (has_struck_in g.past it (disk_in old) old) x n
+    node_input old old (done.Answered output)) →
+    StateFollows g.is_honest g.state g.failures g.past old node_input old →
     HasDispatched g it node_input old old (done.Answered output)
 answered_only g it node_input old output ready refines follows = record {
   ready = ready;
   refines = refines;
   disk = λ honest. record {
-    spared = idle it (calls_of g (disk_in old));
+    spared = idle it (length (g.past (disk_in old)));
     count = refl;
     same = λ down. refl;
   };

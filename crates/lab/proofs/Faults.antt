@@ -1,5 +1,5 @@
 -- What a fault makes of the disk that was armed with it, once a step made its calls.
-use Rattle.std.proofs.Common.{◌≡◌, ◌↔◌, ℕ, zero, suc, ◌+◌, Bool, Option, Some, None, length}
+use Rattle.std.proofs.Common.{◌≡◌, ◌↔◌, ℕ, zero, suc, ◌+◌, Bool, List, Option, Some, None, length}
 use Rattle.std.proofs.Common.{true, false, refl, sym, ap, subst, ◌∙◌, arith, le-leb, leb-true}
 use Rattle.std.proofs.Common.{◌⊎◌, inl, inr}
 use Rattle.std.proofs.lemmas.Bool.{false≢true}
@@ -7,7 +7,8 @@ use Rattle.disk.specs.declared.Fault.{Fault}
 use Rattle.disk.specs.declared.Fault.TheVariants as fault
 use Rattle.disk.specs.declared.Junk.{Junk}
 use Rattle.disk.specs.declared.disk.Disk.{Ghosts}
-use Rattle.disk.specs.{HasStruck, HasStruckBy, IsArmed, IsSame, KeepsDisk, RisesByOne, State}
+use Rattle.disk.specs.{HasStruck, HasStruckBy, IsArmed, IsLastLeft, IsSame, KeepsDisk, RisesByOne}
+use Rattle.disk.specs.{State}
 use Rattle.disk.specs.{armed_after, struck_call}
 use Rattle.node.specs.declared.Stop.{Stop as Cause}
 use Rattle.node.specs.declared.Stop.TheVariants.{Disk, Damaged, Memory, NotCreated}
@@ -20,7 +21,7 @@ use Rattle.lab.specs.Disks.{has_reached, junk_at_end}
 use Rattle.lab.specs.Events.{told_cause}
 use Rattle.lab.specs.Outcomes.{DiskEnds, DiskFits, HasCrashed, IsExplained, StopsByItself}
 use Rattle.lab.specs.Outcomes.{has_struck_in}
-use Rattle.lab.specs.SimNodes.{calls_of, disk_in}
+use Rattle.lab.specs.SimNodes.{disk_in}
 
 -- ---- the call that a fault strikes
 
@@ -73,7 +74,7 @@ pub record IsSpent {D : Type 0} (g : Ghosts D) (struck : Bool) (has_failed cause
 module _ {D : Type 0} (g : Ghosts D) (it : Fault) (old : D) where
   -- whether it struck, once the disk is this one
   abbrev pub struck_at : D → Bool
-  struck_at now = has_reached (struck_call it) (calls_of g old) (calls_of g now)
+  struck_at now = has_reached (struck_call it) (length (g.past old)) (length (g.past now))
 
   pub spent : (armed left : D) (has_failed cause : Type 0) (IsKept : State → State → Type 0) →
       IsArmed g it old armed → KeepsDisk g armed left has_failed cause IsKept →
@@ -91,55 +92,60 @@ module _ {D : Type 0} (g : Ghosts D) (it : Fault) (old : D) where
         (λ has. false≢true (sym missed ∙ strikes.1 has)) fails);
   }
     where
-      at : g.fault_at armed ≡ armed_after (calls_of g old) (struck_call it)
+      at : g.fault_at armed ≡ armed_after (length (g.past old)) (struck_call it)
       at = arms.strikes honest
 
       strikes : (struck_at left ≡ true) ↔ HasStruck g.fault_at g.past left
-      strikes = subst (λ (o : Option ℕ). (struck_at left ≡ true) ↔ HasStruckBy o (calls_of g left))
+      strikes = subst (λ (o : Option ℕ). (struck_at left ≡ true) ↔ HasStruckBy o (length (g.past left)))
           (sym (keeps.fault ∙ at))
-          (reached_is (struck_call it) (calls_of g old) (calls_of g left))
+          (reached_is (struck_call it) (length (g.past old)) (length (g.past left)))
 
       fresh : HasStruck g.fault_at g.past armed → ⊥
-      fresh has = not_yet it (calls_of g old)
-          (subst (λ (n : ℕ). HasStruckBy (armed_after (calls_of g old) (struck_call it)) n)
+      fresh has = not_yet it (length (g.past old))
+          (subst (λ (n : ℕ). HasStruckBy (armed_after (length (g.past old)) (struck_call it)) n)
           (ap length arms.past)
-          (subst (λ (o : Option ℕ). HasStruckBy o (calls_of g armed)) at has))
+          (subst (λ (o : Option ℕ). HasStruckBy o (length (g.past armed))) at has))
 
   -- ---- a step that stopped the node
 
   -- what a crash leaves has had as many calls
   after_crash : (junk : Junk) (left : D) (new : NodeState D g) →
-      HasCrashed g.state g.failures (calls_of g) junk left new →
-      struck_at left ≡ has_struck_in (calls_of g) it old new
+      HasCrashed g.state g.failures g.past junk left new →
+      struck_at left ≡ has_struck_in g.past it old new
   after_crash junk left (Up node) crashed = absurd crashed
   after_crash junk left (Down disk) crashed =
-      ap (λ (n : ℕ). has_reached (struck_call it) (calls_of g old) n) (sym crashed.none_made)
+      ap (λ (l : List State). has_reached (struck_call it) (length (g.past old)) (length l))
+      (sym crashed.none_made)
 
   -- a node stopped by itself and left this disk, which then crashed
-  ends_by : (junk : Junk) (cause : Cause) (left : D) (new : NodeState D g) →
-      HasCrashed g.state g.failures (calls_of g) junk left new →
+  ends_by : (junk : Junk) (struck : Bool) (cause : Cause) (left : D) (new : NodeState D g) →
+      HasCrashed g.state g.failures g.past junk left new →
+      (struck ≡ true → IsLastLeft (g.past left) (g.state left)) →
       (cause ≡ Disk → RisesByOne (g.failures old) (g.failures left)) →
       ((cause ≡ Disk → ⊥) → g.failures left ≡ g.failures old) →
-      DiskEnds g.state g.failures junk cause old (disk_in new)
-  ends_by junk cause left (Up node) crashed failed others = absurd crashed
-  ends_by junk cause left (Down disk) crashed failed others = record {
+      DiskEnds g.state g.failures g.past junk struck cause old (disk_in new)
+  ends_by junk struck cause left (Up node) crashed last failed others = absurd crashed
+  ends_by junk struck cause left (Down disk) crashed last failed others = record {
     failed = λ is. subst (λ (n : ℕ). RisesByOne (g.failures old) n) (sym crashed.count) (failed is);
     others = λ other. crashed.count ∙ others other;
     left = g.state left;
     crashes = crashed.crashes;
+    last = λ strikes. subst (λ (l : List State). IsLastLeft l (g.state left))
+        (sym crashed.none_made) (last strikes);
   }
 
   -- .. and tells what the fault lets it tell
   tells : (fault_of : Fault) (struck : Bool) (stop : Cause) (new : NodeState D g) →
       (struck ≡ true → stop ≡ Disk) →
-      DiskEnds g.state g.failures (junk_at_end fault_of struck) stop old (disk_in new) →
-      DiskFits g.state g.failures (calls_of g) None fault_of struck
+      DiskEnds g.state g.failures g.past (junk_at_end fault_of struck) struck stop old (disk_in new) →
+      DiskFits g.state g.failures g.past None fault_of struck
       (done.Stopped (told_cause fault_of struck stop)) old new
   tells fault.None struck stop new device ends = ends
   tells (fault.Fail call) struck stop new device ends = ends
   tells (fault.Stop call junk) false stop new device ends = ends
   tells (fault.Stop call junk) true stop new device ends =
-      subst (λ (c : Cause). DiskEnds g.state g.failures junk c old (disk_in new)) (device refl) ends
+      subst (λ (c : Cause). DiskEnds g.state g.failures g.past junk true c old (disk_in new))
+      (device refl) ends
 
   -- a cause that is reported is that of the stop
   same_cause : (fault_of : Fault) (struck : Bool) (stop cause : Cause) →
@@ -157,15 +163,16 @@ module _ {D : Type 0} (g : Ghosts D) (it : Fault) (old : D) where
       did ≡ done.Stopped (told_cause it struck stop))
       (crashes : (struck : Bool) → ((struck ≡ true) ↔ HasStruck g.fault_at g.past left) →
       g.is_honest left →
-      HasCrashed g.state g.failures (calls_of g) (junk_at_end it struck) left new)
+      HasCrashed g.state g.failures g.past (junk_at_end it struck) left new
+      × (struck ≡ true → IsLastLeft (g.past left) (g.state left)))
     where
       -- whether the fault struck, once all is done
       abbrev struck : Bool
-      struck = has_struck_in (calls_of g) it old new
+      struck = has_struck_in g.past it old new
 
-      crashed : HasCrashed g.state g.failures (calls_of g) (junk_at_end it (struck_at left)) left
+      crashed : HasCrashed g.state g.failures g.past (junk_at_end it (struck_at left)) left
           new
-      crashed = crashes (struck_at left) was.strikes was.honest
+      crashed = (crashes (struck_at left) was.strikes was.honest).0
 
       same : struck_at left ≡ struck
       same = after_crash (junk_at_end it (struck_at left)) left new crashed
@@ -192,15 +199,16 @@ module _ {D : Type 0} (g : Ghosts D) (it : Fault) (old : D) where
         told = says;
       }
 
-      pub disk_fits : DiskFits g.state g.failures (calls_of g) None it struck did old new
-      disk_fits = subst (λ (d : StepOutcome). DiskFits g.state g.failures (calls_of g) None it
+      pub disk_fits : DiskFits g.state g.failures g.past None it struck did old new
+      disk_fits = subst (λ (d : StepOutcome). DiskFits g.state g.failures g.past None it
           struck d
           old new) (sym says)
           (tells it struck stop new device
-          (subst (λ (b : Bool). DiskEnds g.state g.failures (junk_at_end it b) stop old
+          (subst (λ (b : Bool). DiskEnds g.state g.failures g.past (junk_at_end it b) b stop old
           (disk_in new))
           same
-          (ends_by (junk_at_end it (struck_at left)) stop left new crashed
+          (ends_by (junk_at_end it (struck_at left)) (struck_at left) stop left new crashed
+          (crashes (struck_at left) was.strikes was.honest).1
           (λ is. was.failed (from is)) (λ other. was.count (λ fails. other (to fails))))))
 
       -- it stopped for its disk as the fault struck, or as a file was long

@@ -8,14 +8,14 @@ use Rattle.std.proofs.lemmas.Slice.Zip.{AllZip-long}
 use Rattle.kv_types.specs.{BatchContent}
 use Rattle.chain_model.specs.{Configurations, at_epoch, SystemState, run, reached, first_state}
 use Rattle.chain_model.specs.{state_after, outcome}
-use Rattle.disk.specs.{Slots}
+use Rattle.disk.specs.{Slots, past_states}
 use Rattle.lab.specs.declared.event.Event.{Event}
 use Rattle.lab.specs.declared.delivery.Posted.{Posted}
 use Rattle.lab.specs.declared.report.Line.{Line}
 use Rattle.lab.specs.declared.sim_node.SimNode.{SimNode}
 use Rattle.lab.specs.Disks.{DisksFollow, AllFollow}
 use Rattle.lab.specs.Events.{modelled, lines_of_event, ChoiceFits}
-use Rattle.lab.specs.SimNodes.{Choice, IsUnarmed, state, failures, calls}
+use Rattle.lab.specs.SimNodes.{Choice, IsUnarmed, state, failures}
 use Rattle.lab.specs.Traces.{modelled_from, lines_from, AllFit}
 use Rattle.lab.specs.Worlds.{PostedRefines, SimNodeRefines, RunRefines, frames_in_steps}
 use Rattle.lab.specs.Worlds.{frames_of_step}
@@ -69,15 +69,15 @@ module _ (cs : Configurations) (e : Event) (ch : Choice) where
 
   pub follow-push : (i k : ℕ) (es : List Event) (chs : List Choice) (w : SystemState BatchContent)
       (old disks new : ℕ → Slots) → length chs ≡ length es → k ≡ i + length es →
-      AllFollow state failures calls cs i es chs w old disks →
+      AllFollow state failures past_states cs i es chs w old disks →
       let u = run cs (modelled_from i es chs) w in
-      DisksFollow state failures calls e ch (outcome u cs (modelled k e.kind ch)) disks new →
-      AllFollow state failures calls cs i (es ++ e ∷ []) (chs ++ ch ∷ []) w old new
+      DisksFollow state failures past_states e ch (outcome u cs (modelled k e.kind ch)) disks new →
+      AllFollow state failures past_states cs i (es ++ e ∷ []) (chs ++ ch ∷ []) w old new
   follow-push i k [] [] w old disks new same at all one = (
     new,
-    subst (λ (d : ℕ → Slots). DisksFollow state failures calls e ch
+    subst (λ (d : ℕ → Slots). DisksFollow state failures past_states e ch
         (outcome w cs (modelled i e.kind ch)) d new) all
-        (subst (λ (j : ℕ). DisksFollow state failures calls e ch
+        (subst (λ (j : ℕ). DisksFollow state failures past_states e ch
         (outcome w cs (modelled j e.kind ch)) disks new) (omega arith) one),
     refl,
   )
@@ -118,7 +118,7 @@ pub record Next (cs : Configurations) (w : SystemState BatchContent) (old : ℕ 
   pub frames : AllZip PostedRefines posted (state_after cs w (modelled i event.kind choice)).frames
   pub nodes : map (λ sim. sim.id) sims ≡ at_epoch cs 0
   pub disks : ℕ → Slots
-  pub follow : DisksFollow state failures calls event choice
+  pub follow : DisksFollow state failures past_states event choice
       (outcome w cs (modelled i event.kind choice)) old disks
   pub few : (x : ℕ) → failures (disks x) ≤ i
   pub unarmed : (x : ℕ) → IsUnarmed (disks x)

@@ -126,6 +126,13 @@ StopsSo event choice (done.Stopped traced) stopped =
     × (reported_cause event.kind event.fault choice ≡ traced)
     × (choice.struck ≡ true → choice.cause ≡ Disk)
 
+-- what a tend told is what was chosen
+abbrev pub TellsChosen : Choice → StepOutcome → Type 0
+TellsChosen choice (done.Tended did) = choice.tended ≡ did
+TellsChosen choice (done.Answered output) = Unit {0}
+TellsChosen choice (done.Started epoch count committed) = Unit {0}
+TellsChosen choice (done.Stopped traced) = Unit {0}
+
 -- the event of this kind with this fault
 abbrev pub with_fault : EventKind → Fault → Event
 with_fault kind it = record { kind = kind; fault = it }
@@ -147,6 +154,7 @@ pub record IsOutcome {g : Ghosts Slots} (cs : Configurations) (w : SystemState B
       ≡ length (outcome w cs (modelled i kind choice)).frames
   pub fits : CauseFits (with_fault kind it) choice (outcome w cs (modelled i kind choice))
   pub ends : StopsSo (with_fault kind it) choice did (outcome w cs (modelled i kind choice)).stopped
+  pub told : TellsChosen choice did
 
 -- what a node's doing is at an outcome
 pub record IsTraced (x : ℕ) (event : Event) (choice : Choice) (did : StepOutcome)
@@ -157,6 +165,7 @@ pub record IsTraced (x : ℕ) (event : Event) (choice : Choice) (did : StepOutco
   pub counted : (n : ℕ) → frames_of_step (outcome_lines x n did) ≡ length o.frames
   pub fits : CauseFits event choice o
   pub ends : StopsSo event choice did o.stopped
+  pub told : TellsChosen choice did
 
 abbrev pub chosen : StepResult → Bool → Cause → Choice
 chosen went struck cause =
@@ -184,6 +193,7 @@ module _ {g : Ghosts Slots} (cs : Configurations) (w : SystemState BatchContent)
         counted = all.counted;
         fits = all.fits;
         ends = all.ends;
+        told = all.told;
       }
 
 -- ---- answers and stops
@@ -231,6 +241,7 @@ module _ (x : ℕ) (event : Event) (inp : Input) (choice : Choice) (a : Answer B
         ∙ counts_answer n a (replies_of inp a.replies);
     fits = λ stops. absurd (false≢true stops);
     ends = refl;
+    told = tt;
   }
 
 -- a stop has a line with its cause
@@ -244,6 +255,7 @@ stop_traced x event choice traced n is device of_machine = record {
   counted = λ m. refl;
   fits = λ stops. subst (λ (c : Option Cause). IfSome c IsEnvironmental) (sym is) of_machine;
   ends = (refl, is, device);
+  told = tt;
 }
 
 -- the cause that is told is that of the stop, or none

@@ -12,6 +12,7 @@ use Rattle.chain_core.specs.{Machine}
 use Rattle.disk.specs.declared.Disk.{Ghosts}
 use Rattle.node.specs.declared.Node.{Node}
 use Rattle.node.specs.{NodeRefines, DiskAlwaysRefines, disk_of}
+use Rattle.disk.specs.{past_states}
 use Rattle.lab.specs.declared.event.Event.{Event}
 use Rattle.lab.specs.declared.node_state.NodeState.{NodeState}
 use Rattle.lab.specs.declared.node_state.NodeState.TheVariants.{Up, Down}
@@ -23,21 +24,22 @@ use Rattle.lab.specs.declared.sim_node.SimNode.{SimNode}
 use Rattle.lab.specs.Disks.{HaveDisks, IsDiskOf}
 use Rattle.lab.specs.History.{Placed, IsHistory, StepSpeaksOf, HasAll}
 use Rattle.lab.specs.SimNodes.{Choice, IsUnarmed, StateRefines, disk_in, is_honest, state}
-use Rattle.lab.specs.SimNodes.{failures, calls}
+use Rattle.lab.specs.SimNodes.{failures}
 use Rattle.lab.specs.Runs.{IsRun, RunningRefines}
 use Rattle.lab.specs.Traces.{modelled_from, IsTrace}
 use Rattle.lab.specs.Worlds.{SimNodeRefines, IsLeft, AreLeft, RunRefines}
 use Rattle.lab.proofs.Histories.{numbered_same, submitted_same, all_speak}
 
 -- the model's one list is that of the lines and of the disks
-pub one_of : {D N : Type 0} (state : D → State) (failures calls : D → ℕ) (id : N → ℕ) (disk : N → D)
+pub one_of : {D N : Type 0} (state : D → State) (failures : D → ℕ) (past : D → List State)
+    (id : N → ℕ) (disk : N → D)
     (cs : Configurations) (events : List Event) (choices : List Choice) (steps : List (List Line))
     (nodes : List N) → IsTrace cs events choices steps →
-    HaveDisks state failures calls id disk cs events choices nodes →
+    HaveDisks state failures past id disk cs events choices nodes →
     OneList cs (modelled_from 1 events choices) →
     RunIsOutcomes cs (modelled_from 1 events choices) →
     IsHistory state id disk cs events steps nodes
-one_of state failures calls id disk cs events choices steps nodes trace disks one made =
+one_of state failures past id disk cs events choices steps nodes trace disks one made =
     let es = modelled_from 1 events choices in
     let same = numbered_same 1 events choices in
     let agrees = subst (λ (l : List (ModelEvent BatchContent)). All (ResponseAgrees one.B)
@@ -122,7 +124,7 @@ module _ (sims : List SimNode) (posted : List Posted) (cs : Configurations) (eve
   pub disks_so_far : ((sim : SimNode) (x : ℕ) (n : Machine) →
       StateRefines is_honest state sim.state x n →
       DiskAlwaysRefines (state (disk_in sim.state)) x n) →
-      HaveDisks state failures calls (λ (sim : SimNode). sim.id)
+      HaveDisks state failures past_states (λ (sim : SimNode). sim.id)
       (λ (sim : SimNode). disk_in sim.state) cs
       events choices sims
   disks_so_far law =

@@ -14,15 +14,17 @@ use Rattle.kv_types.specs.declared.bounds.TheConstants.{MAX_NUMBER}
 use Rattle.kv_types.specs.{BatchContent}
 use Rattle.disk.specs.declared.Fault.{Fault}
 use Rattle.disk.specs.declared.Junk.{Junk}
-use Rattle.disk.specs.{IsReliable, Slots, struck_call}
+use Rattle.disk.specs.{IsReliable, Slots, past_states, struck_call}
 use Rattle.chain_model.specs.{Configurations, Lawful, AllDifferent, has, at_epoch}
 use Rattle.chain_model.specs.{Message as ModelFrame, InOrder, SystemEvent as ModelEvent}
 use Rattle.chain_model.specs.{SystemState, Outcome, Answered, reached, first_state, outcome}
-use Rattle.chain_model.specs.{state_after, after, nothing}
+use Rattle.chain_model.specs.{state_after, after, nothing, stopped}
 use Rattle.disk.specs.declared.Disk.{Ghosts}
 use Rattle.node.specs.declared.Node.{Node}
 use Rattle.node.specs.declared.Stop.TheVariants.{Disk}
-use Rattle.node.specs.{disk_of}
+use Rattle.engine.specs.declared.Tended.{Tended}
+use Rattle.engine.specs.{TellsTend}
+use Rattle.node.specs.{disk_of, engine_of}
 use Rattle.chain_core.specs.{Machine}
 use Rattle.lab.specs.declared.node_state.NodeState.{NodeState}
 use Rattle.lab.specs.declared.node_state.NodeState.TheVariants.{Up, Down}
@@ -40,17 +42,20 @@ use Rattle.lab.specs.declared.report.Line.TheVariants.{Nothing}
 use Rattle.lab.specs.declared.sim_node.SimNode.{SimNode}
 use Rattle.lab.specs.declared.world.World.{World as LabWorld}
 use Rattle.lab.specs.Events.{modelled, lines_of_event, NamesNode}
-use Rattle.lab.specs.SimNodes.{StateRefines, Choice, disk_in, is_honest, state, failures, calls}
+use Rattle.lab.specs.SimNodes.{StateRefines, Choice, disk_in, is_honest, state, failures}
 use Rattle.lab.specs.SimNodes.{IsUnarmed}
 use Rattle.lab.specs.Deliveries.{IsDeliveryOf, HasNoDelivery}
 use Rattle.lab.specs.Outcomes.{DiskFits, HasCrashed, IsExplained, OutcomeRefines, StateFollows}
+use Rattle.lab.specs.Outcomes.{HasTended, Halts, Tends, TendsNot, TellsTended}
 use Rattle.lab.specs.Outcomes.{has_struck_in, input_junk, sent_by}
-use Rattle.lab.specs.Disks.{has_reached, junk_of, IsCrashOf}
+use Rattle.lab.proofs.Outcomes.{TellsChosen}
+use Rattle.lab.specs.Disks.{DiskFollows, has_reached, junk_of, IsCrashOf}
 use Rattle.lab.specs.Traces.{modelled_from}
 use Rattle.lab.specs.Worlds.{PostedRefines, SimNodeRefines, HasMoved, HasNoNode, HasStepped}
 use Rattle.lab.specs.Worlds.{RunRefines}
 use Rattle.lab.specs.Worlds.{HasRun}
-use Rattle.lab.specs.Worlds.{HasApplied, HasDelivered, HasPassed, Ignores, IsIndexOf, StopsNode}
+use Rattle.lab.specs.Worlds.{FollowRun, HasApplied, HasDelivered, HasPassed, HasStayed, Ignores}
+use Rattle.lab.specs.Worlds.{IsIndexOf, NodesFollow}
 use Rattle.lab.specs.Worlds.{Takes}
 use Rattle.lab.specs.Worlds.{frames_of_step}
 use Rattle.lab.proofs.Posting.{zip_both}
@@ -91,33 +96,55 @@ place_of world cs events choices steps run n i long fits is = record {
 
 -- a running node that was stopped is down, and its disk is a crash of the one that it had
 crash_of : {g : Ghosts Slots} (junk : Junk) (own : Node Slots g) (old new : NodeState Slots g) → old ≡ Up own →
-    StateFollows is_honest state failures calls old (to_node.Stop junk) new →
-    IsCrashOf state failures calls junk (disk_of own) (disk_in new)
+    StateFollows is_honest state failures past_states old (to_node.Stop junk) new →
+    IsCrashOf state failures past_states junk (disk_of own) (disk_in new)
 crash_of {g = g} junk own old new runs follows =
-    crashed new (subst (λ (m : NodeState Slots g). StateFollows is_honest state failures calls m
+    crashed new (subst (λ (m : NodeState Slots g). StateFollows is_honest state failures past_states m
     (to_node.Stop junk) new) runs follows tt)
   where
-    crashed : (left : NodeState Slots g) → HasCrashed state failures calls junk (disk_of own) left →
-        IsCrashOf state failures calls junk (disk_of own) (disk_in left)
+    crashed : (left : NodeState Slots g) → HasCrashed state failures past_states junk (disk_of own) left →
+        IsCrashOf state failures past_states junk (disk_of own) (disk_in left)
     crashed (Up other) has = absurd has
     crashed (Down disk) has = has
 
+-- a running node that tended, and runs on, told what was chosen
+tended_so : {g : Ghosts Slots} (it : Fault) (struck : Bool) (x : ℕ) (n : Machine)
+    (old new : NodeState Slots g) (did : StepOutcome) (choice : Choice) →
+    HasTended is_honest state it struck x n old new did → TellsChosen choice did →
+    (was now : Node Slots g) → old ≡ Up was → new ≡ Up now →
+    TellsTend (engine_of was) (engine_of now) choice.tended
+tended_so {g = g} it struck x n old new did choice (Tends up is told) chose was now ran runs =
+    let answer = told.0 in
+    let said : choice.tended ≡ answer = subst (λ (d : StepOutcome). TellsChosen choice d) told.1
+    chose in
+    subst (λ (d : Tended). TellsTended (Up was) (Up now) d) (sym said)
+    (subst (λ (m : NodeState Slots g). TellsTended (Up was) m answer) runs
+    (subst (λ (m : NodeState Slots g). TellsTended m new answer) ran told.2))
+tended_so {g = g} it struck x n old new did choice (Halts up stop is) chose was now ran runs =
+    absurd (false≢true (subst (λ (m : NodeState Slots g). StateRefines is_honest state m x
+    (stopped n)) runs is).core.running)
+tended_so {g = g} it struck x n old new did choice (TendsNot off is answered) chose was now ran
+    runs =
+    absurd (false≢true (sym off ∙ (subst (λ (m : NodeState Slots g). StateRefines is_honest state m
+    x n) runs is).core.running))
+
 -- whether the fault struck between these states of a node
 abbrev struck_by : Fault → SimNode → SimNode → Bool
-struck_by it was now = has_struck_in calls it (disk_in was.state) now.state
+struck_by it was now = has_struck_in past_states it (disk_in was.state) now.state
 
 -- the node at this index was replaced twice, by its new state in the end
 pub moved : (old : List SimNode) (i x : ℕ) (between was was' now : SimNode)
     (node_input : NodeInput) (it : Fault) (did : StepOutcome) → IsIndexOf old i x →
     was ≡ get_or old i was' → now.id ≡ x →
     ((y : ℕ) (n : Machine) → StateRefines is_honest state was.state y n →
-    OutcomeRefines is_honest state it (struck_by it was now) y n node_input now.state did) →
-    DiskFits state failures calls (input_junk node_input) it (struck_by it was now) did
+    OutcomeRefines is_honest state it (struck_by it was now) y n node_input was.state now.state
+    did) →
+    DiskFits state failures past_states (input_junk node_input) it (struck_by it was now) did
     (disk_in was.state) now.state →
     ((y : ℕ) (n : Machine) → StateRefines is_honest state was.state y n →
     IsReliable (disk_in was.state) →
     IsExplained (state (disk_in was.state)) (struck_by it was now) did) →
-    StateFollows is_honest state failures calls was.state node_input now.state →
+    StateFollows is_honest state failures past_states was.state node_input now.state →
     (IsUnarmed (disk_in was.state) → IsUnarmed (disk_in now.state)) →
     HasMoved old x node_input it did (slice_set (slice_set old i between) i now)
 moved old i x between was was' now node_input it did at out id refines disk only follows forgets =
@@ -130,14 +157,15 @@ moved old i x between was was' now node_input it did at out id refines disk only
       id = id;
       refines = subst (λ (s : SimNode). (y : ℕ) (n : Machine) →
           StateRefines is_honest state s.state y n →
-          OutcomeRefines is_honest state it (struck_by it s now) y n node_input now.state did) is
+          OutcomeRefines is_honest state it (struck_by it s now) y n node_input s.state now.state did)
+          is
           refines;
-      disk = subst (λ (s : SimNode). DiskFits state failures calls (input_junk node_input) it
+      disk = subst (λ (s : SimNode). DiskFits state failures past_states (input_junk node_input) it
           (struck_by it s now) did (disk_in s.state) now.state) is disk;
       only = subst (λ (s : SimNode). (y : ℕ) (n : Machine) →
           StateRefines is_honest state s.state y n → IsReliable (disk_in s.state) →
           IsExplained (state (disk_in s.state)) (struck_by it s now) did) is only;
-      follows = subst (λ (s : SimNode). StateFollows is_honest state failures calls s.state
+      follows = subst (λ (s : SimNode). StateFollows is_honest state failures past_states s.state
           node_input now.state) is follows;
       forgets = subst (λ (s : SimNode). IsUnarmed (disk_in s.state) →
           IsUnarmed (disk_in now.state)) is forgets;
@@ -199,10 +227,22 @@ module _ (in_order : AlwaysInOrder) (cs : Configurations) (events : List Event)
       has_it (Stop node junk) names brings =
           subst (λ (y : ℕ). has (at_epoch cs 0) y ≡ true) (sym brings.0) names
 
-  -- nodes, frames and lines refine one event more, in which something was chosen
-  abbrev pub Grows : List SimNode → List Posted → List Line → Type 0
-  Grows now more lines = (choice : Choice)
-      × RunRefines now more cs (events ++ event ∷ []) (choices ++ choice ∷ []) (steps ++ lines ∷ [])
+  -- nodes, frames and lines refine one event more, in which something was chosen, and the nodes
+  -- follow
+  pub record Grows (now : List SimNode) (more : List Posted) (lines : List Line) : Type 0 where
+    pub choice : Choice
+    pub ran : RunRefines now more cs (events ++ event ∷ []) (choices ++ choice ∷ [])
+        (steps ++ lines ∷ [])
+    pub nodes : FollowRun cs events choices event choice sims now
+
+  -- what follows by the outcome in the next place
+  followed : (choice : Choice) (now : List SimNode) →
+      (let o = outcome w cs (modelled i event.kind choice) in
+      NodesFollow o.acted_on event choice o sims now) →
+      FollowRun cs events choices event choice sims now
+  followed choice now is =
+      subst (λ (k : ℕ). let o = outcome w cs (modelled k event.kind choice) in
+      NodesFollow o.acted_on event choice o sims now) (omega (arith, next.at)) is
 
   -- a step of the node refines one event more
   refined_next : (x : ℕ) (node_input : NodeInput) (lines : List Line) (now : List SimNode)
@@ -221,18 +261,20 @@ module _ (in_order : AlwaysInOrder) (cs : Configurations) (events : List Event)
       (made.each t.took.index sim t.took.at.within).disk ∙ ap made.disks was in
       let own = disk_in sim.state in
       let struck = struck_by event.fault old sim in
-      let out = refined cs w i x event.fault struck sim.state t.did event.kind node_input brings
+      let out = refined cs w i x event.fault struck old.state sim.state t.did event.kind node_input brings
       (t.took.refines x (w.nodes x) before) in
       let so : out.choice.struck
-      ≡ has_reached (struck_call event.fault) (calls (made.disks x)) (calls own) = out.chose
-      ∙ ap (λ (d : Slots). has_reached (struck_call event.fault) (calls d) (calls own)) slots in
-      let left : DiskFits state failures calls (junk_of event.kind) event.fault out.choice.struck
+      ≡ has_reached (struck_call event.fault) (length (past_states (made.disks x)))
+      (length (past_states own)) = out.chose
+      ∙ ap (λ (d : Slots). has_reached (struck_call event.fault) (length (past_states d))
+      (length (past_states own))) slots in
+      let left : DiskFits state failures past_states (junk_of event.kind) event.fault out.choice.struck
       t.did (made.disks x) sim.state =
-      subst (λ (b : Bool). DiskFits state failures calls (junk_of event.kind) event.fault b t.did
+      subst (λ (b : Bool). DiskFits state failures past_states (junk_of event.kind) event.fault b t.did
       (made.disks x) sim.state) (sym out.chose)
-      (subst (λ (d : Slots). DiskFits state failures calls (junk_of event.kind) event.fault struck
+      (subst (λ (d : Slots). DiskFits state failures past_states (junk_of event.kind) event.fault struck
       t.did d sim.state) slots
-      (subst (λ (j : Option Junk). DiskFits state failures calls j event.fault struck t.did
+      (subst (λ (j : Option Junk). DiskFits state failures past_states j event.fault struck t.did
       (disk_in old.state) sim.state)
       (junk_same w.frames i x event.kind node_input brings) t.took.disk)) in
       let few = made.few x in
@@ -243,6 +285,8 @@ module _ (in_order : AlwaysInOrder) (cs : Configurations) (events : List Event)
       (subst (λ (d : Slots). IsExplained (state d) struck t.did) slots
       (t.took.only x (w.nodes x) before reliable)) in
       let o = outcome w cs (modelled i event.kind out.choice) in
+      let follow = follows (made.disks x) sim.state may event out.choice o x out.node t.did out.is so
+      out.ends left why in
       let id : sim.id ≡ x = t.took.id in
       let long = AllZip-long PostedRefines posted w.frames made.frames in
       let came = grown cs events choices steps sims posted made i event out.choice now more lines
@@ -264,9 +308,7 @@ module _ (in_order : AlwaysInOrder) (cs : Configurations) (events : List Event)
             ∙ map-set_same (λ (s : SimNode). s.id) sims t.took.index sim sim
             (t.took.id ∙ sym was) ∙ made.nodes;
         disks = with_disk made.disks x own;
-        follow = all_follow event out.choice o x out.node made.disks own out.came
-            (follows (made.disks x) sim.state may event out.choice o x out.node t.did out.is so
-            out.ends left why);
+        follow = all_follow event out.choice o x out.node made.disks own out.came follow;
         few = few_more made.disks x own (length events) i next.at made.few
             (at_most_one (junk_of event.kind) event.fault out.choice.struck t.did (made.disks x)
             sim.state left may);
@@ -282,7 +324,34 @@ module _ (in_order : AlwaysInOrder) (cs : Configurations) (events : List Event)
             (subst (λ (c : List ℕ). AllDifferent c) (sym made.nodes) made.lawful.different)
             was id out.is refl all));
       })
-      in (out.choice, came)
+      in record {
+        choice = out.choice;
+        ran = came;
+        nodes = followed out.choice now
+            (subst (λ (a : Option (ℕ × Machine)). NodesFollow a event out.choice o sims now)
+            (sym out.came)
+            (record {
+              index = t.took.index;
+              at = t.took.at;
+              sim = sim;
+              others = t.took.others;
+              disk = subst (λ (d : Slots). DiskFollows state failures past_states event out.choice o
+                  out.node d own) (sym slots) follow;
+              stops = λ junk is own runs.
+                  let stop = subst (λ (k : EventKind). IsDeliveryOf w.frames i k x node_input) is
+                  brings in
+                  crash_of junk own old.state sim.state runs
+                  (subst (λ (k : NodeInput). StateFollows is_honest state failures past_states
+                  old.state k sim.state) stop.1 t.took.follows);
+              tends = λ is.
+                  let turn = subst (λ (k : EventKind). IsDeliveryOf w.frames i k x node_input) is
+                  brings in
+                  tended_so event.fault struck x (w.nodes x) old.state sim.state t.did out.choice
+                  (subst (λ (k : NodeInput). OutcomeRefines is_honest state event.fault struck x
+                  (w.nodes x) k old.state sim.state t.did) turn.1
+                  (t.took.refines x (w.nodes x) before)) out.told;
+            }));
+      }
 
   -- the event of a step names a node of configuration 0, if it names one
   named_next : (x : ℕ) (node_input : NodeInput) (lines : List Line) (now : List SimNode)
@@ -306,30 +375,6 @@ module _ (in_order : AlwaysInOrder) (cs : Configurations) (events : List Event)
       named (Tend node) brings = has_it node brings.0
       named (Start node) brings = has_it node brings.0
       named (Stop node junk) brings = has_it node brings.0
-
-  -- a node that was stopped while it ran has a crash of its disk with the junk
-  stopped_next : (kind : EventKind) (x : ℕ) (node_input : NodeInput) (lines : List Line)
-      (now : List SimNode) (more : List Posted) → IsDeliveryOf w.frames i kind x node_input →
-      HasStepped sims posted x node_input event.fault lines now more → StopsNode kind sims now
-  stopped_next (Stop node junk) x node_input lines now more brings t =
-      let sim = t.took.sim in
-      let old = get_or sims t.took.index sim in
-      record {
-        index = t.took.index;
-        at = subst (λ (y : ℕ). IsIndexOf sims t.took.index y) brings.0 t.took.at;
-        sim = sim;
-        others = t.took.others;
-        crashes = λ own runs. crash_of junk own old.state sim.state runs
-            (subst (λ (k : NodeInput). StateFollows is_honest state failures calls old.state k
-            sim.state)
-            brings.1 t.took.follows);
-      }
-  stopped_next (Submit node batch) x node_input lines now more brings t = tt
-  stopped_next (Get node key at) x node_input lines now more brings t = tt
-  stopped_next (Deliver p) x node_input lines now more brings t = tt
-  stopped_next (Tick node) x node_input lines now more brings t = tt
-  stopped_next (Tend node) x node_input lines now more brings t = tt
-  stopped_next (Start node) x node_input lines now more brings t = tt
 
   -- no frame has the place
   nothing_next : HasNoDelivery w.frames event.kind → Grows sims posted (Nothing ∷ [])
@@ -361,7 +406,13 @@ module _ (in_order : AlwaysInOrder) (cs : Configurations) (events : List Event)
             sims) same
             made.each;
       })
-      in (choice, came)
+      in record {
+        choice = choice;
+        ran = came;
+        nodes = followed choice sims (subst (λ (a : Option (ℕ × Machine)).
+            NodesFollow a event choice (outcome w cs (modelled i event.kind choice)) sims sims)
+            (sym (ap (λ (o : Outcome BatchContent). o.acted_on) none)) refl);
+      }
 
   -- the same, by what an event was found to bring
   module _ (found : Option (ℕ × NodeInput)) (fits : FitsDelivery posted i event.kind found)
@@ -378,14 +429,6 @@ module _ (in_order : AlwaysInOrder) (cs : Configurations) (events : List Event)
           (fits w.frames made.frames) in
           subst (λ (kind : EventKind). NamesNode cs kind) (sym brings.1) tt
 
-      -- .. and stops none
-      pub nothing_stopped : found ≡ None → (now : List SimNode) → StopsNode event.kind sims now
-      nothing_stopped is now =
-          let brings = MatchOption-at_none (HasNoDelivery w.frames event.kind)
-          (λ it. IsDeliveryOf w.frames i event.kind it.0 it.1) is
-          (fits w.frames made.frames) in
-          subst (λ (kind : EventKind). StopsNode kind sims now) (sym brings.1) tt
-
       module _ (it : ℕ × NodeInput) (is : found ≡ Some it) where
         brings : IsDeliveryOf w.frames i event.kind it.0 it.1
         brings = MatchOption-at_some (HasNoDelivery w.frames event.kind)
@@ -398,12 +441,6 @@ module _ (in_order : AlwaysInOrder) (cs : Configurations) (events : List Event)
         pub named_after : (lines : List Line) (now : List SimNode) (more : List Posted) →
             HasStepped sims posted it.0 it.1 event.fault lines now more → NamesNode cs event.kind
         named_after lines now more t = named_next it.0 it.1 lines now more brings t
-
-        pub stopped_after : (lines : List Line) (now : List SimNode) (more : List Posted) →
-            HasStepped sims posted it.0 it.1 event.fault lines now more →
-            StopsNode event.kind sims now
-        stopped_after lines now more t =
-            stopped_next event.kind it.0 it.1 lines now more brings t
 
         pub refined_after : (lines : List Line) (now : List SimNode) (more : List Posted) →
             HasStepped sims posted it.0 it.1 event.fault lines now more → Grows now more lines
@@ -427,18 +464,23 @@ module _ (in_order : AlwaysInOrder) (cs : Configurations) (events : List Event)
       let lines : List Line = Nothing ∷ [] in
       let grows = nothing_after in_order cs events choices steps sims posted run.made i next event
       found fits none in
+      let choice = grows.choice in
       let Refines : List SimNode → List Posted → Type 0 = λ now posts. RunRefines now posts cs
-      (events ++ event ∷ []) (choices ++ grows.0 ∷ []) (steps ++ lines ∷ []) in
+      (events ++ event ∷ []) (choices ++ choice ∷ []) (steps ++ lines ∷ []) in
       Takes (nothing_named in_order cs events choices steps sims posted run.made i next event found
-      fits none) grows.0 lines
+      fits none)
       (record {
-        kept = p.keeps.kept ∙ ap (λ (a : List (List Line)). a ++ (Nothing ∷ []) ∷ []) run.kept;
-        taken = p.keeps.taken ∙ ap (λ (l : List Event). l ++ event ∷ []) run.taken;
-        made = subst (λ (l : List SimNode). Refines l new.frames.items) (sym p.nodes)
-            (subst (λ (l : List Posted). Refines sims l) (sym p.frames) grows.1);
+        choice = choice;
+        lines = lines;
+        run = record {
+          kept = p.keeps.kept ∙ ap (λ (a : List (List Line)). a ++ (Nothing ∷ []) ∷ []) run.kept;
+          taken = p.keeps.taken ∙ ap (λ (l : List Event). l ++ event ∷ []) run.taken;
+          made = subst (λ (l : List SimNode). Refines l new.frames.items) (sym p.nodes)
+              (subst (λ (l : List Posted). Refines sims l) (sym p.frames) grows.ran);
+        };
+        nodes = subst (λ (l : List SimNode). FollowRun cs events choices event choice sims l)
+            (sym p.nodes) grows.nodes;
       })
-      (nothing_stopped in_order cs events choices steps sims posted run.made i next event found fits
-      none new.nodes.items)
 
   -- one that is for a node is applied by the node's step
   pub delivered_after : (it : ℕ × NodeInput) → found ≡ Some it →
@@ -449,18 +491,21 @@ module _ (in_order : AlwaysInOrder) (cs : Configurations) (events : List Event)
       let grows = refined_after in_order cs events choices steps sims posted run.made i next event
       found fits it is h.lines now more h.stepped in
       Takes (named_after in_order cs events choices steps sims posted run.made i next event found
-      fits it is h.lines now more h.stepped) grows.0 h.lines
+      fits it is h.lines now more h.stepped)
       (record {
-        kept = h.keeps.kept ∙ ap (λ (a : List (List Line)). a ++ h.lines ∷ []) run.kept;
-        taken = h.keeps.taken ∙ ap (λ (l : List Event). l ++ event ∷ []) run.taken;
-        made = grows.1;
+        choice = grows.choice;
+        lines = h.lines;
+        run = record {
+          kept = h.keeps.kept ∙ ap (λ (a : List (List Line)). a ++ h.lines ∷ []) run.kept;
+          taken = h.keeps.taken ∙ ap (λ (l : List Event). l ++ event ∷ []) run.taken;
+          made = grows.ran;
+        };
+        nodes = grows.nodes;
       })
-      (stopped_after in_order cs events choices steps sims posted run.made i next event found fits
-      it is h.lines now more h.stepped)
 
   -- one that is for a node which the world does not have is not applied
   pub ignored_after : (it : ℕ × NodeInput) → found ≡ Some it → HasNoNode sims it.0 →
-      HasRun new cs events choices steps → HasApplied old new cs events choices steps event
+      HasStayed old new cs events choices steps → HasApplied old new cs events choices steps event
   ignored_after it is none unchanged =
       Ignores (λ names. node_after in_order cs events choices steps sims posted run.made i next event
       found fits it is names none) unchanged

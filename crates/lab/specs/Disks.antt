@@ -1,12 +1,12 @@
 -- What a run leaves of its nodes' disks, event by event.
-use Rattle.std.specs.Prelude.{◌≡◌, ℕ, suc, ◌+◌, nat_le, List, [], ◌∷◌, map, Option, Some, None}
-use Rattle.std.specs.Prelude.{◌⊎◌, All, Bool, true, false}
+use Rattle.std.specs.Prelude.{◌≡◌, ℕ, suc, ◌+◌, nat_le, List, [], ◌∷◌, length, map}
+use Rattle.std.specs.Prelude.{◌⊎◌, All, Bool, true, false, Option, Some, None}
 use Rattle.kv_types.specs.{BatchContent}
 use Rattle.disk.specs.declared.Fault.{Fault}
 use Rattle.disk.specs.declared.Fault.TheVariants as fault
 use Rattle.disk.specs.declared.Junk.{Junk}
 use Rattle.disk.specs.declared.Junk.TheVariants.{Old}
-use Rattle.disk.specs.{CrashOutcome, State, struck_call}
+use Rattle.disk.specs.{CrashOutcome, IsLastLeft, State, struck_call}
 use Rattle.chain_model.specs.{Configurations, at_epoch}
 use Rattle.chain_model.specs as model
 use Rattle.chain_core.specs.{Machine}
@@ -36,11 +36,12 @@ has_reached None before now = false
 has_reached (Some call) before now = nat_le (before + call) now
 
 -- a disk crashed with this junk, and none of its calls was made
-pub record IsCrashOf {D : Type 0} (state : D → State) (failures calls : D → ℕ) (junk : Junk)
+pub record IsCrashOf {D : Type 0} (state : D → State) (failures : D → ℕ)
+    (past : D → List State) (junk : Junk)
     (old new : D) : Type 0 where
   pub crashes : CrashOutcome junk (state old) (state new)
   pub count : failures new ≡ failures old
-  pub none_made : calls new ≡ calls old
+  pub none_made : past new ≡ past old
 
 -- the junk of the crash after a node stopped by itself: the fault's, where that stopped its machine
 abbrev pub junk_at_end : Fault → Bool → Junk
@@ -50,60 +51,66 @@ junk_at_end (fault.Fail call) struck = Old
 junk_at_end fault.None struck = Old
 
 -- A node stopped by itself. If it stopped for the disk, one call of that failed, else none; and its
--- disk is what a crash with this junk leaves of some state.
-pub record IsEndOf {D : Type 0} (state : D → State) (failures : D → ℕ) (junk : Junk)
-    (choice : Choice) (old new : D) : Type 0 where
+-- disk is what a crash with this junk leaves of a state.
+pub record IsEndOf {D : Type 0} (state : D → State) (failures : D → ℕ) (past : D → List State)
+    (junk : Junk) (choice : Choice) (old new : D) : Type 0 where
   pub failed : choice.cause ≡ Disk → failures new ≡ failures old + 1
   pub others : (choice.cause ≡ Disk → ⊥) → failures new ≡ failures old
   -- a call fails only where the fault struck, or where a file was nearly as long as one can be
   pub only : choice.cause ≡ Disk → (choice.struck ≡ true) ⊎ HasLongFile (state old)
   pub left : State
   pub crashes : CrashOutcome junk left (state new)
+  -- where the fault struck, that is the state that its call left: the later ones changed nothing
+  pub last : choice.struck ≡ true → IsLastLeft (past new) left
 
 -- a node stopped: its disk crashed with the junk of the event, or else it stopped by itself
-abbrev pub IsStopOf : {D : Type 0} → (D → State) → (D → ℕ) → (D → ℕ) → Option Junk → Fault → Choice
+abbrev pub IsStopOf : {D : Type 0} → (D → State) → (D → ℕ) → (D → List State) → Option Junk → Fault → Choice
     → D → D → Type 0
-IsStopOf state failures calls (Some junk) fault choice old new =
-    IsCrashOf state failures calls junk old new
-IsStopOf state failures calls None fault choice old new =
-    IsEndOf state failures (junk_at_end fault choice.struck) choice old new
+IsStopOf state failures past (Some junk) fault choice old new =
+    IsCrashOf state failures past junk old new
+IsStopOf state failures past None fault choice old new =
+    IsEndOf state failures past (junk_at_end fault choice.struck) choice old new
 
 -- what an event leaves of the disk of the node that it was for, which is n after it
-pub record DiskFollows {D : Type 0} (state : D → State) (failures calls : D → ℕ) (event : Event)
+pub record DiskFollows {D : Type 0} (state : D → State) (failures : D → ℕ)
+    (past : D → List State) (event : Event)
     (choice : Choice) (o : model.Outcome BatchContent) (n : Machine) (old new : D) : Type 0 where
   -- the fault struck exactly where the disk has had so many calls since
-  pub fault : choice.struck ≡ has_reached (struck_call event.fault) (calls old) (calls new)
+  pub fault : choice.struck ≡ has_reached (struck_call event.fault) (length (past old))
+      (length (past new))
   pub stops : o.stopped ≡ true →
-      IsStopOf state failures calls (junk_of event.kind) event.fault choice old new
+      IsStopOf state failures past (junk_of event.kind) event.fault choice old new
   -- where the node did not stop, no call of its disk failed
   pub count : o.stopped ≡ false → failures new ≡ failures old
   -- a node that was down, and still is, has the same disk
   pub rests : o.stopped ≡ false → n.running ≡ false → new ≡ old
 
 -- what an event leaves of all disks, by the ids of their nodes
-pub record DisksFollow {D : Type 0} (state : D → State) (failures calls : D → ℕ) (event : Event)
+pub record DisksFollow {D : Type 0} (state : D → State) (failures : D → ℕ)
+    (past : D → List State) (event : Event)
     (choice : Choice) (o : model.Outcome BatchContent) (old new : ℕ → D) : Type 0 where
   pub at : (x : ℕ) (n : Machine) → o.acted_on ≡ Some (x, n) →
-      DiskFollows state failures calls event choice o n (old x) (new x)
+      DiskFollows state failures past event choice o n (old x) (new x)
   pub others : (x : ℕ) → ((n : Machine) → o.acted_on ≡ Some (x, n) → ⊥) → new x ≡ old x
 
 -- what the events from place i on leave of all disks, one event after another, from a world on
-abbrev pub AllFollow : {D : Type 0} → (D → State) → (D → ℕ) → (D → ℕ) → Configurations → ℕ
+abbrev pub AllFollow : {D : Type 0} → (D → State) → (D → ℕ) → (D → List State) → Configurations → ℕ
     → List Event → List Choice → model.SystemState BatchContent → (ℕ → D) → (ℕ → D) → Type 0
-AllFollow state failures calls cs i [] choices w old new = new ≡ old
-AllFollow state failures calls cs i (event ∷ events) [] w old new = ⊥
-AllFollow {D} state failures calls cs i (event ∷ events) (choice ∷ choices) w old new =
+AllFollow state failures past cs i [] choices w old new = new ≡ old
+AllFollow state failures past cs i (event ∷ events) [] w old new = ⊥
+AllFollow {D} state failures past cs i (event ∷ events) (choice ∷ choices) w old new =
     let o = model.outcome w cs (modelled i event.kind choice) in
-    (next : ℕ → D) × DisksFollow state failures calls event choice o old next
-    × AllFollow state failures calls cs (suc i) events choices (model.after w o) next new
+    (next : ℕ → D) × DisksFollow state failures past event choice o old next
+    × AllFollow state failures past cs (suc i) events choices (model.after w o) next new
 
 -- the disks that a run leaves, by the ids of their nodes: no call of them failed before it
-pub record AreDisksAfter {D : Type 0} (state : D → State) (failures calls : D → ℕ)
+pub record AreDisksAfter {D : Type 0} (state : D → State) (failures : D → ℕ)
+    (past : D → List State)
     (cs : Configurations) (events : List Event) (choices : List Choice) (disks : ℕ → D) : Type 0
   where
     pub first : ℕ → D
     pub begun : (x : ℕ) → failures (first x) ≡ 0
-    pub follow : AllFollow state failures calls cs 1 events choices (model.first_state cs) first
+    pub follow : AllFollow state failures past cs 1 events choices (model.first_state cs) first
         disks
 
 -- the node's disk is this one, and represents its machine's whole list, as it reads and whatever a
@@ -114,12 +121,13 @@ pub record IsDiskOf {D : Type 0} (state : D → State) (x : ℕ) (n : Machine) (
     pub stands : DiskAlwaysRefines (state disk) x n
 
 -- each node of configuration 0 has the disk that the run leaves
-pub record HaveDisks {D N : Type 0} (state : D → State) (failures calls : D → ℕ) (id : N → ℕ)
+pub record HaveDisks {D N : Type 0} (state : D → State) (failures : D → ℕ)
+    (past : D → List State) (id : N → ℕ)
     (disk : N → D) (cs : Configurations) (events : List Event) (choices : List Choice)
     (nodes : List N) : Type 0 where
   pub ids : map id nodes ≡ at_epoch cs 0
   pub disks : ℕ → D
-  pub after : AreDisksAfter state failures calls cs events choices disks
+  pub after : AreDisksAfter state failures past cs events choices disks
   pub each : All (λ node. IsDiskOf state (id node)
       (model.node_of cs (modelled_from 1 events choices) (id node)) (disk node) (disks (id node)))
       nodes

@@ -5,7 +5,7 @@ use Rattle.kv_types.specs.{BatchContent}
 use Rattle.disk.specs.declared.disk.Disk.{Ghosts}
 use Rattle.disk.specs.declared.Fault.{Fault}
 use Rattle.disk.specs.declared.Junk.{Junk}
-use Rattle.disk.specs.{RisesByOne, CrashOutcome, State, struck_call}
+use Rattle.disk.specs.{RisesByOne, CrashOutcome, IsLastLeft, State, struck_call}
 use Rattle.chain_model.specs.{Answer, dropped_for, refused, started, stopped}
 use Rattle.engine.specs.declared.Tended.{Tended}
 use Rattle.link_messages.specs.declared.Frame.{Frame}
@@ -21,7 +21,8 @@ use Rattle.node.specs.declared.Output.{Output}
 use Rattle.node.specs.declared.Reply.TheVariants as reply
 use Rattle.node.specs.declared.Stop.{Stop as Cause}
 use Rattle.node.specs.declared.Stop.TheVariants.{Disk}
-use Rattle.node.specs.{replies_of, disk_of, HasLongFile, IsEnvironmental}
+use Rattle.engine.specs.{TellsTend}
+use Rattle.node.specs.{replies_of, disk_of, engine_of, HasLongFile, IsEnvironmental}
 use Rattle.lab.specs.declared.input.NodeInput.{NodeInput}
 use Rattle.lab.specs.declared.input.NodeInput.TheVariants as to_node
 use Rattle.lab.specs.declared.input.StepOutcome.{StepOutcome}
@@ -32,7 +33,7 @@ use Rattle.lab.specs.declared.report.Line.{Line}
 use Rattle.lab.specs.declared.report.Line.TheVariants as line
 use Rattle.lab.specs.Disks.{IsCrashOf, has_reached, junk_at_end}
 use Rattle.lab.specs.Events.{dropped_lines, told_cause}
-use Rattle.lab.specs.SimNodes.{StateIsReady, StateRefines, IsDown, calls_of, disk_in}
+use Rattle.lab.specs.SimNodes.{StateIsReady, StateRefines, IsDown, disk_in}
 
 -- ---- what a node answers
 
@@ -77,9 +78,10 @@ HasAnswered did P = (output : Output) × (did ≡ done.Answered output) × P out
 -- ---- the fault of an event
 
 -- whether the fault struck a call of a node's disk
-abbrev pub has_struck_in : {D : Type 0} {g : Ghosts D} → (D → ℕ) → Fault → D → NodeState D g → Bool
-has_struck_in calls fault old new =
-    has_reached (struck_call fault) (calls old) (calls (disk_in new))
+abbrev pub has_struck_in : {D : Type 0} {g : Ghosts D} → (D → List State) → Fault → D → NodeState D g
+    → Bool
+has_struck_in past fault old new =
+    has_reached (struck_call fault) (length (past old)) (length (past (disk_in new)))
 
 -- A node stopped by itself, for its device or for memory: for its device where the fault struck.
 pub record StopsByItself (fault : Fault) (struck : Bool) (did : StepOutcome) : Type 0 where
@@ -111,18 +113,24 @@ pub data HasHandled {D : Type 0} {g : Ghosts D} (is_honest : D → Type 0) (stat
       → HasAnswered did (IsAnswer inp (down_answer n inp))
       → HasHandled is_honest state fault struck x n inp new did
 
+-- a node that was up, and is, tells what its tend did
+abbrev pub TellsTended : {D : Type 0} {g : Ghosts D} → NodeState D g → NodeState D g → Tended → Type 0
+TellsTended (Up old) (Up new) answer = TellsTend (engine_of old) (engine_of new) answer
+TellsTended (Up old) (Down disk) answer = ⊥
+TellsTended (Down disk) new answer = ⊥
+
 -- a tend: the node ran, is as it was, and tells what it did; or it stopped by itself; or it is down
 pub data HasTended {D : Type 0} {g : Ghosts D} (is_honest : D → Type 0) (state : D → State) (fault : Fault)
-    (struck : Bool) (x : ℕ) (n : Machine) (new : NodeState D g) (did : StepOutcome) : Type 0 where
+    (struck : Bool) (x : ℕ) (n : Machine) (old new : NodeState D g) (did : StepOutcome) : Type 0 where
   Tends : n.running ≡ true → StateRefines is_honest state new x n
-      → (answer : Tended) × (did ≡ done.Tended answer)
-      → HasTended is_honest state fault struck x n new did
+      → (answer : Tended) × (did ≡ done.Tended answer) × TellsTended old new answer
+      → HasTended is_honest state fault struck x n old new did
   Halts : n.running ≡ true → StopsByItself fault struck did
       → StateRefines is_honest state new x (stopped n)
-      → HasTended is_honest state fault struck x n new did
+      → HasTended is_honest state fault struck x n old new did
   TendsNot : n.running ≡ false → StateRefines is_honest state new x n
       → HasAnswered did (IsDrop reason.NotRunning)
-      → HasTended is_honest state fault struck x n new did
+      → HasTended is_honest state fault struck x n old new did
 
 -- a node was started: it runs as the machine that was started, or stopped by itself; or it ran
 pub data HasStarted {D : Type 0} {g : Ghosts D} (is_honest : D → Type 0) (state : D → State) (fault : Fault)
@@ -159,16 +167,16 @@ pub data HasDropped {D : Type 0} {g : Ghosts D} (is_honest : D → Type 0) (stat
 -- this input left node x, which was machine n, in this state with this outcome, where a fault
 -- struck or did not
 abbrev pub OutcomeRefines : {D : Type 0} {g : Ghosts D} → (D → Type 0) → (D → State) → Fault → Bool → ℕ → Machine
-    → NodeInput → NodeState D g → StepOutcome → Type 0
-OutcomeRefines is_honest state fault struck x n (to_node.Step inp) new did =
+    → NodeInput → NodeState D g → NodeState D g → StepOutcome → Type 0
+OutcomeRefines is_honest state fault struck x n (to_node.Step inp) old new did =
     HasHandled is_honest state fault struck x n inp new did
-OutcomeRefines is_honest state fault struck x n (to_node.BadFrame why) new did =
+OutcomeRefines is_honest state fault struck x n (to_node.BadFrame why) old new did =
     HasDropped is_honest state x n why new did
-OutcomeRefines is_honest state fault struck x n to_node.Tend new did =
-    HasTended is_honest state fault struck x n new did
-OutcomeRefines is_honest state fault struck x n to_node.Start new did =
+OutcomeRefines is_honest state fault struck x n to_node.Tend old new did =
+    HasTended is_honest state fault struck x n old new did
+OutcomeRefines is_honest state fault struck x n to_node.Start old new did =
     HasStarted is_honest state fault struck x n new did
-OutcomeRefines is_honest state fault struck x n (to_node.Stop junk) new did =
+OutcomeRefines is_honest state fault struck x n (to_node.Stop junk) old new did =
     HasStopped is_honest state x n new did
 
 -- ---- the disk behind an outcome
@@ -189,59 +197,60 @@ pub record DiskStays {D : Type 0} {g : Ghosts D} (failures : D → ℕ) (struck 
   pub same : IsDown new → disk_in new ≡ old
 
 -- a node that was stopped is down, and its disk crashed with this junk
-abbrev pub HasCrashed : {D : Type 0} {g : Ghosts D} → (D → State) → (D → ℕ) → (D → ℕ) → Junk → D → NodeState D g
+abbrev pub HasCrashed : {D : Type 0} {g : Ghosts D} → (D → State) → (D → ℕ) → (D → List State) → Junk → D → NodeState D g
     → Type 0
-HasCrashed state failures calls junk old (Up node) = ⊥
-HasCrashed state failures calls junk old (Down disk) = IsCrashOf state failures calls junk old disk
+HasCrashed state failures past junk old (Up node) = ⊥
+HasCrashed state failures past junk old (Down disk) = IsCrashOf state failures past junk old disk
 
--- a node stopped by itself: a call of the disk failed if that is the cause, and else none; what was
--- left of the disk crashed with this junk
-pub record DiskEnds {D : Type 0} (state : D → State) (failures : D → ℕ) (junk : Junk)
-    (cause : Cause) (old new : D) : Type 0 where
+-- A node stopped by itself: a call of the disk failed if that is the cause, and else none. What was
+-- left of the disk crashed with this junk: where the fault struck, the state that the last call left.
+pub record DiskEnds {D : Type 0} (state : D → State) (failures : D → ℕ) (past : D → List State)
+    (junk : Junk) (struck : Bool) (cause : Cause) (old new : D) : Type 0 where
   pub failed : cause ≡ Disk → RisesByOne (failures old) (failures new)
   pub others : (cause ≡ Disk → ⊥) → failures new ≡ failures old
   pub left : State
   pub crashes : CrashOutcome junk left (state new)
+  pub last : struck ≡ true → IsLastLeft (past new) left
 
 -- a node stopped and tells no cause: the event stopped it with its junk, or else the fault did
-abbrev pub HasCrashedWith : {D : Type 0} {g : Ghosts D} → (D → State) → (D → ℕ) → (D → ℕ) → Option Junk → Fault
+abbrev pub HasCrashedWith : {D : Type 0} {g : Ghosts D} → (D → State) → (D → ℕ) → (D → List State) → Option Junk → Fault
     → Bool → D → NodeState D g → Type 0
-HasCrashedWith state failures calls (Some junk) fault struck old new =
-    HasCrashed state failures calls junk old new
-HasCrashedWith state failures calls None fault struck old new =
-    DiskEnds state failures (junk_at_end fault struck) Disk old (disk_in new)
+HasCrashedWith state failures past (Some junk) fault struck old new =
+    HasCrashed state failures past junk old new
+HasCrashedWith state failures past None fault struck old new =
+    DiskEnds state failures past (junk_at_end fault struck) struck Disk old (disk_in new)
 
 -- the disk that a node had and the one behind its outcome
-abbrev pub DiskFits : {D : Type 0} {g : Ghosts D} → (D → State) → (D → ℕ) → (D → ℕ) → Option Junk → Fault → Bool
+abbrev pub DiskFits : {D : Type 0} {g : Ghosts D} → (D → State) → (D → ℕ) → (D → List State) → Option Junk → Fault → Bool
     → StepOutcome → D → NodeState D g → Type 0
-DiskFits state failures calls junk fault struck (done.Answered output) old new =
+DiskFits state failures past junk fault struck (done.Answered output) old new =
     DiskStays failures struck old new
-DiskFits state failures calls junk fault struck (done.Tended answer) old new =
+DiskFits state failures past junk fault struck (done.Tended answer) old new =
     DiskStays failures struck old new
-DiskFits state failures calls junk fault struck (done.Started epoch count committed) old new =
+DiskFits state failures past junk fault struck (done.Started epoch count committed) old new =
     DiskStays failures struck old new
-DiskFits state failures calls junk fault struck (done.Stopped None) old new =
-    HasCrashedWith state failures calls junk fault struck old new
-DiskFits state failures calls junk fault struck (done.Stopped (Some cause)) old new =
-    DiskEnds state failures (junk_at_end fault struck) cause old (disk_in new)
+DiskFits state failures past junk fault struck (done.Stopped None) old new =
+    HasCrashedWith state failures past junk fault struck old new
+DiskFits state failures past junk fault struck (done.Stopped (Some cause)) old new =
+    DiskEnds state failures past (junk_at_end fault struck) struck cause old (disk_in new)
 
 -- ---- the state behind an input, whatever the machine
 
 -- an input that the node ignores leaves its state as it was, and one that stops a running node
 -- leaves a crash of its disk with the junk
-abbrev pub StateFollows : {D : Type 0} {g : Ghosts D} → (D → Type 0) → (D → State) → (D → ℕ) → (D → ℕ)
+abbrev pub StateFollows : {D : Type 0} {g : Ghosts D} → (D → Type 0) → (D → State) → (D → ℕ) → (D → List State)
     → NodeState D g → NodeInput → NodeState D g → Type 0
-StateFollows is_honest state failures calls (Up node) (to_node.Step inp) new = Unit {0}
-StateFollows is_honest state failures calls (Up node) (to_node.BadFrame why) new = new ≡ Up node
-StateFollows is_honest state failures calls (Up node) to_node.Tend new = Unit {0}
-StateFollows is_honest state failures calls (Up node) to_node.Start new = new ≡ Up node
-StateFollows is_honest state failures calls (Up node) (to_node.Stop junk) new =
-    is_honest (disk_of node) → HasCrashed state failures calls junk (disk_of node) new
-StateFollows is_honest state failures calls (Down disk) (to_node.Step inp) new = new ≡ Down disk
-StateFollows is_honest state failures calls (Down disk) (to_node.BadFrame why) new = new ≡ Down disk
-StateFollows is_honest state failures calls (Down disk) to_node.Tend new = new ≡ Down disk
-StateFollows is_honest state failures calls (Down disk) to_node.Start new = Unit {0}
-StateFollows is_honest state failures calls (Down disk) (to_node.Stop junk) new = new ≡ Down disk
+StateFollows is_honest state failures past (Up node) (to_node.Step inp) new = Unit {0}
+StateFollows is_honest state failures past (Up node) (to_node.BadFrame why) new = new ≡ Up node
+StateFollows is_honest state failures past (Up node) to_node.Tend new = Unit {0}
+StateFollows is_honest state failures past (Up node) to_node.Start new = new ≡ Up node
+StateFollows is_honest state failures past (Up node) (to_node.Stop junk) new =
+    is_honest (disk_of node) → HasCrashed state failures past junk (disk_of node) new
+StateFollows is_honest state failures past (Down disk) (to_node.Step inp) new = new ≡ Down disk
+StateFollows is_honest state failures past (Down disk) (to_node.BadFrame why) new = new ≡ Down disk
+StateFollows is_honest state failures past (Down disk) to_node.Tend new = new ≡ Down disk
+StateFollows is_honest state failures past (Down disk) to_node.Start new = Unit {0}
+StateFollows is_honest state failures past (Down disk) (to_node.Stop junk) new = new ≡ Down disk
 
 -- ---- one input of a node
 
@@ -251,14 +260,14 @@ pub record HasDispatched {D : Type 0} (g : Ghosts D) (fault : Fault) (node_input
   pub ready : StateIsReady new
   pub refines : (x : ℕ) (n : Machine) → StateRefines g.is_honest g.state old x n →
       OutcomeRefines g.is_honest g.state fault
-      (has_struck_in (calls_of g) fault (disk_in old) new) x n node_input new did
+      (has_struck_in g.past fault (disk_in old) new) x n node_input old new did
   pub disk : g.is_honest (disk_in old) →
-      DiskFits g.state g.failures (calls_of g) (input_junk node_input) fault
-      (has_struck_in (calls_of g) fault (disk_in old) new) did (disk_in old) new
+      DiskFits g.state g.failures g.past (input_junk node_input) fault
+      (has_struck_in g.past fault (disk_in old) new) did (disk_in old) new
   pub only : (x : ℕ) (n : Machine) → StateRefines g.is_honest g.state old x n →
       g.is_reliable (disk_in old) → IsExplained (g.state (disk_in old))
-      (has_struck_in (calls_of g) fault (disk_in old) new) did
-  pub follows : StateFollows g.is_honest g.state g.failures (calls_of g) old node_input new
+      (has_struck_in g.past fault (disk_in old) new) did
+  pub follows : StateFollows g.is_honest g.state g.failures g.past old node_input new
   -- the fault is forgotten
   pub forgets : g.is_honest (disk_in old) → g.fault_at (disk_in old) ≡ None →
       g.fault_at (disk_in new) ≡ None

@@ -1,6 +1,6 @@
 -- Simulated nodes: what a running or stopped one refines, and what the code may choose in a step.
-use Rattle.std.specs.Prelude.{◌≡◌, ℕ, Bool, None, false, length}
-use Rattle.disk.specs.{State, Slots, past_states, state_of}
+use Rattle.std.specs.Prelude.{◌≡◌, ℕ, Bool, None, false}
+use Rattle.disk.specs.{State, Slots, state_of}
 use Rattle.disk.specs.declared.disk.Disk.{Ghosts}
 use Rattle.chain_model.specs as model
 use Rattle.engine.specs.declared.Tended.{Tended}
@@ -44,10 +44,6 @@ pub record Choice : Type 0 where
   pub cause : Cause
   pub tended : Tended
 
--- how many calls a disk ever had
-abbrev pub calls_of : {D : Type 0} → Ghosts D → D → ℕ
-calls_of g disk = length (g.past disk)
-
 -- ---- a disk in memory
 
 -- it is always honest, and its state is that of its slots
@@ -60,10 +56,6 @@ state disk = state_of disk.slots
 -- how often a call of it failed
 abbrev pub failures : Slots → ℕ
 failures disk = disk.failures
-
--- .. and how many calls it ever had
-abbrev pub calls : Slots → ℕ
-calls disk = length (past_states disk)
 
 -- it is armed with no fault
 abbrev pub IsUnarmed : Slots → Type 0

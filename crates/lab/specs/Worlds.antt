@@ -1,5 +1,6 @@
 -- A world of simulated nodes, and the run of the model that it refines.
-use Rattle.std.specs.Prelude.{◌≡◌, ℕ, ◌+◌, ◌≤◌, List, [], ◌∷◌, ◌++◌, length, map, Some}
+use Rattle.std.specs.Prelude.{◌≡◌, ℕ, suc, ◌+◌, ◌≤◌, List, [], ◌∷◌, ◌++◌, length, map}
+use Rattle.std.specs.Prelude.{Option, Some, None}
 use Rattle.std.specs.Prelude.{All, true, ◌≢◌, ◌<◌, get_or, slice_index, slice_set}
 use Rattle.std.specs.List.{AllZip, HoldsAt}
 use Rattle.kv_types.specs.{BatchContent}
@@ -8,9 +9,9 @@ use Rattle.chain_model.specs as model_frame
 use Rattle.disk.specs.declared.Fault.{Fault}
 use Rattle.disk.specs.declared.Junk.{Junk}
 use Rattle.disk.specs.declared.disk.Disk.{Ghosts}
-use Rattle.disk.specs.{IsReliable, Slots}
+use Rattle.disk.specs.{IsReliable, Slots, past_states}
 use Rattle.node.specs.declared.Node.{Node}
-use Rattle.engine.specs.{table_count}
+use Rattle.engine.specs.{TellsTend, table_count}
 use Rattle.node.specs.{disk_of, engine_of}
 use Rattle.link_messages.specs.declared.Frame.{Frame}
 use Rattle.link_messages.specs.{IsFrame, HasBounds, frame_bytes}
@@ -20,9 +21,7 @@ use Rattle.lab.specs.declared.input.NodeInput.{NodeInput}
 use Rattle.lab.specs.declared.input.StepOutcome.{StepOutcome}
 use Rattle.lab.specs.declared.event.Event.{Event}
 use Rattle.lab.specs.declared.event.EventRecord.{EventRecord}
-use Rattle.lab.specs.declared.event.EventKind.{EventKind}
-use Rattle.lab.specs.declared.event.EventKind.TheVariants.{Submit, Get, Deliver, Tick, Tend, Start}
-use Rattle.lab.specs.declared.event.EventKind.TheVariants.{Stop}
+use Rattle.lab.specs.declared.event.EventKind.TheVariants.{Stop, Tend}
 use Rattle.lab.specs.declared.node_state.NodeState.{NodeState}
 use Rattle.lab.specs.declared.node_state.NodeState.TheVariants.{Up, Down}
 use Rattle.lab.specs.declared.report.Line.{Line}
@@ -32,12 +31,12 @@ use Rattle.lab.specs.declared.report.NodeReport.{NodeReport}
 use Rattle.lab.specs.declared.report.Numbers.{Numbers}
 use Rattle.lab.specs.declared.sim_node.SimNode.{SimNode}
 use Rattle.lab.specs.declared.world.World.{World}
-use Rattle.lab.specs.SimNodes.{Choice, StateRefines, disk_in, is_honest, state, failures, calls}
+use Rattle.lab.specs.SimNodes.{Choice, StateRefines, disk_in, is_honest, state, failures}
 use Rattle.lab.specs.SimNodes.{IsUnarmed}
-use Rattle.lab.specs.Events.{NamesNode}
+use Rattle.lab.specs.Events.{NamesNode, modelled}
 use Rattle.lab.specs.Outcomes.{OutcomeRefines, DiskFits, StateFollows, input_junk, sent_by}
 use Rattle.lab.specs.Outcomes.{IsExplained, has_struck_in, outcome_lines}
-use Rattle.lab.specs.Disks.{AreDisksAfter, HaveDisks, IsDiskOf, IsCrashOf}
+use Rattle.lab.specs.Disks.{AreDisksAfter, DiskFollows, HaveDisks, IsDiskOf, IsCrashOf}
 use Rattle.lab.specs.History.{IsHistory}
 use Rattle.lab.specs.Runs.{RunningRefines}
 use Rattle.lab.specs.Traces.{modelled_from, IsTrace}
@@ -147,17 +146,17 @@ pub record HasMoved (sims : List SimNode) (x : ℕ) (node_input : NodeInput) (fa
   pub refines : (y : ℕ) (n : Machine) →
       StateRefines is_honest state (get_or sims index sim).state y n →
       OutcomeRefines is_honest state fault
-      (has_struck_in calls fault (disk_in (get_or sims index sim).state) sim.state) y n node_input
-      sim.state did
-  pub disk : DiskFits state failures calls (input_junk node_input) fault
-      (has_struck_in calls fault (disk_in (get_or sims index sim).state) sim.state) did
+      (has_struck_in past_states fault (disk_in (get_or sims index sim).state) sim.state) y n node_input
+      (get_or sims index sim).state sim.state did
+  pub disk : DiskFits state failures past_states (input_junk node_input) fault
+      (has_struck_in past_states fault (disk_in (get_or sims index sim).state) sim.state) did
       (disk_in (get_or sims index sim).state) sim.state
   pub only : (y : ℕ) (n : Machine) →
       StateRefines is_honest state (get_or sims index sim).state y n →
       IsReliable (disk_in (get_or sims index sim).state) →
       IsExplained (state (disk_in (get_or sims index sim).state))
-      (has_struck_in calls fault (disk_in (get_or sims index sim).state) sim.state) did
-  pub follows : StateFollows is_honest state failures calls (get_or sims index sim).state node_input
+      (has_struck_in past_states fault (disk_in (get_or sims index sim).state) sim.state) did
+  pub follows : StateFollows is_honest state failures past_states (get_or sims index sim).state node_input
       sim.state
   -- the fault is forgotten
   pub forgets : IsUnarmed (disk_in (get_or sims index sim).state) → IsUnarmed (disk_in sim.state)
@@ -170,25 +169,38 @@ pub record HasStepped (sims : List SimNode) (posted : List Posted) (x : ℕ) (no
   pub sent : HasPosted posted (sent_by did) more
   pub traced : lines ≡ outcome_lines x (length posted) did
 
--- Node x was stopped with this junk: if it ran, its disk is a crash with the junk of the disk that
--- it had. Every other node is as it was.
-pub record IsStopped (old new : List SimNode) (x : ℕ) (junk : Junk) : Type 0 where
+-- An event acted on node x, which is machine n after it, and the disk that the node has follows from
+-- the one that it had. Every other node is as it was.
+pub record NodeFollows (event : Event) (choice : Choice) (o : model_frame.Outcome BatchContent)
+    (x : ℕ) (n : Machine) (old new : List SimNode) : Type 0 where
   pub index : ℕ
   pub at : IsIndexOf old index x
   pub sim : SimNode
   pub others : new ≡ slice_set old index sim
-  pub crashes : (node : Node Slots _) → (get_or old index sim).state ≡ Up node →
-      IsCrashOf state failures calls junk (disk_of node) (disk_in sim.state)
+  pub disk : DiskFollows state failures past_states event choice o n
+      (disk_in (get_or old index sim).state) (disk_in sim.state)
+  -- a stop of a running node leaves a crash of its disk with the junk
+  pub stops : (junk : Junk) → event.kind ≡ Stop x junk → (was : Node Slots _) →
+      (get_or old index sim).state ≡ Up was →
+      IsCrashOf state failures past_states junk (disk_of was) (disk_in sim.state)
+  -- a tend of a running node that did not stop tells what it did
+  pub tends : event.kind ≡ Tend x → (was now : Node Slots _) →
+      (get_or old index sim).state ≡ Up was → sim.state ≡ Up now →
+      TellsTend (engine_of was) (engine_of now) choice.tended
 
--- a stop event stops the node that it names, with its junk
-abbrev pub StopsNode : EventKind → List SimNode → List SimNode → Type 0
-StopsNode (Stop node junk) old new = IsStopped old new node junk
-StopsNode (Submit node batch) old new = Unit {0}
-StopsNode (Get node key at) old new = Unit {0}
-StopsNode (Deliver place) old new = Unit {0}
-StopsNode (Tick node) old new = Unit {0}
-StopsNode (Tend node) old new = Unit {0}
-StopsNode (Start node) old new = Unit {0}
+-- the nodes follow from those before, by the node that the event acted on
+abbrev pub NodesFollow : Option (ℕ × Machine) → Event → Choice → model_frame.Outcome BatchContent
+    → List SimNode → List SimNode → Type 0
+NodesFollow None event choice o old new = new ≡ old
+NodesFollow (Some at) event choice o old new = NodeFollows event choice o at.0 at.1 old new
+
+-- these nodes follow by the outcome of the event in the model, behind the events before it
+abbrev pub FollowRun : Configurations → List Event → List Choice → Event → Choice → List SimNode
+    → List SimNode → Type 0
+FollowRun cs events choices event choice old new =
+    let o = model_frame.outcome (model_frame.reached cs (modelled_from 1 events choices)) cs
+    (modelled (suc (length events)) event.kind choice) in
+    NodesFollow o.acted_on event choice o old new
 
 -- Nodes, posted frames and lines refine the model's run of these events: how each step went was
 -- chosen so, and then nodes, disks, frames and lines are those of that run.
@@ -201,7 +213,7 @@ pub record RunRefines (sims : List SimNode) (posted : List Posted) (cs : Configu
   pub sent : frames_in_steps steps ≡ length posted
   pub nodes : map (λ sim. sim.id) sims ≡ at_epoch cs 0
   pub disks : ℕ → Slots
-  pub after : AreDisksAfter state failures calls cs events choices disks
+  pub after : AreDisksAfter state failures past_states cs events choices disks
   -- no disk failed more often than there are events
   pub few : (x : ℕ) → failures (disks x) ≤ length events
   pub unarmed : (x : ℕ) → IsUnarmed (disks x)
@@ -239,15 +251,27 @@ pub record HasDelivered (old new : World) (event : Event) (x : ℕ) (node_input 
     pub stepped : HasStepped old.nodes.items old.frames.items x node_input event.fault lines
         new.nodes.items new.frames.items
 
--- The event names a node of the world, or none, and was applied with its lines. Or it names another
--- node, and the run is as it was.
+-- The world has run one event more, with its lines, and its very nodes follow, as was chosen.
+pub record HasFollowed (old new : World) (cs : Configurations) (events : List Event)
+    (choices : List Choice) (steps : List (List Line)) (event : Event) : Type 0 where
+  pub choice : Choice
+  pub lines : List Line
+  pub run : HasRun new cs (events ++ event ∷ []) (choices ++ choice ∷ []) (steps ++ lines ∷ [])
+  pub nodes : FollowRun cs events choices event choice old.nodes.items new.nodes.items
+
+-- the run is as it was, and so is each node
+pub record HasStayed (old new : World) (cs : Configurations) (events : List Event)
+    (choices : List Choice) (steps : List (List Line)) : Type 0 where
+  pub run : HasRun new cs events choices steps
+  pub nodes : new.nodes.items ≡ old.nodes.items
+
+-- The event names a node of the world, or none, and was applied. Or it names another node, and all
+-- stays.
 pub data HasApplied (old new : World) (cs : Configurations) (events : List Event)
     (choices : List Choice) (steps : List (List Line)) (event : Event) : Type 0 where
-  Takes : NamesNode cs event.kind → (choice : Choice) → (lines : List Line)
-      → HasRun new cs (events ++ event ∷ []) (choices ++ choice ∷ []) (steps ++ lines ∷ [])
-      → StopsNode event.kind old.nodes.items new.nodes.items
+  Takes : NamesNode cs event.kind → HasFollowed old new cs events choices steps event
       → HasApplied old new cs events choices steps event
-  Ignores : (NamesNode cs event.kind → ⊥) → HasRun new cs events choices steps
+  Ignores : (NamesNode cs event.kind → ⊥) → HasStayed old new cs events choices steps
       → HasApplied old new cs events choices steps event
 
 -- a step was refused, and so is every later one
@@ -259,7 +283,7 @@ HasEnded world = world.ended ≡ true
 pub record IsRunSoFar (world : World) (cs : Configurations) (events : List Event)
     (choices : List Choice) (steps : List (List Line)) : Type 0 where
   pub trace : IsTrace cs events choices steps
-  pub disks : HaveDisks state failures calls (λ (sim : SimNode). sim.id)
+  pub disks : HaveDisks state failures past_states (λ (sim : SimNode). sim.id)
       (λ (sim : SimNode). disk_in sim.state) cs events choices world.nodes.items
   pub unarmed : All (λ sim. IsUnarmed (disk_in sim.state)) world.nodes.items
 

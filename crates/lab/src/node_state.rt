@@ -2,12 +2,12 @@
 ghost use Rattle.std.specs.Prelude.{◌≡◌, ◌↔◌, ◌⊎◌, ℕ, Bool, IfOk, IsTrue, None};
 ghost use Rattle.kv_types.specs.{BatchContent};
 ghost use Rattle.chain_model.specs.{Answer, stopped};
-ghost use Rattle.disk.specs.{HasStruck};
+ghost use Rattle.disk.specs.{HasStruck, IsLastLeft};
 ghost use Rattle.chain_core.specs.{Machine};
 ghost use Rattle.node.specs.{DiskAlwaysRefines, IsReady, NodeRefines, StopRefines, disk_of};
 ghost use Rattle.lab.specs.Disks.{junk_at_end};
 ghost use Rattle.lab.specs.Events.{told_cause};
-ghost use Rattle.lab.specs.SimNodes.{DownRefines, StateRefines, StateIsReady, calls_of, disk_in};
+ghost use Rattle.lab.specs.SimNodes.{DownRefines, StateRefines, StateIsReady, disk_in};
 ghost use Rattle.lab.specs.Outcomes.{DiskFits, HasCrashed, HasHandled, HasStarted, HasDispatched};
 ghost use Rattle.lab.specs.Outcomes.{HasTended};
 ghost use Rattle.lab.specs.Outcomes.{IsExplained, has_struck_in};
@@ -31,7 +31,7 @@ pub enum NodeState<D: Disk + Drop> {
 fn crash<D: Crash + Drop>(mut disk: D, junk: Junk) -> NodeState<D>
     ensures ready { StateIsReady result }
     ensures crashes { D.is_honest disk →
-        HasCrashed D.state D.failures (calls_of D.Disk) junk disk result }
+        HasCrashed D.state D.failures D.past junk disk result }
     ensures refines { (x : ℕ) (n : Machine) (a : Answer BatchContent) →
         D.is_honest disk → StopRefines (D.state disk) x n a →
         StateRefines D.is_honest D.state result x (stopped n)
@@ -52,16 +52,18 @@ fn stop_by_itself<D: Crash + Drop>(disk: D, stop: Stop, fault: Fault) -> (NodeSt
     ensures told { (struck : Bool) → (IsTrue struck ↔ HasStruck D.fault_at D.past disk) →
         result.1 ≡ StepOutcome.Stopped (told_cause fault struck stop) }
     ensures crashes { (struck : Bool) → (IsTrue struck ↔ HasStruck D.fault_at D.past disk) →
-        D.is_honest disk → HasCrashed D.state D.failures (calls_of D.Disk)
-        (junk_at_end fault struck) disk result.0 }
+        D.is_honest disk → HasCrashed D.state D.failures D.past
+        (junk_at_end fault struck) disk result.0
+        × (IsTrue struck → IsLastLeft (D.past disk) (D.state disk)) }
     ensures refines { (x : ℕ) (n : Machine) (a : Answer BatchContent) →
         D.is_honest disk → StopRefines (D.state disk) x n a →
         StateRefines D.is_honest D.state result.0 x (stopped n)
         ⊎ StateRefines D.is_honest D.state result.0 x (stopped a.node) }
     ensures forgets { D.fault_at (disk_in result.0) ≡ None }
 {
+    let has_struck = disk.has_struck();
     let (junk, cause) = match fault {
-        Fault::Stop(_, junk) if disk.has_struck() => (junk, None),
+        Fault::Stop(_, junk) if has_struck => (junk, None),
         _other => (Junk::Old, Some(stop)),
     };
     (crash(disk, junk), StepOutcome::Stopped(cause))
@@ -78,12 +80,12 @@ fn start<D: Crash + Drop>(
     ensures refines { (x : ℕ) (n : Machine) →
         DownRefines D.is_honest D.state disk x n →
         HasStarted D.is_honest D.state fault
-        (has_struck_in (calls_of D.Disk) fault disk result.0) x n result.0 result.1 }
+        (has_struck_in D.past fault disk result.0) x n result.0 result.1 }
     ensures disk { D.is_honest disk →
-        DiskFits D.state D.failures (calls_of D.Disk) None fault
-        (has_struck_in (calls_of D.Disk) fault disk result.0) result.1 disk result.0 }
+        DiskFits D.state D.failures D.past None fault
+        (has_struck_in D.past fault disk result.0) result.1 disk result.0 }
     ensures only { D.is_honest disk → D.is_reliable disk → IsExplained (D.state disk)
-        (has_struck_in (calls_of D.Disk) fault disk result.0) result.1 }
+        (has_struck_in D.past fault disk result.0) result.1 }
     ensures forgets { D.is_honest disk → D.fault_at (disk_in result.0) ≡ None }
 {
     disk.arm(&fault);
@@ -113,15 +115,15 @@ fn step<D: Crash + Drop>(
     ensures ready { StateIsReady result.0 }
     ensures refines { (x : ℕ) (n : Machine) → NodeRefines D.is_honest D.state node x n →
         HasHandled D.is_honest D.state fault
-        (has_struck_in (calls_of D.Disk) fault (disk_of node) result.0) x n input result.0
+        (has_struck_in D.past fault (disk_of node) result.0) x n input result.0
         result.1 }
     ensures disk { D.is_honest (disk_of node) →
-        DiskFits D.state D.failures (calls_of D.Disk) None fault
-        (has_struck_in (calls_of D.Disk) fault (disk_of node) result.0) result.1 (disk_of node)
+        DiskFits D.state D.failures D.past None fault
+        (has_struck_in D.past fault (disk_of node) result.0) result.1 (disk_of node)
         result.0 }
     ensures only { (x : ℕ) (n : Machine) → NodeRefines D.is_honest D.state node x n →
         D.is_reliable (disk_of node) → IsExplained (D.state (disk_of node))
-        (has_struck_in (calls_of D.Disk) fault (disk_of node) result.0) result.1 }
+        (has_struck_in D.past fault (disk_of node) result.0) result.1 }
     ensures forgets { D.is_honest (disk_of node) → D.fault_at (disk_in result.0) ≡ None }
 {
     full_logs_are_long::<D>(); // law: where a log is nearly full, a file is long
@@ -146,14 +148,15 @@ fn tend<D: Crash + Drop>(
     ensures ready { StateIsReady result.0 }
     ensures refines { (x : ℕ) (n : Machine) → NodeRefines D.is_honest D.state node x n →
         HasTended D.is_honest D.state fault
-        (has_struck_in (calls_of D.Disk) fault (disk_of node) result.0) x n result.0 result.1 }
+        (has_struck_in D.past fault (disk_of node) result.0) x n (NodeState.Up node) result.0
+        result.1 }
     ensures disk { D.is_honest (disk_of node) →
-        DiskFits D.state D.failures (calls_of D.Disk) None fault
-        (has_struck_in (calls_of D.Disk) fault (disk_of node) result.0) result.1 (disk_of node)
+        DiskFits D.state D.failures D.past None fault
+        (has_struck_in D.past fault (disk_of node) result.0) result.1 (disk_of node)
         result.0 }
     ensures only { (x : ℕ) (n : Machine) → NodeRefines D.is_honest D.state node x n →
         D.is_reliable (disk_of node) → IsExplained (D.state (disk_of node))
-        (has_struck_in (calls_of D.Disk) fault (disk_of node) result.0) result.1 }
+        (has_struck_in D.past fault (disk_of node) result.0) result.1 }
     ensures forgets { D.is_honest (disk_of node) → D.fault_at (disk_in result.0) ≡ None }
 {
     full_logs_are_long::<D>(); // law: where a log is nearly full, a file is long

@@ -14,8 +14,8 @@ ghost use Rattle.lab.specs.SimNodes.{Choice, StateRefines, disk_in, is_honest, s
 ghost use Rattle.lab.specs.Runs.{AreNumbersOf, IsRun, NumbersRefine};
 ghost use Rattle.lab.specs.History.{OneHistory};
 ghost use Rattle.lab.specs.Worlds.{HasRun, HasApplied, HasEnded, AreCreated, AreLeft, IsCreated};
-ghost use Rattle.lab.specs.Worlds.{IsLeft, IsRunSoFar, HasHistory, StopsNode, IsIndexOf, HasNoNode};
-ghost use Rattle.lab.specs.Worlds.{HasDelivered, HasMoved, HasPassed, HasTablesOf, TellsTables};
+ghost use Rattle.lab.specs.Worlds.{IsLeft, IsRunSoFar, HasFollowed, HasHistory, HasStayed, IsIndexOf};
+ghost use Rattle.lab.specs.Worlds.{HasDelivered, HasMoved, HasNoNode, HasPassed, HasTablesOf, TellsTables};
 ghost use Rattle.lab.specs.Worlds.{events_in, frames_in_steps};
 
 use crate::delivery::{Posted, delivery_of};
@@ -260,11 +260,11 @@ impl World {
         ensures nothing { (cs : Configurations) (events : List Event) (choices : List Choice)
             (steps : List (List Line)) →
             HasRun self.old cs events choices steps → (NamesNode cs event.now.kind → ⊥) →
-            OnOk result (HasRun self.new cs events choices steps) }
-        ensures stopped { (cs : Configurations) (events : List Event) (choices : List Choice)
+            OnOk result (HasStayed self.old self.new cs events choices steps) }
+        ensures follows { (cs : Configurations) (events : List Event) (choices : List Choice)
             (steps : List (List Line)) →
             HasRun self.old cs events choices steps → NamesNode cs event.now.kind →
-            OnOk result (StopsNode event.now.kind self.old.nodes.items self.new.nodes.items) }
+            OnOk result (HasFollowed self.old self.new cs events choices steps event.now) }
         ensures ends { MatchResult result (λ _. HasEnded self.new → ⊥) (λ _. HasEnded self.new) }
         ensures again { HasEnded self.old → IsErr result }
     {

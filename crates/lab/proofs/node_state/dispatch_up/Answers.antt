@@ -4,7 +4,7 @@ use Rattle.lab.specs.declared.input.NodeInput.{NodeInput}
 use Rattle.lab.specs.declared.input.NodeInput.TheVariants as to_node
 use Rattle.lab.specs.declared.input.StepOutcome.TheVariants as done
 use Rattle.lab.specs.declared.node_state.NodeState.TheVariants.{Up}
-use Rattle.lab.specs.SimNodes.{StateRefines, calls_of}
+use Rattle.lab.specs.SimNodes.{StateRefines}
 use Rattle.lab.specs.Outcomes.{Drops, HasCrashed, HasDispatched, RunsOn, Stops}
 use Rattle.lab.proofs.Dispatching.{answered_only, ready_up}
 use Rattle.node.specs.{disk_of}
@@ -62,7 +62,7 @@ returns-in-Stop g c =
     let new = c.crash-state.result in
     let junk = c.in-Stop.junk in
     let crashed = λ (honest : g.D.Disk.is_honest (disk_of c.args.node)).
-    subst (λ d. HasCrashed g.D.Disk.state g.D.Disk.failures (calls_of g.D.Disk) junk d new)
+    subst (λ d. HasCrashed g.D.Disk.state g.D.Disk.failures g.D.Disk.past junk d new)
     c.into_disk.ensures.disk (e.crashes (subst g.D.Disk.is_honest same honest)) in
     subst (λ (k : NodeInput). HasDispatched g.D.Disk c.args.fault k (Up c.args.node) new
     (done.Stopped None)) (sym c.in-Stop.is) (record {

@@ -14,7 +14,12 @@ use Rattle.lab.proofs.node_state.tend.Goals as goal
 pub returns-in-Ok-clause-refines : goal.returns-in-Ok-clause-refines
 returns-in-Ok-clause-refines g c = λ x n r.
     let a = (c.in-Ok.ensures.ends x n (c.arm.ensures.refines x n r)).done in
-    Tends r.core.running (c.arm-in-Ok.ensures.refines x n a.0) (_, refl)
+    Tends r.core.running (c.arm-in-Ok.ensures.refines x n a.0) (
+      _,
+      refl,
+      (c.arm-in-Ok.ensures.tends (engine_of c.args.node) c.in-Ok.did).1 (
+          (c.arm.ensures.tends (engine_of c.tend.new.self) c.in-Ok.did).0 a.1),
+    )
 
 -- why a device that works may fail
 abbrev MayFail : (g : _) (c : goal.After-stop_by_itself g) → Type 0

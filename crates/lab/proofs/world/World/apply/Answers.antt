@@ -1,4 +1,4 @@
-use Rattle.std.proofs.Common.{List, subst}
+use Rattle.std.proofs.Common.{List, refl, subst}
 use Rattle.std.proofs.lemmas.Option.{MatchOption-at_none}
 use Rattle.std.proofs.lemmas.Result.{on_ok_weaker}
 use Rattle.lab.specs.declared.delivery.Posted.{Posted}
@@ -38,7 +38,10 @@ returns-in_default-index_of c = λ cs events choices steps run.
     (λ index. IsIndexOf c.deref-2.result.now index it.0) c.in_default-index_of.is
     c.index_of.ensures) in
     ignored_after c.in_order.ensures cs events choices steps self _ run i at event found fits it
-    c.in-Some-2.is none (record { kept = run.kept; taken = run.taken; made = run.made })
+    c.in-Some-2.is none (record {
+      run = record { kept = run.kept; taken = run.taken; made = run.made };
+      nodes = refl;
+    })
 
 -- the node took its step
 pub returns : goal.returns

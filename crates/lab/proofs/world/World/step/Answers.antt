@@ -6,10 +6,10 @@ pub returns-clause-ran : goal.returns-clause-ran
 returns-clause-ran c = λ cs events choices steps run names.
     on_ok_weaker c.apply-applied.result
     (elim [
-      | Takes _ choice lines ran _ ↦ (
-        choice,
-        lines,
-        record { kept = ran.kept; taken = ran.taken; made = ran.made },
+      | Takes _ more ↦ (
+        more.choice,
+        more.lines,
+        record { kept = more.run.kept; taken = more.run.taken; made = more.run.made },
       )
       | Ignores other _ ↦ absurd (other names)
     ])
@@ -19,16 +19,24 @@ pub returns-clause-nothing : goal.returns-clause-nothing
 returns-clause-nothing c = λ cs events choices steps run other.
     on_ok_weaker c.apply-applied.result
     (elim [
-      | Takes names _ _ _ _ ↦ absurd (other names)
-      | Ignores _ same ↦ record { kept = same.kept; taken = same.taken; made = same.made }
+      | Takes names _ ↦ absurd (other names)
+      | Ignores _ same ↦ record {
+        run = record { kept = same.run.kept; taken = same.run.taken; made = same.run.made };
+        nodes = same.nodes;
+      }
     ])
     (c.apply-applied.ensures cs events choices steps run)
 
-pub returns-clause-stopped : goal.returns-clause-stopped
-returns-clause-stopped c = λ cs events choices steps run names.
+pub returns-clause-follows : goal.returns-clause-follows
+returns-clause-follows c = λ cs events choices steps run names.
     on_ok_weaker c.apply-applied.result
     (elim [
-      | Takes _ _ _ _ stops ↦ stops
+      | Takes _ more ↦ record {
+        choice = more.choice;
+        lines = more.lines;
+        run = record { kept = more.run.kept; taken = more.run.taken; made = more.run.made };
+        nodes = more.nodes;
+      }
       | Ignores other _ ↦ absurd (other names)
     ])
     (c.apply-applied.ensures cs events choices steps run)
