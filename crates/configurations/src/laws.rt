@@ -1,7 +1,10 @@
 //! Laws of the definitions that contracts use. The functions do nothing: their clauses are the
 //! laws.
+ghost use Rattle.std.specs.Prelude.{◌≡◌};
 ghost use Rattle.configurations.specs.Configs.{TestDecidesConfig};
 ghost use Rattle.configurations.specs.Spelling.{ConfigTextIsUnique, ConfigTextIsShort};
+
+use crate::Epoch;
 
 /// The test of a configuration succeeds exactly for the configurations.
 pub fn test_decides_config()
@@ -14,3 +17,11 @@ pub fn config_text_is_unique()
     ensures unique { ConfigTextIsUnique }
     ensures short { ConfigTextIsShort }
 {}
+
+/// The first epoch, which is 0.
+// law: of `Epoch::FIRST`, which no clause can name
+pub fn first_epoch() -> Epoch
+    ensures { result ≡ 0 }
+{
+    Epoch::FIRST
+}
