@@ -171,7 +171,7 @@ pub record HasStepped (sims : List SimNode) (posted : List Posted) (x : ℕ) (no
 
 -- An event acted on node x, which is machine n after it, and the disk that the node has follows from
 -- the one that it had. Every other node is as it was.
-pub record NodeFollows (event : Event) (choice : Choice) (o : model_frame.Outcome BatchContent)
+pub record HasActedOn (event : Event) (choice : Choice) (o : model_frame.Outcome BatchContent)
     (x : ℕ) (n : Machine) (old new : List SimNode) : Type 0 where
   pub index : ℕ
   pub at : IsIndexOf old index x
@@ -192,7 +192,7 @@ pub record NodeFollows (event : Event) (choice : Choice) (o : model_frame.Outcom
 abbrev pub NodesFollow : Option (ℕ × Machine) → Event → Choice → model_frame.Outcome BatchContent
     → List SimNode → List SimNode → Type 0
 NodesFollow None event choice o old new = new ≡ old
-NodesFollow (Some at) event choice o old new = NodeFollows event choice o at.0 at.1 old new
+NodesFollow (Some at) event choice o old new = HasActedOn event choice o at.0 at.1 old new
 
 -- these nodes follow by the outcome of the event in the model, behind the events before it
 abbrev pub FollowRun : Configurations → List Event → List Choice → Event → Choice → List SimNode

@@ -2,7 +2,7 @@
 use Rattle.std.proofs.Common.{◌≡◌, ◌≢◌, ◌⊎◌, ◌+◌, ◌<◌, ◌≤◌, ℕ, zero, suc, List, [], ◌∷◌, ◌++◌}
 use Rattle.std.proofs.Common.{refl, sym, ap, subst, ◌∙◌, inl, inr, arith, true, false, Option}
 use Rattle.std.proofs.Common.{Some, None, length, append_assoc, append-nil, take, drop, get_or}
-use Rattle.std.specs.Prelude.{All, IfSome, ◌==◌, nat_lt}
+use Rattle.std.specs.Prelude.{All, Bool, IfSome, ◌==◌, if◌then◌else◌, is_none, nat_lt}
 use Rattle.std.specs.Io.KnownBytes.{Consumes, IsAtEnd}
 use Rattle.std.proofs.KnownBytes.{Consumes-trans}
 use Rattle.std.specs.Option.{option_map_or, option_or}
@@ -13,6 +13,9 @@ use Rattle.std.proofs.lemmas.Grind.{common_steps}
 use Rattle.std.proofs.lemmas.List.Elements.{All-nil, All-cons, All-head, All-tail}
 use Rattle.program.specs.declared.script.error.ScriptError.{ScriptError}
 use Rattle.program.specs.declared.script.error.ScriptError.TheVariants.{LineTooLong, TooManyLines}
+use Rattle.program.specs.declared.script.error.ScriptError.TheVariants.{BadConfiguration}
+use Rattle.program.specs.declared.script.error.ScriptError.TheVariants.{OutOfMemory}
+use Rattle.program.specs.declared.script.reader.ScriptFault.{ScriptFault}
 use Rattle.program.specs.declared.script.extent.Extent.{Extent}
 use Rattle.program.specs.declared.script.statement.ParserState.{ParserState}
 use Rattle.program.specs.declared.failure.Failure.{Failure}
@@ -21,6 +24,7 @@ use Rattle.program.specs.declared.failure.Failure.TheVariants.{Memory}
 use Rattle.program.specs.Failures.{IsFailureOf, IsOfInput, IsOfReading}
 use Rattle.program.specs.Scripts.{script_lines}
 use Rattle.program.specs.Faults.{script_fault, start, numbered_fault, line_fault, after_line}
+use Rattle.program.specs.Faults.{IsReported}
 use Rattle.program.specs.Beginnings.{HasExtent, IsFaulty, IsEnough}
 
 -- ---- a text grows by one byte
@@ -220,7 +224,7 @@ whole_read None new text consumed end = tt
 whole_read (Some xs) None text consumed end = absurd consumed
 whole_read (Some xs) (Some ys) text consumed end =
     let same : xs ≡ text = consumed ∙ (rw end (append-nil text)) in
-    record { fault = rw same refl; all = λ none. same }
+    record { behind = ys; begins = consumed; fault = rw same refl; all = λ none. same }
 
 some_fault : (fault : ℕ × ScriptError) (found : Option (ℕ × ScriptError)) → found ≡ Some fault →
     found ≡ None → ⊥
@@ -234,9 +238,95 @@ fault_read (Some xs) (Some ys) text consumed faulty =
     let alone : script_fault start 1 (script_lines text) ≡ Some faulty.0 =
     rw (append-nil text) at (faulty.1 []) in
     record {
+      behind = ys;
+      begins = consumed;
       fault = rw consumed (faulty.1 ys ∙ sym alone);
       all = λ none. absurd (some_fault faulty.0 _ alone none);
     }
+
+-- ---- what is reported
+
+onto_grows : (b : ℕ) (xs ys : List (List ℕ)) → length xs ≤ length ys →
+    length (onto_first b xs) ≤ length (onto_first b ys)
+onto_grows b [] [] less = omega arith
+onto_grows b [] (y ∷ ys) less = omega arith
+onto_grows b (x ∷ xs) [] less = absurd (omega (arith, less))
+onto_grows b (x ∷ xs) (y ∷ ys) less = omega (arith, less)
+
+-- a text has no more lines than one that begins with it
+lines_grow : (text more : List ℕ) →
+    length (script_lines text) ≤ length (script_lines (text ++ more))
+lines_grow [] more = omega arith
+lines_grow (b ∷ text) more = elim (cases_Bool (b == 10)) [
+  | inl t ↦ rw t (omega (arith, lines_grow text more))
+  | inr f ↦ rw f (onto_grows b (script_lines text) (script_lines (text ++ more))
+      (lines_grow text more))
+]
+
+reported_whole : (whole text : List ℕ) (line : ℕ) (e : ScriptError) → IsEnough whole text →
+    IsReported (script_lines text) line e → IsReported (script_lines whole) line e
+reported_whole whole text line e enough r = record {
+  least = λ other. enough.fault ∙ r.least other;
+  begun = λ is.
+      let b = r.begun is in record {
+        above = b.above;
+        below = omega (
+          arith,
+          b.below,
+          lines_grow text enough.behind,
+          ap (λ t. length (script_lines t)) enough.begins,
+        );
+        sound = λ n x at. b.sound n x (sym enough.fault ∙ at);
+      };
+}
+
+-- what is reported of a text that shows the fault of the whole
+pub reported_input : (old : Option (List ℕ)) (text : List ℕ) (f : ScriptFault) →
+    IfSome old (λ whole. IsEnough whole text) → IsReported (script_lines text) f.line f.error →
+    IfSome old (λ t. IsFailureOf t (Script f))
+reported_input None text f enough r = tt
+reported_input (Some whole) text f enough r = reported_whole whole text f.line f.error enough r
+
+-- a fault stands at the first of these lines, or behind it
+at_or_behind : (o : Option ScriptError) (k n : ℕ) (e : ScriptError)
+    (rest : Option (ℕ × ScriptError)) → (rest ≡ Some (n, e) → suc k ≤ n) →
+    option_map_or (λ x. Some (k, x)) o rest ≡ Some (n, e) → k ≤ n
+at_or_behind None k n e rest later is = omega (arith, later is)
+at_or_behind (Some x) k n e rest later is =
+    omega (arith, ap (λ o. option_map_or (λ p. p.0) o 0) is)
+
+none_or_here : (b : Bool) (k n : ℕ) (e : ScriptError) → ◌≡◌ {A = Option (ℕ × ScriptError)}
+    (if b then Some (k, BadConfiguration) else None) (Some (n, e)) → k ≤ n
+none_or_here true k n e is = omega (arith, ap (λ o. option_map_or (λ p. p.0) o 0) is)
+none_or_here false k n e is = absurd (some_fault (n, e) None is refl)
+
+fault_behind : (before : ParserState) (k : ℕ) (lines : List (List ℕ)) (n : ℕ) (e : ScriptError) →
+    script_fault before k lines ≡ Some (n, e) → k ≤ n
+fault_behind before k [] n e is = none_or_here (is_none before.configs) k n e is
+fault_behind before k (line ∷ lines) n e is =
+    at_or_behind (numbered_fault before k line) k n e
+    (script_fault (after_line before line) (suc k) lines)
+    (fault_behind (after_line before line) (suc k) lines n e) is
+
+-- what is reported at a line
+pub reported_at : (before : ParserState) (n : ℕ) (line : List ℕ) (lines all : List (List ℕ))
+    (e : ScriptError) → (e ≢ OutOfMemory → numbered_fault before n line ≡ Some e) →
+    script_fault before n (line ∷ lines) ≡ script_fault start 1 all → 0 < n →
+    n + length (line ∷ lines) ≡ 1 + length all → IsReported all n e
+reported_at before n line lines all e met same above count = record {
+  least = λ other. sym same ∙ (rw (met other) refl);
+  begun = λ is. record {
+    above = above;
+    below = omega (arith, count);
+    sound = λ m x at. fault_behind before n (line ∷ lines) m x (same ∙ at);
+  };
+}
+
+-- .. and behind the last, where there is no configuration
+pub reported_end : (before : ParserState) (n : ℕ) (all : List (List ℕ)) → before.configs ≡ None →
+    script_fault before n [] ≡ script_fault start 1 all → IsReported all n BadConfiguration
+reported_end before n all none same =
+    record { least = λ other. sym same ∙ (rw none refl); begun = λ is. absurd (cc) }
 
 -- ---- what could not be read
 

@@ -2,7 +2,7 @@
 use Rattle.std.proofs.Common.{◌≡◌, ◌≤◌, ◌<◌, ◌+◌, ◌-◌, ℕ, zero, suc, List, [], ◌∷◌, ◌++◌}
 use Rattle.std.proofs.Common.{length, map, take, drop, refl, sym, ap, ap₂, subst, ◌∙◌, arith}
 use Rattle.std.proofs.Common.{append_assoc, append-nil, length-append, Option, Some, None, get_or}
-use Rattle.std.specs.Prelude.{slice_get}
+use Rattle.std.specs.Prelude.{IfSome, slice_get}
 use Rattle.std.specs.Option.{option_map_or}
 use Rattle.std.proofs.Common.{All, Bool, true, false, if◌then◌else◌, replicate}
 use Rattle.std.proofs.lemmas.Bool.{false≢true}
@@ -16,6 +16,7 @@ use Rattle.lab.specs.declared.Line.{Line}
 use Rattle.lab.specs.declared.World.{World}
 use Rattle.lab.specs.declared.Report.{Report}
 use Rattle.lab.specs.declared.Numbers.{Numbers}
+use Rattle.lab.specs.Worlds.{TellsTables}
 use Rattle.lab.specs.{AreNumbersOf, Choice, IsRun, OneHistory, frames_in_steps, frames_of_step}
 use Rattle.std.proofs.Math.Seq.{drop-cons}
 use Rattle.program.specs.declared.script.setup.Setup.{Setup}
@@ -467,7 +468,7 @@ goes_on old new cs it behind all turns turn g t = record {
         rest,
         t.did,
         chosen_each old.world new.world cs g.past t.own g.run t.run,
-        t.shown,
+        record { world = old.world; run = g.run; numbers = t.shown },
         refl,
         refl,
         subst (λ (l : List ℕ). AreResults cs (followed_by g.past t.own) l behind ts rest) t.left c,
@@ -503,16 +504,18 @@ left_delivered what place left mid new is same cut = cut
     ∙ ap (λ (w : EventKind). left_after_event w left) (sym is))
 
 -- a look tells the numbers
-is_shown : (cs : Configurations) (past : Stretch) (node : ℕ) (numbers : Option Numbers) →
-    AreNumbersOf cs past.events past.choices node numbers →
-    HasToldNumbers cs past (shown node numbers)
-is_shown cs past node None told = told
-is_shown cs past node (Some numbers) told = told
+is_shown : (world : World) (cs : Configurations) (past : Stretch) (node : ℕ)
+    (numbers : Option Numbers) → AreNumbersOf cs past.events past.choices node numbers →
+    IfSome numbers (TellsTables world.nodes.items node) →
+    HasToldNumbers world cs past (shown node numbers)
+is_shown world cs past node None told tables = told
+is_shown world cs past node (Some numbers) told tables = (told, tables)
 
 -- a flow shows no node
-never_shown : (cs : Configurations) (past : Stretch) (left : List ℕ) → HasToldNumbers cs past (busy left)
-never_shown cs past [] = tt
-never_shown cs past (place ∷ places) = tt
+never_shown : (world : World) (cs : Configurations) (past : Stretch) (left : List ℕ) →
+    HasToldNumbers world cs past (busy left)
+never_shown world cs past [] = tt
+never_shown world cs past (place ∷ places) = tt
 
 -- what statements have done, by their results
 module _ (cs : Configurations) (past : Stretch) (it : Statement) (old new : ScriptRun) where
@@ -535,7 +538,8 @@ module _ (cs : Configurations) (past : Stretch) (it : Statement) (old new : Scri
 
   -- nothing happened
   pub turned_without : (said : Note) → new ≡ old → HasRunTo old.world cs past →
-      IsResultOfAction it.action (old.left.items ++ []) [] [] 0 said → HasToldNumbers cs past said →
+      IsResultOfAction it.action (old.left.items ++ []) [] [] 0 said →
+      HasToldNumbers old.world cs past said →
       left_after it.action old.left.items ≡ old.left.items →
       HasTurned cs past it
       (record { line = it.line; events = 0; silent = 0; note = said }) old new
@@ -550,12 +554,12 @@ module _ (cs : Configurations) (past : Stretch) (it : Statement) (old new : Scri
   pub turned_by_show : (node : ℕ) (numbers : Option Numbers) (said : Note) →
       it.action ≡ Show node → said ≡ shown node numbers → new ≡ old →
       HasRunTo old.world cs past → AreNumbersOf cs past.events past.choices node numbers →
-      HasTurned cs past it
+      IfSome numbers (TellsTables old.world.nodes.items node) → HasTurned cs past it
       (record { line = it.line; events = 0; silent = 0; note = said }) old new
-  turned_by_show node numbers said is same stays run told =
+  turned_by_show node numbers said is same stays run told tables =
       turned_without said stays run (rw is (refl, refl, (numbers, same)))
-      (subst (λ (n : Note). HasToldNumbers cs past n) (sym same)
-      (is_shown cs past node numbers told)) (rw is refl)
+      (subst (λ (n : Note). HasToldNumbers old.world cs past n) (sym same)
+      (is_shown old.world cs past node numbers told tables)) (rw is refl)
 
   pub turned_by_flow : (count : ℕ) → it.action ≡ Flow →
       (flowed : HasFlowed new.world cs past old.left.items new.left.items count) →
@@ -573,7 +577,7 @@ module _ (cs : Configurations) (past : Stretch) (it : Statement) (old new : Scri
       each = sym flowed.3 ∙ flowed.4;
       did = rw is (flowed.2, refl, ap busy flowed.5);
     };
-    shown = never_shown cs past new.left.items;
+    shown = never_shown old.world cs past new.left.items;
     run = flowed.1;
     left = rw is flowed.5;
   }
@@ -614,7 +618,7 @@ module _ (cs : Configurations) (past : Stretch) (it : Statement) (old new : Scri
         left = rw is settles.5;
       }
     where
-      quiet : (b : Bool) → HasToldNumbers cs past (if b then note.Busy else note.Nothing)
+      quiet : (b : Bool) → HasToldNumbers old.world cs past (if b then note.Busy else note.Nothing)
       quiet true = tt
       quiet false = tt
 

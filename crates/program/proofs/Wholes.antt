@@ -1,6 +1,7 @@
 -- How a whole run ends.
-use Rattle.std.proofs.Common.{◌≡◌, ℕ, List, Option, None, Some, refl, sym, ◌∙◌, inl, inr, arith}
-use Rattle.std.specs.Prelude.{Result, Ok, Err, OnOk, IfOk, IfErr, IfSome, MatchResult}
+use Rattle.std.proofs.Common.{◌≡◌, ℕ, List, [], ◌∷◌, Option, None, Some, refl, sym, ap, subst, inl, inr}
+use Rattle.std.proofs.Common.{length, take}
+use Rattle.std.specs.Prelude.{Result, Ok, Err, OnErr, OnOk, IfOk, IfErr, IfSome, MatchResult}
 use Rattle.std.specs.Io.KnownBytes.{Appends}
 use Rattle.program.specs.declared.failure.Failure.{Failure}
 use Rattle.program.specs.declared.failure.Failure.TheVariants.{Unreadable, Script, Output}
@@ -11,20 +12,9 @@ use Rattle.program.specs.declared.script.setup.Setup.{Setup}
 use Rattle.program.specs.declared.script.statement.Statement.{Statement}
 use Rattle.program.specs.Scripts.{script_lines, IsScript}
 use Rattle.program.specs.Faults.{script_fault, start}
-use Rattle.program.specs.Failures.{failure_of, IsFailureOf, IsOfReading}
-use Rattle.program.specs.Runs.{IsRunOf, IsRunOfText, AppendsPart, RunHasFailed, RunEnds}
-
--- what follows from a thing holds where there is a value, if the thing does
-pub on_ok_map : {T E P Q : Type 0} (r : Result T E) → (P → Q) → OnOk r P → OnOk r Q
-on_ok_map (Ok x) f p = f p
-on_ok_map (Err e) f p = p
-
--- an error of the output is no want of memory
-pub only_write : {T : Type 0} (P : Type 0) (r : Result T RunError) → IfErr r (λ e. e ≡ Write)
-    → IfErr r (λ e. e ≡ Memory → P)
-only_write P (Ok x) is = tt
-only_write P (Err Write) is = λ h. absurd (cc)
-only_write P (Err Memory) is = absurd (cc)
+use Rattle.program.specs.Failures.{failure_line, failure_of, IsFailureOf, IsOfReading}
+use Rattle.program.specs.Runs.{IsRunOf, IsRunOfText, AppendsPart, FailureIsReported, RunHasFailed}
+use Rattle.program.specs.Runs.{RunEnds, RunEndsAs}
 
 -- what holds also holds of an error
 pub also_err : {T E : Type 0} (P : Type 0) (Q : E → Type 0) (r : Result T E) → P
@@ -80,27 +70,90 @@ failed_reading text out failure.Memory is cause = record {
   part = λ h. absurd (cc);
 }
 
--- a run that was printed, whatever was read
-pub printed : (text old_out new_out old_err new_err : Option (List ℕ)) (answer : ℕ)
-    → RunEnds text old_out new_out old_err new_err answer → answer ≡ 0
-    → IsRunOfText None (Appends old_out new_out)
-printed text old_out new_out old_err new_err answer (inl prints) zero = record {
-  setup = prints.run.setup;
-  statements = prints.run.statements;
+-- nothing is said of what was read
+any_run : (text : Option (List ℕ)) (done : List ℕ → Type 0) → IsRunOfText text done
+    → IsRunOfText None done
+any_run text done it = record {
+  setup = it.setup;
+  statements = it.statements;
   spelled = tt;
   fault = tt;
-  run = prints.run.run;
+  run = it.run;
 }
-printed text old_out new_out old_err new_err answer (inr fails) zero =
-    absurd (omega (arith, fails.status, zero))
 
--- .. where its status is answered
+of_any : (text old_out new_out old_err new_err : Option (List ℕ)) (answer : ℕ)
+    → RunEndsAs text old_out new_out old_err new_err answer
+    → RunEndsAs None old_out new_out old_err new_err answer
+of_any text old_out new_out old_err new_err answer (inl prints) = inl (record {
+  status = prints.status;
+  run = any_run text (Appends old_out new_out) prints.run;
+  quiet = prints.quiet;
+})
+of_any text old_out new_out old_err new_err answer (inr fails) = inr (record {
+  status = fails.status;
+  failure = fails.failure;
+  failed = record {
+    cause = tt;
+    untouched = fails.failed.untouched;
+    part = λ is. any_run text (AppendsPart old_out new_out) (fails.failed.part is);
+  };
+  told = fails.told;
+})
+
+take_whole : (text : List ℕ) → take (length text) text ≡ text
+take_whole [] = refl
+take_whole (b ∷ text) = ap (λ (l : List ℕ). b ∷ l) (take_whole text)
+
+-- a whole text is a beginning of it
+all_of : (old new : Option (List ℕ)) (text : List ℕ) → Appends old new text
+    → AppendsPart old new text
+all_of old new text wrote = record {
+  count = length text;
+  wrote = subst (λ (l : List ℕ). Appends old new l) (sym (take_whole text)) wrote;
+}
+
+in_part : (text old_out new_out old_err new_err : Option (List ℕ)) (answer : ℕ)
+    → RunEnds text old_out new_out old_err new_err answer
+    → RunEndsAs text old_out new_out old_err new_err answer
+in_part text old_out new_out old_err new_err answer (inl prints) = inl prints
+in_part text old_out new_out old_err new_err answer (inr fails) = inr (record {
+  status = fails.status;
+  failure = fails.failure;
+  failed = fails.failed;
+  told = all_of old_err new_err (failure_line fails.failure) fails.told;
+})
+
+-- a run whose status is answered
 pub answered : {E : Type 0} (status : Result ℕ E) (answer : ℕ)
     (text old_out new_out old_err new_err : Option (List ℕ))
     → MatchResult status (λ s. answer ≡ s) (λ _. answer ≡ 1)
-    → IfOk status (RunEnds text old_out new_out old_err new_err) → answer ≡ 0
-    → IsRunOfText None (Appends old_out new_out)
-answered (Ok s) answer text old_out new_out old_err new_err is ends zero =
-    printed text old_out new_out old_err new_err s ends (sym is ∙ zero)
-answered (Err e) answer text old_out new_out old_err new_err is ends zero =
-    absurd (omega (arith, is, zero))
+    → IfOk status (RunEnds text old_out new_out old_err new_err)
+    → OnErr status (FailureIsReported text old_out new_out 1 (AppendsPart old_err new_err))
+    → RunEndsAs text old_out new_out old_err new_err answer
+answered (Ok s) answer text old_out new_out old_err new_err is ends refused =
+    subst (λ (a : ℕ). RunEndsAs text old_out new_out old_err new_err a) (sym is)
+    (in_part text old_out new_out old_err new_err s ends)
+answered (Err e) answer text old_out new_out old_err new_err is ends refused =
+    subst (λ (a : ℕ). RunEndsAs text old_out new_out old_err new_err a) (sym is) (inr refused)
+
+-- .. whatever was read
+pub answered_any : {E : Type 0} (status : Result ℕ E) (answer : ℕ)
+    (text old_out new_out old_err new_err : Option (List ℕ))
+    → MatchResult status (λ s. answer ≡ s) (λ _. answer ≡ 1)
+    → IfOk status (RunEnds text old_out new_out old_err new_err)
+    → OnErr status (FailureIsReported text old_out new_out 1 (AppendsPart old_err new_err))
+    → RunEndsAs None old_out new_out old_err new_err answer
+answered_any status answer text old_out new_out old_err new_err is ends refused =
+    of_any text old_out new_out old_err new_err answer
+    (answered status answer text old_out new_out old_err new_err is ends refused)
+
+-- nothing was run
+pub reported : (failure : Failure) (out old_err new_err : Option (List ℕ)) (answer : ℕ)
+    → IsOfReading failure → answer ≡ 1 → AppendsPart old_err new_err (failure_line failure)
+    → RunEndsAs None out out old_err new_err answer
+reported failure out old_err new_err answer is one told = inr (record {
+  status = one;
+  failure = failure;
+  failed = failed_reading None out failure is tt;
+  told = told;
+})

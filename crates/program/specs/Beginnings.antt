@@ -23,5 +23,7 @@ pub record HasExtent (text : List ℕ) (extent : Extent) : Type 0 where
 
 -- a beginning of a script that has the fault of the whole, and is the whole where it has none
 pub record IsEnough (whole text : List ℕ) : Type 0 where
+  pub behind : List ℕ
+  pub begins : whole ≡ text ++ behind
   pub fault : script_fault start 1 (script_lines whole) ≡ script_fault start 1 (script_lines text)
   pub all : script_fault start 1 (script_lines text) ≡ None → whole ≡ text

@@ -1,5 +1,5 @@
 -- The least fault of the first faulty line of a script.
-use Rattle.std.specs.Prelude.{ℕ, suc, Bool, false, ◌||◌, ◌&&◌, not, nat_lt}
+use Rattle.std.specs.Prelude.{◌≡◌, ◌≢◌, ◌<◌, ◌≤◌, ℕ, suc, Bool, false, ◌||◌, ◌&&◌, not, nat_lt}
 use Rattle.std.specs.Prelude.{if◌then◌else◌, List, [], ◌∷◌, length, map, codes, is_some, is_none}
 use Rattle.std.specs.Prelude.{Option, Some, None}
 use Rattle.std.specs.List.{list_all}
@@ -15,7 +15,7 @@ use Rattle.program.specs.declared.script.error.ScriptError.TheVariants.{WrongNum
 use Rattle.program.specs.declared.script.error.ScriptError.TheVariants.{BadFault, OutOfPlace}
 use Rattle.program.specs.declared.script.error.ScriptError.TheVariants.{BadConfiguration}
 use Rattle.program.specs.declared.script.error.ScriptError.TheVariants.{UnknownNode}
-use Rattle.program.specs.declared.script.error.ScriptError.TheVariants.{TooManyLines}
+use Rattle.program.specs.declared.script.error.ScriptError.TheVariants.{OutOfMemory, TooManyLines}
 use Rattle.program.specs.declared.script.statement.ParserState.{ParserState}
 use Rattle.program.specs.Words.{is_number, has_fault, before_fault, from_fault}
 use Rattle.program.specs.Statements.{fault_of_words}
@@ -125,3 +125,15 @@ script_fault before n (line ∷ lines) =
 -- nothing stands before the first line
 abbrev pub start : ParserState
 start = record { configs = None; begun = false; log = default_log }
+
+-- a line that was begun: it is one of these, and none before it is faulty
+pub record LineIsBegun (lines : List (List ℕ)) (line : ℕ) : Type 0 where
+  pub above : 0 < line
+  pub below : line ≤ length lines
+  pub sound : (n : ℕ) (e : ScriptError) → script_fault start 1 lines ≡ Some (n, e) → line ≤ n
+
+-- what is reported of these lines: the least fault of the first faulty one, or want of memory at one
+-- that was begun
+pub record IsReported (lines : List (List ℕ)) (line : ℕ) (error : ScriptError) : Type 0 where
+  pub least : error ≢ OutOfMemory → script_fault start 1 lines ≡ Some (line, error)
+  pub begun : error ≡ OutOfMemory → LineIsBegun lines line

@@ -12,6 +12,7 @@ use Rattle.program.specs.ScriptRuns.{AreResults, Stretch, no_stretch}
 use Rattle.program.specs.Scripts.{script_lines, IsScript}
 use Rattle.program.specs.Faults.{script_fault, start}
 use Rattle.program.specs.Failures.{IsFailureOf, failure_line}
+use Rattle.program.specs.Invocations.{usage_line}
 use Rattle.program.specs.Text.{run_text}
 
 -- the statements were run at the nodes of the configurations, and all that came of them is of one
@@ -62,24 +63,39 @@ pub record RunIsPrinted (text old_out new_out old_err new_err : Option (List ℕ
     pub run : IsRunOfText text (Appends old_out new_out)
     pub quiet : new_err ≡ old_err
 
--- the line was told that says why there is no run
-pub record FailureIsReported (text old_out new_out old_err new_err : Option (List ℕ))
-    (answer : ℕ) : Type 0
+-- there is no run, and this was done with the line that says why
+pub record FailureIsReported (text old_out new_out : Option (List ℕ)) (answer : ℕ)
+    (done : List ℕ → Type 0) : Type 0
   where
     pub status : answer ≡ 1
     pub failure : Failure
     pub failed : RunHasFailed text old_out new_out failure
-    pub told : Appends old_err new_err (failure_line failure)
+    pub told : done (failure_line failure)
 
 -- how a run ends: with status 0 it was printed, with status 1 it is told why not
 abbrev pub RunEnds : Option (List ℕ) → Option (List ℕ) → Option (List ℕ) → Option (List ℕ)
     → Option (List ℕ) → ℕ → Type 0
 RunEnds text old_out new_out old_err new_err answer =
     RunIsPrinted text old_out new_out old_err new_err answer
-    ⊎ FailureIsReported text old_out new_out old_err new_err answer
+    ⊎ FailureIsReported text old_out new_out answer (Appends old_err new_err)
 
--- .. of standard error nothing is said
-abbrev pub RunEndsAs : Option (List ℕ) → Option (List ℕ) → Option (List ℕ) → ℕ → Type 0
-RunEndsAs text old new answer =
-    ((answer ≡ 0) × IsRunOfText text (Appends old new))
-    ⊎ ((answer ≡ 1) × ((failure : Failure) × RunHasFailed text old new failure))
+-- how a run ends, where standard error may take only a beginning of the line
+abbrev pub RunEndsAs : Option (List ℕ) → Option (List ℕ) → Option (List ℕ) → Option (List ℕ)
+    → Option (List ℕ) → ℕ → Type 0
+RunEndsAs text old_out new_out old_err new_err answer =
+    RunIsPrinted text old_out new_out old_err new_err answer
+    ⊎ FailureIsReported text old_out new_out answer (AppendsPart old_err new_err)
+
+-- nothing was run, and the usage line was told, or a beginning of it
+pub record UsageIsReported (old_out new_out old_err new_err : Option (List ℕ)) (answer : ℕ) : Type 0
+  where
+    pub status : answer ≡ 2
+    pub untouched : new_out ≡ old_out
+    pub told : AppendsPart old_err new_err usage_line
+
+-- how the program ends, whatever it read
+abbrev pub ProgramEnds : Option (List ℕ) → Option (List ℕ) → Option (List ℕ) → Option (List ℕ)
+    → ℕ → Type 0
+ProgramEnds old_out new_out old_err new_err answer =
+    RunEndsAs None old_out new_out old_err new_err answer
+    ⊎ UsageIsReported old_out new_out old_err new_err answer

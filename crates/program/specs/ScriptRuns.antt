@@ -14,6 +14,7 @@ use Rattle.lab.specs.declared.Line.TheVariants as line
 use Rattle.lab.specs.declared.Numbers.{Numbers}
 use Rattle.lab.specs.declared.World.{World}
 use Rattle.lab.specs.Tended.TheVariants as tended
+use Rattle.lab.specs.Worlds.{TellsTables}
 use Rattle.lab.specs.{AreNumbersOf, Choice, HasRun, frames_in_steps}
 use Rattle.program.specs.declared.script.statement.Action.{Action}
 use Rattle.program.specs.declared.script.statement.Action.TheVariants.{Event, Invalid, Flow}
@@ -153,14 +154,23 @@ one_step event choice lines =
 abbrev pub HasRunTo : World → Configurations → Stretch → Type 0
 HasRunTo world cs past = HasRun world cs past.events past.choices past.steps
 
--- what is shown of a node are its numbers after all that happened
-abbrev pub HasToldNumbers : Configurations → Stretch → Note → Type 0
-HasToldNumbers cs past note.Nothing = Unit {0}
-HasToldNumbers cs past (note.Invalid e) = Unit {0}
-HasToldNumbers cs past note.Busy = Unit {0}
-HasToldNumbers cs past (note.Running node numbers) =
+-- what is shown of a node are its numbers after all that happened, and how many tables its store has
+-- in this world
+abbrev pub HasToldNumbers : World → Configurations → Stretch → Note → Type 0
+HasToldNumbers world cs past note.Nothing = Unit {0}
+HasToldNumbers world cs past (note.Invalid e) = Unit {0}
+HasToldNumbers world cs past note.Busy = Unit {0}
+HasToldNumbers world cs past (note.Running node numbers) =
     AreNumbersOf cs past.events past.choices node (Some numbers)
-HasToldNumbers cs past (note.Down node) = AreNumbersOf cs past.events past.choices node None
+    × TellsTables world.nodes.items node numbers
+HasToldNumbers world cs past (note.Down node) =
+    AreNumbersOf cs past.events past.choices node None
+
+-- what is shown of a node is so in a world that has run this far
+pub record HasShown (cs : Configurations) (past : Stretch) (said : Note) : Type 0 where
+  pub world : World
+  pub run : HasRunTo world cs past
+  pub numbers : HasToldNumbers world cs past said
 
 -- a statement was run behind what had happened: the world and the frames that are left are those
 -- behind its events
@@ -168,7 +178,7 @@ pub record HasTurned (cs : Configurations) (past : Stretch) (it : Statement)
     (turn : StatementResult) (old new : ScriptRun) : Type 0 where
   pub own : Stretch
   pub did : IsResult (frames_in_steps past.steps) old.left.items it turn own.events own.steps
-  pub shown : HasToldNumbers cs past turn.note
+  pub shown : HasToldNumbers old.world cs past turn.note
   pub run : HasRunTo new.world cs (followed_by past own)
   pub left : new.left.items ≡ left_after it.action (old.left.items
       ++ places_after (frames_in_steps past.steps) (frames_in_steps own.steps))
@@ -182,7 +192,7 @@ AreResults cs past left (it ∷ statements) turns all =
     (turn : StatementResult) × (own : Stretch)
     × (turns_behind : List StatementResult) × (behind : Stretch)
     × IsResult (frames_in_steps past.steps) left it turn own.events own.steps
-    × (length own.choices ≡ length own.events) × HasToldNumbers cs past turn.note
+    × (length own.choices ≡ length own.events) × HasShown cs past turn.note
     × (turns ≡ turn ∷ turns_behind) × (all ≡ followed_by own behind)
     × AreResults cs (followed_by past own) (left_after it.action
     (left ++ places_after (frames_in_steps past.steps) (frames_in_steps own.steps)))

@@ -1,7 +1,8 @@
 //! What the program's words ask for.
-ghost use Rattle.std.specs.Prelude.{◌≡◌, ◌≢◌, ℕ, List, false, map, codes, Ok, Some, None, IfOk};
-ghost use Rattle.std.specs.Prelude.{MatchOption};
-ghost use Rattle.program.specs.Invocations.{lab_script as script_of, is_dashed};
+ghost use Rattle.std.specs.Prelude.{◌≡◌, ℕ, List, false, map, codes, Ok, Err, Some, None};
+ghost use Rattle.std.specs.Prelude.{IsOkAnd, MatchOption};
+ghost use Rattle.program.specs.Invocations.{AsksForScript, lab_script as script_of, is_dashed};
+ghost use Rattle.program.specs.Invocations.{names_lab};
 
 use clap::error::ErrorKind;
 use clap::{Arg, ArgAction, ArgMatches, Command};
@@ -21,9 +22,6 @@ pub enum WordsError {
     Usage,
     Memory,
 }
-
-/// The line for words that are no request.
-pub const USAGE: &str = "usage: chainstore lab SCRIPT | loop SCRIPT --dir D | dump DIR";
 
 /// The words that the program knows.
 fn grammar<'a>(alloc: Global) -> Result<Command<'a>, AllocError> {
@@ -83,6 +81,16 @@ fn lab_script<'a>(words: &'a [&'a str]) -> Option<&'a str>
     }
 }
 
+/// Whether words name the command `lab`.
+fn names_lab(words: &[&str]) -> bool
+    ensures { result ≡ names_lab (map (λ w. w.now) words.now) }
+{
+    match words {
+        [_, name, ..] => *name == "lab",
+        _ => false,
+    }
+}
+
 fn begins_with_dash(word: &str) -> bool
     ensures { result ≡ is_dashed word.now }
 {
@@ -93,13 +101,19 @@ fn begins_with_dash(word: &str) -> bool
 }
 
 /// The request that the words spell. The first word is the program's name. What words of the plain
-/// form ask for is decided here, and a contract says it; the parser decides on all others.
+/// form ask for is decided here, and that words without a command ask for nothing, and a contract
+/// says it; the parser decides on all others.
 pub fn invocation_of<'a>(alloc: Global, words: &'a [&'a str]) -> Result<Invocation<'a>, WordsError>
+    ensures none { names_lab (map (λ w. w.now) words.now) ≡ false →
+        result ≡ Err WordsError.Usage }
     ensures input { script_of (map (λ w. w.now) words.now) ≡ Some (codes "-") →
         result ≡ Ok Invocation.Input }
     ensures path { (path : List ℕ) → script_of (map (λ w. w.now) words.now) ≡ Some path →
-        is_dashed path ≡ false → IfOk result (λ request. request ≢ Invocation.Input) }
+        is_dashed path ≡ false → IsOkAnd result (λ request. AsksForScript request path) }
 {
+    if !names_lab(words) {
+        return Err(WordsError::Usage);
+    }
     if let Some(script) = lab_script(words) {
         if script == "-" {
             return Ok(Invocation::Input);

@@ -1,9 +1,10 @@
 //! Why a run ends early.
 ghost use Rattle.std.specs.Prelude.{◌≡◌};
-ghost use Rattle.program.specs.declared.run_error.RunError.TheVariants.{Memory};
+ghost use Rattle.program.specs.declared.run_error.RunError.TheVariants.{Memory, Write};
 
 use lab::LabError;
 use std::alloc::{AllocError, AllocFailed};
+use std::io;
 
 /// Why a run of a script ended early.
 #[derive(Clone, Copy)]
@@ -34,5 +35,13 @@ impl From<LabError> for RunError {
 
     fn from(_e: LabError) -> RunError {
         RunError::Memory
+    }
+}
+
+impl From<io::Error> for RunError {
+    ghost from_gives = { λ _ e. e ≡ Write };
+
+    fn from(_e: io::Error) -> RunError {
+        RunError::Write
     }
 }

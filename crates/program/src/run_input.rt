@@ -17,7 +17,7 @@ use crate::script::{Script, Setup, Statement, read_script};
 use crate::script_run::ScriptRun;
 use crate::statement_result::StatementResult;
 use crate::text::{event_places, print_run};
-use crate::writing::write_text;
+use crate::writing::print;
 use lab::{LabError, Lines, Report};
 use std::alloc::Global;
 use std::io::{Read, Write};
@@ -64,19 +64,6 @@ fn text_of_run(
     }
 }
 
-/// Writes a text, and all of it has then left the writer.
-fn print<W: Write>(text: &[u8], out: &mut W) -> Result<(), RunError>
-    ensures whole { OnOk result (Appends (W.contents out.old) (W.contents out.new) text.now) }
-    ensures part { AppendsPart (W.contents out.old) (W.contents out.new) text.now }
-    ensures cause { IfErr result (λ e. e ≡ error.Write) }
-{
-    write_text(text, out)?;
-    match out.flush() {
-        Ok(()) => Ok(()),
-        Err(_) => Err(RunError::Write),
-    }
-}
-
 /// Runs a script at the nodes of its first configuration, and writes what happened.
 fn run_script<W: Write>(alloc: Global, script: &Script, out: &mut W) -> Result<(), RunError>
     requires { All (λ it. Names script.now.setup.configs it.action) script.now.statements.items }
@@ -91,7 +78,8 @@ fn run_script<W: Write>(alloc: Global, script: &Script, out: &mut W) -> Result<(
     let (turns, report) = run_statements(alloc, &script.setup, &script.statements)?;
     let steps = report.into_steps();
     let text = text_of_run(alloc, &turns, &steps)?;
-    print(&text, out)
+    print(&text, out)?;
+    Ok(())
 }
 
 /// The script that is read.

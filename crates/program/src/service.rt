@@ -1,19 +1,27 @@
 //! From the program's words and streams to its exit status.
-ghost use Rattle.std.specs.Prelude.{◌≡◌, ◌≤◌, ℕ, List, false, map, codes, Some, None};
-ghost use Rattle.std.specs.Prelude.{IfOk, IfErr, OnOk, MatchResult};
+ghost use Rattle.std.specs.Prelude.{◌≡◌, ℕ, List, false, map, codes, Some, None};
+ghost use Rattle.std.specs.Prelude.{IfOk, OnOk, OnErr, MatchResult};
 ghost use Rattle.std.specs.Io.KnownBytes.{Appends};
 ghost use Rattle.program.specs.Failures.{failure_line};
-ghost use Rattle.program.specs.Invocations.{lab_script, is_dashed};
-ghost use Rattle.program.specs.Runs.{RunEnds, RunEndsAs, RunHasFailed, IsRunOfText};
-ghost use Rattle.program.specs.declared.failure.Failure.{Failure as Cause};
+ghost use Rattle.program.specs.Invocations.{lab_script, names_lab, is_dashed, usage_line};
+ghost use Rattle.program.specs.Runs.{AppendsPart, FailureIsReported, ProgramEnds};
+ghost use Rattle.program.specs.Runs.{RunEnds, RunEndsAs, UsageIsReported};
 
 use crate::failure::Failure;
-use crate::invocation::{Invocation, USAGE, WordsError, invocation_of};
+use crate::invocation::{Invocation, WordsError, invocation_of};
 use crate::run_input::run_input;
+use crate::writing::print;
+use arrayvec::ArrayVec;
 use std::alloc::Global;
 use std::fs::OpenOptions;
 use std::io::{self, Read, Write};
 use std::rt::Files;
+
+/// The line for words that ask for nothing.
+const USAGE: &str = "usage: chainstore lab SCRIPT | loop SCRIPT --dir D | dump DIR\n";
+
+/// The most bytes of a line that reports a failure: no line has as many.
+const LINE: usize = 64;
 
 /// Does what the words ask for, and answers the exit status: 0 for a run, whatever became of its
 /// nodes, 1 for a fault in script, output or memory, 2 for words that ask for nothing. A fault is
@@ -26,13 +34,16 @@ pub fn serve<F: Files + Alloc<A = Global>, R: Read, O: Write, E: Write>(
     err: &mut E,
 ) -> u8
     ensures input { lab_script (map (λ w. w.now) words.now) ≡ Some (codes "-") →
-        RunEndsAs (R.remaining input.old) (O.contents out.old) (O.contents out.new) result }
+        RunEndsAs (R.remaining input.old) (O.contents out.old) (O.contents out.new)
+        (E.contents err.old) (E.contents err.new) result }
     ensures path { (path : List ℕ) → lab_script (map (λ w. w.now) words.now) ≡ Some path →
-        is_dashed path ≡ false → input.new ≡ input.old }
-    ensures run { result ≡ 0 →
-        IsRunOfText None (Appends (O.contents out.old) (O.contents out.new)) }
-    ensures status { result ≤ 2 }
-    ensures usage { result ≡ 2 → O.contents out.new ≡ O.contents out.old }
+        is_dashed path ≡ false → (input.new ≡ input.old) × RunEndsAs None (O.contents out.old)
+        (O.contents out.new) (E.contents err.old) (E.contents err.new) result }
+    ensures unknown { names_lab (map (λ w. w.now) words.now) ≡ false → (input.new ≡ input.old)
+        × UsageIsReported (O.contents out.old) (O.contents out.new) (E.contents err.old)
+        (E.contents err.new) result }
+    ensures ends { ProgramEnds (O.contents out.old) (O.contents out.new)
+        (E.contents err.old) (E.contents err.new) result }
 {
     match invocation_of(rt.alloc(), words) {
         Ok(Invocation::Input) => end(serve_script(rt.alloc(), input, out, err)),
@@ -49,9 +60,8 @@ fn serve_path<F: Files + Alloc<A = Global>, O: Write, E: Write>(
     out: &mut O,
     err: &mut E,
 ) -> u8
-    ensures run { result ≡ 0 →
-        IsRunOfText None (Appends (O.contents out.old) (O.contents out.new)) }
-    ensures status { result ≤ 1 }
+    ensures { RunEndsAs None (O.contents out.old) (O.contents out.new)
+        (E.contents err.old) (E.contents err.new) result }
 {
     match OpenOptions::new().read(true).open(rt, path) {
         Ok(mut file) => end(serve_script(rt.alloc(), &mut file, out, err)),
@@ -59,17 +69,20 @@ fn serve_path<F: Files + Alloc<A = Global>, O: Write, E: Write>(
     }
 }
 
-/// The status for words that ask for nothing.
+/// The status for words that ask for nothing. Standard error may take only a beginning of the usage
+/// line.
 pub fn refuse<E: Write>(err: &mut E) -> u8
-    ensures { result ≡ 2 }
+    ensures status { result ≡ 2 }
+    ensures text { AppendsPart (E.contents err.old) (E.contents err.new) usage_line }
 {
-    let _ = writeln!(err, "{USAGE}");
+    let _ = write_usage(err);
     2
 }
 
-/// The status where nothing could be run.
+/// The status where nothing could be run. Standard error may take only a beginning of the line.
 pub fn report<E: Write>(err: &mut E, failure: Failure) -> u8
-    ensures { result ≡ 1 }
+    ensures status { result ≡ 1 }
+    ensures text { AppendsPart (E.contents err.old) (E.contents err.new) (failure_line failure) }
 {
     let _ = write_failure(err, failure);
     1
@@ -85,13 +98,24 @@ fn end(status: io::Result<u8>) -> u8
     }
 }
 
+/// Says what words the program knows.
+fn write_usage<E: Write>(err: &mut E) -> io::Result<()>
+    ensures text { OnOk result (Appends (E.contents err.old) (E.contents err.new) usage_line) }
+    ensures part { AppendsPart (E.contents err.old) (E.contents err.new) usage_line }
+{
+    print(USAGE.as_bytes(), err)
+}
+
 /// Says why a run ended early, and answers its status.
 fn write_failure<E: Write>(err: &mut E, failure: Failure) -> io::Result<u8>
     ensures status { IfOk result (λ status. status ≡ 1) }
     ensures text { OnOk result (Appends (E.contents err.old) (E.contents err.new)
         (failure_line failure)) }
+    ensures part { AppendsPart (E.contents err.old) (E.contents err.new) (failure_line failure) }
 {
-    writeln!(err, "{failure}")?;
+    let mut line = ArrayVec::<u8, LINE>::new();
+    writeln!(line, "{failure}")?;
+    print(line.as_slice(), err)?;
     Ok(1)
 }
 
@@ -104,8 +128,8 @@ pub fn serve_script<R: Read, O: Write, E: Write>(
 ) -> io::Result<u8>
     ensures ended { IfOk result (RunEnds (R.remaining input.old) (O.contents out.old)
         (O.contents out.new) (E.contents err.old) (E.contents err.new)) }
-    ensures refused { IfErr result (λ _. (failure : Cause) ×
-        RunHasFailed (R.remaining input.old) (O.contents out.old) (O.contents out.new) failure) }
+    ensures refused { OnErr result (FailureIsReported (R.remaining input.old) (O.contents out.old)
+        (O.contents out.new) 1 (AppendsPart (E.contents err.old) (E.contents err.new))) }
 {
     match run_input(alloc, input, out) {
         Ok(()) => Ok(0),

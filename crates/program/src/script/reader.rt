@@ -11,7 +11,7 @@ ghost use Rattle.program.specs.Words.{is_number};
 ghost use Rattle.program.specs.Scripts.{script_lines, is_log_size, is_skipped, AreLimits, IsScript};
 ghost use Rattle.program.specs.Scripts.{Names, SetsLog};
 ghost use Rattle.program.specs.Faults.{numbers_of, config_fault, limit_fault, limit_size};
-ghost use Rattle.program.specs.Faults.{script_fault, start};
+ghost use Rattle.program.specs.Faults.{IsReported, script_fault, start};
 ghost use Rattle.program.specs.Reading.{IsOfOneNode, PlacesNode, ReadsLine, ReadsWords, Places};
 ghost use Rattle.program.specs.Reading.{ReadsNext};
 
@@ -376,14 +376,13 @@ fn read_line(
     }
 }
 
-/// The script that a text spells. Only for want of memory it may be refused with another error than
-/// the least of its first faulty line.
+/// The script that a text spells, or the least fault of its first faulty line. Want of memory may be
+/// reported in its place, at a line that was begun.
 pub fn read_script(alloc: Global, text: &[u8]) -> Result<Script, ScriptFault>
     ensures found { IfOk result (λ script.
         IsScript 1 (script_lines text.now) script.setup script.statements.items) }
     ensures fault { MatchResult result (λ _. script_fault start 1 (script_lines text.now) ≡ None)
-        (λ f. f.error ≢ OutOfMemory →
-        script_fault start 1 (script_lines text.now) ≡ Some (f.line, f.error)) }
+        (λ f. IsReported (script_lines text.now) f.line f.error) }
     ensures node { IfOk result (λ script.
         All (λ it. Names script.setup.configs it.action) script.statements.items) }
 {

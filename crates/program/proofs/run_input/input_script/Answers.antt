@@ -1,5 +1,5 @@
 use Rattle.std.proofs.Common.{rules}
-use Rattle.program.proofs.Beginnings.{not_read, of_reading}
+use Rattle.program.proofs.Beginnings.{not_read, of_reading, reported_input}
 use Rattle.program.proofs.run_input.input_script.Goals as goal
 
 pub returns-in_err-text-clause-fault : goal.returns-in_err-text-clause-fault
@@ -12,3 +12,8 @@ pub returns-in_err-text-clause-cause : goal.returns-in_err-text-clause-cause
 returns-in_err-text-clause-cause g c =
     let failed = of_reading c.in_err-text.field-0.0 c.in_err-text.ensures.cause in
     search (rules, failed)
+
+pub returns-clause-fault : goal.returns-clause-fault
+returns-clause-fault g c =
+    reported_input (g.R.Read.remaining c.args.input.now) c.in_ok-text.text.items c.in-Err.fault
+    c.in_ok-text.ensures.read (rw (c.deref.ensures.value, c.in-Err.is) at c.read_script.ensures.fault)

@@ -1,8 +1,8 @@
-use Rattle.program.proofs.Wholes.{on_ok_map, only_write, also_err}
+use Rattle.program.proofs.Wholes.{also_err}
 use Rattle.program.proofs.run_input.run_script.Goals as goal
 
 pub returns-clause-run : goal.returns-clause-run
-returns-clause-run g c = on_ok_map c.print.result (λ wrote. record {
+returns-clause-run g c = record {
   turns = c.in_ok-turns.turns.items;
   report = c.in_ok-turns.report;
   run = rw c.deref.ensures.value at c.in_ok-turns.ensures;
@@ -12,14 +12,11 @@ returns-clause-run g c = on_ok_map c.print.result (λ wrote. record {
     c.deref-2.ensures.value,
     c.deref-3.ensures.value,
     c.into_steps-steps.ensures,
-  ) at wrote;
-}) c.print.ensures.whole
+  ) at c.in_ok-print.ensures.whole;
+}
 
-pub returns-clause-untouched : goal.returns-clause-untouched
-returns-clause-untouched g c = only_write _ c.print.result c.print.ensures.cause
-
-pub returns-clause-part : goal.returns-clause-part
-returns-clause-part g c = also_err _ _ c.print.result (record {
+pub returns-in_err-print-clause-part : goal.returns-in_err-print-clause-part
+returns-in_err-print-clause-part g c = also_err _ _ c.from_residual-in_err-print.result (record {
   turns = c.in_ok-turns.turns.items;
   report = c.in_ok-turns.report;
   run = rw c.deref.ensures.value at c.in_ok-turns.ensures;

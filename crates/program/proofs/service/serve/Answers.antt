@@ -1,7 +1,24 @@
-use Rattle.program.proofs.Wholes.{answered}
+use Rattle.std.proofs.Common.{inl}
+use Rattle.program.specs.declared.failure.Failure.TheVariants.{Memory}
+use Rattle.program.proofs.Wholes.{answered, answered_any, reported}
 use Rattle.program.proofs.service.serve.Goals as goal
 
-pub returns-in-Ok-Input-clause-run : goal.returns-in-Ok-Input-clause-run
-returns-in-Ok-Input-clause-run g c =
-    answered c.serve_script.result c.end.result _ (g.O.Write.contents c.args.out.now)
-    (g.O.Write.contents c.serve_script.new.out) _ _ c.end.ensures c.serve_script.ensures.ended
+pub returns-in-Ok-Input-clause-input : goal.returns-in-Ok-Input-clause-input
+returns-in-Ok-Input-clause-input g c = λ _.
+    answered c.serve_script.result c.end.result (g.R.Read.remaining c.args.input.now)
+    (g.O.Write.contents c.args.out.now) (g.O.Write.contents c.serve_script.new.out)
+    (g.E.Write.contents c.args.err.now) (g.E.Write.contents c.serve_script.new.err) c.end.ensures
+    c.serve_script.ensures.ended c.serve_script.ensures.refused
+
+pub returns-in-Ok-Input-clause-ends : goal.returns-in-Ok-Input-clause-ends
+returns-in-Ok-Input-clause-ends g c = inl
+    (answered_any c.serve_script.result c.end.result (g.R.Read.remaining c.args.input.now)
+    (g.O.Write.contents c.args.out.now) (g.O.Write.contents c.serve_script.new.out)
+    (g.E.Write.contents c.args.err.now) (g.E.Write.contents c.serve_script.new.err) c.end.ensures
+    c.serve_script.ensures.ended c.serve_script.ensures.refused)
+
+pub returns-in-Err-Memory-clause-ends : goal.returns-in-Err-Memory-clause-ends
+returns-in-Err-Memory-clause-ends g c = inl
+    (reported Memory (g.O.Write.contents c.args.out.now) (g.E.Write.contents c.args.err.now)
+    (g.E.Write.contents c.report.new.err) c.report.result tt c.report.ensures.status
+    c.report.ensures.text)

@@ -1,6 +1,7 @@
-use Rattle.std.proofs.Common.{arith, append-nil, refl, sym, ◌∙◌, []}
+use Rattle.std.proofs.Common.{arith, append-nil, refl, sym, ap, ◌∙◌, length, []}
 use Rattle.program.specs.declared.script.setup.Setup.{Setup}
 use Rattle.program.specs.Scripts.{default_log, script_lines, IsScript}
+use Rattle.program.proofs.Beginnings.{reported_at, reported_end}
 use Rattle.program.proofs.Going.{takes_on, keeps_fault, all_name, sized}
 use Rattle.program.proofs.script.reader.read_script.Goals as goal
 
@@ -16,9 +17,25 @@ loop-line-preserved c =
           c.loop-line.invariant.found setup rest (rw c.in-Some.ensures.steps h));
       fault = keeps_fault before c.in-Ok.after n line lines old _ taken
           ∙ rw c.in-Some.ensures.steps at c.loop-line.invariant.fault;
+      above = omega arith;
+      count = omega (arith, c.loop-line.invariant.count, ap length c.in-Some.ensures.steps);
       few = omega (arith, taken.1);
       size = sized before c.in-Ok.after n line old _ taken c.loop-line.invariant.size;
     }
+
+pub returns-in-Err-clause-fault : goal.returns-in-Err-clause-fault
+returns-in-Err-clause-fault c =
+    let steps = c.in-Some.ensures.steps in
+    reported_at c.loop-line.before c.loop-line.number c.in-Some.line.now
+    (script_lines c.next.new.self.0.now) (script_lines c.args.text.now) c.in-Err.error
+    (rw c.in-Err.is at c.read_line.ensures) (rw steps at c.loop-line.invariant.fault)
+    c.loop-line.invariant.above (omega (arith, c.loop-line.invariant.count, ap length steps))
+
+pub returns-in_default-clause-fault : goal.returns-in_default-clause-fault
+returns-in_default-clause-fault c =
+    reported_end c.loop-line.before c.loop-line.number (script_lines c.args.text.now)
+    (sym c.into_configs.ensures ∙ c.in_default.is)
+    (rw c.in-None.ensures.steps.0 at c.loop-line.invariant.fault)
 
 pub returns-clause-found : goal.returns-clause-found
 returns-clause-found c =

@@ -41,4 +41,5 @@ returns-in-Show c = λ cs past run named up.
     c.args.self.now c.in-Show.node c.numbers.result c.shown-note.result c.in-Show.is
     c.shown-note.ensures refl
     run
-    (c.numbers.ensures.run cs past.events past.choices past.steps run (rw c.in-Show.is at named)))
+    (c.numbers.ensures.run cs past.events past.choices past.steps run (rw c.in-Show.is at named))
+    c.numbers.ensures.tables)
