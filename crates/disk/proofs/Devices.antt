@@ -1,12 +1,14 @@
 -- A call that fails, for the moments of a disk and for its fault.
 use Rattle.std.proofs.Common.{◌≡◌, ℕ, suc, List, ◌∷◌, length, map, Result, Ok, Err}
-use Rattle.std.proofs.Common.{refl, ap, inr}
+use Rattle.std.proofs.Common.{refl, ap, inr, sym, subst, ◌∙◌, []}
 use Rattle.disk.specs.declared.error.DiskError.{DiskError}
 use Rattle.disk.specs.declared.error.DiskError.TheVariants.{Failed, NoFile, Short, Memory}
-use Rattle.disk.specs.States.{Slot, State}
+use Rattle.disk.specs.States.{IsSame, Slot, State}
+use Rattle.disk.specs.Moments.{IsLastLeft}
 use Rattle.disk.specs.Faults.{CallPasses, Counts, WasMade}
 use Rattle.disk.specs.Memory.{state_of}
-use Rattle.disk.specs.Devices.{DeviceState, DeviceFails}
+use Rattle.disk.specs.Devices.{AnswerEnds, Answers, DeviceFails, DeviceState, Fails, IsCounted}
+use Rattle.disk.specs.Devices.{IsStruck, Wants}
 
 -- an answer of a call that was made
 pub was_refused : (T : Type 0) (answer : Result T DiskError) → answer ≡ Err NoFile → WasMade answer
@@ -43,3 +45,31 @@ fail_passes T slots old new result R Effect fails begun =
         later = λ struck. (fails.is, λ file. refl);
       };
     }
+
+-- the latest of these states is another one, if that is the same
+same_last : (past : List State) (was now : State) → IsSame was now → IsLastLeft past was →
+    IsLastLeft past now
+same_last [] was now same last = last
+same_last (left ∷ before) was now same last = λ file. same file ∙ last file
+
+-- a call that was counted left the latest state of the past
+counted_last : (slots : List (ℕ × Slot)) (old new : DeviceState) → IsCounted slots old new →
+    IsLastLeft (map state_of new.past) (state_of slots)
+counted_last slots old new counted =
+    subst (λ (past : List (List (ℕ × Slot))). IsLastLeft (map state_of past) (state_of slots))
+    (sym counted.past) (λ file. refl)
+
+-- behind a call the latest state of the past is the one that the disk has, if it was so before
+pub ends_past : {T : Type 0} (was : State) (slots : List (ℕ × Slot)) (old new : DeviceState)
+    (answer result : Result T DiskError) → AnswerEnds slots old new answer result →
+    (answer ≡ Err Memory → IsSame was (state_of slots)) → IsLastLeft (map state_of old.past) was →
+    IsLastLeft (map state_of new.past) (state_of slots)
+ends_past was slots old new answer result (Wants is same stays) keeps last =
+    subst (λ (it : DeviceState). IsLastLeft (map state_of it.past) (state_of slots)) (sym stays)
+    (same_last (map state_of old.past) was (state_of slots) (keeps is) last)
+ends_past was slots old new answer result (Fails is fails) keeps last =
+    counted_last slots old new fails.counted
+ends_past was slots old new answer result (IsStruck made next fails) keeps last =
+    counted_last slots old new fails.counted
+ends_past was slots old new answer result (Answers made not_next is counted rises) keeps last =
+    counted_last slots old new counted

@@ -1,4 +1,4 @@
--- The device behind a disk in memory: its failures, the states that its calls left, and its fault.
+-- The device behind a disk in memory: its failures, the states that the disk has had, and its fault.
 use Rattle.std.specs.Prelude.{◌≡◌, ℕ, suc, ◌+◌, ◌-◌, List, ◌∷◌, length}
 use Rattle.std.specs.Prelude.{Option, Some, None, Result, Err}
 use Rattle.disk.specs.declared.error.DiskError.{DiskError}
@@ -8,14 +8,14 @@ use Rattle.disk.specs.States.{Slot}
 use Rattle.disk.specs.Calls.{RisesByOne}
 use Rattle.disk.specs.Faults.{WasMade}
 
--- how often it failed, the slots that its calls left, the latest first, and the call that its fault
--- strikes, by its number among all calls
+-- how often it failed, the slots at first and after each call and crash, the latest first, and how
+-- long that past is once its fault has struck
 pub record DeviceState : Type 0 where
   pub failures : ℕ
   pub past : List (List (ℕ × Slot))
   pub fault_at : Option ℕ
 
--- the call that a fault strikes, which was armed after these
+-- how long the past is once a fault has struck, which was armed when it was this one
 abbrev pub strikes_at : {A : Type 0} → List A → Option Armed → Option ℕ
 strikes_at before None = None
 strikes_at before (Some fault) = Some (length before + fault.call)

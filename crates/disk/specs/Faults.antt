@@ -20,13 +20,14 @@ struck_call fault.None = None
 struck_call (fault.Fail call) = call_at call
 struck_call (fault.Stop call junk) = call_at call
 
--- the number among all calls ever of the call that a fault strikes, if it is armed after so many
+-- how long the past is once the call is made that a fault strikes, if it was so long when the fault
+-- was armed
 abbrev pub armed_after : ℕ → Option ℕ → Option ℕ
-armed_after calls call = option_map (λ n. calls + n) call
+armed_after len call = option_map (λ n. len + n) call
 
--- the fault that strikes this call has struck: so many calls were made
+-- a fault that strikes where the past becomes so long has struck: it is so long now
 abbrev pub HasStruckBy : Option ℕ → ℕ → Type 0
-HasStruckBy at calls = IsSomeAnd at (λ n. n ≤ calls)
+HasStruckBy at len = IsSomeAnd at (λ n. n ≤ len)
 
 -- A call was made. One that wants memory never reaches the device, and does not count.
 abbrev pub Counts : {T : Type 0} → Result T DiskError → ℕ → ℕ → Type 0

@@ -23,8 +23,8 @@ pub use Rattle.disk.specs.Crashes.{CrashOutcome, CrashedIsDurable}
 pub use Rattle.disk.specs.Faults.{HasStruckBy, armed_after, struck_call}
 pub use Rattle.disk.specs.Lent.{AlwaysLeaves, IsArmed, IsStill, KeepsDisk}
 pub use Rattle.disk.specs.Memory.{IsReliable, Slots, past_states, state_of}
-pub use Rattle.disk.specs.Moments.{AllLeave, IsLastLeft, IsLeftAt, LeavesSince, OnlyLeaves}
-pub use Rattle.disk.specs.Moments.{Passes}
+pub use Rattle.disk.specs.Moments.{AddsMoment, AllLeave, IsLastLeft, IsLeftAt, LeavesSince}
+pub use Rattle.disk.specs.Moments.{OnlyLeaves, Passes}
 pub use Rattle.disk.specs.States.{Absent, AddsNoOutcome, Contents, DurableFileIsLeft}
 pub use Rattle.disk.specs.States.{DurableIsLeft, Fresh}
 pub use Rattle.disk.specs.States.{IsCrashOutcome, IsDurable, IsFileOutcome, IsSame, IsSameBut}

@@ -4,11 +4,11 @@ use Rattle.std.specs.Prelude.{Option, Some, None}
 use Rattle.std.specs.Map.{lookup}
 use Rattle.std.specs.BTreeMap.{is_at}
 use Rattle.std.specs.Ordering.{nat_cmp}
-use Rattle.disk.specs.Faults.{HasStruckBy}
+use Rattle.disk.specs.Moments.{IsLastLeft}
 use Rattle.disk.specs.States.{Slot, Absent, Fresh, Kept, State, AgreesOutside}
 
--- the slots by number, the count of failed calls, the slots that each call left, the latest first,
--- and the call that an armed fault strikes, by its number among all calls
+-- the slots by number, the count of failed calls, the slots that it had at first and after each call
+-- and crash, the latest first, and how long that past is once an armed fault has struck
 pub record Slots : Type 0 where
   pub slots : List (ℕ × Slot)
   pub failures : ℕ
@@ -29,7 +29,7 @@ slot_found (Some slot) = slot
 abbrev pub state_of : List (ℕ × Slot) → State
 state_of slots file = slot_found (lookup (is_at (nat_cmp file)) slots)
 
--- the states that its calls left, the latest first
+-- the states that it has had, the latest first
 abbrev pub past_states : Slots → List State
 past_states disk = map state_of disk.past
 
@@ -44,12 +44,11 @@ KeptAgrees (Kept bytes kept touches) = AgreesOutside (length kept) touches kept 
 abbrev pub AllKeptAgree : State → Type 0
 AllKeptAgree disk = (file : ℕ) → KeptAgrees (disk file)
 
--- where the fault has struck, these are the slots that the last call left
-abbrev pub IsLeftByFault : Slots → Type 0
-IsLeftByFault disk = HasStruckBy disk.fault_at (length disk.past) →
-    (before : List (List (ℕ × Slot))) × (disk.past ≡ disk.slots ∷ before)
+-- the latest state of its past is the one that it has
+abbrev pub EndsItsPast : Slots → Type 0
+EndsItsPast disk = IsLastLeft (past_states disk) (state_of disk.slots)
 
 -- what every disk in memory keeps
 pub record IsMemory (disk : Slots) : Type 0 where
   pub agrees : AllKeptAgree (state_of disk.slots)
-  pub last : IsLeftByFault disk
+  pub last : EndsItsPast disk

@@ -1,5 +1,5 @@
 -- What a crash at any moment since an earlier one may have left. A moment is the list of the states
--- that calls had left until then, the latest first.
+-- that the disk had had until then, the latest first: at first, and after each call and crash.
 use Rattle.std.specs.Prelude.{◌≡◌, ◌≢◌, ◌⊎◌, ℕ, List, [], ◌∷◌, Option}
 use Rattle.disk.specs.States.{State, Contents, IsCrashOutcome, IsFileOutcome, IsSame}
 
@@ -7,13 +7,16 @@ use Rattle.disk.specs.States.{State, Contents, IsCrashOutcome, IsFileOutcome, Is
 abbrev pub OnlyLeaves : (Contents → Type 0) → State → Type 0
 OnlyLeaves P disk = (left : Contents) → IsCrashOutcome disk left → P left
 
+-- the states so far are one more, which is this one
+abbrev pub AddsMoment : List State → List State → State → Type 0
+AddsMoment past since new = (now : State) × IsSame new now × (since ≡ now ∷ past)
+
 -- The effect of a call on the states so far: the state after it is one more. If it changed nothing,
 -- they may stay as they are.
 abbrev pub Passes : List State → State → List State → State → Type 0
-Passes past old since new = ((since ≡ past) × IsSame old new)
-    ⊎ ((now : State) × IsSame new now × (since ≡ now ∷ past))
+Passes past old since new = ((since ≡ past) × IsSame old new) ⊎ AddsMoment past since new
 
--- the last call left this state
+-- this is the latest of these states
 abbrev pub IsLastLeft : List State → State → Type 0
 IsLastLeft [] now = ⊥
 IsLastLeft (left ∷ before) now = IsSame left now

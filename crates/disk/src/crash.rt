@@ -2,7 +2,7 @@
 ghost use Rattle.std.specs.Prelude.{◌≡◌, ◌↔◌, None, IsTrue};
 ghost use Rattle.disk.specs.Calls.{HasStruck};
 ghost use Rattle.disk.specs.Lent.{IsArmed};
-ghost use Rattle.disk.specs.Moments.{IsLastLeft};
+ghost use Rattle.disk.specs.Moments.{AddsMoment, IsLastLeft};
 ghost use Rattle.disk.specs.States.{IsCrashOutcome, contents};
 ghost use Rattle.disk.specs.Crashes.{CrashOutcome};
 
@@ -20,16 +20,18 @@ pub trait Crash: Disk {
     /// Whether the fault has struck.
     fn has_struck(&self) -> bool
         ensures struck { IsTrue result ↔ HasStruck Self.fault_at Self.past self.now }
-        // Then its state is the one that the last call left.
-        ensures last { Self.is_honest self.now → HasStruck Self.fault_at Self.past self.now →
+        // The latest state of its past is the one that it has.
+        ensures last { Self.is_honest self.now →
             IsLastLeft (Self.past self.now) (Self.state self.now) };
 
-    /// Crashes and restarts the machine. A fault is forgotten. It allocates no memory.
+    /// Crashes and restarts the machine. A fault is forgotten. What the crash left is a moment of the
+    /// disk. It allocates no memory.
     fn crash(&mut self, junk: Junk)
         ensures honest { Self.is_honest self.new ↔ Self.is_honest self.old }
         ensures count { Self.failures self.new ≡ Self.failures self.old }
         ensures reliable { Self.is_reliable self.old → Self.is_reliable self.new }
-        ensures past { (Self.past self.new ≡ Self.past self.old) × (Self.fault_at self.new ≡ None) }
+        ensures past { AddsMoment (Self.past self.old) (Self.past self.new) (Self.state self.new)
+            × (Self.fault_at self.new ≡ None) }
         ensures crashes { Self.is_honest self.old →
             CrashOutcome junk (Self.state self.old) (Self.state self.new) }
         ensures allowed { Self.is_honest self.old →

@@ -22,7 +22,7 @@ pub struct Armed {
 pub struct Device {
     failures: u64,
     fault: Option<Armed>,
-    // The slots after each call so far, now and as they were when the fault was armed.
+    // The slots at first and after each call and crash so far, now and when the fault was armed.
     history: History<BTreeMap<u64, MemSlot>>,
     at_arming: History<BTreeMap<u64, MemSlot>>,
 }
@@ -43,15 +43,16 @@ impl Model for Device {
 }
 
 impl Device {
-    pub fn new() -> Device
+    /// A device that has these slots.
+    pub fn new(slots: &BTreeMap<u64, MemSlot>) -> Device
         ensures failures { result.failures ≡ 0 }
-        ensures past { result.past ≡ [] }
+        ensures past { result.past ≡ slots.now.entries ∷ [] }
         ensures fault { result.fault_at ≡ None }
     {
         Device {
             failures: 0,
             fault: None,
-            history: History::new(),
+            history: History::new().with(slots),
             at_arming: History::new(),
         }
     }
@@ -114,7 +115,7 @@ impl Device {
         self.failures < u64::MAX && !self.has_struck()
     }
 
-    // Counts a call, which left these slots.
+    // Counts a call, or a crash, which left these slots.
     fn count(&mut self, slots: &BTreeMap<u64, MemSlot>)
         ensures failures { self.new.failures ≡ self.old.failures }
         ensures past { self.new.past ≡ slots.now.entries ∷ self.old.past }
@@ -128,6 +129,16 @@ impl Device {
                 left: left.saturating_sub(1),
             }),
         };
+    }
+
+    /// A crash leaves these slots, and no fault.
+    pub fn crash(&mut self, slots: &BTreeMap<u64, MemSlot>)
+        ensures failures { self.new.failures ≡ self.old.failures }
+        ensures past { self.new.past ≡ slots.now.entries ∷ self.old.past }
+        ensures fault { self.new.fault_at ≡ None }
+    {
+        self.fault = None;
+        self.count(slots);
     }
 
     /// A call fails. At its last value the count of failures stays.

@@ -25,11 +25,11 @@ pub trait Disk {
     /// failures is below its last value. A disk of which nothing is known is never reliable.
     ghost is_reliable: { Self → Type 0 };
 
-    /// The states that calls have left so far, the latest first. A moment is this list as it was
-    /// then.
+    /// The states that the disk has had, the latest first: at first, and after each call and crash.
+    /// A moment is this list as it was then.
     ghost past: { Self → List State };
 
-    /// The call that the armed fault strikes, by its number among all calls ever, from 1.
+    /// How long the past is once the call is made that the armed fault strikes.
     ghost fault_at: { Self → Option ℕ };
 
     /// Whether `length`, `read`, `sync` and `remove` may allocate memory; `files`, `write_at` and

@@ -1,6 +1,6 @@
 // A disk in memory.
 ghost use Rattle.std.specs.Prelude.{◌≡◌, ◌≢◌, ℕ, ◌+◌, ◌-◌, ◌^◌, ◌<◌, ◌≤◌, length, min};
-ghost use Rattle.std.specs.Prelude.{◌↔◌, IfOk, OnOk, OnErr, Err, Some, None, [], IsTrue};
+ghost use Rattle.std.specs.Prelude.{◌↔◌, IfOk, OnOk, OnErr, Err, Some, None, [], ◌∷◌, IsTrue};
 ghost use Rattle.std.specs.BTreeMap.{insert_entry};
 ghost use Rattle.std.specs.Ordering.{nat_cmp};
 ghost use Rattle.disk.specs.States.{Absent, ChangesSlot, IsSame, seen};
@@ -60,13 +60,15 @@ impl MemDisk {
         ensures empty { (file : ℕ) → state_of result.slots file ≡ Absent None }
         ensures count { result.failures ≡ 0 }
         ensures reliable { IsReliable result }
-        ensures past { result.past ≡ [] }
+        ensures past { result.past ≡ result.slots ∷ [] }
         ensures fault { result.fault_at ≡ None }
     {
+        let slots = BTreeMap::new(alloc);
+        let device = Device::new(&slots);
         MemDisk {
             alloc,
-            slots: BTreeMap::new(alloc),
-            device: Device::new(),
+            slots,
+            device,
         }
     }
 
@@ -335,6 +337,6 @@ impl Crash for MemDisk {
 
     fn crash(&mut self, junk: Junk) {
         crash_in(self.alloc, &mut self.slots, &junk);
-        self.device.arm(&Fault::None);
+        self.device.crash(&self.slots);
     }
 }

@@ -1,10 +1,10 @@
 -- The disk behind an outcome of its node.
-use Rattle.std.proofs.Common.{◌≡◌, ℕ, ◌+◌, ◌^◌, ◌-◌, ◌<◌, ◌≤◌, Bool, Option, Some, None}
+use Rattle.std.proofs.Common.{◌≡◌, ℕ, ◌+◌, ◌^◌, ◌-◌, ◌<◌, ◌≤◌, Bool, List, Option, Some, None}
 use Rattle.std.proofs.Common.{true, false, ap, inl, length, ◌⊎◌}
 use Rattle.std.proofs.Common.{cond, ◌==◌, refl, sym, subst, ◌∙◌, eq-eqb, eqb-true, arith}
 use Rattle.std.proofs.lemmas.Bool.{cond_both, cond-true, cond-false, false≢true}
 use Rattle.kv_types.specs.{BatchContent}
-use Rattle.disk.specs.{Slots, past_states, struck_call}
+use Rattle.disk.specs.{Slots, State, past_states, struck_call}
 use Rattle.disk.specs.declared.Fault.{Fault}
 use Rattle.disk.specs.declared.Fault.TheVariants as fault
 use Rattle.disk.specs.declared.Junk.{Junk}
@@ -22,12 +22,14 @@ use Rattle.lab.specs.declared.event.EventKind.TheVariants.{Submit, Get, Deliver,
 use Rattle.lab.specs.declared.event.EventKind.TheVariants.{Stop}
 use Rattle.lab.specs.declared.node_state.NodeState.{NodeState}
 use Rattle.lab.specs.declared.node_state.NodeState.TheVariants.{Up, Down}
-use Rattle.lab.specs.Outcomes.{HasCrashed, DiskEnds, DiskFits, IsExplained}
+use Rattle.lab.specs.Outcomes.{HasCrashed, DiskEnds, DiskFits, DiskStays, IsExplained}
+use Rattle.lab.specs.Outcomes.{has_struck_in}
 use Rattle.lab.specs.Disks.{junk_of, IsCrashOf, IsEndOf, IsStopOf, DiskFollows, DisksFollow}
-use Rattle.lab.specs.Disks.{has_reached, junk_at_end}
+use Rattle.lab.specs.Disks.{before_crash, has_reached, junk_at_end, past_of_step}
 use Rattle.lab.specs.Events.{reported_cause, told_cause}
 use Rattle.lab.specs.SimNodes.{Choice, StateRefines, IsDown, disk_in, is_honest, state, failures}
 use Rattle.lab.specs.SimNodes.{IsUnarmed}
+use Rattle.lab.proofs.Faults.{idle}
 use Rattle.lab.proofs.Outcomes.{StopsSo}
 
 -- a count of failures that may rise
@@ -77,11 +79,11 @@ at_most_one junk it struck (done.Started epoch count committed) old new left may
     omega (arith, left.count)
 at_most_one junk it struck (done.Tended did) old new left may = omega (arith, left.count)
 at_most_one None it struck (done.Stopped None) old new left may =
-    at_end (junk_at_end it struck) struck Disk old (disk_in new) left may
+    at_end (junk_at_end it struck) struck Disk old (disk_in new) left.1 may
 at_most_one (Some junk) it struck (done.Stopped None) old new left may =
     omega (arith, (crash_of junk old new left).count)
 at_most_one junk it struck (done.Stopped (Some cause)) old new left may =
-    at_end (junk_at_end it struck) struck cause old (disk_in new) left may
+    at_end (junk_at_end it struck) struck cause old (disk_in new) left.1 may
 
 module _ {g : Ghosts Slots} (old : Slots) (new : NodeState Slots g) (may : MayRise old) where
   -- a node stopped by itself for the cause that was chosen, whatever of it was told
@@ -117,12 +119,12 @@ module _ {g : Ghosts Slots} (old : Slots) (new : NodeState Slots g) (may : MayRi
           DiskFits state failures past_states None it struck
           (done.Stopped (told_cause it struck cause)) old new →
           DiskEnds state failures past_states (junk_at_end it struck) struck cause old (disk_in new)
-      ends fault.None struck device left = left
-      ends (fault.Fail call) struck device left = left
-      ends (fault.Stop call junk) false device left = left
+      ends fault.None struck device left = left.1
+      ends (fault.Fail call) struck device left = left.1
+      ends (fault.Stop call junk) false device left = left.1
       ends (fault.Stop call junk) true device left =
           subst (λ (c : Cause). DiskEnds state failures past_states junk true c old (disk_in new))
-          (sym (device refl)) left
+          (sym (device refl)) left.1
 
   -- a stop is that of the event, or by itself for the cause that was chosen
   stop_of : (kind : EventKind) (it : Fault) (choice : Choice) (traced : Option Cause) →
@@ -152,11 +154,51 @@ module _ {g : Ghosts Slots} (old : Slots) (new : NodeState Slots g) (may : MayRi
   rests_so (Up node) x n is off = absurd (false≢true (sym off ∙ is.core.running))
   rests_so (Down disk) x n is off = tt
 
+  -- a node that stopped is down
+  is_down : (m : NodeState Slots g) (junk : Option Junk) (it : Fault) (struck : Bool)
+      (traced : Option Cause) →
+      DiskFits state failures past_states junk it struck (done.Stopped traced) old m → IsDown m
+  is_down (Up node) (Some junk) it struck None left = absurd left
+  is_down (Down disk) (Some junk) it struck None left = tt
+  is_down m None it struck None left = left.0
+  is_down m junk it struck (Some cause) left = left.0
+
+  -- the call of a fault was reached in a step, by the states that the disk of this node has had
+  abbrev ReachedBy : Fault → Bool → List State → Type 0
+  ReachedBy it struck past =
+      struck ≡ has_reached (struck_call it) (length (past_states old)) (length past)
+
+  -- .. all of them, where it did not stop
+  reached_now : (m : NodeState Slots g) (it : Fault) (struck : Bool) →
+      struck ≡ has_struck_in past_states it old m → DiskStays failures struck old m →
+      ReachedBy it struck (past_states (disk_in m))
+  reached_now (Up node) it struck is stays = is
+  reached_now (Down disk) it struck is stays =
+      stays.spared ∙ sym (subst (λ (d : Slots). has_reached (struck_call it)
+      (length (past_states old)) (length (past_states d)) ≡ false) (sym (stays.same tt))
+      (idle it (length (past_states old))))
+
+  -- .. those before the crash, where it stopped
+  reached_then : (m : NodeState Slots g) (it : Fault) (struck : Bool) → IsDown m →
+      struck ≡ has_struck_in past_states it old m →
+      ReachedBy it struck (before_crash (past_states (disk_in m)))
+  reached_then (Up node) it struck down is = absurd down
+  reached_then (Down disk) it struck down is = is
+
   module _ (event : Event) (choice : Choice) (o : Outcome BatchContent) (x : ℕ) (n : Machine) where
     -- the fault struck, then, as the count of calls says
     abbrev pub StruckSo : Type 0
-    StruckSo = choice.struck ≡ has_reached (struck_call event.fault) (length (past_states old))
-        (length (past_states (disk_in new)))
+    StruckSo = choice.struck ≡ has_struck_in past_states event.fault old new
+
+    -- .. in a step that ended so
+    abbrev ReachedIn : Bool → Type 0
+    ReachedIn stopped =
+        ReachedBy event.fault choice.struck (past_of_step stopped (past_states (disk_in new)))
+
+    answered_so : StruckSo → o.stopped ≡ false → DiskStays failures choice.struck old new →
+        ReachedIn o.stopped
+    answered_so struck ends stays = subst (λ (b : Bool). ReachedIn b) (sym ends)
+        (reached_now new event.fault choice.struck struck stays)
 
     -- where it struck, the node stopped, and for its device
     pub stops_so : (did : StepOutcome) → StopsSo event choice did o.stopped →
@@ -175,25 +217,27 @@ module _ {g : Ghosts Slots} (old : Slots) (new : NodeState Slots g) (may : MayRi
         IsExplained (state old) choice.struck did →
         DiskFollows state failures past_states event choice o n old (disk_in new)
     follows (done.Answered output) is struck ends left why = record {
-      fault = struck;
+      fault = answered_so struck ends left;
       stops = λ stops. absurd (false≢true (sym ends ∙ stops));
       count = λ _. left.count;
       rests = λ _. λ off. left.same (rests_so new x n is off);
     }
     follows (done.Started epoch count committed) is struck ends left why = record {
-      fault = struck;
+      fault = answered_so struck ends left;
       stops = λ stops. absurd (false≢true (sym ends ∙ stops));
       count = λ _. left.count;
       rests = λ _. λ off. left.same (rests_so new x n is off);
     }
     follows (done.Tended did) is struck ends left why = record {
-      fault = struck;
+      fault = answered_so struck ends left;
       stops = λ stops. absurd (false≢true (sym ends ∙ stops));
       count = λ _. left.count;
       rests = λ _. λ off. left.same (rests_so new x n is off);
     }
     follows (done.Stopped traced) is struck ends left why = record {
-      fault = struck;
+      fault = subst (λ (b : Bool). ReachedIn b) (sym ends.0)
+          (reached_then new event.fault choice.struck
+          (is_down new (junk_of event.kind) event.fault choice.struck traced left) struck);
       stops = λ _. stop_of event.kind event.fault choice traced ends.1 ends.2 left why;
       count = λ goes. absurd (false≢true (sym goes ∙ ends.0));
       rests = λ goes. absurd (false≢true (sym goes ∙ ends.0));

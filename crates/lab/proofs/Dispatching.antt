@@ -1,5 +1,5 @@
 -- A node that takes an input, by the state that it had.
-use Rattle.std.proofs.Common.{◌≡◌, ℕ, length, refl, subst}
+use Rattle.std.proofs.Common.{◌≡◌, ℕ, refl, subst}
 use Rattle.chain_core.specs.{Machine}
 use Rattle.disk.specs.declared.Fault.{Fault}
 use Rattle.disk.specs.declared.disk.Disk.{Ghosts}
@@ -14,7 +14,7 @@ use Rattle.lab.specs.declared.node_state.NodeState.TheVariants.{Up, Down}
 use Rattle.lab.specs.Outcomes.{DropsResting, HasDispatched, IsAnswerAtRest, OutcomeRefines, Rests}
 use Rattle.lab.specs.Outcomes.{RestsOn, StateFollows, TendsNot, has_struck_in}
 use Rattle.lab.specs.SimNodes.{StateIsReady, StateRefines, disk_in}
-use Rattle.lab.proofs.Faults.{idle}
+use Rattle.lab.proofs.Faults.{idle_in}
 
 -- a node that is up is ready where it says so, and one that is down is
 pub ready_up : {D : Type 0} {g : Ghosts D} (node : Node D g) → IsReady node → StateIsReady (Up node)
@@ -37,7 +37,7 @@ answered_only g it node_input old output ready refines follows = record {
   ready = ready;
   refines = refines;
   disk = λ honest. record {
-    spared = idle it (length (g.past (disk_in old)));
+    spared = idle_in g it old;
     count = refl;
     same = λ down. refl;
   };

@@ -1,5 +1,5 @@
 -- What a fault makes of the disk that was armed with it, once a step made its calls.
-use Rattle.std.proofs.Common.{◌≡◌, ◌↔◌, ℕ, zero, suc, ◌+◌, Bool, List, Option, Some, None, length}
+use Rattle.std.proofs.Common.{◌≡◌, ◌↔◌, ℕ, zero, suc, ◌+◌, ◌≤◌, Bool, List, [], ◌∷◌, Option, Some, None, length}
 use Rattle.std.proofs.Common.{true, false, refl, sym, ap, subst, ◌∙◌, arith, le-leb, leb-true}
 use Rattle.std.proofs.Common.{◌⊎◌, inl, inr}
 use Rattle.std.proofs.lemmas.Bool.{false≢true}
@@ -16,12 +16,12 @@ use Rattle.lab.specs.declared.input.StepOutcome.{StepOutcome}
 use Rattle.lab.specs.declared.input.StepOutcome.TheVariants as done
 use Rattle.lab.specs.declared.node_state.NodeState.{NodeState}
 use Rattle.lab.specs.declared.node_state.NodeState.TheVariants.{Up, Down}
-use Rattle.node.specs.{HasLongFile, IsEnvironmental}
-use Rattle.lab.specs.Disks.{has_reached, junk_at_end}
+use Rattle.node.specs.{HasLongFile, IsEnvironmental, disk_of}
+use Rattle.lab.specs.Disks.{before_crash, has_reached, junk_at_end}
 use Rattle.lab.specs.Events.{told_cause}
 use Rattle.lab.specs.Outcomes.{DiskEnds, DiskFits, HasCrashed, IsExplained, StopsByItself}
 use Rattle.lab.specs.Outcomes.{has_struck_in}
-use Rattle.lab.specs.SimNodes.{disk_in}
+use Rattle.lab.specs.SimNodes.{IsDown, disk_in}
 
 -- ---- the call that a fault strikes
 
@@ -32,13 +32,14 @@ reached_is None before now = (λ e. false≢true e, λ has. absurd has)
 reached_is (Some call) before now =
     (λ e. leb-true (before + call) now e, λ has. le-leb (before + call) now has)
 
--- no fault has struck that was just armed
-not_yet : (it : Fault) (calls : ℕ) → HasStruckBy (armed_after calls (struck_call it)) calls → ⊥
-not_yet fault.None calls has = has
-not_yet (fault.Fail zero) calls has = has
-not_yet (fault.Fail (suc n)) calls has = omega (arith, has)
-not_yet (fault.Stop zero junk) calls has = has
-not_yet (fault.Stop (suc n) junk) calls has = omega (arith, has)
+-- no fault has struck before a call was made since it was armed
+not_yet : (it : Fault) (calls now : ℕ) → now ≤ calls →
+    HasStruckBy (armed_after calls (struck_call it)) now → ⊥
+not_yet fault.None calls now none has = has
+not_yet (fault.Fail zero) calls now none has = has
+not_yet (fault.Fail (suc n)) calls now none has = omega (arith, has, none)
+not_yet (fault.Stop zero junk) calls now none has = has
+not_yet (fault.Stop (suc n) junk) calls now none has = omega (arith, has, none)
 
 -- a test fails whose fact does not hold
 not_true : (b : Bool) → (b ≡ true → ⊥) → b ≡ false
@@ -46,9 +47,24 @@ not_true true none = absurd (none refl)
 not_true false none = refl
 
 -- .. and a disk has reached none of its calls
+idle_by : (it : Fault) (calls now : ℕ) → now ≤ calls → has_reached (struck_call it) calls now ≡ false
+idle_by it calls now none = not_true (has_reached (struck_call it) calls now)
+    (λ e. not_yet it calls now none ((reached_is (struck_call it) calls now).0 e))
+
 pub idle : (it : Fault) (calls : ℕ) → has_reached (struck_call it) calls calls ≡ false
-idle it calls = not_true (has_reached (struck_call it) calls calls)
-    (λ e. not_yet it calls ((reached_is (struck_call it) calls calls).0 e))
+idle it calls = idle_by it calls calls (omega arith)
+
+-- there are no more states before a crash than in all
+no_longer : (past : List State) → length (before_crash past) ≤ length past
+no_longer [] = omega arith
+no_longer (left ∷ before) = omega arith
+
+-- no fault strikes a node that stays as it is
+pub idle_in : {D : Type 0} (g : Ghosts D) (it : Fault) (old : NodeState D g) →
+    has_struck_in g.past it (disk_in old) old ≡ false
+idle_in g it (Up node) = idle it (length (g.past (disk_of node)))
+idle_in g it (Down disk) =
+    idle_by it (length (g.past disk)) (length (before_crash (g.past disk))) (no_longer (g.past disk))
 
 -- a test holds, or else what follows where it fails
 true_or : (b : Bool) {P : Type 0} → (b ≡ false → P) → (b ≡ true) ⊎ P
@@ -101,26 +117,32 @@ module _ {D : Type 0} (g : Ghosts D) (it : Fault) (old : D) where
           (reached_is (struck_call it) (length (g.past old)) (length (g.past left)))
 
       fresh : HasStruck g.fault_at g.past armed → ⊥
-      fresh has = not_yet it (length (g.past old))
+      fresh has = not_yet it (length (g.past old)) (length (g.past old)) (omega arith)
           (subst (λ (n : ℕ). HasStruckBy (armed_after (length (g.past old)) (struck_call it)) n)
           (ap length arms.past)
           (subst (λ (o : Option ℕ). HasStruckBy o (length (g.past armed))) at has))
 
   -- ---- a step that stopped the node
 
-  -- what a crash leaves has had as many calls
+  -- what a crash leaves had had as many calls before
   after_crash : (junk : Junk) (left : D) (new : NodeState D g) →
       HasCrashed g.state g.failures g.past junk left new →
       struck_at left ≡ has_struck_in g.past it old new
   after_crash junk left (Up node) crashed = absurd crashed
   after_crash junk left (Down disk) crashed =
-      ap (λ (l : List State). has_reached (struck_call it) (length (g.past old)) (length l))
-      (sym crashed.none_made)
+      ap (λ (l : List State). has_reached (struck_call it) (length (g.past old))
+      (length (before_crash l))) (sym crashed.moment.2)
+
+  -- a disk that crashed is of a node that is down
+  is_down : (junk : Junk) (left : D) (new : NodeState D g) →
+      HasCrashed g.state g.failures g.past junk left new → IsDown new
+  is_down junk left (Up node) crashed = absurd crashed
+  is_down junk left (Down disk) crashed = tt
 
   -- a node stopped by itself and left this disk, which then crashed
   ends_by : (junk : Junk) (struck : Bool) (cause : Cause) (left : D) (new : NodeState D g) →
       HasCrashed g.state g.failures g.past junk left new →
-      (struck ≡ true → IsLastLeft (g.past left) (g.state left)) →
+      IsLastLeft (g.past left) (g.state left) →
       (cause ≡ Disk → RisesByOne (g.failures old) (g.failures left)) →
       ((cause ≡ Disk → ⊥) → g.failures left ≡ g.failures old) →
       DiskEnds g.state g.failures g.past junk struck cause old (disk_in new)
@@ -130,22 +152,24 @@ module _ {D : Type 0} (g : Ghosts D) (it : Fault) (old : D) where
     others = λ other. crashed.count ∙ others other;
     left = g.state left;
     crashes = crashed.crashes;
-    last = λ strikes. subst (λ (l : List State). IsLastLeft l (g.state left))
-        (sym crashed.none_made) (last strikes);
+    last = subst (λ (l : List State). IsLastLeft (before_crash l) (g.state left))
+        (sym crashed.moment.2) last;
   }
 
   -- .. and tells what the fault lets it tell
   tells : (fault_of : Fault) (struck : Bool) (stop : Cause) (new : NodeState D g) →
-      (struck ≡ true → stop ≡ Disk) →
+      (struck ≡ true → stop ≡ Disk) → IsDown new →
       DiskEnds g.state g.failures g.past (junk_at_end fault_of struck) struck stop old (disk_in new) →
       DiskFits g.state g.failures g.past None fault_of struck
       (done.Stopped (told_cause fault_of struck stop)) old new
-  tells fault.None struck stop new device ends = ends
-  tells (fault.Fail call) struck stop new device ends = ends
-  tells (fault.Stop call junk) false stop new device ends = ends
-  tells (fault.Stop call junk) true stop new device ends =
-      subst (λ (c : Cause). DiskEnds g.state g.failures g.past junk true c old (disk_in new))
-      (device refl) ends
+  tells fault.None struck stop new device down ends = (down, ends)
+  tells (fault.Fail call) struck stop new device down ends = (down, ends)
+  tells (fault.Stop call junk) false stop new device down ends = (down, ends)
+  tells (fault.Stop call junk) true stop new device down ends = (
+    down,
+    subst (λ (c : Cause). DiskEnds g.state g.failures g.past junk true c old (disk_in new))
+        (device refl) ends,
+  )
 
   -- a cause that is reported is that of the stop
   same_cause : (fault_of : Fault) (struck : Bool) (stop cause : Cause) →
@@ -164,7 +188,7 @@ module _ {D : Type 0} (g : Ghosts D) (it : Fault) (old : D) where
       (crashes : (struck : Bool) → ((struck ≡ true) ↔ HasStruck g.fault_at g.past left) →
       g.is_honest left →
       HasCrashed g.state g.failures g.past (junk_at_end it struck) left new
-      × (struck ≡ true → IsLastLeft (g.past left) (g.state left)))
+      × IsLastLeft (g.past left) (g.state left))
     where
       -- whether the fault struck, once all is done
       abbrev struck : Bool
@@ -204,6 +228,7 @@ module _ {D : Type 0} (g : Ghosts D) (it : Fault) (old : D) where
           struck d
           old new) (sym says)
           (tells it struck stop new device
+          (is_down (junk_at_end it (struck_at left)) left new crashed)
           (subst (λ (b : Bool). DiskEnds g.state g.failures g.past (junk_at_end it b) b stop old
           (disk_in new))
           same

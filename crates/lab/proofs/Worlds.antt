@@ -14,7 +14,7 @@ use Rattle.kv_types.specs.declared.bounds.TheConstants.{MAX_NUMBER}
 use Rattle.kv_types.specs.{BatchContent}
 use Rattle.disk.specs.declared.Fault.{Fault}
 use Rattle.disk.specs.declared.Junk.{Junk}
-use Rattle.disk.specs.{IsReliable, Slots, past_states, struck_call}
+use Rattle.disk.specs.{IsReliable, Slots, past_states}
 use Rattle.chain_model.specs.{Configurations, Lawful, AllDifferent, has, at_epoch}
 use Rattle.chain_model.specs.{Message as ModelFrame, InOrder, SystemEvent as ModelEvent}
 use Rattle.chain_model.specs.{SystemState, Outcome, Answered, reached, first_state, outcome}
@@ -49,7 +49,7 @@ use Rattle.lab.specs.Outcomes.{DiskFits, HasCrashed, IsExplained, OutcomeRefines
 use Rattle.lab.specs.Outcomes.{HasTended, Halts, Tends, TendsNot, TellsTended}
 use Rattle.lab.specs.Outcomes.{has_struck_in, input_junk, sent_by}
 use Rattle.lab.proofs.Outcomes.{TellsChosen}
-use Rattle.lab.specs.Disks.{DiskFollows, has_reached, junk_of, IsCrashOf}
+use Rattle.lab.specs.Disks.{DiskFollows, junk_of, IsCrashOf}
 use Rattle.lab.specs.Traces.{modelled_from}
 use Rattle.lab.specs.Worlds.{PostedRefines, SimNodeRefines, HasMoved, HasNoNode, HasStepped}
 use Rattle.lab.specs.Worlds.{RunRefines}
@@ -263,11 +263,9 @@ module _ (in_order : AlwaysInOrder) (cs : Configurations) (events : List Event)
       let struck = struck_by event.fault old sim in
       let out = refined cs w i x event.fault struck old.state sim.state t.did event.kind node_input brings
       (t.took.refines x (w.nodes x) before) in
-      let so : out.choice.struck
-      ≡ has_reached (struck_call event.fault) (length (past_states (made.disks x)))
-      (length (past_states own)) = out.chose
-      ∙ ap (λ (d : Slots). has_reached (struck_call event.fault) (length (past_states d))
-      (length (past_states own))) slots in
+      let so : out.choice.struck ≡ has_struck_in past_states event.fault (made.disks x) sim.state =
+      out.chose
+      ∙ ap (λ (d : Slots). has_struck_in past_states event.fault d sim.state) slots in
       let left : DiskFits state failures past_states (junk_of event.kind) event.fault out.choice.struck
       t.did (made.disks x) sim.state =
       subst (λ (b : Bool). DiskFits state failures past_states (junk_of event.kind) event.fault b t.did

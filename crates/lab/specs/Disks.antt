@@ -6,7 +6,7 @@ use Rattle.disk.specs.declared.Fault.{Fault}
 use Rattle.disk.specs.declared.Fault.TheVariants as fault
 use Rattle.disk.specs.declared.Junk.{Junk}
 use Rattle.disk.specs.declared.Junk.TheVariants.{Old}
-use Rattle.disk.specs.{CrashOutcome, IsLastLeft, State, struck_call}
+use Rattle.disk.specs.{AddsMoment, CrashOutcome, IsLastLeft, State, struck_call}
 use Rattle.chain_model.specs.{Configurations, at_epoch}
 use Rattle.chain_model.specs as model
 use Rattle.chain_core.specs.{Machine}
@@ -35,13 +35,24 @@ abbrev pub has_reached : Option ℕ → ℕ → ℕ → Bool
 has_reached None before now = false
 has_reached (Some call) before now = nat_le (before + call) now
 
--- a disk crashed with this junk, and none of its calls was made
+-- a disk crashed with this junk, and none of its calls was made: what the crash left is one moment
 pub record IsCrashOf {D : Type 0} (state : D → State) (failures : D → ℕ)
     (past : D → List State) (junk : Junk)
     (old new : D) : Type 0 where
   pub crashes : CrashOutcome junk (state old) (state new)
   pub count : failures new ≡ failures old
-  pub none_made : past new ≡ past old
+  pub moment : AddsMoment (past old) (past new) (state new)
+
+-- the states that a disk which has crashed had before that
+abbrev pub before_crash : List State → List State
+before_crash [] = []
+before_crash (left ∷ before) = before
+
+-- the states that a disk had when a step ended, which left this past: the step's node stopped, and
+-- the disk has crashed since, or it did not
+abbrev pub past_of_step : Bool → List State → List State
+past_of_step true past = before_crash past
+past_of_step false past = past
 
 -- the junk of the crash after a node stopped by itself: the fault's, where that stopped its machine
 abbrev pub junk_at_end : Fault → Bool → Junk
@@ -51,17 +62,18 @@ junk_at_end (fault.Fail call) struck = Old
 junk_at_end fault.None struck = Old
 
 -- A node stopped by itself. If it stopped for the disk, one call of that failed, else none; and its
--- disk is what a crash with this junk leaves of a state.
+-- disk is what a crash with this junk leaves of the state that the step left.
 pub record IsEndOf {D : Type 0} (state : D → State) (failures : D → ℕ) (past : D → List State)
     (junk : Junk) (choice : Choice) (old new : D) : Type 0 where
   pub failed : choice.cause ≡ Disk → failures new ≡ failures old + 1
   pub others : (choice.cause ≡ Disk → ⊥) → failures new ≡ failures old
   -- a call fails only where the fault struck, or where a file was nearly as long as one can be
   pub only : choice.cause ≡ Disk → (choice.struck ≡ true) ⊎ HasLongFile (state old)
+  -- the state that the step left; where the fault struck, its call left it, and the later ones
+  -- changed nothing
   pub left : State
+  pub last : IsLastLeft (before_crash (past new)) left
   pub crashes : CrashOutcome junk left (state new)
-  -- where the fault struck, that is the state that its call left: the later ones changed nothing
-  pub last : choice.struck ≡ true → IsLastLeft (past new) left
 
 -- a node stopped: its disk crashed with the junk of the event, or else it stopped by itself
 abbrev pub IsStopOf : {D : Type 0} → (D → State) → (D → ℕ) → (D → List State) → Option Junk → Fault → Choice
@@ -75,9 +87,9 @@ IsStopOf state failures past None fault choice old new =
 pub record DiskFollows {D : Type 0} (state : D → State) (failures : D → ℕ)
     (past : D → List State) (event : Event)
     (choice : Choice) (o : model.Outcome BatchContent) (n : Machine) (old new : D) : Type 0 where
-  -- the fault struck exactly where the disk has had so many calls since
+  -- the fault struck exactly where the disk has had so many calls in the step
   pub fault : choice.struck ≡ has_reached (struck_call event.fault) (length (past old))
-      (length (past new))
+      (length (past_of_step o.stopped (past new)))
   pub stops : o.stopped ≡ true →
       IsStopOf state failures past (junk_of event.kind) event.fault choice old new
   -- where the node did not stop, no call of its disk failed

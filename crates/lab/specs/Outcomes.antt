@@ -31,7 +31,7 @@ use Rattle.lab.specs.declared.node_state.NodeState.{NodeState}
 use Rattle.lab.specs.declared.node_state.NodeState.TheVariants.{Up, Down}
 use Rattle.lab.specs.declared.report.Line.{Line}
 use Rattle.lab.specs.declared.report.Line.TheVariants as line
-use Rattle.lab.specs.Disks.{IsCrashOf, has_reached, junk_at_end}
+use Rattle.lab.specs.Disks.{IsCrashOf, before_crash, has_reached, junk_at_end}
 use Rattle.lab.specs.Events.{dropped_lines, told_cause}
 use Rattle.lab.specs.SimNodes.{StateIsReady, StateRefines, IsDown, disk_in}
 
@@ -77,11 +77,16 @@ HasAnswered did P = (output : Output) × (did ≡ done.Answered output) × P out
 
 -- ---- the fault of an event
 
+-- the states that a node's disk had when its step ended: one of a node that is down has crashed since
+abbrev pub past_in : {D : Type 0} {g : Ghosts D} → (D → List State) → NodeState D g → List State
+past_in past (Up node) = past (disk_of node)
+past_in past (Down disk) = before_crash (past disk)
+
 -- whether the fault struck a call of a node's disk
 abbrev pub has_struck_in : {D : Type 0} {g : Ghosts D} → (D → List State) → Fault → D → NodeState D g
     → Bool
 has_struck_in past fault old new =
-    has_reached (struck_call fault) (length (past old)) (length (past (disk_in new)))
+    has_reached (struck_call fault) (length (past old)) (length (past_in past new))
 
 -- A node stopped by itself, for its device or for memory: for its device where the fault struck.
 pub record StopsByItself (fault : Fault) (struck : Bool) (did : StepOutcome) : Type 0 where
@@ -202,15 +207,15 @@ abbrev pub HasCrashed : {D : Type 0} {g : Ghosts D} → (D → State) → (D →
 HasCrashed state failures past junk old (Up node) = ⊥
 HasCrashed state failures past junk old (Down disk) = IsCrashOf state failures past junk old disk
 
--- A node stopped by itself: a call of the disk failed if that is the cause, and else none. What was
--- left of the disk crashed with this junk: where the fault struck, the state that the last call left.
+-- A node stopped by itself: a call of the disk failed if that is the cause, and else none. The state
+-- that the step left of the disk crashed with this junk.
 pub record DiskEnds {D : Type 0} (state : D → State) (failures : D → ℕ) (past : D → List State)
     (junk : Junk) (struck : Bool) (cause : Cause) (old new : D) : Type 0 where
   pub failed : cause ≡ Disk → RisesByOne (failures old) (failures new)
   pub others : (cause ≡ Disk → ⊥) → failures new ≡ failures old
   pub left : State
   pub crashes : CrashOutcome junk left (state new)
-  pub last : struck ≡ true → IsLastLeft (past new) left
+  pub last : IsLastLeft (before_crash (past new)) left
 
 -- a node stopped and tells no cause: the event stopped it with its junk, or else the fault did
 abbrev pub HasCrashedWith : {D : Type 0} {g : Ghosts D} → (D → State) → (D → ℕ) → (D → List State) → Option Junk → Fault
@@ -218,7 +223,8 @@ abbrev pub HasCrashedWith : {D : Type 0} {g : Ghosts D} → (D → State) → (D
 HasCrashedWith state failures past (Some junk) fault struck old new =
     HasCrashed state failures past junk old new
 HasCrashedWith state failures past None fault struck old new =
-    DiskEnds state failures past (junk_at_end fault struck) struck Disk old (disk_in new)
+    IsDown new
+    × DiskEnds state failures past (junk_at_end fault struck) struck Disk old (disk_in new)
 
 -- the disk that a node had and the one behind its outcome
 abbrev pub DiskFits : {D : Type 0} {g : Ghosts D} → (D → State) → (D → ℕ) → (D → List State) → Option Junk → Fault → Bool
@@ -232,7 +238,8 @@ DiskFits state failures past junk fault struck (done.Started epoch count committ
 DiskFits state failures past junk fault struck (done.Stopped None) old new =
     HasCrashedWith state failures past junk fault struck old new
 DiskFits state failures past junk fault struck (done.Stopped (Some cause)) old new =
-    DiskEnds state failures past (junk_at_end fault struck) struck cause old (disk_in new)
+    IsDown new
+    × DiskEnds state failures past (junk_at_end fault struck) struck cause old (disk_in new)
 
 -- ---- the state behind an input, whatever the machine
 

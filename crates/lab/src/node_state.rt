@@ -54,7 +54,7 @@ fn stop_by_itself<D: Crash + Drop>(disk: D, stop: Stop, fault: Fault) -> (NodeSt
     ensures crashes { (struck : Bool) → (IsTrue struck ↔ HasStruck D.fault_at D.past disk) →
         D.is_honest disk → HasCrashed D.state D.failures D.past
         (junk_at_end fault struck) disk result.0
-        × (IsTrue struck → IsLastLeft (D.past disk) (D.state disk)) }
+        × IsLastLeft (D.past disk) (D.state disk) }
     ensures refines { (x : ℕ) (n : Machine) (a : Answer BatchContent) →
         D.is_honest disk → StopRefines (D.state disk) x n a →
         StateRefines D.is_honest D.state result.0 x (stopped n)

@@ -1,10 +1,11 @@
-use Rattle.std.proofs.Common.{List, map, refl, inl, rules, subst}
+use Rattle.std.proofs.Common.{List, Result, map, refl, inl, subst}
+use Rattle.disk.specs.declared.error.DiskError.{DiskError}
 use Rattle.disk.specs.States.{State}
-use Rattle.disk.specs.Calls.{BegunWrite}
+use Rattle.disk.specs.Calls.{BegunWrite, WriteOutcome}
 use Rattle.disk.specs.Faults.{CallPasses}
 use Rattle.disk.specs.Memory.{IsReliable, Slots, past_states, state_of}
 use Rattle.disk.proofs.Agreement.{writes_agree}
-use Rattle.disk.proofs.Devices.{fail_passes}
+use Rattle.disk.proofs.Devices.{ends_past, fail_passes}
 use Rattle.disk.proofs.memory.MemDiskDisk.write_at.Goals as goal
 
 -- a write that would end out of range has no effect
@@ -26,5 +27,10 @@ invariant_of-self-2 c = record {
   agrees = writes_agree c.write_in-answer.result (state_of c.self.inside.slots.entries)
       (state_of c.write_in-answer.new.slots.entries) c.args.file c.args.at c.args.bytes.now
       c.write_in-answer.ensures.writes c.write_in-answer.ensures.other c.self.invariant.agrees;
-  last = search rules;
+  last = ends_past (state_of c.self.inside.slots.entries) c.write_in-answer.new.slots.entries
+      c.self.inside.device c.end.new.self c.write_in-answer.result c.end.result c.end.ensures
+      (λ wants. (subst (λ (answer : Result Unit DiskError). WriteOutcome
+      (state_of c.self.inside.slots.entries) c.args.file c.args.at c.args.bytes.now answer
+      (state_of c.write_in-answer.new.slots.entries)) wants c.write_in-answer.ensures.writes).0)
+      c.self.invariant.last;
 }
