@@ -8,8 +8,9 @@ use Rattle.disk.specs.StillLemmas.{still, still_more}
 use Rattle.kv_types.specs.{Entry}
 use Rattle.table_format.specs.{IsEnvironmentError, TableRepresents}
 use Rattle.table_format.specs.declared.TableError.{TableError}
-use Rattle.sorted_table.specs.{FileRepresents, LookupFinds, TableServes, greatest_key}
-use Rattle.sorted_table.specs.{table_file}
+use Rattle.sorted_table.specs.{FileRepresents, HasTail, LookupFinds, TableServes, greatest_key}
+use Rattle.sorted_table.specs.{index_lines, last_line_key, table_file, table_filter}
+use Rattle.sorted_table.specs.declared.Table.{Table}
 use Rattle.sorted_table.specs.declared.FoundVersion.{FoundVersion}
 use Rattle.table_files.specs.{inner_disk}
 use Rattle.table_files.specs.declared.Files.{Files}
@@ -84,15 +85,23 @@ pub fit_same : (old new : State) (line : TableLine) → IsSame old new
 fit_same old new line same fit =
     subst (λ (o : Option (List ℕ)). IsSomeAnd o (FitsLine line)) (ap seen (same line.file)) fit
 
--- the length that was read is the line's, and so is the greatest key
+-- the length that was read is the line's, and so is the greatest key, by the index and the entries
 pub fit_read : (file : Option (List ℕ)) (line : TableLine) (len : ℕ)
     → IsSomeAnd file (λ bytes. (len ≡ length bytes) × (len < 2 ^ 63)) → len ≡ line.length
+    → (table : Table) → IsSomeAnd file (λ bytes. HasTail bytes (index_lines table) (table_filter table))
+    → last_line_key (index_lines table) ≡ Some line.greatest
     → ((entries : List Entry) → IsSomeAnd file (λ bytes. TableRepresents bytes entries)
     → greatest_key entries ≡ Some line.greatest)
     → IsSomeAnd file (FitsLine line)
-fit_read None line len answer same ends = absurd answer
-fit_read (Some bytes) line len answer same ends =
-    record { len = sym answer.0 ∙ same; greatest = ends }
+fit_read None line len answer same table tail last ends = absurd answer
+fit_read (Some bytes) line len answer same table tail last ends = record {
+  len = sym answer.0 ∙ same;
+  lines = index_lines table;
+  filter = table_filter table;
+  tail = tail;
+  last = last;
+  greatest = ends;
+}
 
 pub same_back : (old new : State) → IsSame old new → IsSame new old
 same_back old new same file = sym (same file)

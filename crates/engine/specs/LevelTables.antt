@@ -7,9 +7,11 @@ use Rattle.disk.specs.{State, Contents}
 use Rattle.kv_types.specs.{BatchContent, Entry, IsNewest, IsUnseen, map_of}
 use Rattle.table_builder.specs.{first_entry}
 use Rattle.table_format.specs.{TableRepresents}
+use Rattle.table_format.specs.declared.IndexLine.{IndexLine}
 use Rattle.table_format.specs.declared.TableError.{TableError}
 use Rattle.table_format.specs.declared.TableError.TheVariants as table
-use Rattle.sorted_table.specs.{TableServes, found_entry, greatest_key, table_file}
+use Rattle.sorted_table.specs.{HasTail, TableServes, found_entry, greatest_key, last_line_key}
+use Rattle.sorted_table.specs.{table_file}
 use Rattle.sorted_table.specs.declared.FoundVersion.{FoundVersion}
 use Rattle.store_model.specs.{KeyRange, LevelTable, NewestHas, StoreFinds, StoreRepresents, StoreState}
 use Rattle.store_model.specs.{TableLacks, level_entries, memory_entries}
@@ -54,9 +56,15 @@ pub record IsTableOf (left : Contents) (line : TableLine) (table : LevelTable) :
 abbrev pub AreTablesOf : Contents → List TableLine → List LevelTable → Type 0
 AreTablesOf left = AllZip (IsTableOf left)
 
--- The bytes have the line's length, and where they represent a table, its greatest key is the line's.
+-- The bytes have the line's length. They end in a filter, an index and a footer, whatever stands
+-- before, and the last line of the index has the line's greatest key. Where they represent a table,
+-- that is its greatest key.
 pub record FitsLine (line : TableLine) (bytes : List ℕ) : Type 0 where
   pub len : length bytes ≡ line.length
+  pub lines : List IndexLine
+  pub filter : List ℕ
+  pub tail : HasTail bytes lines filter
+  pub last : last_line_key lines ≡ Some line.greatest
   pub greatest : (entries : List Entry) → TableRepresents bytes entries →
       greatest_key entries ≡ Some line.greatest
 

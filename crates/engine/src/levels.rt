@@ -6,7 +6,7 @@ ghost use Rattle.std.specs.Prelude.{Contains, [], ◌∷◌, ◌++◌};
 ghost use Rattle.bloom.specs.{hashes_of};
 ghost use Rattle.disk.specs.{IsSame, IsStill, KeepsDisk, Slot, State, contents};
 ghost use Rattle.kv_types.specs.{Entry};
-ghost use Rattle.sorted_table.specs.{TableServes, greatest_key};
+ghost use Rattle.sorted_table.specs.{TableServes, greatest_key, index_lines, last_line_key};
 ghost use Rattle.store_model.specs.{AreLeveled, FitsRange, LevelTable, RangeHolds};
 ghost use Rattle.store_model.specs.{level_entries};
 ghost use Rattle.engine.specs.Errors.{FailsDevice, IsEnd, IsOfMachine};
@@ -38,9 +38,10 @@ impl From<TableError> for EngineError {
     }
 }
 
-// Whether the last entry of the table has this key.
+// Whether the last line of the table's index has this key, as its last entry has.
 fn ends_with(table: &Table, key: &Key) -> bool
-    ensures { (file : Slot) (entries : List Entry) → TableServes file table.now entries →
+    ensures line { IsTrue result ↔ (last_line_key (index_lines table.now) ≡ Some key.now) }
+    ensures serves { (file : Slot) (entries : List Entry) → TableServes file table.now entries →
         IsTrue result ↔ (greatest_key entries ≡ Some key.now) }
 {
     match table.greatest() {

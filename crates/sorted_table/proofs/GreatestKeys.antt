@@ -12,7 +12,7 @@ use Rattle.table_format.specs.RisingLemmas.{last_push}
 use Rattle.table_format.specs.{Block, block_bytes, block_entries, block_lines, entries_of_blocks}
 use Rattle.table_format.specs.{last_entry}
 use Rattle.table_format.specs.declared.IndexLine.{IndexLine}
-use Rattle.sorted_table.specs.Open.{TableServes, greatest_key}
+use Rattle.sorted_table.specs.Open.{TableServes, greatest_key, index_lines, last_line_key}
 use Rattle.sorted_table.specs.declared.table.Table.{Table}
 
 -- the last of some entries behind others
@@ -56,6 +56,23 @@ last_key place (b ∷ next ∷ blocks) =
     ap (λ (i : ℕ). option_map (λ (line : IndexLine). line.key)
     (slice_get (block_lines place (b ∷ next ∷ blocks)) i)) at
     ∙ (last_key behind (next ∷ blocks) ∙ sym (greatest_behind b next blocks))
+
+-- the key of the last of some lines, which stands at the last place
+last_line_is : (lines : List IndexLine)
+    → option_map (λ (line : IndexLine). line.key) (slice_get lines (length lines - 1))
+    ≡ last_line_key lines
+last_line_is [] = refl
+last_line_is (line ∷ []) = refl
+last_line_is (line ∷ next ∷ lines) =
+    let at : length (line ∷ next ∷ lines) - 1 ≡ suc (length (next ∷ lines) - 1) = omega arith in
+    ap (λ (i : ℕ). option_map (λ (one : IndexLine). one.key) (slice_get (line ∷ next ∷ lines) i)) at
+    ∙ last_line_is (next ∷ lines)
+
+-- the last line of a table's index
+pub kept_greatest : (table : Table) (lines : List IndexLine) → lines ≡ rc_slice_items table.lines
+    → option_map (λ (line : IndexLine). line.key) (slice_get lines (length lines - 1))
+    ≡ last_line_key (index_lines table)
+kept_greatest table lines are = last_line_is lines ∙ ap last_line_key are
 
 -- the last line of a table that serves entries
 pub served_greatest : (file : Slot) (table : Table) (entries : List Entry) (lines : List IndexLine)

@@ -11,5 +11,6 @@ pub mod Tails
 -- What crates above name.
 pub use Rattle.sorted_table.specs.Open.{FileRepresents, FinishedTablesAreFiles, HasBlockOf}
 pub use Rattle.sorted_table.specs.Open.{IsOpenOn, LookupAnswer, LookupFinds}
-pub use Rattle.sorted_table.specs.Open.{TableServes, found_entry, greatest_key, table_file, table_filter}
+pub use Rattle.sorted_table.specs.Open.{TableServes, found_entry, greatest_key, index_lines}
+pub use Rattle.sorted_table.specs.Open.{last_line_key, table_file, table_filter}
 pub use Rattle.sorted_table.specs.Tails.{HasTail}

@@ -1,5 +1,5 @@
 -- An open table, and what a lookup in it finds.
-use Rattle.std.specs.Prelude.{◌≡◌, ◌⊎◌, ℕ, List, length, Option, Some, None, Result, Ok, Err}
+use Rattle.std.specs.Prelude.{◌≡◌, ◌⊎◌, ℕ, List, [], ◌∷◌, length, Option, Some, None, Result, Ok, Err}
 use Rattle.std.specs.Prelude.{IsSomeAnd, Contains}
 use Rattle.std.specs.Option.{option_map}
 use Rattle.std.specs.Rc.{rc_slice_items}
@@ -28,6 +28,16 @@ table_file table = table.file
 abbrev pub table_filter : Table → List ℕ
 table_filter table = table.filter.items
 
+-- the lines of the index that the table keeps
+abbrev pub index_lines : Table → List IndexLine
+index_lines table = rc_slice_items table.lines
+
+-- the key of the last of these lines, if there is one
+abbrev pub last_line_key : List IndexLine → Option (List ℕ)
+last_line_key [] = None
+last_line_key (line ∷ []) = Some line.key
+last_line_key (line ∷ next ∷ lines) = last_line_key (next ∷ lines)
+
 -- a read of the file returns bytes that represent these entries
 abbrev pub FileRepresents : Slot → List Entry → Type 0
 FileRepresents file entries = IsSomeAnd (seen file) (λ bytes. TableRepresents bytes entries)
@@ -38,13 +48,13 @@ pub record TableServes (file : Slot) (table : Table) (entries : List Entry) : Ty
   pub bytes : List ℕ
   pub present : seen file ≡ Some bytes
   pub represents : TableRepresents bytes entries
-  pub lines : rc_slice_items table.lines ≡ block_lines 0 represents.blocks
+  pub lines : index_lines table ≡ block_lines 0 represents.blocks
   pub filter : table.filter.items ≡ represents.filter
 
 -- the table is open on this file: the bytes end in the table's filter and its lines
 abbrev pub IsOpenOn : Slot → Table → Type 0
 IsOpenOn file table =
-    IsSomeAnd (seen file) (λ bytes. HasTail bytes (rc_slice_items table.lines) table.filter.items)
+    IsSomeAnd (seen file) (λ bytes. HasTail bytes (index_lines table) (table_filter table))
 
 -- the key of the last of these entries, if there is one
 abbrev pub greatest_key : List Entry → Option (List ℕ)

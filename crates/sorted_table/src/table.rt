@@ -33,7 +33,8 @@ pub struct Table {
 
 impl Table {
     ghost use Rattle.sorted_table.specs.Open.{FileRepresents, IsOpenOn, LookupAnswer, LookupFinds};
-    ghost use Rattle.sorted_table.specs.Open.{TableServes, greatest_key, table_file, table_filter};
+    ghost use Rattle.sorted_table.specs.Open.{TableServes, greatest_key, index_lines};
+    ghost use Rattle.sorted_table.specs.Open.{last_line_key, table_file, table_filter};
 
     /// Opens the table of a file. It needs three device calls, reads no block, and takes no more
     /// memory than the file is long.
@@ -58,9 +59,11 @@ impl Table {
         })
     }
 
-    /// The key of the last entry, by the index. `None` only where the table serves no entries.
+    /// The key of the last line of the index, which is that of the last entry. `None` only where
+    /// the index has no line.
     pub fn greatest(&self) -> Option<&Key>
-        ensures { (file : Slot) (entries : List Entry) → TableServes file self.now entries →
+        ensures line { option_map (λ key. key.now) result ≡ last_line_key (index_lines self.now) }
+        ensures serves { (file : Slot) (entries : List Entry) → TableServes file self.now entries →
             option_map (λ key. key.now) result ≡ greatest_key entries }
     {
         let line = self.lines.last()?;

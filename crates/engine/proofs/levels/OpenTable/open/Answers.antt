@@ -1,6 +1,8 @@
-use Rattle.std.proofs.Common.{◌≡◌, Bool, IsTrue, ap, false}
+use Rattle.std.proofs.Common.{◌≡◌, ◌∙◌, ℕ, Bool, IsTrue, List, Option, ap, false, subst}
+use Rattle.std.specs.Prelude.{IsSomeAnd}
 use Rattle.disk.specs.{contents, seen}
 use Rattle.disk.specs.StillLemmas.{still, still_more, still_same}
+use Rattle.sorted_table.specs.{HasTail, index_lines, table_filter}
 use Rattle.engine.specs.Errors.{IsOfMachine}
 use Rattle.engine.proofs.Causes.{refuses}
 use Rattle.engine.proofs.OpenTables.{file_represents, fit_read, of_table, represents_same}
@@ -70,16 +72,23 @@ returns-then-not-ends_with-clause-opened g c = λ table honest is.
     let serves = c.in_ok-table.ensures.opened table.entries
     (c.length.ensures.kept.disk.honest.1 honest) has in
     absurd (never c.ends_with.result c.if-not-ends_with.true
-    ((c.ends_with.ensures _ table.entries serves).1 is.greatest))
+    ((c.ends_with.ensures.serves _ table.entries serves).1 is.greatest))
 
 -- the file had the length of the line, and its greatest key
 pub returns-clause-fits : goal.returns-clause-fits
 returns-clause-fits g c = λ honest.
     let line = c.args.line.now in
+    let table = c.in_ok-table.table in
+    let between = c.length.ensures.kept.disk.honest.1 honest in
+    let tail = subst (λ (file : Option (List ℕ)).
+    IsSomeAnd file (λ bytes. HasTail bytes (index_lines table) (table_filter table)))
+    (ap seen (c.open.ensures.kept.files between line.file
+    ∙ c.length.ensures.kept.disk.files honest line.file)) (c.in_ok-table.ensures.checked between) in
     fit_read (contents (g.D.Disk.state c.args.disk.now) line.file) line c.in_ok-length.field-0
-    (c.in_ok-length.ensures.length honest) c.if-branch-line.false
+    (c.in_ok-length.ensures.length honest) c.if-branch-line.false table tail
+    (c.ends_with.ensures.line.0 c.if-not-ends_with.false)
     (λ entries has.
-    let serves = c.in_ok-table.ensures.opened entries (c.length.ensures.kept.disk.honest.1 honest)
+    let serves = c.in_ok-table.ensures.opened entries between
     (represents_same entries _ _
     (ap seen (c.length.ensures.kept.disk.files honest line.file)) has) in
-    (c.ends_with.ensures _ entries serves).0 c.if-not-ends_with.false)
+    (c.ends_with.ensures.serves _ entries serves).0 c.if-not-ends_with.false)
