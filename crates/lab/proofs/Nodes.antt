@@ -3,9 +3,10 @@ use Rattle.std.proofs.Common.{◌≡◌, ℕ, ◌+◌, ◌<◌, List, [], ◌∷
 use Rattle.std.proofs.Common.{None, ◌==◌, true, false, refl, sym, ap, ap₂, subst, ◌∙◌, arith}
 use Rattle.std.proofs.lemmas.Bool.{cond_both, false≢true}
 use Rattle.std.specs.Prelude.{All}
-use Rattle.std.specs.List.{AllByRecursion}
+use Rattle.std.specs.List.{AllByRecursion, AllZip}
 use Rattle.std.proofs.lemmas.List.{map-append, take_more}
 use Rattle.std.proofs.lemmas.List.Elements.{All-push, recursion_from_All, All-from_recursion}
+use Rattle.std.proofs.lemmas.Slice.Zip.{all_zipped_more}
 use Rattle.disk.specs.{Slots}
 use Rattle.chain_model.specs.{Configurations, Lawful, AllDifferent, has, at_epoch, created}
 use Rattle.chain_core.specs.{Machine}
@@ -13,6 +14,7 @@ use Rattle.lab.specs.declared.report.NodeReport.{NodeReport}
 use Rattle.lab.specs.declared.sim_node.SimNode.{SimNode}
 use Rattle.lab.specs.SimNodes.{IsUnarmed, StateRefines, disk_in, is_honest, state, failures}
 use Rattle.lab.specs.Worlds.{SimNodeRefines, IsCreated, AreCreated, IsLeft, AreLeft, RunRefines}
+use Rattle.lab.specs.Worlds.{IsReportOf}
 use Rattle.lab.proofs.Disks.{with_disk, disk_here, disk_elsewhere}
 use Rattle.lab.proofs.SimNodes.{ids_of}
 
@@ -43,28 +45,35 @@ back P (x ∷ xs) ys all = back P xs ys all.1
 
 -- what is left of one node more
 pub left_next : (sims : List SimNode) (nodes now : List NodeReport) (sim : SimNode)
-    (node : NodeReport) → node.id ≡ sim.id →
+    (node : NodeReport) → IsReportOf sim node →
     ((n : Machine) (own : Slots) → StateRefines is_honest state sim.state sim.id n →
     disk_in sim.state ≡ own →
     IsLeft n own node) → now ≡ nodes ++ node ∷ [] →
     AreLeft sims nodes → AreLeft (sims ++ sim ∷ []) now
-left_next sims nodes now sim node id left whole are = record {
-  ids = ap (map (λ (n : NodeReport). n.id)) whole
-      ∙ map-append (λ (n : NodeReport). n.id) nodes (node ∷ [])
-      ∙ ap₂ (λ (l : List ℕ) (y : ℕ). l ++ y ∷ []) are.ids id
-      ∙ sym (map-append (λ (s : SimNode). s.id) sims (sim ∷ []));
+left_next sims nodes now sim node own left whole are = record {
+  own = subst (λ (l : List NodeReport). AllZip IsReportOf (sims ++ sim ∷ []) l) (sym whole)
+      (all_zipped_more IsReportOf sims nodes sim node are.own own);
   each = λ machines disks all.
       let Refined : SimNode → Type 0 = SimNodeRefines machines disks in
       let by = recursion_from_All Refined (sims ++ sim ∷ []) all in
       let before = All-from_recursion Refined sims (front Refined sims (sim ∷ []) by) in
       let last = (back Refined sims (sim ∷ []) by).0 in
       let is_left : IsLeft (machines node.id) (disks node.id) node =
-      subst (λ (y : ℕ). IsLeft (machines y) (disks y) node) (sym id)
+      subst (λ (y : ℕ). IsLeft (machines y) (disks y) node) (sym own.id)
       (left (machines sim.id) (disks sim.id) last.is last.disk) in
       subst (λ (l : List NodeReport). All (λ n. IsLeft (machines n.id) (disks n.id) n) l)
       (sym whole) (All-push (λ n. IsLeft (machines n.id) (disks n.id) n) nodes node
       (are.each machines disks before) is_left);
 }
+
+-- reports have the ids of their nodes
+pub reported_ids : (sims : List SimNode) (nodes : List NodeReport) → AllZip IsReportOf sims nodes →
+    map (λ (n : NodeReport). n.id) nodes ≡ map (λ (s : SimNode). s.id) sims
+reported_ids [] [] own = refl
+reported_ids [] (node ∷ nodes) own = absurd own
+reported_ids (sim ∷ sims) [] own = absurd own
+reported_ids (sim ∷ sims) (node ∷ nodes) own =
+    ap₂ (λ (y : ℕ) (l : List ℕ). y ∷ l) own.0.id (reported_ids sims nodes own.1)
 
 -- ---- the disks that nodes begin with
 

@@ -29,6 +29,7 @@ use Rattle.lab.specs.Runs.{IsRun, RunningRefines}
 use Rattle.lab.specs.Traces.{modelled_from, IsTrace}
 use Rattle.lab.specs.Worlds.{SimNodeRefines, IsLeft, AreLeft, RunRefines}
 use Rattle.lab.proofs.Histories.{numbered_same, submitted_same, all_speak}
+use Rattle.lab.proofs.Nodes.{reported_ids}
 
 -- the model's one list is that of the lines and of the disks
 pub one_of : {D N : Type 0} (state : D → State) (failures : D → ℕ) (past : D → List State)
@@ -97,7 +98,7 @@ module _ (sims : List SimNode) (posted : List Posted) (cs : Configurations) (eve
         trace = subst (λ (l : List (List Line)). IsTrace cs events choices l) (sym same)
             made.trace;
         disks = record {
-          ids = left.ids ∙ made.nodes;
+          ids = reported_ids sims nodes left.own ∙ made.nodes;
           disks = made.disks;
           after = made.after;
           each = All-weaker Left

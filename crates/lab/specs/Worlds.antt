@@ -1,6 +1,6 @@
 -- A world of simulated nodes, and the run of the model that it refines.
 use Rattle.std.specs.Prelude.{◌≡◌, ℕ, suc, ◌+◌, ◌≤◌, List, [], ◌∷◌, ◌++◌, length, map}
-use Rattle.std.specs.Prelude.{Option, Some, None}
+use Rattle.std.specs.Prelude.{MatchOption, Option, Some, None}
 use Rattle.std.specs.Prelude.{All, true, ◌≢◌, ◌<◌, get_or, slice_index, slice_set}
 use Rattle.std.specs.List.{AllZip, HoldsAt}
 use Rattle.kv_types.specs.{BatchContent}
@@ -32,7 +32,7 @@ use Rattle.lab.specs.declared.report.Numbers.{Numbers}
 use Rattle.lab.specs.declared.sim_node.SimNode.{SimNode}
 use Rattle.lab.specs.declared.world.World.{World}
 use Rattle.lab.specs.SimNodes.{Choice, StateRefines, disk_in, is_honest, state, failures}
-use Rattle.lab.specs.SimNodes.{IsUnarmed}
+use Rattle.lab.specs.SimNodes.{IsDown, IsUnarmed}
 use Rattle.lab.specs.Events.{NamesNode, modelled}
 use Rattle.lab.specs.Outcomes.{OutcomeRefines, DiskFits, StateFollows, input_junk, sent_by}
 use Rattle.lab.specs.Outcomes.{IsExplained, has_struck_in, outcome_lines}
@@ -111,13 +111,6 @@ pub record IsLeft (n : Machine) (own : Slots) (left : NodeReport) : Type 0 where
   pub disk : IsDiskOf state left.id n left.disk own
   pub numbers : RunningRefines left.running n
 
--- these reports are of these nodes, at the end of a run
-pub record AreLeft (sims : List SimNode) (nodes : List NodeReport) : Type 0 where
-  pub ids : map (λ node. node.id) nodes ≡ map (λ sim. sim.id) sims
-  pub each : (machines : ℕ → Machine) (disks : ℕ → Slots) → All
-      (SimNodeRefines machines disks) sims →
-      All (λ node. IsLeft (machines node.id) (disks node.id) node) nodes
-
 -- the numbers say how many tables each level of a running node's store has
 abbrev pub HasTablesOf : {D : Type 0} {g : Ghosts D} → Node D g → Numbers → Type 0
 HasTablesOf node numbers = (level : ℕ) → level < 7 →
@@ -127,6 +120,20 @@ HasTablesOf node numbers = (level : ℕ) → level < 7 →
 abbrev pub HasTablesIn : {D : Type 0} {g : Ghosts D} → NodeState D g → Numbers → Type 0
 HasTablesIn (Up node) numbers = HasTablesOf node numbers
 HasTablesIn (Down disk) numbers = ⊥
+
+-- the report of this node has its id and its very disk, and numbers where it is up: they say how many
+-- tables its store has
+pub record IsReportOf (sim : SimNode) (report : NodeReport) : Type 0 where
+  pub id : report.id ≡ sim.id
+  pub disk : report.disk ≡ disk_in sim.state
+  pub running : MatchOption report.running (IsDown sim.state) (HasTablesIn sim.state)
+
+-- these reports are of these nodes, one of each in order, at the end of a run
+pub record AreLeft (sims : List SimNode) (nodes : List NodeReport) : Type 0 where
+  pub own : AllZip IsReportOf sims nodes
+  pub each : (machines : ℕ → Machine) (disks : ℕ → Slots) → All
+      (SimNodeRefines machines disks) sims →
+      All (λ node. IsLeft (machines node.id) (disks node.id) node) nodes
 
 -- the numbers are those of node x, which is up: they say how many tables it has
 pub record TellsTables (sims : List SimNode) (x : ℕ) (numbers : Numbers) : Type 0 where

@@ -3,18 +3,20 @@ ghost use Rattle.std.specs.Prelude.{◌≡◌, ℕ, List, [], ◌∷◌, ◌++�
 ghost use Rattle.std.specs.Prelude.{MatchOption};
 ghost use Rattle.std.specs.Prelude.{map};
 ghost use Rattle.std.specs.Prelude.{IfSome, true};
+ghost use Rattle.std.specs.List.{AllZip};
 ghost use Rattle.chain_model.specs.{Configurations, at_epoch, has};
 ghost use Rattle.lab.specs.declared.event.Event.{Event};
 ghost use Rattle.lab.specs.declared.report.Line.{Line};
 ghost use Rattle.lab.specs.Events.{NamesNode};
 ghost use Rattle.chain_core.specs.{Machine};
 ghost use Rattle.disk.specs.{Slots};
-ghost use Rattle.node.specs.{NodeRefines, disk_of};
+ghost use Rattle.node.specs.{NodeRefines};
 ghost use Rattle.lab.specs.SimNodes.{Choice, StateRefines, disk_in, is_honest, state};
 ghost use Rattle.lab.specs.Runs.{AreNumbersOf, IsRun, NumbersRefine};
 ghost use Rattle.lab.specs.History.{OneHistory};
 ghost use Rattle.lab.specs.Worlds.{HasRun, HasApplied, HasEnded, AreCreated, AreLeft, IsCreated};
-ghost use Rattle.lab.specs.Worlds.{IsLeft, IsRunSoFar, HasFollowed, HasHistory, HasStayed, IsIndexOf};
+ghost use Rattle.lab.specs.Worlds.{IsLeft, IsReportOf, IsRunSoFar, HasFollowed, HasHistory};
+ghost use Rattle.lab.specs.Worlds.{HasStayed, IsIndexOf};
 ghost use Rattle.lab.specs.Worlds.{HasDelivered, HasMoved, HasNoNode, HasPassed, HasTablesOf, TellsTables};
 ghost use Rattle.lab.specs.Worlds.{events_in, frames_in_steps};
 
@@ -104,9 +106,7 @@ fn left_of(node: SimNode) -> NodeReport
     ensures left { (n : Machine) (disk : Slots) →
         StateRefines is_honest state node.state node.id n →
         disk_in node.state ≡ disk → IsLeft n disk result }
-    ensures id { result.id ≡ node.id }
-    ensures runs { (up : _) → node.state ≡ NodeState.Up up → result.disk ≡ disk_of up }
-    ensures rests { (disk : _) → node.state ≡ NodeState.Down disk → result.disk ≡ disk }
+    ensures own { IsReportOf node result }
 {
     let SimNode { id, state } = node;
     match state {
@@ -342,6 +342,8 @@ impl World {
         ensures history { (cs : Configurations) (events : List Event) (choices : List Choice)
             (steps : List (List Line)) →
             HasRun self cs events choices steps → IfOk result (OneHistory cs events) }
+        ensures own { IfOk result
+            (λ report. AllZip IsReportOf self.nodes.items report.nodes.items) }
         ensures ended { HasEnded self → IsErr result }
     {
         let World {

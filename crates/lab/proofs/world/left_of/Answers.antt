@@ -1,7 +1,8 @@
-use Rattle.std.proofs.Common.{sym, ap, subst, ◌∙◌}
+use Rattle.std.proofs.Common.{refl, sym, ap, subst, ◌∙◌}
 use Rattle.disk.specs.{Slots}
 use Rattle.lab.specs.declared.node_state.NodeState.{NodeState}
 use Rattle.lab.specs.SimNodes.{StateRefines, disk_in, is_honest, state}
+use Rattle.lab.specs.Worlds.{HasTablesIn}
 use Rattle.lab.proofs.world.left_of.Goals as goal
 
 pub returns-in-Up-clause-left : goal.returns-in-Up-clause-left
@@ -18,4 +19,15 @@ returns-in-Up-clause-left c = λ n disk is own.
         r.core.running,
         c.numbers_of.ensures.refines x n r,
       );
+    }
+
+-- it has the disk of the node, and its numbers tell how many tables that has
+pub returns-in-Up-clause-own : goal.returns-in-Up-clause-own
+returns-in-Up-clause-own c =
+    let up = sym c.in-Up.is in
+    record {
+      id = refl;
+      disk = c.into_disk-disk.ensures.disk ∙ ap (λ (m : NodeState Slots _). disk_in m) up;
+      running = subst (λ (m : NodeState Slots _). HasTablesIn m c.numbers_of.result) up
+          c.numbers_of.ensures.tables;
     }
