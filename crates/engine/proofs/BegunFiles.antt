@@ -179,6 +179,18 @@ rest_is_unused begun logged made new alone log slots same file above =
     let all : new file ≡ begun file = same file ∙ slots file no_slot ∙ log file apart in
     subst (λ (slot : Slot). IsNone (seen slot)) (sym all) (alone file (λ has. none_in has))
 
+-- nor has any other than the slots and the log
+pub only_first : (begun logged made new : State) → AreAlone [] begun → IsSameBut 3 begun logged →
+    SparesOthers logged made → IsSame made new → AreAlone (1 ∷ 2 ∷ 3 ∷ []) new
+only_first begun logged made new alone log slots same file other =
+    let apart : file ≢ 3 = λ is. other (2, omega arith, sym is) in
+    let no_slot : IsSlotFile file → ⊥ = λ is. elim is [
+      | inl one ↦ other (0, omega arith, sym one)
+      | inr two ↦ other (1, omega arith, sym two)
+    ] in
+    let all : new file ≡ begun file = same file ∙ slots file no_slot ∙ log file apart in
+    subst (λ (slot : Slot). IsNone (seen slot)) (sym all) (alone file (λ has. none_in has))
+
 -- and the log is as it was
 pub log_is_spared : (logged made new : State) → SparesOthers logged made → IsSame made new →
     new 3 ≡ logged 3

@@ -31,4 +31,5 @@ pub mod ReadParts
 pub mod ReadFiles
 pub mod OneList
 pub mod Spills
+pub mod TendedFiles
 pub mod Tends

@@ -1,13 +1,14 @@
 -- What the calls of an engine answer, and what they make of its disk.
-use Rattle.std.specs.Prelude.{◌≡◌, ◌⊎◌, ◌↔◌, ℕ, ◌<◌, ◌≤◌, List, Result, Ok, Err, IsErrOf, OnOk}
-use Rattle.std.specs.Prelude.{IsErrAnd}
+use Rattle.std.specs.Prelude.{◌≡◌, ◌⊎◌, ◌↔◌, ℕ, ◌<◌, ◌≤◌, List, [], ◌∷◌, Result, Ok, Err, IsErrOf}
+use Rattle.std.specs.Prelude.{IsErrAnd, OnOk}
 use Rattle.kv_types.specs.{BatchContent}
 use Rattle.disk.specs.declared.Disk.{Ghosts}
 use Rattle.disk.specs.{AlwaysLeaves, Contents, KeepsDisk, State}
 use Rattle.engine.specs.declared.engine.Engine.{Engine}
 use Rattle.engine.specs.declared.error.EngineError.{EngineError}
 use Rattle.engine.specs.declared.error.EngineError.TheVariants as engine
-use Rattle.engine.specs.Engines.{EngineHolds, LookUps, EngineReads, HasEnded, engine_disk, facts_of, look_ups}
+use Rattle.engine.specs.Engines.{EngineHolds, EngineReads, HasEnded, HasOnlyFiles, LookUps}
+use Rattle.engine.specs.Engines.{engine_disk, engine_files, facts_of, look_ups}
 use Rattle.engine.specs.declared.tended.Tended.{Tended}
 use Rattle.engine.specs.Errors.{EndsEngine, FailsDevice, IsEnd}
 use Rattle.engine.specs.Tending.{TellsWork}
@@ -84,7 +85,8 @@ abbrev pub RefusedByDevice : {D : Type 0} {g : Ghosts D} → Result (Engine D g)
     Type 0
 RefusedByDevice result = IsErrAnd result (λ refused. refused.0 ≡ engine.Disk)
 
--- a store without batches, of node x in the first configuration, with this limit for logs
+-- a store without batches, of node x in the first configuration, with this limit for logs; its disk
+-- has no file but the slots and its log
 pub record IsNewEngine {D : Type 0} {g : Ghosts D} (x : ℕ) (ids : List ℕ) (log_limit : ℕ)
     (engine : Engine D g) : Type 0 where
   pub works : HasEnded engine → ⊥
@@ -94,14 +96,16 @@ pub record IsNewEngine {D : Type 0} {g : Ghosts D} (x : ℕ) (ids : List ℕ) (l
     committed = 0;
     log_limit = log_limit;
   }
+  pub alone : HasOnlyFiles g engine (1 ∷ 2 ∷ 3 ∷ [])
 
 -- an opened engine has this limit for logs, and knows only the batches below the floor to be
--- committed
+-- committed; its disk has no file that its version does not name
 pub record IsJustOpened {D : Type 0} {g : Ghosts D} (log_limit : ℕ) (engine : Engine D g) : Type 0
   where
     pub works : HasEnded engine → ⊥
     pub committed : (look_ups engine).committed ≡ (look_ups engine).facts.floor
     pub limit : (look_ups engine).log_limit ≡ log_limit
+    pub swept : HasOnlyFiles g engine (engine_files engine)
 
 -- the engine tells these facts, and its disk represents them and the list
 pub record IsEngineOf {D : Type 0} (g : Ghosts D) (told : Facts) (list : List BatchContent)

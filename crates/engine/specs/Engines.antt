@@ -9,10 +9,13 @@ use Rattle.table_files.specs.{inner_disk}
 use Rattle.engine.specs.declared.engine.Engine.{Engine}
 use Rattle.engine.specs.Files.{Facts}
 use Rattle.manifest.specs.{HasFullSlot}
-use Rattle.engine.specs.BatchLogs.{HasFullLog}
+use Rattle.engine.specs.BatchLogs.{HasFullLog, newest_file}
 use Rattle.engine.specs.LevelTables.{level_count}
-use Rattle.engine.specs.OpenFiles.{FilesHold, batch_count, known_facts}
+use Rattle.engine.specs.OpenFiles.{FilesHold, batch_count, known_facts, known_version}
+use Rattle.engine.specs.Openings.{kept_files}
+use Rattle.engine.specs.Settling.{AreAlone}
 use Rattle.engine.specs.StoreFiles.{FilesRepresent}
+use Rattle.engine.specs.Tending.{tended_files}
 
 -- ---- what an engine tells
 
@@ -44,6 +47,18 @@ module _ {D : Type 0} {g : Ghosts D} where
   abbrev pub HasEnded : Engine D g → Type 0
   HasEnded engine = IsTrue engine.has_ended
 
+  -- the file of its newest log, which takes the appends
+  abbrev pub newest_log_file : Engine D g → ℕ
+  newest_log_file engine = newest_file engine.store.logs
+
+  -- the slots, and the files that its version names as logs and tables
+  abbrev pub engine_files : Engine D g → List ℕ
+  engine_files engine = kept_files (known_version engine.store).version
+
+  -- the files that a tend of it may change: the slots, the next file, and the one behind it
+  abbrev pub files_of_tend : Engine D g → List ℕ
+  files_of_tend engine = tended_files engine.store
+
   -- its newest log is so long that the next record may end past the greatest place of a file
   abbrev pub HasNearlyFullLog : Engine D g → Type 0
   HasNearlyFullLog engine = HasFullLog engine.store.logs
@@ -70,6 +85,11 @@ pub record AreOrdered (told : LookUps) : Type 0 where
   pub floor : told.facts.floor ≤ told.committed
   pub committed : told.committed ≤ told.count
   pub few : told.count ≤ MAX_NUMBER
+
+-- an honest disk of the engine has no other file than these
+abbrev pub HasOnlyFiles : {D : Type 0} (g : Ghosts D) → Engine D g → List ℕ → Type 0
+HasOnlyFiles g engine files =
+    g.is_honest (engine_disk engine) → AreAlone files (g.state (engine_disk engine))
 
 -- ---- what an engine holds
 

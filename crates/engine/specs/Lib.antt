@@ -20,11 +20,13 @@ pub mod KeepingLemmas
 pub use Rattle.engine.specs.Calls.{Goes, IsNewEngine, IsEngineOf, IsJustOpened, IsOldOrNewSince, IsOpened}
 pub use Rattle.engine.specs.Calls.{KeepsEngine, ExplainsRefusal, RefusedByDevice, TellsReadable}
 pub use Rattle.engine.specs.Calls.{IsAdrift, TellsTend, TendsAlike, disk_after}
-pub use Rattle.engine.specs.Engines.{AreOrdered, HasEnded, HasLongFile, EngineHolds}
+pub use Rattle.engine.specs.Engines.{AreOrdered, HasEnded, HasLongFile, HasOnlyFiles, EngineHolds}
 pub use Rattle.engine.specs.Engines.{HasNearlyFullLog, IsNearlyFull}
-pub use Rattle.engine.specs.Engines.{LookUps, EngineReads, engine_disk, facts_of, look_ups}
+pub use Rattle.engine.specs.Engines.{LookUps, EngineReads, engine_disk, engine_files, facts_of}
+pub use Rattle.engine.specs.Engines.{files_of_tend, look_ups, newest_log_file}
 pub use Rattle.engine.specs.Engines.{table_count, with_one_more, with_committed}
 pub use Rattle.engine.specs.Errors.{EndsEngine, FailsDevice, IsEnd, IsOfMachine}
 pub use Rattle.engine.specs.Files.{Facts, IsOwned, first_facts}
 pub use Rattle.engine.specs.StoreFiles.{FilesRepresent, IsDamaged, IsOneOf, OpensAs}
+pub use Rattle.engine.specs.Tending.{IsSameBeside}
 pub use Rattle.manifest.specs.{IsNotCreated}

@@ -1,12 +1,12 @@
 -- A tend of a store's open files: what is due, and what the answers of a tend say.
-use Rattle.std.specs.Prelude.{◌≡◌, ◌⊎◌, ℕ, ◌+◌, ◌<◌, ◌≤◌, List, length}
+use Rattle.std.specs.Prelude.{◌≡◌, ◌⊎◌, ℕ, ◌+◌, ◌<◌, ◌≤◌, List, [], ◌∷◌, length, Contains}
 use Rattle.kv_types.specs.declared.bounds.TheConstants.{MAX_NUMBER}
 use Rattle.kv_types.specs.{BatchContent}
 use Rattle.disk.specs.declared.Disk.{Ghosts}
 use Rattle.disk.specs.{IsSameBut, State}
 use Rattle.manifest.specs.declared.TableLine.{TableLine}
-use Rattle.manifest.specs.{HasFullSlot, HasLongSlot, StoreVersion, generation_of}
-use Rattle.manifest.specs.{node_version_after}
+use Rattle.manifest.specs.{HasFullSlot, HasLongSlot, StoreVersion, counting_file, generation_of}
+use Rattle.manifest.specs.{node_version_after, spare_file}
 use Rattle.engine.specs.BatchLogs.{newest_length}
 use Rattle.engine.specs.declared.flushing.Flushed.{Flushed}
 use Rattle.engine.specs.declared.store_files.StoreFiles.{StoreFiles}
@@ -34,6 +34,17 @@ abbrev pub LacksPlace : StoreVersion → ℕ → Type 0
 LacksPlace version count =
     ((4096 ≤ length version.tables) ⊎ (4096 ≤ length version.logs))
     ⊎ ((MAX_NUMBER < version.next_file + 2) ⊎ (MAX_NUMBER ≤ count))
+
+-- the files that a tend may change: the slots of the manifest, the next file, and the one behind it
+abbrev pub tended_files : StoreFiles → List ℕ
+tended_files files =
+    counting_file files.manifest ∷ spare_file files.manifest
+    ∷ (known_version files).version.next_file
+    ∷ ((known_version files).version.next_file + 1) ∷ []
+
+-- the files but these are as they were
+abbrev pub IsSameBeside : List ℕ → State → State → Type 0
+IsSameBeside files old new = (file : ℕ) → (Contains files file → ⊥) → new file ≡ old file
 
 -- ---- a flush
 

@@ -51,7 +51,8 @@ impl<D: Disk + Drop> Engine<D> {
     ghost use Rattle.std.specs.Prelude.{IfOk, IfErr, IsErrOf, OnOk, MatchResult, slice_index, Some};
     ghost use Rattle.kv_types.specs.declared.bounds.TheConstants.{MAX_NUMBER};
     ghost use Rattle.kv_types.specs.{BatchContent, map_of};
-    ghost use Rattle.disk.specs.{AlwaysLeaves, contents, IsSame, IsStill, KeepsDisk, OnlyLeaves};
+    ghost use Rattle.disk.specs.{AlwaysLeaves, contents, IsSame, IsSameBut, IsStill, KeepsDisk};
+    ghost use Rattle.disk.specs.{OnlyLeaves};
     ghost use Rattle.chain_model.specs.{place};
     ghost use Rattle.engine.specs.Calls.{ExplainsRefusal, Goes, IsEngineOf, IsJustOpened};
     ghost use Rattle.engine.specs.Calls.{IsNewEngine, IsNoDamage, IsOldOrNewSince, IsOpened};
@@ -59,11 +60,12 @@ impl<D: Disk + Drop> Engine<D> {
     ghost use Rattle.engine.specs.Calls.{TellsTend, disk_after};
     ghost use Rattle.engine.specs.Engines.{AreOrdered, EngineHolds, EngineReads, HasEnded};
     ghost use Rattle.engine.specs.Engines.{HasNearlyFullLog, IsNearlyFull, engine_disk, facts_of};
-    ghost use Rattle.engine.specs.Engines.{look_ups};
+    ghost use Rattle.engine.specs.Engines.{files_of_tend, look_ups, newest_log_file};
     ghost use Rattle.engine.specs.Engines.{table_count, with_one_more, with_committed};
     ghost use Rattle.engine.specs.Errors.{IsOfMachine};
     ghost use Rattle.engine.specs.Files.{Facts, IsOwned};
     ghost use Rattle.engine.specs.StoreFiles.{FilesRepresent, IsOneOf};
+    ghost use Rattle.engine.specs.Tending.{IsSameBeside};
 
     /// Creates a store without batches on a disk, whose files are all removed first. A refusal
     /// returns the disk, with any files.
@@ -160,7 +162,7 @@ impl<D: Disk + Drop> Engine<D> {
     /// durable.
     pub fn append(&mut self, alloc: Global, batch: &Batch) -> Result<Number, EngineError>
         ensures keeps { KeepsEngine D.Disk self.old self.new result (HasNearlyFullLog self.old)
-            IsOwned }
+            (IsSameBut (newest_log_file self.old)) }
         ensures told { MatchResult result
             (λ n. (look_ups self.new ≡ with_one_more (look_ups self.old))
             × (n ≡ (look_ups self.new).count))
@@ -261,7 +263,8 @@ impl<D: Disk + Drop> Engine<D> {
     /// entries are in memory. `Full` where that has no place.
     pub fn tend(&mut self, alloc: Global) -> Result<Tended, EngineError>
         ensures keeps { KeepsEngine D.Disk self.old self.new result
-            (IsNearlyFull self.old ⊎ IsAdrift D.Disk self.old) IsOwned }
+            (IsNearlyFull self.old ⊎ IsAdrift D.Disk self.old)
+            (IsSameBeside (files_of_tend self.old)) }
         ensures told { look_ups self.new ≡ look_ups self.old }
         ensures tended { (list : List BatchContent) →
             Goes D.Disk self.old self.new list list result }

@@ -12,7 +12,7 @@ ghost use Rattle.engine.specs.OpenFiles.{AreUsableFiles, FilesHold, HasEntry, Is
 ghost use Rattle.engine.specs.OpenFiles.{batch_count, known_facts, known_version};
 ghost use Rattle.engine.specs.StoreFiles.{FilesRepresent, flush_change};
 ghost use Rattle.engine.specs.Tending.{HasSpilled, HeldAndSpilled, IsFlushedBy, IsNextTable};
-ghost use Rattle.engine.specs.Tending.{LacksPlace, TendMayFail};
+ghost use Rattle.engine.specs.Tending.{IsSameBeside, LacksPlace, TendMayFail, tended_files};
 
 use crate::EngineError;
 use crate::error::refusal_of_edit;
@@ -148,6 +148,8 @@ impl StoreFiles {
         requires opened { made.table.line ≡ made.line }
         ensures kept { KeepsDisk D.Disk disk.old disk.new (FailsDevice result)
             (HasFullSlot self.old.manifest) IsOwned }
+        ensures touches { D.is_honest disk.old → IsSameBeside (tended_files self.old)
+            (D.state disk.old) (D.state disk.new) }
         ensures installed { (list : List BatchContent) → D.is_honest disk.old →
             HeldAndSpilled (D.state disk.old) self.old list made → MatchResult result
             (λ _. FilesHold (D.state disk.new) self.new list) IsOfMachine }

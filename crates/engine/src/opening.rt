@@ -1,6 +1,6 @@
 //! Creating and opening the files of a store.
-ghost use Rattle.std.specs.Prelude.{◌≡◌, ◌↔◌, ◌+◌, ◌-◌, [], IsTrue, ℕ, List, length, IfOk, IfErr};
-ghost use Rattle.std.specs.Prelude.{MatchResult};
+ghost use Rattle.std.specs.Prelude.{◌≡◌, ◌↔◌, ◌+◌, ◌-◌, [], ◌∷◌, IsTrue, ℕ, List, length, IfOk};
+ghost use Rattle.std.specs.Prelude.{IfErr, MatchResult};
 ghost use Rattle.kv_types.specs.{BatchContent};
 ghost use Rattle.disk.specs.{AlwaysLeaves, IsStill, KeepsDisk, OnlyLeaves, contents};
 ghost use Rattle.engine.specs.Errors.{FailsDevice, IsEnd, IsOfMachine};
@@ -11,6 +11,7 @@ ghost use Rattle.engine.specs.OpenFiles.{FilesHold, FilesOpenAs, OpeningRefusal,
 ghost use Rattle.engine.specs.OpenFiles.{known_facts, known_version};
 ghost use Rattle.engine.specs.Openings.{AreParts, FilesAreRead, PartsHold, WereParts, kept_files};
 ghost use Rattle.engine.specs.LevelTables.{AreTablesOf};
+ghost use Rattle.engine.specs.Settling.{AreAlone};
 ghost use Rattle.manifest.specs.{ManifestHolds};
 ghost use Rattle.store_model.specs.{LevelTable};
 
@@ -163,6 +164,8 @@ impl StoreFiles {
         ensures facts { IfOk result (λ files. known_facts files ≡ first_facts id config.now) }
         ensures none { IfOk result (λ files. batch_count files ≡ 0) }
         ensures usable { IfOk result AreUsableFiles }
+        ensures alone { D.is_honest disk.old → IfOk result (λ _. AreAlone (1 ∷ 2 ∷ 3 ∷ [])
+            (D.state disk.new)) }
     {
         empty_represents(); // law: a store without batches represents the empty list
         held_versions_are_left(); // law: with the same slots a manifest holds the same version
@@ -200,6 +203,8 @@ impl StoreFiles {
             OnlyLeaves (IsOneOf facts list facts' list') (D.state disk.old) →
             AlwaysLeaves D.Disk disk.old disk.new (IsOneOf facts list facts' list') }
         ensures usable { IfOk result AreUsableFiles }
+        ensures swept { D.is_honest disk.old → IfOk result (λ files.
+            AreAlone (kept_files (known_version files).version) (D.state disk.new)) }
 
         // What is refused for its files is left as it was.
         ensures still { IfErr result (λ e. (IsOfMachine e → ⊥) →

@@ -4,11 +4,10 @@ ghost use Rattle.std.specs.Prelude.{length, IfErr, IfOk, IsSomeAnd, MatchResult}
 ghost use Rattle.std.specs.Option.{option_flatten};
 ghost use Rattle.kv_types.specs.declared.bounds.TheConstants.{MAX_VALUE};
 ghost use Rattle.kv_types.specs.{BatchContent, map_of};
-ghost use Rattle.disk.specs.{AlwaysLeaves, IsSame, IsStill, KeepsDisk};
+ghost use Rattle.disk.specs.{AlwaysLeaves, IsSame, IsSameBut, IsStill, KeepsDisk};
 ghost use Rattle.chain_model.specs.{place};
-ghost use Rattle.engine.specs.BatchLogs.{HasFullLog};
+ghost use Rattle.engine.specs.BatchLogs.{HasFullLog, newest_file};
 ghost use Rattle.engine.specs.Errors.{FailsDevice, IsEnd, IsOfMachine};
-ghost use Rattle.engine.specs.Files.{IsOwned};
 ghost use Rattle.engine.specs.OpenFiles.{AreUsableFiles, FilesHold, batch_count, known_facts};
 ghost use Rattle.engine.specs.OpenFiles.{trimmed_count};
 ghost use Rattle.memtable.specs.{HasFailedAdd, TableHolds};
@@ -94,7 +93,7 @@ impl StoreFiles {
         requires usable { AreUsableFiles self.old }
         requires next { number ≡ batch_count self.old + 1 }
         ensures kept { KeepsDisk D.Disk disk.old disk.new (FailsDevice result)
-            (HasFullLog self.old.logs) IsOwned }
+            (HasFullLog self.old.logs) (IsSameBut (newest_file self.old.logs)) }
         ensures appended { (list : List BatchContent) → D.is_honest disk.old →
             FilesHold (D.state disk.old) self.old list → MatchResult result
             (λ _. FilesHold (D.state disk.new) self.new (list ++ batch.now ∷ [])) IsOfMachine }

@@ -7,7 +7,8 @@ ghost use Rattle.engine.specs.Files.{IsOwned};
 ghost use Rattle.engine.specs.OpenFiles.{AreUsableFiles, FilesHold, HasEntry, batch_count};
 ghost use Rattle.engine.specs.OpenFiles.{known_facts};
 ghost use Rattle.engine.specs.StoreFiles.{FilesRepresent};
-ghost use Rattle.engine.specs.Tending.{TellsFlush, TellsRewrite, TellsWork, TendMayFail};
+ghost use Rattle.engine.specs.Tending.{IsSameBeside, TellsFlush, TellsRewrite, TellsWork};
+ghost use Rattle.engine.specs.Tending.{TendMayFail, tended_files};
 
 use crate::EngineError;
 use crate::error::refusal_of_edit;
@@ -29,6 +30,8 @@ impl StoreFiles {
             FilesHold (D.state disk.old) self.old list → MatchResult result
             (λ _. FilesHold (D.state disk.new) self.new list) IsOfMachine }
         ensures usable { OnOk result (AreUsableFiles self.new) }
+        ensures touches { D.is_honest disk.old → IsSameBeside (tended_files self.old)
+            (D.state disk.old) (D.state disk.new) }
         ensures work { MatchResult result (TellsRewrite self.old self.new) IsEnd }
         ensures told { (batch_count self.new ≡ batch_count self.old)
             × (known_facts self.new ≡ known_facts self.old) }
@@ -61,6 +64,8 @@ impl StoreFiles {
             FilesHold (D.state disk.old) self.old list → MatchResult result
             (λ tended. FilesHold (D.state disk.new) self.new list
             × TellsFlush self.old self.new tended) IsOfMachine }
+        ensures touches { D.is_honest disk.old → IsSameBeside (tended_files self.old)
+            (D.state disk.old) (D.state disk.new) }
         ensures usable { OnOk result (AreUsableFiles self.new) }
         ensures told { (batch_count self.new ≡ batch_count self.old)
             × (known_facts self.new ≡ known_facts self.old) }
@@ -102,6 +107,8 @@ impl StoreFiles {
             FilesHold (D.state disk.old) self.old list → MatchResult result
             (λ tended. FilesHold (D.state disk.new) self.new list
             × TellsWork limit self.old self.new tended) IsOfMachine }
+        ensures touches { D.is_honest disk.old → IsSameBeside (tended_files self.old)
+            (D.state disk.old) (D.state disk.new) }
         ensures usable { OnOk result (AreUsableFiles self.new) }
         ensures told { (batch_count self.new ≡ batch_count self.old)
             × (known_facts self.new ≡ known_facts self.old) }

@@ -1,4 +1,4 @@
-use Rattle.std.proofs.Common.{subst, sym}
+use Rattle.std.proofs.Common.{refl, subst, sym}
 use Rattle.std.proofs.lemmas.Result.{err_from_is_err_and}
 use Rattle.disk.specs.{AlwaysLeaves, OnlyLeaves, contents}
 use Rattle.engine.specs.OpenFiles.{OpeningRefusal}
@@ -34,6 +34,15 @@ returns-in-Ok-clause-opened g c = λ facts list honest represents.
       holds = holds_of g.D.Disk laws _ list (reads_of g.D.Disk laws _ list
           (c.open.ensures.kept.honest.1 honest') not_true opened.1);
     }
+
+-- it knows the floor, and no file is left that its version does not name
+pub returns-in-Ok-clause-fresh : goal.returns-in-Ok-clause-fresh
+returns-in-Ok-clause-fresh g c = record {
+  works = not_true;
+  committed = c.floor-committed.ensures;
+  limit = refl;
+  swept = λ honest. c.in-Ok.ensures.swept (c.open.ensures.kept.honest.0 honest);
+}
 
 -- each moment leaves files of the store
 pub returns-in-Ok-clause-any_moment : goal.returns-in-Ok-clause-any_moment

@@ -15,7 +15,7 @@ returns-clause-keeps g c =
         only = λ reliable spared fails. may_fail g.D.Disk c.args.self.now
             (kept.only reliable spared fails);
         reliable = kept.reliable;
-        files = kept.files;
+        files = c.tend-answer.ensures.touches;
         fault = kept.fault;
         spared = kept.spared;
       };

@@ -6,7 +6,7 @@ use Rattle.manifest.specs.{IsVersion, NodeVersion}
 use Rattle.engine.specs.Errors.{IsOfMachine}
 use Rattle.engine.specs.LevelTables.{AreTablesOf}
 use Rattle.engine.proofs.BegunFiles.{counts_none, first_hold, first_line, log_is_spared, no_file_ends, no_slot_yet}
-use Rattle.engine.proofs.BegunFiles.{rest_is_unused}
+use Rattle.engine.proofs.BegunFiles.{only_first, rest_is_unused}
 use Rattle.engine.proofs.Causes.{refuses}
 use Rattle.engine.proofs.Parts.{holds_in}
 use Rattle.engine.proofs.store_files.StoreFiles.create.Goals as goal
@@ -80,3 +80,14 @@ returns-clause-created g c = λ honest.
     (record { first = refl; from = at.from; log = holds_in s1 s3 log [] is_spared log_held })
     (c.in_ok-tables.ensures.opened [] honest3 read)
     (rest_is_unused s0 s1 s2 s3 alone log_kept slots_kept same)
+
+-- nor did those calls leave any
+pub returns-clause-alone : goal.returns-clause-alone
+returns-clause-alone g c = λ honest.
+    let honest1 = c.remove_others.ensures.kept.honest.1 honest in
+    let honest2 = c.create.ensures.kept.honest.1 honest1 in
+    let honest3 = c.create-2.ensures.kept.honest.1 honest2 in
+    only_first (g.D.Disk.state c.remove_others.new.disk) (g.D.Disk.state c.create.new.disk)
+    (g.D.Disk.state c.create-2.new.disk) (g.D.Disk.state c.open.new.disk)
+    (c.in_ok-remove_others.ensures.alone honest) (c.create.ensures.kept.files honest1)
+    (c.create-2.ensures.kept.files honest2) (c.open.ensures.kept.files honest3)

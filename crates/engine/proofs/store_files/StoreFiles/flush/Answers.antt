@@ -9,6 +9,7 @@ use Rattle.engine.specs.StoreFiles.{FilesRepresent}
 use Rattle.engine.specs.Tending.{HasSpilled, HeldAndSpilled, IsNextTable}
 use Rattle.engine.proofs.Causes.{refuses}
 use Rattle.engine.proofs.Keeping.{passed_on}
+use Rattle.engine.proofs.TendedFiles.{beside_both, table_alone}
 use Rattle.engine.proofs.Tends.{nothing_called}
 use Rattle.engine.proofs.store_files.StoreFiles.flush.Goals as goal
 
@@ -117,3 +118,33 @@ returns-in_ok-install-in-Some-clause-any_moment g c = λ list honest h.
     (g.D.Disk.state c.install.new.disk) (g.D.Disk.past c.args.disk.now)
     (g.D.Disk.past c.spill.new.disk) (g.D.Disk.past c.install.new.disk)
     (c.spill.ensures.any_moment list honest h) (c.install.ensures.any_moment list between held)
+
+-- ---- the files that both calls leave
+
+pub returns-in_err-made-clause-touches : goal.returns-in_err-made-clause-touches
+returns-in_err-made-clause-touches g c = λ honest.
+    table_alone c.args.self.now (g.D.Disk.state c.args.disk.now) (g.D.Disk.state c.spill.new.disk)
+    (c.spill.ensures.kept.files honest)
+
+pub returns-in-None-clause-touches : goal.returns-in-None-clause-touches
+returns-in-None-clause-touches g c = λ honest.
+    table_alone c.args.self.now (g.D.Disk.state c.args.disk.now) (g.D.Disk.state c.spill.new.disk)
+    (c.spill.ensures.kept.files honest)
+
+pub returns-in_err-install-in-Some-clause-touches : goal.returns-in_err-install-in-Some-clause-touches
+returns-in_err-install-in-Some-clause-touches g c = λ honest.
+    let files = c.args.self.now in
+    let disk = g.D.Disk.state c.args.disk.now in
+    let mid = g.D.Disk.state c.spill.new.disk in
+    beside_both files disk mid (g.D.Disk.state c.install.new.disk)
+    (table_alone files disk mid (c.spill.ensures.kept.files honest))
+    (c.install.ensures.touches (c.spill.ensures.kept.honest.1 honest))
+
+pub returns-in_ok-install-in-Some-clause-touches : goal.returns-in_ok-install-in-Some-clause-touches
+returns-in_ok-install-in-Some-clause-touches g c = λ honest.
+    let files = c.args.self.now in
+    let disk = g.D.Disk.state c.args.disk.now in
+    let mid = g.D.Disk.state c.spill.new.disk in
+    beside_both files disk mid (g.D.Disk.state c.install.new.disk)
+    (table_alone files disk mid (c.spill.ensures.kept.files honest))
+    (c.install.ensures.touches (c.spill.ensures.kept.honest.1 honest))

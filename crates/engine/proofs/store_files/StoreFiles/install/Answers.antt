@@ -13,6 +13,7 @@ use Rattle.engine.proofs.Installed.{beside_new, count_kept, edit_is, edit_is_rec
 use Rattle.engine.proofs.Installed.{installed_holds, installed_usable, known, log_begins}
 use Rattle.engine.proofs.Installed.{manifest_begun, new_ends, new_served, none_begun, old_served}
 use Rattle.engine.proofs.Installed.{spilled_named}
+use Rattle.engine.proofs.TendedFiles.{beside_both, counting_alone, log_alone}
 use Rattle.engine.proofs.Tends.{edit_of_machine}
 use Rattle.engine.proofs.store_files.StoreFiles.install.Goals as goal
 
@@ -329,3 +330,48 @@ returns-clause-installed g c = λ list honest hs.
     (c.behind-self.inside.next_file + 1) at c.in_ok-edit.edit is s1 list one hs s2 spares c.begin.new.self begun.2 began keeps s3 _ slot same))
     (subst (λ (m : Memtable). (entry : Entry) → TableHolds m entry → ⊥) memtable
     c.new.ensures.empty)
+
+-- ---- the files that it leaves
+
+pub returns-in_err-begin-clause-touches : goal.returns-in_err-begin-clause-touches
+returns-in_err-begin-clause-touches g c = λ honest.
+    log_alone c.args.self.now (g.D.Disk.state c.args.disk.now) (g.D.Disk.state c.begin.new.disk)
+    (c.behind-self.inside.next_file + 1)
+    (ap (λ (n : NodeVersion). n.version.next_file + 1) (c.behind-self.view_is ∙ c.state.ensures))
+    (c.begin.ensures.kept.files honest)
+
+pub returns-in-Err-clause-touches : goal.returns-in-Err-clause-touches
+returns-in-Err-clause-touches g c = λ honest.
+    let files = c.args.self.now in
+    let s1 = g.D.Disk.state c.args.disk.now in
+    let s2 = g.D.Disk.state c.begin.new.disk in
+    let s3 = g.D.Disk.state c.record.new.disk in
+    beside_both files s1 s2 s3 (log_alone files s1 s2 (c.behind-self.inside.next_file + 1)
+    (ap (λ (n : NodeVersion). n.version.next_file + 1) (c.behind-self.view_is ∙ c.state.ensures))
+    (c.begin.ensures.kept.files honest))
+    (counting_alone files s2 s3
+    (c.record.ensures.kept.files (c.begin.ensures.kept.honest.1 honest)))
+
+pub returns-in_err-add-clause-touches : goal.returns-in_err-add-clause-touches
+returns-in_err-add-clause-touches g c = λ honest.
+    let files = c.args.self.now in
+    let s1 = g.D.Disk.state c.args.disk.now in
+    let s2 = g.D.Disk.state c.begin.new.disk in
+    let s3 = g.D.Disk.state c.record.new.disk in
+    beside_both files s1 s2 s3 (log_alone files s1 s2 (c.behind-self.inside.next_file + 1)
+    (ap (λ (n : NodeVersion). n.version.next_file + 1) (c.behind-self.view_is ∙ c.state.ensures))
+    (c.begin.ensures.kept.files honest))
+    (counting_alone files s2 s3
+    (c.record.ensures.kept.files (c.begin.ensures.kept.honest.1 honest)))
+
+pub returns-clause-touches : goal.returns-clause-touches
+returns-clause-touches g c = λ honest.
+    let files = c.args.self.now in
+    let s1 = g.D.Disk.state c.args.disk.now in
+    let s2 = g.D.Disk.state c.begin.new.disk in
+    let s3 = g.D.Disk.state c.record.new.disk in
+    beside_both files s1 s2 s3 (log_alone files s1 s2 (c.behind-self.inside.next_file + 1)
+    (ap (λ (n : NodeVersion). n.version.next_file + 1) (c.behind-self.view_is ∙ c.state.ensures))
+    (c.begin.ensures.kept.files honest))
+    (counting_alone files s2 s3
+    (c.record.ensures.kept.files (c.begin.ensures.kept.honest.1 honest)))

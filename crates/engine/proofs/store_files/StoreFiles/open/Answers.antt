@@ -1,7 +1,8 @@
-use Rattle.std.proofs.Common.{◌∙◌, ap}
+use Rattle.std.proofs.Common.{◌∙◌, ℕ, List, ap, subst}
 use Rattle.manifest.specs.{NodeVersion}
 use Rattle.engine.specs.Errors.{IsOfMachine}
 use Rattle.engine.specs.Openings.{kept_files}
+use Rattle.engine.specs.Settling.{AreAlone}
 use Rattle.engine.specs.StoreFiles.{IsOneOf}
 use Rattle.engine.proofs.Causes.{if_refuses, refuses}
 use Rattle.engine.proofs.KeptFiles.{settled_as, still_keeps}
@@ -28,6 +29,14 @@ returns-clause-opened g c = λ facts list honest represents.
           is (c.remove_others.ensures.kept.files honest1)
           (c.in_ok-remove_others.ensures.alone honest1),
     )
+
+-- no file is left that the version does not name
+pub returns-clause-swept : goal.returns-clause-swept
+returns-clause-swept g c = λ honest.
+    subst (λ (l : List ℕ). AreAlone l (g.D.Disk.state c.remove_others.new.disk))
+    (c.deref.ensures.value ∙ c.in_ok-kept.ensures
+    ∙ ap (λ (n : NodeVersion). kept_files n.version) c.state.ensures)
+    (c.in_ok-remove_others.ensures.alone (c.read_files.ensures.kept.honest.1 honest))
 
 -- at each moment the disk leaves only files of these stores
 pub returns-in_err-files-clause-any_moment : goal.returns-in_err-files-clause-any_moment

@@ -1,6 +1,7 @@
 use Rattle.std.proofs.Common.{subst, sym}
 use Rattle.engine.specs.Errors.{IsOfMachine}
 use Rattle.engine.specs.OpenFiles.{known_version}
+use Rattle.engine.proofs.TendedFiles.{spare_alone}
 use Rattle.engine.proofs.Tends.{edit_of_machine, held_rewritten, nothing_called, slots_are_written}
 use Rattle.engine.proofs.store_files.StoreFiles.shorten.Goals as goal
 
@@ -43,3 +44,14 @@ pub returns-in-Err-clause-tended : goal.returns-in-Err-clause-tended
 returns-in-Err-clause-tended g c = λ list honest h.
     subst IsOfMachine (sym c.refusal_of_edit.ensures) (edit_of_machine c.in-Err.e
     (c.in-Err.ensures.rewritten (known_version c.args.self.now) honest h.manifest))
+
+-- the other slot alone was written
+pub returns-in-Ok-clause-touches : goal.returns-in-Ok-clause-touches
+returns-in-Ok-clause-touches g c = λ honest.
+    spare_alone c.args.self.now (g.D.Disk.state c.args.disk.now)
+    (g.D.Disk.state c.rewrite.new.disk) (c.rewrite.ensures.kept.files honest)
+
+pub returns-in-Err-clause-touches : goal.returns-in-Err-clause-touches
+returns-in-Err-clause-touches g c = λ honest.
+    spare_alone c.args.self.now (g.D.Disk.state c.args.disk.now)
+    (g.D.Disk.state c.rewrite.new.disk) (c.rewrite.ensures.kept.files honest)

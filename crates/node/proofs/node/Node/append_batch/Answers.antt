@@ -102,7 +102,7 @@ returns-clause-kept g c =
       disk = kept_on g.D.Disk (sym c.set_committed.ensures.disk)
           (kept_but g.D.Disk (λ full. inl full)
           (kept_as g.D.Disk (neither (answered c.append.result c.in_ok-append.was) done_told)
-          (λ a b kept. kept) c.append.ensures.keeps.disk));
+          (λ a b kept. tt) c.append.ensures.keeps.disk));
       works = record {
         works = λ ended. still_works c.in_ok-append.ensures.keeps.ends may.works
             (c.set_committed.ensures.ended.0 ended);
