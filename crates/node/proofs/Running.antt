@@ -144,6 +144,18 @@ stop_passed called engine.TooOld (Err s) is told = (λ f. cc, λ f. cc)
 stop_passed called engine.NotCommitted (Err s) is told = (λ f. cc, λ f. cc)
 stop_passed called engine.Exhausted (Err s) is told = (λ f. cc, λ f. cc)
 
+-- the cause that is told of an engine's is the disk exactly where that is
+pub device_told : (e : EngineError) (s : Stop) → s ≡ engine_stop e →
+    (e ≡ engine.Disk) ↔ (s ≡ stop.Disk)
+device_told engine.Disk s told = (λ f. told, λ f. refl)
+device_told engine.Damaged s told = (λ f. cc, λ f. cc)
+device_told engine.Memory s told = (λ f. cc, λ f. cc)
+device_told engine.NotCreated s told = (λ f. cc, λ f. cc)
+device_told engine.Failed s told = (λ f. cc, λ f. cc)
+device_told engine.TooOld s told = (λ f. cc, λ f. cc)
+device_told engine.NotCommitted s told = (λ f. cc, λ f. cc)
+device_told engine.Exhausted s told = (λ f. cc, λ f. cc)
+
 -- what holds of the cause holds of the refusal that tells it
 pub refuses : {T E : Type 0} (result : Result T E) {e : E} (P : T → Type 0) (Q : E → Type 0) →
     IsErrAnd result (λ s. s ≡ e) → Q e → MatchResult result P Q

@@ -68,3 +68,16 @@ returns-in-Drop-clause-ends g c = λ x n input read r.
     (rule_of x n known) (Ok c.output_of_drop.result)
     (at_rest g.D.Disk c.args.self.now x n n r) r
     (c.output_of_drop.ensures n input) tt)
+
+-- what the rule keeps of the node, the step does
+pub returns-in-Accept-clause-kept : goal.returns-in-Accept-clause-kept
+returns-in-Accept-clause-kept g c = c.accept.ensures.kept
+
+pub returns-in-Append-clause-kept : goal.returns-in-Append-clause-kept
+returns-in-Append-clause-kept g c = c.append.ensures.kept
+
+pub returns-in-Read-clause-kept : goal.returns-in-Read-clause-kept
+returns-in-Read-clause-kept g c = c.read.ensures.kept
+
+pub returns-in-Resend-clause-kept : goal.returns-in-Resend-clause-kept
+returns-in-Resend-clause-kept g c = c.resend.ensures.kept

@@ -3,7 +3,8 @@ use Rattle.disk.specs.{contents}
 use Rattle.node.specs.Outputs.{AlwaysRefines}
 use Rattle.node.specs.Steps.{facts_for}
 use Rattle.node.specs.Stops.{IsEnvironmental}
-use Rattle.node.proofs.Running.{env_of, not_for_files, started_from, started_or_memory}
+use Rattle.engine.specs.KeepingLemmas.{kept_as}
+use Rattle.node.proofs.Running.{device_told, env_of, not_for_files, started_from, started_or_memory}
 use Rattle.node.proofs.node.Node.start.Goals as goal
 
 -- the machine that the files represent runs
@@ -44,3 +45,9 @@ pub returns-in-Ok-clause-any_moment : goal.returns-in-Ok-clause-any_moment
 returns-in-Ok-clause-any_moment g c = λ x n m honest rests.
     subst (λ d. AlwaysRefines g.D.Disk c.args.disk d x n m) (sym c.run_opened.ensures.disk)
     (c.in-Ok.ensures.any_moment (facts_for x n) n.list (facts_for x m) m.list honest rests)
+
+-- what the engine keeps of its disk, a refusal does
+pub returns-in-Err-clause-kept : goal.returns-in-Err-clause-kept
+returns-in-Err-clause-kept g c =
+    kept_as g.D.Disk (device_told c.in-Err.e c.from.result c.from.ensures) (λ a b kept. kept)
+    c.in-Err.ensures.kept

@@ -1,9 +1,11 @@
-use Rattle.std.proofs.Common.{ap, refl, subst, sym}
+use Rattle.std.proofs.Common.{ap, refl, subst, sym, ◌∙◌}
 use Rattle.std.proofs.lemmas.Result.{err_from_is_err_and}
 use Rattle.chain_model.specs.{silent}
+use Rattle.engine.specs.KeepingLemmas.{answered, kept_as, neither}
 use Rattle.engine.specs.{LookUps, engine_disk}
 use Rattle.node.specs.Stops.{IsEnvironmental}
-use Rattle.node.proofs.Running.{ends_stopped, env_of, still_runs, tends}
+use Rattle.node.proofs.Running.{done_told, ends_stopped, env_of, still_runs, still_works, stop_passed}
+use Rattle.node.proofs.Running.{tends}
 use Rattle.node.proofs.node.Node.tend.Goals as goal
 
 -- the store stopped, and a crash leaves its list
@@ -29,4 +31,27 @@ returns-clause-ends g c = λ x n r.
       honest = runs.honest;
       any_moment = tends g.D.Disk old (engine_disk c.tend.new.self) x n r
           (c.tend.ensures.any_moment n.list r.store);
+    }
+
+-- what the engine keeps of its disk, the node does
+pub returns-in_err-tend-clause-kept : goal.returns-in_err-tend-clause-kept
+returns-in_err-tend-clause-kept g c =
+    kept_as g.D.Disk (stop_passed c.tend.result c.in_err-tend.field-0.0 c.from_residual.result
+    c.in_err-tend.was c.from_residual.ensures.1) (λ a b kept. kept) c.tend.ensures.keeps.disk
+
+pub returns-clause-kept : goal.returns-clause-kept
+returns-clause-kept g c =
+    kept_as g.D.Disk (neither (answered c.tend.result c.in_ok-tend.was) done_told)
+    (λ a b kept. kept) c.tend.ensures.keeps.disk
+
+-- and another step can follow
+pub returns-clause-works : goal.returns-clause-works
+returns-clause-works g c =
+    let may = c.requires in
+    let told = c.tend.ensures.told in
+    record {
+      works = still_works c.in_ok-tend.ensures.keeps.ends may.works;
+      count = may.count ∙ sym (ap (λ (l : LookUps). l.count) told);
+      kept = may.kept ∙ sym (ap (λ (l : LookUps). l.facts.kept) told);
+      committed = may.committed ∙ sym (ap (λ (l : LookUps). l.committed) told);
     }
