@@ -10,7 +10,6 @@ pub mod Worlds
 pub use Rattle.chain_model.specs.Configuration
 pub use Rattle.chain_model.specs.Machine
 pub use Rattle.configurations.specs.Configs
-pub use Rattle.configurations.specs.Refusals
 pub use Rattle.configurations.specs.declared.error.ConfigError
 pub use Rattle.chain_model.specs.declared.drop_reason.DropReason
 pub use Rattle.disk.specs.declared.fault.Fault
@@ -24,4 +23,4 @@ pub use Rattle.lab.specs.Events.{NamesNode, node_in}
 pub use Rattle.lab.specs.History.{OneHistory}
 pub use Rattle.lab.specs.Runs.{AreNumbersOf, IsRun}
 pub use Rattle.lab.specs.SimNodes.{Choice}
-pub use Rattle.lab.specs.Worlds.{HasRun, frames_of_step, frames_in_steps}
+pub use Rattle.lab.specs.Worlds.{HasRun, TellsTables, frames_of_step, frames_in_steps}

@@ -16,8 +16,8 @@ use Rattle.lab.specs.declared.Line.{Line}
 use Rattle.lab.specs.declared.World.{World}
 use Rattle.lab.specs.declared.Report.{Report}
 use Rattle.lab.specs.declared.Numbers.{Numbers}
-use Rattle.lab.specs.Worlds.{TellsTables}
-use Rattle.lab.specs.{AreNumbersOf, Choice, IsRun, OneHistory, frames_in_steps, frames_of_step}
+use Rattle.lab.specs.{AreNumbersOf, Choice, IsRun, OneHistory, TellsTables}
+use Rattle.lab.specs.{frames_in_steps, frames_of_step}
 use Rattle.std.proofs.Math.Seq.{drop-cons}
 use Rattle.program.specs.declared.script.setup.Setup.{Setup}
 use Rattle.program.specs.declared.script_run.ScriptRun.{ScriptRun}

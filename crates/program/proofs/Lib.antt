@@ -20,4 +20,5 @@ pub mod OneText
 pub mod ReadBack
 pub mod EventWords
 pub mod ReadScripts
+pub mod OneScript
 pub mod Beginnings

@@ -14,7 +14,7 @@ use Rattle.lab.specs.declared.EventKind.{EventKind}
 use Rattle.lab.specs.declared.EventKind.TheVariants.{Submit, Get, Deliver, Tick, Tend, Start, Stop}
 use Rattle.lab.specs.{node_in, NamesNode}
 use Rattle.lab.specs.Configuration.{Configurations, has, at_epoch}
-use Rattle.lab.specs.Configs.{IsConfig}
+use Rattle.lab.specs.Configs.{IsConfig, TestDecidesConfig}
 use Rattle.program.specs.declared.script.statement.Action.{Action}
 use Rattle.program.specs.declared.script.statement.Action.TheVariants.{Settle, Show}
 use Rattle.program.specs.Reading.{IsOfOneNode}
@@ -29,14 +29,14 @@ use Rattle.program.specs.Faults.{statement_fault, words_fault, line_fault, after
 use Rattle.program.specs.Faults.{script_fault, start, node_fault}
 use Rattle.program.proofs.FaultWords.{all_before}
 use Rattle.program.proofs.Placing.{is_of_place, number_back, of_one_node}
-use Rattle.program.proofs.Ids.{config_is, ids_read, number_begins}
+use Rattle.program.proofs.Ids.{ids_read, number_begins}
 use Rattle.program.proofs.ReadBack.{number_read}
 use Rattle.program.proofs.OneText.{name_of}
 use Rattle.program.proofs.EventWords.{divides, divided_read, opens}
 
 -- ---- a line of words that begin so is not skipped
 
-abbrev first_byte : List (List ℕ) → ℕ
+abbrev pub first_byte : List (List ℕ) → ℕ
 first_byte [] = 0
 first_byte ([] ∷ words) = 0
 first_byte ((b ∷ bs) ∷ words) = b
@@ -45,7 +45,7 @@ onto : (b : ℕ) (words : List (List ℕ)) → first_byte (onto_first b words) �
 onto b [] = refl
 onto b (w ∷ words) = refl
 
-not_skipped : (line : List ℕ) (c : ℕ) → first_byte (words_of line) ≡ c → 97 ≤ c →
+pub not_skipped : (line : List ℕ) (c : ℕ) → first_byte (words_of line) ≡ c → 97 ≤ c →
     is_skipped line ≡ false
 not_skipped [] c e letter = absurd (omega (arith, e, letter))
 not_skipped (b ∷ bs) c e letter = elim (cases_Bool (b == 32)) [
@@ -149,7 +149,7 @@ one_node_stands cs begun log node small there name of_one =
     (rw alone refl) (rw alone refl) read (number_back node small)
     ∙ free cs (Some node) there
 
-statement_passes : (cs : Configurations) (begun : Bool) (log : ℕ) (words : List (List ℕ))
+pub statement_passes : (cs : Configurations) (begun : Bool) (log : ℕ) (words : List (List ℕ))
     (action : Action) → IsStatement cs words action → IsPassed cs begun log words
 statement_passes cs begun log words action (inl (inl is)) = record {
   good = rw is.1 refl;
@@ -232,15 +232,15 @@ statements_read cs begun log n (line ∷ lines) statements short few
     (All-tail (λ l. length l ≤ 262144) line lines short) (omega (arith, few)) more)
 
 -- a configuration
-config_good : (log : ℕ) (ids : List ℕ) (words : List (List ℕ)) → IsConfig ids →
+config_good : TestDecidesConfig → (log : ℕ) (ids : List ℕ) (words : List (List ℕ)) → IsConfig ids →
     words ≡ codes "config" ∷ map decimal ids →
     (words_fault (before_configs log) words ≡ None)
     × (after_words (before_configs log) words ≡ behind_configs (ids ∷ []) false log)
-config_good log ids words is e =
+config_good decides log ids words is e =
     let r = ids_read ids is.each in
     let before : map decimal ids ≡ before_fault (map decimal ids) =
     all_before (map decimal ids) (sym r.none) in (
-      rw (e, ← before, r.numbers, r.none, r.back, config_is ids is) refl,
+      rw (e, ← before, r.numbers, r.none, r.back, (decides ids).1 is) refl,
       rw (e, r.back) refl,
     )
 
@@ -256,32 +256,32 @@ limit_good log size words (e, good, small) =
       rw (e, back) refl,
     )
 
-lines_read : (log n : ℕ) (lines : List (List ℕ)) (setup : Setup) (statements : List Statement) →
+lines_read : TestDecidesConfig → (log n : ℕ) (lines : List (List ℕ)) (setup : Setup) (statements : List Statement) →
     AreShort lines → n + length lines ≤ 100001 → IsScriptWith log n lines setup statements →
     script_fault (before_configs log) n lines ≡ None
-lines_read log n [] setup statements short few is = absurd is
-lines_read log n (line ∷ lines) setup statements short few (inl more) =
+lines_read decides log n [] setup statements short few is = absurd is
+lines_read decides log n (line ∷ lines) setup statements short few (inl more) =
     skipped (before_configs log) n line lines (All-head (λ l. length l ≤ 262144) line lines short)
     (omega (arith, few)) more.0
-    (lines_read log (suc n) lines setup statements
+    (lines_read decides log (suc n) lines setup statements
     (All-tail (λ l. length l ≤ 262144) line lines short) (omega (arith, few)) more.1)
-lines_read log n (line ∷ lines) setup statements short few (inr (inl (size, sets, more))) =
+lines_read decides log n (line ∷ lines) setup statements short few (inr (inl (size, sets, more))) =
     let good = limit_good log size (words_of line) sets in
     stated (before_configs log) (before_configs size) n line lines
     (All-head (λ l. length l ≤ 262144) line lines short) (omega (arith, few))
     (rw sets.0 (omega arith)) good.0 good.1
-    (lines_read size (suc n) lines setup statements
+    (lines_read decides size (suc n) lines setup statements
     (All-tail (λ l. length l ≤ 262144) line lines short) (omega (arith, few)) more)
-lines_read log n (line ∷ lines) setup statements short few (inr (inr (ids, e, is, up, more))) =
-    let good = config_good log ids (words_of line) is e in
+lines_read decides log n (line ∷ lines) setup statements short few (inr (inr (ids, e, is, up, more))) =
+    let good = config_good decides log ids (words_of line) is e in
     stated (before_configs log) (behind_configs (ids ∷ []) false log) n line lines
     (All-head (λ l. length l ≤ 262144) line lines short) (omega (arith, few))
     (rw e (omega arith)) good.0 good.1
     (statements_read (ids ∷ []) false log (suc n) lines statements
     (All-tail (λ l. length l ≤ 262144) line lines short) (omega (arith, few)) more)
 
-pub script_read : (lines : List (List ℕ)) (setup : Setup) (statements : List Statement) →
+pub script_read : TestDecidesConfig → (lines : List (List ℕ)) (setup : Setup) (statements : List Statement) →
     AreShort lines → length lines ≤ 100000 → IsScript 1 lines setup statements →
     script_fault start 1 lines ≡ None
-script_read lines setup statements short few is =
-    lines_read default_log 1 lines setup statements short (omega (arith, few)) is
+script_read decides lines setup statements short few is =
+    lines_read decides default_log 1 lines setup statements short (omega (arith, few)) is

@@ -1,25 +1,32 @@
 -- The program's words in their plain form, which asks for the run of one script.
-use Rattle.std.specs.Prelude.{◌≡◌, ℕ, Bool, false, ◌==◌, if◌then◌else◌, List, [], ◌∷◌, ◌++◌, codes}
+use Rattle.std.specs.Prelude.{◌≡◌, ℕ, Bool, false, ◌==◌, ◌&&◌, ◌||◌, not, if◌then◌else◌}
+use Rattle.std.specs.Prelude.{List, [], ◌∷◌, ◌++◌, codes}
 use Rattle.std.specs.Prelude.{Option, Some, None}
+use Rattle.std.specs.List.{list_any}
 use Rattle.std.specs.Str.{bytes_eq}
 use Rattle.program.specs.declared.invocation.Invocation.{Invocation}
 use Rattle.program.specs.declared.invocation.Invocation.TheVariants.{Input, Script}
-
--- the words `PROGRAM lab ..`
-abbrev pub names_lab : List (List ℕ) → Bool
-names_lab (program ∷ name ∷ words) = bytes_eq name (codes "lab")
-names_lab _ = false
-
--- the SCRIPT of the words `PROGRAM lab SCRIPT`
-abbrev pub lab_script : List (List ℕ) → Option (List ℕ)
-lab_script (program ∷ name ∷ script ∷ []) =
-    if bytes_eq name (codes "lab") then Some script else None
-lab_script _ = None
 
 -- a word that begins with - is an option, or standard input
 abbrev pub is_dashed : List ℕ → Bool
 is_dashed [] = false
 is_dashed (b ∷ bs) = b == 45
+
+-- the SCRIPT of the words `PROGRAM lab SCRIPT`, which begins with - only where it is `-` itself, and
+-- of `PROGRAM lab -- SCRIPT`
+abbrev pub lab_script : List (List ℕ) → Option (List ℕ)
+lab_script (program ∷ name ∷ script ∷ []) =
+    if bytes_eq name (codes "lab") && (bytes_eq script (codes "-") || not (is_dashed script))
+    then Some script else None
+lab_script (program ∷ name ∷ dashes ∷ script ∷ []) =
+    if bytes_eq name (codes "lab") && bytes_eq dashes (codes "--") then Some script else None
+lab_script _ = None
+
+-- two words or more behind `PROGRAM lab`, one of which begins with -
+abbrev pub has_option : List (List ℕ) → Bool
+has_option (program ∷ name ∷ first ∷ second ∷ words) =
+    bytes_eq name (codes "lab") && list_any is_dashed (first ∷ second ∷ words)
+has_option _ = false
 
 -- a request for the run of the script at this path
 abbrev pub AsksForScript : Invocation → List ℕ → Type 0

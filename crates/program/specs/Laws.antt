@@ -7,7 +7,7 @@ use Rattle.program.specs.declared.script.statement.Statement.{Statement}
 use Rattle.program.specs.Words.{AreBytes, bytes_text}
 use Rattle.program.specs.Statements.{AreBytesIn, edit_word}
 use Rattle.program.specs.Events.{SpellsEvent}
-use Rattle.program.specs.Scripts.{IsScript}
+use Rattle.program.specs.Scripts.{AreLimits, IsScript}
 use Rattle.program.specs.Faults.{spelling_fault, script_fault, start}
 
 -- no two byte strings have one spelling
@@ -22,6 +22,18 @@ EditsDiffer = (a b : Edit) → AreBytesIn a → AreBytesIn b → edit_word a ≡
 abbrev pub EventsDiffer : Type 0
 EventsDiffer = (a b : Event) (words : List (List ℕ)) → SpellsEvent words a → SpellsEvent words b
     → a ≡ b
+
+-- two setups have the same configurations and the same limits
+pub record AreAlike (one other : Setup) : Type 0 where
+  pub configs : one.configs ≡ other.configs
+  pub log : ℕ
+  pub limits : AreLimits log one.limits
+  pub others : AreLimits log other.limits
+
+-- no lines spell two scripts
+abbrev pub ScriptsDiffer : Type 0
+ScriptsDiffer = (lines : List (List ℕ)) (one other : Setup) (a b : List Statement)
+    → IsScript 1 lines one a → IsScript 1 lines other b → AreAlike one other × (a ≡ b)
 
 -- the words that spell an event have no fault of their own
 abbrev pub EventsAreRead : Type 0

@@ -14,8 +14,7 @@ use Rattle.lab.specs.declared.Line.TheVariants as line
 use Rattle.lab.specs.declared.Numbers.{Numbers}
 use Rattle.lab.specs.declared.World.{World}
 use Rattle.lab.specs.Tended.TheVariants as tended
-use Rattle.lab.specs.Worlds.{TellsTables}
-use Rattle.lab.specs.{AreNumbersOf, Choice, HasRun, frames_in_steps}
+use Rattle.lab.specs.{AreNumbersOf, Choice, HasRun, TellsTables, frames_in_steps}
 use Rattle.program.specs.declared.script.statement.Action.{Action}
 use Rattle.program.specs.declared.script.statement.Action.TheVariants.{Event, Invalid, Flow}
 use Rattle.program.specs.declared.script.statement.Action.TheVariants.{Settle, Show}

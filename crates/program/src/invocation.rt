@@ -1,8 +1,9 @@
 //! What the program's words ask for.
-ghost use Rattle.std.specs.Prelude.{◌≡◌, ℕ, List, false, map, codes, Ok, Err, Some, None};
+ghost use Rattle.std.specs.Prelude.{◌≡◌, ◌≢◌, ℕ, List, false, map, codes, Ok, Err, Some, None};
 ghost use Rattle.std.specs.Prelude.{IsOkAnd, MatchOption};
+ghost use Rattle.std.specs.List.{list_any};
 ghost use Rattle.program.specs.Invocations.{AsksForScript, lab_script as script_of, is_dashed};
-ghost use Rattle.program.specs.Invocations.{names_lab};
+ghost use Rattle.program.specs.Invocations.{has_option};
 
 use clap::error::ErrorKind;
 use clap::{Arg, ArgAction, ArgMatches, Command};
@@ -70,27 +71,6 @@ fn script_in<'a>(matches: ArgMatches<'a>) -> Result<&'a str, WordsError> {
     script.ok_or(WordsError::Usage)
 }
 
-/// The script of words in their plain form.
-fn lab_script<'a>(words: &'a [&'a str]) -> Option<&'a str>
-    ensures { MatchOption result (script_of (map (λ w. w.now) words.now) ≡ None)
-        (λ script. script_of (map (λ w. w.now) words.now) ≡ Some script.now) }
-{
-    match words {
-        [_, name, script] if *name == "lab" => Some(*script),
-        _ => None,
-    }
-}
-
-/// Whether words name the command `lab`.
-fn names_lab(words: &[&str]) -> bool
-    ensures { result ≡ names_lab (map (λ w. w.now) words.now) }
-{
-    match words {
-        [_, name, ..] => *name == "lab",
-        _ => false,
-    }
-}
-
 fn begins_with_dash(word: &str) -> bool
     ensures { result ≡ is_dashed word.now }
 {
@@ -100,27 +80,59 @@ fn begins_with_dash(word: &str) -> bool
     }
 }
 
+/// The script of words in their plain form.
+fn lab_script<'a>(words: &'a [&'a str]) -> Option<&'a str>
+    ensures { MatchOption result (script_of (map (λ w. w.now) words.now) ≡ None)
+        (λ script. script_of (map (λ w. w.now) words.now) ≡ Some script.now) }
+{
+    match words {
+        [_, name, script] if *name == "lab" && (*script == "-" || !begins_with_dash(script)) => {
+            Some(*script)
+        }
+        [_, name, dashes, script] if *name == "lab" && *dashes == "--" => Some(*script),
+        _ => None,
+    }
+}
+
+/// Whether any of the words begins with a dash.
+fn any_dashed(words: &[&str]) -> bool
+    ensures { result ≡ list_any is_dashed (map (λ w. w.now) words.now) }
+{
+    match words {
+        [] => false,
+        [first, later @ ..] => begins_with_dash(first) || any_dashed(later),
+    }
+}
+
+/// Whether the parser decides on words of no plain form.
+fn has_option(words: &[&str]) -> bool
+    ensures { result ≡ has_option (map (λ w. w.now) words.now) }
+{
+    match words {
+        [_, name, behind @ ..] => *name == "lab" && behind.len() > 1 && any_dashed(behind),
+        _ => false,
+    }
+}
+
 /// The request that the words spell. The first word is the program's name. What words of the plain
-/// form ask for is decided here, and that words without a command ask for nothing, and a contract
-/// says it; the parser decides on all others.
+/// form ask for is decided here, and that other words without an option ask for nothing, and a
+/// contract says it; the parser decides on all others.
 pub fn invocation_of<'a>(alloc: Global, words: &'a [&'a str]) -> Result<Invocation<'a>, WordsError>
-    ensures none { names_lab (map (λ w. w.now) words.now) ≡ false →
-        result ≡ Err WordsError.Usage }
+    ensures none { script_of (map (λ w. w.now) words.now) ≡ None →
+        has_option (map (λ w. w.now) words.now) ≡ false → result ≡ Err WordsError.Usage }
     ensures input { script_of (map (λ w. w.now) words.now) ≡ Some (codes "-") →
         result ≡ Ok Invocation.Input }
     ensures path { (path : List ℕ) → script_of (map (λ w. w.now) words.now) ≡ Some path →
-        is_dashed path ≡ false → IsOkAnd result (λ request. AsksForScript request path) }
+        path ≢ codes "-" → IsOkAnd result (λ request. AsksForScript request path) }
 {
-    if !names_lab(words) {
-        return Err(WordsError::Usage);
-    }
     if let Some(script) = lab_script(words) {
         if script == "-" {
             return Ok(Invocation::Input);
         }
-        if !begins_with_dash(script) {
-            return Ok(Invocation::Script(script));
-        }
+        return Ok(Invocation::Script(script));
+    }
+    if !has_option(words) {
+        return Err(WordsError::Usage);
     }
     match parsed(alloc, words)? {
         "-" => Ok(Invocation::Input),

@@ -1,9 +1,9 @@
 //! From the program's words and streams to its exit status.
-ghost use Rattle.std.specs.Prelude.{◌≡◌, ℕ, List, false, map, codes, Some, None};
+ghost use Rattle.std.specs.Prelude.{◌≡◌, ◌≢◌, ℕ, List, false, map, codes, Some, None};
 ghost use Rattle.std.specs.Prelude.{IfOk, OnOk, OnErr, MatchResult};
 ghost use Rattle.std.specs.Io.KnownBytes.{Appends};
 ghost use Rattle.program.specs.Failures.{failure_line};
-ghost use Rattle.program.specs.Invocations.{lab_script, names_lab, is_dashed, usage_line};
+ghost use Rattle.program.specs.Invocations.{has_option, lab_script, usage_line};
 ghost use Rattle.program.specs.Runs.{AppendsPart, FailureIsReported, ProgramEnds};
 ghost use Rattle.program.specs.Runs.{RunEnds, RunEndsAs, UsageIsReported};
 
@@ -37,9 +37,10 @@ pub fn serve<F: Files + Alloc<A = Global>, R: Read, O: Write, E: Write>(
         RunEndsAs (R.remaining input.old) (O.contents out.old) (O.contents out.new)
         (E.contents err.old) (E.contents err.new) result }
     ensures path { (path : List ℕ) → lab_script (map (λ w. w.now) words.now) ≡ Some path →
-        is_dashed path ≡ false → (input.new ≡ input.old) × RunEndsAs None (O.contents out.old)
+        path ≢ codes "-" → (input.new ≡ input.old) × RunEndsAs None (O.contents out.old)
         (O.contents out.new) (E.contents err.old) (E.contents err.new) result }
-    ensures unknown { names_lab (map (λ w. w.now) words.now) ≡ false → (input.new ≡ input.old)
+    ensures unknown { lab_script (map (λ w. w.now) words.now) ≡ None →
+        has_option (map (λ w. w.now) words.now) ≡ false → (input.new ≡ input.old)
         × UsageIsReported (O.contents out.old) (O.contents out.new) (E.contents err.old)
         (E.contents err.new) result }
     ensures ends { ProgramEnds (O.contents out.old) (O.contents out.new)

@@ -24,7 +24,7 @@ use super::statement::{Action, LineItem, ParserState, Statement};
 use super::statements::command_of;
 use super::word::number;
 use kv_types::Limits;
-use lab::{Config, ConfigError, Configs, Event, EventKind, NodeId};
+use lab::{Config, ConfigError, Configs, Event, EventKind, NodeId, test_decides_config};
 use std::alloc::{AllocError, Global};
 
 /// The most bytes of a line, without its line feed.
@@ -92,6 +92,7 @@ fn config_of(alloc: Global, numbers: &[u64]) -> Result<Config, ScriptError>
         (λ config. (config ≡ numbers.now) × IsConfig config × (is_config numbers.now ≡ true))
         (λ e. e ≢ OutOfMemory → (e ≡ BadConfiguration) × (is_config numbers.now ≡ false)) }
 {
+    test_decides_config(); // law: the test succeeds exactly for the configurations
     let Some(ids) = ids_of(alloc, numbers)? else {
         return Err(ScriptError::BadConfiguration);
     };

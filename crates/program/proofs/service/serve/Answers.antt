@@ -22,3 +22,7 @@ returns-in-Err-Memory-clause-ends g c = inl
     (reported Memory (g.O.Write.contents c.args.out.now) (g.E.Write.contents c.args.err.now)
     (g.E.Write.contents c.report.new.err) c.report.result tt c.report.ensures.status
     c.report.ensures.text)
+
+pub returns-in-Ok-Input-clause-path : goal.returns-in-Ok-Input-clause-path
+returns-in-Ok-Input-clause-path g c = λ path is other.
+    absurd (rw c.in-Ok-Input.field-0-is at c.in-Ok-Input.ensures.path path is other)

@@ -6,4 +6,4 @@ pub returns-clause-events : goal.returns-clause-events
 returns-clause-events c = whole_read
 
 pub returns-clause-scripts : goal.returns-clause-scripts
-returns-clause-scripts c = script_read
+returns-clause-scripts c = script_read c.test_decides_config.ensures

@@ -1,5 +1,6 @@
 use Rattle.program.proofs.OneText.{one_text, one_edit}
 use Rattle.program.proofs.EventWords.{one_whole}
+use Rattle.program.proofs.OneScript.{one_script}
 use Rattle.program.proofs.script.laws.spellings_differ.Goals as goal
 
 pub returns-clause-strings : goal.returns-clause-strings
@@ -10,3 +11,6 @@ returns-clause-edits c = one_edit
 
 pub returns-clause-events : goal.returns-clause-events
 returns-clause-events c = one_whole
+
+pub returns-clause-scripts : goal.returns-clause-scripts
+returns-clause-scripts c = one_script

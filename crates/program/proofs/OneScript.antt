@@ -1,0 +1,274 @@
+-- Lines spell one script at most.
+use Rattle.std.proofs.Common.{◌≡◌, ◌≤◌, ℕ, suc, List, [], ◌∷◌, ◌++◌, codes, subst}
+use Rattle.std.proofs.Common.{refl, sym, ap, ◌∙◌, inl, inr, arith, true, false, map}
+use Rattle.std.specs.Prelude.{if◌then◌else◌, ◌<◌, ◌^◌, ◌⊎◌}
+use Rattle.std.specs.Str.{bytes_eq}
+use Rattle.std.specs.Fmt.{decimal}
+use Rattle.lab.specs.declared.Event as lab
+use Rattle.lab.specs.declared.EventKind.{EventKind}
+use Rattle.lab.specs.declared.EventKind.TheVariants.{Submit, Get, Deliver, Tick, Tend, Start, Stop}
+use Rattle.lab.specs.Configuration.{Configurations}
+use Rattle.lab.specs.Configs.{IsConfig}
+use Rattle.program.specs.declared.script.setup.Setup.{Setup}
+use Rattle.program.specs.declared.script.statement.Action.{Action}
+use Rattle.program.specs.declared.script.statement.Action.TheVariants.{Flow, Settle, Show}
+use Rattle.program.specs.declared.script.statement.Statement.{Statement}
+use Rattle.program.specs.Actions.{action_of}
+use Rattle.program.specs.Events.{SpellsEvent}
+use Rattle.program.specs.Faults.{numbers_of}
+use Rattle.program.specs.Laws.{AreAlike, ScriptsDiffer}
+use Rattle.program.specs.Scripts.{words_of, is_skipped, statement, AreStatements, IsOtherStatement}
+use Rattle.program.specs.Scripts.{IsScriptWith, IsStatement, NamesOneNode, SetsLog, SetsUp}
+use Rattle.program.specs.Scripts.{default_log}
+use Rattle.program.proofs.OneText.{name_of, one_number}
+use Rattle.program.proofs.EventWords.{one_whole, opens}
+use Rattle.program.proofs.Ids.{ids_read}
+use Rattle.program.proofs.ReadScripts.{first_byte, not_skipped, statement_passes}
+
+-- ---- what kind of line words are, by their first one
+
+-- the number of a name of no event, or 0
+abbrev name_number : List ℕ → ℕ
+name_number name =
+    if bytes_eq name (codes "flow") then 1 else
+    if bytes_eq name (codes "settle") then 2 else
+    if bytes_eq name (codes "show") then 3 else
+    if bytes_eq name (codes "limit") then 4 else
+    if bytes_eq name (codes "config") then 5 else 0
+
+-- .. of the first of some words
+abbrev words_number : List (List ℕ) → ℕ
+words_number [] = 6
+words_number (name ∷ words) = name_number name
+
+-- the second of some words
+abbrev second_word : List (List ℕ) → List ℕ
+second_word [] = []
+second_word (name ∷ []) = []
+second_word (name ∷ word ∷ words) = word
+
+-- the third of some words
+abbrev third_word : List (List ℕ) → List ℕ
+third_word [] = []
+third_word (name ∷ words) = second_word words
+
+-- all words but the first
+abbrev later_words : List (List ℕ) → List (List ℕ)
+later_words [] = []
+later_words (name ∷ words) = words
+
+-- an event's name has no number
+event_number : (what : EventKind) → name_number (name_of what) ≡ 0
+event_number (Submit node edits) = refl
+event_number (Get node key at) = refl
+event_number (Deliver place) = refl
+event_number (Tick node) = refl
+event_number (Tend node) = refl
+event_number (Start node) = refl
+event_number (Stop node junk) = refl
+
+-- words of an event have no number
+event_words : (words : List (List ℕ)) (event : lab.Event) → SpellsEvent words event
+    → words_number words ≡ 0
+event_words words event spells =
+    let front = opens event.kind spells.first spells.kind in
+    let is : words ≡ name_of event.kind ∷ (front.0 ++ spells.behind) = rw front.1 at spells.parts in
+    rw is (event_number event.kind)
+
+-- ---- words say one statement at most
+
+-- what words say that settle or show a node
+pub record SaysNode (words : List (List ℕ)) (action : Action) (node number : ℕ) : Type 0 where
+  pub kind : words_number words ≡ number
+  pub word : second_word words ≡ decimal node
+  pub settles : number ≡ 2 → action ≡ Settle node
+  pub shows : number ≡ 3 → action ≡ Show node
+  pub either : (number ≡ 2) ⊎ (number ≡ 3)
+
+says_node : (cs : Configurations) (words : List (List ℕ)) (action : Action)
+    (is : NamesOneNode cs words action) → (number : ℕ) × SaysNode words action is.node number
+says_node cs words action is = of_said is.said
+  where
+    of_said : ((action ≡ Settle is.node) × (words ≡ codes "settle" ∷ decimal is.node ∷ []))
+        ⊎ ((action ≡ Show is.node) × (words ≡ codes "show" ∷ decimal is.node ∷ []))
+        → (number : ℕ) × SaysNode words action is.node number
+    of_said (inl said) = (
+      2,
+      record {
+        kind = rw said.1 refl;
+        word = rw said.1 refl;
+        settles = λ _. said.0;
+        shows = λ e. absurd (omega (arith, e));
+        either = inl refl;
+      },
+    )
+    of_said (inr said) = (
+      3,
+      record {
+        kind = rw said.1 refl;
+        word = rw said.1 refl;
+        settles = λ e. absurd (omega (arith, e));
+        shows = λ _. said.0;
+        either = inr refl;
+      },
+    )
+
+one_said : (words : List (List ℕ)) (a b : Action) (node number : ℕ) → SaysNode words a node number
+    → SaysNode words b node number → (number ≡ 2) ⊎ (number ≡ 3) → a ≡ b
+one_said words a b node number says other (inl two) = says.settles two ∙ sym (other.settles two)
+one_said words a b node number says other (inr three) = says.shows three ∙ sym (other.shows three)
+
+one_node : (cs : Configurations) (words : List (List ℕ)) (a b : Action)
+    → NamesOneNode cs words a → NamesOneNode cs words b → a ≡ b
+one_node cs words a b is other =
+    let says = says_node cs words a is in
+    let says_other = says_node cs words b other in
+    let node : other.node ≡ is.node = one_number other.node is.node other.small is.small
+    (sym says_other.1.word ∙ says.1.word) in
+    let number : says_other.0 ≡ says.0 = sym says_other.1.kind ∙ says.1.kind in
+    let moved : SaysNode words b is.node says.0 =
+    subst (λ (n : ℕ). SaysNode words b n says.0) node
+    (subst (λ (k : ℕ). SaysNode words b other.node k) number says_other.1) in
+    one_said words a b is.node says.0 says.1 moved says.1.either
+
+-- the number of words of no event
+other_number : (cs : Configurations) (words : List (List ℕ)) (action : Action)
+    → IsOtherStatement cs words action → 1 ≤ words_number words
+other_number cs words action (inl is) = rw is.1 (omega arith)
+other_number cs words action (inr is) =
+    let says = says_node cs words action is in of_number says.1.kind says.1.either
+  where
+    of_number : {n k : ℕ} → n ≡ k → (k ≡ 2) ⊎ (k ≡ 3) → 1 ≤ n
+    of_number e (inl two) = omega (arith, e, two)
+    of_number e (inr three) = omega (arith, e, three)
+
+-- a flow is no word of a node
+no_flow : (cs : Configurations) (words : List (List ℕ)) (action : Action)
+    → words ≡ codes "flow" ∷ [] → NamesOneNode cs words action → ⊥
+no_flow cs words action is named =
+    let says = says_node cs words action named in
+    let one : words_number words ≡ 1 = rw is refl in
+    of_number (sym one ∙ says.1.kind) says.1.either
+  where
+    of_number : {k : ℕ} → 1 ≡ k → (k ≡ 2) ⊎ (k ≡ 3) → ⊥
+    of_number e (inl two) = absurd (omega (arith, e, two))
+    of_number e (inr three) = absurd (omega (arith, e, three))
+
+one_other : (cs : Configurations) (words : List (List ℕ)) (a b : Action)
+    → IsOtherStatement cs words a → IsOtherStatement cs words b → a ≡ b
+one_other cs words a b (inl is) (inl other) = is.0 ∙ sym other.0
+one_other cs words a b (inl is) (inr other) = absurd (no_flow cs words b is.1 other)
+one_other cs words a b (inr is) (inl other) = absurd (no_flow cs words a other.1 is)
+one_other cs words a b (inr is) (inr other) = one_node cs words a b is other
+
+one_statement : (cs : Configurations) (words : List (List ℕ)) (a b : Action)
+    → IsStatement cs words a → IsStatement cs words b → a ≡ b
+one_statement cs words a b (inl is) (inl other) = one_other cs words a b is other
+one_statement cs words a b (inl is) (inr (event, spells, _, _)) =
+    absurd (omega (arith, other_number cs words a is, event_words words event spells))
+one_statement cs words a b (inr (event, spells, _, _)) (inl other) =
+    absurd (omega (arith, other_number cs words b other, event_words words event spells))
+one_statement cs words a b (inr (event, spells, _, is)) (inr (other, spells_other, _, same)) =
+    is ∙ ap action_of (one_whole event other words spells spells_other) ∙ sym same
+
+-- ---- line by line
+
+-- a statement's line is not skipped
+stated_line : (cs : Configurations) (line : List ℕ) (action : Action)
+    → IsStatement cs (words_of line) action → is_skipped line ≡ true → ⊥
+stated_line cs line action is skips =
+    let passes = statement_passes cs false 0 (words_of line) action is in
+    no_truth (sym skips ∙ not_skipped line (first_byte (words_of line)) refl passes.letter)
+  where
+    no_truth : true ≡ false → ⊥
+    no_truth e = absurd (cc)
+
+one_list : (cs : Configurations) (n : ℕ) (lines : List (List ℕ)) (a b : List Statement)
+    → AreStatements cs n lines a → AreStatements cs n lines b → a ≡ b
+one_list cs n [] a b are other = are ∙ sym other
+one_list cs n (line ∷ lines) a b (inl are) (inl other) =
+    one_list cs (suc n) lines a b are.1 other.1
+one_list cs n (line ∷ lines) a b (inl are) (inr (action, rest, is, _, _)) =
+    absurd (stated_line cs line action is are.0)
+one_list cs n (line ∷ lines) a b (inr (action, rest, is, _, _)) (inl other) =
+    absurd (stated_line cs line action is other.0)
+one_list cs n (line ∷ lines) a b (inr (action, rest, is, same, are))
+    (inr (second, behind, is_second, same_b, other)) =
+    let action_same = one_statement cs (words_of line) action second is is_second in
+    let rest_same = one_list cs (suc n) lines rest behind are other in
+    same ∙ (ap (λ (it : Action). statement n it ∷ rest) action_same
+    ∙ (ap (λ (l : List Statement). statement n second ∷ l) rest_same ∙ sym same_b))
+
+-- a line of words that begin with a letter is not skipped
+lettered_line : (line : List ℕ) → 97 ≤ first_byte (words_of line) → is_skipped line ≡ true → ⊥
+lettered_line line letter skips =
+    no_truth (sym skips ∙ not_skipped line (first_byte (words_of line)) refl letter)
+  where
+    no_truth : true ≡ false → ⊥
+    no_truth e = absurd (cc)
+
+-- a limit is no configuration
+no_config : (words : List (List ℕ)) (size : ℕ) (ids : List ℕ) → SetsLog words size
+    → words ≡ codes "config" ∷ map decimal ids → ⊥
+no_config words size ids sets is =
+    let four : words_number words ≡ 4 = rw sets.0 refl in
+    let five : words_number words ≡ 5 = rw is refl in
+    absurd (omega (arith, four, five))
+
+-- words are one list of ids at most
+one_ids : (words : List (List ℕ)) (a b : List ℕ) → words ≡ codes "config" ∷ map decimal a
+    → words ≡ codes "config" ∷ map decimal b → IsConfig a → IsConfig b → a ≡ b
+one_ids words a b is other lawful lawful_other =
+    sym (ids_read a lawful.each).back
+    ∙ (ap (λ (ws : List (List ℕ)). numbers_of (later_words ws)) (sym is ∙ other)
+    ∙ (ids_read b lawful_other.each).back)
+
+-- words set one size of logs at most
+one_size : (words : List (List ℕ)) (a b : ℕ) → SetsLog words a → SetsLog words b → a ≡ b
+one_size words a b sets other =
+    one_number a b sets.2 other.2 (ap third_word (sym sets.0 ∙ other.0))
+
+alike : (one other : Setup) (log : ℕ) (a b : Configurations) → a ≡ b → SetsUp one log a
+    → SetsUp other log b → AreAlike one other
+alike one other log a b same up up_other = record {
+  configs = up.configs ∙ (same ∙ sym up_other.configs);
+  log = log;
+  limits = up.limits;
+  others = up_other.limits;
+}
+
+-- the same lines behind the same limit
+one_with : (log n : ℕ) (lines : List (List ℕ)) (one other : Setup) (a b : List Statement)
+    → IsScriptWith log n lines one a → IsScriptWith log n lines other b
+    → AreAlike one other × (a ≡ b)
+one_with log n [] one other a b is is_other = absurd is
+one_with log n (line ∷ lines) one other a b (inl is) (inl is_other) =
+    one_with log (suc n) lines one other a b is.1 is_other.1
+one_with log n (line ∷ lines) one other a b (inl is) (inr (inl (size, sets, _))) =
+    absurd (lettered_line line (rw sets.0 (omega arith)) is.0)
+one_with log n (line ∷ lines) one other a b (inl is) (inr (inr (ids, e, _, _, _))) =
+    absurd (lettered_line line (rw e (omega arith)) is.0)
+one_with log n (line ∷ lines) one other a b (inr (inl (size, sets, _))) (inl is_other) =
+    absurd (lettered_line line (rw sets.0 (omega arith)) is_other.0)
+one_with log n (line ∷ lines) one other a b (inr (inr (ids, e, _, _, _))) (inl is_other) =
+    absurd (lettered_line line (rw e (omega arith)) is_other.0)
+one_with log n (line ∷ lines) one other a b (inr (inl (size, sets, more)))
+    (inr (inl (size_b, sets_b, more_b))) =
+    let same = one_size (words_of line) size_b size sets_b sets in
+    one_with size (suc n) lines one other a b more
+    (subst (λ (k : ℕ). IsScriptWith k (suc n) lines other b) same more_b)
+one_with log n (line ∷ lines) one other a b (inr (inl (size, sets, _)))
+    (inr (inr (ids, e, _, _, _))) = absurd (no_config (words_of line) size ids sets e)
+one_with log n (line ∷ lines) one other a b (inr (inr (ids, e, _, _, _)))
+    (inr (inl (size, sets, _))) = absurd (no_config (words_of line) size ids sets e)
+one_with log n (line ∷ lines) one other a b (inr (inr (ids, e, is, up, are)))
+    (inr (inr (ids_b, e_b, is_b, up_b, are_b))) =
+    let same : ids_b ≡ ids = one_ids (words_of line) ids_b ids e_b e is_b is in
+    let configs : ids_b ∷ [] ≡ ids ∷ [] = ap (λ (l : List ℕ). l ∷ []) same in (
+      alike one other log (ids ∷ []) (ids_b ∷ []) (sym configs) up up_b,
+      one_list (ids ∷ []) (suc n) lines a b are
+          (subst (λ (cs : Configurations). AreStatements cs (suc n) lines b) configs are_b),
+    )
+
+pub one_script : ScriptsDiffer
+one_script lines one other a b is is_other = one_with default_log 1 lines one other a b is is_other
