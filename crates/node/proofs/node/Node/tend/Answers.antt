@@ -37,12 +37,12 @@ returns-clause-ends g c = λ x n r.
 pub returns-in_err-tend-clause-kept : goal.returns-in_err-tend-clause-kept
 returns-in_err-tend-clause-kept g c =
     kept_as g.D.Disk (stop_passed c.tend.result c.in_err-tend.field-0.0 c.from_residual.result
-    c.in_err-tend.was c.from_residual.ensures.1) (λ a b kept. kept) c.tend.ensures.keeps.disk
+    c.in_err-tend.was c.from_residual.ensures.1) (λ a b kept. tt) c.tend.ensures.keeps.disk
 
 pub returns-clause-kept : goal.returns-clause-kept
 returns-clause-kept g c =
     kept_as g.D.Disk (neither (answered c.tend.result c.in_ok-tend.was) done_told)
-    (λ a b kept. kept) c.tend.ensures.keeps.disk
+    (λ a b kept. tt) c.tend.ensures.keeps.disk
 
 -- and another step can follow
 pub returns-clause-works : goal.returns-clause-works
