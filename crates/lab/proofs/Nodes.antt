@@ -12,24 +12,27 @@ use Rattle.chain_model.specs.{Configurations, Lawful, AllDifferent, has, at_epoc
 use Rattle.chain_core.specs.{Machine}
 use Rattle.lab.specs.declared.report.NodeReport.{NodeReport}
 use Rattle.lab.specs.declared.sim_node.SimNode.{SimNode}
-use Rattle.lab.specs.SimNodes.{IsUnarmed, StateRefines, disk_in, is_honest, state, failures}
+use Rattle.lab.specs.SimNodes.{HasLogLimit, IsUnarmed, StateRefines, disk_in, is_honest, state}
+use Rattle.lab.specs.SimNodes.{failures}
 use Rattle.lab.specs.Worlds.{SimNodeRefines, IsCreated, AreCreated, IsLeft, AreLeft, RunRefines}
-use Rattle.lab.specs.Worlds.{IsReportOf}
+use Rattle.lab.specs.Worlds.{HaveLogLimit, IsReportOf}
 use Rattle.lab.proofs.Disks.{with_disk, disk_here, disk_elsewhere}
 use Rattle.lab.proofs.SimNodes.{ids_of}
 
 -- one node more
-pub created_next : (config ids : List ℕ) (i x : ℕ) (sims now : List SimNode) (sim : SimNode) →
-    i < length ids → x ≡ get_or ids i x → sim.id ≡ x → IsCreated config sim →
-    now ≡ sims ++ sim ∷ [] → AreCreated config (take i ids) sims →
-    AreCreated config (take (i + 1) ids) now
-created_next config ids i x sims now sim within at id is whole are = record {
+pub created_next : (config ids : List ℕ) (limit i x : ℕ) (sims now : List SimNode)
+    (sim : SimNode) → i < length ids → x ≡ get_or ids i x → sim.id ≡ x → IsCreated config sim →
+    HasLogLimit sim.state limit → now ≡ sims ++ sim ∷ [] →
+    AreCreated config (take i ids) limit sims → AreCreated config (take (i + 1) ids) limit now
+created_next config ids limit i x sims now sim within at id is has whole are = record {
   nodes = ap (map (λ (s : SimNode). s.id)) whole
       ∙ map-append (λ (s : SimNode). s.id) sims (sim ∷ [])
       ∙ ap₂ (λ (l : List ℕ) (y : ℕ). l ++ y ∷ []) are.nodes (id ∙ at)
       ∙ sym (take_more ids i x within);
   each = subst (λ (l : List SimNode). All (IsCreated config) l) (sym whole)
       (All-push (IsCreated config) sims sim are.each is);
+  limit = subst (λ (l : List SimNode). HaveLogLimit l limit) (sym whole)
+      (All-push (λ (s : SimNode). HasLogLimit s.state limit) sims sim are.limit has);
 }
 
 -- of a joined list, each of both
@@ -132,9 +135,9 @@ all_have config (s ∷ sims) differ all = (
 )
 
 -- a world whose nodes were just created has made the run of no events
-pub begun : (cs : Configurations) (sims : List SimNode) → Lawful cs →
-    AreCreated (at_epoch cs 0) (at_epoch cs 0) sims → RunRefines sims [] cs [] [] []
-begun cs sims lawful are =
+pub begun : (cs : Configurations) (limit : ℕ) (sims : List SimNode) → Lawful cs →
+    AreCreated (at_epoch cs 0) (at_epoch cs 0) limit sims → RunRefines sims [] cs [] [] []
+begun cs limit sims lawful are =
     let all = recursion_from_All (IsCreated (at_epoch cs 0)) sims are.each in
     let none = none_failed (at_epoch cs 0) sims all in
     record {

@@ -1,5 +1,5 @@
 -- A step of the lab's world is a step of the model's.
-use Rattle.std.proofs.Common.{◌≡◌, ℕ, ◌+◌, ◌≤◌, List, [], ◌∷◌, ◌++◌, length, get_or, slice_set}
+use Rattle.std.proofs.Common.{◌≡◌, ℕ, ◌+◌, ◌≤◌, ◌<◌, List, [], ◌∷◌, ◌++◌, length, get_or, slice_set}
 use Rattle.std.proofs.Common.{Bool, true, false}
 use Rattle.std.proofs.Common.{refl, sym, ap, subst, ◌∙◌, arith, append-nil}
 use Rattle.std.proofs.Math.Seq.{map-set_same}
@@ -8,10 +8,12 @@ use Rattle.std.specs.Prelude.{All, Option, Some, None, MatchOption}
 use Rattle.std.proofs.lemmas.Bool.{false≢true}
 use Rattle.std.proofs.lemmas.Option.{MatchOption-at_none, MatchOption-at_some}
 use Rattle.std.specs.List.{AllZip, AllByRecursion}
-use Rattle.std.proofs.lemmas.List.Elements.{recursion_from_All, All-from_recursion}
+use Rattle.std.proofs.lemmas.List.Elements.{recursion_from_All, All-from_recursion, All-get_or}
+use Rattle.std.proofs.lemmas.List.Elements.{All-set}
 use Rattle.std.proofs.lemmas.Slice.Zip.{AllZip-long}
 use Rattle.kv_types.specs.declared.bounds.TheConstants.{MAX_NUMBER}
 use Rattle.kv_types.specs.{BatchContent}
+use Rattle.kv_types.specs.declared.Limits.{Limits}
 use Rattle.disk.specs.declared.Fault.{Fault}
 use Rattle.disk.specs.declared.Junk.{Junk}
 use Rattle.disk.specs.{IsReliable, Slots, past_states}
@@ -43,7 +45,7 @@ use Rattle.lab.specs.declared.sim_node.SimNode.{SimNode}
 use Rattle.lab.specs.declared.world.World.{World as LabWorld}
 use Rattle.lab.specs.Events.{modelled, lines_of_event, NamesNode}
 use Rattle.lab.specs.SimNodes.{StateRefines, Choice, disk_in, is_honest, state, failures}
-use Rattle.lab.specs.SimNodes.{IsUnarmed}
+use Rattle.lab.specs.SimNodes.{HasLogLimit, IsUnarmed}
 use Rattle.lab.specs.Deliveries.{IsDeliveryOf, HasNoDelivery}
 use Rattle.lab.specs.Outcomes.{DiskFits, HasCrashed, IsExplained, OutcomeRefines, StateFollows}
 use Rattle.lab.specs.Outcomes.{HasTended, Halts, Tends, TendsNot, TellsTended}
@@ -55,7 +57,7 @@ use Rattle.lab.specs.Worlds.{PostedRefines, SimNodeRefines, HasMoved, HasNoNode,
 use Rattle.lab.specs.Worlds.{RunRefines}
 use Rattle.lab.specs.Worlds.{HasRun}
 use Rattle.lab.specs.Worlds.{FollowRun, HasApplied, HasDelivered, HasPassed, HasStayed, Ignores}
-use Rattle.lab.specs.Worlds.{IsIndexOf, NodesFollow}
+use Rattle.lab.specs.Worlds.{HaveLogLimit, IsIndexOf, KeepsLogLimit, NodesFollow}
 use Rattle.lab.specs.Worlds.{Takes}
 use Rattle.lab.specs.Worlds.{frames_of_step}
 use Rattle.lab.proofs.Posting.{zip_both}
@@ -170,6 +172,17 @@ moved old i x between was was' now node_input it did at out id refines disk only
       forgets = subst (λ (s : SimNode). IsUnarmed (disk_in s.state) →
           IsUnarmed (disk_in now.state)) is forgets;
     }
+
+-- .. which keeps the limit for logs, and so each node has the one that it had
+pub limited : (old : List SimNode) (i : ℕ) (between was was' now : SimNode) (limit : ℕ) →
+    i < length old → was ≡ get_or old i was' →
+    (HasLogLimit was.state limit → HasLogLimit now.state limit) → HaveLogLimit old limit →
+    HaveLogLimit (slice_set (slice_set old i between) i now) limit
+limited old i between was was' now limit within out keeps all =
+    let Has : SimNode → Type 0 = λ sim. HasLogLimit sim.state limit in
+    let own = subst Has (sym out) (All-get_or Has old i was' within all) in
+    subst (λ (l : List SimNode). All Has l) (sym (set-set old i between now))
+    (All-set Has old i now (keeps own) all)
 
 -- .. and there are as many nodes as before
 pub as_many : (old : List SimNode) (x : ℕ) (node_input : NodeInput) (it : Fault)
@@ -443,6 +456,14 @@ module _ (in_order : AlwaysInOrder) (cs : Configurations) (events : List Event)
         pub refined_after : (lines : List Line) (now : List SimNode) (more : List Posted) →
             HasStepped sims posted it.0 it.1 event.fault lines now more → Grows now more lines
         refined_after lines now more t = refined_next it.0 it.1 lines now more brings t
+
+-- a world that passed an event over has the limit for logs that it had
+pub passed_keeps : (old new : LabWorld) (event : Event) → HasPassed old new event →
+    KeepsLogLimit old new
+passed_keeps old new event p limit has = record {
+  given = ap (λ (limits : Limits). limits.log) p.limits ∙ has.given;
+  nodes = subst (λ (l : List SimNode). HaveLogLimit l limit) (sym p.nodes) has.nodes;
+}
 
 -- The next event of a world, by what it was found to bring.
 module _ (in_order : AlwaysInOrder) (cs : Configurations) (events : List Event)

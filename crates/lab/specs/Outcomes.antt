@@ -33,7 +33,7 @@ use Rattle.lab.specs.declared.report.Line.{Line}
 use Rattle.lab.specs.declared.report.Line.TheVariants as line
 use Rattle.lab.specs.Disks.{IsCrashOf, before_crash, has_reached, junk_at_end}
 use Rattle.lab.specs.Events.{dropped_lines, told_cause}
-use Rattle.lab.specs.SimNodes.{StateIsReady, StateRefines, IsDown, disk_in}
+use Rattle.lab.specs.SimNodes.{HasLogLimit, StateIsReady, StateRefines, IsDown, disk_in}
 
 -- ---- what a node answers
 
@@ -261,9 +261,10 @@ StateFollows is_honest state failures past (Down disk) (to_node.Stop junk) new =
 
 -- ---- one input of a node
 
--- a node in the old state took this input, with this fault armed: its new state and its outcome
-pub record HasDispatched {D : Type 0} (g : Ghosts D) (fault : Fault) (node_input : NodeInput)
-    (old new : NodeState D g) (did : StepOutcome) : Type 0 where
+-- a node in the old state took this input, with this fault armed, and this limit for logs if it was
+-- started: its new state and its outcome
+pub record HasDispatched {D : Type 0} (g : Ghosts D) (log_limit : ℕ) (fault : Fault)
+    (node_input : NodeInput) (old new : NodeState D g) (did : StepOutcome) : Type 0 where
   pub ready : StateIsReady new
   pub refines : (x : ℕ) (n : Machine) → StateRefines g.is_honest g.state old x n →
       OutcomeRefines g.is_honest g.state fault
@@ -278,6 +279,8 @@ pub record HasDispatched {D : Type 0} (g : Ghosts D) (fault : Fault) (node_input
   -- the fault is forgotten
   pub forgets : g.is_honest (disk_in old) → g.fault_at (disk_in old) ≡ None →
       g.fault_at (disk_in new) ≡ None
+  -- a node that is up has the given limit for logs, if it was down or had that one
+  pub limit : HasLogLimit old log_limit → HasLogLimit new log_limit
 
 -- ---- the lines of an outcome
 

@@ -7,7 +7,7 @@ use Rattle.engine.specs.declared.Tended.{Tended}
 use Rattle.chain_core.specs.{Machine}
 use Rattle.node.specs.declared.Node.{Node}
 use Rattle.node.specs.declared.Stop.{Stop as Cause}
-use Rattle.node.specs.{NodeRefines, DiskAlwaysRefines, IsReady, disk_of}
+use Rattle.node.specs.{NodeRefines, DiskAlwaysRefines, IsReady, disk_of, log_limit_of}
 use Rattle.lab.specs.declared.node_state.NodeState.{NodeState}
 use Rattle.lab.specs.declared.node_state.NodeState.TheVariants.{Up, Down}
 
@@ -24,6 +24,11 @@ IsDown (Down disk) = Unit {0}
 -- a step of it may follow, if it is up
 abbrev pub StateIsReady : {D : Type 0} {g : Ghosts D} → NodeState D g → Type 0
 StateIsReady {D} {g} new = (node : Node D g) → new ≡ Up node → IsReady node
+
+-- it has this limit for logs, if it is up
+abbrev pub HasLogLimit : {D : Type 0} {g : Ghosts D} → NodeState D g → ℕ → Type 0
+HasLogLimit (Up node) limit = log_limit_of node ≡ limit
+HasLogLimit (Down disk) limit = Unit {0}
 
 -- the disk of a node that is down is honest, and represents machine n as node x
 abbrev pub DownRefines : {D : Type 0} → (D → Type 0) → (D → State) → D → ℕ → Machine → Type 0

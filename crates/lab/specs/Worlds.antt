@@ -32,7 +32,7 @@ use Rattle.lab.specs.declared.report.Numbers.{Numbers}
 use Rattle.lab.specs.declared.sim_node.SimNode.{SimNode}
 use Rattle.lab.specs.declared.world.World.{World}
 use Rattle.lab.specs.SimNodes.{Choice, StateRefines, disk_in, is_honest, state, failures}
-use Rattle.lab.specs.SimNodes.{IsDown, IsUnarmed}
+use Rattle.lab.specs.SimNodes.{HasLogLimit, IsDown, IsUnarmed}
 use Rattle.lab.specs.Events.{NamesNode, modelled}
 use Rattle.lab.specs.Outcomes.{OutcomeRefines, DiskFits, StateFollows, input_junk, sent_by}
 use Rattle.lab.specs.Outcomes.{IsExplained, has_struck_in, outcome_lines}
@@ -101,10 +101,15 @@ pub record IsCreated (config : List ℕ) (sim : SimNode) : Type 0 where
   pub count : failures (disk_in sim.state) ≡ 0
   pub unarmed : IsUnarmed (disk_in sim.state)
 
--- these nodes were just created with this configuration, in this order
-pub record AreCreated (config ids : List ℕ) (sims : List SimNode) : Type 0 where
+-- each of these nodes that is up has this limit for logs
+abbrev pub HaveLogLimit : List SimNode → ℕ → Type 0
+HaveLogLimit sims limit = All (λ sim. HasLogLimit sim.state limit) sims
+
+-- these nodes were just created with this configuration and this limit for logs, in this order
+pub record AreCreated (config ids : List ℕ) (log_limit : ℕ) (sims : List SimNode) : Type 0 where
   pub nodes : map (λ sim. sim.id) sims ≡ ids
   pub each : All (IsCreated config) sims
+  pub limit : HaveLogLimit sims log_limit
 
 -- the report of a node that is this machine and has this disk, at the end of a run
 pub record IsLeft (n : Machine) (own : Slots) (left : NodeReport) : Type 0 where
@@ -244,11 +249,21 @@ pub record HasKept (old new : World) (event : Event) (lines : List Line) : Type 
   pub taken : events_in new.events.items ≡ events_in old.events.items ++ event ∷ []
   pub kept : new.steps.items ≡ old.steps.items ++ lines ∷ []
 
+-- the world starts nodes with this limit for logs, and each of its nodes that is up has it
+pub record HasOneLogLimit (world : World) (limit : ℕ) : Type 0 where
+  pub given : world.limits.log ≡ limit
+  pub nodes : HaveLogLimit world.nodes.items limit
+
+-- the world keeps the one limit for logs that it had
+abbrev pub KeepsLogLimit : World → World → Type 0
+KeepsLogLimit old new = (limit : ℕ) → HasOneLogLimit old limit → HasOneLogLimit new limit
+
 -- the world kept an event that brought nothing to any node, and is as it was otherwise
 pub record HasPassed (old new : World) (event : Event) : Type 0 where
   pub keeps : HasKept old new event (line.Nothing ∷ [])
   pub nodes : new.nodes.items ≡ old.nodes.items
   pub frames : new.frames.items ≡ old.frames.items
+  pub limits : new.limits ≡ old.limits
 
 -- the world kept an event, and node x took its input
 pub record HasDelivered (old new : World) (event : Event) (x : ℕ) (node_input : NodeInput) : Type 0
@@ -257,6 +272,7 @@ pub record HasDelivered (old new : World) (event : Event) (x : ℕ) (node_input 
     pub keeps : HasKept old new event lines
     pub stepped : HasStepped old.nodes.items old.frames.items x node_input event.fault lines
         new.nodes.items new.frames.items
+    pub limits : KeepsLogLimit old new
 
 -- The world has run one event more, with its lines, and its very nodes follow, as was chosen.
 pub record HasFollowed (old new : World) (cs : Configurations) (events : List Event)

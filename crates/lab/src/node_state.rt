@@ -5,9 +5,10 @@ ghost use Rattle.chain_model.specs.{Answer, stopped};
 ghost use Rattle.disk.specs.{HasStruck, IsLastLeft};
 ghost use Rattle.chain_core.specs.{Machine};
 ghost use Rattle.node.specs.{DiskAlwaysRefines, IsReady, NodeRefines, StopRefines, disk_of};
+ghost use Rattle.node.specs.{log_limit_of};
 ghost use Rattle.lab.specs.Disks.{junk_at_end};
 ghost use Rattle.lab.specs.Events.{told_cause};
-ghost use Rattle.lab.specs.SimNodes.{DownRefines, StateRefines, StateIsReady, disk_in};
+ghost use Rattle.lab.specs.SimNodes.{DownRefines, HasLogLimit, StateRefines, StateIsReady, disk_in};
 ghost use Rattle.lab.specs.Outcomes.{DiskFits, HasCrashed, HasHandled, HasStarted, HasDispatched};
 ghost use Rattle.lab.specs.Outcomes.{HasTended};
 ghost use Rattle.lab.specs.Outcomes.{IsExplained, has_struck_in};
@@ -37,6 +38,7 @@ fn crash<D: Crash + Drop>(mut disk: D, junk: Junk) -> NodeState<D>
         StateRefines D.is_honest D.state result x (stopped n)
         ⊎ StateRefines D.is_honest D.state result x (stopped a.node) }
     ensures forgets { D.fault_at (disk_in result) ≡ None }
+    ensures limit { (n : ℕ) → HasLogLimit result n }
 {
     // laws: what a crash leaves is durable, and a crash leaves it again
     durable_is_left();
@@ -60,6 +62,7 @@ fn stop_by_itself<D: Crash + Drop>(disk: D, stop: Stop, fault: Fault) -> (NodeSt
         StateRefines D.is_honest D.state result.0 x (stopped n)
         ⊎ StateRefines D.is_honest D.state result.0 x (stopped a.node) }
     ensures forgets { D.fault_at (disk_in result.0) ≡ None }
+    ensures limit { (n : ℕ) → HasLogLimit result.0 n }
 {
     let has_struck = disk.has_struck();
     let (junk, cause) = match fault {
@@ -87,6 +90,7 @@ fn start<D: Crash + Drop>(
     ensures only { D.is_honest disk → D.is_reliable disk → IsExplained (D.state disk)
         (has_struck_in D.past fault disk result.0) result.1 }
     ensures forgets { D.is_honest disk → D.fault_at (disk_in result.0) ≡ None }
+    ensures limit { HasLogLimit result.0 limits.now.log }
 {
     disk.arm(&fault);
     match Node::start(alloc, disk, limits) {
@@ -125,6 +129,7 @@ fn step<D: Crash + Drop>(
         D.is_reliable (disk_of node) → IsExplained (D.state (disk_of node))
         (has_struck_in D.past fault (disk_of node) result.0) result.1 }
     ensures forgets { D.is_honest (disk_of node) → D.fault_at (disk_in result.0) ≡ None }
+    ensures limit { HasLogLimit result.0 (log_limit_of node) }
 {
     full_logs_are_long::<D>(); // law: where a log is nearly full, a file is long
     node.arm(&fault);
@@ -158,6 +163,7 @@ fn tend<D: Crash + Drop>(
         D.is_reliable (disk_of node) → IsExplained (D.state (disk_of node))
         (has_struck_in D.past fault (disk_of node) result.0) result.1 }
     ensures forgets { D.is_honest (disk_of node) → D.fault_at (disk_in result.0) ≡ None }
+    ensures limit { HasLogLimit result.0 (log_limit_of node) }
 {
     full_logs_are_long::<D>(); // law: where a log is nearly full, a file is long
     node.arm(&fault);
@@ -179,7 +185,8 @@ fn dispatch_up<D: Crash + Drop>(
     fault: Fault,
 ) -> (NodeState<D>, StepOutcome)
     requires { IsReady node }
-    ensures { HasDispatched D.Disk fault input (NodeState.Up node) result.0 result.1 }
+    ensures { (limit : ℕ) →
+        HasDispatched D.Disk limit fault input (NodeState.Up node) result.0 result.1 }
 {
     match input {
         NodeInput::Step(input) => step(alloc, node, input, fault),
@@ -211,7 +218,7 @@ fn dispatch_down<D: Crash + Drop>(
     limits: &Limits,
 ) -> Result<(NodeState<D>, StepOutcome), AllocError>
     ensures { IfOk result (λ it.
-        HasDispatched D.Disk fault input.now (NodeState.Down disk) it.0 it.1) }
+        HasDispatched D.Disk limits.now.log fault input.now (NodeState.Down disk) it.0 it.1) }
 {
     if let NodeInput::Start = input {
         return Ok(start(alloc, disk, fault, limits));
@@ -232,7 +239,8 @@ impl<D: Crash + Drop> NodeState<D> {
         limits: &Limits,
     ) -> Result<(NodeState<D>, StepOutcome), AllocError>
         requires { StateIsReady self }
-        ensures { IfOk result (λ it. HasDispatched D.Disk fault input self it.0 it.1) }
+        ensures { IfOk result
+            (λ it. HasDispatched D.Disk limits.now.log fault input self it.0 it.1) }
     {
         match self {
             NodeState::Up(node) => Ok(dispatch_up(alloc, node, input, fault)),

@@ -4,16 +4,16 @@ use Rattle.lab.specs.declared.input.NodeInput.{NodeInput}
 use Rattle.lab.specs.declared.input.NodeInput.TheVariants as to_node
 use Rattle.lab.specs.declared.input.StepOutcome.TheVariants as done
 use Rattle.lab.specs.declared.node_state.NodeState.TheVariants.{Up}
-use Rattle.lab.specs.SimNodes.{StateRefines}
+use Rattle.lab.specs.SimNodes.{HasLogLimit, StateRefines}
 use Rattle.lab.specs.Outcomes.{Drops, HasCrashed, HasDispatched, RunsOn, Stops}
 use Rattle.lab.proofs.Dispatching.{answered_only, ready_up}
 use Rattle.node.specs.{disk_of}
 use Rattle.lab.proofs.node_state.dispatch_up.Goals as goal
 
 pub returns-in-Step : goal.returns-in-Step
-returns-in-Step g c =
+returns-in-Step g c = λ limit.
     let e = c.step.ensures in
-    subst (λ (k : NodeInput). HasDispatched g.D.Disk c.args.fault k (Up c.args.node) c.step.result.0
+    subst (λ (k : NodeInput). HasDispatched g.D.Disk limit c.args.fault k (Up c.args.node) c.step.result.0
     c.step.result.1) (sym c.in-Step.is) (record {
       ready = e.ready;
       refines = e.refines;
@@ -21,12 +21,13 @@ returns-in-Step g c =
       only = e.only;
       follows = tt;
       forgets = λ honest unarmed. e.forgets honest;
+      limit = λ has. subst (λ n. HasLogLimit c.step.result.0 n) has e.limit;
     })
 
 pub returns-in-Tend : goal.returns-in-Tend
-returns-in-Tend g c =
+returns-in-Tend g c = λ limit.
     let e = c.tend.ensures in
-    subst (λ (k : NodeInput). HasDispatched g.D.Disk c.args.fault k (Up c.args.node) c.tend.result.0
+    subst (λ (k : NodeInput). HasDispatched g.D.Disk limit c.args.fault k (Up c.args.node) c.tend.result.0
     c.tend.result.1) (sym c.in-Tend.is) (record {
       ready = e.ready;
       refines = e.refines;
@@ -34,29 +35,30 @@ returns-in-Tend g c =
       only = e.only;
       follows = tt;
       forgets = λ honest unarmed. e.forgets honest;
+      limit = λ has. subst (λ n. HasLogLimit c.tend.result.0 n) has e.limit;
     })
 
 pub returns-in-BadFrame : goal.returns-in-BadFrame
-returns-in-BadFrame g c =
+returns-in-BadFrame g c = λ limit.
     let output = c.dropped-output in
-    subst (λ (k : NodeInput). HasDispatched g.D.Disk c.args.fault k (Up c.args.node) (Up c.args.node)
+    subst (λ (k : NodeInput). HasDispatched g.D.Disk limit c.args.fault k (Up c.args.node) (Up c.args.node)
     (done.Answered output.result)) (sym c.in-BadFrame.is)
-    (answered_only g.D.Disk c.args.fault (to_node.BadFrame c.in-BadFrame.why) (Up c.args.node)
+    (answered_only g.D.Disk limit c.args.fault (to_node.BadFrame c.in-BadFrame.why) (Up c.args.node)
     output.result (ready_up c.args.node c.requires)
     (λ x n r. Drops r.core.running r (output.result, refl, output.ensures)) refl)
 
 pub returns-in-Start : goal.returns-in-Start
-returns-in-Start g c =
+returns-in-Start g c = λ limit.
     let output = c.dropped-output-in-Start in
-    subst (λ (k : NodeInput). HasDispatched g.D.Disk c.args.fault k (Up c.args.node) (Up c.args.node)
+    subst (λ (k : NodeInput). HasDispatched g.D.Disk limit c.args.fault k (Up c.args.node) (Up c.args.node)
     (done.Answered output.result)) (sym c.in-Start.is)
-    (answered_only g.D.Disk c.args.fault to_node.Start (Up c.args.node) output.result
+    (answered_only g.D.Disk limit c.args.fault to_node.Start (Up c.args.node) output.result
     (ready_up c.args.node c.requires)
     (λ x n r. RunsOn r.core.running r (output.result, refl, output.ensures)) refl)
 
 -- the disk crashed with the junk
 pub returns-in-Stop : goal.returns-in-Stop
-returns-in-Stop g c =
+returns-in-Stop g c = λ limit.
     let same = sym c.into_disk.ensures.disk in
     let e = c.crash-state.ensures in
     let new = c.crash-state.result in
@@ -64,7 +66,7 @@ returns-in-Stop g c =
     let crashed = λ (honest : g.D.Disk.is_honest (disk_of c.args.node)).
     subst (λ d. HasCrashed g.D.Disk.state g.D.Disk.failures g.D.Disk.past junk d new)
     c.into_disk.ensures.disk (e.crashes (subst g.D.Disk.is_honest same honest)) in
-    subst (λ (k : NodeInput). HasDispatched g.D.Disk c.args.fault k (Up c.args.node) new
+    subst (λ (k : NodeInput). HasDispatched g.D.Disk limit c.args.fault k (Up c.args.node) new
     (done.Stopped None)) (sym c.in-Stop.is) (record {
       ready = e.ready;
       refines = λ x n r.
@@ -80,4 +82,5 @@ returns-in-Stop g c =
       only = λ x n r reliable stops. absurd cc;
       follows = crashed;
       forgets = λ honest unarmed. e.forgets;
+      limit = λ has. e.limit limit;
     })

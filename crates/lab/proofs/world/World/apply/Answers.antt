@@ -4,12 +4,13 @@ use Rattle.std.proofs.lemmas.Result.{on_ok_weaker}
 use Rattle.lab.specs.declared.delivery.Posted.{Posted}
 use Rattle.lab.specs.declared.sim_node.SimNode.{SimNode}
 use Rattle.lab.specs.Worlds.{HasNoNode, IsIndexOf}
-use Rattle.lab.proofs.Worlds.{FitsDelivery, delivered_after, ignored_after, passed_after, place_of}
+use Rattle.lab.proofs.Worlds.{FitsDelivery, delivered_after, ignored_after, passed_after}
+use Rattle.lab.proofs.Worlds.{passed_keeps, place_of}
 use Rattle.lab.proofs.world.World.apply.Goals as goal
 
 -- no frame has the place
-pub returns-in_default-2 : goal.returns-in_default-2
-returns-in_default-2 c = λ cs events choices steps run.
+pub returns-in_default-2-clause-ran : goal.returns-in_default-2-clause-ran
+returns-in_default-2-clause-ran c = λ cs events choices steps run.
     let self = c.args.self.now in
     let i = c.in-Some.request in
     let event = c.args.event.now in
@@ -21,9 +22,14 @@ returns-in_default-2 c = λ cs events choices steps run.
     on_ok_weaker c.pass_over.result (passed_after c.in_order.ensures cs events choices steps self
     c.pass_over.new.self run i at event found fits c.in_default-2.is) c.pass_over.ensures
 
+pub returns-in_default-2-clause-limits : goal.returns-in_default-2-clause-limits
+returns-in_default-2-clause-limits c =
+    on_ok_weaker c.pass_over.result (passed_keeps c.args.self.now _ c.args.event.now)
+    c.pass_over.ensures
+
 -- the world does not have the node
-pub returns-in_default-index_of : goal.returns-in_default-index_of
-returns-in_default-index_of c = λ cs events choices steps run.
+pub returns-in_default-index_of-clause-ran : goal.returns-in_default-index_of-clause-ran
+returns-in_default-index_of-clause-ran c = λ cs events choices steps run.
     let self = c.args.self.now in
     let i = c.in-Some.request in
     let event = c.args.event.now in
@@ -43,9 +49,13 @@ returns-in_default-index_of c = λ cs events choices steps run.
       nodes = refl;
     })
 
+pub returns-in_default-index_of-clause-limits : goal.returns-in_default-index_of-clause-limits
+returns-in_default-index_of-clause-limits c = λ limit has.
+    record { given = has.given; nodes = has.nodes }
+
 -- the node took its step
-pub returns : goal.returns
-returns c = λ cs events choices steps run.
+pub returns-clause-ran : goal.returns-clause-ran
+returns-clause-ran c = λ cs events choices steps run.
     let self = c.args.self.now in
     let i = c.in-Some.request in
     let event = c.args.event.now in
@@ -57,3 +67,6 @@ returns c = λ cs events choices steps run.
     on_ok_weaker c.deliver.result (delivered_after c.in_order.ensures cs events choices steps self
     c.deliver.new.self run i at event found fits c.in-Some-2.delivery c.in-Some-2.is)
     c.deliver.ensures
+
+pub returns-clause-limits : goal.returns-clause-limits
+returns-clause-limits c = on_ok_weaker c.deliver.result (λ h. h.limits) c.deliver.ensures

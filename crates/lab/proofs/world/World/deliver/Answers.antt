@@ -1,8 +1,8 @@
-use Rattle.std.proofs.Common.{List, sym, subst, ◌∙◌}
+use Rattle.std.proofs.Common.{List, ℕ, sym, subst, ◌∙◌}
 use Rattle.std.proofs.lemmas.List.{with_items_is}
 use Rattle.disk.specs.declared.Fault.{Fault}
 use Rattle.lab.specs.declared.sim_node.SimNode.{SimNode}
-use Rattle.lab.specs.Worlds.{HasMoved}
+use Rattle.lab.specs.Worlds.{HasMoved, HaveLogLimit}
 use Rattle.lab.proofs.Worlds.{as_many}
 use Rattle.lab.proofs.world.World.deliver.Goals as goal
 
@@ -16,7 +16,7 @@ returns c =
     let took = subst (λ (l : List SimNode). HasMoved l it.0 it.1 c.args.event.now.fault did now)
     c.deref_mut.ensures.value
     (subst (λ (f : Fault). HasMoved c.deref_mut.result.now it.0 it.1 f did now)
-    c.in-Ok.ensures c.in_ok-outcome.ensures) in
+    c.in-Ok.ensures c.in_ok-outcome.ensures.moved) in
     let size = as_many nodes.items it.0 it.1 c.args.event.now.fault did now took
     ∙ sym nodes.ok.0 in
     record {
@@ -28,5 +28,15 @@ returns c =
             c.args.event.now.fault did l) (sym (with_items_is nodes now size)) took;
         sent = c.in_ok-lines.ensures.posted;
         traced = c.in_ok-lines.ensures.lines;
+      };
+      limits = λ limit has. record {
+        given = has.given;
+        nodes = subst (λ (l : List SimNode). HaveLogLimit l limit)
+            (sym (with_items_is nodes now size))
+            (subst (λ (n : ℕ). HaveLogLimit now n) has.given
+            (c.in_ok-outcome.ensures.limits
+            (subst (λ (n : ℕ). HaveLogLimit c.deref_mut.result.now n) (sym has.given)
+            (subst (λ (l : List SimNode). HaveLogLimit l limit)
+            (sym c.deref_mut.ensures.value) has.nodes))));
       };
     }

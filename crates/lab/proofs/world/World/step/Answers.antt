@@ -13,7 +13,7 @@ returns-clause-ran c = λ cs events choices steps run names.
       )
       | Ignores other _ ↦ absurd (other names)
     ])
-    (c.apply-applied.ensures cs events choices steps run)
+    (c.apply-applied.ensures.ran cs events choices steps run)
 
 pub returns-clause-nothing : goal.returns-clause-nothing
 returns-clause-nothing c = λ cs events choices steps run other.
@@ -25,7 +25,7 @@ returns-clause-nothing c = λ cs events choices steps run other.
         nodes = same.nodes;
       }
     ])
-    (c.apply-applied.ensures cs events choices steps run)
+    (c.apply-applied.ensures.ran cs events choices steps run)
 
 pub returns-clause-follows : goal.returns-clause-follows
 returns-clause-follows c = λ cs events choices steps run names.
@@ -39,4 +39,11 @@ returns-clause-follows c = λ cs events choices steps run names.
       }
       | Ignores other _ ↦ absurd (other names)
     ])
-    (c.apply-applied.ensures cs events choices steps run)
+    (c.apply-applied.ensures.ran cs events choices steps run)
+
+pub returns-clause-limits : goal.returns-clause-limits
+returns-clause-limits c =
+    on_ok_weaker c.apply-applied.result
+    (λ keeps limit has. let now = keeps limit has in
+    record { given = now.given; nodes = now.nodes })
+    c.apply-applied.ensures.limits
