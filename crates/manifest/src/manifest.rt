@@ -11,7 +11,8 @@ ghost use Rattle.manifest.specs.Lawful.{IsWholeEdit};
 ghost use Rattle.manifest.specs.Slots.{SlotsAreLeft, ManifestRepresents};
 ghost use Rattle.manifest.specs.Holds.{SparesOthers};
 ghost use Rattle.manifest.specs.Manifests.{ManifestHolds, ManifestHasFailed, ManifestHasNoRoom};
-ghost use Rattle.manifest.specs.Manifests.{HasLongSlot, IsOpenedManifest, ManifestRefusal};
+ghost use Rattle.manifest.specs.Manifests.{HasLongSlot, HasSameSlots, HasTurnedSlots};
+ghost use Rattle.manifest.specs.Manifests.{IsOpenedManifest, ManifestRefusal};
 ghost use Rattle.manifest.specs.Manifests.{counting_file, generation_of, spare_file, version_of};
 
 use crate::changed::version_after;
@@ -145,7 +146,7 @@ impl Manifest {
         requires fit { IsFit (version_of self.old).version edit.now × IsChange edit.now }
         ensures kept { KeepsDisk D.Disk disk.old disk.new (ManifestFailsDevice result)
             (ManifestHasNoRoom self.old edit.now) (IsSameBut (counting_file self.old)) }
-        ensures told { MatchResult result
+        ensures told { HasSameSlots self.old self.new × MatchResult result
             (λ _. (version_of self.new ≡ node_version_after (version_of self.old) edit.now)
             × (ManifestHasFailed self.new → ⊥))
             (λ _. (version_of self.new ≡ version_of self.old) × ManifestHasFailed self.new) }
@@ -181,7 +182,7 @@ impl Manifest {
         ensures kept { KeepsDisk D.Disk disk.old disk.new (ManifestFailsDevice result) ⊥
             (IsSameBut (spare_file self.old)) }
         ensures told { (version_of self.new ≡ version_of self.old) × MatchResult result
-            (λ _. (generation_of self.new ≡ generation_of self.old + 1)
+            (λ _. HasTurnedSlots self.old self.new
             × (HasLongSlot self.new → ⊥) × (ManifestHasFailed self.new → ⊥))
             (λ _. ManifestHasFailed self.new) }
         ensures failed { ManifestHasFailed self.old → IsErrOf result ManifestError.Failed }

@@ -155,6 +155,9 @@ impl SlotPair {
         ensures met { (id : ℕ) (records : List (List ℕ)) → D.is_honest disk.old →
             SlotsHold (D.state disk.old) self.old id records → length one.now ≤ MAX_RECORD →
             IfErr result IsExternal }
+        ensures stays { (self.new.slot ≡ self.old.slot)
+            × (self.new.generation ≡ self.old.generation)
+            × (file_of self.new.log ≡ file_of self.old.log) }
     {
         self.log.append(alloc, disk, one)
     }
@@ -179,7 +182,8 @@ impl SlotPair {
         ensures rewritten { (id : ℕ) (records : List (List ℕ)) → D.is_honest disk.old →
             SlotsHold (D.state disk.old) self.old id records → MatchResult result
             (λ _. SlotsHold (D.state disk.new) self.new id (one.now ∷ [])) IsExternal }
-        ensures next { OnOk result ((self.new.generation ≡ self.old.generation + 1)
+        ensures next { OnOk result ((file_of self.new.log ≡ other_slot self.old.slot)
+            × (self.new.generation ≡ self.old.generation + 1)
             × (2 * first_length self.new.log + 65536 < gate_of self.new.log + 1 → ⊥)) }
     {
         // laws: how long the new slot's log is

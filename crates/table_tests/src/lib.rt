@@ -24,6 +24,8 @@ mod sequence;
 #[cfg(test)]
 mod table_cursors;
 #[cfg(test)]
+mod table_damage;
+#[cfg(test)]
 mod table_walks;
 #[cfg(test)]
 mod tables;

@@ -89,7 +89,7 @@ pub fn entry_of(
 }
 
 /// The disk with a cache of so many blocks.
-fn with_cache(rt: &impl Abort, alloc: Global, disk: MemDisk, blocks: usize) -> Files<MemDisk> {
+pub fn with_cache(rt: &impl Abort, alloc: Global, disk: MemDisk, blocks: usize) -> Files<MemDisk> {
     Files::new(alloc, disk, blocks.clamp(1, 65_536)).expect(rt, "memory for the cache")
 }
 

@@ -134,10 +134,13 @@ returns-clause-kept g c =
     kept_as g.D.Disk _ _ _ _ _ _ _ _ (λ f. absurd cc) (λ f. absurd cc) short
     (λ a b same other apart. same other (λ is. apart (is ∙ file))) c.in_ok-replace.ensures.kept
 
--- and is short
+-- it counts in its own file, and is short
 pub returns-clause-next : goal.returns-clause-next
 returns-clause-next g c =
-    let one = c.args.one.now in (
+    let one = c.args.one.now in
+    let file : c.saturating_sub-other.result ≡ 3 - c.args.self.now.slot =
+    omega (arith, c.saturating_sub-other.ensures) in (
+      c.in_ok-log.ensures.at.in_file ∙ file,
       refl,
       new_is_short c.gates_are_in_files.ensures c.first_lengths_are.ensures
           c.saturating_sub-other.result 0 0 one c.in_ok-log.log c.requires.short
