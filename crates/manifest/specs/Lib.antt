@@ -19,7 +19,7 @@ pub use Rattle.manifest.specs.Errors.{IsManifestExternal, ManifestFailsDevice}
 pub use Rattle.manifest.specs.Laws.{EditsKeepVersions, HeldVersionIsLeft, HeldVersionStays, VersionIsOne}
 pub use Rattle.manifest.specs.Laws.{VersionsAreLawful}
 pub use Rattle.manifest.specs.Lawful.{IsVersion}
-pub use Rattle.manifest.specs.Manifests.{HasFullSlot, HasLongSlot, HasSameSlots, HasTurnedSlots}
+pub use Rattle.manifest.specs.Manifests.{HasFullSlot, HasLongSlot, HasSameSlots}
 pub use Rattle.manifest.specs.Manifests.{ManifestHasFailed}
 pub use Rattle.manifest.specs.Manifests.{ManifestHasNoRoom, ManifestHolds, NoRoomIsFull}
 pub use Rattle.manifest.specs.Manifests.{SlotsReachGates, counting_file, first_edit_length}

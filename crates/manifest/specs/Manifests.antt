@@ -41,11 +41,6 @@ abbrev pub HasSameSlots : (old new : Manifest) → Type 0
 HasSameSlots old new = (counting_file new ≡ counting_file old)
     × (spare_file new ≡ spare_file old) × (generation_of new ≡ generation_of old)
 
--- the slot that was spare counts, in the next generation
-abbrev pub HasTurnedSlots : (old new : Manifest) → Type 0
-HasTurnedSlots old new = (counting_file new ≡ spare_file old)
-    × (generation_of new ≡ generation_of old + 1)
-
 -- the length of the slot that counts, up to its closed gate, and that of its first record
 abbrev pub slot_length : Manifest → ℕ
 slot_length manifest = gate_of manifest.slots.log + 1

@@ -1,6 +1,6 @@
 // The manifest of a store.
 ghost use Rattle.std.specs.Prelude.{◌≡◌, ◌⊎◌, ◌↔◌, ◌+◌, ◌<◌, ◌≤◌, length, IfOk, MatchResult};
-ghost use Rattle.std.specs.Prelude.{IsErrOf, IsNone, IsTrue};
+ghost use Rattle.std.specs.Prelude.{IsErrOf, IsNone, IsTrue, OnOk};
 ghost use Rattle.kv_types.specs.declared.bounds.TheConstants.{MAX_NUMBER};
 ghost use Rattle.record_log.specs.declared.log.TheConstants.{MAX_RECORD};
 ghost use Rattle.disk.specs.{AlwaysLeaves, IsSameBut, IsStill, KeepsDisk, State, contents, seen};
@@ -11,8 +11,8 @@ ghost use Rattle.manifest.specs.Lawful.{IsWholeEdit};
 ghost use Rattle.manifest.specs.Slots.{SlotsAreLeft, ManifestRepresents};
 ghost use Rattle.manifest.specs.Holds.{SparesOthers};
 ghost use Rattle.manifest.specs.Manifests.{ManifestHolds, ManifestHasFailed, ManifestHasNoRoom};
-ghost use Rattle.manifest.specs.Manifests.{HasLongSlot, HasSameSlots, HasTurnedSlots};
-ghost use Rattle.manifest.specs.Manifests.{IsOpenedManifest, ManifestRefusal};
+ghost use Rattle.manifest.specs.Manifests.{HasLongSlot, HasSameSlots, IsOpenedManifest};
+ghost use Rattle.manifest.specs.Manifests.{ManifestRefusal};
 ghost use Rattle.manifest.specs.Manifests.{counting_file, generation_of, spare_file, version_of};
 
 use crate::changed::version_after;
@@ -146,10 +146,11 @@ impl Manifest {
         requires fit { IsFit (version_of self.old).version edit.now × IsChange edit.now }
         ensures kept { KeepsDisk D.Disk disk.old disk.new (ManifestFailsDevice result)
             (ManifestHasNoRoom self.old edit.now) (IsSameBut (counting_file self.old)) }
-        ensures told { HasSameSlots self.old self.new × MatchResult result
+        ensures told { MatchResult result
             (λ _. (version_of self.new ≡ node_version_after (version_of self.old) edit.now)
             × (ManifestHasFailed self.new → ⊥))
             (λ _. (version_of self.new ≡ version_of self.old) × ManifestHasFailed self.new) }
+        ensures slots { HasSameSlots self.old self.new }
         ensures failed { ManifestHasFailed self.old → IsErrOf result ManifestError.Failed }
         ensures recorded { (named : NodeVersion) → D.is_honest disk.old →
             ManifestHolds (D.state disk.old) self.old named → MatchResult result
@@ -182,9 +183,10 @@ impl Manifest {
         ensures kept { KeepsDisk D.Disk disk.old disk.new (ManifestFailsDevice result) ⊥
             (IsSameBut (spare_file self.old)) }
         ensures told { (version_of self.new ≡ version_of self.old) × MatchResult result
-            (λ _. HasTurnedSlots self.old self.new
+            (λ _. (generation_of self.new ≡ generation_of self.old + 1)
             × (HasLongSlot self.new → ⊥) × (ManifestHasFailed self.new → ⊥))
             (λ _. ManifestHasFailed self.new) }
+        ensures slots { OnOk result (counting_file self.new ≡ spare_file self.old) }
         ensures failed { ManifestHasFailed self.old → IsErrOf result ManifestError.Failed }
         ensures rewritten { (named : NodeVersion) → D.is_honest disk.old →
             ManifestHolds (D.state disk.old) self.old named → MatchResult result

@@ -1,6 +1,7 @@
 //! Walks over a table with a damaged block: alone, beside a sound table, and as the view at a
 //! number shows it. No clause says what a cursor has over such bytes.
-ghost use Rattle.merge_iter.specs.{IsBroken};
+ghost use Rattle.std.specs.Prelude.{IsTrue};
+ghost use Rattle.merge_iter.specs.{IsBroken, IsOn};
 
 use crate::tables::{FILE, build, entry_of, table_in, with_cache};
 use disk::{Disk, MemDisk};
@@ -58,7 +59,9 @@ fn union_in(
 }
 
 /// Whether the cursor stands on an entry of this key.
-fn stands_on<C: Cursor>(cursor: &C, key: u8) -> bool {
+fn stands_on<C: Cursor>(cursor: &C, key: u8) -> bool
+    ensures { IsTrue result → IsOn (C.position cursor.now) }
+{
     cursor.valid() && cursor.key() == [key].as_slice()
 }
 

@@ -1,10 +1,11 @@
 use Rattle.std.proofs.Common.{◌+◌, ap, drop, inr, refl, subst, suc, sym, ◌∙◌}
 use Rattle.kv_types.specs.{Entry}
 use Rattle.manifest.specs.declared.TableLine.{TableLine}
-use Rattle.manifest.specs.{NodeVersion}
+use Rattle.manifest.specs.{IsFit, NodeVersion}
 use Rattle.memtable.specs.declared.Memtable.{Memtable}
 use Rattle.memtable.specs.{HasFailedAdd, TableHolds}
 use Rattle.engine.specs.Errors.{IsOfMachine}
+use Rattle.engine.specs.KeepingLemmas.{answered, kept_as, kept_behind, kept_but, neither}
 use Rattle.engine.specs.LevelTables.{table_lines, with_flushed_line}
 use Rattle.engine.specs.OpenFiles.{batch_count, known_version, trimmed_count}
 use Rattle.engine.specs.StoreFiles.{flush_change}
@@ -375,3 +376,16 @@ returns-clause-touches g c = λ honest.
     (c.begin.ensures.kept.files honest))
     (counting_alone files s2 s3
     (c.record.ensures.kept.files (c.begin.ensures.kept.honest.1 honest)))
+
+-- the log and then the manifest, which lacks room for the edit only where its slot is full
+pub returns-clause-kept : goal.returns-clause-kept
+returns-clause-kept g c =
+    let edit = c.in_ok-edit.edit in
+    let fits = subst (λ (n : NodeVersion). IsFit n.version edit) c.state-2.ensures
+    c.in_ok-edit.ensures.fit.0 in
+    kept_behind g.D.Disk (λ a b d before after. tt) c.begin.ensures.kept
+    (answered c.begin.result c.in_ok-begin.was)
+    (kept_but g.D.Disk (λ room. c.slots_reach_gates.ensures.full c.args.self.now.manifest edit
+    fits c.in_ok-edit.ensures.fit.1 room)
+    (kept_as g.D.Disk (neither (λ f. absurd cc) (λ f. absurd cc)) (λ a b same. same)
+    c.in_default.ensures.kept))
