@@ -69,8 +69,8 @@ pub record AddsUpTo (has : Entry → Type 0) (at : Position) (is_begun : Type 0)
   pub built : is_begun → Builds slot builder entries
 
 -- the only refusal of a cursor in memory that is not broken
-pub for_memory : {R : Type 0} (S B : Type 0) (result : Result R CursorError) (e : CursorError)
-    → result ≡ Err e → S → (B → ⊥) → ErrorCauses S B 0 0 result → e ≡ cursor.Memory
+pub for_memory : {R A : Type 0} (S B : Type 0) (result : Result R CursorError) (e : CursorError)
+    → result ≡ Err e → S → (B → ⊥) → ErrorCauses S B A 0 0 result → e ≡ cursor.Memory
 for_memory S B result cursor.Disk is sound unbroken t =
     let rises = (t.disk is).below (omega arith) in
     absurd (omega (arith, rises))

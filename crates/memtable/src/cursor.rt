@@ -124,6 +124,10 @@ impl<'a> Cursor for MemCursor<'a> {
 
     ghost most = { mem_most };
 
+    ghost steps_allocate = { ⊥ };
+
+    ghost seeks_allocate = { Unit {0} };
+
     fn valid(&self) -> bool {
         self.place.is_some()
     }

@@ -162,25 +162,28 @@ module _ {C S : Type 0} (holds : C → S → Entry → Type 0) (sound : C → S 
   left_most laws way xs = sum_by-le-sum_by (λ c. left c way) most xs (λ c. laws.within c way)
 
 -- a step from an entry
-pub tells_on : (S T : Type 0) (s : Position) (f h : ℕ) (r : Result (Unit {0}) CursorError) → IsOn s
-    → (T → S) → ErrorCauses S (IsBroken s) f h r → ErrorCauses T ⊥ f h r
+pub tells_on : {A : Type 0} (S T : Type 0) (s : Position) (f h : ℕ)
+    (r : Result (Unit {0}) CursorError) → IsOn s → (T → S) → ErrorCauses S (IsBroken s) A f h r
+    → ErrorCauses T ⊥ A f h r
 tells_on S T (On entry) f h r on to t = record {
   disk = t.disk;
   others = t.others;
   damaged =
       λ i s. t.damaged i (to s);
+  memory = t.memory;
   failed = t.failed;
 }
 tells_on S T Off f h r on to t = absurd on
 tells_on S T Broken f h r on to t = absurd on
 
 -- a refusal after calls in which nothing failed
-pub tells_from : (S T : Type 0) (f g h : ℕ) (r : Result (Unit {0}) CursorError) → g ≡ f → (T → S)
-    → ErrorCauses S ⊥ g h r → ErrorCauses T ⊥ f h r
+pub tells_from : {A : Type 0} (S T : Type 0) (f g h : ℕ) (r : Result (Unit {0}) CursorError) → g ≡ f
+    → (T → S) → ErrorCauses S ⊥ A g h r → ErrorCauses T ⊥ A f h r
 tells_from S T f g h r e to t = record {
   disk = λ i. subst (λ x. RisesByOne x h) e (t.disk i);
   others = λ i. t.others i ∙ e;
   damaged = λ i s. t.damaged i (to s);
+  memory = t.memory;
   failed = t.failed;
 }
 

@@ -17,13 +17,15 @@ use Rattle.merge_iter.specs.Moves.{MoveKeeps, ErrorCauses, CanStep}
 use Rattle.merge_iter.specs.Unions.{all_sound, all_apart, any_alike, first_kept}
 
 -- a refusal to a union that stood on an entry
-pub tells_merged : (S T : Type 0) (s : Position) (f h : ℕ) (r : Result (Unit {0}) CursorError)
-    → IsOn s → (T → S) → ErrorCauses S ⊥ f h r → ErrorCauses T (IsBroken s) f h r
+pub tells_merged : {A : Type 0} (S T : Type 0) (s : Position) (f h : ℕ)
+    (r : Result (Unit {0}) CursorError) → IsOn s → (T → S) → ErrorCauses S ⊥ A f h r
+    → ErrorCauses T (IsBroken s) A f h r
 tells_merged S T (On entry) f h r on to t = record {
   disk = t.disk;
   others = t.others;
   damaged =
       λ i s. t.damaged i (to s);
+  memory = t.memory;
   failed = t.failed;
 }
 tells_merged S T Off f h r on to t = absurd on

@@ -4,7 +4,7 @@ use Rattle.std.proofs.Common.{false, List, Result, Ok, Err, IsTrue}
 use Rattle.merge_iter.specs.declared.direction.Direction.{Direction}
 use Rattle.merge_iter.specs.declared.direction.Direction.TheVariants.{Forward, Backward}
 use Rattle.merge_iter.specs.declared.error.CursorError.{CursorError}
-use Rattle.merge_iter.specs.declared.error.CursorError.TheVariants.{Disk, Damaged, Failed}
+use Rattle.merge_iter.specs.declared.error.CursorError.TheVariants.{Disk, Damaged, Memory, Failed}
 use Rattle.merge_iter.specs.declared.mode.Mode.{Mode}
 use Rattle.merge_iter.specs.declared.mode.Mode.TheVariants as mode
 use Rattle.kv_types.specs.{Entry}
@@ -45,9 +45,9 @@ module _ {C S : Type 0} (holds : C → S → Entry → Type 0) (sound : C → S 
   }
 
 -- a refusal handed up, after calls in which nothing failed
-pub tells_up : {R Q : Type 0} (S T : Type 0) (f g h : ℕ) (r : Result R CursorError)
+pub tells_up : {R Q A : Type 0} (S T : Type 0) (f g h : ℕ) (r : Result R CursorError)
     (q : Result Q CursorError) (e : CursorError) → r ≡ Err e → q ≡ Err e → g ≡ f → (T → S)
-    → ErrorCauses S ⊥ g h r → ErrorCauses T ⊥ f h q
+    → ErrorCauses S ⊥ A g h r → ErrorCauses T ⊥ A f h q
 tells_up S T f g h r q e re qe same to t =
     let back : (x : CursorError) → q ≡ Err x → r ≡ Err x = λ x k. cc in
     let on : (x : CursorError) → r ≡ Err x → q ≡ Err x = λ x k. cc in
@@ -55,11 +55,12 @@ tells_up S T f g h r q e re qe same to t =
       disk = λ i. subst (λ x. RisesByOne x h) same (t.disk (back Disk i));
       others = λ i. t.others (λ k. i (on Disk k)) ∙ same;
       damaged = λ i s. t.damaged (back Damaged i) (to s);
+      memory = λ i. t.memory (back Memory i);
       failed = ((λ i. t.failed.0 (back Failed i)), (λ b. absurd b));
     }
 
-pub step_tells : {R : Type 0} (S : Type 0) (s : Position) (f h : ℕ) (r : Result R CursorError)
-    → IsOn s → ErrorCauses S (IsBroken s) f h r → ErrorCauses S ⊥ f h r
+pub step_tells : {R A : Type 0} (S : Type 0) (s : Position) (f h : ℕ) (r : Result R CursorError)
+    → IsOn s → ErrorCauses S (IsBroken s) A f h r → ErrorCauses S ⊥ A f h r
 step_tells S (On entry) f h r on t = t
 step_tells S Off f h r on t = absurd on
 step_tells S Broken f h r on t = absurd on

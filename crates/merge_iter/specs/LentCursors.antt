@@ -15,11 +15,12 @@ module _ {C S : Type 0} (g : Ghosts C S) where
   abbrev pub KeepsCursor : (old : C) (before : S) (new : C) (now : S) → Type 0
   KeepsCursor = MoveKeeps g.holds g.is_sound g.keeps g.most
 
-  -- why the move was refused, of a cursor that was sound or not, and broken or not
-  abbrev pub RefusesMove : {R : Type 0} → (was_sound was_broken : Type 0) (before now : S) →
-      Result R CursorError → Type 0
-  RefusesMove was_sound was_broken before now =
-      ErrorCauses was_sound was_broken (g.failures before) (g.failures now)
+  -- why the move was refused, of a cursor that was sound or not, and broken or not, where the move
+  -- may allocate or not
+  abbrev pub RefusesMove : {R : Type 0} → (was_sound was_broken may_allocate : Type 0)
+      (before now : S) → Result R CursorError → Type 0
+  RefusesMove was_sound was_broken may_allocate before now =
+      ErrorCauses was_sound was_broken may_allocate (g.failures before) (g.failures now)
 
   -- ---- several cursors
 

@@ -2,7 +2,7 @@
 use Rattle.std.specs.Prelude.{◌≡◌, ◌↔◌, ℕ, ◌≤◌, Result, OnOk, IsErrOf}
 use Rattle.merge_iter.specs.declared.direction.Direction.{Direction}
 use Rattle.merge_iter.specs.declared.error.CursorError.{CursorError}
-use Rattle.merge_iter.specs.declared.error.CursorError.TheVariants.{Disk, Damaged, Failed}
+use Rattle.merge_iter.specs.declared.error.CursorError.TheVariants.{Disk, Damaged, Memory, Failed}
 use Rattle.disk.specs.{RisesByOne}
 use Rattle.kv_types.specs.{Entry}
 use Rattle.merge_iter.specs.Positions.{WalkStart, WalkMeets, Position, On, Off, Broken, IsFirst}
@@ -20,9 +20,9 @@ abbrev pub MoveFinds : {R : Type 0} → Direction → WalkStart → (Entry → T
 MoveFinds way start entries result new =
     OnOk result (IsFirst way (λ entry. entries entry × WalkMeets way start entry) new)
 
--- Why a move is refused, of a cursor that was sound or not, and broken or not. The numbers are the
--- source's counts of failures before and after.
-pub record ErrorCauses {R : Type 0} (was_sound was_broken : Type 0) (before now : ℕ)
+-- Why a move is refused, of a cursor that was sound or not, and broken or not, where the move may
+-- allocate or not. The numbers are the source's counts of failures before and after.
+pub record ErrorCauses {R : Type 0} (was_sound was_broken may_allocate : Type 0) (before now : ℕ)
     (result : Result R CursorError) : Type 0 where
   -- `Disk` is reported only where the count of failures rises in this call
   pub disk : IsErrOf result Disk → RisesByOne before now
@@ -30,6 +30,8 @@ pub record ErrorCauses {R : Type 0} (was_sound was_broken : Type 0) (before now 
   pub others : (IsErrOf result Disk → ⊥) → now ≡ before
   -- `Damaged` is reported only of a source that is not what the cursor was made for
   pub damaged : IsErrOf result Damaged → was_sound → ⊥
+  -- `Memory` is reported only of a move that may allocate
+  pub memory : IsErrOf result Memory → may_allocate
   -- `Failed` is reported exactly where the cursor was broken
   pub failed : IsErrOf result Failed ↔ was_broken
 

@@ -68,6 +68,10 @@ impl<C: Cursor> Cursor for AtNumber<C> {
 
     ghost most = { λ a. C.most a.inner + 2 };
 
+    ghost steps_allocate = { Unit {0} };
+
+    ghost seeks_allocate = { Unit {0} };
+
     fn valid(&self) -> bool {
         match self.mode {
             Mode::Inner => self.inner.valid(),

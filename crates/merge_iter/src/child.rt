@@ -51,7 +51,7 @@ pub fn step<C: Cursor>(
     requires { CanStep (C.position child.old) }
     ensures moves { KeepsCursor C.Cursor child.old source.old child.new source.new }
     ensures causes { RefusesMove C.Cursor (C.is_sound child.old source.old)
-        (IsBroken (C.position child.old)) source.old source.new result }
+        (IsBroken (C.position child.old)) C.steps_allocate source.old source.new result }
     ensures broken { IsErr result ↔ IsBroken (C.position child.new) }
     ensures ends { OnOk result (C.left child.new way < C.left child.old way) }
     ensures finds { C.is_sound child.old source.old →
@@ -72,8 +72,8 @@ pub fn start<C: Cursor>(
     source: &mut C::Source,
 ) -> Result<(), CursorError>
     ensures moves { KeepsCursor C.Cursor child.old source.old child.new source.new }
-    ensures causes { RefusesMove C.Cursor (C.is_sound child.old source.old) ⊥ source.old source.new
-        result }
+    ensures causes { RefusesMove C.Cursor (C.is_sound child.old source.old) ⊥ C.steps_allocate
+        source.old source.new result }
     ensures broken { IsErr result ↔ IsBroken (C.position child.new) }
     ensures finds { C.is_sound child.old source.old →
         MoveFinds way AtEnd (C.holds child.old source.old) result (C.position child.new) }
@@ -92,8 +92,8 @@ pub fn turn<C: Cursor>(
     source: &mut C::Source,
 ) -> Result<(), CursorError>
     ensures moves { KeepsCursor C.Cursor child.old source.old child.new source.new }
-    ensures causes { RefusesMove C.Cursor (C.is_sound child.old source.old) ⊥ source.old source.new
-        result }
+    ensures causes { RefusesMove C.Cursor (C.is_sound child.old source.old) ⊥ C.steps_allocate
+        source.old source.new result }
     ensures turns { (was : Way) (entry : Entry) → IsOpposite was way →
         C.is_sound child.old source.old →
         IsFirst was (λ p. C.holds child.old source.old p × WalkMeets was (At entry) p)

@@ -81,7 +81,7 @@ pub fn start_all<C: Cursor>(
     ensures moves { KeepsChildren C.Cursor children.old.items source.old children.new.items
         source.new }
     ensures causes { RefusesMove C.Cursor (AreSound C.Cursor children.old.items source.old) ⊥
-        source.old source.new result }
+        C.steps_allocate source.old source.new result }
     ensures finds { AreSound C.Cursor children.old.items source.old →
         OnOk result (AreFirst C.Cursor way AtEnd children.new.items source.new) }
 {
@@ -101,7 +101,7 @@ pub fn seek_all<C: Cursor>(
     ensures moves { KeepsChildren C.Cursor children.old.items source.old children.new.items
         source.new }
     ensures causes { RefusesMove C.Cursor (AreSound C.Cursor children.old.items source.old) ⊥
-        source.old source.new result }
+        C.seeks_allocate source.old source.new result }
     ensures finds { AreSound C.Cursor children.old.items source.old →
         OnOk result (AreFirst C.Cursor Forward (At (spot key.now number)) children.new.items
         source.new) }
@@ -122,7 +122,7 @@ pub fn turn_all<C: Cursor>(
     ensures moves { KeepsChildren C.Cursor children.old.items source.old children.new.items
         source.new }
     ensures causes { RefusesMove C.Cursor (AreSound C.Cursor children.old.items source.old) ⊥
-        source.old source.new result }
+        C.steps_allocate source.old source.new result }
     ensures turns { (was : Way) (entry : Entry) → IsOpposite was way →
         AreSound C.Cursor children.old.items source.old →
         AreFirst C.Cursor was (At entry) children.old.items source.old →
@@ -146,7 +146,7 @@ fn step_at<C: Cursor>(
     ensures moves { KeepsChildren C.Cursor children.old.items source.old children.new.items
         source.new }
     ensures causes { RefusesMove C.Cursor (AreSound C.Cursor children.old.items source.old) ⊥
-        source.old source.new result }
+        C.steps_allocate source.old source.new result }
     ensures ends { OnOk result (sum_by (λ c. C.left c way) children.new.items
         < sum_by (λ c. C.left c way) children.old.items) }
     ensures ahead { (c : C) (entry : Entry) → slice_get children.old.items k ≡ Some c →
@@ -188,7 +188,7 @@ pub fn advance<C: Cursor>(
     ensures moves { KeepsChildren C.Cursor children.old.items source.old children.new.items
         source.new }
     ensures causes { RefusesMove C.Cursor (AreSound C.Cursor children.old.items source.old) ⊥
-        source.old source.new result }
+        C.steps_allocate source.old source.new result }
     ensures ends { OnOk result (sum_by (λ c. C.left c way) children.new.items
         < left_along C.left C.most children.old.items was way) }
     ensures ahead { (c : C) (entry : Entry) → slice_get children.old.items k ≡ Some c →

@@ -14,8 +14,8 @@ use crate::error::CursorError;
 /// A cursor stands on an entry, on none, or on none since a refusal. Each move is lent the source
 /// that the entries are read from. An error of a move says why: `Disk` only where the device behind
 /// the source failed in this call, `Damaged` only where the source is not what the cursor was made
-/// for, `Failed` exactly where `next` or `prev` is called behind a refusal. Any move may answer
-/// `Memory`. After an error the cursor stands on no entry.
+/// for, `Memory` only where such a move may allocate, `Failed` exactly where `next` or `prev` is
+/// called behind a refusal. After an error the cursor stands on no entry.
 pub trait Cursor {
     /// What the entries are read from; `()` where they are in memory.
     type Source;
@@ -40,6 +40,12 @@ pub trait Cursor {
 
     /// How many steps there are from one end to the other, at most.
     ghost most: { Self → ℕ };
+
+    /// Whether `next`, `prev`, `first` and `last` may allocate memory.
+    ghost steps_allocate: { Type 0 };
+
+    /// Whether `seek` may allocate memory.
+    ghost seeks_allocate: { Type 0 };
 
     /// Whether the cursor stands on an entry.
     fn valid(&self) -> bool
@@ -67,7 +73,7 @@ pub trait Cursor {
         ensures moves { MoveKeeps holds is_sound keeps most
             self.old source.old self.new source.new }
         ensures causes { ErrorCauses (is_sound self.old source.old) (IsBroken (position self.old))
-            (failures source.old) (failures source.new) result }
+            steps_allocate (failures source.old) (failures source.new) result }
         ensures broken { IsErr result ↔ IsBroken (position self.new) }
         ensures ends { OnOk result (left self.new Forward < left self.old Forward) }
         ensures finds { is_sound self.old source.old → IfOn (position self.old)
@@ -80,7 +86,7 @@ pub trait Cursor {
         ensures moves { MoveKeeps holds is_sound keeps most
             self.old source.old self.new source.new }
         ensures causes { ErrorCauses (is_sound self.old source.old) (IsBroken (position self.old))
-            (failures source.old) (failures source.new) result }
+            steps_allocate (failures source.old) (failures source.new) result }
         ensures broken { IsErr result ↔ IsBroken (position self.new) }
         ensures ends { OnOk result (left self.new Backward < left self.old Backward) }
         ensures finds { is_sound self.old source.old → IfOn (position self.old)
@@ -96,7 +102,7 @@ pub trait Cursor {
     ) -> Result<(), CursorError>
         ensures moves { MoveKeeps holds is_sound keeps most
             self.old source.old self.new source.new }
-        ensures causes { ErrorCauses (is_sound self.old source.old) ⊥
+        ensures causes { ErrorCauses (is_sound self.old source.old) ⊥ seeks_allocate
             (failures source.old) (failures source.new) result }
         ensures broken { IsErr result ↔ IsBroken (position self.new) }
         ensures finds { is_sound self.old source.old → MoveFinds Forward (At (spot key.now number))
@@ -106,7 +112,7 @@ pub trait Cursor {
     fn first(&mut self, source: &mut Self::Source) -> Result<(), CursorError>
         ensures moves { MoveKeeps holds is_sound keeps most
             self.old source.old self.new source.new }
-        ensures causes { ErrorCauses (is_sound self.old source.old) ⊥
+        ensures causes { ErrorCauses (is_sound self.old source.old) ⊥ steps_allocate
             (failures source.old) (failures source.new) result }
         ensures broken { IsErr result ↔ IsBroken (position self.new) }
         ensures finds { is_sound self.old source.old →
@@ -116,7 +122,7 @@ pub trait Cursor {
     fn last(&mut self, source: &mut Self::Source) -> Result<(), CursorError>
         ensures moves { MoveKeeps holds is_sound keeps most
             self.old source.old self.new source.new }
-        ensures causes { ErrorCauses (is_sound self.old source.old) ⊥
+        ensures causes { ErrorCauses (is_sound self.old source.old) ⊥ steps_allocate
             (failures source.old) (failures source.new) result }
         ensures broken { IsErr result ↔ IsBroken (position self.new) }
         ensures finds { is_sound self.old source.old →

@@ -15,6 +15,7 @@ pub enum CursorError {
     /// The bytes of the source do not represent the table.
     #[error("a table is damaged")]
     Damaged,
+    /// The move found no memory: only moves that may allocate answer this.
     #[error("out of memory")]
     Memory,
     /// An earlier move was refused.

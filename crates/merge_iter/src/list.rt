@@ -56,6 +56,10 @@ impl Cursor for ListCursor {
 
     ghost most = { λ c. length c.entries.items };
 
+    ghost steps_allocate = { ⊥ };
+
+    ghost seeks_allocate = { ⊥ };
+
     fn valid(&self) -> bool {
         self.at < self.entries.len()
     }

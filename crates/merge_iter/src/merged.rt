@@ -48,8 +48,8 @@ impl<C: Cursor> Merged<C> {
             IsUnion C.Cursor self.new.children.items self.new.place source.new }
         ensures causes { RefusesMove C.Cursor
             (IsUnion C.Cursor self.old.children.items self.old.place source.old)
-            (IsBroken (union_position C.position self.old.children.items self.old.place)) source.old
-            source.new result }
+            (IsBroken (union_position C.position self.old.children.items self.old.place))
+            C.steps_allocate source.old source.new result }
         ensures broken { IsErr result
             ↔ IsBroken (union_position C.position self.new.children.items self.new.place) }
         ensures ends { OnOk result
@@ -80,8 +80,8 @@ impl<C: Cursor> Merged<C> {
         ensures sound { IsUnion C.Cursor self.old.children.items self.old.place source.old →
             IsUnion C.Cursor self.new.children.items self.new.place source.new }
         ensures causes { RefusesMove C.Cursor
-            (IsUnion C.Cursor self.old.children.items self.old.place source.old) ⊥ source.old
-            source.new result }
+            (IsUnion C.Cursor self.old.children.items self.old.place source.old) ⊥
+            C.steps_allocate source.old source.new result }
         ensures broken { IsErr result
             ↔ IsBroken (union_position C.position self.new.children.items self.new.place) }
         ensures finds { IsUnion C.Cursor self.old.children.items self.old.place source.old →
@@ -111,6 +111,10 @@ impl<C: Cursor> Cursor for Merged<C> {
     ghost left = { λ m. merged_left C.left C.most m.children.items m.place };
 
     ghost most = { λ m. merged_most C.most m.children.items };
+
+    ghost steps_allocate = { C.steps_allocate };
+
+    ghost seeks_allocate = { C.seeks_allocate };
 
     fn valid(&self) -> bool {
         match self.place {

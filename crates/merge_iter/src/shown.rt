@@ -52,8 +52,8 @@ pub fn find_forward<C: Cursor>(
     hidden: &mut Vec<u8>,
 ) -> Result<Mode, CursorError>
     ensures moves { KeepsCursor C.Cursor inner.old source.old inner.new source.new }
-    ensures causes { RefusesMove C.Cursor (C.is_sound inner.old source.old) ⊥ source.old source.new
-        result }
+    ensures causes { RefusesMove C.Cursor (C.is_sound inner.old source.old) ⊥ (Unit {0}) source.old
+        source.new result }
     ensures unbroken { (kept : Entry) →
         IfOk result (λ mode. IsBroken (view_position mode (C.position inner.new) kept) → ⊥) }
     ensures forward { IfOk result IsForward }
@@ -107,8 +107,8 @@ pub fn find_back<C: Cursor>(
     kept: &mut KeptEntry,
 ) -> Result<Mode, CursorError>
     ensures moves { KeepsCursor C.Cursor inner.old source.old inner.new source.new }
-    ensures causes { RefusesMove C.Cursor (C.is_sound inner.old source.old) ⊥ source.old source.new
-        result }
+    ensures causes { RefusesMove C.Cursor (C.is_sound inner.old source.old) ⊥ (Unit {0}) source.old
+        source.new result }
     ensures unbroken { IfOk result
         (λ mode. IsBroken (view_position mode (C.position inner.new) (kept_entry kept.new)) → ⊥) }
     ensures left { IfOk result (λ mode. left_in (C.left inner.new) (C.most inner.new) mode Backward

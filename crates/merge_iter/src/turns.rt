@@ -26,8 +26,8 @@ fn return_to<C: Cursor>(
 ) -> Result<(), CursorError>
     requires { IsOn (view_position mode (C.position inner.old) (kept_entry kept.now)) }
     ensures moves { KeepsCursor C.Cursor inner.old source.old inner.new source.new }
-    ensures causes { RefusesMove C.Cursor (C.is_sound inner.old source.old) ⊥ source.old source.new
-        result }
+    ensures causes { RefusesMove C.Cursor (C.is_sound inner.old source.old) ⊥ C.seeks_allocate
+        source.old source.new result }
     ensures left { OnOk result (C.left inner.new Forward ≤ left_in (C.left inner.old)
         (C.most inner.old) mode Forward) }
     ensures ready { OnOk result (IsOn (C.position inner.new)
@@ -53,8 +53,8 @@ fn leave<C: Cursor>(
     key: &mut Vec<u8>,
 ) -> Result<(), CursorError>
     ensures moves { KeepsCursor C.Cursor inner.old source.old inner.new source.new }
-    ensures causes { RefusesMove C.Cursor (C.is_sound inner.old source.old) ⊥ source.old source.new
-        result }
+    ensures causes { RefusesMove C.Cursor (C.is_sound inner.old source.old) ⊥ (Unit {0}) source.old
+        source.new result }
     ensures fewer { OnOk result (C.left inner.new Forward ≤ C.left inner.old Forward) }
     ensures left { IsOn (C.position inner.old) →
         OnOk result (C.left inner.new Forward < C.left inner.old Forward) }
@@ -78,8 +78,8 @@ pub fn first_shown<C: Cursor>(
     kept: &mut KeptEntry,
 ) -> Result<Mode, CursorError>
     ensures moves { KeepsCursor C.Cursor inner.old source.old inner.new source.new }
-    ensures causes { RefusesMove C.Cursor (C.is_sound inner.old source.old) ⊥ source.old source.new
-        result }
+    ensures causes { RefusesMove C.Cursor (C.is_sound inner.old source.old) ⊥ (Unit {0}) source.old
+        source.new result }
     ensures unbroken { IfOk result
         (λ mode. IsBroken (view_position mode (C.position inner.new) (kept_entry kept.new)) → ⊥) }
     ensures finds { C.is_sound inner.old source.old →
@@ -98,8 +98,8 @@ pub fn last_shown<C: Cursor>(
     kept: &mut KeptEntry,
 ) -> Result<Mode, CursorError>
     ensures moves { KeepsCursor C.Cursor inner.old source.old inner.new source.new }
-    ensures causes { RefusesMove C.Cursor (C.is_sound inner.old source.old) ⊥ source.old source.new
-        result }
+    ensures causes { RefusesMove C.Cursor (C.is_sound inner.old source.old) ⊥ (Unit {0}) source.old
+        source.new result }
     ensures unbroken { IfOk result
         (λ mode. IsBroken (view_position mode (C.position inner.new) (kept_entry kept.new)) → ⊥) }
     ensures finds { C.is_sound inner.old source.old →
@@ -137,8 +137,8 @@ pub fn seek_shown<C: Cursor>(
     kept: &mut KeptEntry,
 ) -> Result<Mode, CursorError>
     ensures moves { KeepsCursor C.Cursor inner.old source.old inner.new source.new }
-    ensures causes { RefusesMove C.Cursor (C.is_sound inner.old source.old) ⊥ source.old source.new
-        result }
+    ensures causes { RefusesMove C.Cursor (C.is_sound inner.old source.old) ⊥ (Unit {0}) source.old
+        source.new result }
     ensures unbroken { IfOk result
         (λ mode. IsBroken (view_position mode (C.position inner.new) (kept_entry kept.new)) → ⊥) }
     ensures finds { C.is_sound inner.old source.old →
@@ -164,8 +164,8 @@ pub fn next_shown<C: Cursor>(
 ) -> Result<Mode, CursorError>
     requires { IsOn (view_position mode (C.position inner.old) (kept_entry kept.old)) }
     ensures moves { KeepsCursor C.Cursor inner.old source.old inner.new source.new }
-    ensures causes { RefusesMove C.Cursor (C.is_sound inner.old source.old) ⊥ source.old source.new
-        result }
+    ensures causes { RefusesMove C.Cursor (C.is_sound inner.old source.old) ⊥ (Unit {0}) source.old
+        source.new result }
     ensures unbroken { IfOk result
         (λ mode. IsBroken (view_position mode (C.position inner.new) (kept_entry kept.new)) → ⊥) }
     ensures left { IfOk result (λ new. left_in (C.left inner.new) (C.most inner.new) new Forward
@@ -191,8 +191,8 @@ fn retreat<C: Cursor>(
 ) -> Result<(), CursorError>
     requires { IsOn (view_position mode (C.position inner.old) (kept_entry kept.now)) }
     ensures moves { KeepsCursor C.Cursor inner.old source.old inner.new source.new }
-    ensures causes { RefusesMove C.Cursor (C.is_sound inner.old source.old) ⊥ source.old source.new
-        result }
+    ensures causes { RefusesMove C.Cursor (C.is_sound inner.old source.old) ⊥ C.steps_allocate
+        source.old source.new result }
     ensures left { OnOk result (C.left inner.new Backward < left_in (C.left inner.old)
         (C.most inner.old) mode Backward) }
     ensures retreats { (at : ℕ) (entry : Entry) → C.is_sound inner.old source.old →
@@ -220,8 +220,8 @@ pub fn prev_shown<C: Cursor>(
 ) -> Result<Mode, CursorError>
     requires { IsOn (view_position mode (C.position inner.old) (kept_entry kept.old)) }
     ensures moves { KeepsCursor C.Cursor inner.old source.old inner.new source.new }
-    ensures causes { RefusesMove C.Cursor (C.is_sound inner.old source.old) ⊥ source.old source.new
-        result }
+    ensures causes { RefusesMove C.Cursor (C.is_sound inner.old source.old) ⊥ (Unit {0}) source.old
+        source.new result }
     ensures unbroken { IfOk result
         (λ mode. IsBroken (view_position mode (C.position inner.new) (kept_entry kept.new)) → ⊥) }
     ensures left { IfOk result (λ new. left_in (C.left inner.new) (C.most inner.new) new Backward

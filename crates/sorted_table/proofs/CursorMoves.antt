@@ -26,13 +26,14 @@ entered_or_none P o Q (Ok x) entered refused = entered
 entered_or_none P o Q (Err e) entered refused = subst (λ p. IfSome p P) (sym refused.0) tt
 
 -- a refusal that only an unsound cursor meets, behind calls that succeeded
-pub damaged_never : {R : Type 0} (sound all : Type 0) (before : ℕ) (x : R) (now : ℕ)
-    → ErrorCauses {R = R} all ⊥ before now (Ok x) → (sound → ⊥)
-    → ErrorCauses {R = R} sound ⊥ before now (Err cursor.Damaged)
+pub damaged_never : {R A : Type 0} (sound all : Type 0) (before : ℕ) (x : R) (now : ℕ)
+    → ErrorCauses {R = R} all ⊥ A before now (Ok x) → (sound → ⊥)
+    → ErrorCauses {R = R} sound ⊥ A before now (Err cursor.Damaged)
 damaged_never sound all before x now causes never = record {
   disk = λ e. absurd cc;
   others = λ e. causes.others (λ d. absurd cc);
   damaged = λ e s. never s;
+  memory = λ e. absurd cc;
   failed = ((λ e. cc), (λ b. absurd b));
 }
 

@@ -122,8 +122,8 @@ impl<D: Disk + Drop> TableCursor<D> {
         ensures keeps { KeepsFiles ⟦<Files<D> as Disk>⟧ files.old files.new }
         ensures causes { ErrorCauses (⟦<Files<D> as Disk>⟧.is_honest files.old × HasLines
             (⟦<Files<D> as Disk>⟧.state files.old self.old.file) (rc_slice_items self.old.lines)) ⊥
-            (⟦<Files<D> as Disk>⟧.failures files.old) (⟦<Files<D> as Disk>⟧.failures files.new)
-            result }
+            (Unit {0}) (⟦<Files<D> as Disk>⟧.failures files.old)
+            (⟦<Files<D> as Disk>⟧.failures files.new) result }
         ensures refused { OnErr result ((self.new.place ≡ None) × (self.new.has_failed ≡ true)) }
         ensures entered { OnOk result ((self.new.has_failed ≡ false)
             × HasEntered (rc_slice_items self.old.lines) line way self.new.place) }
@@ -154,8 +154,8 @@ impl<D: Disk + Drop> TableCursor<D> {
         ensures keeps { KeepsFiles ⟦<Files<D> as Disk>⟧ files.old files.new }
         ensures causes { ErrorCauses (⟦<Files<D> as Disk>⟧.is_honest files.old × HasLines
             (⟦<Files<D> as Disk>⟧.state files.old self.old.file) (rc_slice_items self.old.lines)) ⊥
-            (⟦<Files<D> as Disk>⟧.failures files.old) (⟦<Files<D> as Disk>⟧.failures files.new)
-            result }
+            (Unit {0}) (⟦<Files<D> as Disk>⟧.failures files.old)
+            (⟦<Files<D> as Disk>⟧.failures files.new) result }
         ensures refused { OnErr result ((self.new.place ≡ None) × (self.new.has_failed ≡ true)) }
         ensures reached { OnOk result (HasReached (rc_slice_items self.old.lines) line
             self.new.has_failed self.new.place) }
@@ -195,6 +195,10 @@ impl<D: Disk + Drop> Cursor for TableCursor<D> {
     ghost left = { λ c. steps_left (rc_slice_items c.lines) c.place };
 
     ghost most = { λ c. blocks_size (rc_slice_items c.lines) };
+
+    ghost steps_allocate = { Unit {0} };
+
+    ghost seeks_allocate = { Unit {0} };
 
     fn valid(&self) -> bool {
         self.place.is_some()

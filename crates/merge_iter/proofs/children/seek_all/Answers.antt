@@ -64,7 +64,7 @@ returns-in_err-seek-clause-causes g c =
     let was : c.seek.result ≡ Err c.in_err-seek.field-0.0 = c.in_err-seek.was in
     let told : c.seek.result ≡ c.from_residual.result = cc (p.1, p.2) in
     subst (λ r. ErrorCauses (EachChild (λ d. g.C.Cursor.is_sound d c.args.source.now)
-    c.args.children.now.items) ⊥ (g.C.Cursor.failures c.args.source.now)
+    c.args.children.now.items) ⊥ g.C.Cursor.seeks_allocate (g.C.Cursor.failures c.args.source.now)
     (g.C.Cursor.failures c.seek.new.source) r) told
     (tells_from (g.C.Cursor.is_sound c.index_mut.result.now c.loop-i.source)
     (EachChild (λ d. g.C.Cursor.is_sound d c.args.source.now) c.args.children.now.items) _ _ _ _

@@ -61,7 +61,7 @@ returns-in_err-start-clause-causes g c =
     let was : c.start.result ≡ Err c.in_err-start.field-0.0 = c.in_err-start.was in
     let told : c.start.result ≡ c.from_residual.result = cc (p.1, p.2) in
     subst (λ r. ErrorCauses (EachChild (λ d. g.C.Cursor.is_sound d c.args.source.now)
-    c.args.children.now.items) ⊥ (g.C.Cursor.failures c.args.source.now)
+    c.args.children.now.items) ⊥ g.C.Cursor.steps_allocate (g.C.Cursor.failures c.args.source.now)
     (g.C.Cursor.failures c.start.new.source) r) told
     (tells_from (g.C.Cursor.is_sound c.index_mut.result.now c.loop-i.source)
     (EachChild (λ d. g.C.Cursor.is_sound d c.args.source.now) c.args.children.now.items) _ _ _ _

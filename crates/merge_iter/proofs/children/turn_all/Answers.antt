@@ -74,7 +74,7 @@ returns-in_err-turn-clause-causes g c =
     let was : c.turn.result ≡ Err c.in_err-turn.field-0.0 = c.in_err-turn.was in
     let told : c.turn.result ≡ c.from_residual.result = cc (p.1, p.2) in
     subst (λ r. ErrorCauses (EachChild (λ d. g.C.Cursor.is_sound d c.args.source.now)
-    c.args.children.now.items) ⊥ (g.C.Cursor.failures c.args.source.now)
+    c.args.children.now.items) ⊥ g.C.Cursor.steps_allocate (g.C.Cursor.failures c.args.source.now)
     (g.C.Cursor.failures c.turn.new.source) r) told
     (tells_from (g.C.Cursor.is_sound c.index_mut.result.now c.loop-i.source)
     (EachChild (λ d. g.C.Cursor.is_sound d c.args.source.now) c.args.children.now.items) _ _ _ _

@@ -29,7 +29,7 @@ returns-in_err-advance-clause-causes g c =
     c.args.self.now.place in
     subst (λ r. ErrorCauses merge
     (IsBroken (union_position g.C.Cursor.position c.args.self.now.children.items
-    c.args.self.now.place)) (g.C.Cursor.failures c.args.source.now)
+    c.args.self.now.place)) g.C.Cursor.steps_allocate (g.C.Cursor.failures c.args.source.now)
     (g.C.Cursor.failures c.advance.new.source) r) told
     (tells_merged (EachChild (λ d. g.C.Cursor.is_sound d c.args.source.now)
     c.args.self.now.children.items) merge (union_position g.C.Cursor.position
@@ -48,7 +48,7 @@ returns-clause-causes g c =
     let was : c.advance.result ≡ Ok tt = c.in_ok-advance.was in
     subst (λ r. ErrorCauses merge
     (IsBroken (union_position g.C.Cursor.position c.args.self.now.children.items
-    c.args.self.now.place)) (g.C.Cursor.failures c.args.source.now)
+    c.args.self.now.place)) g.C.Cursor.steps_allocate (g.C.Cursor.failures c.args.source.now)
     (g.C.Cursor.failures c.advance.new.source) r) was
     (tells_merged (EachChild (λ d. g.C.Cursor.is_sound d c.args.source.now)
     c.args.self.now.children.items) merge (union_position g.C.Cursor.position
