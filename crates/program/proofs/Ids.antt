@@ -1,13 +1,13 @@
 -- The words of a configuration: numbers that are different ids, 1 to 16 of them.
-use Rattle.std.proofs.Common.{◌≡◌, ◌≢◌, ◌⊎◌, subst, ◌<◌, ◌≤◌, ◌^◌, ℕ, zero, suc, inl, inr}
-use Rattle.std.proofs.Common.{List, [], ◌∷◌, refl, ap, true, false, not}
-use Rattle.std.proofs.Common.{arith, map, length, get_or, Bool}
-use Rattle.std.specs.Prelude.{All, nat_le, ◌&&◌}
+use Rattle.std.proofs.Common.{◌≡◌, ◌≢◌, ◌⊎◌, subst, ◌<◌, ◌^◌, ℕ, inl, inr}
+use Rattle.std.proofs.Common.{List, [], ◌∷◌, refl, true, false}
+use Rattle.std.proofs.Common.{arith, map}
+use Rattle.std.specs.Prelude.{All}
 use Rattle.std.specs.List.{list_all}
 use Rattle.std.specs.Fmt.{decimal}
 use Rattle.std.proofs.lemmas.Bool.{cases_Bool}
 use Rattle.std.proofs.lemmas.Bool.Decides.{nat_tests}
-use Rattle.std.proofs.lemmas.List.Elements.{All-nil, All-cons, All-head, All-tail}
+use Rattle.std.proofs.lemmas.List.Elements.{All-head, All-tail}
 use Rattle.lab.specs.Configuration.{IsId}
 use Rattle.lab.specs.Configs.{IsConfig, TestDecidesConfig, is_config}
 use Rattle.lab.specs.ConfigError.{ConfigError}

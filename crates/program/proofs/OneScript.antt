@@ -1,7 +1,7 @@
 -- Lines spell one script at most.
 use Rattle.std.proofs.Common.{◌≡◌, ◌≤◌, ℕ, suc, List, [], ◌∷◌, ◌++◌, codes, subst}
 use Rattle.std.proofs.Common.{refl, sym, ap, ◌∙◌, inl, inr, arith, true, false, map}
-use Rattle.std.specs.Prelude.{if◌then◌else◌, ◌<◌, ◌^◌, ◌⊎◌}
+use Rattle.std.specs.Prelude.{if◌then◌else◌, ◌⊎◌}
 use Rattle.std.specs.Str.{bytes_eq}
 use Rattle.std.specs.Fmt.{decimal}
 use Rattle.lab.specs.declared.Event as lab
@@ -11,7 +11,7 @@ use Rattle.lab.specs.Configuration.{Configurations}
 use Rattle.lab.specs.Configs.{IsConfig}
 use Rattle.program.specs.declared.script.setup.Setup.{Setup}
 use Rattle.program.specs.declared.script.statement.Action.{Action}
-use Rattle.program.specs.declared.script.statement.Action.TheVariants.{Flow, Settle, Show}
+use Rattle.program.specs.declared.script.statement.Action.TheVariants.{Settle, Show}
 use Rattle.program.specs.declared.script.statement.Statement.{Statement}
 use Rattle.program.specs.Actions.{action_of}
 use Rattle.program.specs.Events.{SpellsEvent}
