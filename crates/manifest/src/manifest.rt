@@ -1,5 +1,5 @@
 // The manifest of a store.
-ghost use Rattle.std.specs.Prelude.{◌≡◌, ◌⊎◌, ◌↔◌, ◌+◌, ◌<◌, ◌≤◌, length, IfOk, MatchResult};
+ghost use Rattle.std.specs.Prelude.{◌≡◌, ◌⊎◌, ◌↔◌, ◌+◌, ◌<◌, ◌≤◌, ◌^◌, length, IfOk, MatchResult};
 ghost use Rattle.std.specs.Prelude.{IsErrOf, IsNone, IsTrue, OnOk};
 ghost use Rattle.kv_types.specs.declared.bounds.TheConstants.{MAX_NUMBER};
 ghost use Rattle.record_log.specs.declared.log.TheConstants.{MAX_RECORD};
@@ -13,7 +13,8 @@ ghost use Rattle.manifest.specs.Holds.{SparesOthers};
 ghost use Rattle.manifest.specs.Manifests.{ManifestHolds, ManifestHasFailed, ManifestHasNoRoom};
 ghost use Rattle.manifest.specs.Manifests.{HasLongSlot, HasSameSlots, IsOpenedManifest};
 ghost use Rattle.manifest.specs.Manifests.{ManifestRefusal};
-ghost use Rattle.manifest.specs.Manifests.{counting_file, generation_of, spare_file, version_of};
+ghost use Rattle.manifest.specs.Manifests.{counting_file, generation_of, slot_length, spare_file};
+ghost use Rattle.manifest.specs.Manifests.{version_of};
 
 use crate::changed::version_after;
 use crate::laws::version_is_one;
@@ -80,8 +81,11 @@ impl Manifest {
     /// Whether the slot that counts is so long that a rewrite is due: longer, up to its closed gate,
     /// than twice its first edit and 65,536 bytes.
     pub fn has_long_slot(&self) -> bool
-        ensures { (disk : State) (named : NodeVersion) → ManifestHolds disk self.now named →
+        ensures due { (disk : State) (named : NodeVersion) → ManifestHolds disk self.now named →
             IsTrue result ↔ HasLongSlot self.now }
+
+        // It speaks of the slot alone, so a failed manifest tells it too.
+        ensures told { slot_length self.now < 2 ^ 64 → IsTrue result ↔ HasLongSlot self.now }
     {
         self.slots.is_long()
     }

@@ -124,8 +124,10 @@ impl SlotPair {
     /// Whether the slot that counts is longer, up to its closed gate, than twice its first record
     /// and 65,536 bytes.
     pub fn is_long(&self) -> bool
-        ensures { (disk : State) (id : ℕ) (records : List (List ℕ)) →
+        ensures due { (disk : State) (id : ℕ) (records : List (List ℕ)) →
             SlotsHold disk self.now id records →
+            IsTrue result ↔ (2 * first_length self.now.log + 65536 < gate_of self.now.log + 1) }
+        ensures told { gate_of self.now.log + 1 < 2 ^ 64 →
             IsTrue result ↔ (2 * first_length self.now.log + 65536 < gate_of self.now.log + 1) }
     {
         gates_are_in_files(); // law: a log's gate is within its file

@@ -5,9 +5,20 @@ use Rattle.disk.specs.{Slot, seen}
 use Rattle.record_log.specs.{gate_of}
 use Rattle.manifest.proofs.slot_pair.SlotPair.is_long.Goals as goal
 
--- the gate is within the file, so no sum passes its bound where the slot may be long
-pub returns : goal.returns
-returns c = λ disk id records h.
+-- no sum passes its bound where the slot may be long
+pub returns-clause-told : goal.returns-clause-told
+returns-clause-told c = λ below.
+    let gate = c.gate.ensures.gate below in
+    let first = c.first_len-first.ensures in
+    let twice = c.saturating_mul.ensures in
+    let sum = c.saturating_add.ensures in (
+      λ longer. grind (arith, nat_tests),
+      λ longer. grind (arith, nat_tests),
+    )
+
+-- the gate is within the file
+pub returns-clause-due : goal.returns-clause-due
+returns-clause-due c = λ disk id records h.
     let log = c.args.self.now.log in
     let within : gate_of log < length h.log.bytes =
     subst (λ (slot : Slot). IsSomeAnd (seen slot) (λ bytes. gate_of log < length bytes)) h.log.sure
