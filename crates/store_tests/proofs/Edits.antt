@@ -1,6 +1,5 @@
 -- An edit of the floor alone, which every version may take.
-use Rattle.std.proofs.Common.{◌≡◌, ℕ, ◌≤◌, List, [], ◌∷◌, Bool, true, refl, sym, subst, arith, ap}
-use Rattle.std.specs.Prelude.{◌==◌, if◌then◌else◌}
+use Rattle.std.proofs.Common.{◌≡◌, ℕ, ◌≤◌, List, [], ◌∷◌, true, refl, sym, subst, arith, ap}
 use Rattle.std.specs.List.{filter}
 use Rattle.std.proofs.lemmas.List.Elements.{All-nil}
 use Rattle.kv_types.specs.declared.bounds.TheConstants.{MAX_NUMBER}
