@@ -22,7 +22,8 @@ use Rattle.engine.specs.declared.batch_logs.BatchLogs.{BatchLogs}
 use Rattle.engine.specs.declared.store_files.StoreFiles.{StoreFiles}
 use Rattle.engine.specs.BatchLogs.{AreLeftWith, AreUsable, HaveBatches, LogsHold, first_number}
 use Rattle.engine.specs.BatchLogs.{line_of, lines_of, newest_file, next_number, oldest_first}
-use Rattle.engine.specs.OpenFiles.{AreOrderedNumbers, AreUsableFiles, FilesHold, batch_count}
+use Rattle.engine.specs.OpenFiles.{AreUsableFiles, FilesHold, batch_count}
+use Rattle.engine.specs.StoreFiles.{AreOrderedNumbers}
 use Rattle.engine.specs.OpenFiles.{known_facts, known_store, known_version, trimmed_count}
 use Rattle.engine.specs.StoreFiles.{FilesRepresent, store_of_version}
 use Rattle.engine.specs.Stores.{IsNumberedTo}

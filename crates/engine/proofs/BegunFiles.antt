@@ -24,7 +24,8 @@ use Rattle.engine.specs.BatchLogs.{HoldsPart, IsWorking, LogsHold, end_of_log, f
 use Rattle.engine.specs.BatchLogs.{lines_of, next_number, oldest_first}
 use Rattle.engine.specs.Errors.{FailsDevice, IsOfMachine, error_of_manifest}
 use Rattle.engine.specs.LevelTables.{AreServed, AreTablesOf, table_lines}
-use Rattle.engine.specs.OpenFiles.{AreOrderedNumbers, AreUsableFiles, FilesHold, batch_count}
+use Rattle.engine.specs.OpenFiles.{AreUsableFiles, FilesHold, batch_count}
+use Rattle.engine.specs.StoreFiles.{AreOrderedNumbers}
 use Rattle.engine.specs.OpenFiles.{known_store, known_version, trimmed_count}
 use Rattle.engine.specs.Settling.{AreAlone}
 use Rattle.engine.specs.StoreFiles.{store_of_version}

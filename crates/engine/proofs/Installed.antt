@@ -33,7 +33,8 @@ use Rattle.engine.specs.BatchLogs.{with_line}
 use Rattle.engine.specs.Files.{Facts}
 use Rattle.engine.specs.LevelTables.{AreServed, AreTablesOf, IsServed, table_lines, with_flushed}
 use Rattle.engine.specs.LevelTables.{with_flushed_line}
-use Rattle.engine.specs.OpenFiles.{AreOrderedNumbers, AreUsableFiles, FilesHold, batch_count}
+use Rattle.engine.specs.OpenFiles.{AreUsableFiles, FilesHold, batch_count}
+use Rattle.engine.specs.StoreFiles.{AreOrderedNumbers}
 use Rattle.engine.specs.OpenFiles.{known_facts, known_store, known_version, trimmed_count}
 use Rattle.engine.specs.StoreFiles.{FilesRepresent, before_newest, begun_log, flush_change}
 use Rattle.engine.specs.StoreFiles.{store_of_version}

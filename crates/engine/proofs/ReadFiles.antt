@@ -26,7 +26,8 @@ use Rattle.engine.specs.declared.store_files.StoreFiles.{StoreFiles}
 use Rattle.engine.specs.BatchLogs.{LogsHold, first_number}
 use Rattle.engine.specs.Files.{Facts}
 use Rattle.engine.specs.LevelTables.{AreTablesOf, FileFits, FitsLine}
-use Rattle.engine.specs.OpenFiles.{AreBatchesOf, AreOrderedNumbers, AreUsableFiles}
+use Rattle.engine.specs.OpenFiles.{AreBatchesOf, AreUsableFiles}
+use Rattle.engine.specs.StoreFiles.{AreOrderedNumbers}
 use Rattle.engine.specs.OpenFiles.{FilesOpenAs, OpeningRefusal, known_facts}
 use Rattle.engine.specs.OpenFiles.{known_version}
 use Rattle.engine.specs.Openings.{AreParts, FilesAreRead, PartsHold, WereParts}

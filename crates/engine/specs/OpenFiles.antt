@@ -24,7 +24,7 @@ use Rattle.engine.specs.BatchLogs.{AreUsable, HaveBatches, LogsHold, first_numbe
 use Rattle.engine.specs.BatchLogs.{next_number}
 use Rattle.engine.specs.LevelTables.{AreServed, AreTablesOf, FileFits, IsTableOf, table_lines}
 use Rattle.engine.specs.Stores.{IsNumberedTo}
-use Rattle.engine.specs.StoreFiles.{before_newest, store_of_version}
+use Rattle.engine.specs.StoreFiles.{AreOrderedNumbers, store_of_version}
 
 -- ---- logs that were read
 
@@ -110,15 +110,6 @@ known_facts files = record {
 abbrev pub known_store : StoreFiles → List LevelTable → StoreState
 known_store files tables =
     store_of_version (known_version files).version (trimmed_count files) tables
-
--- the numbers of batches that concern a store are in order
-pub record AreOrderedNumbers (version : StoreVersion) (trimmed count : ℕ) : Type 0 where
-  pub kept_floor : trimmed ≤ version.floor
-  pub kept_current : trimmed ≤ before_newest version.logs
-  pub current_flushed : before_newest version.logs ≤ version.flushed
-  pub flushed_count : version.flushed ≤ count
-  pub floor_count : version.floor ≤ count
-  pub few : count ≤ MAX_NUMBER
 
 -- the numbers of open files and this committed number are in order
 pub record AreCounted (store : StoreFiles) (number : ℕ) : Type 0 where

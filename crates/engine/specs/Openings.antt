@@ -11,7 +11,8 @@ use Rattle.engine.specs.declared.store_files.StoreFiles.{StoreFiles}
 use Rattle.engine.specs.BatchLogs.{LogsHold, first_number, next_number}
 use Rattle.engine.specs.LevelTables.{AreServed, AreTablesOf, FileFits, table_lines}
 use Rattle.engine.specs.Settling.{SlotSettles}
-use Rattle.engine.specs.OpenFiles.{AreOpenLogs, AreOrderedNumbers, AreReplayed, HasReplayed}
+use Rattle.engine.specs.OpenFiles.{AreOpenLogs, AreReplayed, HasReplayed}
+use Rattle.engine.specs.StoreFiles.{AreOrderedNumbers}
 use Rattle.engine.specs.OpenFiles.{AreUsableFiles, batch_count, known_store, known_version}
 use Rattle.engine.specs.OpenFiles.{trimmed_count}
 

@@ -34,6 +34,15 @@ store_of_version version kept tables = record {
   current = before_newest version.logs;
 }
 
+-- the numbers of batches that concern a store are in order
+pub record AreOrderedNumbers (version : StoreVersion) (trimmed count : ℕ) : Type 0 where
+  pub kept_floor : trimmed ≤ version.floor
+  pub kept_current : trimmed ≤ before_newest version.logs
+  pub current_flushed : before_newest version.logs ≤ version.flushed
+  pub flushed_count : version.flushed ≤ count
+  pub floor_count : version.floor ≤ count
+  pub few : count ≤ MAX_NUMBER
+
 -- The slots represent a version, its logs have the batches behind the first `kept` ones, and its
 -- tables and these batches together represent the list.
 pub record FilesRepresent (facts : Facts) (list : List BatchContent) (left : Contents)
@@ -61,8 +70,8 @@ IsOneOf facts list facts' list' left =
     FilesRepresent facts list left ⊎ FilesRepresent facts' list' left
 
 -- The slots represent a version with these facts, its logs have the batches behind the first `kept`
--- ones, so many in all, and the files of its tables fit their lines. An opening asks no more: it reads
--- no block of a table.
+-- ones, so many in all, its numbers are in order, and the files of its tables fit their lines. An
+-- opening asks no more: it reads no block of a table.
 pub record OpensAs (left : Contents) (facts : Facts) (count : ℕ) : Type 0 where
   pub version : StoreVersion
   pub manifest : ManifestRepresents (record { id = facts.id; version = version }) left
@@ -73,6 +82,7 @@ pub record OpensAs (left : Contents) (facts : Facts) (count : ℕ) : Type 0 wher
   pub logs : HaveBatches left (suc facts.kept) version.logs batches
   pub each : All IsBatch batches
   pub counted : count ≡ facts.kept + length batches
+  pub numbers : AreOrderedNumbers version facts.kept count
   pub tables : All (FileFits left) version.tables
 
 -- the version has the file as a log or as a table

@@ -6,7 +6,8 @@ ghost use Rattle.disk.specs.{AlwaysLeaves, IsStill, KeepsDisk, OnlyLeaves, conte
 ghost use Rattle.engine.specs.Errors.{FailsDevice, IsEnd, IsOfMachine};
 ghost use Rattle.engine.specs.Files.{Facts, IsOwned, first_facts};
 ghost use Rattle.engine.specs.StoreFiles.{FilesRepresent, IsOneOf, before_newest};
-ghost use Rattle.engine.specs.OpenFiles.{AreBatchesOf, AreOrderedNumbers, AreUsableFiles};
+ghost use Rattle.engine.specs.OpenFiles.{AreBatchesOf, AreUsableFiles};
+ghost use Rattle.engine.specs.StoreFiles.{AreOrderedNumbers};
 ghost use Rattle.engine.specs.OpenFiles.{FilesHold, FilesOpenAs, OpeningRefusal, batch_count};
 ghost use Rattle.engine.specs.OpenFiles.{known_facts, known_version};
 ghost use Rattle.engine.specs.Openings.{AreParts, FilesAreRead, PartsHold, WereParts, kept_files};

@@ -24,7 +24,8 @@ use Rattle.lab.specs.declared.node_state.NodeState.{NodeState}
 use Rattle.lab.specs.declared.node_state.NodeState.TheVariants.{Up, Down}
 use Rattle.lab.specs.Outcomes.{HasCrashed, DiskEnds, DiskFits, DiskStays, IsExplained}
 use Rattle.lab.specs.Outcomes.{has_struck_in}
-use Rattle.lab.specs.Disks.{junk_of, IsCrashOf, IsEndOf, IsStopOf, DiskFollows, DisksFollow}
+use Rattle.lab.specs.Disks.{junk_of, HasGrown, IsCrashOf, IsEndOf, IsStopOf, DiskFollows}
+use Rattle.lab.specs.Disks.{DisksFollow}
 use Rattle.lab.specs.Disks.{before_crash, has_reached, junk_at_end, past_of_step}
 use Rattle.lab.specs.Events.{reported_cause, told_cause}
 use Rattle.lab.specs.SimNodes.{Choice, StateRefines, IsDown, disk_in, is_honest, state, failures}
@@ -214,27 +215,31 @@ module _ {g : Ghosts Slots} (old : Slots) (new : NodeState Slots g) (may : MayRi
     pub follows : (did : StepOutcome) → StateRefines is_honest state new x n → StruckSo →
         StopsSo event choice did o.stopped →
         DiskFits state failures past_states (junk_of event.kind) event.fault choice.struck did old new →
-        IsExplained (state old) choice.struck did →
+        IsExplained (state old) choice.struck did → HasGrown past_states old (disk_in new) →
         DiskFollows state failures past_states event choice o n old (disk_in new)
-    follows (done.Answered output) is struck ends left why = record {
+    follows (done.Answered output) is struck ends left why grown = record {
+      grows = grown;
       fault = answered_so struck ends left;
       stops = λ stops. absurd (false≢true (sym ends ∙ stops));
       count = λ _. left.count;
       rests = λ _. λ off. left.same (rests_so new x n is off);
     }
-    follows (done.Started epoch count committed) is struck ends left why = record {
+    follows (done.Started epoch count committed) is struck ends left why grown = record {
+      grows = grown;
       fault = answered_so struck ends left;
       stops = λ stops. absurd (false≢true (sym ends ∙ stops));
       count = λ _. left.count;
       rests = λ _. λ off. left.same (rests_so new x n is off);
     }
-    follows (done.Tended did) is struck ends left why = record {
+    follows (done.Tended did) is struck ends left why grown = record {
+      grows = grown;
       fault = answered_so struck ends left;
       stops = λ stops. absurd (false≢true (sym ends ∙ stops));
       count = λ _. left.count;
       rests = λ _. λ off. left.same (rests_so new x n is off);
     }
-    follows (done.Stopped traced) is struck ends left why = record {
+    follows (done.Stopped traced) is struck ends left why grown = record {
+      grows = grown;
       fault = subst (λ (b : Bool). ReachedIn b) (sym ends.0)
           (reached_then new event.fault choice.struck
           (is_down new (junk_of event.kind) event.fault choice.struck traced left) struck);

@@ -1,5 +1,5 @@
 -- A node that takes an input, by the state that it had.
-use Rattle.std.proofs.Common.{◌≡◌, ℕ, refl, subst}
+use Rattle.std.proofs.Common.{◌≡◌, ℕ, [], refl, subst}
 use Rattle.chain_core.specs.{Machine}
 use Rattle.disk.specs.declared.Fault.{Fault}
 use Rattle.disk.specs.declared.disk.Disk.{Ghosts}
@@ -43,6 +43,7 @@ answered_only g limit it node_input old output ready refines follows = record {
   };
   only = λ x n r reliable stops. absurd cc;
   follows = follows;
+  grows = λ x n r. ([], refl);
   forgets = λ honest unarmed. unarmed;
   limit = λ has. has;
 }

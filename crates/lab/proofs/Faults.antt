@@ -1,5 +1,6 @@
 -- What a fault makes of the disk that was armed with it, once a step made its calls.
-use Rattle.std.proofs.Common.{◌≡◌, ◌↔◌, ℕ, zero, suc, ◌+◌, ◌≤◌, Bool, List, [], ◌∷◌, Option, Some, None, length}
+use Rattle.std.proofs.Common.{◌≡◌, ◌↔◌, ℕ, zero, suc, ◌+◌, ◌≤◌, Bool, List, [], ◌∷◌, ◌++◌, Option, Some, None}
+use Rattle.std.proofs.Common.{length}
 use Rattle.std.proofs.Common.{true, false, refl, sym, ap, subst, ◌∙◌, arith, le-leb, leb-true}
 use Rattle.std.proofs.Common.{◌⊎◌, inl, inr}
 use Rattle.std.proofs.lemmas.Bool.{false≢true}
@@ -8,7 +9,8 @@ use Rattle.disk.specs.declared.Fault.TheVariants as fault
 use Rattle.disk.specs.declared.Junk.{Junk}
 use Rattle.disk.specs.declared.disk.Disk.{Ghosts}
 use Rattle.disk.specs.{HasStruck, HasStruckBy, IsArmed, IsLastLeft, IsSame, KeepsDisk, RisesByOne}
-use Rattle.disk.specs.{State}
+use Rattle.disk.specs.{AllLeave, AlwaysLeaves, Contents, State}
+use Rattle.disk.specs.{AllLeave as later}
 use Rattle.disk.specs.{armed_after, struck_call}
 use Rattle.node.specs.declared.Stop.{Stop as Cause}
 use Rattle.node.specs.declared.Stop.TheVariants.{Disk, Damaged, Memory, NotCreated}
@@ -17,7 +19,7 @@ use Rattle.lab.specs.declared.input.StepOutcome.TheVariants as done
 use Rattle.lab.specs.declared.node_state.NodeState.{NodeState}
 use Rattle.lab.specs.declared.node_state.NodeState.TheVariants.{Up, Down}
 use Rattle.node.specs.{HasLongFile, IsEnvironmental, disk_of}
-use Rattle.lab.specs.Disks.{before_crash, has_reached, junk_at_end}
+use Rattle.lab.specs.Disks.{HasGrown, before_crash, has_reached, junk_at_end}
 use Rattle.lab.specs.Events.{told_cause}
 use Rattle.lab.specs.Outcomes.{DiskEnds, DiskFits, HasCrashed, IsExplained, StopsByItself}
 use Rattle.lab.specs.Outcomes.{has_struck_in}
@@ -74,6 +76,33 @@ true_or false fails = inr (fails refl)
 -- two states with the same slots are the same
 pub same_state : {old new : State} → IsSame old new → old ≡ new
 same_state same = λ i. λ file. (sym (same file)) i
+
+-- ---- the states that a disk has had
+
+-- those that came since are in front of the others
+grown_by : (P : Contents → Type 0) (past since : List State) → AllLeave P past since →
+    (more : List State) × (since ≡ more ++ past)
+grown_by P past since (later.None) = ([], refl)
+grown_by P past since (later.Then now between only rest) =
+    let more = grown_by P past between rest in
+    (now ∷ more.0, ap (λ (l : List State). now ∷ l) more.1)
+
+-- a disk that was armed, and whose calls left this one, has grown
+pub grown_since : {D : Type 0} (g : Ghosts D) (P : Contents → Type 0) (old armed left new : D) →
+    g.past armed ≡ g.past old → AlwaysLeaves g armed left P → g.past new ≡ g.past left →
+    HasGrown g.past old new
+grown_since g P old armed left new arms leaves same =
+    let more = grown_by P (g.past armed) (g.past left) leaves.later in
+    (more.0, same ∙ more.1 ∙ ap (λ (l : List State). more.0 ++ l) arms)
+
+-- .. and a crash adds one state
+pub crash_grows : {D : Type 0} (g : Ghosts D) (junk : Junk) (old left : D) (new : NodeState D g) →
+    HasCrashed g.state g.failures g.past junk left new → HasGrown g.past old left →
+    HasGrown g.past old (disk_in new)
+crash_grows g junk old left (Up node) crashed grown = absurd crashed
+crash_grows g junk old left (Down disk) crashed grown =
+    let now = crashed.moment.0 in
+    (now ∷ grown.0, crashed.moment.2 ∙ ap (λ (l : List State). now ∷ l) grown.1)
 
 -- ---- the calls of a step
 
@@ -235,6 +264,10 @@ module _ {D : Type 0} (g : Ghosts D) (it : Fault) (old : D) where
           (ends_by (junk_at_end it (struck_at left)) (struck_at left) stop left new crashed
           (crashes (struck_at left) was.strikes was.honest).1
           (λ is. was.failed (from is)) (λ other. was.count (λ fails. other (to fails))))))
+
+      -- its disk has grown by what the step left, and by the crash
+      pub grown_end : HasGrown g.past old left → HasGrown g.past old (disk_in new)
+      grown_end grown = crash_grows g (junk_at_end it (struck_at left)) old left new crashed grown
 
       -- it stopped for its disk as the fault struck, or as a file was long
       pub explained : g.is_reliable old → (cause → HasLongFile (g.state old)) →

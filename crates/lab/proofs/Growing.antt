@@ -18,7 +18,7 @@ use Rattle.lab.specs.Events.{modelled, lines_of_event, ChoiceFits}
 use Rattle.lab.specs.SimNodes.{Choice, IsUnarmed, state, failures}
 use Rattle.lab.specs.Traces.{modelled_from, lines_from, AllFit}
 use Rattle.lab.specs.Worlds.{PostedRefines, SimNodeRefines, RunRefines, frames_in_steps}
-use Rattle.lab.specs.Worlds.{frames_of_step}
+use Rattle.lab.specs.Worlds.{AllNodesFollow, HaveLogLimit, NodesFollow, frames_of_step}
 
 -- one event more at the end
 module _ (cs : Configurations) (e : Event) (ch : Choice) where
@@ -89,6 +89,44 @@ module _ (cs : Configurations) (e : Event) (ch : Choice) where
     follow-push (suc i) k es chs (state_after cs w (modelled i f.kind c)) all.0 disks new
         (omega arith) (omega arith) all.2 one,
   )
+
+  pub nodes-push : (limit i k : ℕ) (es : List Event) (chs : List Choice)
+      (w : SystemState BatchContent) (old sims new : List SimNode) →
+      length chs ≡ length es → k ≡ i + length es →
+      AllNodesFollow cs limit i es chs w old sims →
+      let u = run cs (modelled_from i es chs) w in
+      let o = outcome u cs (modelled k e.kind ch) in
+      NodesFollow o.acted_on e ch o sims new → HaveLogLimit new limit →
+      AllNodesFollow cs limit i (es ++ e ∷ []) (chs ++ ch ∷ []) w old new
+  nodes-push limit i k [] [] w old sims new same at all one has = (
+    new,
+    subst (λ (l : List SimNode). let o = outcome w cs (modelled i e.kind ch) in
+        NodesFollow o.acted_on e ch o l new) all
+        (subst (λ (j : ℕ). let o = outcome w cs (modelled j e.kind ch) in
+        NodesFollow o.acted_on e ch o sims new) (omega arith) one),
+    has,
+    refl,
+  )
+  nodes-push limit i k [] (c ∷ chs) w old sims new same at all one has = absurd (omega arith)
+  nodes-push limit i k (f ∷ es) [] w old sims new same at all one has = absurd all
+  nodes-push limit i k (f ∷ es) (c ∷ chs) w old sims new same at all one has = (
+    all.0,
+    all.1,
+    all.2,
+    nodes-push limit (suc i) k es chs (state_after cs w (modelled i f.kind c)) all.0 sims new
+        (omega arith) (omega arith) all.3 one has,
+  )
+
+-- nodes that follow from some with this limit for logs have it
+pub follow_limited : (cs : Configurations) (limit i : ℕ) (es : List Event) (chs : List Choice)
+    (w : SystemState BatchContent) (old new : List SimNode) →
+    AllNodesFollow cs limit i es chs w old new → HaveLogLimit old limit → HaveLogLimit new limit
+follow_limited cs limit i [] chs w old new all has =
+    subst (λ (l : List SimNode). HaveLogLimit l limit) (sym all) has
+follow_limited cs limit i (e ∷ es) [] w old new all has = absurd all
+follow_limited cs limit i (e ∷ es) (ch ∷ chs) w old new all has =
+    follow_limited cs limit (suc i) es chs (state_after cs w (modelled i e.kind ch)) all.0 new all.3
+    all.2
 
 -- each event has its lines
 pub length-lines_from : (cs : Configurations) (i : ℕ) (es : List Event) (chs : List Choice)

@@ -1,6 +1,6 @@
 -- A run of the model has one history; so have a report of it, and a world that goes on.
 use Rattle.std.proofs.Common.{◌≡◌, ℕ, List, true, sym, subst, ◌∙◌}
-use Rattle.std.specs.Prelude.{All}
+use Rattle.std.specs.Prelude.{All, IfOk, Result, Ok, Err}
 use Rattle.std.specs.List.{AllZip, flat_map}
 use Rattle.std.proofs.lemmas.List.Elements.{All-weaker, recursion_from_All}
 use Rattle.kv_types.specs.{BatchContent}
@@ -27,7 +27,9 @@ use Rattle.lab.specs.SimNodes.{Choice, IsUnarmed, StateRefines, disk_in, is_hone
 use Rattle.lab.specs.SimNodes.{failures}
 use Rattle.lab.specs.Runs.{IsRun, RunningRefines}
 use Rattle.lab.specs.Traces.{modelled_from, IsTrace}
+use Rattle.lab.specs.declared.world.World.{World}
 use Rattle.lab.specs.Worlds.{SimNodeRefines, IsLeft, AreLeft, RunRefines}
+use Rattle.lab.specs.Worlds.{AreNodesAfter, AreReportsAfter, HasOneLogLimit, HasRun, IsReportOf}
 use Rattle.lab.proofs.Histories.{numbered_same, submitted_same, all_speak}
 use Rattle.lab.proofs.Nodes.{reported_ids}
 
@@ -142,3 +144,24 @@ module _ (sims : List SimNode) (posted : List Posted) (cs : Configurations) (eve
               stands = law sim sim.id (machines sim.id) refined_at.is;
             }) sims made.each;
       }
+
+-- a report of a world that has run these events is of the nodes that they left, with its limit for
+-- logs
+pub reported_run : {E : Type 0} (world : World) (cs : Configurations) (limit : ℕ)
+    (events : List Event) (choices : List Choice) (steps : List (List Line)) →
+    HasRun world cs events choices steps → HasOneLogLimit world limit → (result : Result Report E) →
+    IfOk result (IsRun cs events choices) →
+    IfOk result (λ report. AllZip IsReportOf world.nodes.items report.nodes.items) →
+    IfOk result (λ report. (choices : List Choice) × IsRun cs events choices report
+    × AreReportsAfter cs limit events choices report.nodes.items)
+reported_run world cs limit events choices steps run has (Ok report) is own = (
+  choices,
+  is,
+  record {
+    sims = world.nodes.items;
+    after = subst (λ (n : ℕ). AreNodesAfter cs n events choices world.nodes.items) has.given
+        run.came;
+    own = own;
+  },
+)
+reported_run world cs limit events choices steps run has (Err e) is own = tt

@@ -1,5 +1,5 @@
 -- A step of the lab's world is a step of the model's.
-use Rattle.std.proofs.Common.{◌≡◌, ℕ, ◌+◌, ◌≤◌, ◌<◌, List, [], ◌∷◌, ◌++◌, length, get_or, slice_set}
+use Rattle.std.proofs.Common.{◌≡◌, ℕ, suc, ◌+◌, ◌≤◌, ◌<◌, List, [], ◌∷◌, ◌++◌, length, get_or, slice_set}
 use Rattle.std.proofs.Common.{Bool, true, false}
 use Rattle.std.proofs.Common.{refl, sym, ap, subst, ◌∙◌, arith, append-nil}
 use Rattle.std.proofs.Math.Seq.{map-set_same}
@@ -51,13 +51,13 @@ use Rattle.lab.specs.Outcomes.{DiskFits, HasCrashed, IsExplained, OutcomeRefines
 use Rattle.lab.specs.Outcomes.{HasTended, Halts, Tends, TendsNot, TellsTended}
 use Rattle.lab.specs.Outcomes.{has_struck_in, input_junk, sent_by}
 use Rattle.lab.proofs.Outcomes.{TellsChosen}
-use Rattle.lab.specs.Disks.{DiskFollows, junk_of, IsCrashOf}
+use Rattle.lab.specs.Disks.{DiskFollows, HasGrown, junk_of, IsCrashOf}
 use Rattle.lab.specs.Traces.{modelled_from}
 use Rattle.lab.specs.Worlds.{PostedRefines, SimNodeRefines, HasMoved, HasNoNode, HasStepped}
 use Rattle.lab.specs.Worlds.{RunRefines}
 use Rattle.lab.specs.Worlds.{HasRun}
 use Rattle.lab.specs.Worlds.{FollowRun, HasApplied, HasDelivered, HasPassed, HasStayed, Ignores}
-use Rattle.lab.specs.Worlds.{HaveLogLimit, IsIndexOf, KeepsLogLimit, NodesFollow}
+use Rattle.lab.specs.Worlds.{AreNodesAfter, HaveLogLimit, IsIndexOf, KeepsLogLimit, NodesFollow}
 use Rattle.lab.specs.Worlds.{Takes}
 use Rattle.lab.specs.Worlds.{frames_of_step}
 use Rattle.lab.proofs.Posting.{zip_both}
@@ -65,7 +65,7 @@ use Rattle.lab.proofs.Deliveries.{refined, nothing_done, junk_same}
 use Rattle.lab.proofs.Disks.{MayRise, with_disk, all_follow, none_follow, follows, few_more}
 use Rattle.lab.proofs.Disks.{at_most_one, none_armed, stops_so}
 use Rattle.lab.proofs.SimNodes.{ids_of, has_at, has_one, refined_at}
-use Rattle.lab.proofs.Growing.{length-steps, grown, run-push}
+use Rattle.lab.proofs.Growing.{follow_limited, length-steps, grown, nodes-push, run-push}
 use Rattle.lab.proofs.Addressees.{IsNumbered, addressed, all_numbered, back, kept_all}
 
 -- the delivery that was found is that of the event, by the frames that are posted
@@ -147,9 +147,12 @@ pub moved : (old : List SimNode) (i x : ℕ) (between was was' now : SimNode)
     IsReliable (disk_in was.state) →
     IsExplained (state (disk_in was.state)) (struck_by it was now) did) →
     StateFollows is_honest state failures past_states was.state node_input now.state →
+    ((y : ℕ) (n : Machine) → StateRefines is_honest state was.state y n →
+    HasGrown past_states (disk_in was.state) (disk_in now.state)) →
     (IsUnarmed (disk_in was.state) → IsUnarmed (disk_in now.state)) →
     HasMoved old x node_input it did (slice_set (slice_set old i between) i now)
-moved old i x between was was' now node_input it did at out id refines disk only follows forgets =
+moved old i x between was was' now node_input it did at out id refines disk only follows grows
+    forgets =
     let is : was ≡ get_or old i now = out ∙ get_or_default old i was' now at.within in
     record {
       index = i;
@@ -169,6 +172,9 @@ moved old i x between was was' now node_input it did at out id refines disk only
           IsExplained (state (disk_in s.state)) (struck_by it s now) did) is only;
       follows = subst (λ (s : SimNode). StateFollows is_honest state failures past_states s.state
           node_input now.state) is follows;
+      grows = subst (λ (s : SimNode). (y : ℕ) (n : Machine) →
+          StateRefines is_honest state s.state y n →
+          HasGrown past_states (disk_in s.state) (disk_in now.state)) is grows;
       forgets = subst (λ (s : SimNode). IsUnarmed (disk_in s.state) →
           IsUnarmed (disk_in now.state)) is forgets;
     }
@@ -295,9 +301,11 @@ module _ (in_order : AlwaysInOrder) (cs : Configurations) (events : List Event)
       subst (λ (b : Bool). IsExplained (state (made.disks x)) b t.did) (sym out.chose)
       (subst (λ (d : Slots). IsExplained (state d) struck t.did) slots
       (t.took.only x (w.nodes x) before reliable)) in
+      let grows = subst (λ (d : Slots). HasGrown past_states d own) slots
+      (t.took.grows x (w.nodes x) before) in
       let o = outcome w cs (modelled i event.kind out.choice) in
       let follow = follows (made.disks x) sim.state may event out.choice o x out.node t.did out.is so
-      out.ends left why in
+      out.ends left why grows in
       let id : sim.id ≡ x = t.took.id in
       let long = AllZip-long PostedRefines posted w.frames made.frames in
       let came = grown cs events choices steps sims posted made i event out.choice now more lines
@@ -465,6 +473,31 @@ passed_keeps old new event p limit has = record {
   nodes = subst (λ (l : List SimNode). HaveLogLimit l limit) (sym p.nodes) has.nodes;
 }
 
+-- the nodes of a world with one event more, where it kept its limit for logs
+came_next : (cs : Configurations) (events : List Event) (choices : List Choice)
+    (steps : List (List Line)) (old new : LabWorld) → HasRun old cs events choices steps →
+    (event : Event) (choice : Choice) →
+    FollowRun cs events choices event choice old.nodes.items new.nodes.items →
+    KeepsLogLimit old new →
+    AreNodesAfter cs new.limits.log (events ++ event ∷ []) (choices ++ choice ∷ []) new.nodes.items
+came_next cs events choices steps old new run event choice follow keeps =
+    let limit = old.limits.log in
+    let came = run.came in
+    let has = keeps limit (record {
+      given = refl;
+      nodes = follow_limited cs limit 1 events choices (first_state cs) came.first old.nodes.items
+          came.follow came.created.limit;
+    }) in
+    subst (λ (n : ℕ). AreNodesAfter cs n (events ++ event ∷ []) (choices ++ choice ∷ [])
+    new.nodes.items) (sym has.given) (record {
+      first = came.first;
+      created = came.created;
+      follow = nodes-push cs event choice limit 1 (suc (length events)) events choices
+          (first_state cs) came.first old.nodes.items new.nodes.items run.made.trace.one_each
+          (omega arith)
+          came.follow follow has.nodes;
+    })
+
 -- The next event of a world, by what it was found to bring.
 module _ (in_order : AlwaysInOrder) (cs : Configurations) (events : List Event)
     (choices : List Choice) (steps : List (List Line)) (old new : LabWorld)
@@ -486,6 +519,8 @@ module _ (in_order : AlwaysInOrder) (cs : Configurations) (events : List Event)
       let choice = grows.choice in
       let Refines : List SimNode → List Posted → Type 0 = λ now posts. RunRefines now posts cs
       (events ++ event ∷ []) (choices ++ choice ∷ []) (steps ++ lines ∷ []) in
+      let follow = subst (λ (l : List SimNode). FollowRun cs events choices event choice sims l)
+      (sym p.nodes) grows.nodes in
       Takes (nothing_named in_order cs events choices steps sims posted run.made i next event found
       fits none)
       (record {
@@ -496,9 +531,10 @@ module _ (in_order : AlwaysInOrder) (cs : Configurations) (events : List Event)
           taken = p.keeps.taken ∙ ap (λ (l : List Event). l ++ event ∷ []) run.taken;
           made = subst (λ (l : List SimNode). Refines l new.frames.items) (sym p.nodes)
               (subst (λ (l : List Posted). Refines sims l) (sym p.frames) grows.ran);
+          came = came_next cs events choices steps old new run event choice follow
+              (passed_keeps old new event p);
         };
-        nodes = subst (λ (l : List SimNode). FollowRun cs events choices event choice sims l)
-            (sym p.nodes) grows.nodes;
+        nodes = follow;
       })
 
   -- one that is for a node is applied by the node's step
@@ -518,6 +554,8 @@ module _ (in_order : AlwaysInOrder) (cs : Configurations) (events : List Event)
           kept = h.keeps.kept ∙ ap (λ (a : List (List Line)). a ++ h.lines ∷ []) run.kept;
           taken = h.keeps.taken ∙ ap (λ (l : List Event). l ++ event ∷ []) run.taken;
           made = grows.ran;
+          came = came_next cs events choices steps old new run event grows.choice grows.nodes
+              h.limits;
         };
         nodes = grows.nodes;
       })

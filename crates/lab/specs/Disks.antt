@@ -1,5 +1,5 @@
 -- What a run leaves of its nodes' disks, event by event.
-use Rattle.std.specs.Prelude.{◌≡◌, ℕ, suc, ◌+◌, nat_le, List, [], ◌∷◌, length, map}
+use Rattle.std.specs.Prelude.{◌≡◌, ℕ, suc, ◌+◌, nat_le, List, [], ◌∷◌, ◌++◌, length, map}
 use Rattle.std.specs.Prelude.{◌⊎◌, All, Bool, true, false, Option, Some, None}
 use Rattle.kv_types.specs.{BatchContent}
 use Rattle.disk.specs.declared.Fault.{Fault}
@@ -62,15 +62,14 @@ junk_at_end (fault.Fail call) struck = Old
 junk_at_end fault.None struck = Old
 
 -- A node stopped by itself. If it stopped for the disk, one call of that failed, else none; and its
--- disk is what a crash with this junk leaves of the state that the step left.
+-- disk is what a crash with this junk leaves of the last state that it had.
 pub record IsEndOf {D : Type 0} (state : D → State) (failures : D → ℕ) (past : D → List State)
     (junk : Junk) (choice : Choice) (old new : D) : Type 0 where
   pub failed : choice.cause ≡ Disk → failures new ≡ failures old + 1
   pub others : (choice.cause ≡ Disk → ⊥) → failures new ≡ failures old
   -- a call fails only where the fault struck, or where a file was nearly as long as one can be
   pub only : choice.cause ≡ Disk → (choice.struck ≡ true) ⊎ HasLongFile (state old)
-  -- the state that the step left; where the fault struck, its call left it, and the later ones
-  -- changed nothing
+  -- the last state before the crash
   pub left : State
   pub last : IsLastLeft (before_crash (past new)) left
   pub crashes : CrashOutcome junk left (state new)
@@ -83,10 +82,16 @@ IsStopOf state failures past (Some junk) fault choice old new =
 IsStopOf state failures past None fault choice old new =
     IsEndOf state failures past (junk_at_end fault choice.struck) choice old new
 
+-- a disk has had the states that it had before, and perhaps more since
+abbrev pub HasGrown : {D : Type 0} → (D → List State) → D → D → Type 0
+HasGrown past old new = (since : List State) × (past new ≡ since ++ past old)
+
 -- what an event leaves of the disk of the node that it was for, which is n after it
 pub record DiskFollows {D : Type 0} (state : D → State) (failures : D → ℕ)
     (past : D → List State) (event : Event)
     (choice : Choice) (o : model.Outcome BatchContent) (n : Machine) (old new : D) : Type 0 where
+  -- it is the same disk
+  pub grows : HasGrown past old new
   -- the fault struck exactly where the disk has had so many calls in the step
   pub fault : choice.struck ≡ has_reached (struck_call event.fault) (length (past old))
       (length (past_of_step o.stopped (past new)))

@@ -31,7 +31,7 @@ use Rattle.lab.specs.declared.node_state.NodeState.{NodeState}
 use Rattle.lab.specs.declared.node_state.NodeState.TheVariants.{Up, Down}
 use Rattle.lab.specs.declared.report.Line.{Line}
 use Rattle.lab.specs.declared.report.Line.TheVariants as line
-use Rattle.lab.specs.Disks.{IsCrashOf, before_crash, has_reached, junk_at_end}
+use Rattle.lab.specs.Disks.{HasGrown, IsCrashOf, before_crash, has_reached, junk_at_end}
 use Rattle.lab.specs.Events.{dropped_lines, told_cause}
 use Rattle.lab.specs.SimNodes.{HasLogLimit, StateIsReady, StateRefines, IsDown, disk_in}
 
@@ -276,6 +276,9 @@ pub record HasDispatched {D : Type 0} (g : Ghosts D) (log_limit : ℕ) (fault : 
       g.is_reliable (disk_in old) → IsExplained (g.state (disk_in old))
       (has_struck_in g.past fault (disk_in old) new) did
   pub follows : StateFollows g.is_honest g.state g.failures g.past old node_input new
+  -- it has the same disk
+  pub grows : (x : ℕ) (n : Machine) → StateRefines g.is_honest g.state old x n →
+      HasGrown g.past (disk_in old) (disk_in new)
   -- the fault is forgotten
   pub forgets : g.is_honest (disk_in old) → g.fault_at (disk_in old) ≡ None →
       g.fault_at (disk_in new) ≡ None

@@ -36,7 +36,7 @@ use Rattle.lab.specs.SimNodes.{HasLogLimit, IsDown, IsUnarmed}
 use Rattle.lab.specs.Events.{NamesNode, modelled}
 use Rattle.lab.specs.Outcomes.{OutcomeRefines, DiskFits, StateFollows, input_junk, sent_by}
 use Rattle.lab.specs.Outcomes.{IsExplained, has_struck_in, outcome_lines}
-use Rattle.lab.specs.Disks.{AreDisksAfter, DiskFollows, HaveDisks, IsDiskOf, IsCrashOf}
+use Rattle.lab.specs.Disks.{AreDisksAfter, DiskFollows, HasGrown, HaveDisks, IsDiskOf, IsCrashOf}
 use Rattle.lab.specs.History.{IsHistory}
 use Rattle.lab.specs.Runs.{RunningRefines}
 use Rattle.lab.specs.Traces.{modelled_from, IsTrace}
@@ -170,6 +170,9 @@ pub record HasMoved (sims : List SimNode) (x : ℕ) (node_input : NodeInput) (fa
       (has_struck_in past_states fault (disk_in (get_or sims index sim).state) sim.state) did
   pub follows : StateFollows is_honest state failures past_states (get_or sims index sim).state node_input
       sim.state
+  pub grows : (y : ℕ) (n : Machine) →
+      StateRefines is_honest state (get_or sims index sim).state y n →
+      HasGrown past_states (disk_in (get_or sims index sim).state) (disk_in sim.state)
   -- the fault is forgotten
   pub forgets : IsUnarmed (disk_in (get_or sims index sim).state) → IsUnarmed (disk_in sim.state)
 
@@ -232,17 +235,45 @@ pub record RunRefines (sims : List SimNode) (posted : List Posted) (cs : Configu
   pub each : All (SimNodeRefines (model_frame.node_of cs (modelled_from 1 events choices)) disks)
       sims
 
+-- What the events from place i on leave of these nodes, one event after another, from a state of the
+-- model on. Behind each of them those that are up have this limit for logs.
+abbrev pub AllNodesFollow : Configurations → ℕ → ℕ → List Event → List Choice
+    → model_frame.SystemState BatchContent → List SimNode → List SimNode → Type 0
+AllNodesFollow cs log_limit i [] choices w old new = new ≡ old
+AllNodesFollow cs log_limit i (event ∷ events) [] w old new = ⊥
+AllNodesFollow cs log_limit i (event ∷ events) (choice ∷ choices) w old new =
+    let o = model_frame.outcome w cs (modelled i event.kind choice) in
+    (next : List SimNode) × NodesFollow o.acted_on event choice o old next
+    × HaveLogLimit next log_limit
+    × AllNodesFollow cs log_limit (suc i) events choices (model_frame.after w o) next new
+
+-- The nodes that a run leaves: they were created with the first configuration and this limit for
+-- logs, and each event left nodes that follow from those before it.
+pub record AreNodesAfter (cs : Configurations) (log_limit : ℕ) (events : List Event)
+    (choices : List Choice) (sims : List SimNode) : Type 0 where
+  pub first : List SimNode
+  pub created : AreCreated (at_epoch cs 0) (at_epoch cs 0) log_limit first
+  pub follow : AllNodesFollow cs log_limit 1 events choices (model_frame.first_state cs) first sims
+
+-- the reports are of the nodes that a run leaves, one of each in order
+pub record AreReportsAfter (cs : Configurations) (log_limit : ℕ) (events : List Event)
+    (choices : List Choice) (reports : List NodeReport) : Type 0 where
+  pub sims : List SimNode
+  pub after : AreNodesAfter cs log_limit events choices sims
+  pub own : AllZip IsReportOf sims reports
+
 -- the events that were applied
 abbrev pub events_in : List EventRecord → List Event
 events_in taken = map (λ it. it.event) taken
 
 -- the world has applied these events, in each of which was chosen so, and keeps them and the lines
--- of each
+-- of each; its nodes came of them, with its limit for logs
 pub record HasRun (world : World) (cs : Configurations) (events : List Event)
     (choices : List Choice) (steps : List (List Line)) : Type 0 where
   pub kept : world.steps.items ≡ steps
   pub taken : events_in world.events.items ≡ events
   pub made : RunRefines world.nodes.items world.frames.items cs events choices steps
+  pub came : AreNodesAfter cs world.limits.log events choices world.nodes.items
 
 -- the world kept an event with its lines
 pub record HasKept (old new : World) (event : Event) (lines : List Line) : Type 0 where

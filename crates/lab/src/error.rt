@@ -8,6 +8,8 @@ use thiserror::Error;
 /// Why a run has no report.
 #[derive(Clone, Copy, Debug, PartialEq, Eq, Error)]
 pub enum LabError {
+    /// Memory ran out, also where a node could not be created; no number is left for an event; or
+    /// the world is at its end.
     #[error("out of memory")]
     Memory = 1,
 }

@@ -19,6 +19,7 @@ pub struct Event {
 }
 
 impl Event {
+    /// The same event. Refused where memory runs out.
     pub fn clone(&self) -> Result<Event, AllocError>
         ensures { IfOk result (λ event. event ≡ self.now) }
     {
@@ -34,8 +35,11 @@ pub struct EventRecord {
     pub event: Event,
 }
 
+/// What happens, apart from a fault of the disk: a client's request, a frame that arrives, a turn of a
+/// node, or a start or stop of its machine.
 #[derive(Drop)]
 pub enum EventKind {
+    /// A client's batch.
     Submit {
         node: NodeId,
         batch: Batch,
@@ -59,6 +63,7 @@ pub enum EventKind {
     Tend {
         node: NodeId,
     },
+    /// A node that is down opens its disk and runs. One that runs drops it.
     Start {
         node: NodeId,
     },
@@ -85,6 +90,7 @@ impl EventKind {
         }
     }
 
+    /// The same kind. Refused where memory runs out.
     pub fn clone(&self) -> Result<EventKind, AllocError>
         ensures { IfOk result (λ kind. kind ≡ self.now) }
     {
@@ -120,7 +126,7 @@ pub fn names_node(configs: &Configs, kind: &EventKind) -> bool
     }
 }
 
-/// Whether each of the events does, as `run` requires.
+/// Whether each event that names a node names one of the first configuration, as `run` requires.
 pub fn names_nodes(configs: &Configs, events: &[Event]) -> bool
     ensures { IsTrue result ↔ NamesNodes configs.now events.now }
 {

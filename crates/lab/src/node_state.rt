@@ -6,7 +6,7 @@ ghost use Rattle.disk.specs.{HasStruck, IsLastLeft};
 ghost use Rattle.chain_core.specs.{Machine};
 ghost use Rattle.node.specs.{DiskAlwaysRefines, IsReady, NodeRefines, StopRefines, disk_of};
 ghost use Rattle.node.specs.{log_limit_of};
-ghost use Rattle.lab.specs.Disks.{junk_at_end};
+ghost use Rattle.lab.specs.Disks.{HasGrown, junk_at_end};
 ghost use Rattle.lab.specs.Events.{told_cause};
 ghost use Rattle.lab.specs.SimNodes.{DownRefines, HasLogLimit, StateRefines, StateIsReady, disk_in};
 ghost use Rattle.lab.specs.Outcomes.{DiskFits, HasCrashed, HasHandled, HasStarted, HasDispatched};
@@ -89,6 +89,8 @@ fn start<D: Crash + Drop>(
         (has_struck_in D.past fault disk result.0) result.1 disk result.0 }
     ensures only { D.is_honest disk → D.is_reliable disk → IsExplained (D.state disk)
         (has_struck_in D.past fault disk result.0) result.1 }
+    ensures grows { (x : ℕ) (n : Machine) → DownRefines D.is_honest D.state disk x n →
+        HasGrown D.past disk (disk_in result.0) }
     ensures forgets { D.is_honest disk → D.fault_at (disk_in result.0) ≡ None }
     ensures limit { HasLogLimit result.0 limits.now.log }
 {
@@ -128,6 +130,8 @@ fn step<D: Crash + Drop>(
     ensures only { (x : ℕ) (n : Machine) → NodeRefines D.is_honest D.state node x n →
         D.is_reliable (disk_of node) → IsExplained (D.state (disk_of node))
         (has_struck_in D.past fault (disk_of node) result.0) result.1 }
+    ensures grows { (x : ℕ) (n : Machine) → NodeRefines D.is_honest D.state node x n →
+        HasGrown D.past (disk_of node) (disk_in result.0) }
     ensures forgets { D.is_honest (disk_of node) → D.fault_at (disk_in result.0) ≡ None }
     ensures limit { HasLogLimit result.0 (log_limit_of node) }
 {
@@ -162,6 +166,8 @@ fn tend<D: Crash + Drop>(
     ensures only { (x : ℕ) (n : Machine) → NodeRefines D.is_honest D.state node x n →
         D.is_reliable (disk_of node) → IsExplained (D.state (disk_of node))
         (has_struck_in D.past fault (disk_of node) result.0) result.1 }
+    ensures grows { (x : ℕ) (n : Machine) → NodeRefines D.is_honest D.state node x n →
+        HasGrown D.past (disk_of node) (disk_in result.0) }
     ensures forgets { D.is_honest (disk_of node) → D.fault_at (disk_in result.0) ≡ None }
     ensures limit { HasLogLimit result.0 (log_limit_of node) }
 {

@@ -69,6 +69,7 @@ impl Lines {
         Lines { lines }
     }
 
+    /// The lines in order.
     pub fn as_slice(&self) -> &[Line]
         ensures { result.now ≡ self.now }
     {

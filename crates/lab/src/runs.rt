@@ -4,6 +4,7 @@ ghost use Rattle.lab.specs.Events.{NamesNodes};
 ghost use Rattle.lab.specs.Runs.{IsRun};
 ghost use Rattle.lab.specs.SimNodes.{Choice};
 ghost use Rattle.lab.specs.History.{OneHistory};
+ghost use Rattle.lab.specs.Worlds.{AreReportsAfter};
 
 use crate::{Event, LabError, Report, World};
 use configurations::Configs;
@@ -20,7 +21,8 @@ pub fn run(
 ) -> Result<Report, LabError>
     requires named { NamesNodes configs.now events.now }
     ensures run { IfOk result (λ report. (choices : List Choice)
-        × IsRun configs.now events.now choices report) }
+        × IsRun configs.now events.now choices report
+        × AreReportsAfter configs.now limits.now.log events.now choices report.nodes.items) }
     ensures history { IfOk result (OneHistory configs.now events.now) }
 {
     let mut world = World::new(alloc, configs, limits)?;

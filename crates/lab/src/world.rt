@@ -256,7 +256,8 @@ impl World {
     }
 
     /// Applies an event to the node that it is for. One that names a node which the world does not
-    /// have does nothing. After an error the world is at its end: every later step is refused.
+    /// have does nothing. After an error the world is at its end: every later step is refused, and what
+    /// `sent`, `numbers`, `report` and `events` say of it is left open.
     pub fn step(&mut self, alloc: Global, event: &Event) -> Result<(), LabError>
         ensures ran { (cs : Configurations) (events : List Event) (choices : List Choice)
             (steps : List (List Line)) →
@@ -322,7 +323,7 @@ impl World {
             HasRun self.now cs events choices steps → HasHistory self.now cs events result.now }
     {
         // laws: a run of the model has one history, and is made of its outcomes
-        one_history::<Batch>(); // law: a run has one history
+        one_history::<Batch>();
         run_is_outcomes::<Batch>();
         // law: the disk of a running node represents it
         disks_represent::<MemDisk>();
@@ -366,7 +367,7 @@ impl World {
         }
         let nodes = left_of_all(alloc, nodes)?;
         // laws: a run of the model has one history, and is made of its outcomes
-        one_history::<Batch>(); // law: a run has one history
+        one_history::<Batch>();
         run_is_outcomes::<Batch>();
         Ok(Report { steps, nodes })
     }

@@ -3,12 +3,12 @@ use Rattle.std.proofs.Common.{◌≡◌, ◌≤◌, ◌<◌, ◌+◌, ◌-◌, �
 use Rattle.std.proofs.Common.{length, map, take, drop, refl, sym, ap, ap₂, subst, ◌∙◌, arith}
 use Rattle.std.proofs.Common.{append_assoc, append-nil, length-append, Option, Some, None, get_or}
 use Rattle.std.specs.Prelude.{IfSome, slice_get}
+use Rattle.std.specs.List.{AllZip}
 use Rattle.std.specs.Option.{option_map_or}
 use Rattle.std.proofs.Common.{All, Bool, true, false, if◌then◌else◌, replicate}
 use Rattle.std.proofs.lemmas.Bool.{false≢true}
 use Rattle.std.proofs.lemmas.List.Elements.{All-cons, All-head, All-nil, All-push, All-tail}
 use Rattle.lab.specs.Machine.{without}
-use Rattle.lab.specs.Configuration.{Configurations}
 use Rattle.lab.specs.declared.Event as lab
 use Rattle.lab.specs.declared.EventKind.{EventKind}
 use Rattle.lab.specs.declared.EventKind.TheVariants.{Submit, Get, Deliver, Tick, Tend, Start, Stop}
@@ -16,7 +16,8 @@ use Rattle.lab.specs.declared.Line.{Line}
 use Rattle.lab.specs.declared.World.{World}
 use Rattle.lab.specs.declared.Report.{Report}
 use Rattle.lab.specs.declared.Numbers.{Numbers}
-use Rattle.lab.specs.{AreNumbersOf, Choice, IsRun, OneHistory, TellsTables}
+use Rattle.lab.specs.{AreNodesAfter, AreNumbersOf, Choice, IsReportOf, IsRun, OneHistory}
+use Rattle.lab.specs.{TellsTables}
 use Rattle.lab.specs.{frames_in_steps, frames_of_step}
 use Rattle.std.proofs.Math.Seq.{drop-cons}
 use Rattle.program.specs.declared.script.setup.Setup.{Setup}
@@ -93,21 +94,21 @@ pub joined_nothing : (a : Stretch) → followed_by a no_stretch ≡ a
 joined_nothing a = rw (append-nil a.events, append-nil a.choices, append-nil a.steps) refl
 
 -- so many of them were delivered
-pub record Flows (world : World) (cs : Configurations) (past : Stretch) (old left : List ℕ)
+pub record Flows (world : World) (setup : Setup) (past : Stretch) (old left : List ℕ)
     (count : ℕ) : Type 0 where
   pub own : Stretch
-  pub run : HasRunTo world cs (followed_by past own)
+  pub run : HasRunTo world setup (followed_by past own)
   pub events : own.events ≡ map delivery (take count (all_left old past.steps own.steps))
   pub each : count ≡ length own.steps
   pub behind : left ≡ drop count (all_left old past.steps own.steps)
   pub within : count ≤ length (all_left old past.steps own.steps)
   pub few : count ≤ most
 
-pub flows_none : (world : World) (cs : Configurations) (past : Stretch) (old : List ℕ) →
-    HasRunTo world cs past → Flows world cs past old old 0
-flows_none world cs past old run = record {
+pub flows_none : (world : World) (setup : Setup) (past : Stretch) (old : List ℕ) →
+    HasRunTo world setup past → Flows world setup past old old 0
+flows_none world setup past old run = record {
   own = no_stretch;
-  run = subst (λ (s : Stretch). HasRunTo world cs s) (sym (joined_nothing past)) run;
+  run = subst (λ (s : Stretch). HasRunTo world setup s) (sym (joined_nothing past)) run;
   events = refl;
   each = refl;
   behind = sym (append-nil old);
@@ -143,7 +144,7 @@ map-more [] p = refl
 map-more (x ∷ xs) p = ap (λ (l : List lab.Event). delivery x ∷ l) (map-more xs p)
 
 -- one frame more
-module _ (cs : Configurations) (past : Stretch) (old : List ℕ) where
+module _ (setup : Setup) (past : Stretch) (old : List ℕ) where
   -- all that is left grows by what is sent
   grown : (own : List (List Line)) (lines : List Line) →
       all_left old past.steps (own ++ lines ∷ []) ≡ all_left old past.steps own
@@ -159,11 +160,11 @@ module _ (cs : Configurations) (past : Stretch) (old : List ℕ) where
       (places_after (frames_in_steps (past.steps ++ own)) (frames_of_step lines)))
 
   pub flows_on : (world after : World) (left rest next : List ℕ) (count p : ℕ)
-      (f : Flows world cs past old left count) → left ≡ p ∷ rest → suc count ≤ most →
+      (f : Flows world setup past old left count) → left ≡ p ∷ rest → suc count ≤ most →
       (choice : Choice) (lines : List Line) →
-      HasRunTo after cs (followed_by (followed_by past f.own) (one_step (delivery p) choice lines)) →
+      HasRunTo after setup (followed_by (followed_by past f.own) (one_step (delivery p) choice lines)) →
       next ≡ rest ++ places_after (frames_in_steps (past.steps ++ f.own.steps))
-      (frames_of_step lines) → Flows after cs past old next (suc count)
+      (frames_of_step lines) → Flows after setup past old next (suc count)
   flows_on world after left rest next count p f first few choice lines run is =
       let all = all_left old past.steps f.own.steps in
       let new = places_after (frames_in_steps (past.steps ++ f.own.steps)) (frames_of_step lines)
@@ -175,7 +176,7 @@ module _ (cs : Configurations) (past : Stretch) (old : List ℕ) where
       ap (λ (l : List ℕ). take (suc count) l) more ∙ take_more all new rest count p front in
       record {
         own = followed_by f.own (one_step (delivery p) choice lines);
-        run = subst (λ (s : Stretch). HasRunTo after cs s)
+        run = subst (λ (s : Stretch). HasRunTo after setup s)
             (joined_assoc past f.own (one_step (delivery p) choice lines)) run;
         events = ap (λ (l : List lab.Event). l ++ delivery p ∷ []) f.events
             ∙ (sym (map-more (take count all) p) ∙ ap (λ (l : List ℕ). map delivery l) (sym taken));
@@ -216,8 +217,8 @@ length-take (x ∷ xs) zero le = refl
 length-take (x ∷ xs) (suc k) le = ap suc (length-take xs k (omega (arith, le)))
 
 -- what a flow promises
-abbrev pub HasFlowed : World → Configurations → Stretch → List ℕ → List ℕ → ℕ → Type 0
-HasFlowed world cs past old left count = (own : Stretch) × HasRunTo world cs (followed_by past own)
+abbrev pub HasFlowed : World → Setup → Stretch → List ℕ → List ℕ → ℕ → Type 0
+HasFlowed world setup past old left count = (own : Stretch) × HasRunTo world setup (followed_by past own)
     × (own.events ≡ deliveries (all_left old past.steps own.steps))
     × (count ≡ length own.steps) × (count ≡ length own.events)
     × (left ≡ drop most (all_left old past.steps own.steps))
@@ -229,10 +230,10 @@ counted xs events count is within = sym (length-take xs count within)
     ∙ (sym (length-map (take count xs)) ∙ ap length (sym is))
 
 -- no frame is left
-pub flowed_all : (world : World) (cs : Configurations) (past : Stretch) (old left : List ℕ)
-    (count : ℕ) → Flows world cs past old left count → left ≡ [] →
-    HasFlowed world cs past old left count
-flowed_all world cs past old left count f empty =
+pub flowed_all : (world : World) (setup : Setup) (past : Stretch) (old left : List ℕ)
+    (count : ℕ) → Flows world setup past old left count → left ≡ [] →
+    HasFlowed world setup past old left count
+flowed_all world setup past old left count f empty =
     let all = all_left old past.steps f.own.steps in
     let u = used_up all count most (sym empty ∙ f.behind) f.few in (
       f.own,
@@ -244,10 +245,10 @@ flowed_all world cs past old left count f empty =
     )
 
 -- the bound is reached
-pub flowed_most : (world : World) (cs : Configurations) (past : Stretch) (old left : List ℕ)
-    (count : ℕ) → Flows world cs past old left count → most ≤ count →
-    HasFlowed world cs past old left count
-flowed_most world cs past old left count f reached =
+pub flowed_most : (world : World) (setup : Setup) (past : Stretch) (old left : List ℕ)
+    (count : ℕ) → Flows world setup past old left count → most ≤ count →
+    HasFlowed world setup past old left count
+flowed_most world setup past old left count f reached =
     let same : count ≡ most = omega (arith, reached, f.few) in
     let all = all_left old past.steps f.own.steps in (
       f.own,
@@ -261,21 +262,21 @@ flowed_most world cs past old left count f reached =
 -- ---- a settle
 
 -- a node tended so often, and each tend worked
-pub record Settles (world : World) (cs : Configurations) (past : Stretch) (node : ℕ)
+pub record Settles (world : World) (setup : Setup) (past : Stretch) (node : ℕ)
     (old left : List ℕ) (count : ℕ) : Type 0 where
   pub own : Stretch
-  pub run : HasRunTo world cs (followed_by past own)
+  pub run : HasRunTo world setup (followed_by past own)
   pub events : own.events ≡ replicate count (tending node)
   pub each : count ≡ length own.steps
   pub worked : All (λ step. has_worked step ≡ true) own.steps
   pub behind : left ≡ all_left old past.steps own.steps
   pub few : count ≤ most
 
-pub settles_none : (world : World) (cs : Configurations) (past : Stretch) (node : ℕ)
-    (old : List ℕ) → HasRunTo world cs past → Settles world cs past node old old 0
-settles_none world cs past node old run = record {
+pub settles_none : (world : World) (setup : Setup) (past : Stretch) (node : ℕ)
+    (old : List ℕ) → HasRunTo world setup past → Settles world setup past node old old 0
+settles_none world setup past node old run = record {
   own = no_stretch;
-  run = subst (λ (s : Stretch). HasRunTo world cs s) (sym (joined_nothing past)) run;
+  run = subst (λ (s : Stretch). HasRunTo world setup s) (sym (joined_nothing past)) run;
   events = refl;
   each = refl;
   worked = All-nil (λ step. has_worked step ≡ true);
@@ -310,23 +311,23 @@ pub same_step : (one other : List Line) → Some one ≡ Some other → one ≡ 
 same_step one other e = ap (λ o. option_map_or (λ l. l) o []) e
 
 -- what a settle promises
-abbrev pub HasSettledSo : World → Configurations → Stretch → ℕ → List ℕ → List ℕ → ℕ → Type 0
-HasSettledSo world cs past node old left count = (own : Stretch)
-    × HasRunTo world cs (followed_by past own)
+abbrev pub HasSettledSo : World → Setup → Stretch → ℕ → List ℕ → List ℕ → ℕ → Type 0
+HasSettledSo world setup past node old left count = (own : Stretch)
+    × HasRunTo world setup (followed_by past own)
     × (own.events ≡ replicate count (tending node)) × (count ≡ length own.steps)
     × HasSettled own.steps × (left ≡ all_left old past.steps own.steps)
 
-module _ (cs : Configurations) (past : Stretch) (node : ℕ) (old : List ℕ) (world after : World)
-    (left next : List ℕ) (count : ℕ) (s : Settles world cs past node old left count)
+module _ (setup : Setup) (past : Stretch) (node : ℕ) (old : List ℕ) (world after : World)
+    (left next : List ℕ) (count : ℕ) (s : Settles world setup past node old left count)
     (few : suc count ≤ most) (choice : Choice) (lines : List Line)
-    (run : HasRunTo after cs (followed_by (followed_by past s.own) (one_step (tending node) choice lines)))
+    (run : HasRunTo after setup (followed_by (followed_by past s.own) (one_step (tending node) choice lines)))
     (is : next ≡ left ++ places_after (frames_in_steps (past.steps ++ s.own.steps))
     (frames_of_step lines)) where
   abbrev more : Stretch
   more = followed_by s.own (one_step (tending node) choice lines)
 
-  happened : HasRunTo after cs (followed_by past more)
-  happened = subst (λ (it : Stretch). HasRunTo after cs it)
+  happened : HasRunTo after setup (followed_by past more)
+  happened = subst (λ (it : Stretch). HasRunTo after setup it)
       (joined_assoc past s.own (one_step (tending node) choice lines)) run
 
   tended : more.events ≡ replicate (suc count) (tending node)
@@ -336,10 +337,10 @@ module _ (cs : Configurations) (past : Stretch) (node : ℕ) (old : List ℕ) (w
   behind : next ≡ all_left old past.steps more.steps
   behind = is ∙ (ap (λ (l : List ℕ). l ++ places_after
       (frames_in_steps (past.steps ++ s.own.steps)) (frames_of_step lines)) s.behind
-      ∙ sym (grown cs past old s.own.steps lines))
+      ∙ sym (grown setup past old s.own.steps lines))
 
   -- a tend worked
-  pub settles_on : has_worked lines ≡ true → Settles after cs past node old next (suc count)
+  pub settles_on : has_worked lines ≡ true → Settles after setup past node old next (suc count)
   settles_on worked = record {
     own = more;
     run = happened;
@@ -351,7 +352,7 @@ module _ (cs : Configurations) (past : Stretch) (node : ℕ) (old : List ℕ) (w
   }
 
   -- a tend did not work
-  pub settled : has_worked lines ≡ false → HasSettledSo after cs past node old next (suc count)
+  pub settled : has_worked lines ≡ false → HasSettledSo after setup past node old next (suc count)
   settled idle = (
     more,
     happened,
@@ -403,10 +404,10 @@ all_worked steps many worked = record {
   bound = λ _. many;
 }
 
-pub settled_most : (world : World) (cs : Configurations) (past : Stretch) (node : ℕ)
-    (old left : List ℕ) (count : ℕ) → Settles world cs past node old left count → most ≤ count →
-    HasSettledSo world cs past node old left count
-settled_most world cs past node old left count s reached = (
+pub settled_most : (world : World) (setup : Setup) (past : Stretch) (node : ℕ)
+    (old left : List ℕ) (count : ℕ) → Settles world setup past node old left count → most ≤ count →
+    HasSettledSo world setup past node old left count
+settled_most world setup past node old left count s reached = (
   s.own,
   s.run,
   s.events,
@@ -418,43 +419,43 @@ settled_most world cs past node old left count s reached = (
 -- ---- a course
 
 -- statements ran so far, and with those that are left make the whole
-pub record Goes (world : World) (cs : Configurations) (left : List ℕ) (behind all : List Statement)
+pub record Goes (world : World) (setup : Setup) (left : List ℕ) (behind all : List Statement)
     (turns : List StatementResult) : Type 0 where
   pub past : Stretch
-  pub run : HasRunTo world cs past
+  pub run : HasRunTo world setup past
   pub rising : IsRising 0 (frames_in_steps past.steps) left
   pub whole : (ts : List StatementResult) (rest : Stretch) →
-      AreResults cs past left behind ts rest →
-      AreResults cs no_stretch [] all (turns ++ ts) (followed_by past rest)
+      AreResults setup past left behind ts rest →
+      AreResults setup no_stretch [] all (turns ++ ts) (followed_by past rest)
 
-pub goes_nowhere : (world : World) (cs : Configurations) (left : List ℕ) (all : List Statement) →
-    HasRunTo world cs no_stretch → left ≡ [] → Goes world cs left all all []
-goes_nowhere world cs left all run none = record {
+pub goes_nowhere : (world : World) (setup : Setup) (left : List ℕ) (all : List Statement) →
+    HasRunTo world setup no_stretch → left ≡ [] → Goes world setup left all all []
+goes_nowhere world setup left all run none = record {
   past = no_stretch;
   run = run;
   rising = rw none (omega arith);
-  whole = λ ts rest c. subst (λ (l : List ℕ). AreResults cs no_stretch l all ts rest) none c;
+  whole = λ ts rest c. subst (λ (l : List ℕ). AreResults setup no_stretch l all ts rest) none c;
 }
 
 -- in a stretch between two worlds something was chosen in each event
-chosen_each : (old new : World) (cs : Configurations) (past own : Stretch) →
-    HasRunTo old cs past → HasRunTo new cs (followed_by past own) →
+chosen_each : (old new : World) (setup : Setup) (past own : Stretch) →
+    HasRunTo old setup past → HasRunTo new setup (followed_by past own) →
     length own.choices ≡ length own.events
-chosen_each old new cs past own before after = omega (
+chosen_each old new setup past own before after = omega (
   arith,
-  before.made.trace.one_each,
-  after.made.trace.one_each,
+  before.run.made.trace.one_each,
+  after.run.made.trace.one_each,
   length-append past.choices own.choices,
   length-append past.events own.events,
 )
 
 -- one statement more
-pub goes_on : (old new : ScriptRun) (cs : Configurations) (it : Statement)
+pub goes_on : (old new : ScriptRun) (setup : Setup) (it : Statement)
     (behind all : List Statement) (turns : List StatementResult) (turn : StatementResult)
-    (g : Goes old.world cs old.left.items (it ∷ behind) all turns) →
-    HasTurned cs g.past it turn old new →
-    Goes new.world cs new.left.items behind all (turns ++ turn ∷ [])
-goes_on old new cs it behind all turns turn g t = record {
+    (g : Goes old.world setup old.left.items (it ∷ behind) all turns) →
+    HasTurned setup g.past it turn old new →
+    Goes new.world setup new.left.items behind all (turns ++ turn ∷ [])
+goes_on old new setup it behind all turns turn g t = record {
   past = followed_by g.past t.own;
   run = t.run;
   rising = rw (t.left, frames_in_steps-more g.past.steps t.own.steps)
@@ -467,15 +468,15 @@ goes_on old new cs it behind all turns turn g t = record {
         ts,
         rest,
         t.did,
-        chosen_each old.world new.world cs g.past t.own g.run t.run,
+        chosen_each old.world new.world setup g.past t.own g.run t.run,
         record { world = old.world; run = g.run; numbers = t.shown },
         refl,
         refl,
-        subst (λ (l : List ℕ). AreResults cs (followed_by g.past t.own) l behind ts rest) t.left c,
+        subst (λ (l : List ℕ). AreResults setup (followed_by g.past t.own) l behind ts rest) t.left c,
       ) in
-      subst (λ (l : List StatementResult). AreResults cs no_stretch [] all l
+      subst (λ (l : List StatementResult). AreResults setup no_stretch [] all l
       (followed_by (followed_by g.past t.own) rest)) (sym (append_assoc turns (turn ∷ []) ts))
-      (subst (λ (s : Stretch). AreResults cs no_stretch [] all (turns ++ turn ∷ ts) s)
+      (subst (λ (s : Stretch). AreResults setup no_stretch [] all (turns ++ turn ∷ ts) s)
       (sym (joined_assoc g.past t.own rest)) one);
 }
 
@@ -504,26 +505,26 @@ left_delivered what place left mid new is same cut = cut
     ∙ ap (λ (w : EventKind). left_after_event w left) (sym is))
 
 -- a look tells the numbers
-is_shown : (world : World) (cs : Configurations) (past : Stretch) (node : ℕ)
-    (numbers : Option Numbers) → AreNumbersOf cs past.events past.choices node numbers →
+is_shown : (world : World) (setup : Setup) (past : Stretch) (node : ℕ)
+    (numbers : Option Numbers) → AreNumbersOf setup.configs past.events past.choices node numbers →
     IfSome numbers (TellsTables world.nodes.items node) →
-    HasToldNumbers world cs past (shown node numbers)
-is_shown world cs past node None told tables = told
-is_shown world cs past node (Some numbers) told tables = (told, tables)
+    HasToldNumbers world setup.configs past (shown node numbers)
+is_shown world setup past node None told tables = told
+is_shown world setup past node (Some numbers) told tables = (told, tables)
 
 -- a flow shows no node
-never_shown : (world : World) (cs : Configurations) (past : Stretch) (left : List ℕ) →
-    HasToldNumbers world cs past (busy left)
-never_shown world cs past [] = tt
-never_shown world cs past (place ∷ places) = tt
+never_shown : (world : World) (setup : Setup) (past : Stretch) (left : List ℕ) →
+    HasToldNumbers world setup.configs past (busy left)
+never_shown world setup past [] = tt
+never_shown world setup past (place ∷ places) = tt
 
 -- what statements have done, by their results
-module _ (cs : Configurations) (past : Stretch) (it : Statement) (old new : ScriptRun) where
+module _ (setup : Setup) (past : Stretch) (it : Statement) (old new : ScriptRun) where
   pub turned_by_event : (event : lab.Event) (choice : Choice) (lines : List Line) →
-      it.action ≡ Event event → HasRunTo new.world cs (followed_by past (one_step event choice lines)) →
+      it.action ≡ Event event → HasRunTo new.world setup (followed_by past (one_step event choice lines)) →
       new.left.items ≡ left_after_event event.kind (old.left.items
       ++ places_after (frames_in_steps past.steps) (frames_of_step lines)) →
-      HasTurned cs past it
+      HasTurned setup past it
       (record { line = it.line; events = 1; silent = 0; note = note.Nothing }) old new
   turned_by_event event choice lines is run left = record {
     own = one_step event choice lines;
@@ -537,33 +538,33 @@ module _ (cs : Configurations) (past : Stretch) (it : Statement) (old new : Scri
   }
 
   -- nothing happened
-  pub turned_without : (said : Note) → new ≡ old → HasRunTo old.world cs past →
+  pub turned_without : (said : Note) → new ≡ old → HasRunTo old.world setup past →
       IsResultOfAction it.action (old.left.items ++ []) [] [] 0 said →
-      HasToldNumbers old.world cs past said →
+      HasToldNumbers old.world setup.configs past said →
       left_after it.action old.left.items ≡ old.left.items →
-      HasTurned cs past it
+      HasTurned setup past it
       (record { line = it.line; events = 0; silent = 0; note = said }) old new
   turned_without said same run did told leaves = record {
     own = no_stretch;
     did = record { line = refl; count = refl; each = refl; did = did };
     shown = told;
-    run = rw same (subst (λ (s : Stretch). HasRunTo old.world cs s) (sym (joined_nothing past)) run);
+    run = rw same (subst (λ (s : Stretch). HasRunTo old.world setup s) (sym (joined_nothing past)) run);
     left = rw (same, append-nil old.left.items) (sym leaves);
   }
 
   pub turned_by_show : (node : ℕ) (numbers : Option Numbers) (said : Note) →
       it.action ≡ Show node → said ≡ shown node numbers → new ≡ old →
-      HasRunTo old.world cs past → AreNumbersOf cs past.events past.choices node numbers →
-      IfSome numbers (TellsTables old.world.nodes.items node) → HasTurned cs past it
+      HasRunTo old.world setup past → AreNumbersOf setup.configs past.events past.choices node numbers →
+      IfSome numbers (TellsTables old.world.nodes.items node) → HasTurned setup past it
       (record { line = it.line; events = 0; silent = 0; note = said }) old new
   turned_by_show node numbers said is same stays run told tables =
       turned_without said stays run (rw is (refl, refl, (numbers, same)))
-      (subst (λ (n : Note). HasToldNumbers old.world cs past n) (sym same)
-      (is_shown old.world cs past node numbers told tables)) (rw is refl)
+      (subst (λ (n : Note). HasToldNumbers old.world setup.configs past n) (sym same)
+      (is_shown old.world setup past node numbers told tables)) (rw is refl)
 
   pub turned_by_flow : (count : ℕ) → it.action ≡ Flow →
-      (flowed : HasFlowed new.world cs past old.left.items new.left.items count) →
-      HasTurned cs past it (record {
+      (flowed : HasFlowed new.world setup past old.left.items new.left.items count) →
+      HasTurned setup past it (record {
         line = it.line;
         events = count;
         silent = 0;
@@ -577,20 +578,20 @@ module _ (cs : Configurations) (past : Stretch) (it : Statement) (old new : Scri
       each = sym flowed.3 ∙ flowed.4;
       did = rw is (flowed.2, refl, ap busy flowed.5);
     };
-    shown = never_shown old.world cs past new.left.items;
+    shown = never_shown old.world setup past new.left.items;
     run = flowed.1;
     left = rw is flowed.5;
   }
 
   pub turned_by_settle : (node count : ℕ) (turn : StatementResult) (goes_on : Bool) →
       it.action ≡ Settle node →
-      (settles : HasSettledSo new.world cs past node old.left.items new.left.items count) →
+      (settles : HasSettledSo new.world setup past node old.left.items new.left.items count) →
       goes_on ≡ has_worked settles.4.last → turn ≡ (record {
         line = it.line;
         events = count;
         silent = (if goes_on then count else count - 1);
         note = (if goes_on then note.Busy else note.Nothing);
-      }) → HasTurned cs past it turn old new
+      }) → HasTurned setup past it turn old new
   turned_by_settle node count turn goes_on is settles same told =
       let tends : length settles.0.events ≡ count = ap (λ (l : List lab.Event). length l) settles.2
       ∙ replicate-length count (tending node) in
@@ -618,7 +619,7 @@ module _ (cs : Configurations) (past : Stretch) (it : Statement) (old new : Scri
         left = rw is settles.5;
       }
     where
-      quiet : (b : Bool) → HasToldNumbers old.world cs past (if b then note.Busy else note.Nothing)
+      quiet : (b : Bool) → HasToldNumbers old.world setup.configs past (if b then note.Busy else note.Nothing)
       quiet true = tt
       quiet false = tt
 
@@ -628,44 +629,51 @@ emptied [] ys e f = sym e
 emptied (x ∷ xs) ys e f = absurd (omega (arith, ap length e, ap length f))
 
 -- the next statement of all
-pub goes_next : (old new : ScriptRun) (cs : Configurations) (all : List Statement) (i : ℕ)
+pub goes_next : (old new : ScriptRun) (setup : Setup) (all : List Statement) (i : ℕ)
     (d it : Statement) (turns : List StatementResult) (turn : StatementResult) →
     i < length all → it ≡ get_or all i d →
-    (g : Goes old.world cs old.left.items (drop i all) all turns) →
-    HasTurned cs g.past it turn old new →
-    Goes new.world cs new.left.items (drop (suc i) all) all (turns ++ turn ∷ [])
-goes_next old new cs all i d it turns turn within at g t =
+    (g : Goes old.world setup old.left.items (drop i all) all turns) →
+    HasTurned setup g.past it turn old new →
+    Goes new.world setup new.left.items (drop (suc i) all) all (turns ++ turn ∷ [])
+goes_next old new setup all i d it turns turn within at g t =
     let parts : drop i all ≡ it ∷ drop (suc i) all = drop-cons all i d within
     ∙ ap (λ (x : Statement). x ∷ drop (suc i) all) (sym at) in
-    goes_on old new cs it (drop (suc i) all) all turns turn (record {
+    goes_on old new setup it (drop (suc i) all) all turns turn (record {
       past = g.past;
       run = g.run;
       rising = g.rising;
       whole = subst (λ (b : List Statement). (ts : List StatementResult) (rest : Stretch) →
-          AreResults cs g.past old.left.items b ts rest →
-          AreResults cs no_stretch [] all (turns ++ ts) (followed_by g.past rest)) parts g.whole;
+          AreResults setup g.past old.left.items b ts rest →
+          AreResults setup no_stretch [] all (turns ++ ts) (followed_by g.past rest)) parts g.whole;
     }) t
 
 -- all statements ran
 pub gone : (world : World) (setup : Setup) (left : List ℕ) (all behind : List Statement)
     (turns : List StatementResult) (report : Report)
-    (g : Goes world setup.configs left behind all turns) →
+    (g : Goes world setup left behind all turns) →
     behind ≡ [] → report.steps.items ≡ g.past.steps →
     IsRun setup.configs g.past.events g.past.choices report →
-    OneHistory setup.configs g.past.events report → HasRunStatements setup all turns report
-gone world setup left all behind turns report g none steps run history =
-    let cs = setup.configs in
-    let last : AreResults cs g.past left behind [] no_stretch =
-    subst (λ (b : List Statement). AreResults cs g.past left b [] no_stretch) (sym none) (refl, refl)
+    OneHistory setup.configs g.past.events report →
+    AllZip IsReportOf world.nodes.items report.nodes.items →
+    HasRunStatements setup all turns report
+gone world setup left all behind turns report g none steps run history own =
+    let last : AreResults setup g.past left behind [] no_stretch =
+    subst (λ (b : List Statement). AreResults setup g.past left b [] no_stretch) (sym none) (refl, refl)
     in
     record {
       all = g.past;
-      course = subst (λ (t : List StatementResult). AreResults cs no_stretch [] all t g.past)
+      course = subst (λ (t : List StatementResult). AreResults setup no_stretch [] all t g.past)
           (append-nil turns)
-          (subst (λ (s : Stretch). AreResults cs no_stretch [] all (turns ++ []) s)
+          (subst (λ (s : Stretch). AreResults setup no_stretch [] all (turns ++ []) s)
           (joined_nothing g.past) (g.whole [] no_stretch last));
       lines = steps;
       ran = run;
+      nodes = record {
+        sims = world.nodes.items;
+        after = subst (λ (n : ℕ). AreNodesAfter setup.configs n g.past.events g.past.choices
+            world.nodes.items) g.run.limit.given g.run.run.came;
+        own = own;
+      };
       history = history;
     }
 

@@ -2,7 +2,7 @@
 use Rattle.std.specs.Prelude.{◌≡◌, ◌≢◌, ◌⊎◌, ℕ, List, [], take, Option, None, IfSome}
 use Rattle.std.specs.Io.KnownBytes.{Appends}
 use Rattle.lab.specs.declared.Report.{Report}
-use Rattle.lab.specs.{IsRun, OneHistory}
+use Rattle.lab.specs.{AreReportsAfter, IsRun, OneHistory}
 use Rattle.program.specs.declared.failure.Failure.{Failure}
 use Rattle.program.specs.declared.failure.Failure.TheVariants.{Output}
 use Rattle.program.specs.declared.script.setup.Setup.{Setup}
@@ -21,9 +21,12 @@ pub record HasRunStatements (setup : Setup) (statements : List Statement)
     (turns : List StatementResult)
     (report : Report) : Type 0 where
   pub all : Stretch
-  pub course : AreResults setup.configs no_stretch [] statements turns all
+  pub course : AreResults setup no_stretch [] statements turns all
   pub lines : report.steps.items ≡ all.steps
   pub ran : IsRun setup.configs all.events all.choices report
+  -- the nodes of the report follow event by event, with the script's limit for logs
+  pub nodes : AreReportsAfter setup.configs setup.limits.log all.events all.choices
+      report.nodes.items
   pub history : OneHistory setup.configs all.events report
 
 -- .. and this was done with the text of exactly that run

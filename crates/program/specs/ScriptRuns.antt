@@ -14,7 +14,8 @@ use Rattle.lab.specs.declared.Line.TheVariants as line
 use Rattle.lab.specs.declared.Numbers.{Numbers}
 use Rattle.lab.specs.declared.World.{World}
 use Rattle.lab.specs.Tended.TheVariants as tended
-use Rattle.lab.specs.{AreNumbersOf, Choice, HasRun, TellsTables, frames_in_steps}
+use Rattle.lab.specs.{AreNumbersOf, Choice, HasOneLogLimit, HasRun, TellsTables, frames_in_steps}
+use Rattle.program.specs.declared.script.setup.Setup.{Setup}
 use Rattle.program.specs.declared.script.statement.Action.{Action}
 use Rattle.program.specs.declared.script.statement.Action.TheVariants.{Event, Invalid, Flow}
 use Rattle.program.specs.declared.script.statement.Action.TheVariants.{Settle, Show}
@@ -149,9 +150,10 @@ abbrev pub one_step : lab.Event → Choice → List Line → Stretch
 one_step event choice lines =
     record { events = event ∷ []; choices = choice ∷ []; steps = lines ∷ [] }
 
--- the world has run this far
-abbrev pub HasRunTo : World → Configurations → Stretch → Type 0
-HasRunTo world cs past = HasRun world cs past.events past.choices past.steps
+-- the world has run this far, at the nodes that were set up, with their limit for logs
+pub record HasRunTo (world : World) (setup : Setup) (past : Stretch) : Type 0 where
+  pub run : HasRun world setup.configs past.events past.choices past.steps
+  pub limit : HasOneLogLimit world setup.limits.log
 
 -- what is shown of a node are its numbers after all that happened, and how many tables its store has
 -- in this world
@@ -166,33 +168,33 @@ HasToldNumbers world cs past (note.Down node) =
     AreNumbersOf cs past.events past.choices node None
 
 -- what is shown of a node is so in a world that has run this far
-pub record HasShown (cs : Configurations) (past : Stretch) (said : Note) : Type 0 where
+pub record HasShown (setup : Setup) (past : Stretch) (said : Note) : Type 0 where
   pub world : World
-  pub run : HasRunTo world cs past
-  pub numbers : HasToldNumbers world cs past said
+  pub run : HasRunTo world setup past
+  pub numbers : HasToldNumbers world setup.configs past said
 
 -- a statement was run behind what had happened: the world and the frames that are left are those
 -- behind its events
-pub record HasTurned (cs : Configurations) (past : Stretch) (it : Statement)
+pub record HasTurned (setup : Setup) (past : Stretch) (it : Statement)
     (turn : StatementResult) (old new : ScriptRun) : Type 0 where
   pub own : Stretch
   pub did : IsResult (frames_in_steps past.steps) old.left.items it turn own.events own.steps
-  pub shown : HasToldNumbers old.world cs past turn.note
-  pub run : HasRunTo new.world cs (followed_by past own)
+  pub shown : HasToldNumbers old.world setup.configs past turn.note
+  pub run : HasRunTo new.world setup (followed_by past own)
   pub left : new.left.items ≡ left_after it.action (old.left.items
       ++ places_after (frames_in_steps past.steps) (frames_in_steps own.steps))
 
 -- statements were run, one after another, behind what had happened; something was chosen in each
 -- event
-abbrev pub AreResults : Configurations → Stretch → List ℕ → List Statement → List StatementResult
+abbrev pub AreResults : Setup → Stretch → List ℕ → List Statement → List StatementResult
     → Stretch → Type 0
-AreResults cs past left [] turns all = (turns ≡ []) × (all ≡ no_stretch)
-AreResults cs past left (it ∷ statements) turns all =
+AreResults setup past left [] turns all = (turns ≡ []) × (all ≡ no_stretch)
+AreResults setup past left (it ∷ statements) turns all =
     (turn : StatementResult) × (own : Stretch)
     × (turns_behind : List StatementResult) × (behind : Stretch)
     × IsResult (frames_in_steps past.steps) left it turn own.events own.steps
-    × (length own.choices ≡ length own.events) × HasShown cs past turn.note
+    × (length own.choices ≡ length own.events) × HasShown setup past turn.note
     × (turns ≡ turn ∷ turns_behind) × (all ≡ followed_by own behind)
-    × AreResults cs (followed_by past own) (left_after it.action
+    × AreResults setup (followed_by past own) (left_after it.action
     (left ++ places_after (frames_in_steps past.steps) (frames_in_steps own.steps)))
     statements turns_behind behind

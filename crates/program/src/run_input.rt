@@ -31,18 +31,18 @@ fn run_statements(
     requires { All (λ it. Names setup.now.configs it.action) statements.now }
     ensures { IfOk result (λ it. HasRunStatements setup.now statements.now it.0.items it.1) }
 {
-    let mut course = ScriptRun::new(alloc, &setup.configs, &setup.limits)?;
+    let mut script_run = ScriptRun::new(alloc, setup)?;
     let mut turns = Vec::new(alloc);
     for statement in statements {
-        match course.run_next(alloc, statement, &mut turns) {
+        match script_run.run_next(alloc, statement, &mut turns) {
             Ok(()) => {}
             Err(e) => {
-                course.world.close();
+                script_run.world.close();
                 return Err(e);
             }
         }
     }
-    let report = course.world.finish(alloc)?;
+    let report = script_run.world.finish(alloc)?;
     Ok((turns, report))
 }
 

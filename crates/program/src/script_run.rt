@@ -2,23 +2,24 @@
 ghost use Rattle.std.specs.Prelude.{◌≡◌, ℕ, List, [], ◌∷◌, ◌++◌, length, map, take, drop};
 ghost use Rattle.std.specs.Prelude.{OnOk, IfOk, ◌+◌, ◌-◌, if◌then◌else◌, Some, None, replicate};
 ghost use Rattle.std.specs.Prelude.{true};
-ghost use Rattle.lab.specs.Configuration.{Configurations, at_epoch, has};
+ghost use Rattle.lab.specs.Configuration.{at_epoch, has};
 ghost use Rattle.lab.specs.Machine.{without};
 ghost use Rattle.lab.specs.declared.Line.{Line};
 ghost use Rattle.lab.specs.{Choice, HasRun, NamesNode, frames_in_steps, frames_of_step};
 ghost use Rattle.program.specs.ScriptRuns.{HasRunTo, HasSettled, HasTurned, IsRising, faultless};
-ghost use Rattle.program.specs.ScriptRuns.{Stretch, busy, deliveries, delivery, has_worked, followed_by};
+ghost use Rattle.program.specs.ScriptRuns.{Stretch, busy, deliveries, delivery, followed_by};
+ghost use Rattle.program.specs.ScriptRuns.{has_worked};
 ghost use Rattle.program.specs.ScriptRuns.{left_after, left_after_event, most, no_stretch};
 ghost use Rattle.program.specs.ScriptRuns.{one_step};
 ghost use Rattle.program.specs.ScriptRuns.{places_after, shown, tending};
 ghost use Rattle.program.specs.Scripts.{Names};
+ghost use Rattle.program.specs.declared.script.setup.Setup.{Setup};
 ghost use Rattle.program.specs.declared.statement_result.Note.TheVariants as note;
 ghost use Rattle.program.specs.declared.statement_result.StatementResult.{StatementResult};
 
-use crate::script::{Action, Statement};
+use crate::script::{Action, Setup, Statement};
 use crate::statement_result::{Note, StatementResult};
-use kv_types::Limits;
-use lab::{Configs, Event, EventKind, Fault, LabError, Line, NodeId, Numbers, Tended, World};
+use lab::{Event, EventKind, Fault, LabError, Line, NodeId, Numbers, Tended, World};
 use std::alloc::{AllocError, Global};
 use std::collections::VecDeque;
 
@@ -86,7 +87,7 @@ fn shown(node: NodeId, numbers: Option<Numbers>) -> Note
 }
 
 // The result of a statement that prints all its lines.
-fn told(line: u32, events: usize, note: Note) -> StatementResult
+fn result_of(line: u32, events: usize, note: Note) -> StatementResult
     ensures { result ≡ record { line = line; events = events; silent = 0; note = note } }
 {
     StatementResult {
@@ -120,21 +121,22 @@ fn settled(line: u32, tends: usize, more: bool) -> StatementResult
 }
 
 impl ScriptRun {
-    pub fn new(alloc: Global, configs: &Configs, limits: &Limits) -> Result<ScriptRun, LabError>
-        ensures run { IfOk result (λ course. HasRunTo course.world configs.now no_stretch) }
-        ensures left { IfOk result (λ course. course.left.items ≡ []) }
+    pub fn new(alloc: Global, setup: &Setup) -> Result<ScriptRun, LabError>
+        ensures run { IfOk result (λ script_run. HasRunTo script_run.world setup.now no_stretch) }
+        ensures left { IfOk result (λ script_run. script_run.left.items ≡ []) }
     {
         Ok(ScriptRun {
-            world: World::new(alloc, configs, limits)?,
+            world: World::new(alloc, &setup.configs, &setup.limits)?,
             left: VecDeque::new(alloc),
         })
     }
 
     // An event happens, and the frames that it sends are left to be delivered.
     fn step(&mut self, alloc: Global, event: &Event) -> Result<(), LabError>
-        ensures { (cs : Configurations) (past : Stretch) → HasRunTo self.old.world cs past →
-            NamesNode cs event.now.kind → OnOk result ((choice : Choice) × (lines : List Line)
-            × HasRunTo self.new.world cs (followed_by past (one_step event.now choice lines))
+        ensures { (setup : Setup) (past : Stretch) → HasRunTo self.old.world setup past →
+            NamesNode setup.configs event.now.kind →
+            OnOk result ((choice : Choice) × (lines : List Line)
+            × HasRunTo self.new.world setup (followed_by past (one_step event.now choice lines))
             × (self.new.left.items ≡ self.old.left.items
             ++ places_after (frames_in_steps past.steps) (frames_of_step lines))) }
     {
@@ -146,11 +148,11 @@ impl ScriptRun {
 
     // A statement's event happens. A frame that it delivers is no longer left.
     fn event(&mut self, alloc: Global, event: &Event) -> Result<(), LabError>
-        ensures { (cs : Configurations) (past : Stretch) → HasRunTo self.old.world cs past →
-            NamesNode cs event.now.kind →
+        ensures { (setup : Setup) (past : Stretch) → HasRunTo self.old.world setup past →
+            NamesNode setup.configs event.now.kind →
             IsRising 0 (frames_in_steps past.steps) self.old.left.items →
             OnOk result ((choice : Choice) × (lines : List Line)
-            × HasRunTo self.new.world cs (followed_by past (one_step event.now choice lines))
+            × HasRunTo self.new.world setup (followed_by past (one_step event.now choice lines))
             × (self.new.left.items ≡ left_after_event event.now.kind (self.old.left.items
             ++ places_after (frames_in_steps past.steps) (frames_of_step lines)))) }
     {
@@ -163,9 +165,10 @@ impl ScriptRun {
 
     // Something happens, without a fault of the disk.
     fn happen(&mut self, alloc: Global, kind: EventKind) -> Result<(), LabError>
-        ensures { (cs : Configurations) (past : Stretch) → HasRunTo self.old.world cs past →
-            NamesNode cs kind → OnOk result ((choice : Choice) × (lines : List Line)
-            × HasRunTo self.new.world cs (followed_by past (one_step (faultless kind) choice lines))
+        ensures { (setup : Setup) (past : Stretch) → HasRunTo self.old.world setup past →
+            NamesNode setup.configs kind → OnOk result ((choice : Choice) × (lines : List Line)
+            × HasRunTo self.new.world setup
+            (followed_by past (one_step (faultless kind) choice lines))
             × (self.new.left.items ≡ self.old.left.items
             ++ places_after (frames_in_steps past.steps) (frames_of_step lines))) }
     {
@@ -178,8 +181,9 @@ impl ScriptRun {
 
     // The frames that are left are delivered, up to the bound. It answers how many.
     fn flow(&mut self, alloc: Global) -> Result<usize, LabError>
-        ensures { (cs : Configurations) (past : Stretch) → HasRunTo self.old.world cs past →
-            IfOk result (λ count. (own : Stretch) × HasRunTo self.new.world cs (followed_by past own)
+        ensures { (setup : Setup) (past : Stretch) → HasRunTo self.old.world setup past →
+            IfOk result (λ count. (own : Stretch)
+            × HasRunTo self.new.world setup (followed_by past own)
             × (own.events ≡ deliveries (self.old.left.items
             ++ places_after (frames_in_steps past.steps) (frames_in_steps own.steps)))
             × (count ≡ length own.steps) × (count ≡ length own.events)
@@ -199,8 +203,8 @@ impl ScriptRun {
 
     // Whether the last event was a tend that worked.
     fn has_worked(&self) -> bool
-        ensures { (cs : Configurations) (past : Stretch) (before : List (List Line))
-            (last : List Line) → HasRunTo self.now.world cs past →
+        ensures { (setup : Setup) (past : Stretch) (before : List (List Line))
+            (last : List Line) → HasRunTo self.now.world setup past →
             past.steps ≡ before ++ last ∷ [] → result ≡ has_worked last }
     {
         match self.world.report().last() {
@@ -211,9 +215,10 @@ impl ScriptRun {
 
     // The node tends until a tend does not work, up to the bound. It answers how often.
     fn settle(&mut self, alloc: Global, node: NodeId) -> Result<usize, LabError>
-        ensures { (cs : Configurations) (past : Stretch) → HasRunTo self.old.world cs past →
-            has (at_epoch cs 0) node ≡ true →
-            IfOk result (λ count. (own : Stretch) × HasRunTo self.new.world cs (followed_by past own)
+        ensures { (setup : Setup) (past : Stretch) → HasRunTo self.old.world setup past →
+            has (at_epoch setup.configs 0) node ≡ true →
+            IfOk result (λ count. (own : Stretch)
+            × HasRunTo self.new.world setup (followed_by past own)
             × (own.events ≡ replicate count (tending node)) × (count ≡ length own.steps)
             × HasSettled own.steps
             × (self.new.left.items ≡ self.old.left.items
@@ -232,21 +237,21 @@ impl ScriptRun {
 
     // Runs a statement.
     fn run(&mut self, alloc: Global, statement: &Statement) -> Result<StatementResult, LabError>
-        ensures { (cs : Configurations) (past : Stretch) → HasRunTo self.old.world cs past →
-            Names cs statement.now.action →
+        ensures { (setup : Setup) (past : Stretch) → HasRunTo self.old.world setup past →
+            Names setup.configs statement.now.action →
             IsRising 0 (frames_in_steps past.steps) self.old.left.items →
-            IfOk result (λ turn. HasTurned cs past statement.now turn self.old self.new) }
+            IfOk result (λ turn. HasTurned setup past statement.now turn self.old self.new) }
     {
         let line = statement.line;
         match &statement.action {
             Action::Event(event) => {
                 self.event(alloc, event)?;
-                Ok(told(line, 1, Note::Nothing))
+                Ok(result_of(line, 1, Note::Nothing))
             }
-            Action::Invalid(error) => Ok(told(line, 0, Note::Invalid(*error))),
+            Action::Invalid(error) => Ok(result_of(line, 0, Note::Invalid(*error))),
             Action::Flow => {
                 let events = self.flow(alloc)?;
-                Ok(told(line, events, busy(&self.left)))
+                Ok(result_of(line, events, busy(&self.left)))
             }
             Action::Settle(node) => {
                 let tends = self.settle(alloc, *node)?;
@@ -254,7 +259,7 @@ impl ScriptRun {
             }
             Action::Show(node) => {
                 let note = shown(*node, self.world.numbers(*node));
-                Ok(told(line, 0, note))
+                Ok(result_of(line, 0, note))
             }
         }
     }
@@ -266,12 +271,12 @@ impl ScriptRun {
         statement: &Statement,
         results: &mut Vec<StatementResult>,
     ) -> Result<(), LabError>
-        ensures { (cs : Configurations) (past : Stretch) → HasRunTo self.old.world cs past →
-            Names cs statement.now.action →
+        ensures { (setup : Setup) (past : Stretch) → HasRunTo self.old.world setup past →
+            Names setup.configs statement.now.action →
             IsRising 0 (frames_in_steps past.steps) self.old.left.items →
             OnOk result ((turn : StatementResult)
             × (results.new.items ≡ results.old.items ++ turn ∷ [])
-            × HasTurned cs past statement.now turn self.old self.new) }
+            × HasTurned setup past statement.now turn self.old self.new) }
     {
         let StatementResult {
             line,

@@ -5,7 +5,7 @@ use Rattle.manifest.specs.declared.TableLine.{TableLine}
 use Rattle.manifest.specs.{IsVersion, NodeVersion}
 use Rattle.engine.specs.Errors.{IsOfMachine}
 use Rattle.engine.specs.LevelTables.{AreTablesOf, FileFits}
-use Rattle.engine.specs.OpenFiles.{AreOrderedNumbers}
+use Rattle.engine.specs.StoreFiles.{AreOrderedNumbers}
 use Rattle.engine.specs.Settling.{AreSynced, AreThere}
 use Rattle.std.specs.Prelude.{All}
 use Rattle.engine.proofs.Causes.{refuses}

@@ -15,6 +15,7 @@ returns-in-Start g c =
       disk = e.disk;
       only = λ x n r reliable. e.only r.0 reliable;
       follows = tt;
+      grows = e.grows;
       forgets = λ honest unarmed. e.forgets honest;
       limit = λ has. e.limit;
     })

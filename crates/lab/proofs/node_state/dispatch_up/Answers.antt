@@ -1,4 +1,4 @@
-use Rattle.std.proofs.Common.{None, refl, sym, subst, inl, inr}
+use Rattle.std.proofs.Common.{None, [], refl, sym, subst, inl, inr}
 use Rattle.chain_model.specs.{stopped, silent}
 use Rattle.lab.specs.declared.input.NodeInput.{NodeInput}
 use Rattle.lab.specs.declared.input.NodeInput.TheVariants as to_node
@@ -7,6 +7,7 @@ use Rattle.lab.specs.declared.node_state.NodeState.TheVariants.{Up}
 use Rattle.lab.specs.SimNodes.{HasLogLimit, StateRefines}
 use Rattle.lab.specs.Outcomes.{Drops, HasCrashed, HasDispatched, RunsOn, Stops}
 use Rattle.lab.proofs.Dispatching.{answered_only, ready_up}
+use Rattle.lab.proofs.Faults.{crash_grows}
 use Rattle.node.specs.{disk_of}
 use Rattle.lab.proofs.node_state.dispatch_up.Goals as goal
 
@@ -20,6 +21,7 @@ returns-in-Step g c = λ limit.
       disk = e.disk;
       only = e.only;
       follows = tt;
+      grows = e.grows;
       forgets = λ honest unarmed. e.forgets honest;
       limit = λ has. subst (λ n. HasLogLimit c.step.result.0 n) has e.limit;
     })
@@ -34,6 +36,7 @@ returns-in-Tend g c = λ limit.
       disk = e.disk;
       only = e.only;
       follows = tt;
+      grows = e.grows;
       forgets = λ honest unarmed. e.forgets honest;
       limit = λ has. subst (λ n. HasLogLimit c.tend.result.0 n) has e.limit;
     })
@@ -81,6 +84,8 @@ returns-in-Stop g c = λ limit.
       disk = crashed;
       only = λ x n r reliable stops. absurd cc;
       follows = crashed;
+      grows = λ x n r. crash_grows g.D.Disk junk (disk_of c.args.node) (disk_of c.args.node) new
+          (crashed r.honest) ([], refl);
       forgets = λ honest unarmed. e.forgets;
       limit = λ has. e.limit limit;
     })

@@ -5,7 +5,8 @@ use Rattle.disk.specs.StepsLemmas.{read_is_outcome}
 use Rattle.node.specs.{DiskAlwaysRefines}
 use Rattle.lab.specs.SimNodes.{StateRefines}
 use Rattle.lab.specs.Outcomes.{Starts, Fails}
-use Rattle.lab.proofs.Faults.{disk_fits, explained, same_state, spent, stopped_so}
+use Rattle.lab.proofs.Faults.{disk_fits, explained, grown_end, grown_since, same_state, spent}
+use Rattle.lab.proofs.Faults.{stopped_so}
 use Rattle.lab.proofs.node_state.start.Goals as goal
 
 pub returns-in-Ok-clause-refines : goal.returns-in-Ok-clause-refines
@@ -60,3 +61,28 @@ returns-in-Err-clause-only g c = λ honest reliable.
     explained g.D.Disk c.args.fault c.args.disk c.in-Err.disk c.in-Err.stop
     c.stop_by_itself.result.0 c.stop_by_itself.result.1 _ _ was (λ fails. fails) (λ is. is)
     c.stop_by_itself.ensures.told c.stop_by_itself.ensures.crashes reliable (λ none. absurd none)
+
+pub returns-in-Ok-clause-grows : goal.returns-in-Ok-clause-grows
+returns-in-Ok-clause-grows g c = λ x n r.
+    let armed = c.arm.ensures in
+    let represents = subst (λ (s : State). DiskAlwaysRefines s x n) (same_state (armed.same r.0)) r.1
+    in
+    let leaves = c.in-Ok.ensures.any_moment x n n (armed.honest.1 r.0)
+    (λ left now. inl (represents left now)) in
+    grown_since g.D.Disk _ c.args.disk c.arm.new.self _ _ armed.past leaves
+    c.arm-in-Ok.ensures.armed.past
+
+pub returns-in-Err-clause-grows : goal.returns-in-Err-clause-grows
+returns-in-Err-clause-grows g c = λ x n r.
+    let armed = c.arm.ensures in
+    let represents = subst (λ (s : State). DiskAlwaysRefines s x n) (same_state (armed.same r.0)) r.1
+    in
+    let leaves = c.in-Err.ensures.any_moment x n n (armed.honest.1 r.0)
+    (λ left now. inl (represents left now)) in
+    let was = spent g.D.Disk c.args.fault c.args.disk c.arm.new.self c.in-Err.disk _ _ _ armed
+    c.in-Err.ensures.kept r.0 in
+    grown_end g.D.Disk c.args.fault c.args.disk c.in-Err.disk c.in-Err.stop
+    c.stop_by_itself.result.0 c.stop_by_itself.result.1 _ _ was (λ fails. fails) (λ is. is)
+    c.stop_by_itself.ensures.told c.stop_by_itself.ensures.crashes
+    (grown_since g.D.Disk _ c.args.disk c.arm.new.self c.in-Err.disk c.in-Err.disk armed.past leaves
+    refl)

@@ -7,8 +7,8 @@ use Rattle.node.specs.declared.Stop.{Stop as Cause}
 use Rattle.node.specs.{HasLongFile, IsDeviceStop, IsNearlyFull, IsOwned, StopRefines}
 use Rattle.node.specs.{disk_of, engine_of}
 use Rattle.lab.specs.Outcomes.{Halts, Tends}
-use Rattle.lab.proofs.Faults.{IsSpent, disk_fits, explained, same_state, spent, stopped_so}
-use Rattle.lab.proofs.Faults.{struck_at}
+use Rattle.lab.proofs.Faults.{IsSpent, disk_fits, explained, grown_end, grown_since, same_state}
+use Rattle.lab.proofs.Faults.{spent, stopped_so, struck_at}
 use Rattle.lab.proofs.node_state.tend.Goals as goal
 
 pub returns-in-Ok-clause-refines : goal.returns-in-Ok-clause-refines
@@ -80,3 +80,20 @@ returns-in-Err-clause-only g c = λ x n r reliable.
           (c.full_logs_are_long.ensures c.arm.new.self x n as_armed full)
       | inr adrift ↦ absurd (adrift n.list as_armed.store.reads)
     ])
+
+pub returns-in-Ok-clause-grows : goal.returns-in-Ok-clause-grows
+returns-in-Ok-clause-grows g c = λ x n r.
+    let ended = c.in-Ok.ensures.ends x n (c.arm.ensures.refines x n r) in
+    grown_since g.D.Disk _ (disk_of c.args.node) (disk_of c.arm.new.self) _ _
+    c.arm.ensures.armed.past ended.any_moment c.arm-in-Ok.ensures.armed.past
+
+pub returns-in-Err-clause-grows : goal.returns-in-Err-clause-grows
+returns-in-Err-clause-grows g c = λ x n r.
+    let ended = c.in-Err.ensures.ends x n (c.arm.ensures.refines x n r) in
+    grown_end g.D.Disk c.args.fault (disk_of c.args.node) c.into_disk.result c.in-Err.stop
+    c.stop_by_itself.result.0 c.stop_by_itself.result.1
+    (IsDeviceStop {T = Tended} (Err c.in-Err.stop)) (MayFail g c)
+    (left_of g c r.honest) (λ fails. cc) (λ is. ap (λ (e : Cause). Err e) is)
+    c.stop_by_itself.ensures.told c.stop_by_itself.ensures.crashes
+    (grown_since g.D.Disk _ (disk_of c.args.node) (disk_of c.arm.new.self) _ c.into_disk.result
+    c.arm.ensures.armed.past ended.any_moment (ap g.D.Disk.past c.into_disk.ensures.disk))

@@ -1,11 +1,9 @@
 use Rattle.std.proofs.Common.{List, ◌∷◌, [], ◌++◌, take, sym, ap, subst, ◌∙◌}
 use Rattle.std.proofs.lemmas.List.{take_more, take_all}
-use Rattle.std.proofs.lemmas.Result.{IfOk-weaker}
 use Rattle.lab.specs.declared.event.Event.{Event}
 use Rattle.lab.specs.Events.{NamesNode}
-use Rattle.lab.specs.Runs.{IsRun}
-use Rattle.lab.specs.SimNodes.{Choice}
 use Rattle.lab.specs.Worlds.{HasRun}
+use Rattle.lab.proofs.Reports.{reported_run}
 use Rattle.lab.proofs.runs.run.Goals as goal
 
 -- one event more
@@ -25,6 +23,7 @@ loop-event-preserved c =
       was.1 ++ ran.1 ∷ [],
       subst (λ (es : List Event). HasRun c.step.new.self cs es (was.0 ++ ran.0 ∷ [])
           (was.1 ++ ran.1 ∷ [])) more ran.2,
+      c.in_ok-step.ensures.limits c.args.limits.now.log was.3,
     )
 
 pub returns-clause-run : goal.returns-clause-run
@@ -32,10 +31,10 @@ returns-clause-run c =
     let was = c.loop-event.invariant in
     let run = subst (λ (es : List Event). HasRun c.loop-event.world c.args.configs.now es was.0
     was.1) (take_all c.loop-event.event-index c.args.events.now c.loop-event-test.false) was.2 in
-    IfOk-weaker c.finish.result (IsRun c.args.configs.now c.args.events.now was.0)
-    (λ report. (choices : List Choice)
-    × IsRun c.args.configs.now c.args.events.now choices report) (λ report is. (was.0, is))
+    reported_run c.loop-event.world c.args.configs.now c.args.limits.now.log c.args.events.now
+    was.0 was.1 run was.3 c.finish.result
     (c.finish.ensures.run c.args.configs.now c.args.events.now was.0 was.1 run)
+    c.finish.ensures.own
 
 pub returns-clause-history : goal.returns-clause-history
 returns-clause-history c =

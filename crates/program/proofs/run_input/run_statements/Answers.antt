@@ -7,22 +7,22 @@ use Rattle.program.proofs.run_input.run_statements.Goals as goal
 -- no_stretch ran yet
 pub loop-statement-init : goal.loop-statement-init
 loop-statement-init c =
-    let course = c.in_ok-course.course in
-    rw c.new-turns.ensures.items (goes_nowhere course.world c.args.setup.now.configs
-    course.left.items c.args.statements.now c.in_ok-course.ensures.run
-    c.in_ok-course.ensures.left)
+    let script_run = c.in_ok-script_run.script_run in
+    rw c.new-turns.ensures.items (goes_nowhere script_run.world c.args.setup.now
+    script_run.left.items c.args.statements.now c.in_ok-script_run.ensures.run
+    c.in_ok-script_run.ensures.left)
 
 pub loop-statement-preserved : goal.loop-statement-preserved
 loop-statement-preserved c =
-    let cs = c.args.setup.now.configs in
+    let setup = c.args.setup.now in
     let all = c.args.statements.now in
     let i = c.loop-statement.statement-index in
     let g = c.loop-statement.invariant in
     let it = c.statement-item.result in
-    let names = subst (λ (x : Statement). Names cs x.action) (sym c.statement-item.is)
+    let names = subst (λ (x : Statement). Names setup.configs x.action) (sym c.statement-item.is)
     (c.requires i _ c.loop-statement-test.true) in
-    let took = c.in-Ok.ensures cs g.past g.run names g.rising in
-    rw (add-one, took.1) (goes_next c.loop-statement.course c.run_next.new.self cs all i _ it
+    let took = c.in-Ok.ensures setup g.past g.run names g.rising in
+    rw (add-one, took.1) (goes_next c.loop-statement.script_run c.run_next.new.self setup all i _ it
     c.loop-statement.turns.items took.0 c.loop-statement-test.true c.statement-item.is g took.2)
 
 pub returns : goal.returns
@@ -33,9 +33,10 @@ returns c =
     let g = c.loop-statement.invariant in
     let made = c.in_ok-report.ensures in
     let past = g.past in
-    gone c.loop-statement.course.world setup c.loop-statement.course.left.items all (drop i all)
+    gone c.loop-statement.script_run.world setup c.loop-statement.script_run.left.items all (drop i all)
     c.loop-statement.turns.items c.in_ok-report.report g
     (drop_past all i (omega (arith, c.loop-statement-test.false)))
-    (made.steps setup.configs past.events past.choices past.steps g.run)
-    (made.run setup.configs past.events past.choices past.steps g.run)
-    (made.history setup.configs past.events past.choices past.steps g.run)
+    (made.steps setup.configs past.events past.choices past.steps g.run.run)
+    (made.run setup.configs past.events past.choices past.steps g.run.run)
+    (made.history setup.configs past.events past.choices past.steps g.run.run)
+    made.own

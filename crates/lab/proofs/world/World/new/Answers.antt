@@ -17,6 +17,7 @@ returns-clause-ran c =
       taken = ap (λ (l : List EventRecord). events_in l) c.new-2.ensures.items;
       made = subst (λ (l : List Posted). RunRefines sims l cs [] [] []) (sym c.new.ensures.items)
           (begun cs limit sims c.first.ensures.lawful are);
+      came = record { first = sims; created = are; follow = refl };
     }
 
 -- it has the limit that it was given, and so has each node

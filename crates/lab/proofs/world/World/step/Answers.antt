@@ -9,7 +9,12 @@ returns-clause-ran c = λ cs events choices steps run names.
       | Takes _ more ↦ (
         more.choice,
         more.lines,
-        record { kept = more.run.kept; taken = more.run.taken; made = more.run.made },
+        record {
+          kept = more.run.kept;
+          taken = more.run.taken;
+          made = more.run.made;
+          came = more.run.came;
+        },
       )
       | Ignores other _ ↦ absurd (other names)
     ])
@@ -21,7 +26,12 @@ returns-clause-nothing c = λ cs events choices steps run other.
     (elim [
       | Takes names _ ↦ absurd (other names)
       | Ignores _ same ↦ record {
-        run = record { kept = same.run.kept; taken = same.run.taken; made = same.run.made };
+        run = record {
+          kept = same.run.kept;
+          taken = same.run.taken;
+          made = same.run.made;
+          came = same.run.came;
+        };
         nodes = same.nodes;
       }
     ])
@@ -34,7 +44,12 @@ returns-clause-follows c = λ cs events choices steps run names.
       | Takes _ more ↦ record {
         choice = more.choice;
         lines = more.lines;
-        run = record { kept = more.run.kept; taken = more.run.taken; made = more.run.made };
+        run = record {
+          kept = more.run.kept;
+          taken = more.run.taken;
+          made = more.run.made;
+          came = more.run.came;
+        };
         nodes = more.nodes;
       }
       | Ignores other _ ↦ absurd (other names)

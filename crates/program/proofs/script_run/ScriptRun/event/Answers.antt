@@ -6,8 +6,8 @@ use Rattle.program.proofs.Leaving.{all_rise}
 use Rattle.program.proofs.script_run.ScriptRun.event.Goals as goal
 
 pub returns-in-Deliver : goal.returns-in-Deliver
-returns-in-Deliver c = λ cs past run named up.
-    let went = c.in_ok-step.ensures cs past run named in
+returns-in-Deliver c = λ setup past run named up.
+    let went = c.in_ok-step.ensures setup past run named in
     let sent = frames_in_steps past.steps in (
       went.0,
       went.1,
@@ -19,8 +19,8 @@ returns-in-Deliver c = λ cs past run named up.
     )
 
 pub returns-in_default : goal.returns-in_default
-returns-in_default c = λ cs past run named up.
-    let went = c.in_ok-step.ensures cs past run named in (
+returns-in_default c = λ setup past run named up.
+    let went = c.in_ok-step.ensures setup past run named in (
       went.0,
       went.1,
       went.2,

@@ -5,35 +5,35 @@ use Rattle.program.proofs.script_run.ScriptRun.settle.Goals as goal
 
 -- no tend yet
 pub loop-count-init : goal.loop-count-init
-loop-count-init c = λ cs past run named.
-    settles_none c.args.self.now.world cs past c.args.node c.args.self.now.left.items run
+loop-count-init c = λ setup past run named.
+    settles_none c.args.self.now.world setup past c.args.node c.args.self.now.left.items run
 
 -- a tend did not work
 pub returns-then-not-has_worked : goal.returns-then-not-has_worked
-returns-then-not-has_worked c = λ cs past run named.
-    let s = c.loop-count.invariant cs past run named in
-    let gave = c.in_ok-happen.ensures cs (followed_by past s.own) s.run named in
-    rw add-one (settled cs past c.args.node c.args.self.now.left.items c.loop-count.self.world
+returns-then-not-has_worked c = λ setup past run named.
+    let s = c.loop-count.invariant setup past run named in
+    let gave = c.in_ok-happen.ensures setup (followed_by past s.own) s.run named in
+    rw add-one (settled setup past c.args.node c.args.self.now.left.items c.loop-count.self.world
     c.happen.new.self.world c.loop-count.self.left.items c.happen.new.self.left.items
     c.loop-count.count s (omega (arith, c.loop-count-test.true)) gave.0 gave.1 gave.2 gave.3
-    (sym (c.has_worked.ensures cs (followed_by (followed_by past s.own)
+    (sym (c.has_worked.ensures setup (followed_by (followed_by past s.own)
     (one_step (tending c.args.node) gave.0 gave.1)) (past.steps ++ s.own.steps) gave.1 gave.2 refl)
     ∙ c.if-not-has_worked.true))
 
 pub loop-count-preserved : goal.loop-count-preserved
-loop-count-preserved c = λ cs past run named.
-    let s = c.loop-count.invariant cs past run named in
-    let gave = c.in_ok-happen.ensures cs (followed_by past s.own) s.run named in
-    rw add-one (settles_on cs past c.args.node c.args.self.now.left.items c.loop-count.self.world
+loop-count-preserved c = λ setup past run named.
+    let s = c.loop-count.invariant setup past run named in
+    let gave = c.in_ok-happen.ensures setup (followed_by past s.own) s.run named in
+    rw add-one (settles_on setup past c.args.node c.args.self.now.left.items c.loop-count.self.world
     c.happen.new.self.world c.loop-count.self.left.items c.happen.new.self.left.items
     c.loop-count.count s (omega (arith, c.loop-count-test.true)) gave.0 gave.1 gave.2 gave.3
-    (sym (c.has_worked.ensures cs (followed_by (followed_by past s.own)
+    (sym (c.has_worked.ensures setup (followed_by (followed_by past s.own)
     (one_step (tending c.args.node) gave.0 gave.1)) (past.steps ++ s.own.steps) gave.1 gave.2 refl)
     ∙ c.if-not-has_worked.false))
 
 -- the bound is reached
 pub returns : goal.returns
-returns c = λ cs past run named.
-    settled_most c.loop-count.self.world cs past c.args.node c.args.self.now.left.items
-    c.loop-count.self.left.items c.loop-count.count (c.loop-count.invariant cs past run named)
+returns c = λ setup past run named.
+    settled_most c.loop-count.self.world setup past c.args.node c.args.self.now.left.items
+    c.loop-count.self.left.items c.loop-count.count (c.loop-count.invariant setup past run named)
     (omega (arith, c.loop-count-test.false))
