@@ -109,18 +109,21 @@ impl CoreState {
         }
     }
 
+    /// The id of the node.
     pub fn id(&self) -> NodeId
         ensures { result ≡ self.now.id }
     {
         self.id
     }
 
+    /// The place of its configuration in the configuration service's list.
     pub fn epoch(&self) -> Epoch
         ensures { result ≡ self.now.epoch }
     {
         self.epoch
     }
 
+    /// Its configuration.
     pub fn config(&self) -> &Config
         ensures { result.now ≡ self.now.ids }
     {

@@ -5,8 +5,8 @@ use Rattle.std.specs.Prelude.{Option, Some, None, Bool, true, false, if◌then�
 use Rattle.std.specs.Prelude.{nat_lt}
 use Rattle.chain_model.specs.Lists.{Part}
 
--- a list of configurations, which the configuration service (the papers' master) reports one after
--- another (van Renesse and Schneider 2004, section 3)
+-- a list of configurations, which the configuration service reports one after another (van Renesse
+-- and Schneider 2004, section 3)
 abbrev pub Configurations : Type 0
 Configurations = List (List ℕ)
 

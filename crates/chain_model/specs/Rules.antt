@@ -206,8 +206,8 @@ module _ {A : Type 0} (x : ℕ) where
       let m = adopted n epoch ids in
       acknowledge m (ack m)
 
-  -- the configuration service (the papers' master) reports a configuration (van Renesse and
-  -- Schneider 2004, section 3; epochs are this store's profile)
+  -- the configuration service reports a configuration (van Renesse and Schneider 2004, section 3;
+  -- epochs are this store's profile)
   abbrev pub notice : MachineState A → ℕ → List ℕ → Answer A
   notice n epoch ids =
       if not (nat_lt n.epoch epoch) then dropped_for n reason.OldNotice

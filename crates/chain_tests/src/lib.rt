@@ -1,4 +1,5 @@
-//! Tests of one node and of whole runs, with expected values from the rules of a step.
+//! Tests of a store alone, of one node and of whole runs, with expected values from the rules of a
+//! step and from the formats.
 #![tactic(auto)]
 
 #[cfg(test)]

@@ -1,5 +1,5 @@
-// Openings of a small folder in which bytes are others, or a file is shorter or absent.
+// Openings of a small disk in which bytes are others, or a file is shorter or absent.
 mod changes;
 mod cuts;
-mod folder;
 mod lengths;
+mod small_disk;

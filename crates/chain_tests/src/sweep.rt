@@ -347,10 +347,9 @@ impl History<'_> {
     fn has_replies(&self, steps: &[Lines]) -> bool {
         for lines in steps {
             for line in lines.as_slice() {
-                if let Line::Replied(reply) = line {
-                    if !self.has_reply(reply) {
-                        return false;
-                    }
+                match line {
+                    Line::Replied(reply) if !self.has_reply(reply) => return false,
+                    _ => {}
                 }
             }
         }

@@ -167,6 +167,7 @@ impl Config {
         }
     }
 
+    /// A copy, with memory of its own.
     pub fn clone(&self) -> Result<Config, AllocError>
         ensures { IfOk result (λ config. config ≡ self.now) }
     {

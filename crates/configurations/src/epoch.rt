@@ -22,8 +22,10 @@ impl Model for Epoch {
 }
 
 impl Epoch {
+    /// The epoch of the first configuration.
     pub const FIRST: Epoch = Epoch { epoch: 0 };
 
+    /// The epoch of this number. `None` above 15.
     pub fn new(epoch: u32) -> Option<Epoch>
         ensures { SomeIff result (epoch ≤ 15) epoch }
     {
@@ -33,6 +35,7 @@ impl Epoch {
         Some(Epoch { epoch })
     }
 
+    /// Its number.
     pub fn get(self) -> u32
         ensures same { result ≡ self }
         ensures limit { self ≤ 15 }

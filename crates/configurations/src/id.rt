@@ -24,6 +24,7 @@ impl Model for NodeId {
 }
 
 impl NodeId {
+    /// The id of this number. `None` for 0.
     pub fn new(id: u16) -> Option<NodeId>
         ensures { SomeIff result (1 ≤ id) id }
     {
@@ -33,6 +34,7 @@ impl NodeId {
         Some(NodeId { id })
     }
 
+    /// Its number.
     pub fn get(self) -> u16
         ensures same { result ≡ self }
         ensures id { IsId self }

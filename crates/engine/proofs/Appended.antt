@@ -28,7 +28,7 @@ use Rattle.engine.specs.OpenFiles.{known_facts, known_store, known_version, trim
 use Rattle.engine.specs.StoreFiles.{FilesRepresent, store_of_version}
 use Rattle.engine.specs.Stores.{IsNumberedTo}
 use Rattle.engine.specs.declared.error.EngineError.{EngineError}
-use Rattle.engine.specs.Errors.{IsOfMachine}
+use Rattle.engine.specs.Errors.{IsEngineExternal}
 use Rattle.engine.proofs.Entries.{Adds, next_numbered}
 use Rattle.engine.proofs.FilesApart.{newest_given, newest_no_slot, newest_no_table, newest_positive}
 use Rattle.engine.proofs.KeptFiles.{served_in}
@@ -283,9 +283,9 @@ pub appended_told : (disk : State) (files : StoreFiles) (list : List BatchConten
     × (batch_count (after_append files logs memtable) ≡ batch_count files + 1))
     (λ _. batch_count (after_append files logs memtable) ≡ batch_count files)
     → MatchResult result (λ _. LogsHold new logs (suc (trimmed_count files))
-    (drop (trimmed_count files) list ++ batch ∷ [])) IsOfMachine
+    (drop (trimmed_count files) list ++ batch ∷ [])) IsEngineExternal
     → MatchResult result (λ _. FilesHold new (after_append files logs memtable)
-    (list ++ batch ∷ [])) IsOfMachine
+    (list ++ batch ∷ [])) IsEngineExternal
 appended_told disk files list h batch is new logs memtable lines others keeps stays entries (Ok x)
     counts held =
     held_after disk files list h batch is new logs memtable lines others keeps stays counts.0

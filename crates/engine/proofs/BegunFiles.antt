@@ -22,7 +22,7 @@ use Rattle.engine.specs.declared.error.EngineError.{EngineError}
 use Rattle.engine.specs.declared.store_files.StoreFiles.{StoreFiles}
 use Rattle.engine.specs.BatchLogs.{HoldsPart, IsWorking, LogsHold, end_of_log, first_number}
 use Rattle.engine.specs.BatchLogs.{lines_of, next_number, oldest_first}
-use Rattle.engine.specs.Errors.{FailsDevice, IsOfMachine, error_of_manifest}
+use Rattle.engine.specs.Errors.{FailsDevice, IsEngineExternal, error_of_manifest}
 use Rattle.engine.specs.LevelTables.{AreServed, AreTablesOf, table_lines}
 use Rattle.engine.specs.OpenFiles.{AreUsableFiles, FilesHold, batch_count}
 use Rattle.engine.specs.StoreFiles.{AreOrderedNumbers}
@@ -57,11 +57,11 @@ manifest_failed called manifest.NotCreated (Err s) is told = (λ f. cc, λ f. cc
 manifest_failed called manifest.Memory (Err s) is told = (λ f. cc, λ f. cc)
 manifest_failed called manifest.Failed (Err s) is told = (λ f. cc, λ f. cc)
 
--- and a refusal of the machine as one
-pub manifest_of_machine : (e : ManifestError) → IsManifestExternal e →
-    IsOfMachine (error_of_manifest e)
-manifest_of_machine e (inl failed) = inl (ap error_of_manifest failed)
-manifest_of_machine e (inr memory) = inr (ap error_of_manifest memory)
+-- an external refusal of a manifest is one of the engine
+pub manifest_is_external : (e : ManifestError) → IsManifestExternal e →
+    IsEngineExternal (error_of_manifest e)
+manifest_is_external e (inl failed) = inl (ap error_of_manifest failed)
+manifest_is_external e (inr memory) = inr (ap error_of_manifest memory)
 
 -- ---- the first files
 

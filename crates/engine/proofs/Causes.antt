@@ -8,31 +8,31 @@ use Rattle.record_log.specs.declared.Log.{Log}
 use Rattle.record_log.specs as log_stands
 use Rattle.engine.specs.declared.error.EngineError.{EngineError}
 use Rattle.engine.specs.declared.error.EngineError.TheVariants as engine
-use Rattle.engine.specs.Errors.{error_of_log, IsOfMachine}
+use Rattle.engine.specs.Errors.{error_of_log, IsEngineExternal}
 
--- a log that works on its own file reports errors of the machine alone
-pub of_machine : (e : LogError) → log_stands.IsExternal e → IsOfMachine (error_of_log e)
-of_machine e (inl failed) = inl (ap error_of_log failed)
-of_machine e (inr memory) = inr (ap error_of_log memory)
+-- an external error of a log is one of the engine
+pub log_is_external : (e : LogError) → log_stands.IsExternal e → IsEngineExternal (error_of_log e)
+log_is_external e (inl failed) = inl (ap error_of_log failed)
+log_is_external e (inr memory) = inr (ap error_of_log memory)
 
 pub working_log : (e : LogError) → log_stands.IsExternal e ⊎ (e ≡ log.Failed) →
-    (e ≡ log.Failed → ⊥) → IsOfMachine (error_of_log e)
-working_log e (inl machine) works = of_machine e machine
+    (e ≡ log.Failed → ⊥) → IsEngineExternal (error_of_log e)
+working_log e (inl external) works = log_is_external e external
 working_log e (inr failed) works = absurd (works failed)
 
--- a refusal that is no damage is of the machine
+-- a refusal that is no damage is external
 pub undamaged : {T : Type 0} (result : Result T EngineError) →
     IfErr result (λ e. (e ≡ engine.Damaged) ⊎ (e ≡ engine.Memory)) →
-    (IsErrOf result engine.Damaged → ⊥) → IfErr result IsOfMachine
+    (IsErrOf result engine.Damaged → ⊥) → IfErr result IsEngineExternal
 undamaged (Ok x) only whole = tt
 undamaged (Err e) (inl damaged) whole = absurd (whole (ap (λ d. Err d) damaged))
 undamaged (Err e) (inr memory) whole = inr memory
 
--- a log that works, with a record that fits, reports errors of the machine alone
+-- a log that works, with a record that fits, reports external errors alone
 pub met : (limit : ℕ) (e : LogError) (old new : Log) (one : List ℕ) →
     log_stands.AppendOutcome {T = Unit {0}} limit (Err e) old new one → length one ≤ limit →
-    (log_stands.HasFailed old → ⊥) → log_stands.IsExpected e → IsOfMachine (error_of_log e)
-met limit e old new one tells fits works (inl machine) = of_machine e machine
+    (log_stands.HasFailed old → ⊥) → log_stands.IsExpected e → IsEngineExternal (error_of_log e)
+met limit e old new one tells fits works (inl external) = log_is_external e external
 met limit (log.Disk e) old new one tells fits works (inr own) =
     elim own [ inl long ↦ absurd cc | inr failed ↦ absurd cc ]
 met limit log.Memory old new one tells fits works (inr own) =

@@ -13,10 +13,10 @@ use Rattle.engine.specs.declared.engine.Engine.{Engine}
 use Rattle.engine.specs.declared.error.EngineError.{EngineError}
 use Rattle.engine.specs.declared.store_files.StoreFiles.{StoreFiles}
 use Rattle.engine.specs.declared.error.EngineError.TheVariants as engine
-use Rattle.engine.specs.Calls.{ExplainsRefusal, Goes, IsAdrift, IsNoDamage, disk_after}
+use Rattle.engine.specs.Calls.{ExplainsRefusal, ListFollows, IsAdrift, IsNoDamage, disk_after}
 use Rattle.engine.specs.Engines.{EngineHolds, EngineReads, HasEnded, IsInMemory, engine_disk}
 use Rattle.engine.specs.Engines.{IsNearlyFull, LookUps, facts_of}
-use Rattle.engine.specs.Errors.{EndsEngine, IsEnd, IsOfMachine}
+use Rattle.engine.specs.Errors.{EndsEngine, IsEnd, IsEngineExternal}
 use Rattle.engine.specs.Files.{Facts}
 use Rattle.engine.specs.OpenFiles.{FilesHold, OpeningRefusal}
 use Rattle.engine.specs.StoreFiles.{FilesRepresent}
@@ -58,12 +58,12 @@ module _ {T : Type 0} where
 
   -- a fact of each answer, and one of this answer
   pub on_first : (result : Result T EngineError) (P : Type 0) (Q : T → Type 0) →
-      MatchResult result (λ x. P × Q x) IsOfMachine → OnOk result P
+      MatchResult result (λ x. P × Q x) IsEngineExternal → OnOk result P
   on_first (Ok x) P Q both = both.0
   on_first (Err e) P Q told = tt
 
   pub on_second : (result : Result T EngineError) (P : Type 0) (Q : T → Type 0) →
-      MatchResult result (λ x. P × Q x) IsOfMachine → MatchResult result Q IsOfMachine
+      MatchResult result (λ x. P × Q x) IsEngineExternal → MatchResult result Q IsEngineExternal
   on_second (Ok x) P Q both = both.1
   on_second (Err e) P Q told = told
 
@@ -76,30 +76,30 @@ told_of facts count = rw (facts, count) refl
 
 -- ---- openings
 
--- damage is no refusal of the machine
-not_of_machine : IsOfMachine engine.Damaged → ⊥
-not_of_machine (inl is) = cc
-not_of_machine (inr is) = cc
+-- damage is no external refusal
+not_external : IsEngineExternal engine.Damaged → ⊥
+not_external (inl is) = cc
+not_external (inr is) = cc
 
 -- an answer is as told, and a refusal is no damage
 pub answers_or_machine : {T : Type 0} (result : Result T EngineError) (P : T → Type 0) →
-    MatchResult result P IsOfMachine → IfOk result P × IsNoDamage result
+    MatchResult result P IsEngineExternal → IfOk result P × IsNoDamage result
 answers_or_machine (Ok x) P told = (told, λ damaged. cc)
 answers_or_machine (Err e) P told = (
   tt,
   λ damaged.
       let is : e ≡ engine.Damaged = cc in
-      not_of_machine (subst IsOfMachine is told),
+      not_external (subst IsEngineExternal is told),
 )
 
 -- a refusal to open files says what is wrong with them
 pub explains : (e : EngineError) (left : Contents) → OpeningRefusal e left →
     ((facts : Facts) (list : List BatchContent) → FilesRepresent facts list left →
-    IsOfMachine e) → ExplainsRefusal e left
+    IsEngineExternal e) → ExplainsRefusal e left
 explains engine.Disk left told opens = tt
 explains engine.Damaged left told opens = record {
   created = told;
-  no_store = λ facts list files. not_of_machine (opens facts list files);
+  no_store = λ facts list files. not_external (opens facts list files);
 }
 explains engine.Memory left told opens = tt
 explains engine.NotCreated left told opens = told
@@ -170,7 +170,7 @@ module _ {D : Type 0} (g : Ghosts D) (laws : LeftFiles) where
       OnOk result (HasEnded new → ⊥) →
       (g.is_honest (engine_disk old) → FilesHold (g.state (engine_disk old)) old.store list →
       OnOk result (FilesHold (g.state (engine_disk new)) new.store more)) →
-      Goes g old new list more result
+      ListFollows g old new list more result
   goes_to old new list more (Ok x) honest works held =
       let next : EngineReads g old list → EngineReads g new more = λ r.
       reads_of new more (honest r.honest) works (held r.honest (held_of g old list r)) in
@@ -202,7 +202,7 @@ module _ {D : Type 0} (g : Ghosts D) (laws : LeftFiles) where
   -- an answer leaves the list
   pub goes_on : {T : Type 0} (old new : Engine D g) (list : List BatchContent)
       (result : Result T EngineError) → IsAsBefore old new → OnOk result (HasEnded new → ⊥) →
-      Goes g old new list list result
+      ListFollows g old new list list result
   goes_on old new list result as_before works =
       goes_to old new list list result as_before.honest works
       (λ honest held. on_ok result (stays_held old new list as_before honest held))

@@ -32,7 +32,7 @@ use Rattle.manifest.specs.declared.TableLine.{TableLine}
 use Rattle.manifest.specs.{IsTableLine}
 use Rattle.engine.specs.declared.error.EngineError.{EngineError}
 use Rattle.engine.specs.declared.error.EngineError.TheVariants as engine
-use Rattle.engine.specs.Errors.{IsOfMachine}
+use Rattle.engine.specs.Errors.{IsEngineExternal}
 use Rattle.engine.specs.LevelTables.{least_key, line_range}
 use Rattle.engine.specs.OpenFiles.{IsWrittenTable}
 use Rattle.engine.specs.TableWriting.{finished_line}
@@ -187,6 +187,6 @@ written_table disk memtable file entries done named f alike =
 pub line_told : (P : TableLine → Type 0) (line : TableLine) (result : Result TableLine EngineError)
     → MatchResult result (λ told. (told ≡ line) × IsTableLine told)
     (λ e. (e ≡ engine.Damaged) × (IsTableLine line → ⊥)) → IsTableLine line → P line
-    → MatchResult result P IsOfMachine
+    → MatchResult result P IsEngineExternal
 line_told P line (Ok one) told proper has = subst P (sym told.0) has
 line_told P line (Err e) told proper has = absurd (told.1 proper)

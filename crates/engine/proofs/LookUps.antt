@@ -19,7 +19,7 @@ use Rattle.store_model.specs.{LevelTable, NewestHas, StoreRepresents, StoreState
 use Rattle.manifest.specs.declared.TableLine.{TableLine}
 use Rattle.engine.specs.declared.error.EngineError.{EngineError}
 use Rattle.engine.specs.declared.error.EngineError.TheVariants as engine
-use Rattle.engine.specs.Errors.{IsOfMachine}
+use Rattle.engine.specs.Errors.{IsEngineExternal}
 use Rattle.engine.specs.LevelTables.{AreTablesOf, IsTableOf, TableLookUpsAreMaps, TablesFind}
 use Rattle.engine.specs.LevelTables.{found_value}
 use Rattle.engine.proofs.Entries.{newest_in, unseen_in}
@@ -98,7 +98,7 @@ pub told_of_tables : (found : Option FoundVersion) (map : Option (List ℕ))
     × IsSomeAnd (option_flatten (found_value found)) (λ bytes. MAX_VALUE < length bytes))
     → (IsSomeAnd (option_flatten (found_value found)) (λ bytes. MAX_VALUE < length bytes) → ⊥)
     → option_flatten (found_value found) ≡ map
-    → MatchResult result (λ value. value ≡ map) IsOfMachine
+    → MatchResult result (λ value. value ≡ map) IsEngineExternal
 told_of_tables found map (Ok value) is damaged short same = is ∙ same
 told_of_tables found map (Err e) is damaged short same = absurd (short damaged.1)
 
@@ -113,8 +113,8 @@ placed (x ∷ list) (suc i) batch got = placed list i batch got
 
 pub batch_found : (list : List BatchContent) (number : ℕ)
     (result : Result BatchContent EngineError) → 0 < number →
-    MatchResult result (λ b. slice_get list (number - 1) ≡ Some b) IsOfMachine →
-    MatchResult result (λ b. place list number ≡ Some b) IsOfMachine
+    MatchResult result (λ b. slice_get list (number - 1) ≡ Some b) IsEngineExternal →
+    MatchResult result (λ b. place list number ≡ Some b) IsEngineExternal
 batch_found list number (Ok b) some found =
     let next : number ≡ suc (number - 1) = omega (arith, some) in
     ap (place list) next ∙ placed list (number - 1) b found
@@ -124,8 +124,8 @@ batch_found list number (Err e) some machine = machine
 pub found_behind : (list : List BatchContent) (trimmed number : ℕ)
     (result : Result BatchContent EngineError) → trimmed < number
     → MatchResult result (λ b. slice_get (drop trimmed list) (number - suc trimmed) ≡ Some b)
-    IsOfMachine
-    → MatchResult result (λ b. place list number ≡ Some b) IsOfMachine
+    IsEngineExternal
+    → MatchResult result (λ b. place list number ≡ Some b) IsEngineExternal
 found_behind list trimmed number (Ok b) behind found =
     let there : trimmed + (number - suc trimmed) ≡ number - 1 = omega (arith, behind) in
     let is = ap (slice_get list) (sym there) ∙ sym (slice_get-drop trimmed list (number - suc trimmed))

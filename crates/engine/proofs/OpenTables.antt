@@ -19,12 +19,12 @@ use Rattle.manifest.specs.declared.TableLine.{TableLine}
 use Rattle.engine.specs.declared.levels.OpenTable.{OpenTable}
 use Rattle.engine.specs.KeepingLemmas.{kept_as, kept_behind, neither, same_files, same_then_same}
 use Rattle.engine.specs.KeepingLemmas.{unchanged}
-use Rattle.engine.specs.Errors.{IsOfMachine}
+use Rattle.engine.specs.Errors.{IsEngineExternal}
 use Rattle.engine.specs.LevelTables.{EntriesFind, FileFits, FitsLine, IsServed, IsTableOf}
 use Rattle.engine.specs.LevelTables.{error_of_table}
 
 -- a refusal that says nothing of a file
-pub of_table : (e : TableError) → IsEnvironmentError e → IsOfMachine (error_of_table e)
+pub of_table : (e : TableError) → IsEnvironmentError e → IsEngineExternal (error_of_table e)
 of_table e (inl failed) = inl (ap error_of_table failed)
 of_table e (inr memory) = inr (ap error_of_table memory)
 

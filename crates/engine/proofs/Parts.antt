@@ -22,7 +22,7 @@ use Rattle.engine.specs.declared.error.EngineError.TheVariants as engine
 use Rattle.engine.specs.BatchLogs.{AreBeside, AreJoined, AreLeftWith, AreParted, AreUsable, HasPart, HaveBatches}
 use Rattle.engine.specs.BatchLogs.{HoldsPart, IsWorking, LogsHold, oldest_first, line_of, lines_of}
 use Rattle.engine.specs.BatchLogs.{newest_file, next_number, end_of_log, with_line}
-use Rattle.engine.specs.Errors.{IsOfMachine}
+use Rattle.engine.specs.Errors.{IsEngineExternal}
 use Rattle.engine.specs.Files.{IsLog}
 use Rattle.engine.specs.Layout.{batch_record, records_from}
 use Rattle.engine.proofs.Causes.{undamaged}
@@ -342,7 +342,7 @@ pub batch_of_part : SpellingsDiffer → (first number i : ℕ) (here : List Batc
     (IsErrOf result engine.Damaged → (b : BatchContent) → IsBatch b →
     bytes ≡ batch_record number b → ⊥) →
     IfErr result (λ e. (e ≡ engine.Damaged) ⊎ (e ≡ engine.Memory)) →
-    MatchResult result (λ b. slice_get here i ≡ Some b) IsOfMachine
+    MatchResult result (λ b. slice_get here i ≡ Some b) IsEngineExternal
 batch_of_part law first number i here bytes (Ok b) at each got found damaged only =
     batch_placed law first here i b each found.1
     (got ∙ ap (λ (r : List ℕ). Some r) (found.0 ∙ ap (λ (n : ℕ). batch_record n b) at))
@@ -464,8 +464,8 @@ placed_behind (x ∷ before) here i b got =
 pub batch_among : (disk : State) (first number : ℕ) (batches : List BatchContent) (one : BatchLog)
     (part : PartOf disk first batches one) (result : Result BatchContent EngineError) →
     one.first ≤ number →
-    MatchResult result (λ b. slice_get part.here (number - one.first) ≡ Some b) IsOfMachine →
-    MatchResult result (λ b. slice_get batches (number - first) ≡ Some b) IsOfMachine
+    MatchResult result (λ b. slice_get part.here (number - one.first) ≡ Some b) IsEngineExternal →
+    MatchResult result (λ b. slice_get batches (number - first) ≡ Some b) IsEngineExternal
 batch_among disk first number batches one part (Ok b) behind got =
     let at : number - first ≡ length part.before + (number - one.first) =
     omega (arith, part.first, behind) in

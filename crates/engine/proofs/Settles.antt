@@ -16,7 +16,7 @@ use Rattle.disk.specs.StillLemmas.{still, still_sync}
 use Rattle.manifest.specs.declared.TableLine.{TableLine}
 use Rattle.record_log.specs.{IsDurableAs}
 use Rattle.engine.specs.declared.error.EngineError.{EngineError}
-use Rattle.engine.specs.Errors.{FailsDevice, IsOfMachine, error_of_disk}
+use Rattle.engine.specs.Errors.{FailsDevice, IsEngineExternal, error_of_disk}
 use Rattle.engine.specs.KeepingLemmas.{kept_as, kept_behind, neither, unchanged}
 use Rattle.engine.specs.Settling.{AddsNothing, AreSynced, SlotSettles}
 
@@ -144,9 +144,9 @@ not_shorter : (file : Option (List ℕ)) → IsSomeAnd file (λ bytes. length by
 not_shorter None short = absurd short
 not_shorter (Some bytes) short = omega (arith, short)
 
--- a sync of a file that is there is refused by the machine alone
+-- a refused sync of a file that is there is external
 pub there_machine : (e : DiskError) (disk : State) (file : ℕ) → IsSome (seen (disk file)) →
-    IsRefusalOf e disk file 0 → IsOfMachine (error_of_disk e)
+    IsRefusalOf e disk file 0 → IsEngineExternal (error_of_disk e)
 there_machine disk.Failed disk file there refusal = inl refl
 there_machine disk.NoFile disk file there refusal =
     absurd (not_gone (seen (disk file)) there refusal)

@@ -24,7 +24,7 @@ use Rattle.table_builder.specs.declared.Builder.{Builder}
 use Rattle.table_builder.specs.{Builds, data_size}
 use Rattle.engine.specs.declared.error.EngineError.{EngineError}
 use Rattle.engine.specs.declared.error.EngineError.TheVariants as engine
-use Rattle.engine.specs.Errors.{FailsDevice, IsOfMachine}
+use Rattle.engine.specs.Errors.{FailsDevice, IsEngineExternal}
 use Rattle.engine.specs.Errors.{error_of_cursor}
 use Rattle.engine.specs.TableWriting.{HasAddedAll, PassesLimit}
 
@@ -209,8 +209,8 @@ table_entry entry limits = record {
 -- what was added of one set was added of another with the same entries
 pub added_like : (own has : Entry → Type 0) → IsAlike own has → (slot : Slot) (builder : Builder)
     (result : Result Bool EngineError)
-    → MatchResult result (HasAddedAll own slot builder) IsOfMachine
-    → MatchResult result (HasAddedAll has slot builder) IsOfMachine
+    → MatchResult result (HasAddedAll own slot builder) IsEngineExternal
+    → MatchResult result (HasAddedAll has slot builder) IsEngineExternal
 added_like own has alike slot builder (Ok true) it = record {
   entries = it.entries;
   builds = it.builds;

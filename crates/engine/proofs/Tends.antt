@@ -16,7 +16,7 @@ use Rattle.manifest.specs.{ManifestRepresents, SlotsAreLeft, StoreVersion}
 use Rattle.engine.specs.declared.store_files.StoreFiles.{StoreFiles}
 use Rattle.engine.specs.declared.error.EngineError.{EngineError}
 use Rattle.engine.specs.declared.tended.Tended.{Tended}
-use Rattle.engine.specs.Errors.{IsEnd, IsOfMachine, error_of_edit}
+use Rattle.engine.specs.Errors.{IsEnd, IsEngineExternal, error_of_edit}
 use Rattle.engine.specs.OpenFiles.{FilesHold, known_facts, known_version}
 use Rattle.engine.specs.StoreFiles.{FilesRepresent}
 use Rattle.engine.specs.Tending.{FlushIsDue, RewriteIsDue, TellsFlush, TellsRewrite, TellsWork}
@@ -29,27 +29,28 @@ use Rattle.engine.proofs.Spills.{are_read}
 
 -- ---- refusals
 
--- a refusal of the machine is told as one
-pub edit_of_machine : (e : ManifestError) → IsManifestExternal e → IsOfMachine (error_of_edit e)
-edit_of_machine e (inl failed) = inl (ap error_of_edit failed)
-edit_of_machine e (inr memory) = inr (ap error_of_edit memory)
+-- an external refusal of a manifest is one of the engine
+pub edit_is_external : (e : ManifestError) → IsManifestExternal e →
+    IsEngineExternal (error_of_edit e)
+edit_is_external e (inl failed) = inl (ap error_of_edit failed)
+edit_is_external e (inr memory) = inr (ap error_of_edit memory)
 
 -- ---- what a tend tells
 
 module _ (limit : ℕ) (old new : StoreFiles) (held : Type 0) where
   -- a rewrite that was due
   pub tells_rewrite : (result : Result Tended EngineError) → RewriteIsDue old →
-      MatchResult result (λ _. held) IsOfMachine →
+      MatchResult result (λ _. held) IsEngineExternal →
       MatchResult result (TellsRewrite old new) IsEnd →
-      MatchResult result (λ answer. held × TellsWork limit old new answer) IsOfMachine
+      MatchResult result (λ answer. held × TellsWork limit old new answer) IsEngineExternal
   tells_rewrite (Ok answer) due holds tells = (holds, work.Rewrites due tells)
   tells_rewrite (Err e) due machine ends = machine
 
   -- a flush that was due
   pub tells_flush : (result : Result Tended EngineError) → (RewriteIsDue old → ⊥) →
       FlushIsDue limit old →
-      MatchResult result (λ answer. held × TellsFlush old new answer) IsOfMachine →
-      MatchResult result (λ answer. held × TellsWork limit old new answer) IsOfMachine
+      MatchResult result (λ answer. held × TellsFlush old new answer) IsEngineExternal →
+      MatchResult result (λ answer. held × TellsWork limit old new answer) IsEngineExternal
   tells_flush (Ok answer) short due tells = (tells.0, work.Flushes short due tells.1)
   tells_flush (Err e) short due machine = machine
 

@@ -36,8 +36,8 @@ IsNoDamage result = IsErrOf result engine.Damaged → ⊥
 
 -- ---- what a call keeps
 
--- An engine that has ended answers `Failed`, and no other does. The refusals of the machine and of
--- the files end it, and no others do; those others change nothing.
+-- An engine that has ended answers `Failed`, and no other does. External refusals and `Damaged` end
+-- it, and no others do; those others change nothing.
 pub record KeepsEngine {D T : Type 0} (g : Ghosts D) (old new : Engine D g)
     (result : Result T EngineError) (cause : Type 0) (IsKept : State → State → Type 0) : Type 0 where
   pub disk : KeepsDisk g (engine_disk old) (engine_disk new) (FailsDevice result) cause IsKept
@@ -46,8 +46,8 @@ pub record KeepsEngine {D T : Type 0} (g : Ghosts D) (old new : Engine D g)
   pub refusal : IsErrAnd result (λ e. IsEnd e → ⊥) → new ≡ old
 
 -- the disk represents this list after the call, where it represented that one before
-pub record Goes {D T : Type 0} (g : Ghosts D) (old new : Engine D g) (list more : List BatchContent)
-    (result : Result T EngineError) : Type 0 where
+pub record ListFollows {D T : Type 0} (g : Ghosts D) (old new : Engine D g)
+    (list more : List BatchContent) (result : Result T EngineError) : Type 0 where
   pub reads : EngineReads g old list → OnOk result (EngineReads g new more)
   pub holds : EngineHolds g old list → OnOk result (EngineHolds g new more)
 

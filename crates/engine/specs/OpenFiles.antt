@@ -161,7 +161,7 @@ pub record FilesOpenAs (left : Contents) (files : StoreFiles) : Type 0 where
   pub count : batch_count files ≡ trimmed_count files + length batches
   pub tables : All (FileFits left) (known_version files).version.tables
 
--- why files were not opened: the machine refused, no store was created, or one was
+-- why files were not opened: an external refusal, no store was created, or one was
 abbrev pub OpeningRefusal : EngineError → Contents → Type 0
 OpeningRefusal engine.Disk left = Unit {0}
 OpeningRefusal engine.Damaged left = IsNotCreated left → ⊥

@@ -11,7 +11,7 @@ ghost use Rattle.engine.specs.BatchLogs.{AreBeside, AreJoined, AreLeftWith, AreU
 ghost use Rattle.engine.specs.BatchLogs.{IsWorking, LogsHold, first_number, oldest_first, line_of};
 ghost use Rattle.engine.specs.BatchLogs.{lines_of, newest_file, newest_length, next_number};
 ghost use Rattle.engine.specs.BatchLogs.{end_of_log, with_line};
-ghost use Rattle.engine.specs.Errors.{FailsDevice, IsEnd, IsOfMachine};
+ghost use Rattle.engine.specs.Errors.{FailsDevice, IsEnd, IsEngineExternal};
 ghost use Rattle.engine.specs.Layout.{records_from};
 
 use crate::EngineError;
@@ -53,7 +53,7 @@ fn batch_in<D: Disk>(
         LogHolds (D.state disk.old) one.now.log (records_from one.now.first here) →
         All IsBatch here →
         MatchResult result (λ batch. slice_get here (number - one.now.first) ≡ Some batch)
-        IsOfMachine }
+        IsEngineExternal }
     ensures causes { IfErr result IsEnd }
     ensures still { IsStill D.Disk disk.old disk.new }
 {
@@ -139,7 +139,7 @@ impl BatchLogs {
             LogsHold (D.state disk.old) self.old first batches →
             MatchResult result
             (λ _. LogsHold (D.state disk.new) self.new first (batches ++ batch.now ∷ []))
-            IsOfMachine }
+            IsEngineExternal }
 
         // A crash at any moment since the call began, whatever it answers, leaves the old batches,
         // with or without the new one.
@@ -175,7 +175,7 @@ impl BatchLogs {
         ensures found { (first : ℕ) (batches : List BatchContent) → D.is_honest disk.old →
             LogsHold (D.state disk.old) self.now first batches → All IsBatch batches →
             MatchResult result (λ batch. slice_get batches (number - first) ≡ Some batch)
-            IsOfMachine }
+            IsEngineExternal }
         ensures causes { IfErr result IsEnd }
         ensures still { IsStill D.Disk disk.old disk.new }
     {
@@ -198,7 +198,7 @@ impl BatchLogs {
             EndsInRange (seen (D.state disk.old file)) →
             LogsHold (D.state disk.old) self.old first batches →
             MatchResult result (λ _. LogsHold (D.state disk.new) self.new first batches)
-            IsOfMachine }
+            IsEngineExternal }
         ensures told { MatchResult result
             (λ _. AreUsable self.new × (next_number self.new ≡ next_number self.old)
             × (lines_of self.new ≡ with_line self.old file))

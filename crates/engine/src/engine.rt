@@ -54,7 +54,7 @@ impl<D: Disk + Drop> Engine<D> {
     ghost use Rattle.disk.specs.{AlwaysLeaves, contents, IsSame, IsSameBut, IsStill, KeepsDisk};
     ghost use Rattle.disk.specs.{OnlyLeaves};
     ghost use Rattle.chain_model.specs.{place};
-    ghost use Rattle.engine.specs.Calls.{ExplainsRefusal, Goes, IsEngineOf, IsJustOpened};
+    ghost use Rattle.engine.specs.Calls.{ExplainsRefusal, ListFollows, IsEngineOf, IsJustOpened};
     ghost use Rattle.engine.specs.Calls.{IsNewEngine, IsNoDamage, IsOldOrNewSince, IsOpened};
     ghost use Rattle.engine.specs.Calls.{IsAdrift, KeepsEngine, RefusedByDevice, TellsReadable};
     ghost use Rattle.engine.specs.Calls.{TellsTend, disk_after};
@@ -62,7 +62,7 @@ impl<D: Disk + Drop> Engine<D> {
     ghost use Rattle.engine.specs.Engines.{HasNearlyFullLog, IsNearlyFull, engine_disk, facts_of};
     ghost use Rattle.engine.specs.Engines.{files_of_tend, look_ups, newest_log_file};
     ghost use Rattle.engine.specs.Engines.{table_count, with_one_more, with_committed};
-    ghost use Rattle.engine.specs.Errors.{IsOfMachine};
+    ghost use Rattle.engine.specs.Errors.{IsEngineExternal};
     ghost use Rattle.engine.specs.Files.{Facts, IsOwned};
     ghost use Rattle.engine.specs.StoreFiles.{FilesRepresent, IsOneOf};
     ghost use Rattle.engine.specs.Tending.{IsSameBeside};
@@ -79,7 +79,7 @@ impl<D: Disk + Drop> Engine<D> {
         ensures kept { KeepsDisk D.Disk disk (disk_after result) (RefusedByDevice result) ⊥ IsOwned }
         ensures created { D.is_honest disk →
             MatchResult result (λ engine. EngineHolds D.Disk engine [])
-            (λ refused. IsOfMachine refused.0) }
+            (λ refused. IsEngineExternal refused.0) }
         ensures begun { IfOk result (IsNewEngine id config.now limits.now.log) }
     {
         // laws: what a crash leaves of the files that are named, and what a disk reads
@@ -107,7 +107,7 @@ impl<D: Disk + Drop> Engine<D> {
         ensures opened { (facts : Facts) (list : List BatchContent) → D.is_honest disk →
             FilesRepresent facts list (contents (D.state disk)) →
             MatchResult result (IsEngineOf D.Disk facts list)
-            (λ refused. IsOfMachine refused.0) }
+            (λ refused. IsEngineExternal refused.0) }
         ensures told { D.is_honest disk →
             MatchResult result (IsOpened (contents (D.state disk)))
             (λ refused. ExplainsRefusal refused.0 (contents (D.state disk))) }
@@ -121,7 +121,7 @@ impl<D: Disk + Drop> Engine<D> {
             AlwaysLeaves D.Disk disk (disk_after result) (IsOneOf facts list facts' list') }
 
         // What is refused for its files is left as it was.
-        ensures still { IfErr result (λ refused. (IsOfMachine refused.0 → ⊥) →
+        ensures still { IfErr result (λ refused. (IsEngineExternal refused.0 → ⊥) →
             IsStill D.Disk disk refused.1) }
     {
         // laws: what a crash leaves of the files that are named, and what a disk reads
@@ -168,9 +168,9 @@ impl<D: Disk + Drop> Engine<D> {
             × (n ≡ (look_ups self.new).count))
             (λ _. look_ups self.new ≡ look_ups self.old) }
         ensures appended { (list : List BatchContent) →
-            Goes D.Disk self.old self.new list (list ++ batch.now ∷ []) result }
+            ListFollows D.Disk self.old self.new list (list ++ batch.now ∷ []) result }
         ensures met { (list : List BatchContent) → EngineReads D.Disk self.old list →
-            IfErr result (λ e. IsOfMachine e
+            IfErr result (λ e. IsEngineExternal e
             ⊎ ((e ≡ EngineError.Exhausted) × (MAX_NUMBER ≤ (look_ups self.old).count))) }
 
         // A crash at any moment since the call began, whatever it answers, leaves the old batches,
@@ -222,7 +222,8 @@ impl<D: Disk + Drop> Engine<D> {
         ensures readable { TellsReadable (look_ups self.old) at result }
         ensures found { (list : List BatchContent) → EngineReads D.Disk self.old list →
             IfOk result (λ value. value ≡ map_of (take at list) key.now) × IsNoDamage result }
-        ensures kept { (list : List BatchContent) → Goes D.Disk self.old self.new list list result }
+        ensures kept { (list : List BatchContent) →
+            ListFollows D.Disk self.old self.new list list result }
         ensures still { IsStill D.Disk (engine_disk self.old) (engine_disk self.new) }
     {
         // laws: what a crash leaves of the files that are named, and what a disk reads
@@ -242,8 +243,9 @@ impl<D: Disk + Drop> Engine<D> {
         ensures keeps { KeepsEngine D.Disk self.old self.new result ⊥ IsSame }
         ensures told { look_ups self.new ≡ look_ups self.old }
         ensures found { (list : List BatchContent) → EngineReads D.Disk self.old list →
-            MatchResult result (λ batch. place list number ≡ Some batch) IsOfMachine }
-        ensures kept { (list : List BatchContent) → Goes D.Disk self.old self.new list list result }
+            MatchResult result (λ batch. place list number ≡ Some batch) IsEngineExternal }
+        ensures kept { (list : List BatchContent) →
+            ListFollows D.Disk self.old self.new list list result }
         ensures still { IsStill D.Disk (engine_disk self.old) (engine_disk self.new) }
     {
         // laws: what a crash leaves of the files that are named, and what a disk reads
@@ -267,9 +269,9 @@ impl<D: Disk + Drop> Engine<D> {
             (IsSameBeside (files_of_tend self.old)) }
         ensures told { look_ups self.new ≡ look_ups self.old }
         ensures tended { (list : List BatchContent) →
-            Goes D.Disk self.old self.new list list result }
+            ListFollows D.Disk self.old self.new list list result }
         ensures work { (list : List BatchContent) → EngineReads D.Disk self.old list →
-            MatchResult result (TellsTend self.old self.new) IsOfMachine }
+            MatchResult result (TellsTend self.old self.new) IsEngineExternal }
 
         // A crash at any moment since the call began leaves files of the same store.
         ensures any_moment { (list : List BatchContent) → EngineHolds D.Disk self.old list →

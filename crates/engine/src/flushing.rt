@@ -6,7 +6,7 @@ ghost use Rattle.kv_types.specs.{BatchContent};
 ghost use Rattle.disk.specs.{AlwaysLeaves, IsSameBut, KeepsDisk};
 ghost use Rattle.manifest.specs.{HasFullSlot, IsChange, IsFit, IsVersion};
 ghost use Rattle.memtable.specs.{HasFailedAdd};
-ghost use Rattle.engine.specs.Errors.{FailsDevice, IsEnd, IsOfMachine};
+ghost use Rattle.engine.specs.Errors.{FailsDevice, IsEnd, IsEngineExternal};
 ghost use Rattle.engine.specs.Files.{IsOwned};
 ghost use Rattle.engine.specs.OpenFiles.{AreUsableFiles, FilesHold, HasEntry, IsTooLarge};
 ghost use Rattle.engine.specs.OpenFiles.{batch_count, known_facts, known_version};
@@ -111,7 +111,7 @@ impl StoreFiles {
             FilesHold (D.state disk.old) self.now list → MatchResult result
             (λ made. MatchOption made
             (IsTooLarge self.now.memtable × FilesHold (D.state disk.new) self.now list)
-            (HasSpilled (D.state disk.old) (D.state disk.new) self.now)) IsOfMachine }
+            (HasSpilled (D.state disk.old) (D.state disk.new) self.now)) IsEngineExternal }
         ensures line { IfOk result (λ made. MatchOption made Unit
             (λ it. IsNextTable (known_version self.now).version it.line)) }
         ensures opened { IfOk result (λ made. MatchOption made (Unit {0})
@@ -152,7 +152,7 @@ impl StoreFiles {
             (D.state disk.old) (D.state disk.new) }
         ensures installed { (list : List BatchContent) → D.is_honest disk.old →
             HeldAndSpilled (D.state disk.old) self.old list made → MatchResult result
-            (λ _. FilesHold (D.state disk.new) self.new list) IsOfMachine }
+            (λ _. FilesHold (D.state disk.new) self.new list) IsEngineExternal }
         ensures told { MatchResult result
             (λ _. AreUsableFiles self.new × ((batch_count self.new ≡ batch_count self.old)
             × IsFlushedBy made.line self.old self.new))

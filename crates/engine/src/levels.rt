@@ -9,7 +9,7 @@ ghost use Rattle.kv_types.specs.{Entry};
 ghost use Rattle.sorted_table.specs.{TableServes, greatest_key, index_lines, last_line_key};
 ghost use Rattle.store_model.specs.{AreLeveled, FitsRange, LevelTable, RangeHolds};
 ghost use Rattle.store_model.specs.{level_entries};
-ghost use Rattle.engine.specs.Errors.{FailsDevice, IsEnd, IsOfMachine};
+ghost use Rattle.engine.specs.Errors.{FailsDevice, IsEnd, IsEngineExternal};
 ghost use Rattle.engine.specs.LevelTables.{AreServed, AreTablesOf, EntriesFind, FileFits};
 ghost use Rattle.engine.specs.LevelTables.{IsServed, IsTableOf, LevelsRise, TablesFind};
 ghost use Rattle.engine.specs.LevelTables.{error_of_table, is_flushed, level_count, line_range};
@@ -68,7 +68,7 @@ impl OpenTable {
         ensures kept { KeepsDisk D.Disk disk.old disk.new (FailsDevice result) ⊥ IsSame }
         ensures opened { (table : LevelTable) → D.is_honest disk.old →
             IsTableOf (contents (D.state disk.old)) line.now table →
-            MatchResult result (λ it. IsServed (D.state disk.new) it table) IsOfMachine }
+            MatchResult result (λ it. IsServed (D.state disk.new) it table) IsEngineExternal }
         ensures line { IfOk result (λ it. it.line ≡ line.now) }
         ensures fits { D.is_honest disk.old →
             OnOk result (FileFits (contents (D.state disk.old)) line.now) }
@@ -108,7 +108,7 @@ impl OpenTable {
             IsSame }
         ensures found { (table : LevelTable) → ⟦<Files<D> as Disk>⟧.is_honest files.old →
             IsServed (⟦<Files<D> as Disk>⟧.state files.old) self.now table → FitsRange table →
-            MatchResult result (EntriesFind at (Contains table.entries) key.now) IsOfMachine }
+            MatchResult result (EntriesFind at (Contains table.entries) key.now) IsEngineExternal }
         ensures causes { IfErr result IsEnd }
         ensures still { IsStill ⟦<Files<D> as Disk>⟧ files.old files.new }
     {
@@ -150,7 +150,7 @@ pub(crate) struct LevelTables {
 
 impl LevelTables {
     /// Opens the tables that these lines name. `Damaged` only where they name none: where a file has
-    /// not its line's length, represents no table, or one whose ends are not the line's.
+    /// not its line's length, represents no table, or one whose greatest key is not the line's.
     pub(crate) fn open<D: Disk>(
         alloc: Global,
         disk: &mut D,
@@ -159,7 +159,7 @@ impl LevelTables {
         ensures kept { KeepsDisk D.Disk disk.old disk.new (FailsDevice result) ⊥ IsSame }
         ensures opened { (tables : List LevelTable) → D.is_honest disk.old →
             AreTablesOf (contents (D.state disk.old)) lines.now tables →
-            MatchResult result (λ it. AreServed (D.state disk.new) it tables) IsOfMachine }
+            MatchResult result (λ it. AreServed (D.state disk.new) it tables) IsEngineExternal }
         ensures lines { IfOk result (λ it. table_lines it ≡ lines.now) }
         ensures fits { D.is_honest disk.old →
             OnOk result (All (FileFits (contents (D.state disk.old))) lines.now) }
@@ -230,7 +230,7 @@ impl LevelTables {
             ⟦<Files<D> as Disk>⟧.is_honest files.old →
             AreServed (⟦<Files<D> as Disk>⟧.state files.old) self.now tables →
             AreLeveled flushed tables → LevelsRise tables →
-            MatchResult result (TablesFind at tables key.now) IsOfMachine }
+            MatchResult result (TablesFind at tables key.now) IsEngineExternal }
         ensures causes { IfErr result IsEnd }
         ensures still { IsStill ⟦<Files<D> as Disk>⟧ files.old files.new }
     {

@@ -3,7 +3,7 @@ ghost use Rattle.std.specs.Prelude.{◌≡◌, ◌↔◌, ◌+◌, ◌-◌, [], 
 ghost use Rattle.std.specs.Prelude.{IfErr, MatchResult};
 ghost use Rattle.kv_types.specs.{BatchContent};
 ghost use Rattle.disk.specs.{AlwaysLeaves, IsStill, KeepsDisk, OnlyLeaves, contents};
-ghost use Rattle.engine.specs.Errors.{FailsDevice, IsEnd, IsOfMachine};
+ghost use Rattle.engine.specs.Errors.{FailsDevice, IsEnd, IsEngineExternal};
 ghost use Rattle.engine.specs.Files.{Facts, IsOwned, first_facts};
 ghost use Rattle.engine.specs.StoreFiles.{FilesRepresent, IsOneOf, before_newest};
 ghost use Rattle.engine.specs.OpenFiles.{AreBatchesOf, AreUsableFiles};
@@ -101,7 +101,7 @@ fn read_parts<D: Disk>(
         AreTablesOf (contents (D.state disk.old)) version.now.version.tables tables →
         AreOrderedNumbers version.now.version (first - 1) (first - 1 + length batches) →
         MatchResult result
-        (PartsHold (D.state disk.new) version.now.version first batches tables) IsOfMachine }
+        (PartsHold (D.state disk.new) version.now.version first batches tables) IsEngineExternal }
     ensures told { D.is_honest disk.old → IfOk result
         (WereParts (D.state disk.old) (D.state disk.new) version.now.version) }
     ensures usable { IfOk result (AreParts version.now.version) }
@@ -128,7 +128,7 @@ fn read_files<D: Disk>(alloc: Global, disk: &mut D) -> Result<StoreFiles, Engine
     ensures opened { (facts : Facts) (list : List BatchContent) → D.is_honest disk.old →
         FilesRepresent facts list (contents (D.state disk.old)) → MatchResult result
         (λ files. (known_facts files ≡ facts) × FilesAreRead (D.state disk.new) files list)
-        IsOfMachine }
+        IsEngineExternal }
     ensures told { D.is_honest disk.old → MatchResult result
         (FilesOpenAs (contents (D.state disk.old)))
         (λ e. OpeningRefusal e (contents (D.state disk.old))) }
@@ -161,7 +161,7 @@ impl StoreFiles {
     ) -> Result<StoreFiles, EngineError>
         ensures kept { KeepsDisk D.Disk disk.old disk.new (FailsDevice result) ⊥ IsOwned }
         ensures created { D.is_honest disk.old → MatchResult result
-            (λ files. FilesHold (D.state disk.new) files []) IsOfMachine }
+            (λ files. FilesHold (D.state disk.new) files []) IsEngineExternal }
         ensures facts { IfOk result (λ files. known_facts files ≡ first_facts id config.now) }
         ensures none { IfOk result (λ files. batch_count files ≡ 0) }
         ensures usable { IfOk result AreUsableFiles }
@@ -192,7 +192,7 @@ impl StoreFiles {
         ensures opened { (facts : Facts) (list : List BatchContent) → D.is_honest disk.old →
             FilesRepresent facts list (contents (D.state disk.old)) → MatchResult result
             (λ files. (known_facts files ≡ facts) × FilesHold (D.state disk.new) files list)
-            IsOfMachine }
+            IsEngineExternal }
         ensures told { D.is_honest disk.old → MatchResult result
             (FilesOpenAs (contents (D.state disk.old)))
             (λ e. OpeningRefusal e (contents (D.state disk.old))) }
@@ -208,7 +208,7 @@ impl StoreFiles {
             AreAlone (kept_files (known_version files).version) (D.state disk.new)) }
 
         // What is refused for its files is left as it was.
-        ensures still { IfErr result (λ e. (IsOfMachine e → ⊥) →
+        ensures still { IfErr result (λ e. (IsEngineExternal e → ⊥) →
             IsStill D.Disk disk.old disk.new) }
     {
         held_versions_are_left(); // law: a crash leaves the version of an open manifest

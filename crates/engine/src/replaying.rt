@@ -6,7 +6,7 @@ ghost use Rattle.kv_types.specs.{BatchContent, IsBatch};
 ghost use Rattle.disk.specs.{AddsNoOutcome, IsStill, KeepsDisk, contents, seen};
 ghost use Rattle.record_log.specs.{HasRead, count_of};
 ghost use Rattle.engine.specs.BatchLogs.{HaveBatches, LogsHold};
-ghost use Rattle.engine.specs.Errors.{FailsDevice, IsEnd, IsOfMachine};
+ghost use Rattle.engine.specs.Errors.{FailsDevice, IsEnd, IsEngineExternal};
 ghost use Rattle.engine.specs.Files.{IsLog};
 ghost use Rattle.engine.specs.Layout.{batch_record, records_from};
 ghost use Rattle.engine.specs.OpenFiles.{AreBatchesOf, AreOpenLogs, AreReplayed, HasReplayed};
@@ -40,7 +40,7 @@ fn replay_record(
     ensures taken { OnOk result (IsTaken bytes.now number flushed memtable.old memtable.new) }
     ensures numbered { OnOk result (IsNumberedTo memtable.new number) }
     ensures damaged { (batch : BatchContent) → IsBatch batch →
-        bytes.now ≡ batch_record number batch → IfErr result IsOfMachine }
+        bytes.now ≡ batch_record number batch → IfErr result IsEngineExternal }
     ensures only { IfErr result (λ e. (e ≡ EngineError.Damaged) ⊎ (e ≡ EngineError.Memory)) }
 {
     let batch = batch_of(alloc, number.get(), bytes)?;
@@ -66,7 +66,7 @@ fn replay(
         × (before + count_of opened.now.log ≤ MAX_NUMBER)) }
     ensures damaged { (batches : List BatchContent) →
         HasRead opened.now (records_from (suc before) batches) → All IsBatch batches →
-        before + length batches ≤ MAX_NUMBER → IfErr result IsOfMachine }
+        before + length batches ≤ MAX_NUMBER → IfErr result IsEngineExternal }
     ensures only { IfErr result (λ e. (e ≡ EngineError.Damaged) ⊎ (e ≡ EngineError.Memory)) }
 {
     let count = opened.log.len();
@@ -95,7 +95,7 @@ fn open_log<D: Disk>(
     ensures kept { KeepsDisk D.Disk disk.old disk.new (FailsDevice result) ⊥ (AddsNoOutcome file) }
     ensures opened { (batches : List BatchContent) → D.is_honest disk.old →
         IsLog (seen (D.state disk.old file)) (records_from (suc before) batches) →
-        All IsBatch batches → before + length batches ≤ MAX_NUMBER → IfErr result IsOfMachine }
+        All IsBatch batches → before + length batches ≤ MAX_NUMBER → IfErr result IsEngineExternal }
     ensures read { D.is_honest disk.old → IfOk result (λ one. IsReadLog (D.state disk.old)
         (D.state disk.new) file before flushed one memtable.old memtable.new) }
     ensures told { IfOk result (λ one. IsOpenedBehind file before one memtable.new) }
@@ -124,7 +124,7 @@ fn read_logs<D: Disk>(
     ensures kept { KeepsDisk D.Disk disk.old disk.new (FailsDevice result) ⊥ AddsNothing }
     ensures opened { (batches : List BatchContent) → D.is_honest disk.old →
         HaveBatches (contents (D.state disk.old)) (suc before) lines.now batches →
-        All IsBatch batches → before + length batches ≤ MAX_NUMBER → IfErr result IsOfMachine }
+        All IsBatch batches → before + length batches ≤ MAX_NUMBER → IfErr result IsEngineExternal }
     ensures read { D.is_honest disk.old → IfOk result (λ it. (count : ℕ) × AreReadLogs
         (D.state disk.old) (D.state disk.new) lines.now before flushed count it.0.items it.1) }
     ensures told { IfOk result (λ it. (count : ℕ)
@@ -163,7 +163,7 @@ pub(crate) fn open_logs<D: Disk>(
     ensures opened { (first : ℕ) (batches : List BatchContent) → D.is_honest disk.old →
         AreBatchesOf (contents (D.state disk.old)) version.now.version.logs first batches →
         MatchResult result (λ it. LogsHold (D.state disk.new) it.0 first batches
-        × HasReplayed it.1 first version.now.version.flushed batches) IsOfMachine }
+        × HasReplayed it.1 first version.now.version.flushed batches) IsEngineExternal }
     ensures told { D.is_honest disk.old → IfOk result (λ it.
         AreReplayed (contents (D.state disk.old)) version.now.version.logs
         version.now.version.flushed it.0 it.1) }

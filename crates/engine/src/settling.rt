@@ -1,7 +1,7 @@
 // What an opening does to the files of a store: it syncs tables, and removes what nothing names.
 ghost use Rattle.std.specs.Prelude.{◌≡◌, IfErr, OnOk, MatchResult};
 ghost use Rattle.disk.specs.{AlwaysLeaves, IsStill, KeepsDisk};
-ghost use Rattle.engine.specs.Errors.{FailsDevice, IsEnd, IsOfMachine};
+ghost use Rattle.engine.specs.Errors.{FailsDevice, IsEnd, IsEngineExternal};
 ghost use Rattle.engine.specs.Settling.{AddsNothing, AreAlone, AreLeftOf, AreSynced, AreThere};
 ghost use Rattle.engine.specs.Settling.{SparesFiles};
 
@@ -16,7 +16,7 @@ pub(crate) fn sync_tables<D: Disk>(disk: &mut D, lines: &[TableLine]) -> Result<
     ensures synced { D.is_honest disk.old →
         OnOk result (AreSynced (D.state disk.old) (D.state disk.new) lines.now) }
     ensures there { D.is_honest disk.old → AreThere (D.state disk.old) lines.now →
-        IfErr result IsOfMachine }
+        IfErr result IsEngineExternal }
     ensures causes { IfErr result IsEnd }
     ensures still { IsStill D.Disk disk.old disk.new }
 {
@@ -31,7 +31,7 @@ pub(crate) fn remove_others<D: Disk>(disk: &mut D, kept: &[u64]) -> Result<(), E
     ensures kept { KeepsDisk D.Disk disk.old disk.new (FailsDevice result) ⊥
         (SparesFiles kept.now) }
     ensures alone { D.is_honest disk.old →
-        MatchResult result (λ _. AreAlone kept.now (D.state disk.new)) IsOfMachine }
+        MatchResult result (λ _. AreAlone kept.now (D.state disk.new)) IsEngineExternal }
 
     // A crash at any moment since the call began leaves these files as it might have before.
     ensures any_moment { D.is_honest disk.old →

@@ -7,7 +7,7 @@ ghost use Rattle.kv_types.specs.{BatchContent, map_of};
 ghost use Rattle.disk.specs.{AlwaysLeaves, IsSame, IsSameBut, IsStill, KeepsDisk};
 ghost use Rattle.chain_model.specs.{place};
 ghost use Rattle.engine.specs.BatchLogs.{HasFullLog, newest_file};
-ghost use Rattle.engine.specs.Errors.{FailsDevice, IsEnd, IsOfMachine};
+ghost use Rattle.engine.specs.Errors.{FailsDevice, IsEnd, IsEngineExternal};
 ghost use Rattle.engine.specs.OpenFiles.{AreUsableFiles, FilesHold, batch_count, known_facts};
 ghost use Rattle.engine.specs.OpenFiles.{trimmed_count};
 ghost use Rattle.memtable.specs.{HasFailedAdd, TableHolds};
@@ -96,7 +96,7 @@ impl StoreFiles {
             (HasFullLog self.old.logs) (IsSameBut (newest_file self.old.logs)) }
         ensures appended { (list : List BatchContent) → D.is_honest disk.old →
             FilesHold (D.state disk.old) self.old list → MatchResult result
-            (λ _. FilesHold (D.state disk.new) self.new (list ++ batch.now ∷ [])) IsOfMachine }
+            (λ _. FilesHold (D.state disk.new) self.new (list ++ batch.now ∷ [])) IsEngineExternal }
 
         // A crash at any moment since the call began, whatever it answers, leaves the old batches,
         // with or without the new one.
@@ -133,7 +133,7 @@ impl StoreFiles {
         ensures kept { KeepsDisk D.Disk disk.old disk.new (FailsDevice result) ⊥ IsSame }
         ensures found { (list : List BatchContent) → D.is_honest disk.old →
             FilesHold (D.state disk.old) self.now list →
-            MatchResult result (λ batch. place list number ≡ Some batch) IsOfMachine }
+            MatchResult result (λ batch. place list number ≡ Some batch) IsEngineExternal }
         ensures causes { IfErr result IsEnd }
         ensures still { IsStill D.Disk disk.old disk.new }
     {
@@ -155,7 +155,7 @@ impl StoreFiles {
         ensures found { (list : List BatchContent) → ⟦<Files<D> as Disk>⟧.is_honest files.old →
             FilesHold (⟦<Files<D> as Disk>⟧.state files.old) self.now list →
             (known_facts self.now).floor ≤ at → at ≤ batch_count self.now → MatchResult result
-            (λ value. value ≡ map_of (take at list) key.now) IsOfMachine }
+            (λ value. value ≡ map_of (take at list) key.now) IsEngineExternal }
         ensures causes { IfErr result IsEnd }
         ensures still { IsStill ⟦<Files<D> as Disk>⟧ files.old files.new }
     {

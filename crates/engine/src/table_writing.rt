@@ -10,7 +10,7 @@ ghost use Rattle.memtable.specs.declared.Memtable.{Memtable};
 ghost use Rattle.memtable.specs.{HasFailedAdd, KeepsEntryLimits, TableHolds};
 ghost use Rattle.table_format.specs.{CanFollow, IsTableEntry, lent_entry};
 ghost use Rattle.table_builder.specs.{Builds, BuildsNothing, IsFresh, builder_file};
-ghost use Rattle.engine.specs.Errors.{FailsDevice, IsEnd, IsOfMachine};
+ghost use Rattle.engine.specs.Errors.{FailsDevice, IsEnd, IsEngineExternal};
 ghost use Rattle.engine.specs.OpenFiles.{HasEntry, IsTooLarge, IsWrittenTable};
 ghost use Rattle.engine.specs.TableWriting.{BuildsAll, HasAddedAll, HasAddedOne, WritesInto};
 ghost use Rattle.engine.specs.TableWriting.{IsNewLine, error_of_writing, finished_line};
@@ -54,7 +54,7 @@ fn add_one<D: Disk>(
         Builds (D.state disk.old (builder_file builder.old)) builder.old entries →
         CanFollow entries (lent_entry entry.entry) → MatchResult result
         (HasAddedOne entries (lent_entry entry.entry) (D.state disk.new (builder_file builder.old))
-        builder.new) IsOfMachine }
+        builder.new) IsEngineExternal }
     ensures causes { IfErr result IsEnd }
 {
     match builder.add(alloc, disk, entry) {
@@ -93,7 +93,7 @@ fn add_all<'a, D: Disk>(
     ensures added { D.is_honest disk.old →
         Builds (D.state disk.old (builder_file builder.old)) builder.old [] → MatchResult result
         (HasAddedAll (⟦<MemCursor<'a> as Cursor>⟧.holds cursor.old tt)
-        (D.state disk.new (builder_file builder.old)) builder.new) IsOfMachine }
+        (D.state disk.new (builder_file builder.old)) builder.new) IsEngineExternal }
     ensures causes { IfErr result IsEnd }
 {
     let mut source = ();
@@ -122,7 +122,7 @@ fn add_memtable<D: Disk>(
     ensures added { D.is_honest disk.old →
         Builds (D.state disk.old (builder_file builder.old)) builder.old [] → MatchResult result
         (HasAddedAll (TableHolds memtable.now) (D.state disk.new (builder_file builder.old))
-        builder.new) IsOfMachine }
+        builder.new) IsEngineExternal }
     ensures causes { IfErr result IsEnd }
 {
     let mut cursor = memtable.cursor()?;
@@ -162,7 +162,7 @@ fn finish_table<D: Disk>(
         (BuildsNothing builder) }
     ensures written { (memtable : Memtable) → HasEntry memtable → D.is_honest disk.old →
         BuildsAll (TableHolds memtable) (D.state disk.old file) builder →
-        MatchResult result (IsWrittenTable (D.state disk.new) memtable file) IsOfMachine }
+        MatchResult result (IsWrittenTable (D.state disk.new) memtable file) IsEngineExternal }
     ensures line { IfOk result (IsNewLine file) }
     ensures causes { IfErr result IsEnd }
 {
@@ -179,7 +179,7 @@ fn finish_table<D: Disk>(
 fn remove_file<D: Disk>(disk: &mut D, file: u64) -> Result<(), EngineError>
     ensures writes { WritesInto D.Disk file disk.old disk.new (FailsDevice result) ⊥ }
     ensures removed { D.is_honest disk.old →
-        MatchResult result (λ _. IsNone (seen (D.state disk.new file))) IsOfMachine }
+        MatchResult result (λ _. IsNone (seen (D.state disk.new file))) IsEngineExternal }
     ensures causes { IfErr result IsEnd }
 {
     match disk.remove(file) {
@@ -204,7 +204,7 @@ pub(crate) fn write_table<D: Disk>(
     ensures written { D.is_honest disk.old → IsFresh (D.state disk.old file) [] →
         MatchResult result (λ line. MatchOption line
         (IsTooLarge memtable.now × IsNone (seen (D.state disk.new file)))
-        (IsWrittenTable (D.state disk.new) memtable.now file)) IsOfMachine }
+        (IsWrittenTable (D.state disk.new) memtable.now file)) IsEngineExternal }
     ensures line { IfOk result (λ line. MatchOption line (Unit {0}) (IsNewLine file)) }
     ensures causes { IfErr result IsEnd }
 

@@ -2,7 +2,7 @@
 ghost use Rattle.std.specs.Prelude.{◌≡◌, IfErr, List, MatchResult, OnOk};
 ghost use Rattle.kv_types.specs.{BatchContent};
 ghost use Rattle.disk.specs.{AlwaysLeaves, KeepsDisk};
-ghost use Rattle.engine.specs.Errors.{FailsDevice, IsEnd, IsOfMachine};
+ghost use Rattle.engine.specs.Errors.{FailsDevice, IsEnd, IsEngineExternal};
 ghost use Rattle.engine.specs.Files.{IsOwned};
 ghost use Rattle.engine.specs.OpenFiles.{AreUsableFiles, FilesHold, HasEntry, batch_count};
 ghost use Rattle.engine.specs.OpenFiles.{known_facts};
@@ -28,7 +28,7 @@ impl StoreFiles {
         ensures kept { KeepsDisk D.Disk disk.old disk.new (FailsDevice result) ⊥ IsOwned }
         ensures tended { (list : List BatchContent) → D.is_honest disk.old →
             FilesHold (D.state disk.old) self.old list → MatchResult result
-            (λ _. FilesHold (D.state disk.new) self.new list) IsOfMachine }
+            (λ _. FilesHold (D.state disk.new) self.new list) IsEngineExternal }
         ensures usable { OnOk result (AreUsableFiles self.new) }
         ensures touches { D.is_honest disk.old → IsSameBeside (tended_files self.old)
             (D.state disk.old) (D.state disk.new) }
@@ -63,7 +63,7 @@ impl StoreFiles {
         ensures tended { (list : List BatchContent) → D.is_honest disk.old →
             FilesHold (D.state disk.old) self.old list → MatchResult result
             (λ tended. FilesHold (D.state disk.new) self.new list
-            × TellsFlush self.old self.new tended) IsOfMachine }
+            × TellsFlush self.old self.new tended) IsEngineExternal }
         ensures touches { D.is_honest disk.old → IsSameBeside (tended_files self.old)
             (D.state disk.old) (D.state disk.new) }
         ensures usable { OnOk result (AreUsableFiles self.new) }
@@ -106,7 +106,7 @@ impl StoreFiles {
         ensures tended { (list : List BatchContent) → D.is_honest disk.old →
             FilesHold (D.state disk.old) self.old list → MatchResult result
             (λ tended. FilesHold (D.state disk.new) self.new list
-            × TellsWork limit self.old self.new tended) IsOfMachine }
+            × TellsWork limit self.old self.new tended) IsEngineExternal }
         ensures touches { D.is_honest disk.old → IsSameBeside (tended_files self.old)
             (D.state disk.old) (D.state disk.new) }
         ensures usable { OnOk result (AreUsableFiles self.new) }

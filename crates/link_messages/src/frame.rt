@@ -6,10 +6,12 @@ use kv_types::{Batch, Key, Number, Page, Range, Value};
 /// The greatest length of a frame, in bytes, without its length field.
 pub const MAX_FRAME: usize = 131072;
 
-/// A message from one side of a link to the other.
+/// A message from one side of a link to the other. A client numbers its requests; a reply has the
+/// number of the `request` that it answers.
 #[derive(Drop)]
 pub enum Frame {
-    /// Sends the batch of this number to the sender's successor.
+    /// Sends the batch of this number to the sender's successor. The number is from 1 on, or the
+    /// frame is not read back.
     Forward {
         epoch: Epoch,
         from: NodeId,
@@ -28,16 +30,18 @@ pub enum Frame {
         epoch: Epoch,
         config: Config,
     },
+    /// Asks the head to append a batch.
     Submit {
         request: Number,
         batch: Batch,
     },
-    /// Reads at a number, or else at the committed number.
+    /// Reads a key at a number, or else at the committed number.
     Get {
         request: Number,
         at: Option<Number>,
         key: Key,
     },
+    /// Reads the rows of a range at a number, or else at the committed number.
     Rows {
         request: Number,
         at: Option<Number>,
@@ -64,20 +68,23 @@ pub enum Frame {
         number: Number,
         value: Option<Value>,
     },
-    /// The rows at this number.
+    /// The rows at this number. They keep the limits of a page, or the frame is not read back.
     RowsAre {
         request: Number,
         number: Number,
         page: Page,
     },
+    /// A snapshot is open at this number.
     Opened {
         request: Number,
         number: Number,
     },
+    /// The request is not done, and why.
     Refused {
         request: Number,
         refusal: Refusal,
     },
+    /// The snapshot at this number is closed.
     Closed {
         request: Number,
         number: Number,

@@ -51,6 +51,7 @@ pub fn read(alloc: Global, bytes: &[u8]) -> Result<Option<(Frame, usize)>, Frame
 }
 
 impl FrameReader {
+    /// A reader that holds no bytes.
     pub fn new(alloc: Global) -> FrameReader
         ensures { result ≡ [] }
     {

@@ -10,7 +10,7 @@ use Rattle.disk.specs.{AlwaysLeaves, Contents, IsCrashOutcome, KeepsDisk, State}
 use Rattle.disk.specs.MomentsLemmas.{weaker}
 use Rattle.disk.specs.StillLemmas.{still}
 use Rattle.engine.specs.declared.Engine.{Engine}
-use Rattle.engine.specs.{EngineHolds, Facts, FailsDevice, FilesRepresent, IsOfMachine, IsOneOf}
+use Rattle.engine.specs.{EngineHolds, Facts, FailsDevice, FilesRepresent, IsEngineExternal, IsOneOf}
 use Rattle.engine.specs.{LookUps, OpensAs, TellsReadable, facts_of, look_ups}
 use Rattle.engine.specs.declared.EngineError.TheVariants as engine
 use Rattle.kv_types.specs.declared.bounds.TheConstants.{MAX_NUMBER}
@@ -166,15 +166,15 @@ refuses (Err s) P Q told q = subst Q (sym told) q
 pub still_works : {ended was told : Type 0} → ended ↔ (was ⊎ told) → (was → ⊥) → ended → told
 still_works iff works ended = elim (iff.0 ended) [ inl before ↦ absurd (works before) | inr now ↦ now ]
 
--- what the machine refuses an engine is a cause of the environment
-pub env_of : (e : EngineError) → IsOfMachine e → IsEnvironmental (engine_stop e)
+-- an external refusal of an engine is a cause of the environment
+pub env_of : (e : EngineError) → IsEngineExternal e → IsEnvironmental (engine_stop e)
 env_of e (inl is) = inl (ap engine_stop is)
 env_of e (inr is) = inr (ap engine_stop is)
 
 -- a read of a number that the engine can read is refused for such a cause alone
 pub read_env : (T : Type 0) (told : LookUps) (at : ℕ) (e : EngineError) →
     TellsReadable {T = T} told at (Err e) → (e ≡ engine.Damaged → ⊥) → (e ≡ engine.Failed → ⊥) →
-    told.facts.floor ≤ at → at ≤ told.committed → IsOfMachine e
+    told.facts.floor ≤ at → at ≤ told.committed → IsEngineExternal e
 read_env T told at engine.Disk tells whole works above known = inl refl
 read_env T told at engine.Damaged tells whole works above known = absurd (whole refl)
 read_env T told at engine.Memory tells whole works above known = inr refl
@@ -187,9 +187,9 @@ read_env T told at engine.NotCommitted tells whole works above known =
 read_env T told at engine.Exhausted tells whole works above known = absurd tells
 
 -- an append is refused for such a cause, where a number is left
-pub append_env : (e : EngineError) (count : ℕ) → IsOfMachine e ⊎ ((e ≡ engine.Exhausted)
-    × (MAX_NUMBER ≤ count)) → count < MAX_NUMBER → IsOfMachine e
-append_env e count (inl of_machine) room = of_machine
+pub append_env : (e : EngineError) (count : ℕ) → IsEngineExternal e ⊎ ((e ≡ engine.Exhausted)
+    × (MAX_NUMBER ≤ count)) → count < MAX_NUMBER → IsEngineExternal e
+append_env e count (inl external) room = external
 append_env e count (inr full) room = absurd (omega (arith, full.1, room))
 
 -- ---- facts

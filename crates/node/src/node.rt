@@ -312,6 +312,7 @@ impl<D: Disk + Drop> Node<D> {
         Ok(self.engine.tend(alloc)?)
     }
 
+    /// Its id.
     pub fn id(&self) -> NodeId
         ensures { (x : ℕ) (n : Machine) → NodeRefines D.is_honest D.state self.now x n →
             result ≡ x }
@@ -376,7 +377,7 @@ impl<D: Disk + Drop> Node<D> {
         self.engine.tables()
     }
 
-    /// Returns the disk of a node that has ended.
+    /// Ends the node, and returns its disk.
     pub fn into_disk(self) -> D
         ensures disk { result ≡ disk_of self }
         ensures rests { (x : ℕ) (n : Machine) → NodeRefines D.is_honest D.state self x n →

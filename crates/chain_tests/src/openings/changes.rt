@@ -1,6 +1,6 @@
-// Each byte of each file of the folder is each other byte in turn, and the folder is opened.
+// Each byte of each file of the small disk is each other byte in turn, and the disk is opened.
 use crate::answers::is_text;
-use crate::openings::folder::{DAMAGED, NOT_CREATED, SAME, folder, length_of, shown};
+use crate::openings::small_disk::{DAMAGED, NOT_CREATED, SAME, length_of, shown, small_disk};
 use disk::{Disk, MemDisk};
 use std::alloc::{AllocError, Global};
 use std::process::Abort;
@@ -168,7 +168,7 @@ fn byte_at(rt: &impl Abort, disk: &mut MemDisk, file: u64, place: u64) -> u8 {
     bytes[0]
 }
 
-// Opens the folder with this byte at a place of the file.
+// Opens the small disk with this byte at a place of the file.
 fn open_with(
     rt: &impl Abort,
     alloc: Global,
@@ -181,7 +181,7 @@ fn open_with(
     shown(rt, alloc, disk)
 }
 
-// Opens the folder with each other byte at a place of the file.
+// Opens the small disk with each other byte at a place of the file.
 fn change_place(
     rt: &impl Abort,
     alloc: Global,
@@ -206,9 +206,9 @@ fn change_place(
     }
 }
 
-// Opens the folder with each other byte at each place of the file, which has this length.
+// Opens the small disk with each other byte at each place of the file, which has this length.
 fn change_file(rt: &impl Abort, alloc: Global, file: u64, length: u64, rows: &[Row]) -> Counts {
-    let mut disk = folder(rt, alloc);
+    let mut disk = small_disk(rt, alloc);
     assert!(rt;
         length_of(rt, &mut disk, file) == length,
         "the length of file {file}"
@@ -237,9 +237,9 @@ fn is_counted(rt: &impl Abort, counts: Counts, want: [u64; 4]) {
 }
 
 #[test]
-fn the_unchanged_folder(rt: HostRuntime) {
+fn the_unchanged_small_disk(rt: HostRuntime) {
     let alloc = rt.alloc();
-    is_text(&rt, &shown(&rt, alloc, folder(&rt, alloc)), SAME);
+    is_text(&rt, &shown(&rt, alloc, small_disk(&rt, alloc)), SAME);
 }
 
 #[test]

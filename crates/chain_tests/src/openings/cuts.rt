@@ -1,6 +1,6 @@
-// Each file of the folder is shorter by each length in turn, or absent, and the folder is opened.
+// Each file of the small disk is shorter by each length in turn, or absent, and the disk is opened.
 use crate::answers::is_text;
-use crate::openings::folder::{DAMAGED, NOT_CREATED, folder, length_of, shown};
+use crate::openings::small_disk::{DAMAGED, NOT_CREATED, length_of, shown, small_disk};
 use disk::{Disk, MemDisk};
 use std::alloc::Global;
 use std::process::Abort;
@@ -15,7 +15,7 @@ fn wanted(file: u64, length: u64) -> &'static str {
     }
 }
 
-// Opens the folder with a file cut to a length.
+// Opens the small disk with a file cut to a length.
 fn is_cut(rt: &impl Abort, alloc: Global, disk: &MemDisk, file: u64, length: u64) {
     let mut disk = disk.clone().expect(rt, "memory");
     disk.cut(file, length).expect(rt, "a cut");
@@ -23,7 +23,7 @@ fn is_cut(rt: &impl Abort, alloc: Global, disk: &MemDisk, file: u64, length: u64
     is_text(rt, &shown(rt, alloc, disk), wanted(file, length));
 }
 
-// Opens the folder without a file.
+// Opens the small disk without a file.
 fn is_removed(rt: &impl Abort, alloc: Global, disk: &MemDisk, file: u64) {
     let mut disk = disk.clone().expect(rt, "memory");
     disk.remove(file).expect(rt, "a removal");
@@ -33,7 +33,7 @@ fn is_removed(rt: &impl Abort, alloc: Global, disk: &MemDisk, file: u64) {
 #[test]
 fn files_that_are_shorter_or_absent(rt: HostRuntime) {
     let (rt, alloc) = (&rt, rt.alloc());
-    let mut disk = folder(rt, alloc);
+    let mut disk = small_disk(rt, alloc);
     let mut openings = 0u64;
     for file in 1..6u64 {
         let length = length_of(rt, &mut disk, file);

@@ -1,8 +1,8 @@
-// Lengths, counts and places of the folder that say far more than the files have, each behind the
-// digest that it then needs. None is taken at its word: the tests also pass where each request for
-// more than 64 KiB of memory is refused (tools/memory).
+// Lengths, counts and places of the small disk that say far more than the files have, each behind
+// the digest that it then needs. None is taken at its word: the tests also pass where each request
+// for more than 64 KiB of memory is refused (tools/memory).
 use crate::answers::holds_at;
-use crate::openings::folder::{DAMAGED, SAME, folder, shown};
+use crate::openings::small_disk::{DAMAGED, SAME, shown, small_disk};
 use disk::{Disk, MemDisk};
 use std::alloc::Global;
 use std::process::Abort;
@@ -118,7 +118,7 @@ fn seal_part(rt: &impl Abort, alloc: Global, disk: &mut MemDisk, part: &Part) {
 fn lengths_in_slots_and_logs(rt: HostRuntime) {
     let (rt, alloc) = (&rt, rt.alloc());
     for (index, row) in ROWS.iter().enumerate() {
-        let mut disk = folder(rt, alloc);
+        let mut disk = small_disk(rt, alloc);
         put(rt, &mut disk, row.0, row.1, row.2);
         holds_at(rt, index, shown(rt, alloc, disk).as_str() == row.3);
     }
@@ -128,7 +128,7 @@ fn lengths_in_slots_and_logs(rt: HostRuntime) {
 fn lengths_in_tables(rt: HostRuntime) {
     let (rt, alloc) = (&rt, rt.alloc());
     for (index, row) in SEALED.iter().enumerate() {
-        let mut disk = folder(rt, alloc);
+        let mut disk = small_disk(rt, alloc);
         put(rt, &mut disk, 4, row.1, row.2);
         seal_part(rt, alloc, &mut disk, &row.0);
         holds_at(rt, index, shown(rt, alloc, disk).as_str() == row.3);

@@ -2,10 +2,10 @@ use Rattle.std.proofs.Common.{◌∙◌, suc, drop, subst}
 use Rattle.disk.specs.{contents}
 use Rattle.disk.specs.StillLemmas.{still_more}
 use Rattle.manifest.specs.{NodeVersion, version_of}
-use Rattle.engine.specs.Errors.{IsOfMachine}
+use Rattle.engine.specs.Errors.{IsEngineExternal}
 use Rattle.engine.specs.OpenFiles.{FilesOpenAs, OpeningRefusal}
 use Rattle.engine.specs.Openings.{AreParts, PartsHold, WereParts}
-use Rattle.engine.proofs.BegunFiles.{manifest_of_machine}
+use Rattle.engine.proofs.BegunFiles.{manifest_is_external}
 use Rattle.engine.proofs.Causes.{refuses}
 use Rattle.engine.proofs.ReadFiles.{asked, end_explained, opens_as, read_as, slots_stay, usable_of}
 use Rattle.engine.proofs.opening.read_files.Goals as goal
@@ -13,8 +13,8 @@ use Rattle.engine.proofs.opening.read_files.Goals as goal
 -- slots that represent a version are opened
 pub returns-in_err-manifest-clause-opened : goal.returns-in_err-manifest-clause-opened
 returns-in_err-manifest-clause-opened g c = λ facts list honest h.
-    refuses c.from_residual.result _ IsOfMachine c.from_residual.ensures.1
-    (manifest_of_machine c.in_err-manifest.field-0.0 (c.in_err-manifest.ensures.opened
+    refuses c.from_residual.result _ IsEngineExternal c.from_residual.ensures.1
+    (manifest_is_external c.in_err-manifest.field-0.0 (c.in_err-manifest.ensures.opened
     (record { id = facts.id; version = h.version }) honest h.manifest))
 
 -- and so are the files that the version names
@@ -28,7 +28,7 @@ returns-in_err-parts-clause-opened g c = λ facts list honest h.
     honest h.manifest in
     let ask = asked s0 s1 (c.open.ensures.kept.files honest) facts list h is c.state.result.now
     (c.state.ensures ∙ held.knows) in
-    refuses c.from_residual-in_err-parts.result _ IsOfMachine
+    refuses c.from_residual-in_err-parts.result _ IsEngineExternal
     c.from_residual-in_err-parts.ensures.1 (c.in_err-parts.ensures.opened (suc facts.kept)
     (drop facts.kept list) h.tables (c.open.ensures.kept.honest.1 honest) ask.0 ask.1 ask.2)
 

@@ -3,7 +3,7 @@ use Rattle.disk.specs.{contents}
 use Rattle.disk.specs.StillLemmas.{still_more}
 use Rattle.manifest.specs.declared.TableLine.{TableLine}
 use Rattle.manifest.specs.{IsVersion, NodeVersion}
-use Rattle.engine.specs.Errors.{IsOfMachine}
+use Rattle.engine.specs.Errors.{IsEngineExternal}
 use Rattle.engine.specs.LevelTables.{AreTablesOf, FileFits}
 use Rattle.engine.specs.StoreFiles.{AreOrderedNumbers}
 use Rattle.engine.specs.Settling.{AreSynced, AreThere}
@@ -22,7 +22,7 @@ returns-in_err-sync_tables-clause-opened g c = λ first batches tables honest ha
     let disk = g.D.Disk.state c.args.disk.now in
     let lines : c.deref.result.now ≡ c.args.version.now.version.tables =
     c.deref.ensures.value ∙ ap (λ (v : NodeVersion). v.version.tables) c.version.view_is in
-    refuses c.from_residual.result _ IsOfMachine c.from_residual.ensures.1
+    refuses c.from_residual.result _ IsEngineExternal c.from_residual.ensures.1
     (c.in_err-sync_tables.ensures.there honest
     (subst (AreThere disk) (sym lines)
     (tables_are_there disk c.args.version.now.version.tables tables read)))
@@ -34,7 +34,7 @@ returns-in_err-logs-clause-opened g c = λ first batches tables honest had read 
     let s2 = g.D.Disk.state c.sync_tables.new.disk in
     let honest2 = c.sync_tables.ensures.kept.honest.1 honest in
     let same = synced_reads s1 s2 c.deref.result.now (c.in_ok-sync_tables.ensures.synced honest) in
-    refuses c.from_residual-in_err-logs.result _ IsOfMachine
+    refuses c.from_residual-in_err-logs.result _ IsEngineExternal
     c.from_residual-in_err-logs.ensures.1 (c.in_err-logs.ensures.opened first batches honest2
     (batches_same (contents s1) (contents s2) same c.args.version.now.version.logs first batches
     had))
@@ -78,7 +78,7 @@ returns-in_err-tables-clause-opened g c = λ first batches tables honest had rea
     let lines2 : c.deref-2.result.now ≡ version.tables =
     c.deref-2.ensures.value ∙ ap (λ (v : NodeVersion). v.version.tables) c.version.view_is in
     let synced = subst (AreSynced s1 s2) lines (c.in_ok-sync_tables.ensures.synced honest) in
-    refuses c.from_residual-in_err-tables.result _ IsOfMachine
+    refuses c.from_residual-in_err-tables.result _ IsEngineExternal
     c.from_residual-in_err-tables.ensures.1 (c.in_err-tables.ensures.opened tables honest3
     (subst (λ (l : List TableLine). AreTablesOf (contents s3) l tables) (sym lines2)
     (tables_then version is s1 s2 s3 synced (c.in_ok-logs.ensures.others honest2) tables read)))

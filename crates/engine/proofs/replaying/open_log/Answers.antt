@@ -1,11 +1,11 @@
 use Rattle.std.proofs.Common.{List, ℕ, suc, arith, subst}
 use Rattle.disk.specs.{seen}
 use Rattle.record_log.specs.{LogHolds}
-use Rattle.engine.specs.Errors.{IsOfMachine}
+use Rattle.engine.specs.Errors.{IsEngineExternal}
 use Rattle.engine.specs.Files.{IsLog}
 use Rattle.engine.specs.KeepingLemmas.{answered, kept_as, neither}
 use Rattle.engine.specs.Layout.{records_from}
-use Rattle.engine.proofs.Causes.{of_machine, refuses}
+use Rattle.engine.proofs.Causes.{log_is_external, refuses}
 use Rattle.engine.proofs.Keeping.{bytes_only, done, log_failed, passed_on}
 use Rattle.engine.proofs.replaying.open_log.Goals as goal
 
@@ -33,15 +33,15 @@ returns-clause-kept g c =
 -- the file was a log of batches, so it was opened and its batches were read
 pub returns-in_err-opened-clause-opened : goal.returns-in_err-opened-clause-opened
 returns-in_err-opened-clause-opened g c = λ batches honest stood each few.
-    refuses c.from_residual.result _ IsOfMachine c.from_residual.ensures.1
-    (of_machine c.in_err-opened.field-0.0
+    refuses c.from_residual.result _ IsEngineExternal c.from_residual.ensures.1
+    (log_is_external c.in_err-opened.field-0.0
     (c.in_err-opened.ensures.opened (records_from (suc c.args.before) batches) honest stood))
 
 pub returns-in_err-replay-clause-opened : goal.returns-in_err-replay-clause-opened
 returns-in_err-replay-clause-opened g c = λ batches honest stood each few.
     let read = (c.in_ok-opened.ensures.opened (records_from (suc c.args.before) batches) honest
     stood).1 in
-    refuses c.from_residual-in_err-replay.result _ IsOfMachine
+    refuses c.from_residual-in_err-replay.result _ IsEngineExternal
     c.from_residual-in_err-replay.ensures.1
     (c.in_err-replay.ensures.damaged batches read each few)
 

@@ -4,7 +4,7 @@ use Rattle.manifest.specs.declared.LogLine.{LogLine}
 use Rattle.manifest.specs.{NodeVersion}
 use Rattle.engine.specs.declared.batch_logs.BatchLog.{BatchLog}
 use Rattle.engine.specs.BatchLogs.{HaveBatches}
-use Rattle.engine.specs.Errors.{IsOfMachine}
+use Rattle.engine.specs.Errors.{IsEngineExternal}
 use Rattle.engine.specs.Replaying.{AreInLine, AreOfDifferentFiles, AreReadLogs}
 use Rattle.engine.specs.Settling.{SparesAllBut}
 use Rattle.engine.proofs.Causes.{refuses}
@@ -32,7 +32,7 @@ returns-in_err-older-clause-opened g c = λ first batches honest had.
     let positive = had.positive in
     let few = had.few in
     let next : first ≡ suc (c.index.result.now.first - 1) = omega (arith, at, positive) in
-    refuses c.from_residual.result _ IsOfMachine c.from_residual.ensures.1
+    refuses c.from_residual.result _ IsEngineExternal c.from_residual.ensures.1
     (c.in_err-older.ensures.opened batches honest
     (subst (λ (n : ℕ). HaveBatches left n c.deref.result.now batches) next
     (subst (λ (l : List LogLine). HaveBatches left first l batches) (sym c.deref.ensures.value) have))

@@ -3,7 +3,7 @@ use Rattle.std.proofs.lemmas.List.{take_all}
 use Rattle.disk.specs.{contents}
 use Rattle.manifest.specs.declared.LogLine.{LogLine}
 use Rattle.engine.specs.BatchLogs.{HaveBatches}
-use Rattle.engine.specs.Errors.{IsOfMachine}
+use Rattle.engine.specs.Errors.{IsEngineExternal}
 use Rattle.engine.specs.KeepingLemmas.{answered, kept_as, neither}
 use Rattle.engine.specs.Replaying.{AreInLine, AreReadLogs}
 use Rattle.engine.specs.Settling.{SparesAllBut}
@@ -99,7 +99,7 @@ returns-in_err-one-clause-opened g c = λ batches honest have each few.
     c.loop-line.memtable batches (before.read honest) same
     (subst (λ (l : List LogLine). HaveBatches (contents s0) (suc c.args.before) l batches) at have)
     each few in
-    refuses c.from_residual.result _ IsOfMachine c.from_residual.ensures.1
+    refuses c.from_residual.result _ IsEngineExternal c.from_residual.ensures.1
     (c.in_err-one.ensures.opened has.here (before.synced.kept.honest.1 honest) has.stood has.each
     has.few)
 

@@ -1,6 +1,6 @@
 use Rattle.std.proofs.Common.{◌≡◌, ◌+◌, ℕ, suc, ap, arith, subst, ◌∙◌, length}
 use Rattle.record_log.specs.{count_of}
-use Rattle.engine.specs.Errors.{IsOfMachine}
+use Rattle.engine.specs.Errors.{IsEngineExternal}
 use Rattle.engine.specs.Layout.{batch_record, records_from}
 use Rattle.engine.specs.Stores.{IsNumberedTo}
 use Rattle.engine.proofs.Causes.{refuses}
@@ -49,7 +49,7 @@ returns-in_err-replay_record-clause-damaged c = λ batches read each few.
     let number : suc c.args.before + c.loop-index.index ≡ c.unwrap-number.result =
     omega (arith, number_is) in
     let spelled = at.spelled ∙ ap (λ n. batch_record n at.batch) number in
-    refuses c.from_residual.result _ IsOfMachine c.from_residual.ensures.1
+    refuses c.from_residual.result _ IsEngineExternal c.from_residual.ensures.1
     (c.in_err-replay_record.ensures.damaged at.batch at.is_batch spelled)
 
 -- one more was taken

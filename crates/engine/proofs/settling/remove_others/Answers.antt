@@ -1,7 +1,7 @@
 use Rattle.std.proofs.Common.{ℕ, List, subst, sym}
 use Rattle.disk.specs.Calls.{ListsFiles}
 use Rattle.store_model.specs.PlacesLemmas.{contains_head}
-use Rattle.engine.specs.Errors.{IsOfMachine}
+use Rattle.engine.specs.Errors.{IsEngineExternal}
 use Rattle.engine.specs.KeepingLemmas.{kept_as, neither}
 use Rattle.engine.proofs.Causes.{refuses}
 use Rattle.engine.proofs.Keeping.{done}
@@ -69,7 +69,7 @@ returns-in_err-remove-clause-alone g c = λ honest.
     let before = c.loop-file.invariant.done in
     let left = subst (λ (l : List ℕ). AreLeft s1 c.args.kept.now l) c.in-Some.ensures.steps.0
     (before.rest honest) in
-    refuses c.from_residual-in_err-remove.result _ IsOfMachine
+    refuses c.from_residual-in_err-remove.result _ IsEngineExternal
     c.from_residual-in_err-remove.ensures.1
     (there_machine c.in_err-remove.field-0.0 s1 file
     (left.there file (contains_head file c.next.new.self.rest.items))

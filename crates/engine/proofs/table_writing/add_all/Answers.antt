@@ -1,5 +1,5 @@
 use Rattle.std.proofs.Common.{ℕ, [], ◌∷◌, ◌++◌, ◌∙◌, refl, subst, sym}
-use Rattle.engine.specs.Errors.{FailsDevice, IsOfMachine}
+use Rattle.engine.specs.Errors.{FailsDevice, IsEngineExternal}
 use Rattle.engine.specs.KeepingLemmas.{answered}
 use Rattle.memtable.specs.CursorLaws.{MemCursorHolds, cursor_laws, mem_position}
 use Rattle.merge_iter.specs.{IsOn}
@@ -81,7 +81,7 @@ returns-in_err-add_one-clause-added g c = λ honest begun.
     refuses c.from_residual-in_err-add_one.result
     (HasAddedAll (MemCursorHolds c.args.cursor.now)
     (g.D.Disk.state c.add_one.new.disk (builder_file c.args.builder.now)) c.add_one.new.builder)
-    IsOfMachine
+    IsEngineExternal
     c.from_residual-in_err-add_one.ensures.1 why
 
 -- ---- there is no room for it

@@ -1,6 +1,6 @@
 use Rattle.std.proofs.Common.{◌≡◌, ◌+◌, length, ap, refl, ◌∙◌}
 use Rattle.engine.specs.BatchLogs.{next_number}
-use Rattle.engine.specs.Errors.{IsOfMachine}
+use Rattle.engine.specs.Errors.{IsEngineExternal}
 use Rattle.engine.specs.Layout.{batch_record, records_from}
 use Rattle.engine.proofs.Causes.{met, refuses}
 use Rattle.engine.proofs.Parts.{crashed_more, held_more, none_more}
@@ -40,7 +40,7 @@ returns-clause-any_moment g c = λ first batches honest h.
     (c.append.ensures.any_moment (records_from (first + length h.before) h.here) honest
     h.newest.log)
 
--- the log works and the record fits, so it reports errors of the machine alone
+-- the log works and the record fits, so it reports external errors alone
 pub returns-in_err-append-clause-appended : goal.returns-in_err-append-clause-appended
 returns-in_err-append-clause-appended g c = λ first batches honest h.
     let one = c.deref.ensures.value ∙ c.in_ok-record.ensures.0 in
@@ -48,7 +48,7 @@ returns-in_err-append-clause-appended g c = λ first batches honest h.
     c.in_ok-record.ensures.1 in
     let why = c.in_err-append.ensures.appended (records_from (first + length h.before) h.here)
     honest h.newest.log in
-    refuses c.from_residual-in_err-append.result _ IsOfMachine
+    refuses c.from_residual-in_err-append.result _ IsEngineExternal
     c.from_residual-in_err-append.ensures.1
     (met 16777216 c.in_err-append.field-0.0 c.args.self.now.newest.log c.append.new.self
     c.deref.result.now c.in_err-append.ensures.told.1 fits c.requires.usable.newest why)

@@ -3,7 +3,7 @@ use Rattle.std.proofs.Common.{subst, sym, take, ◌∙◌}
 use Rattle.std.specs.List.{AllZip}
 use Rattle.store_model.specs.{LevelTable}
 use Rattle.engine.specs.declared.levels.OpenTable.{OpenTable}
-use Rattle.engine.specs.Errors.{IsOfMachine}
+use Rattle.engine.specs.Errors.{IsEngineExternal}
 use Rattle.engine.specs.KeepingLemmas.{answered}
 use Rattle.engine.specs.LevelTables.{IsServed, TablesFind}
 use Rattle.engine.proofs.Causes.{refuses}
@@ -101,7 +101,7 @@ returns-in_err-found-clause-found g c = λ tables flushed honest served leveled 
     (sym c.deref-open-items.ensures.value) served in
     let b = beside (IsServed s0) c.deref-open-items.result.now tables c.loop-open.open-index one zip
     c.loop-open-test.true c.open-item.is in
-    refuses c.from_residual.result _ IsOfMachine c.from_residual.ensures.1
+    refuses c.from_residual.result _ IsEngineExternal c.from_residual.ensures.1
     (c.in_err-found.ensures.found b.other (before.honest.1 honest)
     (served_same s0 s1 one b.other (before.files honest) b.related)
     (leveled.ranges b.other b.there))

@@ -6,7 +6,7 @@ use Rattle.disk.specs.{contents}
 use Rattle.manifest.specs.declared.TableLine.{TableLine}
 use Rattle.store_model.specs.{LevelTable}
 use Rattle.engine.specs.declared.levels.OpenTable.{OpenTable}
-use Rattle.engine.specs.Errors.{IsOfMachine}
+use Rattle.engine.specs.Errors.{IsEngineExternal}
 use Rattle.engine.specs.KeepingLemmas.{answered}
 use Rattle.engine.specs.LevelTables.{FileFits, IsServed, IsTableOf}
 use Rattle.engine.proofs.Causes.{refuses}
@@ -75,7 +75,7 @@ returns-in_err-open-clause-opened g c = λ tables honest are.
     let before = c.loop-line.invariant.read.kept in
     let b = beside (IsTableOf (contents s0)) c.args.lines.now tables c.loop-line.line-index line are
     c.loop-line-test.true c.line-item.is in
-    refuses c.from_residual.result _ IsOfMachine c.from_residual.ensures.1
+    refuses c.from_residual.result _ IsEngineExternal c.from_residual.ensures.1
     (c.in_err-open.ensures.opened b.other (before.honest.1 honest)
     (lines_same s0 s1 line b.other (before.files honest) b.related))
 

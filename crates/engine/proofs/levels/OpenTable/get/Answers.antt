@@ -1,6 +1,6 @@
 use Rattle.std.proofs.Common.{List, ℕ, subst, Contains}
 use Rattle.disk.specs.StillLemmas.{still}
-use Rattle.engine.specs.Errors.{IsOfMachine}
+use Rattle.engine.specs.Errors.{IsEngineExternal}
 use Rattle.engine.specs.LevelTables.{EntriesFind}
 use Rattle.engine.proofs.Causes.{refuses}
 use Rattle.engine.proofs.OpenTables.{found_in, of_table}
@@ -13,7 +13,7 @@ returns-then-not-may_have-clause-still g c = λ honest. still _ _
 -- the table was not read
 pub returns-in_err-get_hashed-clause-found : goal.returns-in_err-get_hashed-clause-found
 returns-in_err-get_hashed-clause-found g c = λ table honest served fits.
-    refuses c.from_residual.result _ IsOfMachine c.from_residual.ensures.1
+    refuses c.from_residual.result _ IsEngineExternal c.from_residual.ensures.1
     (of_table c.in_err-get_hashed.field-0.0
     (c.in_err-get_hashed.ensures.found table.entries honest served.serves))
 

@@ -3,7 +3,7 @@ use Rattle.std.specs.Prelude.{IsSomeAnd}
 use Rattle.disk.specs.{contents, seen}
 use Rattle.disk.specs.StillLemmas.{still, still_more, still_same}
 use Rattle.sorted_table.specs.{HasTail, index_lines, table_filter}
-use Rattle.engine.specs.Errors.{IsOfMachine}
+use Rattle.engine.specs.Errors.{IsEngineExternal}
 use Rattle.engine.proofs.Causes.{refuses}
 use Rattle.engine.proofs.OpenTables.{file_represents, fit_read, of_table, represents_same}
 use Rattle.engine.proofs.levels.OpenTable.open.Goals as goal
@@ -50,7 +50,7 @@ returns-clause-still g c = λ honest.
     (c.length.ensures.passes honest).moment (c.length.ensures.kept.disk.files honest))
     (c.open.ensures.still (c.length.ensures.kept.disk.honest.1 honest))
 
--- the file is that of a table, so only the machine refuses
+-- the file is that of a table, so a refusal is external
 pub returns-in_err-table-clause-opened : goal.returns-in_err-table-clause-opened
 returns-in_err-table-clause-opened g c = λ table honest is.
     let old = g.D.Disk.state c.args.disk.now in
@@ -58,7 +58,7 @@ returns-in_err-table-clause-opened g c = λ table honest is.
     let has = file_represents (contents old) line table
     (g.D.Disk.state c.length.new.self line.file) is
     (ap seen (c.length.ensures.kept.disk.files honest line.file)) in
-    refuses c.from_residual-in_err-table.result _ IsOfMachine
+    refuses c.from_residual-in_err-table.result _ IsEngineExternal
     c.from_residual-in_err-table.ensures.1 (of_table c.in_err-table.field-0.0
     (c.in_err-table.ensures.opened table.entries (c.length.ensures.kept.disk.honest.1 honest) has))
 

@@ -3,7 +3,7 @@ use Rattle.disk.specs.{contents}
 use Rattle.record_log.specs.{LogHolds}
 use Rattle.manifest.specs.declared.TableLine.{TableLine}
 use Rattle.manifest.specs.{IsVersion, NodeVersion}
-use Rattle.engine.specs.Errors.{IsOfMachine}
+use Rattle.engine.specs.Errors.{IsEngineExternal}
 use Rattle.engine.specs.LevelTables.{AreTablesOf}
 use Rattle.engine.proofs.BegunFiles.{counts_none, first_hold, first_line, log_is_spared, no_file_ends, no_slot_yet}
 use Rattle.engine.proofs.BegunFiles.{only_first, rest_is_unused}
@@ -22,7 +22,7 @@ returns-in_err-tables-clause-created g c = λ honest.
     (c.state.view_is ∙ c.state-state.ensures ∙ c.in_ok-manifest.ensures.works.0) in
     let read = subst (λ (lines : List TableLine).
     AreTablesOf (contents (g.D.Disk.state c.create-2.new.disk)) lines []) (sym none) tt in
-    refuses c.from_residual-in_err-tables.result _ IsOfMachine
+    refuses c.from_residual-in_err-tables.result _ IsEngineExternal
     c.from_residual-in_err-tables.ensures.1 (c.in_err-tables.ensures.opened [] honest3 read)
 
 -- the new log has no batch

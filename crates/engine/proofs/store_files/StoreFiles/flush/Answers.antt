@@ -2,7 +2,7 @@ use Rattle.std.proofs.Common.{Option, inl, inr, refl, subst}
 use Rattle.std.specs.Prelude.{MatchOption}
 use Rattle.disk.specs.MomentsLemmas.{join}
 use Rattle.engine.specs.declared.flushing.Flushed.{Flushed}
-use Rattle.engine.specs.Errors.{IsOfMachine}
+use Rattle.engine.specs.Errors.{IsEngineExternal}
 use Rattle.engine.specs.KeepingLemmas.{answered, kept_as, kept_behind, kept_but}
 use Rattle.engine.specs.OpenFiles.{FilesHold, IsTooLarge, known_facts, known_version}
 use Rattle.engine.specs.StoreFiles.{FilesRepresent}
@@ -23,7 +23,7 @@ returns-then-lacks_place-clause-any_moment g c = λ list honest h.
 -- the table was not written
 pub returns-in_err-made-clause-tended : goal.returns-in_err-made-clause-tended
 returns-in_err-made-clause-tended g c = λ list honest h.
-    refuses c.from_residual.result _ IsOfMachine c.from_residual.ensures.1
+    refuses c.from_residual.result _ IsEngineExternal c.from_residual.ensures.1
     (c.in_err-made.ensures.spilled list honest h)
 
 -- it would be too large
@@ -61,7 +61,7 @@ returns-in_err-install-in-Some-clause-tended g c = λ list honest h.
     let held : HeldAndSpilled mid files list c.in-Some.made =
     record { before = disk; held = h; spilled = told } in
     let between = c.spill.ensures.kept.honest.1 honest in
-    refuses c.from_residual-in_err-install-in-Some.result _ IsOfMachine
+    refuses c.from_residual-in_err-install-in-Some.result _ IsEngineExternal
     c.from_residual-in_err-install-in-Some.ensures.1
     (c.in_err-install-in-Some.ensures.installed list between held)
 

@@ -4,7 +4,7 @@ use Rattle.manifest.specs.declared.TableLine.{TableLine}
 use Rattle.manifest.specs.{IsFit, NodeVersion}
 use Rattle.memtable.specs.declared.Memtable.{Memtable}
 use Rattle.memtable.specs.{HasFailedAdd, TableHolds}
-use Rattle.engine.specs.Errors.{IsOfMachine}
+use Rattle.engine.specs.Errors.{IsEngineExternal}
 use Rattle.engine.specs.KeepingLemmas.{answered, kept_as, kept_behind, kept_but, neither}
 use Rattle.engine.specs.LevelTables.{table_lines, with_flushed_line}
 use Rattle.engine.specs.OpenFiles.{batch_count, known_version, trimmed_count}
@@ -15,7 +15,7 @@ use Rattle.engine.proofs.Installed.{installed_holds, installed_usable, known, lo
 use Rattle.engine.proofs.Installed.{manifest_begun, new_ends, new_served, none_begun, old_served}
 use Rattle.engine.proofs.Installed.{spilled_named}
 use Rattle.engine.proofs.TendedFiles.{beside_both, counting_alone, log_alone}
-use Rattle.engine.proofs.Tends.{edit_of_machine}
+use Rattle.engine.proofs.Tends.{edit_is_external}
 use Rattle.engine.proofs.store_files.StoreFiles.install.Goals as goal
 
 -- nothing was called yet
@@ -53,7 +53,7 @@ returns-in_err-begin-clause-installed g c = λ list honest hs.
     c.state-2.ensures c.last_number-count.ensures c.in_ok-edit.ensures.edit in
     let s1 = g.D.Disk.state c.args.disk.now in
     let trimmed = trimmed_count files in
-    refuses c.from_residual-in_err-begin.result _ IsOfMachine
+    refuses c.from_residual-in_err-begin.result _ IsEngineExternal
     c.from_residual-in_err-begin.ensures.1 (c.in_err-begin.ensures.begun (suc trimmed)
     (drop trimmed list) honest (new_ends files c.requires.usable line c.requires.place c.requires.next
     (c.behind-self.inside.next_file + 1) at c.in_ok-edit.edit is s1 list c.args.made.table hs)
@@ -97,7 +97,7 @@ returns-in-Err-clause-installed g c = λ list honest hs.
     let held = manifest_begun files c.requires.usable line c.requires.place c.requires.next
     (c.behind-self.inside.next_file + 1) at c.in_ok-edit.edit is s1 list c.args.made.table hs s2 spares c.begin.new.self
     c.in_ok-begin.ensures.told.2 began c.flushes_keep.ensures.list stays in
-    subst IsOfMachine (sym c.refusal_of_edit.ensures) (edit_of_machine c.in-Err.e
+    subst IsEngineExternal (sym c.refusal_of_edit.ensures) (edit_is_external c.in-Err.e
     (c.in-Err.ensures.recorded (known_version files) honest2 held))
 
 pub returns-in-Err-clause-any_moment : goal.returns-in-Err-clause-any_moment
@@ -134,8 +134,8 @@ returns-in-Err-clause-any_moment g c = λ list honest hs.
 -- the table was not added
 pub returns-in_err-add-clause-installed : goal.returns-in_err-add-clause-installed
 returns-in_err-add-clause-installed g c = λ list honest hs.
-    refuses c.from_residual-in_err-add.result _ IsOfMachine c.from_residual-in_err-add.ensures.1
-    (inr c.in_err-add.ensures.memory)
+    refuses c.from_residual-in_err-add.result _ IsEngineExternal
+    c.from_residual-in_err-add.ensures.1 (inr c.in_err-add.ensures.memory)
 
 pub returns-in_err-add-clause-facts : goal.returns-in_err-add-clause-facts
 returns-in_err-add-clause-facts g c =

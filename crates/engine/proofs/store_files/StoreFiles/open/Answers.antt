@@ -1,6 +1,6 @@
 use Rattle.std.proofs.Common.{◌∙◌, ℕ, List, ap, subst}
 use Rattle.manifest.specs.{NodeVersion}
-use Rattle.engine.specs.Errors.{IsOfMachine}
+use Rattle.engine.specs.Errors.{IsEngineExternal}
 use Rattle.engine.specs.Openings.{kept_files}
 use Rattle.engine.specs.Settling.{AreAlone}
 use Rattle.engine.specs.StoreFiles.{IsOneOf}
@@ -12,7 +12,7 @@ use Rattle.engine.proofs.store_files.StoreFiles.open.Goals as goal
 -- the files that are read are those that the disk represents
 pub returns-in_err-files-clause-opened : goal.returns-in_err-files-clause-opened
 returns-in_err-files-clause-opened g c = λ facts list honest represents.
-    refuses c.from_residual.result _ IsOfMachine c.from_residual.ensures.1
+    refuses c.from_residual.result _ IsEngineExternal c.from_residual.ensures.1
     (c.in_err-files.ensures.opened facts list honest represents)
 
 pub returns-clause-opened : goal.returns-clause-opened
@@ -78,7 +78,7 @@ returns-clause-any_moment g c = λ facts list facts' list' honest only.
     (c.in_ok-files.ensures.held honest) is only (c.read_files.ensures.still honest)
     (c.remove_others.ensures.any_moment honest1)
 
--- a refusal of the reading left what there was, and one of a removal is of the machine
+-- a refusal of the reading left what there was, and one of a removal is external
 pub returns-in_err-files-clause-still : goal.returns-in_err-files-clause-still
 returns-in_err-files-clause-still g c =
     if_refuses c.from_residual.result _ c.from_residual.ensures.1

@@ -1,8 +1,8 @@
 use Rattle.std.proofs.Common.{subst, sym}
-use Rattle.engine.specs.Errors.{IsOfMachine}
+use Rattle.engine.specs.Errors.{IsEngineExternal}
 use Rattle.engine.specs.OpenFiles.{known_version}
 use Rattle.engine.proofs.TendedFiles.{spare_alone}
-use Rattle.engine.proofs.Tends.{edit_of_machine, held_rewritten, nothing_called, slots_are_written}
+use Rattle.engine.proofs.Tends.{edit_is_external, held_rewritten, nothing_called, slots_are_written}
 use Rattle.engine.proofs.store_files.StoreFiles.shorten.Goals as goal
 
 -- no call of the disk
@@ -42,7 +42,7 @@ returns-in-Err-clause-any_moment g c = λ list honest h.
 
 pub returns-in-Err-clause-tended : goal.returns-in-Err-clause-tended
 returns-in-Err-clause-tended g c = λ list honest h.
-    subst IsOfMachine (sym c.refusal_of_edit.ensures) (edit_of_machine c.in-Err.e
+    subst IsEngineExternal (sym c.refusal_of_edit.ensures) (edit_is_external c.in-Err.e
     (c.in-Err.ensures.rewritten (known_version c.args.self.now) honest h.manifest))
 
 -- the other slot alone was written

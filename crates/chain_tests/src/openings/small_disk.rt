@@ -1,4 +1,4 @@
-// A small folder that an engine left, and what an opening of a folder shows.
+// A small disk that an engine left, and what an opening of a disk shows.
 use crate::answers::is_so;
 use crate::items::{Change, batch_of, config_of, id_of, key_of, number};
 use disk::{Disk, MemDisk};
@@ -7,7 +7,7 @@ use kv_types::{Limits, Number, Value};
 use std::alloc::{AllocError, Global};
 use std::process::Abort;
 
-/// What the folder shows: the numbers of its node, the level of its table, and its map at each
+/// What the small disk shows: the numbers of its node, the level of its table, and its map at each
 /// number, the last first. A map is its keys, each with the byte that its value is.
 pub const SAME: &str = "node 1 epoch 0 count 4 floor 0 kept 0 level 0: a4c3 a1c3 a1b2 a1 -";
 
@@ -38,9 +38,9 @@ fn append(rt: &impl Abort, alloc: Global, engine: &mut Engine<MemDisk>, changes:
     is_so(rt, engine.append(alloc, &batch).is_ok(), "a batch more");
 }
 
-/// The folder: slots in files 1 and 2, the log of batches 1 to 3 in file 3, their table in file 4,
-/// and the log of batch 4 in file 5.
-pub fn folder(rt: &impl Abort, alloc: Global) -> MemDisk {
+/// The small disk: slots in files 1 and 2, the log of batches 1 to 3 in file 3, their table in file
+/// 4, and the log of batch 4 in file 5.
+pub fn small_disk(rt: &impl Abort, alloc: Global) -> MemDisk {
     let config = config_of(rt, alloc, &[1]);
     let disk = MemDisk::new(alloc);
     let created = Engine::create(alloc, disk, id_of(rt, 1), &config, &limits(rt));
