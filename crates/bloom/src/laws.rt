@@ -8,7 +8,7 @@ pub fn filters_cover()
     ensures { FiltersCover }
 {}
 
-/// The hashes, probes and filter of the key `abc`, worked out.
+/// The hashes of the key `abc`, its probes among 64 bits, and the lengths of filters, worked out.
 pub fn examples()
     ensures { FilterExamples }
 {}

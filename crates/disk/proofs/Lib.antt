@@ -1,5 +1,4 @@
 mod Walks
-pub mod Counts
 pub mod Buffers
 pub mod Agreement
 pub mod Numbers

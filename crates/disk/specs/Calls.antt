@@ -17,10 +17,6 @@ EndsOutOfRange at len = 2 ^ 63 ≤ at + len
 
 -- ---- the clause that every call keeps
 
--- The count of failures has risen. Its last value counts as risen too.
-abbrev pub HasRisen : ℕ → ℕ → Type 0
-HasRisen before now = before < 2 ^ 64 - 1 → before < now
-
 -- the count is one more, or stays at its last value
 pub record RisesByOne (before now : ℕ) : Type 0 where
   pub below : before < 2 ^ 64 - 1 → now ≡ before + 1

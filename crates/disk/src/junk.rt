@@ -19,12 +19,14 @@ impl Model for JunkBytes {
 }
 
 impl JunkBytes {
+    /// The junk of these bytes.
     pub fn new(bytes: Vec<u8>) -> JunkBytes
         ensures { result ≡ bytes.items }
     {
         JunkBytes { bytes }
     }
 
+    /// The bytes, in order.
     pub fn as_slice(&self) -> &[u8]
         ensures { result.now ≡ self.now }
     {

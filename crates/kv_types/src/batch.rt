@@ -34,6 +34,8 @@ impl Batch {
     ghost use Rattle.kv_types.specs.Spelling.{IsBatch, batch_bytes};
     ghost use Rattle.kv_types.specs.Reading.{ReadsBytes, batch_at};
 
+    /// The batch of these edits. `NoEdits` refuses none, else `TooManyEdits` more than 256, else
+    /// `BatchTooLong` a spelling of more than 65,536 bytes.
     pub fn new(edits: Vec<Edit>) -> Result<Batch, KvError>
         ensures made { IfOk result (λ batch. edits_of batch ≡ edits.items) }
         ensures none { (result ≡ Err KvError.NoEdits) ↔ (length edits.items ≡ 0) }
@@ -57,6 +59,7 @@ impl Batch {
         Ok(Batch { edits })
     }
 
+    /// The edits, in order.
     pub fn edits(&self) -> &[Edit]
         ensures edits { result.now ≡ edits_of self.now }
         ensures batch { IsBatch self.now }

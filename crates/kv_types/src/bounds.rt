@@ -1,3 +1,5 @@
+//! The bounds of keys, values, batches, pages and numbers.
+
 /// The greatest length of a key, in bytes.
 pub const MAX_KEY: usize = 1024;
 

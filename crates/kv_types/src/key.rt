@@ -36,6 +36,7 @@ impl Model for Key {
 }
 
 impl Key {
+    /// The key of these bytes. `KeyTooLong` refuses more than 1,024, and nothing else is refused.
     pub fn new(bytes: Vec<u8>) -> Result<Key, KvError>
         ensures made { IfOk result (λ key. key ≡ bytes.items) }
         ensures too_long { (result ≡ Err KvError.KeyTooLong) ↔ (MAX_KEY < length bytes.items) }

@@ -26,6 +26,7 @@ impl Model for Number {
 impl Number {
     pub const ZERO: Number = Number { value: 0 };
 
+    /// The number of this value, or `None` above 2^63 - 1.
     pub fn new(value: u64) -> Option<Number>
         ensures { SomeIff result (value ≤ MAX_NUMBER) value }
     {

@@ -20,18 +20,21 @@ impl Model for Page {
 }
 
 impl Page {
+    /// The page of these rows. `more` says whether the range has more behind them.
     pub fn new(rows: Vec<Row>, more: bool) -> Page
         ensures { result ≡ record { rows = rows.items; more = more } }
     {
         Page { rows, more }
     }
 
+    /// The rows, in the order of the walk.
     pub fn rows(&self) -> &[Row]
         ensures { result.now ≡ self.now.rows }
     {
         &self.rows
     }
 
+    /// Whether the range has more rows behind these.
     pub fn has_more(&self) -> bool
         ensures { result ≡ self.now.more }
     {

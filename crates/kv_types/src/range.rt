@@ -37,6 +37,7 @@ impl Range {
     ghost use Rattle.kv_types.specs.Pages.{IsWithin};
 
     /// The keys from `from` on, below `to` where there is one. An answer has at most `limit` rows.
+    /// `BadLimit` refuses a limit of 0 or above 1,024, and nothing else is refused.
     pub fn new(from: Key, to: Option<Key>, backward: bool, limit: u32) -> Result<Range, KvError>
         ensures made { IfOk result (λ range. range ≡
             record { from = from; to = to; backward = backward; limit = limit }) }
@@ -54,24 +55,28 @@ impl Range {
         })
     }
 
+    /// The least key that the range may have.
     pub fn from(&self) -> &Key
         ensures { result.now ≡ self.now.from }
     {
         &self.from
     }
 
+    /// The key that all keys of the range are below, if there is one.
     pub fn to(&self) -> Option<&Key>
         ensures { option_copied result ≡ self.now.to }
     {
         self.to.as_ref()
     }
 
+    /// Whether the walk goes from the greatest key to the least.
     pub fn is_backward(&self) -> bool
         ensures { result ≡ self.now.backward }
     {
         self.backward
     }
 
+    /// The greatest number of rows in an answer, from 1 to 1,024.
     pub fn limit(&self) -> u32
         ensures limit { result ≡ self.now.limit }
         ensures some { 1 ≤ self.now.limit }
@@ -80,6 +85,7 @@ impl Range {
         self.limit
     }
 
+    /// Whether the key lies in the range.
     pub fn contains(&self, key: &Key) -> bool
         ensures { IsTrue result ↔ IsWithin self.now key.now }
     {

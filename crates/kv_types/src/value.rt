@@ -29,6 +29,8 @@ impl Model for Value {
 }
 
 impl Value {
+    /// The value of these bytes. `ValueTooLong` refuses more than 16,384, and nothing else is
+    /// refused.
     pub fn new(bytes: Vec<u8>) -> Result<Value, KvError>
         ensures made { IfOk result (λ value. value ≡ bytes.items) }
         ensures too_long { (result ≡ Err KvError.ValueTooLong) ↔ (MAX_VALUE < length bytes.items) }

@@ -123,7 +123,8 @@ names_file tables file = list_any (λ line. line.file == file) tables
 abbrev pub files_of : List LogLine → List TableLine → List ℕ
 files_of logs tables = map (λ line. line.file) logs ++ map (λ line. line.file) tables
 
--- a file that is added has a new number
+-- The number of a file that is added: from 3 on, below the new next file, and that of no file that
+-- the version names. A former version may have named it.
 abbrev pub is_new_file : StoreVersion → Change → ℕ → Bool
 is_new_file version change file =
     nat_le 3 file && nat_lt file change.next_file && not (names_log version.logs file)

@@ -8,8 +8,8 @@ use record_log::LogError;
 use std::alloc::{AllocError, AllocFailed};
 use thiserror::Error;
 
-/// Why a manifest refused. After `Disk` or `Memory` in `record` or `rewrite` it answers `Failed`
-/// until it is opened again. Then it has the old version or the new one.
+/// Why a manifest refused. After any refusal of `record` or `rewrite` it answers `Failed` until it
+/// is opened again. Then it has the old version or the new one.
 #[derive(Clone, Copy, Debug, PartialEq, Eq, Error)]
 pub enum ManifestError {
     #[error("the device failed")]

@@ -32,6 +32,7 @@ impl Memtable {
     ghost use Rattle.memtable.specs.Tables.{table_bytes};
     ghost use Rattle.memtable.specs.Sizes.{capped_sum, batch_size};
 
+    /// A memtable without entries.
     pub fn new(alloc: Global) -> Memtable
         ensures empty { (entry : Entry) → TableHolds result entry → ⊥ }
         ensures bytes { table_bytes result ≡ 0 }

@@ -1,11 +1,12 @@
 -- What a lookup answers in any open table.
-use Rattle.std.proofs.Common.{◌≡◌, inr, ℕ, List, map, Option, Some, None, Result, Ok, Err}
-use Rattle.std.proofs.Common.{MatchResult, sym, subst, ◌∙◌}
+use Rattle.std.proofs.Common.{◌≡◌, inr, ℕ, Bool, false, List, map, Option, Some, None}
+use Rattle.std.proofs.Common.{Result, Ok, Err, MatchResult, sym, subst, ◌∙◌}
 use Rattle.std.proofs.Math.Logic.{∥∥₁_elim, ∥∥₁_map}
-use Rattle.std.specs.Prelude.{IsSomeAnd}
+use Rattle.std.specs.Prelude.{IsSomeAnd, IsTrue}
 use Rattle.std.specs.Rc.{rc_slice_items}
 use Rattle.std.specs.declared.rc.RcSlice.{RcSlice}
 use Rattle.std.specs.Global.{Global}
+use Rattle.bloom.specs.{Covers, CoversHashed, hashes_of}
 use Rattle.disk.specs.{Slot, State, seen}
 use Rattle.kv_types.specs.{Entry}
 use Rattle.merge_iter.specs.{spot}
@@ -28,16 +29,26 @@ rising_of : (file : Option (List ℕ)) (lines : List IndexLine) (filter : List �
 rising_of None lines filter has = absurd has
 rising_of (Some bytes) lines filter has = has.is_index.rising
 
+-- the filter covers a key that it does not deny
+pub not_denied : (filter key : List ℕ) (hashes : ℕ × ℕ) (denies : Bool) → hashes ≡ hashes_of key
+    → ((IsTrue denies → ⊥) → CoversHashed filter hashes) → denies ≡ false → Covers filter key
+not_denied filter key hashes denies are covered holds =
+    subst (CoversHashed filter) are
+    (covered (λ denied.
+    let not : denies ≡ false = holds in
+    let is : IsTrue denies = denied in cc))
+
 -- the answer by a line is that of a lookup
 pub by_line : (file : Slot) (table : Table) (lines : List IndexLine) (key : List ℕ) (at : ℕ)
     (line : Option IndexLine) (result : Result (Option FoundVersion) TableError)
-    → IsOpenOn file table → lines ≡ rc_slice_items table.lines
+    → IsOpenOn file table → Covers table.filter.items key → lines ≡ rc_slice_items table.lines
     → (AreRising (map end_spot lines) → FindsFirstWithout (EndsEarlier (spot key at)) lines line)
     → LineAnswer line file key at result → LookupAnswer file table key at result
-by_line file table lines key at line result opened are finds answer =
+by_line file table lines key at line result opened covers are finds answer =
     let mine = rc_slice_items table.lines in
     let rising = rising_of (seen file) mine table.filter.items opened in
     inr (
+      covers,
       line,
       subst (λ (l : List IndexLine). FindsFirstWithout (EndsEarlier (spot key at)) l line) are
           (finds (subst (λ (l : List IndexLine). AreRising (map end_spot l)) (sym are) rising)),

@@ -109,6 +109,7 @@ abbrev pub LookupAnswer : Slot → Table → List ℕ → ℕ → Result (Option
     → Type 0
 LookupAnswer file table key at result =
     ((Covers table.filter.items key → ⊥) × (result ≡ Ok None))
-    ⊎ ((line : Option IndexLine)
+    ⊎ (Covers table.filter.items key
+    × (line : Option IndexLine)
     × FindsFirstWithout (EndsEarlier (spot key at)) (rc_slice_items table.lines) line
     × LineAnswer line file key at result)

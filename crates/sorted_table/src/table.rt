@@ -72,7 +72,8 @@ impl Table {
 
     // Whether the filter denies the key with these hashes.
     fn denies(&self, hashes: KeyHashes) -> bool
-        ensures { IsTrue result ↔ (CoversHashed (table_filter self.now) hashes → ⊥) }
+        ensures denied { IsTrue result ↔ (CoversHashed (table_filter self.now) hashes → ⊥) }
+        ensures covered { (IsTrue result → ⊥) → CoversHashed (table_filter self.now) hashes }
     {
         !may_hold_hashed(&self.filter, hashes)
     }

@@ -154,28 +154,30 @@ tail_fits it blocks entries filter can exact =
 pub is_table : (it : Builder) (blocks : List Block) (entries : List Entry) (filter tail : List ℕ)
     → CanEnd it blocks entries → IsFilter (different_keys entries) filter
     → tail ≡ tail_of filter (index_part (block_lines 0 blocks)) it.written it.keys.count
-    → TableRepresents (data_bytes blocks ++ tail) entries
+    → (holds : TableRepresents (data_bytes blocks ++ tail) entries) × (holds.blocks ≡ blocks)
 is_table it blocks entries filter tail can exact tail_is =
     let fits = tail_fits it blocks entries filter can exact in
     let index = index_part (block_lines 0 blocks) in
-    let count = can.keys.count ∙ ap length can.division in
-    record {
-      blocks = blocks;
-      filter = filter;
-      spelled = ap (λ (t : List ℕ). data_bytes blocks ++ t)
-          (tail_is ∙ ap₂ (tail_of filter index) can.closed.written count);
-      division = can.division;
-      some = can.some;
-      each = can.each;
-      rising = can.rising;
-      exact = exact;
-      fits = record {
-        data_len = can.size;
-        each = can.small;
-        filter_len = fits.filter_len;
-        index_len = fits.index_len;
-      };
-    }
+    let count = can.keys.count ∙ ap length can.division in (
+      record {
+        blocks = blocks;
+        filter = filter;
+        spelled = ap (λ (t : List ℕ). data_bytes blocks ++ t)
+            (tail_is ∙ ap₂ (tail_of filter index) can.closed.written count);
+        division = can.division;
+        some = can.some;
+        each = can.each;
+        rising = can.rising;
+        exact = exact;
+        fits = record {
+          data_len = can.size;
+          each = can.small;
+          filter_len = fits.filter_len;
+          index_len = fits.index_len;
+        };
+      },
+      refl,
+    )
 
 pub length-tail_of : (filter index : List ℕ) (place entries : ℕ)
     → length (tail_of filter index place entries)
@@ -276,6 +278,7 @@ module _ (it : Builder) (entries : List Entry) (h : HoldsEntries it entries)
       let more = few_more parts.opened in
       record {
         closed = closed;
+        are = refl;
         keys = subst (λ k. KnowsKeys k entries) (sym keys) h.keys;
         division = sym f.all ∙ joins parts.opened;
         some = some;

@@ -10,7 +10,7 @@ use Rattle.table_format.specs.{AreRising, Block, CanFollow, IsTableEntry, TableR
 use Rattle.table_format.specs.{block_lines, data_bytes, entry_bytes, last_entry, line_bytes}
 use Rattle.table_builder.specs.declared.builder.Builder.{Builder}
 use Rattle.table_builder.specs.declared.builder.Finished.{Finished}
-use Rattle.table_builder.specs.Divisions.{Division, data_size, division}
+use Rattle.table_builder.specs.Divisions.{Division, data_size, division, finished_blocks}
 use Rattle.table_builder.specs.Fresh.{IsFresh}
 use Rattle.table_builder.specs.Keys.{KnowsKeys, first_entry}
 use Rattle.table_builder.specs.OpenParts.{HoldsItems}
@@ -97,9 +97,11 @@ pub record HoldsTable (slot : Slot) (entries : List Entry) : Type 0 where
   pub durable : slot ≡ Kept bytes bytes []
   pub represents : TableRepresents bytes entries
 
--- the table of these entries is in the file, with this length and these ends
+-- The table of these entries is in the file, in the blocks of their division, with this length and
+-- these ends.
 pub record IsFinishedTable (slot : Slot) (entries : List Entry) (it : Finished) : Type 0 where
   pub holds : HoldsTable slot entries
+  pub blocks : holds.represents.blocks ≡ finished_blocks (division entries)
   pub len : it.length ≡ length holds.bytes
   pub least : IfSome (first_entry entries) (λ entry. it.least ≡ entry.key)
   pub greatest : IfSome (last_entry entries) (λ entry. it.greatest ≡ entry.key)

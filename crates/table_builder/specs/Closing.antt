@@ -12,7 +12,7 @@ use Rattle.table_format.specs.{ReportsDevice, block_bytes, block_entries, data_b
 use Rattle.table_format.specs.{block_lines, entries_of_blocks, entry_bytes, line_bytes}
 use Rattle.table_builder.specs.declared.builder.Builder.{Builder}
 use Rattle.table_builder.specs.Builders.{HasBuilderFailed, HoldsBlocks}
-use Rattle.table_builder.specs.Divisions.{data_size}
+use Rattle.table_builder.specs.Divisions.{data_size, division, finished_blocks}
 use Rattle.table_builder.specs.Keys.{KnowsKeys}
 use Rattle.table_builder.specs.OpenParts.{HoldsItems}
 
@@ -63,10 +63,12 @@ pub record KeepsKeys (old new : Builder) : Type 0 where
 
 -- ---- the end
 
--- The entries stand in closed blocks, and the table can be ended behind them.
+-- The entries stand in the blocks of their division, which are closed, and the table can be ended
+-- behind them.
 pub record CanEnd (it : Builder) (blocks : List Block) (entries : List Entry) : Type 0 where
   pub closed : HoldsBlocks it blocks
   pub keys : KnowsKeys it.keys entries
+  pub are : blocks ≡ finished_blocks (division entries)
   pub division : entries ≡ entries_of_blocks blocks
   pub some : 1 ≤ length entries
   pub each : All IsTableEntry entries

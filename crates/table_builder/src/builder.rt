@@ -262,8 +262,9 @@ impl Builder {
         ensures keys { self.new.keys ≡ self.old.keys }
         ensures memory { IfErr result (λ e. e ≡ TableError.Memory) }
         ensures tail { (blocks : List Block) (entries : List Entry) → CanEnd self.old blocks entries →
-            IfOk result (λ tail. TableRepresents (data_bytes blocks ++ tail.items) entries
-            × (length tail.items < 2 ^ 40)) }
+            IfOk result (λ tail.
+            ((holds : TableRepresents (data_bytes blocks ++ tail.items) entries)
+            × (holds.blocks ≡ blocks)) × (length tail.items < 2 ^ 40)) }
     {
         let filter = build_hashed(alloc, &self.keys.hashes)?;
         self.index.seal()?;

@@ -3,6 +3,7 @@ pub mod Caches
 pub mod BlockReads
 pub mod LentFiles
 pub mod Disks
+pub mod Capacities
 -- What crates above name.
 pub use Rattle.table_files.specs.BlockReads.{BlockAnswer, IsBlockAt, IsPartAt}
 pub use Rattle.table_files.specs.BlockReads.{KnownBlocksAreAnswered, known_block_answered}

@@ -3,6 +3,7 @@
 ghost use Rattle.std.specs.Prelude.{Bool, IsTrue};
 ghost use Rattle.disk.specs.{IsSame, IsStill, KeepsDisk};
 ghost use Rattle.table_files.specs.BlockReads.{KnownBlocksAreAnswered};
+ghost use Rattle.table_files.specs.Capacities.{CapacityBoundIs};
 ghost use Rattle.table_files.specs.LentFiles.{KeepsFiles};
 
 use disk::Disk;
@@ -11,6 +12,12 @@ use disk::Disk;
 /// block, but for the device and want of memory.
 pub fn known_blocks_are_answered()
     ensures { KnownBlocksAreAnswered }
+{}
+
+/// The greatest number of blocks that a cache may be made for.
+// law: of `MAX_BLOCKS`
+pub fn capacity_bound_is()
+    ensures { CapacityBoundIs }
 {}
 
 /// `KeepsFiles` relates a disk to itself, adds up, and follows from what one call that only reads

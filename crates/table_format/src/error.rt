@@ -8,7 +8,8 @@ use disk::DiskError;
 use std::alloc::{AllocError, AllocFailed};
 use thiserror::Error;
 
-/// Why a table was not built, opened or read. A builder answers `Failed` after `Disk` and `Memory`.
+/// Why a table was not built, opened or read. A builder answers `Failed` after `Disk`, `Damaged`
+/// and `Memory`.
 #[derive(Clone, Copy, Debug, PartialEq, Eq, Error)]
 pub enum TableError {
     #[error("the device failed")]

@@ -6,7 +6,7 @@ use Rattle.table_files.specs.{known_block_answered}
 use Rattle.table_format.specs.{IsBlock}
 use Rattle.sorted_table.proofs.FilterLemmas.{denied_unseen}
 use Rattle.sorted_table.proofs.KeptDisk.{kept_alike, kept_uncalled}
-use Rattle.sorted_table.proofs.OpenLookups.{block_answers, block_refused, by_line}
+use Rattle.sorted_table.proofs.OpenLookups.{block_answers, block_refused, by_line, not_denied}
 use Rattle.sorted_table.proofs.TableLookups.{block_for, no_block, not_device, result_up}
 use Rattle.sorted_table.proofs.table.Table.get_hashed.Goals as goal
 
@@ -20,7 +20,7 @@ returns-then-denies-clause-found g c = λ entries honest s.
     s.represents.exact
     (subst (λ (f : List ℕ). CoversHashed f (hashes_of c.args.key.now) → ⊥) s.filter
     (subst (λ (h : ℕ × ℕ). CoversHashed c.args.self.now.filter.items h → ⊥) c.requires
-    (c.denies.ensures.0 c.if-denies.true)))
+    (c.denies.ensures.denied.0 c.if-denies.true)))
 
 pub returns-then-denies-clause-still : goal.returns-then-denies-clause-still
 returns-then-denies-clause-still g c = λ honest. still _ _
@@ -73,23 +73,27 @@ pub returns-then-denies-clause-checked : goal.returns-then-denies-clause-checked
 returns-then-denies-clause-checked g c = λ honest opened.
     inl (
       subst (λ (h : ℕ × ℕ). CoversHashed c.args.self.now.filter.items h → ⊥) c.requires
-          (c.denies.ensures.0 c.if-denies.true),
+          (c.denies.ensures.denied.0 c.if-denies.true),
       refl,
     )
 
 pub returns-in_default-clause-checked : goal.returns-in_default-clause-checked
 returns-in_default-clause-checked g c = λ honest opened.
+    let covers = not_denied c.args.self.now.filter.items c.args.key.now c.args.hashes
+    c.denies.result c.requires c.denies.ensures.covered c.if-denies.false in
     by_line (g.D.Disk.state c.args.files.now.disk c.args.self.now.file) c.args.self.now
-    c.deref.result.now c.args.key.now c.args.at None (Ok None) opened c.deref.ensures.value
+    c.deref.result.now c.args.key.now c.args.at None (Ok None) opened covers c.deref.ensures.value
     c.in_default.ensures refl
 
 pub returns-in_err-block-clause-checked : goal.returns-in_err-block-clause-checked
 returns-in_err-block-clause-checked g c = λ honest opened.
+    let covers = not_denied c.args.self.now.filter.items c.args.key.now c.args.hashes
+    c.denies.result c.requires c.denies.ensures.covered c.if-denies.false in
     let disk = g.D.Disk.state c.args.files.now.disk in
     let table = c.args.self.now in
     let line = c.in-Some.line.now in
     let why = by_line (disk table.file) table c.deref.result.now c.args.key.now c.args.at
-    (Some line) (Err c.in_err-block.field-0.0) opened c.deref.ensures.value c.in-Some.ensures
+    (Some line) (Err c.in_err-block.field-0.0) opened covers c.deref.ensures.value c.in-Some.ensures
     (block_refused disk table.file line c.args.key.now c.args.at c.in_err-block.field-0.0
     (c.in_err-block.ensures.answers honest)) in
     let p = err_from_is_err_and c.from_residual.result c.from_residual.ensures.1 in
@@ -97,11 +101,13 @@ returns-in_err-block-clause-checked g c = λ honest opened.
 
 pub returns-clause-checked : goal.returns-clause-checked
 returns-clause-checked g c = λ honest opened.
+    let covers = not_denied c.args.self.now.filter.items c.args.key.now c.args.hashes
+    c.denies.result c.requires c.denies.ensures.covered c.if-denies.false in
     let disk = g.D.Disk.state c.args.files.now.disk in
     let table = c.args.self.now in
     let line = c.in-Some.line.now in
     by_line (disk table.file) table c.deref.result.now c.args.key.now c.args.at (Some line)
-    c.find_in.result opened c.deref.ensures.value c.in-Some.ensures
+    c.find_in.result opened covers c.deref.ensures.value c.in-Some.ensures
     (block_answers disk table.file line c.args.key.now c.args.at c.in_ok-block.block
     c.find_in.result (c.in_ok-block.ensures.answers honest) (λ entries is.
     c.find_in.ensures.found entries

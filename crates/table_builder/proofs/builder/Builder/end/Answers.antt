@@ -37,6 +37,8 @@ returns-clause-ended g c = λ blocks entries can honest fresh.
     let tail = c.deref.result.now in
     let value = c.deref.ensures.value in
     let t = c.in_ok-tail.ensures.tail blocks entries can in
+    let table = subst (λ (b : List ℕ). (holds : TableRepresents (data_bytes blocks ++ b) entries)
+    × (holds.blocks ≡ blocks)) (sym value) t.0 in
     let keys = c.in_ok-tail.ensures.keys in
     let size = can.size in
     let least = c.key_from.ensures ∙ ap (λ k. k.least.items) keys in
@@ -45,8 +47,9 @@ returns-clause-ended g c = λ blocks entries can honest fresh.
       holds = record {
         bytes = data_bytes blocks ++ tail;
         durable = c.in_ok-append_last.ensures.appended (data_bytes blocks) honest fresh can.closed.written;
-        represents = subst (λ (b : List ℕ). TableRepresents (data_bytes blocks ++ b) entries) (sym value) t.0;
+        represents = table.0;
       };
+      blocks = table.1 ∙ can.are;
       len = omega (
         arith,
         c.saturating_add.ensures,
