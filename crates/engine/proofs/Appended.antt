@@ -107,8 +107,8 @@ module _ (disk : State) (files : StoreFiles) (list : List BatchContent)
 
   pub trimmed_few : trimmed ≤ length list
   trimmed_few =
-      let kept = h.store.kept_floor in
-      let count = h.store.floor_count in
+      let kept = h.known.store.kept_floor in
+      let count = h.known.store.floor_count in
       omega (arith, kept, count)
 
   -- a crash outcome of the files but the newest log's
@@ -118,34 +118,34 @@ module _ (disk : State) (files : StoreFiles) (list : List BatchContent)
   tables_were : DurableFileIsLeft → (left : Contents) → OthersAreLeft left → (line : TableLine)
       → Contains version.tables line → left line.file ≡ contents disk line.file
   tables_were law left others line has = law (disk line.file) (left line.file)
-      (All-contains (λ (one : TableLine). IsDurable (disk one.file)) version.tables line h.durable
-      has) (others line.file (newest_no_table files h.usable line has))
+      (All-contains (λ (one : TableLine). IsDurable (disk one.file)) version.tables line
+      h.known.durable has) (others line.file (newest_no_table files h.known.usable line has))
 
   -- such contents represent what the logs in them have
   pub represented : DurableFileIsLeft → HeldVersionIsLeft → (left : Contents)
       → OthersAreLeft left → (more : List BatchContent)
       → HaveBatches left (suc trimmed) (lines_of files.logs) (drop trimmed more)
-      → StoreRepresents more (known_store files h.tables) → All IsBatch more
+      → StoreRepresents more (known_store files h.known.tables) → All IsBatch more
       → length more ≤ MAX_NUMBER → FilesRepresent (known_facts files) more left
   represented law held left others more logs store each few = record {
     version = version;
-    manifest = held disk files.manifest (known_version files) left h.manifest
-        (λ slot is. others slot (newest_no_slot files h.usable slot is));
+    manifest = held disk files.manifest (known_version files) left h.known.manifest
+        (λ slot is. others slot (newest_no_slot files h.known.usable slot is));
     epoch = refl;
     ids = refl;
     floor = refl;
     logs = subst (λ (l : List LogLine). HaveBatches left (suc trimmed) l (drop trimmed more))
-        h.usable.lines logs;
-    tables = h.tables;
-    read = tables_same (contents disk) left version.tables h.tables
-        (tables_were law left others) h.read;
+        h.known.usable.lines logs;
+    tables = h.known.tables;
+    read = tables_same (contents disk) left version.tables h.known.tables
+        (tables_were law left others) h.known.read;
     store = store;
     each = each;
     few = few;
   }
 
   list_few : length list ≤ MAX_NUMBER
-  list_few = subst (λ (n : ℕ). n ≤ MAX_NUMBER) h.count h.usable.numbers.few
+  list_few = subst (λ (n : ℕ). n ≤ MAX_NUMBER) h.known.count h.known.usable.numbers.few
 
   -- whatever a crash leaves now represents the list
   pub left_now : DurableFileIsLeft → HeldVersionIsLeft → (left : Contents)
@@ -153,8 +153,8 @@ module _ (disk : State) (files : StoreFiles) (list : List BatchContent)
       → FilesRepresent (known_facts files) list left
   left_now law held left leaves =
       represented law held left (λ other apart. leaves other) list
-      (whole_left law disk left files.logs (suc trimmed) (drop trimmed list) h.logs
-      h.usable.logs.apart leaves) h.store h.each list_few
+      (whole_left law disk left files.logs (suc trimmed) (drop trimmed list) h.known.logs
+      h.known.usable.logs.apart leaves) h.known.store h.known.each list_few
 
   module _ (batch : BatchContent) (is : IsBatch batch) where
     abbrev pub longer : List BatchContent
@@ -178,11 +178,12 @@ module _ (disk : State) (files : StoreFiles) (list : List BatchContent)
         → length list < MAX_NUMBER → (left : Contents)
         → AreLeftWith disk files.logs (suc trimmed) (drop trimmed list) batch left → OldOrNew left
     left_old_or_new law held keeps room left at = elim at.either as (λ _. OldOrNew left) [
-      | inl old ↦ inl (represented law held left at.others list old h.store h.each list_few)
+      | inl old ↦ inl (represented law held left at.others list old h.known.store h.known.each
+          list_few)
       | inr new ↦ inr (represented law held left at.others longer
           (subst (HaveBatches left (suc trimmed) (lines_of files.logs)) (sym dropped) new)
-          (keeps list (known_store files h.tables) batch h.store)
-          (All-push IsBatch list batch h.each is)
+          (keeps list (known_store files h.known.tables) batch h.known.store)
+          (All-push IsBatch list batch h.known.each is)
           (let long = length_push list batch in omega (arith, long, room)))
     ]
 
@@ -207,42 +208,44 @@ module _ (disk : State) (files : StoreFiles) (list : List BatchContent)
 
       table_stays : (line : TableLine) → Contains version.tables line
           → new line.file ≡ disk line.file
-      table_stays line has = others line.file (newest_no_table files h.usable line has)
+      table_stays line has = others line.file (newest_no_table files h.known.usable line has)
 
       pub held_after : AppendsKeep → HeldVersionStays → AreUsableFiles after
           → batch_count after ≡ batch_count files + 1
           → ((entry : Entry) → TableHolds memtable entry
-          ↔ memory_entries longer (known_store files h.tables) entry)
+          ↔ memory_entries longer (known_store files h.known.tables) entry)
           → LogsHold new logs (suc trimmed) (drop trimmed list ++ batch ∷ [])
           → FilesHold new after longer
       held_after keeps stays usable count entries held = record {
-        usable = usable;
-        manifest = stays disk new files.manifest (known_version files) h.manifest
-            (λ slot at. others slot (newest_no_slot files h.usable slot at));
-        logs = subst (λ (t : ℕ). LogsHold new logs (suc t) (drop t longer)) (sym trimmed_is)
-            (subst (LogsHold new logs (suc trimmed)) (sym dropped) held);
-        tables = h.tables;
-        read = tables_same (contents disk) (contents new) version.tables h.tables
-            (λ line has. ap seen (table_stays line has)) h.read;
-        served = served_in disk new version.tables files.tables.tables.items h.tables table_stays
-            h.read h.served;
-        durable = All-weaker (Contains version.tables)
-            (λ (line : TableLine). IsDurable (new line.file))
-            (λ line has. subst IsDurable (sym (table_stays line has))
-            (All-contains (λ (one : TableLine). IsDurable (disk one.file)) version.tables line
-            h.durable has)) version.tables (All-contains_itself version.tables);
-        store = subst (λ (t : ℕ). StoreRepresents longer (store_of_version version t h.tables))
-            (sym trimmed_is) (keeps list (known_store files h.tables) batch h.store);
-        entries = λ entry. subst (λ (t : ℕ). TableHolds memtable entry
-            ↔ memory_entries longer (store_of_version version t h.tables) entry) (sym trimmed_is)
-            (entries entry);
-        count =
-            let long = length_push list batch in
-            let was = h.count in
-            omega (arith, count, long, was);
-        each = All-push IsBatch list batch h.each is;
+        known = record {
+          usable = usable;
+          manifest = stays disk new files.manifest (known_version files) h.known.manifest
+              (λ slot at. others slot (newest_no_slot files h.known.usable slot at));
+          logs = subst (λ (t : ℕ). LogsHold new logs (suc t) (drop t longer)) (sym trimmed_is)
+              (subst (LogsHold new logs (suc trimmed)) (sym dropped) held);
+          tables = h.known.tables;
+          read = tables_same (contents disk) (contents new) version.tables h.known.tables
+              (λ line has. ap seen (table_stays line has)) h.known.read;
+          served = served_in disk new version.tables files.tables.tables.items h.known.tables
+              table_stays h.known.read h.known.served;
+          durable = All-weaker (Contains version.tables)
+              (λ (line : TableLine). IsDurable (new line.file))
+              (λ line has. subst IsDurable (sym (table_stays line has))
+              (All-contains (λ (one : TableLine). IsDurable (disk one.file)) version.tables line
+              h.known.durable has)) version.tables (All-contains_itself version.tables);
+          store = subst (λ (t : ℕ). StoreRepresents longer (store_of_version version t h.known.tables))
+              (sym trimmed_is) (keeps list (known_store files h.known.tables) batch h.known.store);
+          entries = λ entry. subst (λ (t : ℕ). TableHolds memtable entry
+              ↔ memory_entries longer (store_of_version version t h.known.tables) entry)
+              (sym trimmed_is) (entries entry);
+          count =
+              let long = length_push list batch in
+              let was = h.known.count in
+              omega (arith, count, long, was);
+          each = All-push IsBatch list batch h.known.each is;
+        };
         unused = λ other le.
-            let given = (newest_given files h.usable).1 in
+            let given = (newest_given files h.known.usable).1 in
             subst (λ (s : Slot). IsNone (seen s))
             (sym (others other (λ same. omega (arith, same, le, given)))) (h.unused other le);
       }
@@ -277,7 +280,7 @@ pub appended_told : (disk : State) (files : StoreFiles) (list : List BatchConten
     (logs : BatchLogs) (memtable : Memtable) → lines_of logs ≡ lines_of files.logs
     → IsSameBut (newest_file files.logs) disk new → AppendsKeep → HeldVersionStays
     → ((entry : Entry) → TableHolds memtable entry
-    ↔ memory_entries (list ++ batch ∷ []) (known_store files h.tables) entry)
+    ↔ memory_entries (list ++ batch ∷ []) (known_store files h.known.tables) entry)
     → {T : Type 0} (result : Result T EngineError)
     → MatchResult result (λ _. AreUsableFiles (after_append files logs memtable)
     × (batch_count (after_append files logs memtable) ≡ batch_count files + 1))

@@ -141,22 +141,24 @@ module _ (files : StoreFiles) (one : BatchLog) (id : ℕ) (ids : List ℕ)
       AreServed disk files.tables [] →
       ((file : ℕ) → 4 ≤ file → IsNone (seen (disk file))) → FilesHold disk files []
   first_hold empty disk manifest part served unused = record {
-    usable = first_usable;
-    manifest = subst (ManifestHolds disk files.manifest) (sym f.known) manifest;
-    logs = first_logs disk part;
-    tables = [];
-    read = subst (λ (lines : List TableLine). AreTablesOf (contents disk) lines []) (sym no_tables)
-        tt;
-    served = served;
-    durable = subst (All (λ (line : TableLine). IsDurable (disk line.file))) (sym no_tables)
-        (All-nil (λ (line : TableLine). IsDurable (disk line.file)));
-    store = first_store empty;
-    entries = λ entry. (
-      λ holds. absurd (f.empty entry holds),
-      λ among. absurd (none_among entry among.2),
-    );
-    count = first_count;
-    each = All-nil IsBatch;
+    known = record {
+      usable = first_usable;
+      manifest = subst (ManifestHolds disk files.manifest) (sym f.known) manifest;
+      logs = first_logs disk part;
+      tables = [];
+      read = subst (λ (lines : List TableLine). AreTablesOf (contents disk) lines []) (sym no_tables)
+          tt;
+      served = served;
+      durable = subst (All (λ (line : TableLine). IsDurable (disk line.file))) (sym no_tables)
+          (All-nil (λ (line : TableLine). IsDurable (disk line.file)));
+      store = first_store empty;
+      entries = λ entry. (
+        λ holds. absurd (f.empty entry holds),
+        λ among. absurd (none_among entry among.2),
+      );
+      count = first_count;
+      each = All-nil IsBatch;
+    };
     unused = λ file above. unused file
         (subst (λ (v : NodeVersion). v.version.next_file ≤ file) f.known above);
   }

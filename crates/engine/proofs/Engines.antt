@@ -148,7 +148,7 @@ module _ {D : Type 0} (g : Ghosts D) (laws : LeftFiles) where
         works = works;
         represents = left_now disk engine.store list held laws.durable laws.version (contents disk)
             (laws.reads disk);
-        count = held.count;
+        count = held.known.count;
         inside = is_inside engine list held;
       }
 

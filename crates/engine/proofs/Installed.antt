@@ -341,7 +341,7 @@ module _ (files : StoreFiles) (u : AreUsableFiles files) (line : TableLine)
     trimmed = trimmed_count files
 
     abbrev tables : List LevelTable
-    tables = hs.held.tables
+    tables = hs.held.known.tables
 
     abbrev table : LevelTable
     table = hs.spilled.written.table
@@ -368,12 +368,12 @@ module _ (files : StoreFiles) (u : AreUsableFiles files) (line : TableLine)
     pub spilled_named : NamedHold s1 version files.logs trimmed tables list
     spilled_named = named_in s0 version files.logs trimmed tables list (record {
       lines = u.lines;
-      held = hs.held.logs;
-      read = hs.held.read;
-      durable = hs.held.durable;
-      store = hs.held.store;
-      each = hs.held.each;
-      few = let few = u.numbers.few in let count = hs.held.count in omega (arith, few, count);
+      held = hs.held.known.logs;
+      read = hs.held.known.read;
+      durable = hs.held.known.durable;
+      store = hs.held.known.store;
+      each = hs.held.known.each;
+      few = let few = u.numbers.few in let count = hs.held.known.count in omega (arith, few, count);
     }) s1
         (λ old has. hs.spilled.spares old.file
         (λ same. let lt = log_less old has in omega (arith, same, lt)))
@@ -381,7 +381,7 @@ module _ (files : StoreFiles) (u : AreUsableFiles files) (line : TableLine)
         (λ same. let lt = table_less old has in omega (arith, same, lt)))
 
     spilled_manifest : HeldVersionStays → ManifestHolds s1 files.manifest (known_version files)
-    spilled_manifest stays = stays s0 s1 files.manifest (known_version files) hs.held.manifest
+    spilled_manifest stays = stays s0 s1 files.manifest (known_version files) hs.held.known.manifest
         (λ slot is. hs.spilled.spares slot
         (λ same. let lt = slot_less slot is in omega (arith, same, lt)))
 
@@ -442,9 +442,10 @@ module _ (files : StoreFiles) (u : AreUsableFiles files) (line : TableLine)
       is_flush = record {
         range = hs.spilled.written.range;
         level = hs.spilled.written.is.level ∙ hs.spilled.written.level;
-        only = λ entry has. (hs.held.entries entry).0 ((hs.spilled.written.entries entry).0 has);
+        only = λ entry has. (hs.held.known.entries entry).0 ((hs.spilled.written.entries entry).0
+            has);
         all = λ entry among.
-            (hs.spilled.written.entries entry).1 ((hs.held.entries entry).1 among);
+            (hs.spilled.written.entries entry).1 ((hs.held.known.entries entry).1 among);
       }
 
       new_stays : s2 line.file ≡ s1 line.file
@@ -478,9 +479,10 @@ module _ (files : StoreFiles) (u : AreUsableFiles files) (line : TableLine)
               floor = version.floor;
               kept = trimmed;
               current = n;
-            })) (sym hs.held.count) (keeps list (known_store files tables) table
-                (with_flushed tables table) hs.held.store is_flush (flushed_edited table tables)));
-            each = hs.held.each;
+            })) (sym hs.held.known.count) (keeps list (known_store files tables) table
+                (with_flushed tables table) hs.held.known.store is_flush (flushed_edited table
+                tables)));
+            each = hs.held.known.each;
             few = named_old.few;
           }
 
@@ -530,7 +532,7 @@ module _ (files : StoreFiles) (u : AreUsableFiles files) (line : TableLine)
           -- the old tables are still served, and so is the new one
           pub old_served : AreServed s3 files.tables tables
           old_served = served_in s0 s3 version.tables files.tables.tables.items tables
-              old_table_stays hs.held.read hs.held.served
+              old_table_stays hs.held.known.read hs.held.known.served
 
           pub new_served : IsServed s3 one table
           new_served = one_served_in s1 s3 line one table
@@ -560,7 +562,7 @@ module _ (files : StoreFiles) (u : AreUsableFiles files) (line : TableLine)
               let cut = sym (trimmed_kept new told lines_new) in
               let last = named_last versions in
               let count = count_kept new told lines_new counts in
-              let was = hs.held.count in
+              let was = hs.held.known.count in
               let flushed : (known_version new).version.flushed ≡ batch_count files =
               ap (λ (n : NodeVersion). n.version.flushed) now in
               let next_file = ap (λ (n : NodeVersion). n.version.next_file) now in
@@ -568,28 +570,30 @@ module _ (files : StoreFiles) (u : AreUsableFiles files) (line : TableLine)
               (sym of) last.held in
               let P : TableLine → Type 0 = λ old. IsDurable (s3 old.file) in
               record {
-                usable = usable;
-                manifest = subst (ManifestHolds s3 new.manifest) (sym told) manifest;
-                logs = subst (λ (k : ℕ). LogsHold s3 new.logs (suc k) (drop k list)) cut held;
-                tables = with_flushed tables table;
-                read = subst (λ (n : NodeVersion).
-                    AreTablesOf (contents s3) n.version.tables (with_flushed tables table)) back
-                    last.read;
-                served = served;
-                durable = subst (λ (n : NodeVersion). All P n.version.tables) back last.durable;
-                store = subst (λ (n : NodeVersion). StoreRepresents list
-                    (store_of_version n.version (trimmed_count new) (with_flushed tables table))) back
-                    (subst (λ (k : ℕ). StoreRepresents list
-                    (store_of_version after k (with_flushed tables table))) cut last.store);
-                entries = λ entry. (
-                  λ holds. absurd (empty entry holds),
-                  λ among.
-                      let lt = among.1 in
-                      let le = entry_within list entry among.2 in
-                      absurd (omega (arith, lt, le, flushed, was)),
-                );
-                count = count ∙ was;
-                each = hs.held.each;
+                known = record {
+                  usable = usable;
+                  manifest = subst (ManifestHolds s3 new.manifest) (sym told) manifest;
+                  logs = subst (λ (k : ℕ). LogsHold s3 new.logs (suc k) (drop k list)) cut held;
+                  tables = with_flushed tables table;
+                  read = subst (λ (n : NodeVersion).
+                      AreTablesOf (contents s3) n.version.tables (with_flushed tables table)) back
+                      last.read;
+                  served = served;
+                  durable = subst (λ (n : NodeVersion). All P n.version.tables) back last.durable;
+                  store = subst (λ (n : NodeVersion). StoreRepresents list
+                      (store_of_version n.version (trimmed_count new) (with_flushed tables table))) back
+                      (subst (λ (k : ℕ). StoreRepresents list
+                      (store_of_version after k (with_flushed tables table))) cut last.store);
+                  entries = λ entry. (
+                    λ holds. absurd (empty entry holds),
+                    λ among.
+                        let lt = among.1 in
+                        let le = entry_within list entry among.2 in
+                        absurd (omega (arith, lt, le, flushed, was)),
+                  );
+                  count = count ∙ was;
+                  each = hs.held.known.each;
+                };
                 unused = λ other above.
                     subst (λ (s : Slot). IsNone (seen s)) (sym (stays_behind other
                     (omega (arith, above, next_file))

@@ -28,8 +28,9 @@ use Rattle.engine.specs.declared.store_files.StoreFiles.{StoreFiles}
 use Rattle.engine.specs.BatchLogs.{AreParted, HasPart, HaveBatches, HoldsPart, LogsHold, line_of}
 use Rattle.engine.specs.BatchLogs.{lines_of}
 use Rattle.engine.specs.LevelTables.{AreTablesOf, IsServed, IsTableOf}
-use Rattle.engine.specs.OpenFiles.{FilesHold, known_facts, known_version, trimmed_count}
-use Rattle.engine.specs.Openings.{FilesAreRead, kept_files}
+use Rattle.engine.specs.OpenFiles.{FilesAreRead, FilesHold, known_facts, known_version}
+use Rattle.engine.specs.OpenFiles.{trimmed_count}
+use Rattle.engine.specs.Openings.{kept_files}
 use Rattle.engine.specs.Settling.{AreAlone, SparesFiles}
 use Rattle.engine.specs.StoreFiles.{FilesRepresent}
 use Rattle.engine.proofs.NamedFiles.{tables_same}
@@ -306,34 +307,36 @@ module _ (disk : State) (files : StoreFiles) (list : List BatchContent)
   held_with new manifest holds logs_stay same unused =
       subst (λ (named : NodeVersion). FilesHold new (with_manifest files
       (with_version manifest named)) list) (sym holds.knows) (record {
-        usable = record {
-          works = holds.works;
-          version = h.usable.version;
-          logs = h.usable.logs;
-          lines = h.usable.lines;
-          tables = h.usable.tables;
-          memtable = h.usable.memtable;
-          numbers = h.usable.numbers;
+        known = record {
+          usable = record {
+            works = holds.works;
+            version = h.usable.version;
+            logs = h.usable.logs;
+            lines = h.usable.lines;
+            tables = h.usable.tables;
+            memtable = h.usable.memtable;
+            numbers = h.usable.numbers;
+          };
+          manifest = subst (λ (named : NodeVersion). ManifestHolds new (with_version manifest named)
+              (known_version files)) holds.knows holds;
+          logs = named_logs_in disk new files.logs (suc (trimmed_count files))
+              (drop (trimmed_count files) list) (λ line has. logs_stay line
+              (subst (λ (lines : List LogLine). Contains lines line) h.usable.lines has)) h.logs;
+          tables = h.tables;
+          read = tables_same (contents disk) (contents new) version.tables h.tables
+              (λ line has. ap seen (same line has)) h.read;
+          served = served_in disk new version.tables files.tables.tables.items h.tables same h.read
+              h.served;
+          durable = All-weaker (Contains version.tables)
+              (λ (line : TableLine). IsDurable (new line.file))
+              (λ line has. subst IsDurable (sym (same line has))
+              (All-contains (λ (one : TableLine). IsDurable (disk one.file)) version.tables line
+              h.durable has)) version.tables (All-contains_itself version.tables);
+          store = h.store;
+          entries = h.entries;
+          count = h.count;
+          each = h.each;
         };
-        manifest = subst (λ (named : NodeVersion). ManifestHolds new (with_version manifest named)
-            (known_version files)) holds.knows holds;
-        logs = named_logs_in disk new files.logs (suc (trimmed_count files))
-            (drop (trimmed_count files) list) (λ line has. logs_stay line
-            (subst (λ (lines : List LogLine). Contains lines line) h.usable.lines has)) h.logs;
-        tables = h.tables;
-        read = tables_same (contents disk) (contents new) version.tables h.tables
-            (λ line has. ap seen (same line has)) h.read;
-        served = served_in disk new version.tables files.tables.tables.items h.tables same h.read
-            h.served;
-        durable = All-weaker (Contains version.tables)
-            (λ (line : TableLine). IsDurable (new line.file))
-            (λ line has. subst IsDurable (sym (same line has))
-            (All-contains (λ (one : TableLine). IsDurable (disk one.file)) version.tables line
-            h.durable has)) version.tables (All-contains_itself version.tables);
-        store = h.store;
-        entries = h.entries;
-        count = h.count;
-        each = h.each;
         unused = unused;
       })
 
@@ -362,23 +365,25 @@ pub hold_in : (old new : State) (files : StoreFiles) (list : List BatchContent) 
 hold_in old new files list held_stays same h =
     let lines = (known_version files).version.tables in
     record {
-      usable = h.usable;
-      manifest = held_stays old new files.manifest (known_version files) h.manifest
-          (λ slot is_slot. same slot);
-      logs = named_logs_in old new files.logs (suc (trimmed_count files))
-          (drop (trimmed_count files) list) (λ line has. same line.file) h.logs;
-      tables = h.tables;
-      read = tables_same (contents old) (contents new) lines h.tables
-          (λ line has. ap seen (same line.file)) h.read;
-      served = served_in old new lines files.tables.tables.items h.tables
-          (λ line has. same line.file) h.read h.served;
-      durable = All-weaker (λ (line : TableLine). IsDurable (old line.file))
-          (λ (line : TableLine). IsDurable (new line.file))
-          (λ line sure. subst IsDurable (sym (same line.file)) sure) lines h.durable;
-      store = h.store;
-      entries = h.entries;
-      count = h.count;
-      each = h.each;
+      known = record {
+        usable = h.known.usable;
+        manifest = held_stays old new files.manifest (known_version files) h.known.manifest
+            (λ slot is_slot. same slot);
+        logs = named_logs_in old new files.logs (suc (trimmed_count files))
+            (drop (trimmed_count files) list) (λ line has. same line.file) h.known.logs;
+        tables = h.known.tables;
+        read = tables_same (contents old) (contents new) lines h.known.tables
+            (λ line has. ap seen (same line.file)) h.known.read;
+        served = served_in old new lines files.tables.tables.items h.known.tables
+            (λ line has. same line.file) h.known.read h.known.served;
+        durable = All-weaker (λ (line : TableLine). IsDurable (old line.file))
+            (λ (line : TableLine). IsDurable (new line.file))
+            (λ line sure. subst IsDurable (sym (same line.file)) sure) lines h.known.durable;
+        store = h.known.store;
+        entries = h.known.entries;
+        count = h.known.count;
+        each = h.known.each;
+      };
       unused = λ file above. subst (λ (s : Slot). IsNone (seen s)) (sym (same file))
           (h.unused file above);
     }

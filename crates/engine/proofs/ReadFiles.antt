@@ -28,9 +28,9 @@ use Rattle.engine.specs.Files.{Facts}
 use Rattle.engine.specs.LevelTables.{AreTablesOf, FileFits, FitsLine}
 use Rattle.engine.specs.OpenFiles.{AreBatchesOf, AreUsableFiles}
 use Rattle.engine.specs.StoreFiles.{AreOrderedNumbers}
-use Rattle.engine.specs.OpenFiles.{FilesOpenAs, OpeningRefusal, known_facts}
+use Rattle.engine.specs.OpenFiles.{FilesAreRead, FilesOpenAs, OpeningRefusal, known_facts}
 use Rattle.engine.specs.OpenFiles.{known_version}
-use Rattle.engine.specs.Openings.{AreParts, FilesAreRead, PartsHold, WereParts}
+use Rattle.engine.specs.Openings.{AreParts, PartsHold, WereParts}
 use Rattle.engine.specs.Settling.{SlotSettles}
 use Rattle.engine.specs.StoreFiles.{FilesRepresent, store_of_version}
 use Rattle.engine.proofs.FilesApart.{given_no_slot}
@@ -220,7 +220,8 @@ module _ (facts : Facts) (list : List BatchContent) (left : Contents)
       → (known_facts (files_of_parts manifest parts) ≡ facts)
       × FilesAreRead disk (files_of_parts manifest parts) list
   read_as agree disk manifest parts usable held p =
-      let knows : known_version (files_of_parts manifest parts) ≡ record { id = facts.id; version = h.version } =
+      let knows : known_version (files_of_parts manifest parts)
+          ≡ record { id = facts.id; version = h.version } =
       held.knows in
       let first = begins_at disk parts.logs (suc facts.kept) (drop facts.kept list) p.logs in
       let trimmed : first_number parts.logs - 1 ≡ facts.kept = omega (arith, first) in

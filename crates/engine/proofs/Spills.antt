@@ -15,7 +15,7 @@ use Rattle.engine.specs.declared.levels.OpenTable.{OpenTable}
 use Rattle.engine.specs.declared.store_files.StoreFiles.{StoreFiles}
 use Rattle.engine.specs.LevelTables.{IsServed}
 use Rattle.engine.specs.OpenFiles.{FilesHold, IsWrittenTable, known_facts, known_version}
-use Rattle.engine.specs.Openings.{FilesAreRead, kept_files}
+use Rattle.engine.specs.Openings.{kept_files}
 use Rattle.engine.specs.StoreFiles.{FilesRepresent}
 use Rattle.engine.specs.Tending.{HasSpilled}
 use Rattle.engine.proofs.KeptFiles.{kept_is_given, read_is_left, stay_held, still_keeps}
@@ -48,23 +48,6 @@ has_spilled old mid new files file line it at spares same w served = record {
   served = served;
 }
 
--- what the open files hold was read
-pub are_read : (disk : State) (files : StoreFiles) (list : List BatchContent) →
-    FilesHold disk files list → FilesAreRead disk files list
-are_read disk files list h = record {
-  usable = h.usable;
-  manifest = h.manifest;
-  logs = h.logs;
-  tables = h.tables;
-  read = h.read;
-  served = h.served;
-  durable = h.durable;
-  store = h.store;
-  entries = h.entries;
-  count = h.count;
-  each = h.each;
-}
-
 module _ (disk : State) (files : StoreFiles) (list : List BatchContent)
     (h : FilesHold disk files list) (next : ℕ)
     (is : next ≡ (known_version files).version.next_file) where
@@ -77,14 +60,14 @@ module _ (disk : State) (files : StoreFiles) (list : List BatchContent)
   -- the next file is none of those that are kept
   kept_no_next : (file : ℕ) → Contains (kept_files version) file → file ≢ next
   kept_no_next file has same =
-      let below = kept_is_given version h.usable.version file has in
+      let below = kept_is_given version h.known.usable.version file has in
       omega (arith, same, is, below)
 
   -- where the next file is gone again, the open files hold what they held
   pub held_again : HeldVersionStays → (new : State) → IsSameBut next disk new →
       IsNone (seen (new next)) → FilesHold new files list
   held_again held_stays new spares none =
-      stay_held disk files list (are_read disk files list h) held_stays new
+      stay_held disk files list h.known held_stays new
       (λ file has. spares file (kept_no_next file has)) unused
     where
       unused : (file : ℕ) → version.next_file ≤ file → IsNone (seen (new file))
@@ -102,7 +85,7 @@ module _ (disk : State) (files : StoreFiles) (list : List BatchContent)
     next_is_written past since new run =
         weaker (IsLeftAt disk next (λ left. Unit {0})) (FilesRepresent (known_facts files) list)
         disk past new since (λ left at.
-        read_is_left disk files list (are_read disk files list h) held_is_left durable_is_left left
+        read_is_left disk files list h.known held_is_left durable_is_left left
         (λ file has. at.others file (kept_no_next file has))) run
 
     -- and of calls behind them that leave nothing new

@@ -25,7 +25,6 @@ use Rattle.engine.proofs.Appended.{left_now}
 use Rattle.engine.proofs.FilesApart.{given_no_slot}
 use Rattle.engine.proofs.KeptFiles.{held_with, kept_is_given, lines_are_left, slot_is_kept}
 use Rattle.engine.proofs.KeptFiles.{with_manifest}
-use Rattle.engine.proofs.Spills.{are_read}
 
 -- ---- refusals
 
@@ -65,12 +64,12 @@ module _ (disk : State) (files : StoreFiles) (list : List BatchContent)
   log_no_slot : (line : LogLine) → Contains version.logs line → IsSlotFile line.file → ⊥
   log_no_slot line has slot = given_no_slot version line.file
       (All-contains (λ (one : LogLine). IsGiven version one.file) version.logs line
-      h.usable.version.lines.log_files has) line.file slot refl
+      h.known.usable.version.lines.log_files has) line.file slot refl
 
   table_no_slot : (line : TableLine) → Contains version.tables line → IsSlotFile line.file → ⊥
   table_no_slot line has slot = given_no_slot version line.file
       (All-contains (λ (one : TableLine). IsGiven version one.file) version.tables line
-      h.usable.version.lines.table_files has) line.file slot refl
+      h.known.usable.version.lines.table_files has) line.file slot refl
 
   -- before the first call
   pub nothing_called : DurableFileIsLeft → HeldVersionIsLeft → (past : List State) →
@@ -86,7 +85,7 @@ module _ (disk : State) (files : StoreFiles) (list : List BatchContent)
   slots_are_written durable_is_left past since new run =
       weaker (SlotsAreLeft disk (ManifestRepresents (known_version files)))
       (FilesRepresent (known_facts files) list) disk past new since
-      (λ left at. lines_are_left disk files list (are_read disk files list h) durable_is_left left
+      (λ left at. lines_are_left disk files list h.known durable_is_left left
       at.here (λ line has. at.others line.file (log_no_slot line has))
       (λ line has. at.others line.file (table_no_slot line has))) run
 
@@ -95,12 +94,13 @@ module _ (disk : State) (files : StoreFiles) (list : List BatchContent)
       IsSameBut slot disk new → ManifestHolds new manifest (known_version files) →
       FilesHold new (with_manifest files manifest) list
   held_rewritten new manifest slot is spares holds =
-      held_with disk files list (are_read disk files list h) new manifest holds
+      held_with disk files list h.known new manifest holds
       (λ line has. spares line.file (λ same. log_no_slot line has (subst IsSlotFile (sym same) is)))
       (λ line has. spares line.file
       (λ same. table_no_slot line has (subst IsSlotFile (sym same) is))) unused
     where
       unused : (file : ℕ) → version.next_file ≤ file → IsNone (seen (new file))
       unused file above = subst (λ (one : Slot). IsNone (seen one)) (sym (spares file (λ same.
-          let below = kept_is_given version h.usable.version slot (slot_is_kept version slot is) in
+          let below = kept_is_given version h.known.usable.version slot
+              (slot_is_kept version slot is) in
           omega (arith, same, below, above)))) (h.unused file above)

@@ -1,14 +1,11 @@
 -- The open files of a store with tables: what they hold in memory, and what their disk represents.
-use Rattle.std.specs.Prelude.{◌≡◌, ◌↔◌, ℕ, suc, ◌+◌, ◌-◌, ◌<◌, ◌≤◌, List, length, drop}
+use Rattle.std.specs.Prelude.{◌≡◌, ◌↔◌, ℕ, suc, ◌+◌, ◌-◌, ◌≤◌, List, length, drop}
 use Rattle.std.specs.Prelude.{All, Contains, IsNone}
 use Rattle.kv_types.specs.declared.bounds.TheConstants.{MAX_NUMBER}
 use Rattle.kv_types.specs.{BatchContent, Entry, IsBatch}
 use Rattle.disk.specs.{Contents, IsDurable, State, contents, seen}
 use Rattle.memtable.specs.declared.Memtable.{Memtable}
 use Rattle.memtable.specs.{TableHolds}
-use Rattle.table_format.specs.declared.sizes.TheConstants.{MAX_DATA}
-use Rattle.table_format.specs.{AreRising}
-use Rattle.table_builder.specs.{data_size}
 use Rattle.store_model.specs.{FitsRange, LevelTable, StoreRepresents, StoreState, memory_entries}
 use Rattle.store_model.specs.{replayed_entries}
 use Rattle.manifest.specs.declared.LogLine.{LogLine}
@@ -25,6 +22,7 @@ use Rattle.engine.specs.BatchLogs.{next_number}
 use Rattle.engine.specs.LevelTables.{AreServed, AreTablesOf, FileFits, IsTableOf, table_lines}
 use Rattle.engine.specs.Stores.{IsNumberedTo}
 use Rattle.engine.specs.StoreFiles.{AreOrderedNumbers, store_of_version}
+use Rattle.engine.specs.TableWriting.{PassesLimit}
 
 -- ---- logs that were read
 
@@ -77,11 +75,8 @@ pub record IsWrittenTable (disk : State) (memtable : Memtable) (file : ℕ) (lin
   pub entries : (entry : Entry) → Contains table.entries entry ↔ TableHolds memtable entry
 
 -- some of the memtable's entries, in order, already pass the limit of a table's data
-pub record IsTooLarge (memtable : Memtable) : Type 0 where
-  pub some : List Entry
-  pub each : All (TableHolds memtable) some
-  pub rising : AreRising some
-  pub large : MAX_DATA < data_size some
+abbrev pub IsTooLarge : Memtable → Type 0
+IsTooLarge memtable = PassesLimit (TableHolds memtable)
 
 -- ---- what the open files know
 
@@ -131,9 +126,9 @@ pub record AreUsableFiles (files : StoreFiles) : Type 0 where
 
 -- ---- what the open files hold
 
--- The open files hold what the disk durably represents: the list of batches, and the facts that they
--- know. No file exists with a number that was not given yet.
-pub record FilesHold (disk : State) (files : StoreFiles) (list : List BatchContent) : Type 0 where
+-- The open files know what the disk durably represents: the list of batches, and the facts. Files of
+-- any other number may exist.
+pub record FilesAreRead (disk : State) (files : StoreFiles) (list : List BatchContent) : Type 0 where
   pub usable : AreUsableFiles files
   pub manifest : ManifestHolds disk files.manifest (known_version files)
   pub logs : LogsHold disk files.logs (suc (trimmed_count files)) (drop (trimmed_count files) list)
@@ -146,6 +141,10 @@ pub record FilesHold (disk : State) (files : StoreFiles) (list : List BatchConte
       TableHolds files.memtable entry ↔ memory_entries list (known_store files tables) entry
   pub count : batch_count files ≡ length list
   pub each : All IsBatch list
+
+-- the open files hold it: besides, no file exists with a number that was not given yet
+pub record FilesHold (disk : State) (files : StoreFiles) (list : List BatchContent) : Type 0 where
+  pub known : FilesAreRead disk files list
   pub unused : (file : ℕ) → (known_version files).version.next_file ≤ file →
       IsNone (seen (disk file))
 

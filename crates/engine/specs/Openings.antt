@@ -1,39 +1,20 @@
 -- What an opening has read of the files of a store, before the files that no version names are removed.
-use Rattle.std.specs.Prelude.{◌≡◌, ◌≢◌, ◌↔◌, ℕ, suc, ◌-◌, List, ◌∷◌, drop, length, All}
-use Rattle.kv_types.specs.{BatchContent, Entry, IsBatch}
+use Rattle.std.specs.Prelude.{◌≡◌, ◌≢◌, ℕ, ◌-◌, List, ◌∷◌, All}
+use Rattle.kv_types.specs.{BatchContent}
 use Rattle.disk.specs.{IsDurable, State, contents}
-use Rattle.memtable.specs.{TableHolds}
-use Rattle.store_model.specs.{LevelTable, StoreRepresents, memory_entries}
-use Rattle.manifest.specs.{IsVersion, ManifestHolds, StoreVersion}
+use Rattle.store_model.specs.{LevelTable}
+use Rattle.manifest.specs.{IsVersion, StoreVersion}
 use Rattle.manifest.specs.Versions.{files_of}
 use Rattle.engine.specs.declared.opening.ReadParts.{ReadParts}
-use Rattle.engine.specs.declared.store_files.StoreFiles.{StoreFiles}
 use Rattle.engine.specs.BatchLogs.{LogsHold, first_number, next_number}
 use Rattle.engine.specs.LevelTables.{AreServed, AreTablesOf, FileFits, table_lines}
 use Rattle.engine.specs.Settling.{SlotSettles}
 use Rattle.engine.specs.OpenFiles.{AreOpenLogs, AreReplayed, HasReplayed}
 use Rattle.engine.specs.StoreFiles.{AreOrderedNumbers}
-use Rattle.engine.specs.OpenFiles.{AreUsableFiles, batch_count, known_store, known_version}
-use Rattle.engine.specs.OpenFiles.{trimmed_count}
 
 -- the slots, and the files that the version names
 abbrev pub kept_files : StoreVersion → List ℕ
 kept_files version = 1 ∷ 2 ∷ files_of version.logs version.tables
-
--- The open files hold what the disk durably represents. Files of any other number may exist.
-pub record FilesAreRead (disk : State) (files : StoreFiles) (list : List BatchContent) : Type 0 where
-  pub usable : AreUsableFiles files
-  pub manifest : ManifestHolds disk files.manifest (known_version files)
-  pub logs : LogsHold disk files.logs (suc (trimmed_count files)) (drop (trimmed_count files) list)
-  pub tables : List LevelTable
-  pub read : AreTablesOf (contents disk) (known_version files).version.tables tables
-  pub served : AreServed disk files.tables tables
-  pub durable : All (λ line. IsDurable (disk line.file)) (known_version files).version.tables
-  pub store : StoreRepresents list (known_store files tables)
-  pub entries : (entry : Entry) →
-      TableHolds files.memtable entry ↔ memory_entries list (known_store files tables) entry
-  pub count : batch_count files ≡ length list
-  pub each : All IsBatch list
 
 -- ---- what the lines of a version name
 

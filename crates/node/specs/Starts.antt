@@ -5,14 +5,12 @@ use Rattle.node.specs.declared.node.Node.{Node}
 use Rattle.node.specs.declared.stop.Stop.{Stop}
 use Rattle.node.specs.declared.stop.Stop.TheVariants as stop
 use Rattle.disk.specs.declared.Disk.{Ghosts}
-use Rattle.engine.specs.{IsNotCreated}
-use Rattle.engine.specs.{IsDamaged, OpensAs, facts_of, look_ups}
+use Rattle.engine.specs.{IsDamaged, IsNotCreated, IsOpened}
 use Rattle.node.specs.Steps.{disk_of, engine_of}
 
 -- the disk's files open as what the started node's store tells
 abbrev pub IsStarted : {D : Type 0} {g : Ghosts D} → Contents → Node D g → Type 0
-IsStarted left node =
-    OpensAs left (facts_of (engine_of node)) (look_ups (engine_of node)).count
+IsStarted left node = IsOpened left (engine_of node)
 
 -- why no node was started from a disk, by its content
 abbrev pub StartRefusal : Stop → Contents → Type 0

@@ -30,7 +30,7 @@ returns g c = λ engine list r full.
     elim full as (λ _. HasLongFile disk) [
       | inl full_log ↦
           let log = engine.store.logs.newest.log in
-          let logs = held.logs in (
+          let logs = held.known.logs in (
             file_of log,
             longer (seen (disk (file_of log))) (gate_of log)
                 (c.gates_are_in_files.ensures disk log _ logs.newest.log) full_log,
@@ -42,6 +42,6 @@ returns g c = λ engine list r full.
             longer (seen (disk file)) (gate_of manifest.slots.log)
                 (reaching (seen (disk file)) (gate_of manifest.slots.log)
                 (c.slots_reach_gates.ensures.reach disk manifest (known_version engine.store)
-                held.manifest)) full_slot,
+                held.known.manifest)) full_slot,
           )
     ]

@@ -28,14 +28,14 @@ returns-clause-any_moment g c = λ list honest h.
     let files = c.args.self.now in
     let disk = g.D.Disk.state c.args.disk.now in
     let some = newest_positive files c.requires.usable in
-    let count = h.count in
+    let count = h.known.count in
     let room : length list < MAX_NUMBER = omega (arith, c.append.ensures.room, some, count) in
     let trimmed = trimmed_count files in
     some_appended disk files list h c.args.batch.now c.edits-edits.ensures.batch
     c.durable_file_is_left.ensures c.held_versions_are_left.ensures.left c.appends_keep.ensures
     room (g.D.Disk.past c.args.disk.now) (g.D.Disk.past c.append.new.disk)
     (g.D.Disk.state c.append.new.disk)
-    (c.append.ensures.any_moment (suc trimmed) (drop trimmed list) honest h.logs)
+    (c.append.ensures.any_moment (suc trimmed) (drop trimmed list) honest h.known.logs)
 
 -- one number more is counted where it was appended
 pub returns-clause-counts : goal.returns-clause-counts
@@ -51,12 +51,12 @@ returns-clause-appended g c = λ list honest h.
     let files = c.args.self.now in
     let disk = g.D.Disk.state c.args.disk.now in
     let trimmed = trimmed_count files in
-    let store = known_store files h.tables in
+    let store = known_store files h.known.tables in
     let next = c.requires.next in
-    let count = h.count in
+    let count = h.known.count in
     let entries = one_more_above files.memtable c.add.new.self list c.args.batch.now c.args.number
-    store h.entries (omega (arith, next, count)) (trimmed_few disk files list h)
-    h.store.flushed_count c.in_ok-add.ensures.adds in
+    store h.known.entries (omega (arith, next, count)) (trimmed_few disk files list h)
+    h.known.store.flushed_count c.in_ok-add.ensures.adds in
     appended_told disk files list h c.args.batch.now c.edits-edits.ensures.batch
     (g.D.Disk.state c.append.new.disk) c.append.new.self c.add.new.self c.append.ensures.lines
     (c.append.ensures.kept.files honest) c.appends_keep.ensures
@@ -65,4 +65,4 @@ returns-clause-appended g c = λ list honest h.
     c.args.number c.requires.next c.append.ensures.lines c.append.ensures.room
     (λ failed. not_true (c.in_ok-add.ensures.fails.0 failed)) c.in_ok-add.ensures.adds
     c.append.result c.append.ensures.counts)
-    (c.append.ensures.appended (suc trimmed) (drop trimmed list) honest h.logs)
+    (c.append.ensures.appended (suc trimmed) (drop trimmed list) honest h.known.logs)

@@ -11,5 +11,5 @@ pub returns-clause-found : goal.returns-clause-found
 returns-clause-found g c = λ list honest h.
     let trimmed = trimmed_count c.args.self.now in
     found_behind list trimmed c.args.number c.batch.result c.requires.there.0
-    (c.batch.ensures.found (suc trimmed) (drop trimmed list) honest h.logs
-    (All-drop IsBatch trimmed list h.each))
+    (c.batch.ensures.found (suc trimmed) (drop trimmed list) honest h.known.logs
+    (All-drop IsBatch trimmed list h.known.each))

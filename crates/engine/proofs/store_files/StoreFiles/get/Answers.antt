@@ -25,9 +25,11 @@ returns-in-Some-clause-found g c = λ list honest h floor count.
     let newest = subst (λ (o : Option (Option (List ℕ))).
     EntriesHave c.args.at (TableHolds files.memtable) c.args.key.now o) c.in-Some.is
     c.in_ok-value.ensures.found in
-    memory_shows c.look_ups_are_maps.ensures.maps list (known_store files h.tables) h.store
-    c.args.at floor (subst (λ (n : ℕ). c.args.at ≤ n) h.count count) c.args.key.now files.memtable
-    c.in-Some.value h.entries newest
+    memory_shows c.look_ups_are_maps.ensures.maps list (known_store files h.known.tables)
+        h.known.store
+    c.args.at floor (subst (λ (n : ℕ). c.args.at ≤ n) h.known.count count) c.args.key.now
+        files.memtable
+    c.in-Some.value h.known.entries newest
 
 -- where it has nothing, what the tables have is
 pub returns-clause-found : goal.returns-clause-found
@@ -38,15 +40,17 @@ returns-clause-found g c = λ list honest h floor count.
     let unseen = subst (λ (o : Option (Option (List ℕ))).
     EntriesHave c.args.at (TableHolds files.memtable) c.args.key.now o) c.in_default.is
     c.in_ok-value.ensures.found in
-    let rise = c.levels_rise.ensures.lines (contents disk) lines h.tables
-    h.usable.version.lines.tables_in_order h.read in
-    let finds = c.in_ok-get.ensures.found h.tables (known_store files h.tables).flushed honest
-    h.served h.store.tables rise in
-    let short = found_short (contents disk) lines h.tables h.read c.args.at c.args.key.now
+    let rise = c.levels_rise.ensures.lines (contents disk) lines h.known.tables
+    h.known.usable.version.lines.tables_in_order h.known.read in
+    let finds = c.in_ok-get.ensures.found h.known.tables
+        (known_store files h.known.tables).flushed honest
+    h.known.served h.known.store.tables rise in
+    let short = found_short (contents disk) lines h.known.tables h.known.read c.args.at
+        c.args.key.now
     c.in_ok-get.field-0 finds in
     let shows = tables_show c.table_look_ups_are_maps.ensures.maps list
-    (known_store files h.tables) h.store c.args.at floor
-    (subst (λ (n : ℕ). c.args.at ≤ n) h.count count) c.args.key.now files.memtable
-    c.in_ok-get.field-0 h.entries unseen finds in
+    (known_store files h.known.tables) h.known.store c.args.at floor
+    (subst (λ (n : ℕ). c.args.at ≤ n) h.known.count count) c.args.key.now files.memtable
+    c.in_ok-get.field-0 h.known.entries unseen finds in
     told_of_tables c.in_ok-get.field-0 (map_of (take c.args.at list) c.args.key.now)
     c.value_of.result c.value_of.ensures.value c.value_of.ensures.damaged short shows

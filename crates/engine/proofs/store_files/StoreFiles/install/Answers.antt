@@ -324,7 +324,7 @@ returns-clause-installed g c = λ list honest hs.
     (subst (λ (m : Memtable). (entry : Entry) → TableHolds m entry → ⊥)
     (sym c.replace.ensures.after) c.new.ensures.empty))
     (c.in_default.ensures.recorded (known_version files) honest2 held)
-    (c.in_ok-add.ensures.added s3 hs.held.tables hs.spilled.written.table
+    (c.in_ok-add.ensures.added s3 hs.held.known.tables hs.spilled.written.table
     (old_served files c.requires.usable line c.requires.place c.requires.next
     (c.behind-self.inside.next_file + 1) at c.in_ok-edit.edit is s1 list one hs s2 spares c.begin.new.self begun.2 began keeps s3 _ slot same)
     (new_served files c.requires.usable line c.requires.place c.requires.next

@@ -19,9 +19,9 @@ returns-in-Ok-clause-tended g c = λ list honest h.
     let disk = g.D.Disk.state c.args.disk.now in
     let files = c.args.self.now in
     held_rewritten disk files list h (g.D.Disk.state c.rewrite.new.disk) c.rewrite.new.self _
-    (c.manifest_has_slots.ensures disk files.manifest (known_version files) h.manifest).1
+    (c.manifest_has_slots.ensures disk files.manifest (known_version files) h.known.manifest).1
     (c.rewrite.ensures.kept.files honest)
-    (c.in-Ok.ensures.rewritten (known_version files) honest h.manifest)
+    (c.in-Ok.ensures.rewritten (known_version files) honest h.known.manifest)
 
 -- whether the manifest answered or not, each slot that it wrote represents the version
 pub returns-in-Ok-clause-any_moment : goal.returns-in-Ok-clause-any_moment
@@ -30,7 +30,7 @@ returns-in-Ok-clause-any_moment g c = λ list honest h.
     slots_are_written (g.D.Disk.state c.args.disk.now) files list h c.durable_file_is_left.ensures
     (g.D.Disk.past c.args.disk.now) (g.D.Disk.past c.rewrite.new.disk)
     (g.D.Disk.state c.rewrite.new.disk)
-    (c.rewrite.ensures.any_moment (known_version files) honest h.manifest)
+    (c.rewrite.ensures.any_moment (known_version files) honest h.known.manifest)
 
 pub returns-in-Err-clause-any_moment : goal.returns-in-Err-clause-any_moment
 returns-in-Err-clause-any_moment g c = λ list honest h.
@@ -38,12 +38,12 @@ returns-in-Err-clause-any_moment g c = λ list honest h.
     slots_are_written (g.D.Disk.state c.args.disk.now) files list h c.durable_file_is_left.ensures
     (g.D.Disk.past c.args.disk.now) (g.D.Disk.past c.rewrite.new.disk)
     (g.D.Disk.state c.rewrite.new.disk)
-    (c.rewrite.ensures.any_moment (known_version files) honest h.manifest)
+    (c.rewrite.ensures.any_moment (known_version files) honest h.known.manifest)
 
 pub returns-in-Err-clause-tended : goal.returns-in-Err-clause-tended
 returns-in-Err-clause-tended g c = λ list honest h.
     subst IsEngineExternal (sym c.refusal_of_edit.ensures) (edit_is_external c.in-Err.e
-    (c.in-Err.ensures.rewritten (known_version c.args.self.now) honest h.manifest))
+    (c.in-Err.ensures.rewritten (known_version c.args.self.now) honest h.known.manifest))
 
 -- the other slot alone was written
 pub returns-in-Ok-clause-touches : goal.returns-in-Ok-clause-touches

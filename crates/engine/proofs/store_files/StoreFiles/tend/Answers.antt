@@ -11,7 +11,8 @@ pub returns-then-has_long_slot-clause-tended : goal.returns-then-has_long_slot-c
 returns-then-has_long_slot-clause-tended g c = λ list honest h.
     let files = c.args.self.now in
     let due : RewriteIsDue files =
-    (c.has_long_slot.ensures.due (g.D.Disk.state c.args.disk.now) (known_version files) h.manifest).0
+    (c.has_long_slot.ensures.due (g.D.Disk.state c.args.disk.now) (known_version files)
+    h.known.manifest).0
     c.if-has_long_slot.true in
     tells_rewrite c.args.limit files c.shorten.new.self _ c.shorten.result due
     (c.shorten.ensures.tended list honest h) c.shorten.ensures.work
@@ -24,10 +25,11 @@ returns-then-newest_length-limit-clause-tended g c = λ list honest h.
     let disk = g.D.Disk.state c.args.disk.now in
     let files = c.args.self.now in
     let short : RewriteIsDue files → ⊥ = λ long.
-    let yes_then = (c.has_long_slot.ensures.due disk (known_version files) h.manifest).1 long in
+    let yes_then = (c.has_long_slot.ensures.due disk (known_version files) h.known.manifest).1
+        long in
     let no = c.if-has_long_slot.false in cc in
     let is = c.newest_length.ensures disk (suc (trimmed_count files))
-    (drop (trimmed_count files) list) h.logs in
+    (drop (trimmed_count files) list) h.known.logs in
     let few = c.if-newest_length-limit.true in
     let rests : FlushIsDue c.args.limit files → ⊥ = λ due.
     let more = due.0 in omega (arith, is, few, more) in
@@ -38,7 +40,8 @@ returns-then-not-branch-clause-tended g c = λ list honest h.
     let disk = g.D.Disk.state c.args.disk.now in
     let files = c.args.self.now in
     let short : RewriteIsDue files → ⊥ = λ long.
-    let yes_then = (c.has_long_slot.ensures.due disk (known_version files) h.manifest).1 long in
+    let yes_then = (c.has_long_slot.ensures.due disk (known_version files) h.known.manifest).1
+        long in
     let no = c.if-has_long_slot.false in cc in
     let rests : FlushIsDue c.args.limit files → ⊥ = λ due.
     let any = c.in_ok-has_entries.ensures.any.1 due.1 in
@@ -74,10 +77,11 @@ returns-clause-tended g c = λ list honest h.
     let disk = g.D.Disk.state c.args.disk.now in
     let files = c.args.self.now in
     let short : RewriteIsDue files → ⊥ = λ long.
-    let yes_then = (c.has_long_slot.ensures.due disk (known_version files) h.manifest).1 long in
+    let yes_then = (c.has_long_slot.ensures.due disk (known_version files) h.known.manifest).1
+        long in
     let no = c.if-has_long_slot.false in cc in
     let is = c.newest_length.ensures disk (suc (trimmed_count files))
-    (drop (trimmed_count files) list) h.logs in
+    (drop (trimmed_count files) list) h.known.logs in
     let more = c.if-newest_length-limit.false in
     let long : c.args.limit < newest_length files.logs = omega (arith, is, more) in
     tells_flush c.args.limit files c.flush.new.self _ c.flush.result short
