@@ -221,7 +221,7 @@ module _ (facts : Facts) (list : List BatchContent) (left : Contents)
       × FilesAreRead disk (files_of_parts manifest parts) list
   read_as agree disk manifest parts usable held p =
       let knows : known_version (files_of_parts manifest parts)
-          ≡ record { id = facts.id; version = h.version } =
+      ≡ record { id = facts.id; version = h.version } =
       held.knows in
       let first = begins_at disk parts.logs (suc facts.kept) (drop facts.kept list) p.logs in
       let trimmed : first_number parts.logs - 1 ≡ facts.kept = omega (arith, first) in

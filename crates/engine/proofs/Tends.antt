@@ -102,5 +102,5 @@ module _ (disk : State) (files : StoreFiles) (list : List BatchContent)
       unused : (file : ℕ) → version.next_file ≤ file → IsNone (seen (new file))
       unused file above = subst (λ (one : Slot). IsNone (seen one)) (sym (spares file (λ same.
           let below = kept_is_given version h.known.usable.version slot
-              (slot_is_kept version slot is) in
+          (slot_is_kept version slot is) in
           omega (arith, same, below, above)))) (h.unused file above)

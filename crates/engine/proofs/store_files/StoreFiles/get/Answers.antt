@@ -26,9 +26,9 @@ returns-in-Some-clause-found g c = λ list honest h floor count.
     EntriesHave c.args.at (TableHolds files.memtable) c.args.key.now o) c.in-Some.is
     c.in_ok-value.ensures.found in
     memory_shows c.look_ups_are_maps.ensures.maps list (known_store files h.known.tables)
-        h.known.store
+    h.known.store
     c.args.at floor (subst (λ (n : ℕ). c.args.at ≤ n) h.known.count count) c.args.key.now
-        files.memtable
+    files.memtable
     c.in-Some.value h.known.entries newest
 
 -- where it has nothing, what the tables have is
@@ -43,10 +43,10 @@ returns-clause-found g c = λ list honest h floor count.
     let rise = c.levels_rise.ensures.lines (contents disk) lines h.known.tables
     h.known.usable.version.lines.tables_in_order h.known.read in
     let finds = c.in_ok-get.ensures.found h.known.tables
-        (known_store files h.known.tables).flushed honest
+    (known_store files h.known.tables).flushed honest
     h.known.served h.known.store.tables rise in
     let short = found_short (contents disk) lines h.known.tables h.known.read c.args.at
-        c.args.key.now
+    c.args.key.now
     c.in_ok-get.field-0 finds in
     let shows = tables_show c.table_look_ups_are_maps.ensures.maps list
     (known_store files h.known.tables) h.known.store c.args.at floor

@@ -26,7 +26,7 @@ returns-then-newest_length-limit-clause-tended g c = λ list honest h.
     let files = c.args.self.now in
     let short : RewriteIsDue files → ⊥ = λ long.
     let yes_then = (c.has_long_slot.ensures.due disk (known_version files) h.known.manifest).1
-        long in
+    long in
     let no = c.if-has_long_slot.false in cc in
     let is = c.newest_length.ensures disk (suc (trimmed_count files))
     (drop (trimmed_count files) list) h.known.logs in
@@ -41,7 +41,7 @@ returns-then-not-branch-clause-tended g c = λ list honest h.
     let files = c.args.self.now in
     let short : RewriteIsDue files → ⊥ = λ long.
     let yes_then = (c.has_long_slot.ensures.due disk (known_version files) h.known.manifest).1
-        long in
+    long in
     let no = c.if-has_long_slot.false in cc in
     let rests : FlushIsDue c.args.limit files → ⊥ = λ due.
     let any = c.in_ok-has_entries.ensures.any.1 due.1 in
@@ -78,7 +78,7 @@ returns-clause-tended g c = λ list honest h.
     let files = c.args.self.now in
     let short : RewriteIsDue files → ⊥ = λ long.
     let yes_then = (c.has_long_slot.ensures.due disk (known_version files) h.known.manifest).1
-        long in
+    long in
     let no = c.if-has_long_slot.false in cc in
     let is = c.newest_length.ensures disk (suc (trimmed_count files))
     (drop (trimmed_count files) list) h.known.logs in
