@@ -5,7 +5,7 @@ use Rattle.disk.specs.declared.error.DiskError.{DiskError}
 use Rattle.disk.specs.declared.error.DiskError.TheVariants.{Failed, NoFile, Short, Memory}
 use Rattle.disk.specs.States.{IsSame, Slot, State}
 use Rattle.disk.specs.Moments.{IsLastLeft}
-use Rattle.disk.specs.Faults.{CallPasses, Counts, WasMade}
+use Rattle.disk.specs.Faults.{CallPasses, Counts, WasMade, fault_of}
 use Rattle.disk.specs.Memory.{state_of}
 use Rattle.disk.specs.Devices.{AnswerEnds, Answers, DeviceFails, DeviceState, Fails, IsCounted}
 use Rattle.disk.specs.Devices.{IsStruck, Wants}
@@ -32,7 +32,7 @@ failed_counts (Err Memory) before now failed is = absurd cc
 pub fail_passes : (T : Type 0) (slots : List (ℕ × Slot)) (old new : DeviceState)
     (result : Result T DiskError) (R : Type 0) (Effect : Result T DiskError → State → Type 0) →
     DeviceFails slots old new result → Effect (Err NoFile) (state_of slots) →
-    CallPasses (map state_of old.past) (map state_of new.past) old.fault_at R result
+    CallPasses (map state_of old.past) (map state_of new.past) (fault_of old.marks) R result
     (state_of slots) (state_of slots) Effect
 fail_passes T slots old new result R Effect fails begun =
     let since : map state_of new.past ≡ state_of slots ∷ map state_of old.past =

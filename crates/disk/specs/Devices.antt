@@ -6,14 +6,14 @@ use Rattle.disk.specs.declared.error.DiskError.TheVariants.{Failed, Memory}
 use Rattle.disk.specs.declared.device.Armed.{Armed}
 use Rattle.disk.specs.States.{Slot}
 use Rattle.disk.specs.Calls.{RisesByOne}
-use Rattle.disk.specs.Faults.{WasMade}
+use Rattle.disk.specs.Faults.{Marks, WasMade, fault_of}
 
--- how often it failed, the slots at first and after each call and crash, the latest first, and how
--- long that past is once its fault has struck
+-- how often it failed, the slots at first and after each call and crash, the latest first, and its
+-- marks
 pub record DeviceState : Type 0 where
   pub failures : ℕ
   pub past : List (List (ℕ × Slot))
-  pub fault_at : Option ℕ
+  pub marks : Marks
 
 -- how long the past is once a fault has struck, which was armed when it was this one
 abbrev pub strikes_at : {A : Type 0} → List A → Option Armed → Option ℕ
@@ -22,18 +22,24 @@ strikes_at before (Some fault) = Some (length before + fault.call)
 
 -- The calls that are left to the fault are those that were not made since it was armed. It is armed
 -- for a call to come.
-abbrev pub IsLeftOf : {A : Type 0} → List A → List A → Option Armed → Type 0
+abbrev pub IsLeftOf : {A B : Type 0} → List A → List B → Option Armed → Type 0
 IsLeftOf before past None = Unit {0}
 IsLeftOf before past (Some fault) = fault.left ≡ length before + fault.call - length past
 
+-- the device's fault is the one that its marks tell
+pub record IsDevice {A B : Type 0} (before : List A) (past : List B) (marks : Marks)
+    (fault : Option Armed) : Type 0 where
+  pub told : fault_of marks ≡ strikes_at before fault
+  pub left : IsLeftOf before past fault
+
 -- the fault strikes the next call
 abbrev pub IsNext : DeviceState → Type 0
-IsNext device = device.fault_at ≡ Some (suc (length device.past))
+IsNext device = fault_of device.marks ≡ Some (suc (length device.past))
 
 -- a call was counted that left these slots
 pub record IsCounted (slots : List (ℕ × Slot)) (old new : DeviceState) : Type 0 where
   pub past : new.past ≡ slots ∷ old.past
-  pub fault : new.fault_at ≡ old.fault_at
+  pub marks : new.marks ≡ old.marks
 
 -- a call failed, and left these slots
 pub record DeviceFails {T : Type 0} (slots : List (ℕ × Slot)) (old new : DeviceState)

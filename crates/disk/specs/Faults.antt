@@ -1,11 +1,13 @@
 -- The faults that a disk may be armed with, and what they make of its calls.
-use Rattle.std.specs.Prelude.{◌≡◌, ◌⊎◌, ℕ, zero, suc, ◌+◌, ◌≤◌, List, length}
+use Rattle.std.specs.Prelude.{◌≡◌, ◌⊎◌, ℕ, zero, suc, ◌+◌, ◌≤◌, List, [], ◌∷◌, length}
 use Rattle.std.specs.Prelude.{Option, Some, None, IsSomeAnd, Result, Ok, Err, IsErrOf}
 use Rattle.std.specs.Option.{option_map}
 use Rattle.disk.specs.declared.error.DiskError.{DiskError}
 use Rattle.disk.specs.declared.error.DiskError.TheVariants.{Failed, NoFile, Short, Memory}
 use Rattle.disk.specs.declared.fault.Fault.{Fault}
 use Rattle.disk.specs.declared.fault.Fault.TheVariants as fault
+use Rattle.disk.specs.declared.mark.Mark.{Mark}
+use Rattle.disk.specs.declared.mark.Mark.TheVariants.{Armed, Crashed}
 use Rattle.disk.specs.States.{State, IsSame}
 use Rattle.disk.specs.Moments.{Passes}
 
@@ -24,6 +26,19 @@ struck_call (fault.Stop call junk) = call_at call
 -- was armed
 abbrev pub armed_after : ℕ → Option ℕ → Option ℕ
 armed_after len call = option_map (λ n. len + n) call
+
+-- what came when the past was so long: a fault was armed, or the disk crashed
+abbrev pub Marks : Type 0
+Marks = List (ℕ × Mark)
+
+-- how long the past is once the armed fault has struck, by the latest of these
+abbrev pub fault_by : ℕ → Mark → Option ℕ
+fault_by len (Armed call) = armed_after len call
+fault_by len (Crashed junk) = None
+
+abbrev pub fault_of : Marks → Option ℕ
+fault_of [] = None
+fault_of (mark ∷ before) = fault_by mark.0 mark.1
 
 -- a fault that strikes where the past becomes so long has struck: it is so long now
 abbrev pub HasStruckBy : Option ℕ → ℕ → Type 0

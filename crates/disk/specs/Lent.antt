@@ -1,18 +1,19 @@
 -- The effect of a call on a disk that is passed to it, and of arming it with a fault.
 use Rattle.disk.specs.declared.disk.Disk.{Ghosts}
-use Rattle.std.specs.Prelude.{◌≡◌, ◌↔◌, length}
+use Rattle.std.specs.Prelude.{◌≡◌, ◌↔◌, ◌∷◌, length}
 use Rattle.disk.specs.declared.fault.Fault.{Fault}
+use Rattle.disk.specs.declared.mark.Mark.TheVariants.{Armed}
 use Rattle.disk.specs.States.{State, Contents, IsCrashOutcome, IsSame}
-use Rattle.disk.specs.Moments.{LeavesSince}
+use Rattle.disk.specs.Moments.{IsLastLeft, LeavesSince}
 use Rattle.disk.specs.Calls.{KeepsBy}
-use Rattle.disk.specs.Faults.{armed_after, struck_call}
+use Rattle.disk.specs.Faults.{struck_call}
 
 -- The disk is honest exactly if it was, and its count of failures rises exactly where `has_failed`.
 -- A reliable disk whose fault has not struck fails only for this cause, and otherwise stays
 -- reliable. The last argument relates the files of an honest disk before and after the call.
 abbrev pub KeepsDisk : {D : Type 0} → Ghosts D → (old new : D) → (has_failed cause : Type 0) →
     (State → State → Type 0) → Type 0
-KeepsDisk g = KeepsBy g.is_honest g.state g.failures g.is_reliable g.past g.fault_at
+KeepsDisk g = KeepsBy g.is_honest g.state g.failures g.is_reliable g.past g.marks
 
 -- a crash at any moment since the call began leaves only contents with P
 abbrev pub AlwaysLeaves : {D : Type 0} → Ghosts D → (old new : D) → (Contents → Type 0) → Type 0
@@ -29,5 +30,7 @@ pub record IsArmed {D : Type 0} (g : Ghosts D) (fault : Fault) (old new : D) : T
   pub reliable : g.is_reliable old → g.is_reliable new
   pub same : g.is_honest old → IsSame (g.state old) (g.state new)
   pub past : g.past new ≡ g.past old
-  pub strikes : g.is_honest old →
-      g.fault_at new ≡ armed_after (length (g.past old)) (struck_call fault)
+  -- the latest state of its past is the one that it has
+  pub last : g.is_honest old → IsLastLeft (g.past new) (g.state new)
+  pub marks : g.is_honest old →
+      g.marks new ≡ (length (g.past old), Armed (struck_call fault)) ∷ g.marks old

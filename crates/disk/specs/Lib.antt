@@ -20,7 +20,7 @@ pub mod StillLemmas
 pub use Rattle.disk.specs.Calls.{EndsOutOfRange, HasStruck, RisesByOne, SyncOutcome}
 pub use Rattle.disk.specs.Calls.{WriteOutcome}
 pub use Rattle.disk.specs.Crashes.{CrashOutcome, CrashedIsDurable}
-pub use Rattle.disk.specs.Faults.{HasStruckBy, armed_after, struck_call}
+pub use Rattle.disk.specs.Faults.{HasStruckBy, Marks, armed_after, fault_of, struck_call}
 pub use Rattle.disk.specs.Lent.{AlwaysLeaves, IsArmed, IsStill, KeepsDisk}
 pub use Rattle.disk.specs.Memory.{IsReliable, Slots, past_states, state_of}
 pub use Rattle.disk.specs.Moments.{AddsMoment, AllLeave, IsLastLeft, IsLeftAt, LeavesSince}

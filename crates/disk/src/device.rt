@@ -1,11 +1,11 @@
 // The device behind a disk in memory: how often it failed, and the fault that it is armed with.
-ghost use Rattle.std.specs.Prelude.{◌≡◌, ◌↔◌, ◌-◌, ◌^◌, ◌<◌, [], ◌∷◌, length, None, IsTrue};
-ghost use Rattle.disk.specs.Faults.{HasStruckBy, armed_after, struck_call};
+ghost use Rattle.std.specs.Prelude.{◌≡◌, ◌↔◌, ◌-◌, ◌^◌, ◌<◌, [], ◌∷◌, length, IsTrue};
+ghost use Rattle.disk.specs.Faults.{HasStruckBy, fault_of, struck_call};
 ghost use Rattle.disk.specs.Devices.{AnswerEnds, DeviceFails, IsNext};
 
 use crate::history::History;
 use crate::slot::MemSlot;
-use crate::{DiskError, Fault};
+use crate::{DiskError, Fault, Junk, Mark};
 use std::collections::BTreeMap;
 use std::marker::Model;
 
@@ -18,6 +18,13 @@ pub struct Armed {
     left: u64,
 }
 
+/// A mark, and the past that the device had when it came.
+#[derive(Drop)]
+pub struct Marked {
+    at: History<BTreeMap<u64, MemSlot>>,
+    mark: Mark,
+}
+
 #[derive(Drop)]
 pub struct Device {
     failures: u64,
@@ -25,21 +32,23 @@ pub struct Device {
     // The slots at first and after each call and crash so far, now and when the fault was armed.
     history: History<BTreeMap<u64, MemSlot>>,
     at_arming: History<BTreeMap<u64, MemSlot>>,
+    marked: History<Marked>,
 }
 
 impl Model for Device {
-    ghost use Rattle.std.specs.Prelude.{map};
-    ghost use Rattle.disk.specs.Devices.{DeviceState, IsLeftOf, strikes_at};
+    ghost use Rattle.std.specs.Prelude.{length, map};
+    ghost use Rattle.disk.specs.Devices.{DeviceState, IsDevice};
 
     ghost Value = { DeviceState };
 
     ghost view = { λ device. record {
       failures = device.failures;
       past = map (λ it. it.entries) device.history.past;
-      fault_at = strikes_at device.at_arming.past device.fault;
+      marks = map (λ it. (length it.at.past, it.mark)) device.marked.past;
     } };
 
-    ghost invariant = { λ device. IsLeftOf device.at_arming.past device.history.past device.fault };
+    ghost invariant = { λ device. IsDevice device.at_arming.past device.history.past
+        (map (λ it. (length it.at.past, it.mark)) device.marked.past) device.fault };
 }
 
 impl Device {
@@ -47,13 +56,14 @@ impl Device {
     pub fn new(slots: &BTreeMap<u64, MemSlot>) -> Device
         ensures failures { result.failures ≡ 0 }
         ensures past { result.past ≡ slots.now.entries ∷ [] }
-        ensures fault { result.fault_at ≡ None }
+        ensures marks { result.marks ≡ [] }
     {
         Device {
             failures: 0,
             fault: None,
             history: History::new().with(slots),
             at_arming: History::new(),
+            marked: History::new(),
         }
     }
 
@@ -66,6 +76,7 @@ impl Device {
             fault: self.fault,
             history: self.history.copy(),
             at_arming: self.at_arming.copy(),
+            marked: self.marked.copy(),
         }
     }
 
@@ -73,22 +84,28 @@ impl Device {
     pub fn arm(&mut self, fault: &Fault)
         ensures failures { self.new.failures ≡ self.old.failures }
         ensures past { self.new.past ≡ self.old.past }
-        ensures fault { self.new.fault_at ≡
-            armed_after (length self.old.past) (struck_call fault.now) }
+        ensures marks { self.new.marks ≡
+            (length self.old.past, Mark.Armed (struck_call fault.now)) ∷ self.old.marks }
     {
-        self.at_arming = self.history.copy();
-        self.fault = match fault {
+        let call = match fault {
             Fault::None | Fault::Fail(0) | Fault::Stop(0, _) => None,
-            Fault::Fail(call) | Fault::Stop(call, _) => Some(Armed {
-                call: *call,
-                left: *call,
-            }),
+            Fault::Fail(call) | Fault::Stop(call, _) => Some(*call),
+        };
+        let mark = Mark::Armed(call);
+        self.marked = self.marked.with(&Marked {
+            at: self.history.copy(),
+            mark,
+        });
+        self.at_arming = self.history.copy();
+        self.fault = match call {
+            None => None,
+            Some(call) => Some(Armed { call, left: call }),
         };
     }
 
     /// Whether the fault has struck.
     pub fn has_struck(&self) -> bool
-        ensures { IsTrue result ↔ HasStruckBy self.now.fault_at (length self.now.past) }
+        ensures { IsTrue result ↔ HasStruckBy (fault_of self.now.marks) (length self.now.past) }
     {
         match self.fault {
             None => false,
@@ -110,7 +127,7 @@ impl Device {
     /// below its last value.
     pub fn works(&self) -> bool
         ensures { IsTrue result ↔ ((self.now.failures < 2 ^ 64 - 1)
-            × (HasStruckBy self.now.fault_at (length self.now.past) → ⊥)) }
+            × (HasStruckBy (fault_of self.now.marks) (length self.now.past) → ⊥)) }
     {
         self.failures < u64::MAX && !self.has_struck()
     }
@@ -119,7 +136,7 @@ impl Device {
     fn count(&mut self, slots: &BTreeMap<u64, MemSlot>)
         ensures failures { self.new.failures ≡ self.old.failures }
         ensures past { self.new.past ≡ slots.now.entries ∷ self.old.past }
-        ensures fault { self.new.fault_at ≡ self.old.fault_at }
+        ensures marks { self.new.marks ≡ self.old.marks }
     {
         self.history = self.history.with(slots);
         self.fault = match self.fault {
@@ -131,12 +148,18 @@ impl Device {
         };
     }
 
-    /// A crash leaves these slots, and no fault.
-    pub fn crash(&mut self, slots: &BTreeMap<u64, MemSlot>)
+    /// A crash with this junk leaves these slots, and no fault.
+    pub fn crash(&mut self, slots: &BTreeMap<u64, MemSlot>, junk: Junk)
         ensures failures { self.new.failures ≡ self.old.failures }
         ensures past { self.new.past ≡ slots.now.entries ∷ self.old.past }
-        ensures fault { self.new.fault_at ≡ None }
+        ensures marks { self.new.marks ≡
+            (length self.old.past, Mark.Crashed junk) ∷ self.old.marks }
     {
+        let mark = Mark::Crashed(junk);
+        self.marked = self.marked.with(&Marked {
+            at: self.history.copy(),
+            mark,
+        });
         self.fault = None;
         self.count(slots);
     }

@@ -34,14 +34,14 @@ impl Model for MemDisk {
       slots = disk.slots.entries;
       failures = disk.device.failures;
       past = disk.device.past;
-      fault_at = disk.device.fault_at;
+      marks = disk.device.marks;
     } };
 
     ghost invariant = { λ disk. IsMemory (record {
       slots = disk.slots.entries;
       failures = disk.device.failures;
       past = disk.device.past;
-      fault_at = disk.device.fault_at;
+      marks = disk.device.marks;
     }) };
 }
 
@@ -61,7 +61,7 @@ impl MemDisk {
         ensures count { result.failures ≡ 0 }
         ensures reliable { IsReliable result }
         ensures past { result.past ≡ result.slots ∷ [] }
-        ensures fault { result.fault_at ≡ None }
+        ensures marks { result.marks ≡ [] }
     {
         let slots = BTreeMap::new(alloc);
         let device = Device::new(&slots);
@@ -78,7 +78,7 @@ impl MemDisk {
             IsSame (state_of self.now.slots) (state_of disk.slots)) }
         ensures count { IfOk result (λ disk. disk.failures ≡ self.now.failures) }
         ensures fault { IfOk result (λ disk.
-            (disk.past ≡ self.now.past) × (disk.fault_at ≡ self.now.fault_at)) }
+            (disk.past ≡ self.now.past) × (disk.marks ≡ self.now.marks)) }
     {
         Ok(MemDisk {
             alloc: self.alloc,
@@ -247,7 +247,7 @@ impl Disk for MemDisk {
 
     ghost past = { past_states };
 
-    ghost fault_at = { λ disk. disk.fault_at };
+    ghost marks = { λ disk. disk.marks };
 
     ghost allocates = { ⊥ };
 
@@ -337,6 +337,6 @@ impl Crash for MemDisk {
 
     fn crash(&mut self, junk: Junk) {
         crash_in(self.alloc, &mut self.slots, &junk);
-        self.device.crash(&self.slots);
+        self.device.crash(&self.slots, junk);
     }
 }

@@ -116,7 +116,7 @@ files_ghosts g = record {
   failures = λ files. g.failures (inner_disk files);
   is_reliable = λ files. g.is_reliable (inner_disk files);
   past = λ files. g.past (inner_disk files);
-  fault_at = λ files. g.fault_at (inner_disk files);
+  marks = λ files. g.marks (inner_disk files);
   allocates = g.allocates;
 }
 

@@ -1,6 +1,7 @@
 -- The disk behind an outcome of its node.
 use Rattle.std.proofs.Common.{◌≡◌, ℕ, ◌+◌, ◌^◌, ◌-◌, ◌<◌, ◌≤◌, Bool, List, Option, Some, None}
-use Rattle.std.proofs.Common.{true, false, ap, inl, length, ◌⊎◌}
+use Rattle.std.proofs.Common.{true, false, ap, inl, inr, length, ◌⊎◌}
+use Rattle.std.specs.Prelude.{IsSome}
 use Rattle.std.proofs.Common.{cond, ◌==◌, refl, sym, subst, ◌∙◌, eq-eqb, eqb-true, arith}
 use Rattle.std.proofs.lemmas.Bool.{cond_both, cond-true, cond-false, false≢true}
 use Rattle.kv_types.specs.{BatchContent}
@@ -10,6 +11,8 @@ use Rattle.disk.specs.declared.Fault.TheVariants as fault
 use Rattle.disk.specs.declared.Junk.{Junk}
 use Rattle.chain_model.specs.{Outcome}
 use Rattle.chain_core.specs.{Machine}
+use Rattle.chain_model.specs.declared.DropReason.{DropReason}
+use Rattle.node.specs.declared.Output.{Output}
 use Rattle.node.specs.declared.Stop.{Stop as Cause}
 use Rattle.node.specs.declared.Stop.TheVariants.{Disk, Damaged, Memory, NotCreated}
 use Rattle.node.specs.{HasLongFile}
@@ -23,12 +26,12 @@ use Rattle.lab.specs.declared.event.EventKind.TheVariants.{Stop}
 use Rattle.lab.specs.declared.node_state.NodeState.{NodeState}
 use Rattle.lab.specs.declared.node_state.NodeState.TheVariants.{Up, Down}
 use Rattle.lab.specs.Outcomes.{HasCrashed, DiskEnds, DiskFits, DiskStays, IsExplained}
-use Rattle.lab.specs.Outcomes.{has_struck_in}
+use Rattle.lab.specs.Outcomes.{MarksFit, has_struck_in}
 use Rattle.lab.specs.Disks.{junk_of, HasGrown, IsCrashOf, IsEndOf, IsStopOf, DiskFollows}
-use Rattle.lab.specs.Disks.{DisksFollow}
+use Rattle.lab.specs.Disks.{DisksFollow, IsMarkedBy}
 use Rattle.lab.specs.Disks.{before_crash, has_reached, junk_at_end, past_of_step}
 use Rattle.lab.specs.Events.{reported_cause, told_cause}
-use Rattle.lab.specs.SimNodes.{Choice, StateRefines, IsDown, disk_in, is_honest, state, failures}
+use Rattle.lab.specs.SimNodes.{Choice, StateRefines, IsDown, disk_in, is_honest, state, failures, marks}
 use Rattle.lab.specs.SimNodes.{IsUnarmed}
 use Rattle.lab.proofs.Faults.{idle}
 use Rattle.lab.proofs.Outcomes.{StopsSo}
@@ -201,8 +204,38 @@ module _ {g : Ghosts Slots} (old : Slots) (new : NodeState Slots g) (may : MayRi
     answered_so struck ends stays = subst (λ (b : Bool). ReachedIn b) (sym ends)
         (reached_now new event.fault choice.struck struck stays)
 
+    -- a node that may rest is down, or dropped its input
+    rests_at : (output : Output) → StateRefines is_honest state new x n →
+        output.dropped ≡ o.dropped → IsDown new ⊎ IsSome output.dropped →
+        (n.running ≡ false) ⊎ IsSome o.dropped
+    rests_at output is same (inl down) = inl (off_of new is down)
+      where
+        off_of : (m : NodeState Slots g) → StateRefines is_honest state m x n → IsDown m →
+            n.running ≡ false
+        off_of (Up node) r down = absurd down
+        off_of (Down disk) r down = r.2
+    rests_at output is same (inr dropped) =
+        inr (subst (λ (d : Option DropReason). IsSome d) same dropped)
+
+    -- the marks of a step are those of its event
+    marked_as : {A B : Type 0} → (A → B) → (ends stops : Bool) → stops ≡ ends →
+        IsMarkedBy state past_states marks A (junk_of event.kind) event.fault choice.struck ends old
+        (disk_in new) →
+        IsMarkedBy state past_states marks B (junk_of event.kind) event.fault choice.struck stops old
+        (disk_in new)
+    marked_as {A} {B} to ends stops is m =
+        subst (λ (b : Bool). IsMarkedBy state past_states marks B (junk_of event.kind) event.fault
+        choice.struck b old (disk_in new)) (sym is) (by m)
+      where
+        by : IsMarkedBy state past_states marks A (junk_of event.kind) event.fault choice.struck ends
+            old (disk_in new) →
+            IsMarkedBy state past_states marks B (junk_of event.kind) event.fault choice.struck ends
+            old (disk_in new)
+        by (inl rests) = inl (to rests.0, rests.1, rests.2)
+        by (inr works) = inr works
+
     -- where it struck, the node stopped, and for its device
-    pub stops_so : (did : StepOutcome) → StopsSo event choice did o.stopped →
+    pub stops_so : (did : StepOutcome) → StopsSo event choice did o →
         DiskFits state failures past_states (junk_of event.kind) event.fault choice.struck did old new →
         choice.struck ≡ true → (o.stopped ≡ true) × (choice.cause ≡ Disk)
     stops_so (done.Answered output) ends left e = absurd (false≢true (sym left.spared ∙ e))
@@ -213,33 +246,38 @@ module _ {g : Ghosts Slots} (old : Slots) (new : NodeState Slots g) (may : MayRi
 
     -- what the node left is what the event's outcome leaves
     pub follows : (did : StepOutcome) → StateRefines is_honest state new x n → StruckSo →
-        StopsSo event choice did o.stopped →
+        StopsSo event choice did o →
         DiskFits state failures past_states (junk_of event.kind) event.fault choice.struck did old new →
+        MarksFit state past_states marks (junk_of event.kind) event.fault choice.struck did old new →
         IsExplained (state old) choice.struck did → HasGrown past_states old (disk_in new) →
-        DiskFollows state failures past_states event choice o n old (disk_in new)
-    follows (done.Answered output) is struck ends left why grown = record {
+        DiskFollows state failures past_states marks event choice o n old (disk_in new)
+    follows (done.Answered output) is struck ends left marked why grown = record {
       grows = grown;
+      marked = marked_as (λ may. rests_at output is ends.1 may) false o.stopped ends.0 marked;
+      fault = answered_so struck ends.0 left;
+      stops = λ stops. absurd (false≢true (sym ends.0 ∙ stops));
+      count = λ _. left.count;
+      rests = λ _. λ off. left.same (rests_so new x n is off);
+    }
+    follows (done.Started epoch count committed) is struck ends left marked why grown = record {
+      grows = grown;
+      marked = marked_as (λ none. absurd none) false o.stopped ends marked;
       fault = answered_so struck ends left;
       stops = λ stops. absurd (false≢true (sym ends ∙ stops));
       count = λ _. left.count;
       rests = λ _. λ off. left.same (rests_so new x n is off);
     }
-    follows (done.Started epoch count committed) is struck ends left why grown = record {
+    follows (done.Tended did) is struck ends left marked why grown = record {
       grows = grown;
+      marked = marked_as (λ none. absurd none) false o.stopped ends marked;
       fault = answered_so struck ends left;
       stops = λ stops. absurd (false≢true (sym ends ∙ stops));
       count = λ _. left.count;
       rests = λ _. λ off. left.same (rests_so new x n is off);
     }
-    follows (done.Tended did) is struck ends left why grown = record {
+    follows (done.Stopped traced) is struck ends left marked why grown = record {
       grows = grown;
-      fault = answered_so struck ends left;
-      stops = λ stops. absurd (false≢true (sym ends ∙ stops));
-      count = λ _. left.count;
-      rests = λ _. λ off. left.same (rests_so new x n is off);
-    }
-    follows (done.Stopped traced) is struck ends left why grown = record {
-      grows = grown;
+      marked = marked_as (λ none. absurd none) true o.stopped ends.0 marked;
       fault = subst (λ (b : Bool). ReachedIn b) (sym ends.0)
           (reached_then new event.fault choice.struck
           (is_down new (junk_of event.kind) event.fault choice.struck traced left) struck);
@@ -266,15 +304,15 @@ disk_elsewhere disks x own y other = cond-false (y == x) own (disks y) other
 -- what the node that an event was for left is what the event leaves of all disks
 pub all_follow : (event : Event) (choice : Choice) (o : Outcome BatchContent) (x : ℕ) (n : Machine)
     (disks : ℕ → Slots) (own : Slots) → o.acted_on ≡ Some (x, n) →
-    DiskFollows state failures past_states event choice o n (disks x) own →
-    DisksFollow state failures past_states event choice o disks (with_disk disks x own)
+    DiskFollows state failures past_states marks event choice o n (disks x) own →
+    DisksFollow state failures past_states marks event choice o disks (with_disk disks x own)
 all_follow event choice o x n disks own came follow = record {
   at = λ y m is.
       let both : Some (x, n) ≡ Some (y, m) = sym came ∙ is in
       let same : (x, n) ≡ (y, m) = cc in
-      subst (λ (q : ℕ × Machine). DiskFollows state failures past_states event choice o q.1 (disks q.0)
+      subst (λ (q : ℕ × Machine). DiskFollows state failures past_states marks event choice o q.1 (disks q.0)
       (with_disk disks x own q.0)) same
-      (subst (λ (d : Slots). DiskFollows state failures past_states event choice o n (disks x) d)
+      (subst (λ (d : Slots). DiskFollows state failures past_states marks event choice o n (disks x) d)
       (sym (disk_here disks x own)) follow);
   others = λ y none. cond_both (y == x) own (disks y) (λ (d : Slots). d ≡ disks y)
       (λ same. absurd (none n (subst (λ (z : ℕ). o.acted_on ≡ Some (z, n))
@@ -283,7 +321,7 @@ all_follow event choice o x n disks own came follow = record {
 
 -- an event that was for none leaves them
 pub none_follow : (event : Event) (choice : Choice) (o : Outcome BatchContent) (disks : ℕ → Slots) →
-    o.acted_on ≡ None → DisksFollow state failures past_states event choice o disks disks
+    o.acted_on ≡ None → DisksFollow state failures past_states marks event choice o disks disks
 none_follow event choice o disks none = record {
   at = λ x n is.
       let both : None ≡ Some (x, n) = sym none ∙ is in

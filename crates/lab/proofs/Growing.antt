@@ -15,10 +15,11 @@ use Rattle.lab.specs.declared.report.Line.{Line}
 use Rattle.lab.specs.declared.sim_node.SimNode.{SimNode}
 use Rattle.lab.specs.Disks.{DisksFollow, AllFollow}
 use Rattle.lab.specs.Events.{modelled, lines_of_event, ChoiceFits}
-use Rattle.lab.specs.SimNodes.{Choice, IsUnarmed, state, failures}
+use Rattle.lab.specs.SimNodes.{Choice, IsUnarmed, state, failures, marks}
 use Rattle.lab.specs.Traces.{modelled_from, lines_from, AllFit}
 use Rattle.lab.specs.Worlds.{PostedRefines, SimNodeRefines, RunRefines, frames_in_steps}
-use Rattle.lab.specs.Worlds.{AllNodesFollow, HaveLogLimit, NodesFollow, frames_of_step}
+use Rattle.lab.specs.Worlds.{AllNodesFollow, HaveLogLimit, NodesFollow, NodesRefine}
+use Rattle.lab.specs.Worlds.{frames_of_step}
 
 -- one event more at the end
 module _ (cs : Configurations) (e : Event) (ch : Choice) where
@@ -69,15 +70,15 @@ module _ (cs : Configurations) (e : Event) (ch : Choice) where
 
   pub follow-push : (i k : ℕ) (es : List Event) (chs : List Choice) (w : SystemState BatchContent)
       (old disks new : ℕ → Slots) → length chs ≡ length es → k ≡ i + length es →
-      AllFollow state failures past_states cs i es chs w old disks →
+      AllFollow state failures past_states marks cs i es chs w old disks →
       let u = run cs (modelled_from i es chs) w in
-      DisksFollow state failures past_states e ch (outcome u cs (modelled k e.kind ch)) disks new →
-      AllFollow state failures past_states cs i (es ++ e ∷ []) (chs ++ ch ∷ []) w old new
+      DisksFollow state failures past_states marks e ch (outcome u cs (modelled k e.kind ch)) disks new →
+      AllFollow state failures past_states marks cs i (es ++ e ∷ []) (chs ++ ch ∷ []) w old new
   follow-push i k [] [] w old disks new same at all one = (
     new,
-    subst (λ (d : ℕ → Slots). DisksFollow state failures past_states e ch
+    subst (λ (d : ℕ → Slots). DisksFollow state failures past_states marks e ch
         (outcome w cs (modelled i e.kind ch)) d new) all
-        (subst (λ (j : ℕ). DisksFollow state failures past_states e ch
+        (subst (λ (j : ℕ). DisksFollow state failures past_states marks e ch
         (outcome w cs (modelled j e.kind ch)) disks new) (omega arith) one),
     refl,
   )
@@ -97,24 +98,28 @@ module _ (cs : Configurations) (e : Event) (ch : Choice) where
       let u = run cs (modelled_from i es chs) w in
       let o = outcome u cs (modelled k e.kind ch) in
       NodesFollow o.acted_on e ch o sims new → HaveLogLimit new limit →
+      NodesRefine (state_after cs u (modelled k e.kind ch)).nodes new →
       AllNodesFollow cs limit i (es ++ e ∷ []) (chs ++ ch ∷ []) w old new
-  nodes-push limit i k [] [] w old sims new same at all one has = (
+  nodes-push limit i k [] [] w old sims new same at all one has are = (
     new,
     subst (λ (l : List SimNode). let o = outcome w cs (modelled i e.kind ch) in
         NodesFollow o.acted_on e ch o l new) all
         (subst (λ (j : ℕ). let o = outcome w cs (modelled j e.kind ch) in
         NodesFollow o.acted_on e ch o sims new) (omega arith) one),
     has,
+    subst (λ (j : ℕ). NodesRefine (state_after cs w (modelled j e.kind ch)).nodes new)
+        (omega arith) are,
     refl,
   )
-  nodes-push limit i k [] (c ∷ chs) w old sims new same at all one has = absurd (omega arith)
-  nodes-push limit i k (f ∷ es) [] w old sims new same at all one has = absurd all
-  nodes-push limit i k (f ∷ es) (c ∷ chs) w old sims new same at all one has = (
+  nodes-push limit i k [] (c ∷ chs) w old sims new same at all one has are = absurd (omega arith)
+  nodes-push limit i k (f ∷ es) [] w old sims new same at all one has are = absurd all
+  nodes-push limit i k (f ∷ es) (c ∷ chs) w old sims new same at all one has are = (
     all.0,
     all.1,
     all.2,
+    all.3,
     nodes-push limit (suc i) k es chs (state_after cs w (modelled i f.kind c)) all.0 sims new
-        (omega arith) (omega arith) all.3 one has,
+        (omega arith) (omega arith) all.4 one has are,
   )
 
 -- nodes that follow from some with this limit for logs have it
@@ -125,7 +130,7 @@ follow_limited cs limit i [] chs w old new all has =
     subst (λ (l : List SimNode). HaveLogLimit l limit) (sym all) has
 follow_limited cs limit i (e ∷ es) [] w old new all has = absurd all
 follow_limited cs limit i (e ∷ es) (ch ∷ chs) w old new all has =
-    follow_limited cs limit (suc i) es chs (state_after cs w (modelled i e.kind ch)) all.0 new all.3
+    follow_limited cs limit (suc i) es chs (state_after cs w (modelled i e.kind ch)) all.0 new all.4
     all.2
 
 -- each event has its lines
@@ -156,7 +161,7 @@ pub record Next (cs : Configurations) (w : SystemState BatchContent) (old : ℕ 
   pub frames : AllZip PostedRefines posted (state_after cs w (modelled i event.kind choice)).frames
   pub nodes : map (λ sim. sim.id) sims ≡ at_epoch cs 0
   pub disks : ℕ → Slots
-  pub follow : DisksFollow state failures past_states event choice
+  pub follow : DisksFollow state failures past_states marks event choice
       (outcome w cs (modelled i event.kind choice)) old disks
   pub few : (x : ℕ) → failures (disks x) ≤ i
   pub unarmed : (x : ℕ) → IsUnarmed (disks x)
@@ -220,6 +225,7 @@ module _ (cs : Configurations) (events : List Event) (choices : List Choice)
           after = record {
             first = made.after.first;
             begun = made.after.begun;
+            marked = made.after.marked;
             follow = follow-push cs event choice 1 i events choices (first_state cs)
                 made.after.first made.disks next.disks made.trace.one_each place made.after.follow
                 next.follow;

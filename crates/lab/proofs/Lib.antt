@@ -14,3 +14,4 @@ mod Worlds
 mod Nodes
 mod Histories
 mod Reports
+mod Told

@@ -7,13 +7,15 @@ use Rattle.std.specs.List.{AllByRecursion, AllZip}
 use Rattle.std.proofs.lemmas.List.{map-append, take_more}
 use Rattle.std.proofs.lemmas.List.Elements.{All-push, recursion_from_All, All-from_recursion}
 use Rattle.std.proofs.lemmas.Slice.Zip.{all_zipped_more}
-use Rattle.disk.specs.{Slots}
+use Rattle.disk.specs.declared.Mark.TheVariants.{Armed}
+use Rattle.disk.specs.{Slots, fault_of, past_states}
 use Rattle.chain_model.specs.{Configurations, Lawful, AllDifferent, has, at_epoch, created}
 use Rattle.chain_core.specs.{Machine}
 use Rattle.lab.specs.declared.report.NodeReport.{NodeReport}
 use Rattle.lab.specs.declared.sim_node.SimNode.{SimNode}
 use Rattle.lab.specs.SimNodes.{HasLogLimit, IsUnarmed, StateRefines, disk_in, is_honest, state}
-use Rattle.lab.specs.SimNodes.{failures}
+use Rattle.lab.specs.Disks.{IsBegun}
+use Rattle.lab.specs.SimNodes.{failures, marks}
 use Rattle.lab.specs.Worlds.{SimNodeRefines, IsCreated, AreCreated, IsLeft, AreLeft, RunRefines}
 use Rattle.lab.specs.Worlds.{HaveLogLimit, IsReportOf}
 use Rattle.lab.proofs.Disks.{with_disk, disk_here, disk_elsewhere}
@@ -82,7 +84,7 @@ reported_ids (sim ∷ sims) (node ∷ nodes) own =
 
 -- the disk of the node with this id
 abbrev pub disks_of : List SimNode → ℕ → Slots
-disks_of [] x = record { slots = []; failures = 0; past = []; fault_at = None }
+disks_of [] x = record { slots = []; failures = 0; past = [] ∷ []; marks = (1, Armed None) ∷ [] }
 disks_of (s ∷ sims) x = with_disk (disks_of sims) s.id (disk_in s.state) x
 
 -- of no node that was just created has it failed
@@ -100,7 +102,15 @@ none_armed : (config : List ℕ) (sims : List SimNode) → AllByRecursion (IsCre
 none_armed config [] all x = refl
 none_armed config (s ∷ sims) all x =
     cond_both (x == s.id) (disk_in s.state) (disks_of sims x) IsUnarmed
-    (λ same. all.0.unarmed) (λ other. none_armed config sims all.1 x)
+    (λ same. ap fault_of all.0.marked.marked) (λ other. none_armed config sims all.1 x)
+
+-- .. and each was armed with none
+all_begun : (config : List ℕ) (sims : List SimNode) → AllByRecursion (IsCreated config) sims →
+    (x : ℕ) → IsBegun state past_states marks (disks_of sims x)
+all_begun config [] all x = record { marked = refl; last = λ file. refl }
+all_begun config (s ∷ sims) all x =
+    cond_both (x == s.id) (disk_in s.state) (disks_of sims x) (IsBegun state past_states marks)
+    (λ same. all.0.marked) (λ other. all_begun config sims all.1 x)
 
 -- nodes with other ids keep theirs
 keep_apart : (machines : ℕ → Machine) (disks : ℕ → Slots) (x : ℕ) (own : Slots)
@@ -147,7 +157,12 @@ begun cs limit sims lawful are =
       sent = refl;
       nodes = are.nodes;
       disks = disks_of sims;
-      after = record { first = disks_of sims; begun = none; follow = refl };
+      after = record {
+        first = disks_of sims;
+        begun = none;
+        marked = all_begun (at_epoch cs 0) sims all;
+        follow = refl;
+      };
       few = λ x. omega (arith, none x);
       unarmed = none_armed (at_epoch cs 0) sims all;
       each = All-from_recursion (SimNodeRefines (λ x. created (at_epoch cs 0)) (disks_of sims)) sims

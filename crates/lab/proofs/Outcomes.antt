@@ -117,12 +117,13 @@ CauseFits event choice o =
 
 -- the node stopped where its doing says so, with the cause that was chosen: for its device where
 -- the fault struck
-abbrev pub StopsSo : Event → Choice → StepOutcome → Bool → Type 0
-StopsSo event choice (done.Answered output) stopped = stopped ≡ false
-StopsSo event choice (done.Started epoch count committed) stopped = stopped ≡ false
-StopsSo event choice (done.Tended did) stopped = stopped ≡ false
-StopsSo event choice (done.Stopped traced) stopped =
-    (stopped ≡ true)
+abbrev pub StopsSo : Event → Choice → StepOutcome → Outcome BatchContent → Type 0
+StopsSo event choice (done.Answered output) o =
+    (o.stopped ≡ false) × (output.dropped ≡ o.dropped)
+StopsSo event choice (done.Started epoch count committed) o = o.stopped ≡ false
+StopsSo event choice (done.Tended did) o = o.stopped ≡ false
+StopsSo event choice (done.Stopped traced) o =
+    (o.stopped ≡ true)
     × (reported_cause event.kind event.fault choice ≡ traced)
     × (choice.struck ≡ true → choice.cause ≡ Disk)
 
@@ -153,7 +154,7 @@ pub record IsOutcome {g : Ghosts Slots} (cs : Configurations) (w : SystemState B
   pub counted : (n : ℕ) → frames_of_step (outcome_lines x n did)
       ≡ length (outcome w cs (modelled i kind choice)).frames
   pub fits : CauseFits (with_fault kind it) choice (outcome w cs (modelled i kind choice))
-  pub ends : StopsSo (with_fault kind it) choice did (outcome w cs (modelled i kind choice)).stopped
+  pub ends : StopsSo (with_fault kind it) choice did (outcome w cs (modelled i kind choice))
   pub told : TellsChosen choice did
 
 -- what a node's doing is at an outcome
@@ -164,7 +165,7 @@ pub record IsTraced (x : ℕ) (event : Event) (choice : Choice) (did : StepOutco
   pub traced : (n : ℕ) → outcome_lines x n did ≡ lines_of_event n event choice o
   pub counted : (n : ℕ) → frames_of_step (outcome_lines x n did) ≡ length o.frames
   pub fits : CauseFits event choice o
-  pub ends : StopsSo event choice did o.stopped
+  pub ends : StopsSo event choice did o
   pub told : TellsChosen choice did
 
 abbrev pub chosen : StepResult → Bool → Cause → Choice
@@ -240,7 +241,7 @@ module _ (x : ℕ) (event : Event) (inp : Input) (choice : Choice) (a : Answer B
     counted = λ n. ap frames_of_step (answer_lines n)
         ∙ counts_answer n a (replies_of inp a.replies);
     fits = λ stops. absurd (false≢true stops);
-    ends = refl;
+    ends = (refl, is.dropped);
     told = tt;
   }
 

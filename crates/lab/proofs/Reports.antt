@@ -4,7 +4,7 @@ use Rattle.std.specs.Prelude.{All, IfOk, Result, Ok, Err}
 use Rattle.std.specs.List.{AllZip, flat_map}
 use Rattle.std.proofs.lemmas.List.Elements.{All-weaker, recursion_from_All}
 use Rattle.kv_types.specs.{BatchContent}
-use Rattle.disk.specs.{Slots, State}
+use Rattle.disk.specs.{Marks, Slots, State}
 use Rattle.chain_model.specs.{Configurations, has, last_of, ResponseAgrees, OneList, batches, Part}
 use Rattle.chain_model.specs.{IsPrefix, RunIsOutcomes, Response, Outcome, SystemEvent as ModelEvent}
 use Rattle.chain_model.specs.{outcomes, first_state, reached, node_of}
@@ -24,7 +24,7 @@ use Rattle.lab.specs.declared.sim_node.SimNode.{SimNode}
 use Rattle.lab.specs.Disks.{HaveDisks, IsDiskOf}
 use Rattle.lab.specs.History.{Placed, IsHistory, StepSpeaksOf, HasAll}
 use Rattle.lab.specs.SimNodes.{Choice, IsUnarmed, StateRefines, disk_in, is_honest, state}
-use Rattle.lab.specs.SimNodes.{failures}
+use Rattle.lab.specs.SimNodes.{failures, marks}
 use Rattle.lab.specs.Runs.{IsRun, RunningRefines}
 use Rattle.lab.specs.Traces.{modelled_from, IsTrace}
 use Rattle.lab.specs.declared.world.World.{World}
@@ -35,14 +35,14 @@ use Rattle.lab.proofs.Nodes.{reported_ids}
 
 -- the model's one list is that of the lines and of the disks
 pub one_of : {D N : Type 0} (state : D → State) (failures : D → ℕ) (past : D → List State)
-    (id : N → ℕ) (disk : N → D)
+    (marks : D → Marks) (id : N → ℕ) (disk : N → D)
     (cs : Configurations) (events : List Event) (choices : List Choice) (steps : List (List Line))
     (nodes : List N) → IsTrace cs events choices steps →
-    HaveDisks state failures past id disk cs events choices nodes →
+    HaveDisks state failures past marks id disk cs events choices nodes →
     OneList cs (modelled_from 1 events choices) →
     RunIsOutcomes cs (modelled_from 1 events choices) →
     IsHistory state id disk cs events steps nodes
-one_of state failures past id disk cs events choices steps nodes trace disks one made =
+one_of state failures past marks id disk cs events choices steps nodes trace disks one made =
     let es = modelled_from 1 events choices in
     let same = numbered_same 1 events choices in
     let agrees = subst (λ (l : List (ModelEvent BatchContent)). All (ResponseAgrees one.B)
@@ -127,7 +127,7 @@ module _ (sims : List SimNode) (posted : List Posted) (cs : Configurations) (eve
   pub disks_so_far : ((sim : SimNode) (x : ℕ) (n : Machine) →
       StateRefines is_honest state sim.state x n →
       DiskAlwaysRefines (state (disk_in sim.state)) x n) →
-      HaveDisks state failures past_states (λ (sim : SimNode). sim.id)
+      HaveDisks state failures past_states marks (λ (sim : SimNode). sim.id)
       (λ (sim : SimNode). disk_in sim.state) cs
       events choices sims
   disks_so_far law =

@@ -8,7 +8,7 @@ use Rattle.std.specs.Prelude.{All, Option, Some, None, MatchOption}
 use Rattle.std.proofs.lemmas.Bool.{false≢true}
 use Rattle.std.proofs.lemmas.Option.{MatchOption-at_none, MatchOption-at_some}
 use Rattle.std.specs.List.{AllZip, AllByRecursion}
-use Rattle.std.proofs.lemmas.List.Elements.{recursion_from_All, All-from_recursion, All-get_or}
+use Rattle.std.proofs.lemmas.List.Elements.{recursion_from_All, All-from_recursion, All-get_or, All-weaker}
 use Rattle.std.proofs.lemmas.List.Elements.{All-set}
 use Rattle.std.proofs.lemmas.Slice.Zip.{AllZip-long}
 use Rattle.kv_types.specs.declared.bounds.TheConstants.{MAX_NUMBER}
@@ -20,7 +20,7 @@ use Rattle.disk.specs.{IsReliable, Slots, past_states}
 use Rattle.chain_model.specs.{Configurations, Lawful, AllDifferent, has, at_epoch}
 use Rattle.chain_model.specs.{Message as ModelFrame, InOrder, SystemEvent as ModelEvent}
 use Rattle.chain_model.specs.{SystemState, Outcome, Answered, reached, first_state, outcome}
-use Rattle.chain_model.specs.{state_after, after, nothing, stopped}
+use Rattle.chain_model.specs.{state_after, after, nothing, stopped, node_of}
 use Rattle.disk.specs.declared.Disk.{Ghosts}
 use Rattle.node.specs.declared.Node.{Node}
 use Rattle.node.specs.declared.Stop.TheVariants.{Disk}
@@ -44,17 +44,17 @@ use Rattle.lab.specs.declared.report.Line.TheVariants.{Nothing}
 use Rattle.lab.specs.declared.sim_node.SimNode.{SimNode}
 use Rattle.lab.specs.declared.world.World.{World as LabWorld}
 use Rattle.lab.specs.Events.{modelled, lines_of_event, NamesNode}
-use Rattle.lab.specs.SimNodes.{StateRefines, Choice, disk_in, is_honest, state, failures}
+use Rattle.lab.specs.SimNodes.{StateRefines, Choice, disk_in, is_honest, state, failures, marks}
 use Rattle.lab.specs.SimNodes.{HasLogLimit, IsUnarmed}
 use Rattle.lab.specs.Deliveries.{IsDeliveryOf, HasNoDelivery}
 use Rattle.lab.specs.Outcomes.{DiskFits, HasCrashed, IsExplained, OutcomeRefines, StateFollows}
 use Rattle.lab.specs.Outcomes.{HasTended, Halts, Tends, TendsNot, TellsTended}
-use Rattle.lab.specs.Outcomes.{has_struck_in, input_junk, sent_by}
+use Rattle.lab.specs.Outcomes.{MarksFit, has_struck_in, input_junk, sent_by}
 use Rattle.lab.proofs.Outcomes.{TellsChosen}
 use Rattle.lab.specs.Disks.{DiskFollows, HasGrown, junk_of, IsCrashOf}
 use Rattle.lab.specs.Traces.{modelled_from}
 use Rattle.lab.specs.Worlds.{PostedRefines, SimNodeRefines, HasMoved, HasNoNode, HasStepped}
-use Rattle.lab.specs.Worlds.{RunRefines}
+use Rattle.lab.specs.Worlds.{NodesRefine, RunRefines}
 use Rattle.lab.specs.Worlds.{HasRun}
 use Rattle.lab.specs.Worlds.{FollowRun, HasApplied, HasDelivered, HasPassed, HasStayed, Ignores}
 use Rattle.lab.specs.Worlds.{AreNodesAfter, HaveLogLimit, IsIndexOf, KeepsLogLimit, NodesFollow}
@@ -149,10 +149,12 @@ pub moved : (old : List SimNode) (i x : ℕ) (between was was' now : SimNode)
     StateFollows is_honest state failures past_states was.state node_input now.state →
     ((y : ℕ) (n : Machine) → StateRefines is_honest state was.state y n →
     HasGrown past_states (disk_in was.state) (disk_in now.state)) →
+    MarksFit state past_states marks (input_junk node_input) it (struck_by it was now) did
+    (disk_in was.state) now.state →
     (IsUnarmed (disk_in was.state) → IsUnarmed (disk_in now.state)) →
     HasMoved old x node_input it did (slice_set (slice_set old i between) i now)
 moved old i x between was was' now node_input it did at out id refines disk only follows grows
-    forgets =
+    marked forgets =
     let is : was ≡ get_or old i now = out ∙ get_or_default old i was' now at.within in
     record {
       index = i;
@@ -175,6 +177,8 @@ moved old i x between was was' now node_input it did at out id refines disk only
       grows = subst (λ (s : SimNode). (y : ℕ) (n : Machine) →
           StateRefines is_honest state s.state y n →
           HasGrown past_states (disk_in s.state) (disk_in now.state)) is grows;
+      marked = subst (λ (s : SimNode). MarksFit state past_states marks (input_junk node_input) it
+          (struck_by it s now) did (disk_in s.state) now.state) is marked;
       forgets = subst (λ (s : SimNode). IsUnarmed (disk_in s.state) →
           IsUnarmed (disk_in now.state)) is forgets;
     }
@@ -294,6 +298,15 @@ module _ (in_order : AlwaysInOrder) (cs : Configurations) (events : List Event)
       (subst (λ (j : Option Junk). DiskFits state failures past_states j event.fault struck t.did
       (disk_in old.state) sim.state)
       (junk_same w.frames i x event.kind node_input brings) t.took.disk)) in
+      let marked : MarksFit state past_states marks (junk_of event.kind) event.fault out.choice.struck
+      t.did (made.disks x) sim.state =
+      subst (λ (b : Bool). MarksFit state past_states marks (junk_of event.kind) event.fault b t.did
+      (made.disks x) sim.state) (sym out.chose)
+      (subst (λ (d : Slots). MarksFit state past_states marks (junk_of event.kind) event.fault struck
+      t.did d sim.state) slots
+      (subst (λ (j : Option Junk). MarksFit state past_states marks j event.fault struck t.did
+      (disk_in old.state) sim.state)
+      (junk_same w.frames i x event.kind node_input brings) t.took.marked)) in
       let few = made.few x in
       let may : MayRise (made.disks x) = omega (arith, few, next.at, next.fits) in
       let reliable = subst IsReliable (sym slots) may in
@@ -305,7 +318,7 @@ module _ (in_order : AlwaysInOrder) (cs : Configurations) (events : List Event)
       (t.took.grows x (w.nodes x) before) in
       let o = outcome w cs (modelled i event.kind out.choice) in
       let follow = follows (made.disks x) sim.state may event out.choice o x out.node t.did out.is so
-      out.ends left why grows in
+      out.ends left marked why grows in
       let id : sim.id ≡ x = t.took.id in
       let long = AllZip-long PostedRefines posted w.frames made.frames in
       let came = grown cs events choices steps sims posted made i event out.choice now more lines
@@ -354,7 +367,8 @@ module _ (in_order : AlwaysInOrder) (cs : Configurations) (events : List Event)
               at = t.took.at;
               sim = sim;
               others = t.took.others;
-              disk = subst (λ (d : Slots). DiskFollows state failures past_states event out.choice o
+              id = t.took.id;
+              disk = subst (λ (d : Slots). DiskFollows state failures past_states marks event out.choice o
                   out.node d own) (sym slots) follow;
               stops = λ junk is own runs.
                   let stop = subst (λ (k : EventKind). IsDeliveryOf w.frames i k x node_input) is
@@ -475,12 +489,14 @@ passed_keeps old new event p limit has = record {
 
 -- the nodes of a world with one event more, where it kept its limit for logs
 came_next : (cs : Configurations) (events : List Event) (choices : List Choice)
-    (steps : List (List Line)) (old new : LabWorld) → HasRun old cs events choices steps →
+    (steps more : List (List Line)) (old new : LabWorld) → HasRun old cs events choices steps →
     (event : Event) (choice : Choice) →
+    RunRefines new.nodes.items new.frames.items cs (events ++ event ∷ []) (choices ++ choice ∷ [])
+    more →
     FollowRun cs events choices event choice old.nodes.items new.nodes.items →
     KeepsLogLimit old new →
     AreNodesAfter cs new.limits.log (events ++ event ∷ []) (choices ++ choice ∷ []) new.nodes.items
-came_next cs events choices steps old new run event choice follow keeps =
+came_next cs events choices steps more old new run event choice ran follow keeps =
     let limit = old.limits.log in
     let came = run.came in
     let has = keeps limit (record {
@@ -495,7 +511,15 @@ came_next cs events choices steps old new run event choice follow keeps =
       follow = nodes-push cs event choice limit 1 (suc (length events)) events choices
           (first_state cs) came.first old.nodes.items new.nodes.items run.made.trace.one_each
           (omega arith)
-          came.follow follow has.nodes;
+          came.follow follow has.nodes
+          (subst (λ (v : SystemState BatchContent). NodesRefine v.nodes new.nodes.items)
+          (run-push cs event choice 1 (suc (length events)) events choices (first_state cs)
+          run.made.trace.one_each (omega arith))
+          (All-weaker (SimNodeRefines (node_of cs (modelled_from 1 (events ++ event ∷ [])
+          (choices ++ choice ∷ []))) ran.disks)
+          (λ sim. StateRefines is_honest state sim.state sim.id (node_of cs (modelled_from 1
+          (events ++ event ∷ []) (choices ++ choice ∷ [])) sim.id))
+          (λ sim refined_at. refined_at.is) new.nodes.items ran.each));
     })
 
 -- The next event of a world, by what it was found to bring.
@@ -519,6 +543,8 @@ module _ (in_order : AlwaysInOrder) (cs : Configurations) (events : List Event)
       let choice = grows.choice in
       let Refines : List SimNode → List Posted → Type 0 = λ now posts. RunRefines now posts cs
       (events ++ event ∷ []) (choices ++ choice ∷ []) (steps ++ lines ∷ []) in
+      let ran = subst (λ (l : List SimNode). Refines l new.frames.items) (sym p.nodes)
+      (subst (λ (l : List Posted). Refines sims l) (sym p.frames) grows.ran) in
       let follow = subst (λ (l : List SimNode). FollowRun cs events choices event choice sims l)
       (sym p.nodes) grows.nodes in
       Takes (nothing_named in_order cs events choices steps sims posted run.made i next event found
@@ -529,10 +555,9 @@ module _ (in_order : AlwaysInOrder) (cs : Configurations) (events : List Event)
         run = record {
           kept = p.keeps.kept ∙ ap (λ (a : List (List Line)). a ++ (Nothing ∷ []) ∷ []) run.kept;
           taken = p.keeps.taken ∙ ap (λ (l : List Event). l ++ event ∷ []) run.taken;
-          made = subst (λ (l : List SimNode). Refines l new.frames.items) (sym p.nodes)
-              (subst (λ (l : List Posted). Refines sims l) (sym p.frames) grows.ran);
-          came = came_next cs events choices steps old new run event choice follow
-              (passed_keeps old new event p);
+          made = ran;
+          came = came_next cs events choices steps (steps ++ lines ∷ []) old new run event choice ran
+              follow (passed_keeps old new event p);
         };
         nodes = follow;
       })
@@ -554,8 +579,8 @@ module _ (in_order : AlwaysInOrder) (cs : Configurations) (events : List Event)
           kept = h.keeps.kept ∙ ap (λ (a : List (List Line)). a ++ h.lines ∷ []) run.kept;
           taken = h.keeps.taken ∙ ap (λ (l : List Event). l ++ event ∷ []) run.taken;
           made = grows.ran;
-          came = came_next cs events choices steps old new run event grows.choice grows.nodes
-              h.limits;
+          came = came_next cs events choices steps (steps ++ h.lines ∷ []) old new run event
+              grows.choice grows.ran grows.nodes h.limits;
         };
         nodes = grows.nodes;
       })

@@ -1,12 +1,13 @@
 -- What a run leaves of its nodes' disks, event by event.
 use Rattle.std.specs.Prelude.{◌≡◌, ℕ, suc, ◌+◌, nat_le, List, [], ◌∷◌, ◌++◌, length, map}
-use Rattle.std.specs.Prelude.{◌⊎◌, All, Bool, true, false, Option, Some, None}
+use Rattle.std.specs.Prelude.{◌⊎◌, All, Bool, true, false, Option, Some, None, IsSome}
 use Rattle.kv_types.specs.{BatchContent}
 use Rattle.disk.specs.declared.Fault.{Fault}
 use Rattle.disk.specs.declared.Fault.TheVariants as fault
 use Rattle.disk.specs.declared.Junk.{Junk}
 use Rattle.disk.specs.declared.Junk.TheVariants.{Old}
-use Rattle.disk.specs.{AddsMoment, CrashOutcome, IsLastLeft, State, struck_call}
+use Rattle.disk.specs.declared.Mark.TheVariants.{Armed, Crashed}
+use Rattle.disk.specs.{AddsMoment, CrashOutcome, IsLastLeft, Marks, State, struck_call}
 use Rattle.chain_model.specs.{Configurations, at_epoch}
 use Rattle.chain_model.specs as model
 use Rattle.chain_core.specs.{Machine}
@@ -86,12 +87,44 @@ IsStopOf state failures past None fault choice old new =
 abbrev pub HasGrown : {D : Type 0} → (D → List State) → D → D → Type 0
 HasGrown past old new = (since : List State) × (past new ≡ since ++ past old)
 
+-- The marks of a step, from a past of one length to one of another, in front of those before it: its
+-- fault was armed at first, and forgotten at the end; or the node stopped, and its disk crashed.
+abbrev pub marks_of_step : Fault → Bool → Bool → ℕ → ℕ → Marks → Marks
+marks_of_step fault struck false before now old =
+    (now, Armed None) ∷ (before, Armed (struck_call fault)) ∷ old
+marks_of_step fault struck true before now old =
+    (now, Crashed (junk_at_end fault struck)) ∷ (before, Armed (struck_call fault)) ∷ old
+
+-- .. of a node that an event may have stopped with its junk: then this is the only one
+abbrev pub marks_of_event : Option Junk → Fault → Bool → Bool → ℕ → ℕ → Marks → Marks
+marks_of_event (Some junk) fault struck stopped before now old = (now, Crashed junk) ∷ old
+marks_of_event None fault struck stopped before now old =
+    marks_of_step fault struck stopped before now old
+
+-- the disk has had exactly these marks since, and its state is the latest of its past
+pub record IsMarkedSo {D : Type 0} (state : D → State) (past : D → List State)
+    (marks : D → Marks) (so : Marks) (new : D) : Type 0 where
+  pub marked : marks new ≡ so
+  pub last : IsLastLeft (past new) (state new)
+
+-- A node had nothing to do for its event, and has the very disk. Or it worked, and its disk has the
+-- marks of that.
+abbrev pub IsMarkedBy : {D : Type 0} → (D → State) → (D → List State) → (D → Marks) → Type 0
+    → Option Junk → Fault → Bool → Bool → D → D → Type 0
+IsMarkedBy state past marks may_rest junk fault struck stopped old new =
+    (may_rest × (stopped ≡ false) × (new ≡ old))
+    ⊎ IsMarkedSo state past marks (marks_of_event junk fault struck stopped (length (past old))
+    (length (past_of_step stopped (past new))) (marks old)) new
+
 -- what an event leaves of the disk of the node that it was for, which is n after it
 pub record DiskFollows {D : Type 0} (state : D → State) (failures : D → ℕ)
-    (past : D → List State) (event : Event)
+    (past : D → List State) (marks : D → Marks) (event : Event)
     (choice : Choice) (o : model.Outcome BatchContent) (n : Machine) (old new : D) : Type 0 where
   -- it is the same disk
   pub grows : HasGrown past old new
+  -- a node that runs has worked, unless its event was dropped
+  pub marked : IsMarkedBy state past marks ((n.running ≡ false) ⊎ IsSome o.dropped)
+      (junk_of event.kind) event.fault choice.struck o.stopped old new
   -- the fault struck exactly where the disk has had so many calls in the step
   pub fault : choice.struck ≡ has_reached (struck_call event.fault) (length (past old))
       (length (past_of_step o.stopped (past new)))
@@ -104,30 +137,37 @@ pub record DiskFollows {D : Type 0} (state : D → State) (failures : D → ℕ)
 
 -- what an event leaves of all disks, by the ids of their nodes
 pub record DisksFollow {D : Type 0} (state : D → State) (failures : D → ℕ)
-    (past : D → List State) (event : Event)
+    (past : D → List State) (marks : D → Marks) (event : Event)
     (choice : Choice) (o : model.Outcome BatchContent) (old new : ℕ → D) : Type 0 where
   pub at : (x : ℕ) (n : Machine) → o.acted_on ≡ Some (x, n) →
-      DiskFollows state failures past event choice o n (old x) (new x)
+      DiskFollows state failures past marks event choice o n (old x) (new x)
   pub others : (x : ℕ) → ((n : Machine) → o.acted_on ≡ Some (x, n) → ⊥) → new x ≡ old x
 
 -- what the events from place i on leave of all disks, one event after another, from a world on
-abbrev pub AllFollow : {D : Type 0} → (D → State) → (D → ℕ) → (D → List State) → Configurations → ℕ
-    → List Event → List Choice → model.SystemState BatchContent → (ℕ → D) → (ℕ → D) → Type 0
-AllFollow state failures past cs i [] choices w old new = new ≡ old
-AllFollow state failures past cs i (event ∷ events) [] w old new = ⊥
-AllFollow {D} state failures past cs i (event ∷ events) (choice ∷ choices) w old new =
+abbrev pub AllFollow : {D : Type 0} → (D → State) → (D → ℕ) → (D → List State) → (D → Marks)
+    → Configurations → ℕ → List Event → List Choice → model.SystemState BatchContent → (ℕ → D) → (ℕ → D) → Type 0
+AllFollow state failures past marks cs i [] choices w old new = new ≡ old
+AllFollow state failures past marks cs i (event ∷ events) [] w old new = ⊥
+AllFollow {D} state failures past marks cs i (event ∷ events) (choice ∷ choices) w old new =
     let o = model.outcome w cs (modelled i event.kind choice) in
-    (next : ℕ → D) × DisksFollow state failures past event choice o old next
-    × AllFollow state failures past cs (suc i) events choices (model.after w o) next new
+    (next : ℕ → D) × DisksFollow state failures past marks event choice o old next
+    × AllFollow state failures past marks cs (suc i) events choices (model.after w o) next new
+
+-- a disk that was just created: it was armed with no fault then, and its state is the latest of its
+-- past
+abbrev pub IsBegun : {D : Type 0} → (D → State) → (D → List State) → (D → Marks) → D → Type 0
+IsBegun state past marks disk =
+    IsMarkedSo state past marks ((length (past disk), Armed None) ∷ []) disk
 
 -- the disks that a run leaves, by the ids of their nodes: no call of them failed before it
 pub record AreDisksAfter {D : Type 0} (state : D → State) (failures : D → ℕ)
-    (past : D → List State)
+    (past : D → List State) (marks : D → Marks)
     (cs : Configurations) (events : List Event) (choices : List Choice) (disks : ℕ → D) : Type 0
   where
     pub first : ℕ → D
     pub begun : (x : ℕ) → failures (first x) ≡ 0
-    pub follow : AllFollow state failures past cs 1 events choices (model.first_state cs) first
+    pub marked : (x : ℕ) → IsBegun state past marks (first x)
+    pub follow : AllFollow state failures past marks cs 1 events choices (model.first_state cs) first
         disks
 
 -- the node's disk is this one, and represents its machine's whole list, as it reads and whatever a
@@ -139,12 +179,12 @@ pub record IsDiskOf {D : Type 0} (state : D → State) (x : ℕ) (n : Machine) (
 
 -- each node of configuration 0 has the disk that the run leaves
 pub record HaveDisks {D N : Type 0} (state : D → State) (failures : D → ℕ)
-    (past : D → List State) (id : N → ℕ)
+    (past : D → List State) (marks : D → Marks) (id : N → ℕ)
     (disk : N → D) (cs : Configurations) (events : List Event) (choices : List Choice)
     (nodes : List N) : Type 0 where
   pub ids : map id nodes ≡ at_epoch cs 0
   pub disks : ℕ → D
-  pub after : AreDisksAfter state failures past cs events choices disks
+  pub after : AreDisksAfter state failures past marks cs events choices disks
   pub each : All (λ node. IsDiskOf state (id node)
       (model.node_of cs (modelled_from 1 events choices) (id node)) (disk node) (disks (id node)))
       nodes

@@ -7,6 +7,7 @@ pub mod Outcomes
 pub mod Runs
 pub mod History
 pub mod Worlds
+pub mod Told
 pub use Rattle.chain_model.specs.Configuration
 pub use Rattle.chain_model.specs.Machine
 pub use Rattle.configurations.specs.Configs

@@ -1,11 +1,11 @@
 -- The outcomes of a simulated node: the state that each input leaves, its disk and its lines.
 use Rattle.std.specs.Prelude.{◌≡◌, ◌⊎◌, ℕ, List, [], ◌∷◌, ◌++◌, length, map, Option}
-use Rattle.std.specs.Prelude.{Bool, Some, None, suc, true, false}
+use Rattle.std.specs.Prelude.{Bool, Some, None, IsSome, suc, true, false}
 use Rattle.kv_types.specs.{BatchContent}
 use Rattle.disk.specs.declared.disk.Disk.{Ghosts}
 use Rattle.disk.specs.declared.Fault.{Fault}
 use Rattle.disk.specs.declared.Junk.{Junk}
-use Rattle.disk.specs.{RisesByOne, CrashOutcome, IsLastLeft, State, struck_call}
+use Rattle.disk.specs.{RisesByOne, CrashOutcome, IsLastLeft, Marks, State, fault_of, struck_call}
 use Rattle.chain_model.specs.{Answer, dropped_for, refused, started, stopped}
 use Rattle.engine.specs.declared.Tended.{Tended}
 use Rattle.link_messages.specs.declared.Frame.{Frame}
@@ -31,7 +31,7 @@ use Rattle.lab.specs.declared.node_state.NodeState.{NodeState}
 use Rattle.lab.specs.declared.node_state.NodeState.TheVariants.{Up, Down}
 use Rattle.lab.specs.declared.report.Line.{Line}
 use Rattle.lab.specs.declared.report.Line.TheVariants as line
-use Rattle.lab.specs.Disks.{HasGrown, IsCrashOf, before_crash, has_reached, junk_at_end}
+use Rattle.lab.specs.Disks.{HasGrown, IsCrashOf, IsMarkedBy, before_crash, has_reached, junk_at_end}
 use Rattle.lab.specs.Events.{dropped_lines, told_cause}
 use Rattle.lab.specs.SimNodes.{HasLogLimit, StateIsReady, StateRefines, IsDown, disk_in}
 
@@ -241,6 +241,22 @@ DiskFits state failures past junk fault struck (done.Stopped (Some cause)) old n
     IsDown new
     × DiskEnds state failures past (junk_at_end fault struck) struck cause old (disk_in new)
 
+-- ---- the marks behind an outcome
+
+-- the marks of the disk behind an outcome: a node that is down, or that dropped its input, may have
+-- the very disk
+abbrev pub MarksFit : {D : Type 0} {g : Ghosts D} → (D → State) → (D → List State) → (D → Marks)
+    → Option Junk → Fault → Bool → StepOutcome → D → NodeState D g → Type 0
+MarksFit state past marks junk fault struck (done.Answered output) old new =
+    IsMarkedBy state past marks (IsDown new ⊎ IsSome output.dropped) junk fault struck false old
+    (disk_in new)
+MarksFit state past marks junk fault struck (done.Tended answer) old new =
+    IsMarkedBy state past marks ⊥ junk fault struck false old (disk_in new)
+MarksFit state past marks junk fault struck (done.Started epoch count committed) old new =
+    IsMarkedBy state past marks ⊥ junk fault struck false old (disk_in new)
+MarksFit state past marks junk fault struck (done.Stopped cause) old new =
+    IsMarkedBy state past marks ⊥ junk fault struck true old (disk_in new)
+
 -- ---- the state behind an input, whatever the machine
 
 -- an input that the node ignores leaves its state as it was, and one that stops a running node
@@ -279,9 +295,12 @@ pub record HasDispatched {D : Type 0} (g : Ghosts D) (log_limit : ℕ) (fault : 
   -- it has the same disk
   pub grows : (x : ℕ) (n : Machine) → StateRefines g.is_honest g.state old x n →
       HasGrown g.past (disk_in old) (disk_in new)
+  pub marked : g.is_honest (disk_in old) →
+      MarksFit g.state g.past g.marks (input_junk node_input) fault
+      (has_struck_in g.past fault (disk_in old) new) did (disk_in old) new
   -- the fault is forgotten
-  pub forgets : g.is_honest (disk_in old) → g.fault_at (disk_in old) ≡ None →
-      g.fault_at (disk_in new) ≡ None
+  pub forgets : g.is_honest (disk_in old) → fault_of (g.marks (disk_in old)) ≡ None →
+      fault_of (g.marks (disk_in new)) ≡ None
   -- a node that is up has the given limit for logs, if it was down or had that one
   pub limit : HasLogLimit old log_limit → HasLogLimit new log_limit
 

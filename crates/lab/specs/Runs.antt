@@ -9,7 +9,7 @@ use Rattle.lab.specs.declared.report.Numbers.{Numbers}
 use Rattle.lab.specs.declared.report.NodeReport.{NodeReport}
 use Rattle.lab.specs.declared.report.Report.{Report}
 use Rattle.lab.specs.Disks.{HaveDisks}
-use Rattle.lab.specs.SimNodes.{Choice, IsUnarmed, state, failures}
+use Rattle.lab.specs.SimNodes.{Choice, IsUnarmed, state, failures, marks}
 use Rattle.lab.specs.Traces.{modelled_from, IsTrace}
 
 -- the numbers are the machine's; how many tables a node has is its store's, and no matter of a run
@@ -36,7 +36,7 @@ AreNumbersOf cs events choices x told =
 pub record IsRun (cs : Configurations) (events : List Event) (choices : List Choice)
     (report : Report) : Type 0 where
   pub trace : IsTrace cs events choices report.steps.items
-  pub disks : HaveDisks state failures past_states (λ (node : NodeReport). node.id)
+  pub disks : HaveDisks state failures past_states marks (λ (node : NodeReport). node.id)
       (λ (node : NodeReport). node.disk) cs events choices report.nodes.items
   pub unarmed : All (λ node. IsUnarmed node.disk) report.nodes.items
   pub numbers : All (λ node. AreNumbersOf cs events choices node.id node.running)

@@ -1,6 +1,6 @@
 -- Simulated nodes: what a running or stopped one refines, and what the code may choose in a step.
 use Rattle.std.specs.Prelude.{◌≡◌, ℕ, Bool, None, false}
-use Rattle.disk.specs.{State, Slots, state_of}
+use Rattle.disk.specs.{Marks, State, Slots, fault_of, state_of}
 use Rattle.disk.specs.declared.disk.Disk.{Ghosts}
 use Rattle.chain_model.specs as model
 use Rattle.engine.specs.declared.Tended.{Tended}
@@ -62,6 +62,10 @@ state disk = state_of disk.slots
 abbrev pub failures : Slots → ℕ
 failures disk = disk.failures
 
+-- the faults that it was armed with, and its crashes
+abbrev pub marks : Slots → Marks
+marks disk = disk.marks
+
 -- it is armed with no fault
 abbrev pub IsUnarmed : Slots → Type 0
-IsUnarmed disk = disk.fault_at ≡ None
+IsUnarmed disk = fault_of disk.marks ≡ None

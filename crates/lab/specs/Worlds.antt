@@ -31,12 +31,14 @@ use Rattle.lab.specs.declared.report.NodeReport.{NodeReport}
 use Rattle.lab.specs.declared.report.Numbers.{Numbers}
 use Rattle.lab.specs.declared.sim_node.SimNode.{SimNode}
 use Rattle.lab.specs.declared.world.World.{World}
-use Rattle.lab.specs.SimNodes.{Choice, StateRefines, disk_in, is_honest, state, failures}
+use Rattle.lab.specs.SimNodes.{Choice, StateRefines, disk_in, is_honest, state, failures, marks}
 use Rattle.lab.specs.SimNodes.{HasLogLimit, IsDown, IsUnarmed}
 use Rattle.lab.specs.Events.{NamesNode, modelled}
-use Rattle.lab.specs.Outcomes.{OutcomeRefines, DiskFits, StateFollows, input_junk, sent_by}
+use Rattle.lab.specs.Outcomes.{OutcomeRefines, DiskFits, MarksFit, StateFollows, input_junk}
+use Rattle.lab.specs.Outcomes.{sent_by}
 use Rattle.lab.specs.Outcomes.{IsExplained, has_struck_in, outcome_lines}
-use Rattle.lab.specs.Disks.{AreDisksAfter, DiskFollows, HasGrown, HaveDisks, IsDiskOf, IsCrashOf}
+use Rattle.lab.specs.Disks.{AreDisksAfter, DiskFollows, HasGrown, HaveDisks, IsBegun, IsDiskOf}
+use Rattle.lab.specs.Disks.{IsCrashOf}
 use Rattle.lab.specs.History.{IsHistory}
 use Rattle.lab.specs.Runs.{RunningRefines}
 use Rattle.lab.specs.Traces.{modelled_from, IsTrace}
@@ -94,12 +96,12 @@ pub record SimNodeRefines (nodes : ℕ → Machine) (disks : ℕ → Slots) (sim
   pub is : StateRefines is_honest state sim.state sim.id (nodes sim.id)
   pub disk : disk_in sim.state ≡ disks sim.id
 
--- a node that was just created with this configuration: no call of its disk failed, and it has no
--- fault
+-- a node that was just created with this configuration: no call of its disk failed, and it was armed
+-- with no fault
 pub record IsCreated (config : List ℕ) (sim : SimNode) : Type 0 where
   pub is : StateRefines is_honest state sim.state sim.id (created config)
   pub count : failures (disk_in sim.state) ≡ 0
-  pub unarmed : IsUnarmed (disk_in sim.state)
+  pub marked : IsBegun state past_states marks (disk_in sim.state)
 
 -- each of these nodes that is up has this limit for logs
 abbrev pub HaveLogLimit : List SimNode → ℕ → Type 0
@@ -173,6 +175,9 @@ pub record HasMoved (sims : List SimNode) (x : ℕ) (node_input : NodeInput) (fa
   pub grows : (y : ℕ) (n : Machine) →
       StateRefines is_honest state (get_or sims index sim).state y n →
       HasGrown past_states (disk_in (get_or sims index sim).state) (disk_in sim.state)
+  pub marked : MarksFit state past_states marks (input_junk node_input) fault
+      (has_struck_in past_states fault (disk_in (get_or sims index sim).state) sim.state) did
+      (disk_in (get_or sims index sim).state) sim.state
   -- the fault is forgotten
   pub forgets : IsUnarmed (disk_in (get_or sims index sim).state) → IsUnarmed (disk_in sim.state)
 
@@ -192,7 +197,8 @@ pub record HasActedOn (event : Event) (choice : Choice) (o : model_frame.Outcome
   pub at : IsIndexOf old index x
   pub sim : SimNode
   pub others : new ≡ slice_set old index sim
-  pub disk : DiskFollows state failures past_states event choice o n
+  pub id : sim.id ≡ x
+  pub disk : DiskFollows state failures past_states marks event choice o n
       (disk_in (get_or old index sim).state) (disk_in sim.state)
   -- a stop of a running node leaves a crash of its disk with the junk
   pub stops : (junk : Junk) → event.kind ≡ Stop x junk → (was : Node Slots _) →
@@ -228,15 +234,21 @@ pub record RunRefines (sims : List SimNode) (posted : List Posted) (cs : Configu
   pub sent : frames_in_steps steps ≡ length posted
   pub nodes : map (λ sim. sim.id) sims ≡ at_epoch cs 0
   pub disks : ℕ → Slots
-  pub after : AreDisksAfter state failures past_states cs events choices disks
+  pub after : AreDisksAfter state failures past_states marks cs events choices disks
   -- no disk failed more often than there are events
   pub few : (x : ℕ) → failures (disks x) ≤ length events
   pub unarmed : (x : ℕ) → IsUnarmed (disks x)
   pub each : All (SimNodeRefines (model_frame.node_of cs (modelled_from 1 events choices)) disks)
       sims
 
+-- each of these nodes refines the machine of its id
+abbrev pub NodesRefine : (ℕ → Machine) → List SimNode → Type 0
+NodesRefine machines sims =
+    All (λ sim. StateRefines is_honest state sim.state sim.id (machines sim.id)) sims
+
 -- What the events from place i on leave of these nodes, one event after another, from a state of the
--- model on. Behind each of them those that are up have this limit for logs.
+-- model on. Behind each of them those that are up have this limit for logs, and all refine their
+-- machines.
 abbrev pub AllNodesFollow : Configurations → ℕ → ℕ → List Event → List Choice
     → model_frame.SystemState BatchContent → List SimNode → List SimNode → Type 0
 AllNodesFollow cs log_limit i [] choices w old new = new ≡ old
@@ -245,6 +257,7 @@ AllNodesFollow cs log_limit i (event ∷ events) (choice ∷ choices) w old new 
     let o = model_frame.outcome w cs (modelled i event.kind choice) in
     (next : List SimNode) × NodesFollow o.acted_on event choice o old next
     × HaveLogLimit next log_limit
+    × NodesRefine (model_frame.after w o).nodes next
     × AllNodesFollow cs log_limit (suc i) events choices (model_frame.after w o) next new
 
 -- The nodes that a run leaves: they were created with the first configuration and this limit for
@@ -337,7 +350,7 @@ HasEnded world = world.ended ≡ true
 pub record IsRunSoFar (world : World) (cs : Configurations) (events : List Event)
     (choices : List Choice) (steps : List (List Line)) : Type 0 where
   pub trace : IsTrace cs events choices steps
-  pub disks : HaveDisks state failures past_states (λ (sim : SimNode). sim.id)
+  pub disks : HaveDisks state failures past_states marks (λ (sim : SimNode). sim.id)
       (λ (sim : SimNode). disk_in sim.state) cs events choices world.nodes.items
   pub unarmed : All (λ sim. IsUnarmed (disk_in sim.state)) world.nodes.items
 

@@ -5,6 +5,7 @@ mod delivery;
 mod error;
 mod event;
 mod input;
+pub mod laws;
 mod node_state;
 mod report;
 mod runs;

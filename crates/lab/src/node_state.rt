@@ -1,16 +1,17 @@
 // The state of a simulated node, up or down, and how it takes an input.
-ghost use Rattle.std.specs.Prelude.{◌≡◌, ◌↔◌, ◌⊎◌, ℕ, Bool, IfOk, IsTrue, None};
+ghost use Rattle.std.specs.Prelude.{◌≡◌, ◌↔◌, ◌⊎◌, ◌∷◌, ℕ, Bool, IfOk, IsTrue, None, length};
 ghost use Rattle.kv_types.specs.{BatchContent};
 ghost use Rattle.chain_model.specs.{Answer, stopped};
-ghost use Rattle.disk.specs.{HasStruck, IsLastLeft};
+ghost use Rattle.disk.specs.declared.Mark.TheVariants.{Crashed};
+ghost use Rattle.disk.specs.{HasStruck, IsLastLeft, fault_of};
 ghost use Rattle.chain_core.specs.{Machine};
 ghost use Rattle.node.specs.{DiskAlwaysRefines, IsReady, NodeRefines, StopRefines, disk_of};
 ghost use Rattle.node.specs.{log_limit_of};
-ghost use Rattle.lab.specs.Disks.{HasGrown, junk_at_end};
+ghost use Rattle.lab.specs.Disks.{HasGrown, IsMarkedSo, junk_at_end};
 ghost use Rattle.lab.specs.Events.{told_cause};
 ghost use Rattle.lab.specs.SimNodes.{DownRefines, HasLogLimit, StateRefines, StateIsReady, disk_in};
 ghost use Rattle.lab.specs.Outcomes.{DiskFits, HasCrashed, HasHandled, HasStarted, HasDispatched};
-ghost use Rattle.lab.specs.Outcomes.{HasTended};
+ghost use Rattle.lab.specs.Outcomes.{HasTended, MarksFit};
 ghost use Rattle.lab.specs.Outcomes.{IsExplained, has_struck_in};
 
 use crate::input::{NodeInput, StepOutcome, dropped, output_at_rest};
@@ -37,7 +38,9 @@ fn crash<D: Crash + Drop>(mut disk: D, junk: Junk) -> NodeState<D>
         D.is_honest disk → StopRefines (D.state disk) x n a →
         StateRefines D.is_honest D.state result x (stopped n)
         ⊎ StateRefines D.is_honest D.state result x (stopped a.node) }
-    ensures forgets { D.fault_at (disk_in result) ≡ None }
+    ensures marked { D.is_honest disk → IsMarkedSo D.state D.past D.marks
+        ((length (D.past disk), Crashed junk) ∷ D.marks disk) (disk_in result) }
+    ensures forgets { fault_of (D.marks (disk_in result)) ≡ None }
     ensures limit { (n : ℕ) → HasLogLimit result n }
 {
     // laws: what a crash leaves is durable, and a crash leaves it again
@@ -51,9 +54,9 @@ fn crash<D: Crash + Drop>(mut disk: D, junk: Junk) -> NodeState<D>
 // stopped its machine, the disk crashes with the fault's junk, and no cause is told.
 fn stop_by_itself<D: Crash + Drop>(disk: D, stop: Stop, fault: Fault) -> (NodeState<D>, StepOutcome)
     ensures ready { StateIsReady result.0 }
-    ensures told { (struck : Bool) → (IsTrue struck ↔ HasStruck D.fault_at D.past disk) →
+    ensures told { (struck : Bool) → (IsTrue struck ↔ HasStruck D.marks D.past disk) →
         result.1 ≡ StepOutcome.Stopped (told_cause fault struck stop) }
-    ensures crashes { (struck : Bool) → (IsTrue struck ↔ HasStruck D.fault_at D.past disk) →
+    ensures crashes { (struck : Bool) → (IsTrue struck ↔ HasStruck D.marks D.past disk) →
         D.is_honest disk → HasCrashed D.state D.failures D.past
         (junk_at_end fault struck) disk result.0
         × IsLastLeft (D.past disk) (D.state disk) }
@@ -61,7 +64,11 @@ fn stop_by_itself<D: Crash + Drop>(disk: D, stop: Stop, fault: Fault) -> (NodeSt
         D.is_honest disk → StopRefines (D.state disk) x n a →
         StateRefines D.is_honest D.state result.0 x (stopped n)
         ⊎ StateRefines D.is_honest D.state result.0 x (stopped a.node) }
-    ensures forgets { D.fault_at (disk_in result.0) ≡ None }
+    ensures marked { (struck : Bool) → (IsTrue struck ↔ HasStruck D.marks D.past disk) →
+        D.is_honest disk → IsMarkedSo D.state D.past D.marks
+        ((length (D.past disk), Crashed (junk_at_end fault struck)) ∷ D.marks disk)
+        (disk_in result.0) }
+    ensures forgets { fault_of (D.marks (disk_in result.0)) ≡ None }
     ensures limit { (n : ℕ) → HasLogLimit result.0 n }
 {
     let has_struck = disk.has_struck();
@@ -91,7 +98,10 @@ fn start<D: Crash + Drop>(
         (has_struck_in D.past fault disk result.0) result.1 }
     ensures grows { (x : ℕ) (n : Machine) → DownRefines D.is_honest D.state disk x n →
         HasGrown D.past disk (disk_in result.0) }
-    ensures forgets { D.is_honest disk → D.fault_at (disk_in result.0) ≡ None }
+    ensures marked { D.is_honest disk →
+        MarksFit D.state D.past D.marks None fault
+        (has_struck_in D.past fault disk result.0) result.1 disk result.0 }
+    ensures forgets { D.is_honest disk → fault_of (D.marks (disk_in result.0)) ≡ None }
     ensures limit { HasLogLimit result.0 limits.now.log }
 {
     disk.arm(&fault);
@@ -132,7 +142,12 @@ fn step<D: Crash + Drop>(
         (has_struck_in D.past fault (disk_of node) result.0) result.1 }
     ensures grows { (x : ℕ) (n : Machine) → NodeRefines D.is_honest D.state node x n →
         HasGrown D.past (disk_of node) (disk_in result.0) }
-    ensures forgets { D.is_honest (disk_of node) → D.fault_at (disk_in result.0) ≡ None }
+    ensures marked { D.is_honest (disk_of node) →
+        MarksFit D.state D.past D.marks None fault
+        (has_struck_in D.past fault (disk_of node) result.0) result.1 (disk_of node)
+        result.0 }
+    ensures forgets { D.is_honest (disk_of node) →
+        fault_of (D.marks (disk_in result.0)) ≡ None }
     ensures limit { HasLogLimit result.0 (log_limit_of node) }
 {
     full_logs_are_long::<D>(); // law: where a log is nearly full, a file is long
@@ -168,7 +183,12 @@ fn tend<D: Crash + Drop>(
         (has_struck_in D.past fault (disk_of node) result.0) result.1 }
     ensures grows { (x : ℕ) (n : Machine) → NodeRefines D.is_honest D.state node x n →
         HasGrown D.past (disk_of node) (disk_in result.0) }
-    ensures forgets { D.is_honest (disk_of node) → D.fault_at (disk_in result.0) ≡ None }
+    ensures marked { D.is_honest (disk_of node) →
+        MarksFit D.state D.past D.marks None fault
+        (has_struck_in D.past fault (disk_of node) result.0) result.1 (disk_of node)
+        result.0 }
+    ensures forgets { D.is_honest (disk_of node) →
+        fault_of (D.marks (disk_in result.0)) ≡ None }
     ensures limit { HasLogLimit result.0 (log_limit_of node) }
 {
     full_logs_are_long::<D>(); // law: where a log is nearly full, a file is long

@@ -62,10 +62,13 @@ fn created_node(
 {
     let disk = MemDisk::new(alloc);
     match Node::create(alloc, disk, id, config, limits) {
-        Ok(node) => Ok(SimNode {
-            id,
-            state: NodeState::Up(node),
-        }),
+        Ok(mut node) => {
+            node.arm(&Fault::None);
+            Ok(SimNode {
+                id,
+                state: NodeState::Up(node),
+            })
+        }
         Err(refused) => {
             // A new disk fails at no call that fits, so only memory can be wanting.
             let stop = refused.0;

@@ -64,7 +64,7 @@ impl Disk for NotingDisk {
 
     ghost past = { λ disk. past_states disk.disk };
 
-    ghost fault_at = { λ disk. disk.disk.fault_at };
+    ghost marks = { λ disk. disk.disk.marks };
 
     ghost allocates = { ⊥ };
 

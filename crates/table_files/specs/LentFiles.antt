@@ -3,10 +3,10 @@ use Rattle.disk.specs.declared.Disk.{Ghosts}
 use Rattle.std.specs.Prelude.{◌≡◌, ◌↔◌, ◌⊎◌, ℕ, ◌-◌, ◌^◌, ◌<◌, ◌≤◌, List, length}
 use Rattle.std.specs.Prelude.{Option, Some, None}
 use Rattle.std.specs.Prelude.{Result, Ok, Err, IsSomeAnd}
-use Rattle.std.proofs.Common.{inl, inr, refl, sym, subst, ◌∙◌, arith, ⊎_elim}
+use Rattle.std.proofs.Common.{ap, inl, inr, refl, sym, subst, ◌∙◌, arith, ⊎_elim}
 use Rattle.std.proofs.lemmas.Bool.{cases_lt}
 use Rattle.disk.specs.{State, Contents, IsSame, IsStill, KeepsDisk}
-use Rattle.disk.specs.{HasStruck, HasStruckBy, RisesByOne}
+use Rattle.disk.specs.{HasStruck, HasStruckBy, RisesByOne, fault_of}
 use Rattle.disk.specs.{AllLeave}
 use Rattle.disk.specs.Moments.{AllLeave as later}
 use Rattle.disk.specs.StillLemmas.{still, still_more}
@@ -26,19 +26,19 @@ pub record KeepsFiles {D : Type 0} (g : Ghosts D) (old new : D) : Type 0 where
   pub same : g.is_honest old → IsSame (g.state old) (g.state new)
   -- a crash at any moment leaves only what it might have left before
   pub still : IsStill g old new
-  -- a fault that is armed stays armed
-  pub fault : g.fault_at new ≡ g.fault_at old
+  -- no fault was armed, and no crash came: a fault that is armed stays armed
+  pub fault : g.marks new ≡ g.marks old
   -- the count of failures never falls
   pub count : g.failures old ≤ g.failures new
   -- a reliable disk whose fault has not struck has not failed
-  pub unfailing : g.is_honest old → g.is_reliable old → (HasStruck g.fault_at g.past new → ⊥) →
+  pub unfailing : g.is_honest old → g.is_reliable old → (HasStruck g.marks g.past new → ⊥) →
       (g.failures new ≡ g.failures old) × g.is_reliable new
   -- while no call failed, a reliable disk stays reliable
   pub reliable : g.is_reliable old → ShowsNoFailure (g.failures old) (g.failures new) →
       g.is_reliable new
   -- and a fault has not struck that had not
-  pub spared : (HasStruck g.fault_at g.past old → ⊥) →
-      ShowsNoFailure (g.failures old) (g.failures new) → HasStruck g.fault_at g.past new → ⊥
+  pub spared : (HasStruck g.marks g.past old → ⊥) →
+      ShowsNoFailure (g.failures old) (g.failures new) → HasStruck g.marks g.past new → ⊥
 
 -- moments are never taken back
 past_grows : (P : Contents → Type 0) (past since : List State) → AllLeave P past since →
@@ -72,9 +72,10 @@ module _ {D : Type 0} (g : Ghosts D) where
   }
 
   struck_stays : (a b : D) → KeepsFiles g a b → g.is_honest a →
-      HasStruck g.fault_at g.past a → HasStruck g.fault_at g.past b
+      HasStruck g.marks g.past a → HasStruck g.marks g.past b
   struck_stays a b k h struck =
-      stays_struck (g.fault_at a) (g.fault_at b) (length (g.past a)) (length (g.past b)) k.fault
+      stays_struck (fault_of (g.marks a)) (fault_of (g.marks b)) (length (g.past a)) (length (g.past b))
+      (ap fault_of k.fault)
       (past_grows _ (g.past a) (g.past b) (k.still h).later) struck
 
   -- some calls, and some more

@@ -101,7 +101,7 @@ impl<D: Disk + Drop> Disk for Files<D> {
 
     ghost past = { λ files. D.past files.disk };
 
-    ghost fault_at = { λ files. D.fault_at files.disk };
+    ghost marks = { λ files. D.marks files.disk };
 
     ghost allocates = { D.allocates };
 

@@ -1,4 +1,5 @@
-use Rattle.std.proofs.Common.{refl, inl, inr}
+use Rattle.std.proofs.Common.{List, refl, inl, inr, subst, sym}
+use Rattle.disk.specs.{IsLastLeft, State}
 use Rattle.lab.proofs.Rests.{rests_as}
 use Rattle.lab.proofs.node_state.crash.Goals as goal
 
@@ -11,3 +12,10 @@ returns-clause-refines g c = λ x n a honest stops.
       | inl before ↦ inl (is, before, refl)
       | inr behind ↦ inr (is, behind, refl)
     ]
+
+pub returns-clause-marked : goal.returns-clause-marked
+returns-clause-marked g c = λ honest. record {
+  marked = c.crash.ensures.marks;
+  last = subst (λ (l : List State). IsLastLeft l (g.D.Disk.state c.crash.new.self))
+      (sym c.crash.ensures.past.2) (λ file. sym (c.crash.ensures.past.1 file));
+}

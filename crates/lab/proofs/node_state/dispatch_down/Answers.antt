@@ -16,6 +16,7 @@ returns-in-Start g c =
       only = λ x n r reliable. e.only r.0 reliable;
       follows = tt;
       grows = e.grows;
+      marked = e.marked;
       forgets = λ honest unarmed. e.forgets honest;
       limit = λ has. e.limit;
     })

@@ -1,13 +1,16 @@
-use Rattle.std.proofs.Common.{None, [], refl, sym, subst, inl, inr}
+use Rattle.std.proofs.Common.{None, [], ◌∷◌, ◌∙◌, ℕ, ap, length, refl, sym, subst, inl, inr}
+use Rattle.std.specs.Prelude.{IsSome}
+use Rattle.disk.specs.declared.Mark.TheVariants.{Crashed}
+use Rattle.lab.specs.Disks.{IsMarkedSo}
 use Rattle.chain_model.specs.{stopped, silent}
 use Rattle.lab.specs.declared.input.NodeInput.{NodeInput}
 use Rattle.lab.specs.declared.input.NodeInput.TheVariants as to_node
 use Rattle.lab.specs.declared.input.StepOutcome.TheVariants as done
 use Rattle.lab.specs.declared.node_state.NodeState.TheVariants.{Up}
-use Rattle.lab.specs.SimNodes.{HasLogLimit, StateRefines}
+use Rattle.lab.specs.SimNodes.{HasLogLimit, StateRefines, disk_in}
 use Rattle.lab.specs.Outcomes.{Drops, HasCrashed, HasDispatched, RunsOn, Stops}
 use Rattle.lab.proofs.Dispatching.{answered_only, ready_up}
-use Rattle.lab.proofs.Faults.{crash_grows}
+use Rattle.lab.proofs.Faults.{before_is, crash_grows}
 use Rattle.node.specs.{disk_of}
 use Rattle.lab.proofs.node_state.dispatch_up.Goals as goal
 
@@ -22,6 +25,7 @@ returns-in-Step g c = λ limit.
       only = e.only;
       follows = tt;
       grows = e.grows;
+      marked = e.marked;
       forgets = λ honest unarmed. e.forgets honest;
       limit = λ has. subst (λ n. HasLogLimit c.step.result.0 n) has e.limit;
     })
@@ -37,6 +41,7 @@ returns-in-Tend g c = λ limit.
       only = e.only;
       follows = tt;
       grows = e.grows;
+      marked = e.marked;
       forgets = λ honest unarmed. e.forgets honest;
       limit = λ has. subst (λ n. HasLogLimit c.tend.result.0 n) has e.limit;
     })
@@ -48,6 +53,7 @@ returns-in-BadFrame g c = λ limit.
     (done.Answered output.result)) (sym c.in-BadFrame.is)
     (answered_only g.D.Disk limit c.args.fault (to_node.BadFrame c.in-BadFrame.why) (Up c.args.node)
     output.result (ready_up c.args.node c.requires)
+    (inr (subst (λ d. IsSome d) (sym output.ensures.dropped) refl))
     (λ x n r. Drops r.core.running r (output.result, refl, output.ensures)) refl)
 
 pub returns-in-Start : goal.returns-in-Start
@@ -57,6 +63,7 @@ returns-in-Start g c = λ limit.
     (done.Answered output.result)) (sym c.in-Start.is)
     (answered_only g.D.Disk limit c.args.fault to_node.Start (Up c.args.node) output.result
     (ready_up c.args.node c.requires)
+    (inr (subst (λ d. IsSome d) (sym output.ensures.dropped) refl))
     (λ x n r. RunsOn r.core.running r (output.result, refl, output.ensures)) refl)
 
 -- the disk crashed with the junk
@@ -86,6 +93,18 @@ returns-in-Stop g c = λ limit.
       follows = crashed;
       grows = λ x n r. crash_grows g.D.Disk junk (disk_of c.args.node) (disk_of c.args.node) new
           (crashed r.honest) ([], refl);
+      marked = λ honest.
+          let so = e.marked (subst g.D.Disk.is_honest same honest) in
+          let before = subst (λ d. IsMarkedSo g.D.Disk.state g.D.Disk.past g.D.Disk.marks
+          ((length (g.D.Disk.past d), Crashed junk) ∷ g.D.Disk.marks d) (disk_in new))
+          c.into_disk.ensures.disk so in
+          inr (record {
+            marked = before.marked ∙ ap (λ (n : ℕ). (n, Crashed junk)
+                ∷ g.D.Disk.marks (disk_of c.args.node))
+                (ap length (before_is g.D.Disk c.args.fault (disk_of c.args.node) junk
+                (disk_of c.args.node) new (crashed honest)));
+            last = before.last;
+          });
       forgets = λ honest unarmed. e.forgets;
       limit = λ has. e.limit limit;
     })

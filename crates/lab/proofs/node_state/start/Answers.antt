@@ -1,4 +1,4 @@
-use Rattle.std.proofs.Common.{refl, inl, inr, subst}
+use Rattle.std.proofs.Common.{false, refl, inl, inr, subst}
 use Rattle.chain_model.specs.{started, stopped, silent}
 use Rattle.disk.specs.{State, contents}
 use Rattle.disk.specs.StepsLemmas.{read_is_outcome}
@@ -6,7 +6,7 @@ use Rattle.node.specs.{DiskAlwaysRefines}
 use Rattle.lab.specs.SimNodes.{StateRefines}
 use Rattle.lab.specs.Outcomes.{Starts, Fails}
 use Rattle.lab.proofs.Faults.{disk_fits, explained, grown_end, grown_since, same_state, spent}
-use Rattle.lab.proofs.Faults.{stopped_so}
+use Rattle.lab.proofs.Faults.{marked_end, marked_so, stopped_so}
 use Rattle.lab.proofs.node_state.start.Goals as goal
 
 pub returns-in-Ok-clause-refines : goal.returns-in-Ok-clause-refines
@@ -86,3 +86,18 @@ returns-in-Err-clause-grows g c = λ x n r.
     c.stop_by_itself.ensures.told c.stop_by_itself.ensures.crashes
     (grown_since g.D.Disk _ c.args.disk c.arm.new.self c.in-Err.disk c.in-Err.disk armed.past leaves
     refl)
+
+-- the disk has the marks of the start
+pub returns-in-Ok-clause-marked : goal.returns-in-Ok-clause-marked
+returns-in-Ok-clause-marked g c = λ honest.
+    inr (marked_so g.D.Disk c.args.fault c.args.disk false c.arm.new.self _ _ _ _ _ c.arm.ensures
+    c.in-Ok.ensures.kept c.arm-in-Ok.ensures.armed honest)
+
+pub returns-in-Err-clause-marked : goal.returns-in-Err-clause-marked
+returns-in-Err-clause-marked g c = λ honest.
+    let was = spent g.D.Disk c.args.fault c.args.disk c.arm.new.self c.in-Err.disk _ _ _
+    c.arm.ensures c.in-Err.ensures.kept honest in
+    marked_end g.D.Disk c.args.fault c.args.disk c.in-Err.disk c.in-Err.stop
+    c.stop_by_itself.result.0 c.stop_by_itself.result.1 _ _ was (λ fails. fails) (λ is. is)
+    c.stop_by_itself.ensures.told c.stop_by_itself.ensures.crashes c.arm.new.self _ _ _
+    c.arm.ensures c.in-Err.ensures.kept honest c.stop_by_itself.ensures.marked

@@ -1,4 +1,4 @@
-use Rattle.std.proofs.Common.{Err, Result, refl, sym, ap, subst}
+use Rattle.std.proofs.Common.{false, Err, Result, inr, refl, sym, ap, subst}
 use Rattle.chain_core.specs.{answer_to}
 use Rattle.disk.specs.{KeepsDisk, State}
 use Rattle.node.specs.declared.Output.{Output}
@@ -7,7 +7,7 @@ use Rattle.node.specs.{HasLongFile, IsDeviceStop, IsNearlyFull, IsOwned, StopRef
 use Rattle.node.specs.{disk_of, engine_of}
 use Rattle.lab.specs.Outcomes.{Answers, Ends}
 use Rattle.lab.proofs.Faults.{IsSpent, disk_fits, explained, grown_end, grown_since, same_state}
-use Rattle.lab.proofs.Faults.{spent, stopped_so, struck_at}
+use Rattle.lab.proofs.Faults.{marked_end, marked_so, spent, stopped_so, struck_at}
 use Rattle.lab.proofs.node_state.step.Goals as goal
 
 pub returns-in-Ok-clause-refines : goal.returns-in-Ok-clause-refines
@@ -90,3 +90,25 @@ returns-in-Err-clause-grows g c = λ x n r.
     c.stop_by_itself.ensures.told c.stop_by_itself.ensures.crashes
     (grown_since g.D.Disk _ (disk_of c.args.node) (disk_of c.arm.new.self) _ c.into_disk.result
     c.arm.ensures.armed.past ended.any_moment (ap g.D.Disk.past c.into_disk.ensures.disk))
+
+-- the disk has the marks of the step
+pub returns-in-Ok-clause-marked : goal.returns-in-Ok-clause-marked
+returns-in-Ok-clause-marked g c = λ honest.
+    inr (marked_so g.D.Disk c.args.fault (disk_of c.args.node) false (disk_of c.arm.new.self) _ _ _ _ _
+    c.arm.ensures.armed c.in-Ok.ensures.kept.disk c.arm-in-Ok.ensures.armed honest)
+
+pub returns-in-Err-clause-marked : goal.returns-in-Err-clause-marked
+returns-in-Err-clause-marked g c = λ honest.
+    let ended : Result Output Cause = Err c.in-Err.stop in
+    let engine = engine_of c.arm.new.self in
+    let kept = subst
+    (λ d. KeepsDisk g.D.Disk (disk_of c.arm.new.self) d (IsDeviceStop ended) (IsNearlyFull engine)
+    IsOwned)
+    (sym c.into_disk.ensures.disk) c.in-Err.ensures.kept.disk in
+    marked_end g.D.Disk c.args.fault (disk_of c.args.node) c.into_disk.result c.in-Err.stop
+    c.stop_by_itself.result.0 c.stop_by_itself.result.1
+    (IsDeviceStop {T = Output} (Err c.in-Err.stop)) (IsNearlyFull (engine_of c.arm.new.self))
+    (left_of g c honest) (λ fails. cc) (λ is. ap (λ (e : Cause). Err e) is)
+    c.stop_by_itself.ensures.told c.stop_by_itself.ensures.crashes
+    (disk_of c.arm.new.self) (IsDeviceStop ended) (IsNearlyFull engine) IsOwned
+    c.arm.ensures.armed kept honest c.stop_by_itself.ensures.marked

@@ -19,7 +19,7 @@ returns-clause-moved c =
     (moved nodes i it.0 between c.replace-node.result c.index-nodes-index.result
     (record { id = it.0; state = c.in_ok-state.state; ready = _ }) it.1 c.args.fault did c.requires
     c.replace-node.ensures.value refl took.refines (took.disk tt) took.only took.follows
-    took.grows (took.forgets tt))
+    took.grows (took.marked tt) (took.forgets tt))
 
 -- .. and each node that is up still has the limit for logs
 pub returns-clause-limits : goal.returns-clause-limits

@@ -17,8 +17,6 @@ returns-clause-allowed c = λ honest.
 pub returns-clause-past : goal.returns-clause-past
 returns-clause-past c =
     let left = state_of c.crash_in.new.slots.entries in
-    let since : List State = map state_of c.crash.new.self.past in (
-      subst (λ (disk : Slots). AddsMoment (past_states disk) since left) c.self.view_is
-          (left, (λ file. refl), ap (map state_of) c.crash.ensures.past),
-      c.crash.ensures.fault,
-    )
+    let since : List State = map state_of c.crash.new.self.past in
+    subst (λ (disk : Slots). AddsMoment (past_states disk) since left) c.self.view_is
+    (left, (λ file. refl), ap (map state_of) c.crash.ensures.past)

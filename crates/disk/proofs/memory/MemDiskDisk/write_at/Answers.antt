@@ -2,7 +2,7 @@ use Rattle.std.proofs.Common.{List, Result, map, refl, inl, subst}
 use Rattle.disk.specs.declared.error.DiskError.{DiskError}
 use Rattle.disk.specs.States.{State}
 use Rattle.disk.specs.Calls.{BegunWrite, WriteOutcome}
-use Rattle.disk.specs.Faults.{CallPasses}
+use Rattle.disk.specs.Faults.{CallPasses, fault_of}
 use Rattle.disk.specs.Memory.{IsReliable, Slots, past_states, state_of}
 use Rattle.disk.proofs.Agreement.{writes_agree}
 use Rattle.disk.proofs.Devices.{ends_past, fail_passes}
@@ -13,7 +13,7 @@ pub returns-then-ends_out_of_range-clause-passes : goal.returns-then-ends_out_of
 returns-then-ends_out_of_range-clause-passes c = λ honest.
     let slots = c.self.inside.slots.entries in
     let since : List State = map state_of c.fail.new.self.past in
-    subst (λ (disk : Slots). CallPasses (past_states disk) since disk.fault_at (IsReliable disk)
+    subst (λ (disk : Slots). CallPasses (past_states disk) since (fault_of disk.marks) (IsReliable disk)
     c.fail.result (state_of disk.slots) (state_of slots)
     (BegunWrite (state_of disk.slots) c.args.file c.args.at c.args.bytes.now))
     c.self.view_is

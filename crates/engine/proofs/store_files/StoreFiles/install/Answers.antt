@@ -4,12 +4,14 @@ use Rattle.manifest.specs.declared.TableLine.{TableLine}
 use Rattle.manifest.specs.{IsFit, NodeVersion}
 use Rattle.memtable.specs.declared.Memtable.{Memtable}
 use Rattle.memtable.specs.{HasFailedAdd, TableHolds}
-use Rattle.engine.specs.Errors.{IsEngineExternal}
+use Rattle.engine.specs.Errors.{FailsDevice, IsEngineExternal}
+use Rattle.engine.specs.declared.error.EngineError.TheVariants.{Disk}
+use Rattle.std.specs.Prelude.{◌≡◌, IfErr}
 use Rattle.engine.specs.KeepingLemmas.{answered, kept_as, kept_behind, kept_but, neither}
 use Rattle.engine.specs.LevelTables.{table_lines, with_flushed_line}
 use Rattle.engine.specs.OpenFiles.{batch_count, known_version, trimmed_count}
 use Rattle.engine.specs.StoreFiles.{flush_change}
-use Rattle.engine.proofs.Causes.{refuses}
+use Rattle.engine.proofs.Causes.{if_refuses, refuses}
 use Rattle.engine.proofs.Installed.{beside_new, count_kept, edit_is, edit_is_recorded, facts_kept}
 use Rattle.engine.proofs.Installed.{installed_holds, installed_usable, known, log_begins}
 use Rattle.engine.proofs.Installed.{manifest_begun, new_ends, new_served, none_begun, old_served}
@@ -389,3 +391,23 @@ returns-clause-kept g c =
     fits c.in_ok-edit.ensures.fit.1 room)
     (kept_as g.D.Disk (neither (λ f. absurd cc) (λ f. absurd cc)) (λ a b same. same)
     c.in_default.ensures.kept))
+
+-- .. and so where memory is short then
+pub returns-in_err-add-clause-kept : goal.returns-in_err-add-clause-kept
+returns-in_err-add-clause-kept g c =
+    let edit = c.in_ok-edit.edit in
+    let fits = subst (λ (n : NodeVersion). IsFit n.version edit) c.state-2.ensures
+    c.in_ok-edit.ensures.fit.0 in
+    kept_behind g.D.Disk (λ a b d before after. tt) c.begin.ensures.kept
+    (answered c.begin.result c.in_ok-begin.was)
+    (kept_but g.D.Disk (λ room. c.slots_reach_gates.ensures.full c.args.self.now.manifest edit
+    fits c.in_ok-edit.ensures.fit.1 room)
+    (kept_as g.D.Disk (neither (λ f. absurd cc) works) (λ a b same. same)
+    c.in_default.ensures.kept))
+  where
+    works : FailsDevice c.from_residual-in_err-add.result → ⊥
+    works fails =
+        let why = c.in_err-add.ensures.memory in
+        subst (λ r. IfErr r (λ e. e ≡ Disk → ⊥)) fails
+        (if_refuses c.from_residual-in_err-add.result (λ e. e ≡ Disk → ⊥)
+        c.from_residual-in_err-add.ensures.1 (λ is. absurd cc)) refl

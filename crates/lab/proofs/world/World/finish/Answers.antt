@@ -1,7 +1,7 @@
 use Rattle.disk.specs.{past_states}
 use Rattle.lab.specs.declared.report.NodeReport.{NodeReport}
 use Rattle.lab.specs.declared.report.Report.{Report}
-use Rattle.lab.specs.SimNodes.{state, failures}
+use Rattle.lab.specs.SimNodes.{state, failures, marks}
 use Rattle.lab.specs.Runs.{IsRun}
 use Rattle.lab.specs.Traces.{modelled_from}
 use Rattle.lab.proofs.Reports.{one_of, run_left}
@@ -20,6 +20,6 @@ returns-clause-history c = λ cs events choices steps run.
     run_left c.args.self.nodes.items c.args.self.frames.items cs events choices steps run.made report
     run.kept c.in_ok-nodes.ensures in
     let es = modelled_from 1 events choices in
-    one_of state failures past_states (λ (node : NodeReport). node.id) (λ (node : NodeReport). node.disk)
+    one_of state failures past_states marks (λ (node : NodeReport). node.id) (λ (node : NodeReport). node.disk)
     cs events choices report.steps.items report.nodes.items is.trace is.disks
     (c.one_history.ensures cs es run.made.lawful) (c.run_is_outcomes.ensures cs es)

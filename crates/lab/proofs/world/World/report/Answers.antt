@@ -2,7 +2,7 @@ use Rattle.std.proofs.Common.{List, subst, sym, ◌∙◌}
 use Rattle.disk.specs.{past_states}
 use Rattle.lab.specs.declared.report.Line.{Line}
 use Rattle.lab.specs.declared.sim_node.SimNode.{SimNode}
-use Rattle.lab.specs.SimNodes.{disk_in, state, failures}
+use Rattle.lab.specs.SimNodes.{disk_in, state, failures, marks}
 use Rattle.lab.specs.Traces.{modelled_from, IsTrace}
 use Rattle.lab.specs.Worlds.{HasHistory}
 use Rattle.lab.proofs.Reports.{disk_represents, disks_so_far, one_of, unarmed_so_far}
@@ -27,7 +27,7 @@ returns-clause-history c = λ cs events choices steps run.
     let es = modelled_from 1 events choices in
     subst (λ (l : List (List Line)). HasHistory self cs events l)
     (sym (c.deref.ensures.value ∙ run.kept))
-    (one_of state failures past_states (λ (sim : SimNode). sim.id) (λ (sim : SimNode). disk_in sim.state)
+    (one_of state failures past_states marks (λ (sim : SimNode). sim.id) (λ (sim : SimNode). disk_in sim.state)
     cs events choices steps self.nodes.items made.trace
     (disks_so_far self.nodes.items self.frames.items cs events choices steps made
     (λ sim. disk_represents c.disks_represent.ensures sim.state)) (c.one_history.ensures cs es made.lawful)
