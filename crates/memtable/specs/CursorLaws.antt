@@ -7,7 +7,7 @@ use Rattle.merge_iter.specs.declared.direction.Direction.{Direction}
 use Rattle.kv_types.specs.{Entry}
 use Rattle.merge_iter.specs.{Position, On, Off, Broken, IsApart}
 use Rattle.merge_iter.specs.EntryParts.{equal_parts}
-use Rattle.merge_iter.specs.{IsLawful}
+use Rattle.merge_iter.specs.{AreLawful}
 use Rattle.memtable.specs.declared.cursor.MemCursor.{MemCursor}
 use Rattle.memtable.specs.Maps.{VersionMap, MapHolds, HasRisingNumbers, versions_at, entry_version}
 use Rattle.memtable.specs.Maps.{version_entry}
@@ -66,12 +66,18 @@ mem_left cursor way = left_on (map_entries cursor.map.now.entries) way (mem_posi
 abbrev pub mem_most : MemCursor → ℕ
 mem_most cursor = length (map_entries cursor.map.now.entries)
 
-pub cursor_laws : IsLawful {C = MemCursor} {S = Unit {0}} (λ c _. MemCursorHolds c)
-    (λ _ _. Unit {0}) (λ _ _. Unit {0}) mem_left mem_most
+pub cursor_laws : AreLawful {C = MemCursor} {S = Unit {0}} {K = Unit {0}} (λ _. tt)
+    (λ _ _. Unit {0}) (λ _ c _. MemCursorHolds c) (λ _ _ _. Unit {0}) (λ _ _ _. Unit {0})
+    (λ _ _. Unit {0}) (λ _ _ _. Unit {0}) mem_left mem_most
 cursor_laws = record {
   itself = λ a. tt;
   through = λ a b c h k. tt;
-  stays = λ c a b h s. (tt, λ entry. ((λ x. x), (λ x. x)));
-  apart = λ c a s. apart c.map.now c.rising;
+  makes_itself = λ a. tt;
+  makes_through = λ r a b c h k. tt;
+  lasts = λ m a b h k. tt;
+  whole = λ a. tt;
+  stays = λ m c a b h s. (tt, λ entry. ((λ x. x), (λ x. x)), λ v w z. z);
+  suited = λ m c a b h s. (tt, λ entry. ((λ x. x), (λ x. x)), λ v w z. z);
+  apart = λ m c a s. apart c.map.now c.rising;
   within = λ c way. left_within (map_entries c.map.now.entries) way (mem_position c);
 }

@@ -112,11 +112,21 @@ impl<'a> Cursor for MemCursor<'a> {
 
     ghost position = { mem_position };
 
-    ghost holds = { λ c _. MemCursorHolds c };
+    ghost Meant = { Unit {0} };
 
-    ghost is_sound = { λ _ _. Unit {0} };
+    ghost as_is = { λ _. tt };
+
+    ghost is_intact = { λ _ _. Unit {0} };
+
+    ghost holds = { λ _ c _. MemCursorHolds c };
+
+    ghost is_sound = { λ _ _ _. Unit {0} };
 
     ghost keeps = { λ _ _. Unit {0} };
+
+    ghost suits = { λ _ _ _. Unit {0} };
+
+    ghost makes = { λ _ _ _. Unit {0} };
 
     ghost failures = { λ _. 0 };
 

@@ -99,8 +99,8 @@ impl Memtable {
     /// A cursor over all entries, which stands on none.
     pub fn cursor<'a>(&'a self) -> Result<MemCursor<'a>, MemtableError>
         ensures holds { IfOk result (λ cursor.
-            IsAlike (⟦<MemCursor<'a> as Cursor>⟧.holds cursor tt) (TableHolds self.now)) }
-        ensures sound { IfOk result (λ cursor. ⟦<MemCursor<'a> as Cursor>⟧.is_sound cursor tt) }
+            IsAlike (⟦<MemCursor<'a> as Cursor>⟧.holds tt cursor tt) (TableHolds self.now)) }
+        ensures sound { IfOk result (λ cursor. ⟦<MemCursor<'a> as Cursor>⟧.is_sound tt cursor tt) }
         ensures limits { IfOk result (λ cursor. (entry : Entry) → TableHolds self.now entry →
             KeepsEntryLimits entry) }
         ensures off { IfOk result (λ cursor. ⟦<MemCursor<'a> as Cursor>⟧.position cursor ≡ Off) }

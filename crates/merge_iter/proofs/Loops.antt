@@ -40,31 +40,31 @@ sum_set f (y ∷ xs) (suc i) x v e =
 up_to : (j i : ℕ) → j < i + 1 → (j < i) ⊎ (j ≡ i)
 up_to j i l = grind arith
 
-module _ {C S : Type 0} (holds : C → S → Entry → Type 0) (sound : C → S → Type 0)
+module _ {C S : Type 0} (holds : C → S → Entry → Type 0) (sound : C → S → Type 0) (suits : C → S → S → Type 0)
     (keeps : S → S → Type 0) (left : C → Direction → ℕ) (most : C → ℕ) where
   -- the first i children were moved
   pub record Passed (i : ℕ) (old : List C) (before : S) (new : List C) (now : S) : Type 0 where
-    pub moved : ChildrenKeep holds sound keeps most old before new now
+    pub moved : ChildrenKeep holds sound suits keeps most old before new now
     pub rest : (j : ℕ) (c : C) → i ≤ j → slice_get new j ≡ Some c → slice_get old j ≡ Some c
 
-  pub none_moved : IsLawful holds sound keeps left most → (old : List C) (before : S) → ChildrenKeep
-      holds sound keeps most old before old before
+  pub none_moved : IsLawful holds sound suits keeps left most → (old : List C) (before : S) → ChildrenKeep
+      holds sound suits keeps most old before old before
   none_moved laws old before = record {
     source = laws.itself before;
     len = refl;
     size = refl;
-    each = λ i c d p q. subst (λ x. EntriesStay holds sound c before x before)
-        (sym (one old i c d p q)) (stays_same holds sound c before);
+    each = λ i c d p q. subst (λ x. EntriesStay holds sound suits c before x before)
+        (sym (one old i c d p q)) (stays_same holds sound suits c before);
   }
 
-  pub begins : IsLawful holds sound keeps left most → (old : List C) (before : S) → Passed 0 old
+  pub begins : IsLawful holds sound suits keeps left most → (old : List C) (before : S) → Passed 0 old
       before old before
   begins laws old before = record { moved = none_moved laws old before; rest = λ j c l h. h }
 
-  pub move_one : IsLawful holds sound keeps left most → (old new : List C) (before now later : S)
+  pub move_one : IsLawful holds sound suits keeps left most → (old new : List C) (before now later : S)
       (i : ℕ) (x v : C) → slice_get new i ≡ Some x
-      → ChildrenKeep holds sound keeps most old before new now → MoveKeeps holds sound keeps most x
-      now v later → ChildrenKeep holds sound keeps most old before (slice_set new i v) later
+      → ChildrenKeep holds sound suits keeps most old before new now → MoveKeeps holds sound suits keeps most x
+      now v later → ChildrenKeep holds sound suits keeps most old before (slice_set new i v) later
   move_one laws old new before now later i x v at m step = record {
     source = laws.through before now later m.source step.source;
     len = length-set new i v ∙ m.len;
@@ -73,16 +73,16 @@ module _ {C S : Type 0} (holds : C → S → Entry → Type 0) (sound : C → S 
     each = λ j a b p e. elim (get_set new i v j b e) [
       | inl z ↦
           let q : slice_get old i ≡ Some a = subst (λ k. slice_get old k ≡ Some a) z.0 p in
-          subst (λ y. EntriesStay holds sound a before y later) (sym z.1)
-          (stays_through holds sound a x v before now later (m.each i a x q at) step.stays)
-      | inr q ↦ stays_through holds sound a b b before now later (m.each j a b p q.1)
+          subst (λ y. EntriesStay holds sound suits a before y later) (sym z.1)
+          (stays_through holds sound suits a x v before now later (m.each i a x q at) step.stays)
+      | inr q ↦ stays_through holds sound suits a b b before now later (m.each j a b p q.1)
           (laws.stays b now later step.source)
     ];
   }
 
-  pub passes : IsLawful holds sound keeps left most → (old new : List C) (before now later : S)
+  pub passes : IsLawful holds sound suits keeps left most → (old new : List C) (before now later : S)
       (i : ℕ) (x v : C) → slice_get new i ≡ Some x
-      → Passed i old before new now → MoveKeeps holds sound keeps most x now v later
+      → Passed i old before new now → MoveKeeps holds sound suits keeps most x now v later
       → Passed (i + 1) old before (slice_set new i v) later
   passes laws old new before now later i x v at p step = record {
     moved = move_one laws old new before now later i x v at p.moved step;
@@ -98,10 +98,10 @@ module _ {C S : Type 0} (holds : C → S → Entry → Type 0) (sound : C → S 
     Brought way start Given i new now = Given → (j : ℕ) (c : C) → j < i → slice_get new j ≡ Some c
         → IsFirst way (λ p. holds c now p × WalkMeets way start p) (position c)
 
-    pub brings : IsLawful holds sound keeps left most → (way : Direction) (start : WalkStart)
+    pub brings : IsLawful holds sound suits keeps left most → (way : Direction) (start : WalkStart)
         (Given : Type 0) (old new : List C) (before now later : S) (i : ℕ) (x v : C)
         (r : Result (Unit {0}) CursorError) → slice_get new i ≡ Some x
-        → ChildrenKeep holds sound keeps most old before new now → MoveKeeps holds sound keeps most
+        → ChildrenKeep holds sound suits keeps most old before new now → MoveKeeps holds sound suits keeps most
         x now v later → r ≡ Ok tt
         → (Given → EachChild (λ c. sound c before) old)
         → (Given → sound x now → MoveFinds way start (holds x now) r (position v))
@@ -109,7 +109,7 @@ module _ {C S : Type 0} (holds : C → S → Entry → Type 0) (sound : C → S 
         later
     brings laws way start Given old new before now later i x v r at m step ok each finds done given
         j c l e =
-        let all = all_sound holds sound keeps most old new before now m (each given) in
+        let all = all_sound holds sound suits keeps most old new before now m (each given) in
         elim (get_set new i v j c e) [
           | inl z ↦
               let here : IsFirst way (λ p. holds x now p × WalkMeets way start p) (position v) =
@@ -127,12 +127,12 @@ module _ {C S : Type 0} (holds : C → S → Entry → Type 0) (sound : C → S 
         ]
 
     -- one step of child k, on an entry that no other child holds, brings all past the entry
-    pub stepped : IsLawful holds sound keeps left most → (way : Direction) (xs : List C)
+    pub stepped : IsLawful holds sound suits keeps left most → (way : Direction) (xs : List C)
         (before later : S) (k : ℕ) (y x v : C) (entry : Entry) (r : Result (Unit {0}) CursorError)
         → slice_get xs k ≡ Some x → slice_get xs k ≡ Some y → position y ≡ On entry
         → AreApart (λ c. holds c before) xs → EachChild (λ c. sound c before) xs → ChildrenAreFirst
         (λ c. holds c before) position way (At entry) xs
-        → MoveKeeps holds sound keeps most x before v later → IfOn (position x)
+        → MoveKeeps holds sound suits keeps most x before v later → IfOn (position x)
         (λ q. MoveFinds way (After q) (holds x before) r (position v))
         → OnOk r (ChildrenAreFirst (λ c. holds c later) position way (After entry)
         (slice_set xs k v))
@@ -157,7 +157,7 @@ module _ {C S : Type 0} (holds : C → S → Entry → Type 0) (sound : C → S 
               (λ p h eq. q.0 (apart j k c x p entry q.1 at h here.0.0 eq)) (first j c q.1))
         ]
 
-  pub left_most : IsLawful holds sound keeps left most → (way : Direction) (xs : List C)
+  pub left_most : IsLawful holds sound suits keeps left most → (way : Direction) (xs : List C)
       → sum_by (λ c. left c way) xs ≤ sum_by most xs
   left_most laws way xs = sum_by-le-sum_by (λ c. left c way) most xs (λ c. laws.within c way)
 

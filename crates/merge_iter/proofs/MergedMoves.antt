@@ -14,7 +14,7 @@ use Rattle.merge_iter.specs.Positions.{WalkStart, WalkMeets}
 use Rattle.merge_iter.specs.Merging.{EachChild, ChildrenKeep, UnionHolds, IsPlaced, IsMerge}
 use Rattle.merge_iter.specs.Merging.{merged_most, child_position, union_position}
 use Rattle.merge_iter.specs.Moves.{MoveKeeps, ErrorCauses, CanStep}
-use Rattle.merge_iter.specs.Unions.{all_sound, all_apart, any_alike, first_kept}
+use Rattle.merge_iter.specs.Unions.{all_sound, all_apart, all_suited, any_alike, first_kept}
 
 -- a refusal to a union that stood on an entry
 pub tells_merged : {A : Type 0} (S T : Type 0) (s : Position) (f h : ℕ)
@@ -49,19 +49,19 @@ child_at position xs at was k x e can is =
 flip : (P Q : Entry → Type 0) → IsAlike P Q → IsAlike Q P
 flip P Q same entry = ((same entry).1, (same entry).0)
 
-module _ {C S : Type 0} (holds : C → S → Entry → Type 0) (sound : C → S → Type 0)
+module _ {C S : Type 0} (holds : C → S → Entry → Type 0) (sound : C → S → Type 0) (suits : C → S → S → Type 0)
     (keeps : S → S → Type 0) (most : C → ℕ) (position : C → Position) where
-  pub merge_after : (old new : List C) (before now : S) (was at : Place) → ChildrenKeep holds sound
+  pub merge_after : (old new : List C) (before now : S) (was at : Place) → ChildrenKeep holds sound suits
       keeps most old before new now → IsPlaced (λ c. holds c now) position new at
       → IsMerge (λ c. holds c before) position (λ c. sound c before) old was
       → IsMerge (λ c. holds c now) position (λ c. sound c now) new at
   merge_after old new before now was at m placed merge = record {
-    each = all_sound holds sound keeps most old new before now m merge.each;
-    apart = all_apart holds sound keeps most old new before now m merge.each merge.apart;
+    each = all_sound holds sound suits keeps most old new before now m merge.each;
+    apart = all_apart holds sound suits keeps most old new before now m merge.each merge.apart;
     placed = placed;
   }
 
-  pub finds_after : (old new : List C) (before now : S) → ChildrenKeep holds sound keeps most old
+  pub finds_after : (old new : List C) (before now : S) → ChildrenKeep holds sound suits keeps most old
       before new now → EachChild (λ c. sound c before) old
       → (way : Direction) (start : WalkStart) (s : Position) → IsFirst way
       (λ p. UnionHolds (λ c. holds c now) new p × WalkMeets way start p) s → IsFirst way
@@ -69,22 +69,25 @@ module _ {C S : Type 0} (holds : C → S → Entry → Type 0) (sound : C → S 
   finds_after old new before now m each way start s =
       first_kept way start s (UnionHolds (λ c. holds c now) new)
       (UnionHolds (λ c. holds c before) old)
-      (flip _ _ (any_alike holds sound keeps most old new before now m each))
+      (flip _ _ (any_alike holds sound suits keeps most old new before now m each))
 
   -- what a move of the union keeps
   pub union_moves : {M : Type 0} (children : M → List C) (at : M → Place) (old new : M)
-      (before now : S) → ChildrenKeep holds sound keeps most (children old) before (children new)
+      (before now : S) → ChildrenKeep holds sound suits keeps most (children old) before (children new)
       now
       → (IsMerge (λ c. holds c before) position (λ c. sound c before) (children old) (at old)
       → IsMerge (λ c. holds c now) position (λ c. sound c now) (children new) (at new))
       → MoveKeeps {C = M} (λ m s. UnionHolds (λ c. holds c s) (children m))
-      (λ m s. IsMerge (λ c. holds c s) position (λ c. sound c s) (children m) (at m)) keeps
+      (λ m s. IsMerge (λ c. holds c s) position (λ c. sound c s) (children m) (at m))
+      (λ m a b. EachChild (λ c. suits c a b) (children m)) keeps
       (λ m. merged_most most (children m)) old before new now
   union_moves children at old new before now m sound_after = record {
     source = m.source;
     stays = λ merge. (
       sound_after merge,
-      any_alike holds sound keeps most (children old)
+      any_alike holds sound suits keeps most (children old)
+          (children new) before now m merge.each,
+      all_suited holds sound suits keeps most (children old)
           (children new) before now m merge.each,
     );
     size = ap (λ n. n + 1) m.size;

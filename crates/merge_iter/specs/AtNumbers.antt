@@ -1,19 +1,19 @@
 -- What a cursor over the entries shown at a number keeps.
-use Rattle.std.proofs.Common.{◌≤◌, ◌+◌, ℕ, arith}
+use Rattle.std.proofs.Common.{Bool, ◌≤◌, ◌+◌, ℕ, arith}
 use Rattle.merge_iter.specs.declared.direction.Direction.{Direction}
 use Rattle.merge_iter.specs.declared.direction.Direction.TheVariants.{Forward, Backward}
 use Rattle.merge_iter.specs.declared.mode.Mode.{Mode}
 use Rattle.merge_iter.specs.declared.mode.Mode.TheVariants as mode
 use Rattle.kv_types.specs.{Entry}
 use Rattle.merge_iter.specs.Positions.{Position}
-use Rattle.merge_iter.specs.Moves.{IsLawful}
+use Rattle.merge_iter.specs.Moves.{AreLawful, IsLawful, law_at}
 use Rattle.kv_types.specs.{IsShown}
 use Rattle.merge_iter.specs.ShownEntries.{IsSettled, left_in}
 use Rattle.merge_iter.specs.Searches.{all_shown_alike, settled_alike}
 
-module _ {C S : Type 0} (holds : C → S → Entry → Type 0) (sound : C → S → Type 0)
+module _ {C S : Type 0} (holds : C → S → Entry → Type 0) (sound : C → S → Type 0) (suits : C → S → S → Type 0)
     (keeps : S → S → Type 0) (left : C → Direction → ℕ) (most : C → ℕ) (position : C → Position)
-    (laws : IsLawful holds sound keeps left most) where
+    (laws : IsLawful holds sound suits keeps left most) where
   within : (c : C) (m : Mode) (way : Direction) → left_in (left c) (most c) m way ≤ most c + 2
   within c mode.Inner Forward = let h = laws.within c Forward in omega (arith, h)
   within c mode.Inner Backward = omega arith
@@ -24,7 +24,8 @@ module _ {C S : Type 0} (holds : C → S → Entry → Type 0) (sound : C → S 
 
   pub at_laws : {M : Type 0} (inner : M → C) (at : M → ℕ) (m : M → Mode) (kept : M → Entry)
       → IsLawful {C = M} (λ a s. IsShown (at a) (holds (inner a) s)) (λ a s. sound (inner a) s
-      × IsSettled (at a) (holds (inner a) s) (m a) (position (inner a)) (kept a)) keeps
+      × IsSettled (at a) (holds (inner a) s) (m a) (position (inner a)) (kept a))
+      (λ a s t. suits (inner a) s t) keeps
       (λ a. left_in (left (inner a)) (most (inner a)) (m a)) (λ a. most (inner a) + 2)
   at_laws inner at m kept = record {
     itself = laws.itself;
@@ -37,7 +38,51 @@ module _ {C S : Type 0} (holds : C → S → Entry → Type 0) (sound : C → S 
                 (position (inner a)) (kept a) h.1,
           ),
           all_shown_alike (at a) (holds (inner a) s) (holds (inner a) t) z.1,
+          z.2,
+        );
+    suited = λ a s t k h.
+        let z = laws.suited (inner a) s t k h.0 in (
+          (
+            z.0,
+            settled_alike (at a) (holds (inner a) s) (holds (inner a) t) z.1 (m a)
+                (position (inner a)) (kept a) h.1,
+          ),
+          all_shown_alike (at a) (holds (inner a) s) (holds (inner a) t) z.1,
+          z.2,
         );
     apart = λ a s h p q hp hq e. laws.apart (inner a) s h.0 p q hp.newest.seen.0 hq.newest.seen.0 e;
     within = λ a way. within (inner a) (m a) way;
+  }
+
+module _ {C S K : Type 0} {as_is : S → K} {is_intact : K → S → Type 0}
+    (holds : K → C → S → Entry → Type 0) (sound : K → C → S → Type 0) (suits : C → S → S → Type 0)
+    (keeps : S → S → Type 0) (left : C → Direction → ℕ) (most : C → ℕ) (position : C → Position)
+    {makes : Bool → S → S → Type 0} (laws : AreLawful as_is is_intact holds sound suits keeps makes left most) where
+  all_within : (c : C) (m : Mode) (way : Direction) → left_in (left c) (most c) m way ≤ most c + 2
+  all_within c mode.Inner Forward = let h = laws.within c Forward in omega (arith, h)
+  all_within c mode.Inner Backward = omega arith
+  all_within c mode.Kept Forward = omega arith
+  all_within c mode.Kept Backward = let h = laws.within c Backward in omega (arith, h)
+  all_within c mode.Off way = omega arith
+  all_within c mode.Broken way = omega arith
+
+  pub view_laws : {M : Type 0} (inner : M → C) (at : M → ℕ) (m : M → Mode) (kept : M → Entry)
+      → AreLawful {C = M} as_is is_intact (λ w a s. IsShown (at a) (holds w (inner a) s))
+      (λ w a s. sound w (inner a) s × IsSettled (at a) (holds w (inner a) s) (m a)
+      (position (inner a)) (kept a)) (λ a s t. suits (inner a) s t) keeps makes
+      (λ a. left_in (left (inner a)) (most (inner a)) (m a)) (λ a. most (inner a) + 2)
+  view_laws inner at m kept = record {
+    itself = laws.itself;
+    through = laws.through;
+    makes_itself = laws.makes_itself;
+    makes_through = laws.makes_through;
+    lasts = laws.lasts;
+    whole = laws.whole;
+    stays = λ w. (at_laws (holds w) (sound w) suits keeps left most position (law_at laws w) inner
+        at m kept).stays;
+    suited = λ w. (at_laws (holds w) (sound w) suits keeps left most position (law_at laws w) inner
+        at m kept).suited;
+    apart = λ w. (at_laws (holds w) (sound w) suits keeps left most position (law_at laws w) inner
+        at m kept).apart;
+    within = λ a way. all_within (inner a) (m a) way;
   }

@@ -10,7 +10,7 @@ use Rattle.merge_iter.specs.declared.list.ListCursor.{ListCursor}
 use Rattle.merge_iter.specs.Order.{IsApart}
 use Rattle.merge_iter.specs.Positions.{On}
 use Rattle.merge_iter.specs.ListEntries.{position_at, ListHolds, IsSortedList, entries_left}
-use Rattle.merge_iter.specs.Moves.{IsLawful}
+use Rattle.merge_iter.specs.Moves.{AreLawful}
 use Rattle.merge_iter.specs.EntryOrder.{never, same_right, equal_back}
 use Rattle.std.proofs.lemmas.Bool.{ltb-true}
 
@@ -40,13 +40,19 @@ pub left_within : (xs : List OwnedEntry) (at : ℕ) (way : Direction) → entrie
 left_within xs at Forward = omega arith
 left_within xs at Backward = behind at (length xs)
 
-pub list_laws : IsLawful {C = ListCursor} {S = Unit {0}} (λ c _. ListHolds c.entries.items)
-    (λ c _. IsSortedList c.entries.items) (λ _ _. Unit {0}) (λ c. entries_left c.entries.items c.at)
+pub list_laws : AreLawful {C = ListCursor} {S = Unit {0}} {K = Unit {0}} (λ _. tt) (λ _ _. Unit {0})
+    (λ _ c _. ListHolds c.entries.items) (λ _ c _. IsSortedList c.entries.items)
+    (λ _ _ _. Unit {0}) (λ _ _. Unit {0}) (λ _ _ _. Unit {0}) (λ c. entries_left c.entries.items c.at)
     (λ c. length c.entries.items)
 list_laws = record {
   itself = λ a. tt;
   through = λ a b c h k. tt;
-  stays = λ c a b h s. (s, λ entry. ((λ x. x), (λ x. x)));
-  apart = λ c a s. one_place c.entries.items s;
+  makes_itself = λ a. tt;
+  makes_through = λ r a b c h k. tt;
+  lasts = λ m a b h k. tt;
+  whole = λ a. tt;
+  stays = λ m c a b h s. (s, λ entry. ((λ x. x), (λ x. x)), λ v w z. z);
+  suited = λ m c a b h s. (s, λ entry. ((λ x. x), (λ x. x)), λ v w z. z);
+  apart = λ m c a s. one_place c.entries.items s;
   within = λ c way. left_within c.entries.items c.at way;
 }

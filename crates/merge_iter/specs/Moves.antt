@@ -1,5 +1,5 @@
 -- What a cursor's moves do.
-use Rattle.std.specs.Prelude.{◌≡◌, ◌↔◌, ℕ, ◌≤◌, Result, OnOk, IsErrOf}
+use Rattle.std.specs.Prelude.{◌≡◌, ◌↔◌, ℕ, ◌≤◌, Result, Ok, Err, OnOk, IsErrOf, Bool, true, false}
 use Rattle.merge_iter.specs.declared.direction.Direction.{Direction}
 use Rattle.merge_iter.specs.declared.error.CursorError.{CursorError}
 use Rattle.merge_iter.specs.declared.error.CursorError.TheVariants.{Disk, Damaged, Memory, Failed}
@@ -35,11 +35,14 @@ pub record ErrorCauses {R : Type 0} (was_sound was_broken may_allocate : Type 0)
   -- `Failed` is reported exactly where the cursor was broken
   pub failed : IsErrOf result Failed ↔ was_broken
 
-module _ {C S : Type 0} (holds : C → S → Entry → Type 0) (is_sound : C → S → Type 0) where
-  -- a cursor that was sound is so, and has the same entries
+module _ {C S : Type 0} (holds : C → S → Entry → Type 0) (is_sound : C → S → Type 0)
+    (suits : C → S → S → Type 0) where
+  -- A cursor that was sound is so, and has the same entries. What served it as the first source did
+  -- still does.
   abbrev pub EntriesStay : C → S → C → S → Type 0
   EntriesStay old before new now =
       is_sound old before → is_sound new now × IsAlike (holds new now) (holds old before)
+      × ((a b : S) → suits old a b → suits new a b)
 
   -- what all cursors of a kind have in common
   pub record IsLawful (keeps : S → S → Type 0) (left : C → Direction → ℕ) (most : C → ℕ)
@@ -49,6 +52,8 @@ module _ {C S : Type 0} (holds : C → S → Entry → Type 0) (is_sound : C →
     pub through : (a b c : S) → keeps a b → keeps b c → keeps a c
     -- moves of other cursors leave a cursor sound, with the same entries
     pub stays : (c : C) (a b : S) → keeps a b → EntriesStay c a c b
+    -- a source that serves a cursor as another does leaves it sound, with the same entries
+    pub suited : (c : C) (a b : S) → suits c a b → EntriesStay c a c b
     -- no two entries share key and number
     pub apart : (c : C) (a : S) → is_sound c a → IsApart (holds c a)
     -- no cursor has more steps left than from end to end
@@ -60,3 +65,75 @@ module _ {C S : Type 0} (holds : C → S → Entry → Type 0) (is_sound : C →
     pub source : keeps before now
     pub stays : EntriesStay old before new now
     pub size : most new ≡ most old
+
+-- what all cursors of a kind have in common, whatever their source was meant to hold
+pub record AreLawful {C S K : Type 0} (as_is : S → K) (is_intact : K → S → Type 0)
+    (holds : K → C → S → Entry → Type 0) (is_sound : K → C → S → Type 0) (suits : C → S → S → Type 0)
+    (keeps : S → S → Type 0) (makes : Bool → S → S → Type 0) (left : C → Direction → ℕ)
+    (most : C → ℕ) : Type 0 where
+  -- moves may be none, and moves may follow moves
+  pub itself : (a : S) → keeps a a
+  pub through : (a b c : S) → keeps a b → keeps b c → keeps a c
+  -- a move may follow those that report nothing
+  pub makes_itself : (a : S) → makes false a a
+  pub makes_through : (reported : Bool) (a b c : S) → makes false a b → makes reported b c
+      → makes reported a c
+  -- moves leave an intact source intact, and each source is intact as it is
+  pub lasts : (meant : K) (a b : S) → keeps a b → is_intact meant a → is_intact meant b
+  pub whole : (a : S) → is_intact (as_is a) a
+  -- moves of other cursors leave a cursor sound, with the same entries
+  pub stays : (meant : K) (c : C) (a b : S) → keeps a b
+      → EntriesStay (holds meant) (is_sound meant) suits c a c b
+  -- and so does what suits it
+  pub suited : (meant : K) (c : C) (a b : S) → suits c a b
+      → EntriesStay (holds meant) (is_sound meant) suits c a c b
+  -- no two entries share key and number
+  pub apart : (meant : K) (c : C) (a : S) → is_sound meant c a → IsApart (holds meant c a)
+  -- no cursor has more steps left than from end to end
+  pub within : (c : C) (way : Direction) → left c way ≤ most c
+
+module _ {C S K : Type 0} {as_is : S → K} {is_intact : K → S → Type 0}
+    {holds : K → C → S → Entry → Type 0} {is_sound : K → C → S → Type 0} {suits : C → S → S → Type 0}
+    {keeps : S → S → Type 0} {makes : Bool → S → S → Type 0} {left : C → Direction → ℕ}
+    {most : C → ℕ} where
+  pub law_at : AreLawful as_is is_intact holds is_sound suits keeps makes left most → (meant : K)
+      → IsLawful (holds meant) (is_sound meant) suits keeps left most
+  law_at laws meant = record {
+    itself = laws.itself;
+    through = laws.through;
+    stays = laws.stays meant;
+    suited = laws.suited meant;
+    apart = laws.apart meant;
+    within = laws.within;
+  }
+
+-- the effect of every move, wherever it leads, whatever the source was meant to hold
+pub record Moved {C S K : Type 0} (holds : K → C → S → Entry → Type 0)
+    (is_sound : K → C → S → Type 0) (suits : C → S → S → Type 0) (keeps : S → S → Type 0)
+    (most : C → ℕ) (old : C) (before : S) (new : C) (now : S) : Type 0 where
+  pub source : keeps before now
+  pub stays : (meant : K) → EntriesStay (holds meant) (is_sound meant) suits old before new now
+  pub size : most new ≡ most old
+
+module _ {C S K : Type 0} {holds : K → C → S → Entry → Type 0} {is_sound : K → C → S → Type 0}
+    {suits : C → S → S → Type 0} {keeps : S → S → Type 0} {most : C → ℕ} {old : C} {before : S}
+    {new : C} {now : S} where
+  pub one_move : Moved holds is_sound suits keeps most old before new now → (meant : K)
+      → MoveKeeps (holds meant) (is_sound meant) suits keeps most old before new now
+  one_move m meant = record { source = m.source; stays = m.stays meant; size = m.size }
+
+  pub all_moves : K → ((meant : K) → MoveKeeps (holds meant) (is_sound meant) suits keeps most old
+      before new now) → Moved holds is_sound suits keeps most old before new now
+  all_moves here f = record {
+    source = (f here).source;
+    stays = λ meant. (f meant).stays;
+    size = (f here).size;
+  }
+
+-- whether the move reports the device
+abbrev pub reports : {R : Type 0} → Result R CursorError → Bool
+reports (Ok x) = false
+reports (Err Disk) = true
+reports (Err Damaged) = false
+reports (Err Memory) = false
+reports (Err Failed) = false

@@ -6,7 +6,7 @@ ghost use Rattle.merge_iter.specs.KeptEntries.{kept_entry};
 ghost use Rattle.kv_types.specs.{IsShown};
 ghost use Rattle.merge_iter.specs.ShownEntries.{IsSettled, view_position, left_in};
 ghost use Rattle.merge_iter.specs.Views.{IsView};
-ghost use Rattle.merge_iter.specs.AtNumbers.{at_laws};
+ghost use Rattle.merge_iter.specs.AtNumbers.{view_laws};
 
 use crate::cursor::Cursor;
 use crate::error::CursorError;
@@ -33,13 +33,14 @@ impl<C: Cursor> AtNumber<C> {
     /// The entries of this cursor that the view at the number shows. It stands on none.
     pub fn new(alloc: Global, inner: C, at: u64) -> Self
         ensures off { ⟦<AtNumber<C> as Cursor>⟧.position result ≡ Off }
-        ensures sound { (source : C.Source) → C.is_sound inner source →
-            ⟦<AtNumber<C> as Cursor>⟧.is_sound result source }
-        ensures entries { (source : C.Source) →
-            IsAlike (⟦<AtNumber<C> as Cursor>⟧.holds result source)
-            (IsShown at (C.holds inner source)) }
-        ensures view { (source : C.Source) → C.is_sound inner source →
-            IsView at (C.holds inner source) (⟦<AtNumber<C> as Cursor>⟧.holds result source) }
+        ensures sound { (meant : C.Meant) (source : C.Source) → C.is_sound meant inner source →
+            ⟦<AtNumber<C> as Cursor>⟧.is_sound meant result source }
+        ensures entries { (meant : C.Meant) (source : C.Source) →
+            IsAlike (⟦<AtNumber<C> as Cursor>⟧.holds meant result source)
+            (IsShown at (C.holds meant inner source)) }
+        ensures view { (meant : C.Meant) (source : C.Source) → C.is_sound meant inner source →
+            IsView at (C.holds meant inner source)
+            (⟦<AtNumber<C> as Cursor>⟧.holds meant result source) }
     {
         AtNumber {
             inner,
@@ -55,12 +56,22 @@ impl<C: Cursor> Cursor for AtNumber<C> {
 
     ghost position = { λ a. view_position a.mode (C.position a.inner) (kept_entry a.kept) };
 
-    ghost holds = { λ a source. IsShown a.at (C.holds a.inner source) };
+    ghost Meant = { C.Meant };
 
-    ghost is_sound = { λ a source. C.is_sound a.inner source × IsSettled a.at
-        (C.holds a.inner source) a.mode (C.position a.inner) (kept_entry a.kept) };
+    ghost as_is = { C.as_is };
+
+    ghost is_intact = { C.is_intact };
+
+    ghost holds = { λ meant a source. IsShown a.at (C.holds meant a.inner source) };
+
+    ghost is_sound = { λ meant a source. C.is_sound meant a.inner source × IsSettled a.at
+        (C.holds meant a.inner source) a.mode (C.position a.inner) (kept_entry a.kept) };
 
     ghost keeps = { C.keeps };
+
+    ghost suits = { λ a s t. C.suits a.inner s t };
+
+    ghost makes = { C.makes };
 
     ghost failures = { C.failures };
 
@@ -153,6 +164,6 @@ impl<C: Cursor> Cursor for AtNumber<C> {
         Ok(())
     }
 
-    ghost laws = { at_laws C.holds C.is_sound C.keeps C.left C.most C.position C.laws (λ a. a.inner)
-        (λ a. a.at) (λ a. a.mode) (λ a. kept_entry a.kept) };
+    ghost laws = { view_laws C.holds C.is_sound C.suits C.keeps C.left C.most C.position C.laws
+        (λ a. a.inner) (λ a. a.at) (λ a. a.mode) (λ a. kept_entry a.kept) };
 }

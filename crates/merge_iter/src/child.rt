@@ -5,10 +5,10 @@ ghost use Rattle.kv_types.specs.{Entry};
 ghost use Rattle.merge_iter.specs.Order.{EntryPrecedes, entry_cmp};
 ghost use Rattle.merge_iter.specs.Positions.{AtEnd, At, After, WalkMeets, IsOn, IfOn, IsBroken};
 ghost use Rattle.merge_iter.specs.Positions.{IsFirst};
-ghost use Rattle.merge_iter.specs.Moves.{CanStep, MoveFinds};
+ghost use Rattle.merge_iter.specs.Moves.{CanStep, MoveFinds, reports};
 ghost use Rattle.merge_iter.specs.Merging.{IsOpposite};
 ghost use Rattle.merge_iter.specs.declared.direction.Direction.{Direction as Way};
-ghost use Rattle.merge_iter.specs.LentCursors.{KeepsCursor, RefusesMove};
+ghost use Rattle.merge_iter.specs.LentCursors.{IsIntact, KeepsCursor, RefusesMove};
 
 use crate::cursor::Cursor;
 use crate::direction::Direction;
@@ -50,13 +50,14 @@ pub fn step<C: Cursor>(
 ) -> Result<(), CursorError>
     requires { CanStep (C.position child.old) }
     ensures moves { KeepsCursor C.Cursor child.old source.old child.new source.new }
-    ensures causes { RefusesMove C.Cursor (C.is_sound child.old source.old)
+    ensures device { C.makes (reports result) source.old source.new }
+    ensures causes { RefusesMove C.Cursor (IsIntact C.Cursor child.old source.old)
         (IsBroken (C.position child.old)) C.steps_allocate source.old source.new result }
     ensures broken { IsErr result ↔ IsBroken (C.position child.new) }
     ensures ends { OnOk result (C.left child.new way < C.left child.old way) }
-    ensures finds { C.is_sound child.old source.old →
+    ensures finds { (meant : C.Meant) → C.is_sound meant child.old source.old →
         IfOn (C.position child.old)
-        (λ entry. MoveFinds way (After entry) (C.holds child.old source.old) result
+        (λ entry. MoveFinds way (After entry) (C.holds meant child.old source.old) result
         (C.position child.new)) }
 {
     match way {
@@ -72,11 +73,12 @@ pub fn start<C: Cursor>(
     source: &mut C::Source,
 ) -> Result<(), CursorError>
     ensures moves { KeepsCursor C.Cursor child.old source.old child.new source.new }
-    ensures causes { RefusesMove C.Cursor (C.is_sound child.old source.old) ⊥ C.steps_allocate
+    ensures device { C.makes (reports result) source.old source.new }
+    ensures causes { RefusesMove C.Cursor (IsIntact C.Cursor child.old source.old) ⊥ C.steps_allocate
         source.old source.new result }
     ensures broken { IsErr result ↔ IsBroken (C.position child.new) }
-    ensures finds { C.is_sound child.old source.old →
-        MoveFinds way AtEnd (C.holds child.old source.old) result (C.position child.new) }
+    ensures finds { (meant : C.Meant) → C.is_sound meant child.old source.old →
+        MoveFinds way AtEnd (C.holds meant child.old source.old) result (C.position child.new) }
 {
     match way {
         Direction::Forward => child.first(source),
@@ -92,13 +94,14 @@ pub fn turn<C: Cursor>(
     source: &mut C::Source,
 ) -> Result<(), CursorError>
     ensures moves { KeepsCursor C.Cursor child.old source.old child.new source.new }
-    ensures causes { RefusesMove C.Cursor (C.is_sound child.old source.old) ⊥ C.steps_allocate
+    ensures device { C.makes (reports result) source.old source.new }
+    ensures causes { RefusesMove C.Cursor (IsIntact C.Cursor child.old source.old) ⊥ C.steps_allocate
         source.old source.new result }
-    ensures turns { (was : Way) (entry : Entry) → IsOpposite was way →
-        C.is_sound child.old source.old →
-        IsFirst was (λ p. C.holds child.old source.old p × WalkMeets was (At entry) p)
+    ensures turns { (meant : C.Meant) → (was : Way) (entry : Entry) → IsOpposite was way →
+        C.is_sound meant child.old source.old →
+        IsFirst was (λ p. C.holds meant child.old source.old p × WalkMeets was (At entry) p)
         (C.position child.old) →
-        MoveFinds way (After entry) (C.holds child.old source.old) result (C.position child.new) }
+        MoveFinds way (After entry) (C.holds meant child.old source.old) result (C.position child.new) }
 {
     if child.valid() {
         step(child, way, source)

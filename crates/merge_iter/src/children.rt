@@ -9,7 +9,8 @@ ghost use Rattle.merge_iter.specs.Merging.{IsNearest, IsOpposite};
 ghost use Rattle.merge_iter.specs.Merging.{IsPlaced, union_position, left_along, merged_left};
 ghost use Rattle.merge_iter.specs.declared.direction.Direction.{Direction as Way};
 ghost use Rattle.merge_iter.specs.declared.direction.Direction.TheVariants.{Forward};
-ghost use Rattle.merge_iter.specs.LentCursors.{AreDisjoint, AreFirst, AreSound, KeepsChildren};
+ghost use Rattle.merge_iter.specs.Moves.{reports};
+ghost use Rattle.merge_iter.specs.LentCursors.{AreDisjoint, AreFirst, AreIntact, AreSound, KeepsChildren};
 ghost use Rattle.merge_iter.specs.LentCursors.{RefusesMove, union_of};
 
 use crate::child::{precedes, start, step, turn};
@@ -57,11 +58,11 @@ fn nearest<C: Cursor>(children: &Vec<C>, way: Direction) -> Option<usize>
 
 /// Where the union stands, once each child stands on its first entry from the start on.
 pub fn settle<C: Cursor>(children: &Vec<C>, way: Direction) -> Place
-    ensures settles { (start : WalkStart) (source : C.Source) →
-        AreFirst C.Cursor way start children.now.items source →
-        IsFirst way (λ p. union_of C.Cursor children.now.items source p × WalkMeets way start p)
+    ensures settles { (meant : C.Meant) (start : WalkStart) (source : C.Source) →
+        AreFirst C.Cursor meant way start children.now.items source →
+        IsFirst way (λ p. union_of C.Cursor meant children.now.items source p × WalkMeets way start p)
         (union_position C.position children.now.items result)
-        × IsPlaced (λ c. C.holds c source) C.position children.now.items result }
+        × IsPlaced (λ c. C.holds meant c source) C.position children.now.items result }
     ensures left { merged_left C.left C.most children.now.items result way
         ≤ sum_by (λ c. C.left c way) children.now.items }
     ensures unbroken { IsBroken (union_position C.position children.now.items result) → ⊥ }
@@ -78,12 +79,13 @@ pub fn start_all<C: Cursor>(
     way: Direction,
     source: &mut C::Source,
 ) -> Result<(), CursorError>
-    ensures moves { KeepsChildren C.Cursor children.old.items source.old children.new.items
+    ensures moves { (meant : C.Meant) → KeepsChildren C.Cursor meant children.old.items source.old children.new.items
         source.new }
-    ensures causes { RefusesMove C.Cursor (AreSound C.Cursor children.old.items source.old) ⊥
+    ensures device { C.makes (reports result) source.old source.new }
+    ensures causes { RefusesMove C.Cursor (AreIntact C.Cursor children.old.items source.old) ⊥
         C.steps_allocate source.old source.new result }
-    ensures finds { AreSound C.Cursor children.old.items source.old →
-        OnOk result (AreFirst C.Cursor way AtEnd children.new.items source.new) }
+    ensures finds { (meant : C.Meant) → AreSound C.Cursor meant children.old.items source.old →
+        OnOk result (AreFirst C.Cursor meant way AtEnd children.new.items source.new) }
 {
     for i in 0..children.len() {
         start(&mut children[i], way, source)?;
@@ -98,12 +100,13 @@ pub fn seek_all<C: Cursor>(
     key: &[u8],
     number: u64,
 ) -> Result<(), CursorError>
-    ensures moves { KeepsChildren C.Cursor children.old.items source.old children.new.items
+    ensures moves { (meant : C.Meant) → KeepsChildren C.Cursor meant children.old.items source.old children.new.items
         source.new }
-    ensures causes { RefusesMove C.Cursor (AreSound C.Cursor children.old.items source.old) ⊥
+    ensures device { C.makes (reports result) source.old source.new }
+    ensures causes { RefusesMove C.Cursor (AreIntact C.Cursor children.old.items source.old) ⊥
         C.seeks_allocate source.old source.new result }
-    ensures finds { AreSound C.Cursor children.old.items source.old →
-        OnOk result (AreFirst C.Cursor Forward (At (spot key.now number)) children.new.items
+    ensures finds { (meant : C.Meant) → AreSound C.Cursor meant children.old.items source.old →
+        OnOk result (AreFirst C.Cursor meant Forward (At (spot key.now number)) children.new.items
         source.new) }
 {
     for i in 0..children.len() {
@@ -119,14 +122,15 @@ pub fn turn_all<C: Cursor>(
     way: Direction,
     source: &mut C::Source,
 ) -> Result<(), CursorError>
-    ensures moves { KeepsChildren C.Cursor children.old.items source.old children.new.items
+    ensures moves { (meant : C.Meant) → KeepsChildren C.Cursor meant children.old.items source.old children.new.items
         source.new }
-    ensures causes { RefusesMove C.Cursor (AreSound C.Cursor children.old.items source.old) ⊥
+    ensures device { C.makes (reports result) source.old source.new }
+    ensures causes { RefusesMove C.Cursor (AreIntact C.Cursor children.old.items source.old) ⊥
         C.steps_allocate source.old source.new result }
-    ensures turns { (was : Way) (entry : Entry) → IsOpposite was way →
-        AreSound C.Cursor children.old.items source.old →
-        AreFirst C.Cursor was (At entry) children.old.items source.old →
-        OnOk result (AreFirst C.Cursor way (After entry) children.new.items source.new) }
+    ensures turns { (meant : C.Meant) → (was : Way) (entry : Entry) → IsOpposite was way →
+        AreSound C.Cursor meant children.old.items source.old →
+        AreFirst C.Cursor meant was (At entry) children.old.items source.old →
+        OnOk result (AreFirst C.Cursor meant way (After entry) children.new.items source.new) }
 {
     for i in 0..children.len() {
         turn(&mut children[i], way, source)?;
@@ -143,17 +147,18 @@ fn step_at<C: Cursor>(
 ) -> Result<(), CursorError>
     requires room { k < vec_len children.old }
     requires on { (c : C) → slice_get children.old.items k ≡ Some c → IsOn (C.position c) }
-    ensures moves { KeepsChildren C.Cursor children.old.items source.old children.new.items
+    ensures moves { (meant : C.Meant) → KeepsChildren C.Cursor meant children.old.items source.old children.new.items
         source.new }
-    ensures causes { RefusesMove C.Cursor (AreSound C.Cursor children.old.items source.old) ⊥
+    ensures device { C.makes (reports result) source.old source.new }
+    ensures causes { RefusesMove C.Cursor (AreIntact C.Cursor children.old.items source.old) ⊥
         C.steps_allocate source.old source.new result }
     ensures ends { OnOk result (sum_by (λ c. C.left c way) children.new.items
         < sum_by (λ c. C.left c way) children.old.items) }
-    ensures ahead { (c : C) (entry : Entry) → slice_get children.old.items k ≡ Some c →
-        C.position c ≡ On entry → AreDisjoint C.Cursor children.old.items source.old →
-        AreSound C.Cursor children.old.items source.old →
-        AreFirst C.Cursor way (At entry) children.old.items source.old →
-        OnOk result (AreFirst C.Cursor way (After entry) children.new.items source.new) }
+    ensures ahead { (meant : C.Meant) → (c : C) (entry : Entry) → slice_get children.old.items k ≡ Some c →
+        C.position c ≡ On entry → AreDisjoint C.Cursor meant children.old.items source.old →
+        AreSound C.Cursor meant children.old.items source.old →
+        AreFirst C.Cursor meant way (At entry) children.old.items source.old →
+        OnOk result (AreFirst C.Cursor meant way (After entry) children.new.items source.new) }
 {
     step(&mut children[k], way, source)
 }
@@ -185,17 +190,18 @@ pub fn advance<C: Cursor>(
 ) -> Result<(), CursorError>
     requires room { k < vec_len children.old }
     requires on { (c : C) → slice_get children.old.items k ≡ Some c → IsOn (C.position c) }
-    ensures moves { KeepsChildren C.Cursor children.old.items source.old children.new.items
+    ensures moves { (meant : C.Meant) → KeepsChildren C.Cursor meant children.old.items source.old children.new.items
         source.new }
-    ensures causes { RefusesMove C.Cursor (AreSound C.Cursor children.old.items source.old) ⊥
+    ensures device { C.makes (reports result) source.old source.new }
+    ensures causes { RefusesMove C.Cursor (AreIntact C.Cursor children.old.items source.old) ⊥
         C.steps_allocate source.old source.new result }
     ensures ends { OnOk result (sum_by (λ c. C.left c way) children.new.items
         < left_along C.left C.most children.old.items was way) }
-    ensures ahead { (c : C) (entry : Entry) → slice_get children.old.items k ≡ Some c →
-        C.position c ≡ On entry → AreDisjoint C.Cursor children.old.items source.old →
-        AreSound C.Cursor children.old.items source.old →
-        AreFirst C.Cursor was (At entry) children.old.items source.old →
-        OnOk result (AreFirst C.Cursor way (After entry) children.new.items source.new) }
+    ensures ahead { (meant : C.Meant) → (c : C) (entry : Entry) → slice_get children.old.items k ≡ Some c →
+        C.position c ≡ On entry → AreDisjoint C.Cursor meant children.old.items source.old →
+        AreSound C.Cursor meant children.old.items source.old →
+        AreFirst C.Cursor meant was (At entry) children.old.items source.old →
+        OnOk result (AreFirst C.Cursor meant way (After entry) children.new.items source.new) }
 {
     if is_same(was, way) {
         step_at(children, k, way, source)

@@ -1,9 +1,9 @@
 //! What each cursor does.
-ghost use Rattle.std.specs.Prelude.{◌≡◌, ◌↔◌, ◌<◌, ℕ, IsTrue, IsErr, OnOk, option_map};
+ghost use Rattle.std.specs.Prelude.{Bool, ◌≡◌, ◌↔◌, ◌<◌, ℕ, IsTrue, IsErr, OnOk, option_map};
 ghost use Rattle.kv_types.specs.{Entry};
 ghost use Rattle.merge_iter.specs.Order.{spot};
 ghost use Rattle.merge_iter.specs.Positions.{Position, AtEnd, At, After, IsOn, IfOn, IsBroken};
-ghost use Rattle.merge_iter.specs.Moves.{CanStep, MoveFinds, MoveKeeps, ErrorCauses, IsLawful};
+ghost use Rattle.merge_iter.specs.Moves.{CanStep, MoveFinds, Moved, ErrorCauses, AreLawful, reports};
 ghost use Rattle.merge_iter.specs.declared.direction.Direction.{Direction as Way};
 ghost use Rattle.merge_iter.specs.declared.direction.Direction.TheVariants.{Forward, Backward};
 
@@ -23,14 +23,30 @@ pub trait Cursor {
     /// Where the cursor stands.
     ghost position: { Self → Position };
 
-    /// The entries that it goes through, over this source.
-    ghost holds: { Self → Self.Source → Entry → Type 0 };
+    /// What a source was meant to hold, before any part of it was damaged.
+    ghost Meant: { Type 0 };
 
-    /// The source is what the cursor was made for. Each clause on entries has this as its premise.
-    ghost is_sound: { Self → Self.Source → Type 0 };
+    /// The source as it is, taken for what it was meant to be.
+    ghost as_is: { Self.Source → Meant };
+
+    /// The source has all that it was meant to hold: no part is damaged.
+    ghost is_intact: { Meant → Self.Source → Type 0 };
+
+    /// The entries that the cursor goes through, of a source that was meant to hold this.
+    ghost holds: { Meant → Self → Self.Source → Entry → Type 0 };
+
+    /// The cursor was made for what the source was meant to hold, and each part of the source that
+    /// is not damaged is as it was meant. Each clause on entries has this as its premise.
+    ghost is_sound: { Meant → Self → Self.Source → Type 0 };
 
     /// The second source is what moves of any cursors may make of the first.
     ghost keeps: { Self.Source → Self.Source → Type 0 };
+
+    /// What one move makes of a source; the first says whether it reports the device.
+    ghost makes: { Bool → Self.Source → Self.Source → Type 0 };
+
+    /// The second source serves the cursor as the first does, whatever else differs in it.
+    ghost suits: { Self → Self.Source → Self.Source → Type 0 };
 
     /// How often the device behind the source has failed.
     ghost failures: { Self.Source → ℕ };
@@ -70,27 +86,31 @@ pub trait Cursor {
     /// Steps to the next entry, or off the end.
     fn next(&mut self, source: &mut Self::Source) -> Result<(), CursorError>
         requires { CanStep (position self.old) }
-        ensures moves { MoveKeeps holds is_sound keeps most
+        ensures moves { Moved holds is_sound suits keeps most
             self.old source.old self.new source.new }
-        ensures causes { ErrorCauses (is_sound self.old source.old) (IsBroken (position self.old))
+        ensures device { makes (reports result) source.old source.new }
+        ensures causes { ErrorCauses
+            ((meant : Meant) × is_sound meant self.old source.old × is_intact meant source.old) (IsBroken (position self.old))
             steps_allocate (failures source.old) (failures source.new) result }
         ensures broken { IsErr result ↔ IsBroken (position self.new) }
         ensures ends { OnOk result (left self.new Forward < left self.old Forward) }
-        ensures finds { is_sound self.old source.old → IfOn (position self.old)
-            (λ entry. MoveFinds Forward (After entry) (holds self.old source.old)
+        ensures finds { (meant : Meant) → is_sound meant self.old source.old → IfOn (position self.old)
+            (λ entry. MoveFinds Forward (After entry) (holds meant self.old source.old)
             result (position self.new)) };
 
     /// Steps to the entry before, or off the end.
     fn prev(&mut self, source: &mut Self::Source) -> Result<(), CursorError>
         requires { CanStep (position self.old) }
-        ensures moves { MoveKeeps holds is_sound keeps most
+        ensures moves { Moved holds is_sound suits keeps most
             self.old source.old self.new source.new }
-        ensures causes { ErrorCauses (is_sound self.old source.old) (IsBroken (position self.old))
+        ensures device { makes (reports result) source.old source.new }
+        ensures causes { ErrorCauses
+            ((meant : Meant) × is_sound meant self.old source.old × is_intact meant source.old) (IsBroken (position self.old))
             steps_allocate (failures source.old) (failures source.new) result }
         ensures broken { IsErr result ↔ IsBroken (position self.new) }
         ensures ends { OnOk result (left self.new Backward < left self.old Backward) }
-        ensures finds { is_sound self.old source.old → IfOn (position self.old)
-            (λ entry. MoveFinds Backward (After entry) (holds self.old source.old)
+        ensures finds { (meant : Meant) → is_sound meant self.old source.old → IfOn (position self.old)
+            (λ entry. MoveFinds Backward (After entry) (holds meant self.old source.old)
             result (position self.new)) };
 
     /// Moves to the first entry that does not come before this key and number.
@@ -100,35 +120,41 @@ pub trait Cursor {
         key: &[u8],
         number: u64,
     ) -> Result<(), CursorError>
-        ensures moves { MoveKeeps holds is_sound keeps most
+        ensures moves { Moved holds is_sound suits keeps most
             self.old source.old self.new source.new }
-        ensures causes { ErrorCauses (is_sound self.old source.old) ⊥ seeks_allocate
+        ensures device { makes (reports result) source.old source.new }
+        ensures causes { ErrorCauses
+            ((meant : Meant) × is_sound meant self.old source.old × is_intact meant source.old) ⊥ seeks_allocate
             (failures source.old) (failures source.new) result }
         ensures broken { IsErr result ↔ IsBroken (position self.new) }
-        ensures finds { is_sound self.old source.old → MoveFinds Forward (At (spot key.now number))
-            (holds self.old source.old) result (position self.new) };
+        ensures finds { (meant : Meant) → is_sound meant self.old source.old → MoveFinds Forward (At (spot key.now number))
+            (holds meant self.old source.old) result (position self.new) };
 
     /// Moves to the first entry.
     fn first(&mut self, source: &mut Self::Source) -> Result<(), CursorError>
-        ensures moves { MoveKeeps holds is_sound keeps most
+        ensures moves { Moved holds is_sound suits keeps most
             self.old source.old self.new source.new }
-        ensures causes { ErrorCauses (is_sound self.old source.old) ⊥ steps_allocate
+        ensures device { makes (reports result) source.old source.new }
+        ensures causes { ErrorCauses
+            ((meant : Meant) × is_sound meant self.old source.old × is_intact meant source.old) ⊥ steps_allocate
             (failures source.old) (failures source.new) result }
         ensures broken { IsErr result ↔ IsBroken (position self.new) }
-        ensures finds { is_sound self.old source.old →
-            MoveFinds Forward AtEnd (holds self.old source.old) result (position self.new) };
+        ensures finds { (meant : Meant) → is_sound meant self.old source.old →
+            MoveFinds Forward AtEnd (holds meant self.old source.old) result (position self.new) };
 
     /// Moves to the last entry.
     fn last(&mut self, source: &mut Self::Source) -> Result<(), CursorError>
-        ensures moves { MoveKeeps holds is_sound keeps most
+        ensures moves { Moved holds is_sound suits keeps most
             self.old source.old self.new source.new }
-        ensures causes { ErrorCauses (is_sound self.old source.old) ⊥ steps_allocate
+        ensures device { makes (reports result) source.old source.new }
+        ensures causes { ErrorCauses
+            ((meant : Meant) × is_sound meant self.old source.old × is_intact meant source.old) ⊥ steps_allocate
             (failures source.old) (failures source.new) result }
         ensures broken { IsErr result ↔ IsBroken (position self.new) }
-        ensures finds { is_sound self.old source.old →
-            MoveFinds Backward AtEnd (holds self.old source.old) result (position self.new) };
+        ensures finds { (meant : Meant) → is_sound meant self.old source.old →
+            MoveFinds Backward AtEnd (holds meant self.old source.old) result (position self.new) };
 
     /// What all cursors of a kind have in common: a move of one leaves the others sound, no two
     /// entries share key and number, and `left` is at most `most`.
-    ghost laws: { IsLawful holds is_sound keeps left most };
+    ghost laws: { AreLawful as_is is_intact holds is_sound suits keeps makes left most };
 }

@@ -30,8 +30,8 @@ impl ListCursor {
     /// A cursor over these entries, which are to be in order. It stands on none.
     pub fn new(entries: Vec<OwnedEntry>) -> Self
         ensures off { ⟦<ListCursor as Cursor>⟧.position result ≡ Off }
-        ensures sound { IsSortedList entries.items → ⟦<ListCursor as Cursor>⟧.is_sound result tt }
-        ensures entries { IsAlike (⟦<ListCursor as Cursor>⟧.holds result tt)
+        ensures sound { IsSortedList entries.items → ⟦<ListCursor as Cursor>⟧.is_sound tt result tt }
+        ensures entries { IsAlike (⟦<ListCursor as Cursor>⟧.holds tt result tt)
             (ListHolds entries.items) }
     {
         let at = entries.len();
@@ -44,11 +44,21 @@ impl Cursor for ListCursor {
 
     ghost position = { λ c. position_at c.entries.items c.at };
 
-    ghost holds = { λ c _. ListHolds c.entries.items };
+    ghost Meant = { Unit {0} };
 
-    ghost is_sound = { λ c _. IsSortedList c.entries.items };
+    ghost as_is = { λ _. tt };
+
+    ghost is_intact = { λ _ _. Unit {0} };
+
+    ghost holds = { λ _ c _. ListHolds c.entries.items };
+
+    ghost is_sound = { λ _ c _. IsSortedList c.entries.items };
 
     ghost keeps = { λ _ _. Unit {0} };
+
+    ghost suits = { λ _ _ _. Unit {0} };
+
+    ghost makes = { λ _ _ _. Unit {0} };
 
     ghost failures = { λ _. 0 };
 

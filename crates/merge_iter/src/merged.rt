@@ -2,10 +2,11 @@
 ghost use Rattle.std.specs.Prelude.{◌≡◌, ◌↔◌, ◌<◌, IsErr, OnOk};
 ghost use Rattle.merge_iter.specs.Order.{IsAlike};
 ghost use Rattle.merge_iter.specs.Positions.{After, AtEnd, IfOn, IsBroken, Off};
-ghost use Rattle.merge_iter.specs.Moves.{CanStep, MoveFinds};
-ghost use Rattle.merge_iter.specs.Merging.{union_position, merged_left, merged_most};
-ghost use Rattle.merge_iter.specs.Unions.{merged_laws};
+ghost use Rattle.merge_iter.specs.Moves.{CanStep, MoveFinds, reports};
+ghost use Rattle.merge_iter.specs.Merging.{EachChild, union_position, merged_left, merged_most};
+ghost use Rattle.merge_iter.specs.Unions.{union_laws};
 ghost use Rattle.merge_iter.specs.LentCursors.{AreDisjoint, AreSound, IsUnion, KeepsChildren};
+ghost use Rattle.merge_iter.specs.LentCursors.{IsIntactUnion};
 ghost use Rattle.merge_iter.specs.LentCursors.{RefusesMove, union_of};
 
 use crate::children::{advance, seek_all, settle, start_all};
@@ -26,12 +27,15 @@ impl<C: Cursor> Merged<C> {
     /// The union of these cursors. It stands on none.
     pub fn new(children: Vec<C>) -> Self
         ensures off { ⟦<Merged<C> as Cursor>⟧.position result ≡ Off }
-        ensures sound { (source : C.Source) → AreSound C.Cursor children.items source →
-            AreDisjoint C.Cursor children.items source →
-            ⟦<Merged<C> as Cursor>⟧.is_sound result source }
-        ensures entries { (source : C.Source) →
-            IsAlike (⟦<Merged<C> as Cursor>⟧.holds result source)
-            (union_of C.Cursor children.items source) }
+        ensures sound { (meant : C.Meant) (source : C.Source) →
+            AreSound C.Cursor meant children.items source →
+            AreDisjoint C.Cursor meant children.items source →
+            ⟦<Merged<C> as Cursor>⟧.is_sound meant result source }
+        ensures entries { (meant : C.Meant) (source : C.Source) →
+            IsAlike (⟦<Merged<C> as Cursor>⟧.holds meant result source)
+            (union_of C.Cursor meant children.items source) }
+        ensures suits { (a b : C.Source) → EachChild (λ c. C.suits c a b) children.items →
+            ⟦<Merged<C> as Cursor>⟧.suits result a b }
     {
         Merged {
             children,
@@ -42,12 +46,14 @@ impl<C: Cursor> Merged<C> {
     // Steps to the next entry in this direction.
     fn walk(&mut self, way: Direction, source: &mut C::Source) -> Result<(), CursorError>
         requires { CanStep (union_position C.position self.old.children.items self.old.place) }
-        ensures moves { KeepsChildren C.Cursor self.old.children.items source.old
+        ensures moves { (meant : C.Meant) → KeepsChildren C.Cursor meant self.old.children.items source.old
             self.new.children.items source.new }
-        ensures sound { IsUnion C.Cursor self.old.children.items self.old.place source.old →
-            IsUnion C.Cursor self.new.children.items self.new.place source.new }
+        ensures sound { (meant : C.Meant) →
+            IsUnion C.Cursor meant self.old.children.items self.old.place source.old →
+            IsUnion C.Cursor meant self.new.children.items self.new.place source.new }
+        ensures device { C.makes (reports result) source.old source.new }
         ensures causes { RefusesMove C.Cursor
-            (IsUnion C.Cursor self.old.children.items self.old.place source.old)
+            (IsIntactUnion C.Cursor self.old.children.items self.old.place source.old)
             (IsBroken (union_position C.position self.old.children.items self.old.place))
             C.steps_allocate source.old source.new result }
         ensures broken { IsErr result
@@ -55,10 +61,10 @@ impl<C: Cursor> Merged<C> {
         ensures ends { OnOk result
             (merged_left C.left C.most self.new.children.items self.new.place way
             < merged_left C.left C.most self.old.children.items self.old.place way) }
-        ensures finds { IsUnion C.Cursor self.old.children.items self.old.place source.old →
+        ensures finds { (meant : C.Meant) → IsUnion C.Cursor meant self.old.children.items self.old.place source.old →
             IfOn (union_position C.position self.old.children.items self.old.place)
             (λ entry. MoveFinds way (After entry)
-            (union_of C.Cursor self.old.children.items source.old) result
+            (union_of C.Cursor meant self.old.children.items source.old) result
             (union_position C.position self.new.children.items self.new.place)) }
     {
         let Place::On(was, k) = self.place else {
@@ -75,17 +81,19 @@ impl<C: Cursor> Merged<C> {
 
     // Moves to the first entry of a walk in this direction.
     fn begin(&mut self, way: Direction, source: &mut C::Source) -> Result<(), CursorError>
-        ensures moves { KeepsChildren C.Cursor self.old.children.items source.old
+        ensures moves { (meant : C.Meant) → KeepsChildren C.Cursor meant self.old.children.items source.old
             self.new.children.items source.new }
-        ensures sound { IsUnion C.Cursor self.old.children.items self.old.place source.old →
-            IsUnion C.Cursor self.new.children.items self.new.place source.new }
+        ensures sound { (meant : C.Meant) →
+            IsUnion C.Cursor meant self.old.children.items self.old.place source.old →
+            IsUnion C.Cursor meant self.new.children.items self.new.place source.new }
+        ensures device { C.makes (reports result) source.old source.new }
         ensures causes { RefusesMove C.Cursor
-            (IsUnion C.Cursor self.old.children.items self.old.place source.old) ⊥
+            (IsIntactUnion C.Cursor self.old.children.items self.old.place source.old) ⊥
             C.steps_allocate source.old source.new result }
         ensures broken { IsErr result
             ↔ IsBroken (union_position C.position self.new.children.items self.new.place) }
-        ensures finds { IsUnion C.Cursor self.old.children.items self.old.place source.old →
-            MoveFinds way AtEnd (union_of C.Cursor self.old.children.items source.old) result
+        ensures finds { (meant : C.Meant) → IsUnion C.Cursor meant self.old.children.items self.old.place source.old →
+            MoveFinds way AtEnd (union_of C.Cursor meant self.old.children.items source.old) result
             (union_position C.position self.new.children.items self.new.place) }
     {
         self.place = Place::Broken;
@@ -100,11 +108,21 @@ impl<C: Cursor> Cursor for Merged<C> {
 
     ghost position = { λ m. union_position C.position m.children.items m.place };
 
-    ghost holds = { λ m source. union_of C.Cursor m.children.items source };
+    ghost Meant = { C.Meant };
 
-    ghost is_sound = { λ m source. IsUnion C.Cursor m.children.items m.place source };
+    ghost as_is = { C.as_is };
+
+    ghost is_intact = { C.is_intact };
+
+    ghost holds = { λ meant m source. union_of C.Cursor meant m.children.items source };
+
+    ghost is_sound = { λ meant m source. IsUnion C.Cursor meant m.children.items m.place source };
 
     ghost keeps = { C.keeps };
+
+    ghost suits = { λ m a b. EachChild (λ c. C.suits c a b) m.children.items };
+
+    ghost makes = { C.makes };
 
     ghost failures = { C.failures };
 
@@ -174,6 +192,6 @@ impl<C: Cursor> Cursor for Merged<C> {
         self.begin(Direction::Backward, source)
     }
 
-    ghost laws = { merged_laws C.holds C.is_sound C.keeps C.most C.left C.position C.laws
+    ghost laws = { union_laws C.holds C.is_sound C.suits C.keeps C.most C.left C.position C.laws
         (λ m. m.children.items) (λ m. m.place) };
 }

@@ -8,7 +8,8 @@ ghost use Rattle.merge_iter.specs.KeptEntries.{kept_entry};
 ghost use Rattle.merge_iter.specs.ShownEntries.{IsBefore, IsFound, IsSettled, view_position};
 ghost use Rattle.merge_iter.specs.ShownEntries.{left_in};
 ghost use Rattle.merge_iter.specs.declared.direction.Direction.TheVariants.{Forward, Backward};
-ghost use Rattle.merge_iter.specs.LentCursors.{KeepsCursor, RefusesMove};
+ghost use Rattle.merge_iter.specs.Moves.{reports};
+ghost use Rattle.merge_iter.specs.LentCursors.{IsIntact, KeepsCursor, RefusesMove};
 
 use crate::cursor::Cursor;
 use crate::error::CursorError;
@@ -26,14 +27,15 @@ fn return_to<C: Cursor>(
 ) -> Result<(), CursorError>
     requires { IsOn (view_position mode (C.position inner.old) (kept_entry kept.now)) }
     ensures moves { KeepsCursor C.Cursor inner.old source.old inner.new source.new }
-    ensures causes { RefusesMove C.Cursor (C.is_sound inner.old source.old) ⊥ C.seeks_allocate
+    ensures device { C.makes (reports result) source.old source.new }
+    ensures causes { RefusesMove C.Cursor (IsIntact C.Cursor inner.old source.old) ⊥ C.seeks_allocate
         source.old source.new result }
     ensures left { OnOk result (C.left inner.new Forward ≤ left_in (C.left inner.old)
         (C.most inner.old) mode Forward) }
     ensures ready { OnOk result (IsOn (C.position inner.new)
         ⊎ (C.left inner.new Forward < left_in (C.left inner.old) (C.most inner.old) mode Forward)) }
-    ensures returns { (at : ℕ) (entry : Entry) → C.is_sound inner.old source.old →
-        IsSettled at (C.holds inner.old source.old) mode (C.position inner.old)
+    ensures returns { (meant : C.Meant) → (at : ℕ) (entry : Entry) → C.is_sound meant inner.old source.old →
+        IsSettled at (C.holds meant inner.old source.old) mode (C.position inner.old)
         (kept_entry kept.now) →
         view_position mode (C.position inner.old) (kept_entry kept.now) ≡ On entry →
         OnOk result (C.position inner.new ≡ On entry) }
@@ -53,14 +55,15 @@ fn leave<C: Cursor>(
     key: &mut Vec<u8>,
 ) -> Result<(), CursorError>
     ensures moves { KeepsCursor C.Cursor inner.old source.old inner.new source.new }
-    ensures causes { RefusesMove C.Cursor (C.is_sound inner.old source.old) ⊥ (Unit {0}) source.old
+    ensures device { C.makes (reports result) source.old source.new }
+    ensures causes { RefusesMove C.Cursor (IsIntact C.Cursor inner.old source.old) ⊥ (Unit {0}) source.old
         source.new result }
     ensures fewer { OnOk result (C.left inner.new Forward ≤ C.left inner.old Forward) }
     ensures left { IsOn (C.position inner.old) →
         OnOk result (C.left inner.new Forward < C.left inner.old Forward) }
-    ensures leaves { (entry : Entry) → C.is_sound inner.old source.old →
+    ensures leaves { (meant : C.Meant) → (entry : Entry) → C.is_sound meant inner.old source.old →
         C.position inner.old ≡ On entry →
-        OnOk result (IsFirst Forward (λ p. C.holds inner.old source.old p
+        OnOk result (IsFirst Forward (λ p. C.holds meant inner.old source.old p
         × WalkMeets Forward (After entry) p) (C.position inner.new) × (key.new.items ≡ entry.key)) }
 {
     if !inner.valid() {
@@ -78,12 +81,13 @@ pub fn first_shown<C: Cursor>(
     kept: &mut KeptEntry,
 ) -> Result<Mode, CursorError>
     ensures moves { KeepsCursor C.Cursor inner.old source.old inner.new source.new }
-    ensures causes { RefusesMove C.Cursor (C.is_sound inner.old source.old) ⊥ (Unit {0}) source.old
+    ensures device { C.makes (reports result) source.old source.new }
+    ensures causes { RefusesMove C.Cursor (IsIntact C.Cursor inner.old source.old) ⊥ (Unit {0}) source.old
         source.new result }
     ensures unbroken { IfOk result
         (λ mode. IsBroken (view_position mode (C.position inner.new) (kept_entry kept.new)) → ⊥) }
-    ensures finds { C.is_sound inner.old source.old →
-        IsFound Forward at (C.holds inner.old source.old) AtEnd result (C.position inner.new)
+    ensures finds { (meant : C.Meant) → C.is_sound meant inner.old source.old →
+        IsFound Forward at (C.holds meant inner.old source.old) AtEnd result (C.position inner.new)
         (kept_entry kept.new) }
 {
     inner.first(source)?;
@@ -98,12 +102,13 @@ pub fn last_shown<C: Cursor>(
     kept: &mut KeptEntry,
 ) -> Result<Mode, CursorError>
     ensures moves { KeepsCursor C.Cursor inner.old source.old inner.new source.new }
-    ensures causes { RefusesMove C.Cursor (C.is_sound inner.old source.old) ⊥ (Unit {0}) source.old
+    ensures device { C.makes (reports result) source.old source.new }
+    ensures causes { RefusesMove C.Cursor (IsIntact C.Cursor inner.old source.old) ⊥ (Unit {0}) source.old
         source.new result }
     ensures unbroken { IfOk result
         (λ mode. IsBroken (view_position mode (C.position inner.new) (kept_entry kept.new)) → ⊥) }
-    ensures finds { C.is_sound inner.old source.old →
-        IsFound Backward at (C.holds inner.old source.old) AtEnd result (C.position inner.new)
+    ensures finds { (meant : C.Meant) → C.is_sound meant inner.old source.old →
+        IsFound Backward at (C.holds meant inner.old source.old) AtEnd result (C.position inner.new)
         (kept_entry kept.new) }
 {
     inner.last(source)?;
@@ -137,12 +142,13 @@ pub fn seek_shown<C: Cursor>(
     kept: &mut KeptEntry,
 ) -> Result<Mode, CursorError>
     ensures moves { KeepsCursor C.Cursor inner.old source.old inner.new source.new }
-    ensures causes { RefusesMove C.Cursor (C.is_sound inner.old source.old) ⊥ (Unit {0}) source.old
+    ensures device { C.makes (reports result) source.old source.new }
+    ensures causes { RefusesMove C.Cursor (IsIntact C.Cursor inner.old source.old) ⊥ (Unit {0}) source.old
         source.new result }
     ensures unbroken { IfOk result
         (λ mode. IsBroken (view_position mode (C.position inner.new) (kept_entry kept.new)) → ⊥) }
-    ensures finds { C.is_sound inner.old source.old →
-        IsFound Forward at (C.holds inner.old source.old) (At (spot key.now number)) result
+    ensures finds { (meant : C.Meant) → C.is_sound meant inner.old source.old →
+        IsFound Forward at (C.holds meant inner.old source.old) (At (spot key.now number)) result
         (C.position inner.new) (kept_entry kept.new) }
 {
     inner.seek(source, key, at)?;
@@ -164,17 +170,18 @@ pub fn next_shown<C: Cursor>(
 ) -> Result<Mode, CursorError>
     requires { IsOn (view_position mode (C.position inner.old) (kept_entry kept.old)) }
     ensures moves { KeepsCursor C.Cursor inner.old source.old inner.new source.new }
-    ensures causes { RefusesMove C.Cursor (C.is_sound inner.old source.old) ⊥ (Unit {0}) source.old
+    ensures device { C.makes (reports result) source.old source.new }
+    ensures causes { RefusesMove C.Cursor (IsIntact C.Cursor inner.old source.old) ⊥ (Unit {0}) source.old
         source.new result }
     ensures unbroken { IfOk result
         (λ mode. IsBroken (view_position mode (C.position inner.new) (kept_entry kept.new)) → ⊥) }
     ensures left { IfOk result (λ new. left_in (C.left inner.new) (C.most inner.new) new Forward
         < left_in (C.left inner.old) (C.most inner.old) mode Forward) }
-    ensures finds { (entry : Entry) → C.is_sound inner.old source.old →
-        IsSettled at (C.holds inner.old source.old) mode (C.position inner.old)
+    ensures finds { (meant : C.Meant) → (entry : Entry) → C.is_sound meant inner.old source.old →
+        IsSettled at (C.holds meant inner.old source.old) mode (C.position inner.old)
         (kept_entry kept.old) →
         view_position mode (C.position inner.old) (kept_entry kept.old) ≡ On entry →
-        IsFound Forward at (C.holds inner.old source.old) (After entry) result
+        IsFound Forward at (C.holds meant inner.old source.old) (After entry) result
         (C.position inner.new) (kept_entry kept.new) }
 {
     return_to(inner, source, mode, kept)?;
@@ -191,15 +198,16 @@ fn retreat<C: Cursor>(
 ) -> Result<(), CursorError>
     requires { IsOn (view_position mode (C.position inner.old) (kept_entry kept.now)) }
     ensures moves { KeepsCursor C.Cursor inner.old source.old inner.new source.new }
-    ensures causes { RefusesMove C.Cursor (C.is_sound inner.old source.old) ⊥ C.steps_allocate
+    ensures device { C.makes (reports result) source.old source.new }
+    ensures causes { RefusesMove C.Cursor (IsIntact C.Cursor inner.old source.old) ⊥ C.steps_allocate
         source.old source.new result }
     ensures left { OnOk result (C.left inner.new Backward < left_in (C.left inner.old)
         (C.most inner.old) mode Backward) }
-    ensures retreats { (at : ℕ) (entry : Entry) → C.is_sound inner.old source.old →
-        IsSettled at (C.holds inner.old source.old) mode (C.position inner.old)
+    ensures retreats { (meant : C.Meant) → (at : ℕ) (entry : Entry) → C.is_sound meant inner.old source.old →
+        IsSettled at (C.holds meant inner.old source.old) mode (C.position inner.old)
         (kept_entry kept.now) →
         view_position mode (C.position inner.old) (kept_entry kept.now) ≡ On entry →
-        OnOk result (IsBefore Backward at (C.holds inner.old source.old) (After entry)
+        OnOk result (IsBefore Backward at (C.holds meant inner.old source.old) (After entry)
         (C.position inner.new)) }
 {
     match mode {
@@ -220,17 +228,18 @@ pub fn prev_shown<C: Cursor>(
 ) -> Result<Mode, CursorError>
     requires { IsOn (view_position mode (C.position inner.old) (kept_entry kept.old)) }
     ensures moves { KeepsCursor C.Cursor inner.old source.old inner.new source.new }
-    ensures causes { RefusesMove C.Cursor (C.is_sound inner.old source.old) ⊥ (Unit {0}) source.old
+    ensures device { C.makes (reports result) source.old source.new }
+    ensures causes { RefusesMove C.Cursor (IsIntact C.Cursor inner.old source.old) ⊥ (Unit {0}) source.old
         source.new result }
     ensures unbroken { IfOk result
         (λ mode. IsBroken (view_position mode (C.position inner.new) (kept_entry kept.new)) → ⊥) }
     ensures left { IfOk result (λ new. left_in (C.left inner.new) (C.most inner.new) new Backward
         < left_in (C.left inner.old) (C.most inner.old) mode Backward) }
-    ensures finds { (entry : Entry) → C.is_sound inner.old source.old →
-        IsSettled at (C.holds inner.old source.old) mode (C.position inner.old)
+    ensures finds { (meant : C.Meant) → (entry : Entry) → C.is_sound meant inner.old source.old →
+        IsSettled at (C.holds meant inner.old source.old) mode (C.position inner.old)
         (kept_entry kept.old) →
         view_position mode (C.position inner.old) (kept_entry kept.old) ≡ On entry →
-        IsFound Backward at (C.holds inner.old source.old) (After entry) result
+        IsFound Backward at (C.holds meant inner.old source.old) (After entry) result
         (C.position inner.new) (kept_entry kept.new) }
 {
     retreat(inner, source, mode, kept)?;

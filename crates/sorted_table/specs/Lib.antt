@@ -5,6 +5,7 @@ pub mod LineSizesLemmas
 pub mod Open
 pub mod RisingEntries
 pub mod Searches
+pub mod MovedFiles
 pub mod TableCursorLaws
 pub mod TableCursors
 pub mod Tails

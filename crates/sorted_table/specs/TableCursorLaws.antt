@@ -1,11 +1,11 @@
 -- A cursor over a table keeps what every cursor keeps.
-use Rattle.std.proofs.Common.{◌≡◌, ◌↔◌, ℕ, List, Option, Some, None, sym}
+use Rattle.std.proofs.Common.{◌≡◌, ◌↔◌, ℕ, List, Option, Some, None, refl, sym, ◌∙◌}
 use Rattle.std.proofs.Common.{subst, IsSomeAnd, Contains}
 use Rattle.std.specs.Option.{ForSome}
 use Rattle.disk.specs.declared.Disk.{Ghosts}
-use Rattle.disk.specs.{Slot, seen}
+use Rattle.disk.specs.{Slot, State, seen}
 use Rattle.kv_types.specs.{Entry}
-use Rattle.merge_iter.specs.{IsApart, IsLawful}
+use Rattle.merge_iter.specs.{AreLawful, IsApart}
 use Rattle.table_format.specs.{AreRising, TableRepresents}
 use Rattle.table_format.specs.declared.IndexLine.{IndexLine}
 use Rattle.table_format.specs.TablesLemmas.{table_is_unique}
@@ -15,7 +15,8 @@ use Rattle.sorted_table.specs.Open.{FileRepresents}
 use Rattle.sorted_table.specs.LineSizes.{IsBounded, blocks_size, steps_left}
 use Rattle.sorted_table.specs.LineSizesLemmas.{steps_within}
 use Rattle.sorted_table.specs.RisingEntries.{rising_apart}
-use Rattle.sorted_table.specs.TableCursors.{CursorServes, FileHolds}
+use Rattle.sorted_table.specs.MovedFiles.{MovesFiles, moves_itself, moves_through}
+use Rattle.sorted_table.specs.TableCursors.{AreAsMeant, CursorServes, FileHolds}
 
 -- ---- the entries of a file
 
@@ -43,24 +44,52 @@ files_apart file a b p q e =
 
 -- ---- the laws
 
+-- the files of a disk are those that it was meant to have
+abbrev pub AreIntactFiles : {D : Type 0} → Ghosts D → State → D → Type 0
+AreIntactFiles g meant disk = g.is_honest disk → (file : ℕ) → g.state disk file ≡ meant file
+
 module _ {C S : Type 0} (g : Ghosts S) (file : C → ℕ) (lines : C → List IndexLine)
-    (place : C → Option BlockPlace) (bounded : (c : C) → ForSome (place c) (IsBounded (lines c)))
-  where
-    pub table_laws : IsLawful {C = C} {S = S} (λ c s. FileHolds (g.state s (file c)))
-        (λ c s. g.is_honest s × CursorServes (g.state s (file c)) (lines c) (place c))
-        (KeepsFiles g) (λ c. steps_left (lines c) (place c)) (λ c. blocks_size (lines c))
-    table_laws = record {
+    (place : C → Option BlockPlace) where
+    -- the file was meant to be a table that the cursor serves, and its blocks are as meant
+    abbrev pub ServesMeant : State → C → S → Type 0
+    ServesMeant meant c s =
+        g.is_honest s × CursorServes (meant (file c)) (lines c) (place c)
+        × AreAsMeant (g.state s (file c)) (meant (file c)) (lines c)
+
+    -- a disk that has the same file serves the cursor as well
+    abbrev pub FileSuits : C → S → S → Type 0
+    FileSuits c a b = g.is_honest a → g.is_honest b × (g.state b (file c) ≡ g.state a (file c))
+
+    pub table_laws : (bounded : (c : C) → ForSome (place c) (IsBounded (lines c)))
+        → AreLawful {C = C} {S = S} {K = State} g.state (AreIntactFiles g)
+        (λ meant c s. FileHolds (meant (file c))) ServesMeant FileSuits
+        (KeepsFiles g) (MovesFiles g) (λ c. steps_left (lines c) (place c)) (λ c. blocks_size (lines c))
+    table_laws bounded = record {
       itself = keeps_files_itself g;
       through = keeps_files_through g;
-      stays = λ c a b k s.
-          let same = sym (k.same s.0 (file c)) in (
+      makes_itself = moves_itself g;
+      makes_through = moves_through g;
+      lasts = λ m a b k h honest f. k.same (k.honest.0 honest) f ∙ h (k.honest.0 honest) f;
+      whole = λ a honest f. refl;
+      stays = λ m c a b k s. (
+        (
+          k.honest.1 s.0,
+          s.1,
+          subst (λ slot. AreAsMeant slot (m (file c)) (lines c)) (sym (k.same s.0 (file c))) s.2,
+        ),
+        λ entry. ((λ h. h), (λ h. h)),
+        λ v w z. z,
+      );
+      suited = λ m c a b k s.
+          let it = k s.0 in (
             (
-              k.honest.1 s.0,
-              subst (λ slot. CursorServes slot (lines c) (place c)) same s.1,
+              it.0,
+              s.1,
+              subst (λ slot. AreAsMeant slot (m (file c)) (lines c)) (sym it.1) s.2,
             ),
-            λ entry. subst (λ slot. FileHolds slot entry ↔ FileHolds (g.state a (file c)) entry) same
-                ((λ h. h), (λ h. h)),
+            λ entry. ((λ h. h), (λ h. h)),
+            λ v w z. z,
           );
-      apart = λ c a s. files_apart (g.state a (file c));
+      apart = λ m c a s. files_apart (m (file c));
       within = λ c way. steps_within (lines c) (place c) way (bounded c);
     }

@@ -2,7 +2,7 @@
 ghost use Rattle.std.specs.Prelude.{◌≡◌, ◌↔◌, List, IfOk, IfErr, IsTrue, MatchResult, Contains};
 ghost use Rattle.std.specs.Prelude.{option_map};
 ghost use Rattle.bloom.specs.{Covers, CoversHashed, hashes_of};
-ghost use Rattle.disk.specs.{IsSame, IsStill, KeepsDisk, Slot};
+ghost use Rattle.disk.specs.{IsSame, IsStill, KeepsDisk, Slot, State};
 ghost use Rattle.kv_types.specs.{Entry};
 ghost use Rattle.merge_iter.specs.{IsAlike, Off};
 ghost use Rattle.table_format.specs.{IsBuilderError, IsEnvironmentError, ReportsDevice};
@@ -34,6 +34,7 @@ pub struct Table {
 impl Table {
     ghost use Rattle.sorted_table.specs.Open.{FileRepresents, IsOpenOn, LookupAnswer, LookupFinds};
     ghost use Rattle.sorted_table.specs.Open.{TableServes, greatest_key, index_lines};
+    ghost use Rattle.sorted_table.specs.TableCursors.{AreAsMeant};
     ghost use Rattle.sorted_table.specs.Open.{last_line_key, table_file, table_filter};
 
     /// Opens the table of a file. It needs three device calls, reads no block, and takes no more
@@ -144,11 +145,17 @@ impl Table {
     pub fn cursor<D: Disk + Drop>(&self, alloc: Global) -> Result<TableCursor<D>, TableError>
         ensures off { IfOk result (λ cursor.
             ⟦<TableCursor<D> as Cursor>⟧.position cursor ≡ Off) }
-        ensures serves { IfOk result (λ cursor. (files : _) (entries : List Entry) →
+        ensures serves { IfOk result (λ cursor. (meant : State) (files : _) (entries : List Entry) →
             ⟦<Files<D> as Disk>⟧.is_honest files →
-            TableServes (⟦<Files<D> as Disk>⟧.state files (table_file self.now)) self.now entries →
-            ⟦<TableCursor<D> as Cursor>⟧.is_sound cursor files
-            × IsAlike (⟦<TableCursor<D> as Cursor>⟧.holds cursor files) (Contains entries)) }
+            TableServes (meant (table_file self.now)) self.now entries →
+            AreAsMeant (⟦<Files<D> as Disk>⟧.state files (table_file self.now))
+            (meant (table_file self.now)) (index_lines self.now) →
+            ⟦<TableCursor<D> as Cursor>⟧.is_sound meant cursor files
+            × IsAlike (⟦<TableCursor<D> as Cursor>⟧.holds meant cursor files) (Contains entries)) }
+        ensures suits { IfOk result (λ cursor. (a b : _) → (⟦<Files<D> as Disk>⟧.is_honest a →
+            ⟦<Files<D> as Disk>⟧.is_honest b × (⟦<Files<D> as Disk>⟧.state b (table_file self.now)
+            ≡ ⟦<Files<D> as Disk>⟧.state a (table_file self.now))) →
+            ⟦<TableCursor<D> as Cursor>⟧.suits cursor a b) }
         ensures memory { IfErr result (λ e. e ≡ TableError.Memory) }
     {
         Ok(TableCursor::new(alloc, self.file, self.lines.clone()?))

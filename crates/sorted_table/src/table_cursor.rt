@@ -3,14 +3,15 @@ ghost use Rattle.std.specs.Prelude.{◌≡◌, ◌≢◌, ◌<◌, ◌≤◌, Li
 ghost use Rattle.std.specs.Prelude.{IsTrue, OnErr, OnOk, true, false, length};
 ghost use Rattle.std.specs.Option.{ForSome};
 ghost use Rattle.std.specs.Rc.{rc_slice_items};
-ghost use Rattle.disk.specs.{IsSame, IsStill, KeepsDisk};
-ghost use Rattle.merge_iter.specs.{ErrorCauses};
+ghost use Rattle.disk.specs.{IsSame, IsStill, KeepsDisk, Slot, State};
+ghost use Rattle.merge_iter.specs.{ErrorCauses, reports};
+ghost use Rattle.sorted_table.specs.MovedFiles.{MovesFiles};
 ghost use Rattle.table_format.specs.{IsBlock, IsBuilderError, ReportsDevice};
 ghost use Rattle.table_files.specs.{BlockAnswer};
 ghost use Rattle.table_files.specs.{KeepsFiles};
 ghost use Rattle.sorted_table.specs.BlockPlaces.{PlaceReads};
 ghost use Rattle.sorted_table.specs.LineSizes.{IsBounded};
-ghost use Rattle.sorted_table.specs.TableCursors.{HasEntered, HasLines, HasReached, IsPlaceIn, move_error};
+ghost use Rattle.sorted_table.specs.TableCursors.{AreAsMeant, HasEntered, HasLines, HasReached, IsPlaceIn, move_error};
 
 use crate::block_place::BlockPlace;
 use crate::lines::line_place;
@@ -56,8 +57,9 @@ fn first_of<D: Disk + Drop>(
         IsSame }
     ensures first { IfOk result (λ place. (place.line ≡ line) × (place.at ≡ 0)
         × IsBounded (rc_slice_items lines.now) place) }
-    ensures reads { ⟦<Files<D> as Disk>⟧.is_honest files.old →
-        (table : HasLines (⟦<Files<D> as Disk>⟧.state files.old file) (rc_slice_items lines.now)) →
+    ensures reads { (meant : Slot) → ⟦<Files<D> as Disk>⟧.is_honest files.old →
+        AreAsMeant (⟦<Files<D> as Disk>⟧.state files.old file) meant (rc_slice_items lines.now) →
+        (table : HasLines meant (rc_slice_items lines.now)) →
         IfOk result (IsPlaceIn table.represents.blocks) }
     ensures damaged { result ≡ Err TableError.Damaged → ⟦<Files<D> as Disk>⟧.is_honest files.old →
         HasLines (⟦<Files<D> as Disk>⟧.state files.old file) (rc_slice_items lines.now) → ⊥ }
@@ -120,6 +122,7 @@ impl<D: Disk + Drop> TableCursor<D> {
     ) -> Result<(), CursorError>
         ensures table { (self.new.file ≡ self.old.file) × (self.new.lines ≡ self.old.lines) }
         ensures keeps { KeepsFiles ⟦<Files<D> as Disk>⟧ files.old files.new }
+        ensures device { MovesFiles ⟦<Files<D> as Disk>⟧ (reports result) files.old files.new }
         ensures causes { ErrorCauses (⟦<Files<D> as Disk>⟧.is_honest files.old × HasLines
             (⟦<Files<D> as Disk>⟧.state files.old self.old.file) (rc_slice_items self.old.lines)) ⊥
             (Unit {0}) (⟦<Files<D> as Disk>⟧.failures files.old)
@@ -127,9 +130,10 @@ impl<D: Disk + Drop> TableCursor<D> {
         ensures refused { OnErr result ((self.new.place ≡ None) × (self.new.has_failed ≡ true)) }
         ensures entered { OnOk result ((self.new.has_failed ≡ false)
             × HasEntered (rc_slice_items self.old.lines) line way self.new.place) }
-        ensures reads { ⟦<Files<D> as Disk>⟧.is_honest files.old →
-            (table : HasLines (⟦<Files<D> as Disk>⟧.state files.old self.old.file)
-            (rc_slice_items self.old.lines)) →
+        ensures reads { (meant : Slot) → ⟦<Files<D> as Disk>⟧.is_honest files.old →
+            AreAsMeant (⟦<Files<D> as Disk>⟧.state files.old self.old.file) meant
+            (rc_slice_items self.old.lines) →
+            (table : HasLines meant (rc_slice_items self.old.lines)) →
             OnOk result (IfSome self.new.place (IsPlaceIn table.represents.blocks)) }
     {
         self.place = None;
@@ -152,6 +156,7 @@ impl<D: Disk + Drop> TableCursor<D> {
     fn reach(&mut self, files: &mut Files<D>, line: usize) -> Result<(), CursorError>
         ensures table { (self.new.file ≡ self.old.file) × (self.new.lines ≡ self.old.lines) }
         ensures keeps { KeepsFiles ⟦<Files<D> as Disk>⟧ files.old files.new }
+        ensures device { MovesFiles ⟦<Files<D> as Disk>⟧ (reports result) files.old files.new }
         ensures causes { ErrorCauses (⟦<Files<D> as Disk>⟧.is_honest files.old × HasLines
             (⟦<Files<D> as Disk>⟧.state files.old self.old.file) (rc_slice_items self.old.lines)) ⊥
             (Unit {0}) (⟦<Files<D> as Disk>⟧.failures files.old)
@@ -159,9 +164,10 @@ impl<D: Disk + Drop> TableCursor<D> {
         ensures refused { OnErr result ((self.new.place ≡ None) × (self.new.has_failed ≡ true)) }
         ensures reached { OnOk result (HasReached (rc_slice_items self.old.lines) line
             self.new.has_failed self.new.place) }
-        ensures reads { ⟦<Files<D> as Disk>⟧.is_honest files.old →
-            (table : HasLines (⟦<Files<D> as Disk>⟧.state files.old self.old.file)
-            (rc_slice_items self.old.lines)) →
+        ensures reads { (meant : Slot) → ⟦<Files<D> as Disk>⟧.is_honest files.old →
+            AreAsMeant (⟦<Files<D> as Disk>⟧.state files.old self.old.file) meant
+            (rc_slice_items self.old.lines) →
+            (table : HasLines meant (rc_slice_items self.old.lines)) →
             IfSome self.old.place (IsPlaceIn table.represents.blocks) →
             OnOk result (IfSome self.new.place (IsPlaceIn table.represents.blocks)) }
     {
@@ -176,19 +182,29 @@ impl<D: Disk + Drop> TableCursor<D> {
 impl<D: Disk + Drop> Cursor for TableCursor<D> {
     ghost use Rattle.sorted_table.specs.LineSizes.{blocks_size, steps_left};
     ghost use Rattle.sorted_table.specs.TableCursors.{CursorServes, FileHolds, table_position};
-    ghost use Rattle.sorted_table.specs.TableCursorLaws.{table_laws};
+    ghost use Rattle.sorted_table.specs.TableCursorLaws.{AreIntactFiles, FileSuits, ServesMeant, table_laws};
 
     type Source = Files<D>;
 
     ghost position = { λ c. table_position c.has_failed c.place };
 
-    ghost holds = { λ c files. FileHolds (⟦<Files<D> as Disk>⟧.state files c.file) };
+    ghost Meant = { State };
 
-    ghost is_sound = { λ c files. ⟦<Files<D> as Disk>⟧.is_honest files
-        × CursorServes (⟦<Files<D> as Disk>⟧.state files c.file) (rc_slice_items c.lines)
-        c.place };
+    ghost as_is = { ⟦<Files<D> as Disk>⟧.state };
+
+    ghost is_intact = { AreIntactFiles ⟦<Files<D> as Disk>⟧ };
+
+    ghost holds = { λ meant c files. FileHolds (meant c.file) };
+
+    ghost is_sound = { ServesMeant ⟦<Files<D> as Disk>⟧ (λ c. c.file)
+        (λ c. rc_slice_items c.lines) (λ c. c.place) };
 
     ghost keeps = { KeepsFiles ⟦<Files<D> as Disk>⟧ };
+
+    ghost suits = { FileSuits ⟦<Files<D> as Disk>⟧ (λ c. c.file) (λ c. rc_slice_items c.lines)
+        (λ c. c.place) };
+
+    ghost makes = { MovesFiles ⟦<Files<D> as Disk>⟧ };
 
     ghost failures = { ⟦<Files<D> as Disk>⟧.failures };
 

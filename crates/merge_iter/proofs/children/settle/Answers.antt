@@ -7,8 +7,8 @@ use Rattle.merge_iter.proofs.Merges.{settled, settled_off}
 use Rattle.merge_iter.proofs.children.settle.Goals as goal
 
 pub returns-in-Some-clause-settles : goal.returns-in-Some-clause-settles
-returns-in-Some-clause-settles g c start source first =
-    let H = λ (d : g.row.C.Denot). g.C.Cursor.holds d source in
+returns-in-Some-clause-settles g c meant start source first =
+    let H = λ (d : g.row.C.Denot). (g.C.Cursor.holds meant) d source in
     let b : IsBest g.C.Cursor.position c.args.way c.args.children.now.items
     (vec_len c.args.children.now) c.in-Some.k = c.in-Some.ensures in
     let r = settled H g.C.Cursor.position c.args.way start c.args.children.now.items c.in-Some.k
@@ -21,8 +21,8 @@ returns-in-Some-clause-settles g c start source first =
     )
 
 pub returns-in-None-clause-settles : goal.returns-in-None-clause-settles
-returns-in-None-clause-settles g c start source first = (
-  settled_off (λ d. g.C.Cursor.holds d source) g.C.Cursor.position c.args.way start
+returns-in-None-clause-settles g c meant start source first = (
+  settled_off (λ d. (g.C.Cursor.holds meant) d source) g.C.Cursor.position c.args.way start
       c.args.children.now.items (vec_len c.args.children.now) (search arith) first
       c.in-None.ensures,
   tt,

@@ -1,4 +1,4 @@
-use Rattle.std.proofs.Common.{◌≡◌}
+use Rattle.std.proofs.Common.{false, ◌≡◌}
 use Rattle.merge_iter.specs.declared.direction.Direction.{Direction}
 use Rattle.kv_types.specs.{Entry}
 use Rattle.merge_iter.specs.Positions.{At, After}
@@ -8,12 +8,13 @@ use Rattle.merge_iter.proofs.children.turn_all.Given as goal
 
 abbrev pub invariant-loop-i : goal.invariant-loop-i
 invariant-loop-i g l = record {
-  passed : Passed g.C.Cursor.holds g.C.Cursor.is_sound g.C.Cursor.keeps g.C.Cursor.left
+  passed : (meant : g.C.Cursor.Meant) → Passed (g.C.Cursor.holds meant) (g.C.Cursor.is_sound meant) g.C.Cursor.suits g.C.Cursor.keeps g.C.Cursor.left
       g.C.Cursor.most l.i l.initial.children.items l.initial.source l.children.items l.source;
+  device : g.C.Cursor.makes false l.initial.source l.source;
   count : g.C.Cursor.failures l.source ≡ g.C.Cursor.failures l.initial.source;
-  brought : (was : Direction) (entry : Entry) → Brought g.C.Cursor.holds g.C.Cursor.is_sound
+  brought : (meant : g.C.Cursor.Meant) (was : Direction) (entry : Entry) → Brought (g.C.Cursor.holds meant) (g.C.Cursor.is_sound meant) g.C.Cursor.suits
       g.C.Cursor.keeps g.C.Cursor.left g.C.Cursor.most g.C.Cursor.position l.way (After entry)
-      (IsOpposite was l.way × (EachChild (λ c. g.C.Cursor.is_sound c l.initial.source)
-      l.initial.children.items × ChildrenAreFirst (λ c. g.C.Cursor.holds c l.initial.source)
+      (IsOpposite was l.way × (EachChild (λ c. (g.C.Cursor.is_sound meant) c l.initial.source)
+      l.initial.children.items × ChildrenAreFirst (λ c. (g.C.Cursor.holds meant) c l.initial.source)
       g.C.Cursor.position was (At entry) l.initial.children.items)) l.i l.children.items l.source;
 }

@@ -1,16 +1,19 @@
-use Rattle.std.proofs.Common.{◌≡◌, refl, ◌∙◌, subst, arith, Ok}
+use Rattle.std.proofs.Common.{false, ◌≡◌, refl, ◌∙◌, subst, arith, Ok}
 use Rattle.merge_iter.specs.Positions.{IsOn, IfOn}
 use Rattle.merge_iter.specs.ShownEntries.{IsJudged, IsHidden}
-use Rattle.merge_iter.proofs.Walked.{moves_itself, moves_through, forward_on, shown_on, end_off}
+use Rattle.merge_iter.specs.Moves.{law_at}
+use Rattle.merge_iter.specs.Moves.{reports}
+use Rattle.merge_iter.proofs.Walked.{all_itself, all_through, forward_on, shown_on, end_off}
 use Rattle.merge_iter.proofs.shown.find_forward.Goals as goal
 
 pub loop-inner-init : goal.loop-inner-init
 loop-inner-init g c = record {
-  moved = moves_itself g.C.Cursor.holds g.C.Cursor.is_sound g.C.Cursor.keeps g.C.Cursor.left
+  moved = all_itself g.C.Cursor.holds g.C.Cursor.is_sound g.C.Cursor.suits g.C.Cursor.keeps g.C.Cursor.left
       g.C.Cursor.most g.met.C.Cursor.laws _ _;
+  device = g.met.C.Cursor.laws.makes_itself _;
   count = refl;
   left = omega arith;
-  ahead = λ start s a. a;
+  ahead = λ meant start s a. a;
 }
 
 pub loop-inner-preserved : goal.loop-inner-preserved
@@ -22,13 +25,16 @@ loop-inner-preserved g c =
     let less = c.in_ok-next.ensures.ends in
     let fewer = i.left in
     record {
-      moved = moves_through g.C.Cursor.holds g.C.Cursor.is_sound g.C.Cursor.keeps g.C.Cursor.left
+      moved = all_through g.C.Cursor.holds g.C.Cursor.is_sound g.C.Cursor.suits g.C.Cursor.keeps g.C.Cursor.left
           g.C.Cursor.most g.met.C.Cursor.laws _ _ _ _ _ _ i.moved c.next.ensures.moves;
+      device = g.met.C.Cursor.laws.makes_through false _ _ _ i.device
+          (subst (λ r. g.C.Cursor.makes (reports r) c.loop-inner.source
+          c.next.new.source) c.in_ok-next.was c.next.ensures.device);
       count = c.next.ensures.causes.others (λ e. cc) ∙ i.count;
       left = omega (arith, less, fewer);
-      ahead = λ start s a. forward_on c.args.at (g.C.Cursor.holds c.args.inner.now
-          c.args.source.now) (g.C.Cursor.holds c.loop-inner.inner c.loop-inner.source)
-          (i.moved.stays s).1 (g.met.C.Cursor.laws.apart c.args.inner.now c.args.source.now s) start
+      ahead = λ meant start s a. forward_on c.args.at ((g.C.Cursor.holds meant) c.args.inner.now
+          c.args.source.now) ((g.C.Cursor.holds meant) c.loop-inner.inner c.loop-inner.source)
+          (i.moved.stays meant s).1 ((law_at g.met.C.Cursor.laws meant).apart c.args.inner.now c.args.source.now s) start
           c.loop-inner.hiding c.is_shown.new.hides c.loop-inner.hidden.items
           c.is_shown.new.hidden.items (g.C.Cursor.position c.loop-inner.inner)
           (g.C.Cursor.position c.next.new.self) c.next.result on
@@ -36,28 +42,28 @@ loop-inner-preserved g c =
           (λ entry. IsJudged c.args.at c.loop-inner.hiding c.loop-inner.hidden.items entry
           c.is_shown.new.hides c.is_shown.new.hidden.items b)) c.if-branch.false
           c.in_ok-is_shown.ensures)
-          c.in_ok-next.was (c.next.ensures.finds (i.moved.stays s).0) (i.ahead start s a);
+          c.in_ok-next.was ((c.next.ensures.finds meant) (i.moved.stays meant s).0) ((i.ahead meant) start s a);
     }
 
 pub returns-then-branch-clause-finds : goal.returns-then-branch-clause-finds
-returns-then-branch-clause-finds g c start kept s a =
+returns-then-branch-clause-finds g c meant start kept s a =
     let i = c.loop-inner.invariant in
     let on : IsOn (g.C.Cursor.position c.loop-inner.inner) =
     c.valid.ensures.0 c.loop-inner-test.true in
-    shown_on c.args.at (g.C.Cursor.holds c.args.inner.now c.args.source.now) start
+    shown_on c.args.at ((g.C.Cursor.holds meant) c.args.inner.now c.args.source.now) start
     c.loop-inner.hiding c.is_shown.new.hides c.loop-inner.hidden.items
     c.is_shown.new.hidden.items (g.C.Cursor.position c.loop-inner.inner) kept on
     (subst (λ b. IfOn (g.C.Cursor.position c.loop-inner.inner)
     (λ entry. IsJudged c.args.at c.loop-inner.hiding c.loop-inner.hidden.items entry
     c.is_shown.new.hides c.is_shown.new.hidden.items b)) c.if-branch.true
-    c.in_ok-is_shown.ensures) (i.ahead start s a)
+    c.in_ok-is_shown.ensures) ((i.ahead meant) start s a)
 
 pub returns-clause-finds : goal.returns-clause-finds
-returns-clause-finds g c start kept s a =
+returns-clause-finds g c meant start kept s a =
     let off : IsOn (g.C.Cursor.position c.loop-inner.inner) → ⊥ = λ on. let z =
     c.valid.ensures.1 on in let f = c.loop-inner-test.false in cc in (
-      end_off c.args.at (g.C.Cursor.holds c.args.inner.now c.args.source.now) start
+      end_off c.args.at ((g.C.Cursor.holds meant) c.args.inner.now c.args.source.now) start
           (IsHidden c.loop-inner.hiding c.loop-inner.hidden.items)
-          (g.C.Cursor.position c.loop-inner.inner) off (c.loop-inner.invariant.ahead start s a),
+          (g.C.Cursor.position c.loop-inner.inner) off ((c.loop-inner.invariant.ahead meant) start s a),
       tt,
     )

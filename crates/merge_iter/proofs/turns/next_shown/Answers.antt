@@ -4,36 +4,37 @@ use Rattle.merge_iter.specs.Positions.{After}
 use Rattle.merge_iter.specs.KeptEntries.{kept_entry}
 use Rattle.merge_iter.specs.Unions.{first_kept}
 use Rattle.merge_iter.specs.Searches.{ahead_after, shown_of, shown_alike, found_alike}
+use Rattle.merge_iter.specs.Moves.{one_move}
 use Rattle.merge_iter.proofs.Walked.{flip, below}
 use Rattle.merge_iter.specs.ShownEntries.{left_in}
 use Rattle.merge_iter.proofs.turns.next_shown.Goals as goal
 
 pub returns-clause-finds : goal.returns-clause-finds
-returns-clause-finds g c entry s settled on =
-    let m = c.return_to.ensures.moves.stays s in
-    let n = c.leave.ensures.moves.stays m.0 in
-    let here = c.in_ok-return_to.ensures.returns c.args.at entry s settled on in
-    let gone = c.in_ok-leave.ensures.leaves entry m.0 here in
-    let shown = shown_alike c.args.at (g.C.Cursor.holds c.return_to.new.inner
-    c.return_to.new.source) (g.C.Cursor.holds c.leave.new.inner c.leave.new.source) n.1 entry
-    (shown_alike c.args.at (g.C.Cursor.holds c.args.inner.now c.args.source.now)
-    (g.C.Cursor.holds c.return_to.new.inner c.return_to.new.source) m.1 entry
-    (shown_of c.args.at (g.C.Cursor.holds c.args.inner.now c.args.source.now) c.args.mode
+returns-clause-finds g c meant entry s settled on =
+    let m = (one_move c.return_to.ensures.moves meant).stays s in
+    let n = (one_move c.leave.ensures.moves meant).stays m.0 in
+    let here = (c.in_ok-return_to.ensures.returns meant) c.args.at entry s settled on in
+    let gone = (c.in_ok-leave.ensures.leaves meant) entry m.0 here in
+    let shown = shown_alike c.args.at ((g.C.Cursor.holds meant) c.return_to.new.inner
+    c.return_to.new.source) ((g.C.Cursor.holds meant) c.leave.new.inner c.leave.new.source) n.1 entry
+    (shown_alike c.args.at ((g.C.Cursor.holds meant) c.args.inner.now c.args.source.now)
+    ((g.C.Cursor.holds meant) c.return_to.new.inner c.return_to.new.source) m.1 entry
+    (shown_of c.args.at ((g.C.Cursor.holds meant) c.args.inner.now c.args.source.now) c.args.mode
     (g.C.Cursor.position c.args.inner.now) (kept_entry c.args.kept.now) entry settled on)) in
     let f = first_kept Forward (After entry) (g.C.Cursor.position c.leave.new.inner)
-    (g.C.Cursor.holds c.return_to.new.inner c.return_to.new.source)
-    (g.C.Cursor.holds c.leave.new.inner c.leave.new.source) n.1 gone.0 in
-    let found = c.find_forward.ensures.finds (After entry) _ n.0
-    (ahead_after c.args.at (g.C.Cursor.holds c.leave.new.inner c.leave.new.source) entry _
+    ((g.C.Cursor.holds meant) c.return_to.new.inner c.return_to.new.source)
+    ((g.C.Cursor.holds meant) c.leave.new.inner c.leave.new.source) n.1 gone.0 in
+    let found = (c.find_forward.ensures.finds meant) (After entry) _ n.0
+    (ahead_after c.args.at ((g.C.Cursor.holds meant) c.leave.new.inner c.leave.new.source) entry _
     (g.C.Cursor.position c.leave.new.inner) shown gone.1 f) in
-    found_alike c.args.at (g.C.Cursor.holds c.return_to.new.inner c.return_to.new.source)
-    (g.C.Cursor.holds c.args.inner.now c.args.source.now)
-    (flip (g.C.Cursor.holds c.return_to.new.inner c.return_to.new.source)
-    (g.C.Cursor.holds c.args.inner.now c.args.source.now) m.1) Forward (After entry) _ _ _
-    (found_alike c.args.at (g.C.Cursor.holds c.leave.new.inner c.leave.new.source)
-    (g.C.Cursor.holds c.return_to.new.inner c.return_to.new.source)
-    (flip (g.C.Cursor.holds c.leave.new.inner c.leave.new.source)
-    (g.C.Cursor.holds c.return_to.new.inner c.return_to.new.source) n.1) Forward (After entry) _
+    found_alike c.args.at ((g.C.Cursor.holds meant) c.return_to.new.inner c.return_to.new.source)
+    ((g.C.Cursor.holds meant) c.args.inner.now c.args.source.now)
+    (flip ((g.C.Cursor.holds meant) c.return_to.new.inner c.return_to.new.source)
+    ((g.C.Cursor.holds meant) c.args.inner.now c.args.source.now) m.1) Forward (After entry) _ _ _
+    (found_alike c.args.at ((g.C.Cursor.holds meant) c.leave.new.inner c.leave.new.source)
+    ((g.C.Cursor.holds meant) c.return_to.new.inner c.return_to.new.source)
+    (flip ((g.C.Cursor.holds meant) c.leave.new.inner c.leave.new.source)
+    ((g.C.Cursor.holds meant) c.return_to.new.inner c.return_to.new.source) n.1) Forward (After entry) _
     _ _ found)
 
 pub returns-clause-left : goal.returns-clause-left

@@ -4,6 +4,7 @@ use Rattle.std.specs.List.{slice_get}
 use Rattle.std.proofs.lemmas.Result.{err_from_is_err_and}
 use Rattle.table_format.specs.{block_entries}
 use Rattle.table_format.specs.declared.TableError.TheVariants as table
+use Rattle.disk.specs.{State}
 use Rattle.sorted_table.specs.BlockPlaces.{PlaceReads}
 use Rattle.sorted_table.specs.TableCursors.{IsPlaceIn}
 use Rattle.sorted_table.proofs.FirstBlocks.{block_answer, block_is_right, block_of_line}
@@ -36,16 +37,17 @@ returns-clause-first g c =
     c.new.ensures.few
 
 pub returns-clause-reads : goal.returns-clause-reads
-returns-clause-reads g c = λ honest t.
-    let disk = g.D.Disk.state c.args.files.now.disk in
+returns-clause-reads g c = λ m honest agree t.
+    let disk : State = λ file. m in
     let lines = rc_slice_items c.args.lines.now in
     let n = c.args.line in
     let line = c.index-deref-number.result in
-    let b = block_of_line disk c.args.file lines n line t c.requires
-    (line_at lines c.deref.result.now n line c.deref.ensures.value c.requires
-    c.index-deref-number.is) in
+    let at = line_at lines c.deref.result.now n line c.deref.ensures.value c.requires
+    c.index-deref-number.is in
+    let b = block_of_line disk c.args.file lines n line t c.requires at in
+    let answers = c.in_ok-block.ensures.answers honest in
     let right = block_answer disk c.args.file lines n line t b (Ok c.in_ok-block.block)
-    (c.in_ok-block.ensures.answers honest) in
+    (answers.0, (agree n line _ at answers.0 answers.1.0 answers.1.1, answers.1.1)) in
     ok_part (IsPlaceIn t.represents.blocks) _ c.new.result
     (place_in disk c.args.file lines n line t b c.new.result c.new.ensures.first
     (c.new.ensures.entries (block_entries b.block) right))

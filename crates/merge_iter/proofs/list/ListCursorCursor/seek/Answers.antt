@@ -6,7 +6,7 @@ use Rattle.merge_iter.proofs.ListSearches.{IsSought, is_early, partitioned, soug
 use Rattle.merge_iter.proofs.list.ListCursorCursor.seek.Goals as goal
 
 pub returns-clause-finds : goal.returns-clause-finds
-returns-clause-finds c rising =
+returns-clause-finds c meant rising =
     let xs = c.deref.result.now in
     let same : xs ≡ c.args.self.now.entries.items = c.deref.ensures.value in
     let place = spot c.args.key.now c.args.number in

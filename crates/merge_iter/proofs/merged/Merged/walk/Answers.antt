@@ -5,15 +5,16 @@ use Rattle.merge_iter.specs.Positions.{Position, On, IsOn, IsBroken, IfOn, After
 use Rattle.merge_iter.specs.Moves.{ErrorCauses, MoveFinds}
 use Rattle.merge_iter.specs.Merging.{EachChild, UnionHolds, IsPlaced, IsMerge, union_position}
 use Rattle.merge_iter.specs.Merging.{child_position}
+use Rattle.merge_iter.specs.LentCursors.{AreIntact, IsIntactUnion}
 use Rattle.merge_iter.proofs.MergedMoves.{tells_merged, child_at, merge_after, finds_after}
 use Rattle.merge_iter.proofs.merged.Merged.walk.Goals as goal
 
 pub returns-in_err-advance-clause-sound : goal.returns-in_err-advance-clause-sound
-returns-in_err-advance-clause-sound g c m =
-    merge_after g.C.Cursor.holds g.C.Cursor.is_sound g.C.Cursor.keeps g.C.Cursor.most
+returns-in_err-advance-clause-sound g c meant m =
+    merge_after (g.C.Cursor.holds meant) (g.C.Cursor.is_sound meant) g.C.Cursor.suits g.C.Cursor.keeps g.C.Cursor.most
     g.C.Cursor.position c.args.self.now.children.items c.advance.new.children.items
     c.args.source.now c.advance.new.source c.args.self.now.place place.Broken
-    c.advance.ensures.moves tt m
+    (c.advance.ensures.moves meant) tt m
 
 pub returns-in_err-advance-clause-causes : goal.returns-in_err-advance-clause-causes
 returns-in_err-advance-clause-causes g c =
@@ -24,16 +25,14 @@ returns-in_err-advance-clause-causes g c =
     c.in-On.was c.in-On.k c.index.result.now c.in-On.is c.requires c.index.ensures in
     let on : IsOn (union_position g.C.Cursor.position c.args.self.now.children.items
     c.args.self.now.place) = subst IsOn (sym here.1) (c.valid.ensures.0 c.if-not-valid.false) in
-    let merge = IsMerge (λ d. g.C.Cursor.holds d c.args.source.now) g.C.Cursor.position
-    (λ d. g.C.Cursor.is_sound d c.args.source.now) c.args.self.now.children.items
-    c.args.self.now.place in
+    let merge = IsIntactUnion g.C.Cursor c.args.self.now.children.items c.args.self.now.place
+    c.args.source.now in
     subst (λ r. ErrorCauses merge
     (IsBroken (union_position g.C.Cursor.position c.args.self.now.children.items
     c.args.self.now.place)) g.C.Cursor.steps_allocate (g.C.Cursor.failures c.args.source.now)
     (g.C.Cursor.failures c.advance.new.source) r) told
-    (tells_merged (EachChild (λ d. g.C.Cursor.is_sound d c.args.source.now)
-    c.args.self.now.children.items) merge (union_position g.C.Cursor.position
-    c.args.self.now.children.items c.args.self.now.place) _ _ c.advance.result on (λ m. m.each)
+    (tells_merged (AreIntact g.C.Cursor c.args.self.now.children.items c.args.source.now) merge (union_position g.C.Cursor.position
+    c.args.self.now.children.items c.args.self.now.place) _ _ c.advance.result on (λ m. (m.0, m.1.each, m.2))
     c.advance.ensures.causes)
 
 pub returns-clause-causes : goal.returns-clause-causes
@@ -42,35 +41,33 @@ returns-clause-causes g c =
     c.in-On.was c.in-On.k c.index.result.now c.in-On.is c.requires c.index.ensures in
     let on : IsOn (union_position g.C.Cursor.position c.args.self.now.children.items
     c.args.self.now.place) = subst IsOn (sym here.1) (c.valid.ensures.0 c.if-not-valid.false) in
-    let merge = IsMerge (λ d. g.C.Cursor.holds d c.args.source.now) g.C.Cursor.position
-    (λ d. g.C.Cursor.is_sound d c.args.source.now) c.args.self.now.children.items
-    c.args.self.now.place in
+    let merge = IsIntactUnion g.C.Cursor c.args.self.now.children.items c.args.self.now.place
+    c.args.source.now in
     let was : c.advance.result ≡ Ok tt = c.in_ok-advance.was in
     subst (λ r. ErrorCauses merge
     (IsBroken (union_position g.C.Cursor.position c.args.self.now.children.items
     c.args.self.now.place)) g.C.Cursor.steps_allocate (g.C.Cursor.failures c.args.source.now)
     (g.C.Cursor.failures c.advance.new.source) r) was
-    (tells_merged (EachChild (λ d. g.C.Cursor.is_sound d c.args.source.now)
-    c.args.self.now.children.items) merge (union_position g.C.Cursor.position
-    c.args.self.now.children.items c.args.self.now.place) _ _ c.advance.result on (λ m. m.each)
+    (tells_merged (AreIntact g.C.Cursor c.args.self.now.children.items c.args.source.now) merge (union_position g.C.Cursor.position
+    c.args.self.now.children.items c.args.self.now.place) _ _ c.advance.result on (λ m. (m.0, m.1.each, m.2))
     c.advance.ensures.causes)
 
 pub returns-clause-sound : goal.returns-clause-sound
-returns-clause-sound g c m =
-    let p = subst (λ q. IsPlaced (λ d. g.C.Cursor.holds d c.args.source.now) g.C.Cursor.position
+returns-clause-sound g c meant m =
+    let p = subst (λ q. IsPlaced (λ d. (g.C.Cursor.holds meant) d c.args.source.now) g.C.Cursor.position
     c.args.self.now.children.items q) c.in-On.is m.placed in
-    let f = c.in_ok-advance.ensures.ahead p.0 p.1 p.2 p.3 m.apart m.each p.4 in
-    merge_after g.C.Cursor.holds g.C.Cursor.is_sound g.C.Cursor.keeps g.C.Cursor.most
+    let f = (c.in_ok-advance.ensures.ahead meant) p.0 p.1 p.2 p.3 m.apart m.each p.4 in
+    merge_after (g.C.Cursor.holds meant) (g.C.Cursor.is_sound meant) g.C.Cursor.suits g.C.Cursor.keeps g.C.Cursor.most
     g.C.Cursor.position c.args.self.now.children.items c.advance.new.children.items
     c.args.source.now c.advance.new.source c.args.self.now.place c.settle-self.result
-    c.advance.ensures.moves (c.settle-self.ensures.settles (After p.1) c.advance.new.source f).1
+    (c.advance.ensures.moves meant) ((c.settle-self.ensures.settles meant) (After p.1) c.advance.new.source f).1
     m
 
 pub returns-clause-finds : goal.returns-clause-finds
-returns-clause-finds g c m =
-    let p = subst (λ q. IsPlaced (λ d. g.C.Cursor.holds d c.args.source.now) g.C.Cursor.position
+returns-clause-finds g c meant m =
+    let p = subst (λ q. IsPlaced (λ d. (g.C.Cursor.holds meant) d c.args.source.now) g.C.Cursor.position
     c.args.self.now.children.items q) c.in-On.is m.placed in
-    let f = c.in_ok-advance.ensures.ahead p.0 p.1 p.2 p.3 m.apart m.each p.4 in
+    let f = (c.in_ok-advance.ensures.ahead meant) p.0 p.1 p.2 p.3 m.apart m.each p.4 in
     let here = child_at g.C.Cursor.position c.args.self.now.children.items c.args.self.now.place
     c.in-On.was c.in-On.k c.index.result.now c.in-On.is c.requires c.index.ensures in
     let new : Position = union_position g.C.Cursor.position c.advance.new.children.items
@@ -81,9 +78,9 @@ returns-clause-finds g c m =
     (sym c.in-On.is) (subst (λ o. child_position g.C.Cursor.position o ≡ On p.1) (sym p.2) p.3)
     in
     subst (λ s. IfOn s (λ entry. MoveFinds {R = Unit {0}} c.args.way (After entry)
-    (UnionHolds (λ d. g.C.Cursor.holds d c.args.source.now) c.args.self.now.children.items)
+    (UnionHolds (λ d. (g.C.Cursor.holds meant) d c.args.source.now) c.args.self.now.children.items)
     (Ok tt) new)) (sym was)
-    (finds_after g.C.Cursor.holds g.C.Cursor.is_sound g.C.Cursor.keeps g.C.Cursor.most
+    (finds_after (g.C.Cursor.holds meant) (g.C.Cursor.is_sound meant) g.C.Cursor.suits g.C.Cursor.keeps g.C.Cursor.most
     g.C.Cursor.position c.args.self.now.children.items c.advance.new.children.items
-    c.args.source.now c.advance.new.source c.advance.ensures.moves m.each c.args.way (After p.1)
-    new (c.settle-self.ensures.settles (After p.1) c.advance.new.source f).0)
+    c.args.source.now c.advance.new.source (c.advance.ensures.moves meant) m.each c.args.way (After p.1)
+    new ((c.settle-self.ensures.settles meant) (After p.1) c.advance.new.source f).0)

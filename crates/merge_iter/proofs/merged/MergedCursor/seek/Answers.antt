@@ -1,3 +1,4 @@
+use Rattle.merge_iter.specs.Moves.{all_moves}
 use Rattle.merge_iter.specs.declared.direction.Direction.TheVariants.{Forward}
 use Rattle.merge_iter.specs.declared.place.Place.TheVariants as place
 use Rattle.merge_iter.specs.Order.{spot}
@@ -7,33 +8,33 @@ use Rattle.merge_iter.proofs.MergedMoves.{union_moves, merge_after, finds_after}
 use Rattle.merge_iter.proofs.merged.MergedCursor.seek.Goals as goal
 
 pub returns-in_err-seek_all-clause-moves : goal.returns-in_err-seek_all-clause-moves
-returns-in_err-seek_all-clause-moves g c =
-    union_moves g.C.Cursor.holds g.C.Cursor.is_sound g.C.Cursor.keeps g.C.Cursor.most
+returns-in_err-seek_all-clause-moves g c = all_moves (g.C.Cursor.as_is c.args.source.now) (λ meant.
+    union_moves (g.C.Cursor.holds meant) (g.C.Cursor.is_sound meant) g.C.Cursor.suits g.C.Cursor.keeps g.C.Cursor.most
     g.C.Cursor.position (λ m. m.children.items) (λ m. m.place) _ _ c.args.source.now
-    c.seek_all.new.source c.seek_all.ensures.moves
-    (λ m. merge_after g.C.Cursor.holds g.C.Cursor.is_sound g.C.Cursor.keeps g.C.Cursor.most
+    c.seek_all.new.source (c.seek_all.ensures.moves meant)
+    (λ m. merge_after (g.C.Cursor.holds meant) (g.C.Cursor.is_sound meant) g.C.Cursor.suits g.C.Cursor.keeps g.C.Cursor.most
     g.C.Cursor.position c.args.self.now.children.items c.seek_all.new.children.items
     c.args.source.now c.seek_all.new.source c.args.self.now.place place.Broken
-    c.seek_all.ensures.moves tt m)
+    (c.seek_all.ensures.moves meant) tt m))
 
 pub returns-clause-moves : goal.returns-clause-moves
-returns-clause-moves g c =
-    union_moves g.C.Cursor.holds g.C.Cursor.is_sound g.C.Cursor.keeps g.C.Cursor.most
+returns-clause-moves g c = all_moves (g.C.Cursor.as_is c.args.source.now) (λ meant.
+    union_moves (g.C.Cursor.holds meant) (g.C.Cursor.is_sound meant) g.C.Cursor.suits g.C.Cursor.keeps g.C.Cursor.most
     g.C.Cursor.position (λ m. m.children.items) (λ m. m.place) _ _ c.args.source.now
-    c.seek_all.new.source c.seek_all.ensures.moves
-    (λ m. merge_after g.C.Cursor.holds g.C.Cursor.is_sound g.C.Cursor.keeps g.C.Cursor.most
+    c.seek_all.new.source (c.seek_all.ensures.moves meant)
+    (λ m. merge_after (g.C.Cursor.holds meant) (g.C.Cursor.is_sound meant) g.C.Cursor.suits g.C.Cursor.keeps g.C.Cursor.most
     g.C.Cursor.position c.args.self.now.children.items c.seek_all.new.children.items
     c.args.source.now c.seek_all.new.source c.args.self.now.place c.settle-self.result
-    c.seek_all.ensures.moves
-    (c.settle-self.ensures.settles (At (spot c.args.key.now c.args.number)) c.seek_all.new.source
-    (c.in_ok-seek_all.ensures.finds m.each)).1 m)
+    (c.seek_all.ensures.moves meant)
+    ((c.settle-self.ensures.settles meant) (At (spot c.args.key.now c.args.number)) c.seek_all.new.source
+    ((c.in_ok-seek_all.ensures.finds meant) m.each)).1 m))
 
 pub returns-clause-finds : goal.returns-clause-finds
-returns-clause-finds g c m =
-    finds_after g.C.Cursor.holds g.C.Cursor.is_sound g.C.Cursor.keeps g.C.Cursor.most
+returns-clause-finds g c meant m =
+    finds_after (g.C.Cursor.holds meant) (g.C.Cursor.is_sound meant) g.C.Cursor.suits g.C.Cursor.keeps g.C.Cursor.most
     g.C.Cursor.position c.args.self.now.children.items c.seek_all.new.children.items
-    c.args.source.now c.seek_all.new.source c.seek_all.ensures.moves m.each Forward
+    c.args.source.now c.seek_all.new.source (c.seek_all.ensures.moves meant) m.each Forward
     (At (spot c.args.key.now c.args.number))
     (union_position g.C.Cursor.position c.seek_all.new.children.items c.settle-self.result)
-    (c.settle-self.ensures.settles (At (spot c.args.key.now c.args.number))
-    c.seek_all.new.source (c.in_ok-seek_all.ensures.finds m.each)).0
+    ((c.settle-self.ensures.settles meant) (At (spot c.args.key.now c.args.number))
+    c.seek_all.new.source ((c.in_ok-seek_all.ensures.finds meant) m.each)).0

@@ -1,4 +1,5 @@
 use Rattle.table_files.specs.{keeps_files_itself}
+use Rattle.sorted_table.specs.MovedFiles.{moves_itself}
 use Rattle.sorted_table.proofs.TablePlaces.{moved_in}
 use Rattle.sorted_table.proofs.table_cursor.TableCursor.enter.Goals as goal
 
@@ -6,6 +7,9 @@ pub returns-then-line-len-clause-keeps : goal.returns-then-line-len-clause-keeps
 returns-then-line-len-clause-keeps g c = keeps_files_itself _ c.args.files.now
 
 pub returns-in-Ok-clause-reads : goal.returns-in-Ok-clause-reads
-returns-in-Ok-clause-reads g c = λ honest t.
+returns-in-Ok-clause-reads g c = λ m honest agree t.
     moved_in t.represents.blocks c.in-Ok.place c.at_end.result c.at_end.result.at
-    c.at_end.ensures.same (c.in-Ok.ensures.reads honest t)
+    c.at_end.ensures.same (c.in-Ok.ensures.reads m honest agree t)
+
+pub returns-then-line-len-clause-device : goal.returns-then-line-len-clause-device
+returns-then-line-len-clause-device g c = moves_itself _ c.args.files.now

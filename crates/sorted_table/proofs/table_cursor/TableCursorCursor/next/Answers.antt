@@ -2,6 +2,7 @@ use Rattle.std.proofs.Common.{◌+◌, ◌∙◌, ◌<◌, refl, ap, sym, subst,
 use Rattle.std.specs.Rc.{rc_slice_items}
 use Rattle.table_files.specs.{keeps_files_itself}
 use Rattle.sorted_table.specs.TableCursors.{IsPlaceIn}
+use Rattle.sorted_table.specs.MovedFiles.{moves_itself}
 use Rattle.sorted_table.proofs.CursorMoves.{cursor_moves, entered_or_none, when_false}
 use Rattle.sorted_table.proofs.CursorSteps.{ends_ahead, within_lines}
 use Rattle.sorted_table.proofs.TableFinds.{finds_next_block, finds_next_in, here_of}
@@ -12,21 +13,21 @@ pub returns-in_default-clause-moves : goal.returns-in_default-clause-moves
 returns-in_default-clause-moves g c =
     cursor_moves _ (λ d. d.file) (λ d. rc_slice_items d.lines) (λ d. d.place) _ _
     c.args.files.now c.args.files.now (keeps_files_itself _ c.args.files.now) refl refl
-    (λ honest t here.
+    (λ m honest agree t here.
     subst (λ o. IfSome o (IsPlaceIn t.represents.blocks)) (sym c.take.ensures.after) tt)
 
 pub returns-then-advance-clause-moves : goal.returns-then-advance-clause-moves
 returns-then-advance-clause-moves g c =
     cursor_moves _ (λ d. d.file) (λ d. rc_slice_items d.lines) (λ d. d.place) _ _
     c.args.files.now c.args.files.now (keeps_files_itself _ c.args.files.now) refl refl
-    (λ honest t here.
+    (λ m honest agree t here.
     let p = c.in-Some.place in
     moved_in t.represents.blocks p c.advance.new.self (p.at + 1) (c.if-advance.ensures.moved refl)
     (here_of (IsPlaceIn t.represents.blocks) c.args.self.now.place p
     (sym c.take.ensures.value ∙ c.in-Some.is) here))
 
 pub returns-then-advance-clause-finds : goal.returns-then-advance-clause-finds
-returns-then-advance-clause-finds g c = λ s.
+returns-then-advance-clause-finds g c = λ m s.
     finds_next_in _ _ s.1.table c.args.self.now.has_failed c.args.self.now.place c.in-Some.place
     c.advance.new.self (sym c.take.ensures.value ∙ c.in-Some.is) s.1.here
     (c.if-advance.ensures.moved refl)
@@ -47,8 +48,8 @@ pub returns-clause-moves : goal.returns-clause-moves
 returns-clause-moves g c =
     cursor_moves _ (λ d. d.file) (λ d. rc_slice_items d.lines) (λ d. d.place) _ _
     c.args.files.now c.enter.new.files c.enter.ensures.keeps c.enter.ensures.table.0
-    (ap rc_slice_items c.enter.ensures.table.1) (λ honest t here.
-    entered_or_none _ _ _ c.enter.result (c.enter.ensures.reads honest t) c.enter.ensures.refused)
+    (ap rc_slice_items c.enter.ensures.table.1) (λ m honest agree t here.
+    entered_or_none _ _ _ c.enter.result (c.enter.ensures.reads m honest agree t) c.enter.ensures.refused)
 
 pub returns-clause-ends : goal.returns-clause-ends
 returns-clause-ends g c =
@@ -61,11 +62,17 @@ returns-clause-ends g c =
     (ap (λ n. n + 1) (c.line-line.ensures ∙ last.0.line)) new.bounded c.enter.ensures.entered
 
 pub returns-clause-finds : goal.returns-clause-finds
-returns-clause-finds g c = λ s.
+returns-clause-finds g c = λ m s.
     let last = when_false c.advance.result _ c.if-advance.false c.advance.ensures.last in
     let old = c.args.self.now in
     let new = c.enter.new.self in
     finds_next_block _ _ s.1.table c.enter.result old.has_failed old.place c.in-Some.place
     (c.line-line.result + 1) new.has_failed new.place (sym c.take.ensures.value ∙ c.in-Some.is)
     s.1.here last.1 (ap (λ n. n + 1) (c.line-line.ensures ∙ last.0.line)) c.enter.ensures.entered
-    (c.enter.ensures.reads s.0 s.1.table)
+    (c.enter.ensures.reads (m c.args.self.now.file) s.0 s.2 s.1.table)
+
+pub returns-in_default-clause-device : goal.returns-in_default-clause-device
+returns-in_default-clause-device g c = moves_itself _ c.args.files.now
+
+pub returns-then-advance-clause-device : goal.returns-then-advance-clause-device
+returns-then-advance-clause-device g c = moves_itself _ c.args.files.now

@@ -2,6 +2,7 @@ use Rattle.std.proofs.Common.{◌-◌, ◌∙◌, refl, ap, sym, subst, arith, I
 use Rattle.std.specs.Rc.{rc_slice_items}
 use Rattle.table_files.specs.{keeps_files_itself}
 use Rattle.sorted_table.specs.TableCursors.{IsPlaceIn}
+use Rattle.sorted_table.specs.MovedFiles.{moves_itself}
 use Rattle.sorted_table.proofs.CursorMoves.{cursor_moves, entered_or_none, when_false}
 use Rattle.sorted_table.proofs.CursorSteps.{ends_behind, within_lines}
 use Rattle.sorted_table.proofs.TableFinds.{finds_none_before, finds_prev_block, finds_prev_in, here_of}
@@ -12,21 +13,21 @@ pub returns-in_default-clause-moves : goal.returns-in_default-clause-moves
 returns-in_default-clause-moves g c =
     cursor_moves _ (λ d. d.file) (λ d. rc_slice_items d.lines) (λ d. d.place) _ _
     c.args.files.now c.args.files.now (keeps_files_itself _ c.args.files.now) refl refl
-    (λ honest t here.
+    (λ m honest agree t here.
     subst (λ o. IfSome o (IsPlaceIn t.represents.blocks)) (sym c.take.ensures.after) tt)
 
 pub returns-then-retreat-clause-moves : goal.returns-then-retreat-clause-moves
 returns-then-retreat-clause-moves g c =
     cursor_moves _ (λ d. d.file) (λ d. rc_slice_items d.lines) (λ d. d.place) _ _
     c.args.files.now c.args.files.now (keeps_files_itself _ c.args.files.now) refl refl
-    (λ honest t here.
+    (λ m honest agree t here.
     let p = c.in-Some.place in
     moved_in t.represents.blocks p c.retreat.new.self (p.at - 1) (c.if-retreat.ensures.moved refl).0
     (here_of (IsPlaceIn t.represents.blocks) c.args.self.now.place p
     (sym c.take.ensures.value ∙ c.in-Some.is) here))
 
 pub returns-then-retreat-clause-finds : goal.returns-then-retreat-clause-finds
-returns-then-retreat-clause-finds g c = λ s.
+returns-then-retreat-clause-finds g c = λ m s.
     let moved = c.if-retreat.ensures.moved refl in
     finds_prev_in _ _ s.1.table c.args.self.now.has_failed c.args.self.now.place c.in-Some.place
     c.retreat.new.self (sym c.take.ensures.value ∙ c.in-Some.is) s.1.here moved.0 moved.1
@@ -35,11 +36,11 @@ pub returns-then-line-eq0-clause-moves : goal.returns-then-line-eq0-clause-moves
 returns-then-line-eq0-clause-moves g c =
     cursor_moves _ (λ d. d.file) (λ d. rc_slice_items d.lines) (λ d. d.place) _ _
     c.args.files.now c.args.files.now (keeps_files_itself _ c.args.files.now) refl refl
-    (λ honest t here.
+    (λ m honest agree t here.
     subst (λ o. IfSome o (IsPlaceIn t.represents.blocks)) (sym c.take.ensures.after) tt)
 
 pub returns-then-line-eq0-clause-finds : goal.returns-then-line-eq0-clause-finds
-returns-then-line-eq0-clause-finds g c = λ s.
+returns-then-line-eq0-clause-finds g c = λ m s.
     let first = when_false c.retreat.result _ c.if-retreat.false c.retreat.ensures.first in
     finds_none_before _ _ s.1.table c.args.self.now.has_failed c.args.self.now.place c.in-Some.place
     c.take.new.self (sym c.take.ensures.value ∙ c.in-Some.is) s.1.here
@@ -50,8 +51,8 @@ pub returns-clause-moves : goal.returns-clause-moves
 returns-clause-moves g c =
     cursor_moves _ (λ d. d.file) (λ d. rc_slice_items d.lines) (λ d. d.place) _ _
     c.args.files.now c.enter.new.files c.enter.ensures.keeps c.enter.ensures.table.0
-    (ap rc_slice_items c.enter.ensures.table.1) (λ honest t here.
-    entered_or_none _ _ _ c.enter.result (c.enter.ensures.reads honest t) c.enter.ensures.refused)
+    (ap rc_slice_items c.enter.ensures.table.1) (λ m honest agree t here.
+    entered_or_none _ _ _ c.enter.result (c.enter.ensures.reads m honest agree t) c.enter.ensures.refused)
 
 pub returns-clause-ends : goal.returns-clause-ends
 returns-clause-ends g c =
@@ -64,7 +65,7 @@ returns-clause-ends g c =
     (let some = c.if-line-eq0.false in omega (arith, c.line-line.ensures, first.0.line, some)) new.bounded c.enter.ensures.entered
 
 pub returns-clause-finds : goal.returns-clause-finds
-returns-clause-finds g c = λ s.
+returns-clause-finds g c = λ m s.
     let first = when_false c.retreat.result _ c.if-retreat.false c.retreat.ensures.first in
     let old = c.args.self.now in
     let new = c.enter.new.self in
@@ -73,4 +74,13 @@ returns-clause-finds g c = λ s.
     (c.line-line.result - 1) new.has_failed new.place is
     s.1.here (let some = c.if-line-eq0.false in omega (arith, c.line-line.ensures, first.0.line, some)) first.1
     (within_lines (rc_slice_items old.lines) c.in-Some.place (old.bounded c.in-Some.place is))
-    c.enter.ensures.entered (c.enter.ensures.reads s.0 s.1.table)
+    c.enter.ensures.entered (c.enter.ensures.reads (m c.args.self.now.file) s.0 s.2 s.1.table)
+
+pub returns-in_default-clause-device : goal.returns-in_default-clause-device
+returns-in_default-clause-device g c = moves_itself _ c.args.files.now
+
+pub returns-then-retreat-clause-device : goal.returns-then-retreat-clause-device
+returns-then-retreat-clause-device g c = moves_itself _ c.args.files.now
+
+pub returns-then-line-eq0-clause-device : goal.returns-then-line-eq0-clause-device
+returns-then-line-eq0-clause-device g c = moves_itself _ c.args.files.now

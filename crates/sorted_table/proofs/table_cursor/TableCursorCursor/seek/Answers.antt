@@ -13,18 +13,18 @@ pub returns-in_err-reach-clause-moves : goal.returns-in_err-reach-clause-moves
 returns-in_err-reach-clause-moves g c =
     cursor_moves _ (λ d. d.file) (λ d. rc_slice_items d.lines) (λ d. d.place) _ _
     c.args.files.now c.reach.new.files c.reach.ensures.keeps c.reach.ensures.table.0
-    (ap rc_slice_items c.reach.ensures.table.1) (λ honest t here.
+    (ap rc_slice_items c.reach.ensures.table.1) (λ m honest agree t here.
     subst (λ o. IfSome o (IsPlaceIn t.represents.blocks)) (sym c.in_err-reach.ensures.refused.0) tt)
 
 pub returns-in_default-clause-moves : goal.returns-in_default-clause-moves
 returns-in_default-clause-moves g c =
     cursor_moves _ (λ d. d.file) (λ d. rc_slice_items d.lines) (λ d. d.place) _ _
     c.args.files.now c.reach.new.files c.reach.ensures.keeps c.reach.ensures.table.0
-    (ap rc_slice_items c.reach.ensures.table.1) (λ honest t here.
+    (ap rc_slice_items c.reach.ensures.table.1) (λ m honest agree t here.
     subst (λ o. IfSome o (IsPlaceIn t.represents.blocks)) (sym c.take.ensures.after) tt)
 
 pub returns-in_default-clause-finds : goal.returns-in_default-clause-finds
-returns-in_default-clause-finds g c = λ s.
+returns-in_default-clause-finds g c = λ m s.
     let lines = rc_slice_items c.args.self.now.lines in
     let n = c.line_place-line.result in
     let failed = c.reach.new.self.has_failed in
@@ -39,19 +39,21 @@ pub returns-then-not-seek-clause-moves : goal.returns-then-not-seek-clause-moves
 returns-then-not-seek-clause-moves g c =
     cursor_moves _ (λ d. d.file) (λ d. rc_slice_items d.lines) (λ d. d.place) _ _
     c.args.files.now c.reach.new.files c.reach.ensures.keeps c.reach.ensures.table.0
-    (ap rc_slice_items c.reach.ensures.table.1) (λ honest t here.
+    (ap rc_slice_items c.reach.ensures.table.1) (λ m honest agree t here.
     subst (λ o. IfSome o (IsPlaceIn t.represents.blocks)) (sym c.take.ensures.after) tt)
 
 pub returns-then-not-seek-clause-causes : goal.returns-then-not-seek-clause-causes
 returns-then-not-seek-clause-causes g c =
-    damaged_never _ _ _ c.in_ok-reach.field-0 _ c.in_ok-reach.ensures.causes (λ s.
+    damaged_never _ _ _ c.in_ok-reach.field-0 _ c.in_ok-reach.ensures.causes (λ whole.
+    let s = whole.1 in
     let lines = rc_slice_items c.args.self.now.lines in
     let n = c.line_place-line.result in
     let t = s.1.table in
     let p = c.in-Some.place in
     let on = sym c.take.ensures.value ∙ c.in-Some.is in
     let there = here_of (IsPlaceIn t.represents.blocks) c.reach.new.self.place p on
-    (c.in_ok-reach.ensures.reads s.0 t s.1.here) in
+    (c.in_ok-reach.ensures.reads
+    (whole.0 c.args.self.now.file) s.0 s.2 t s.1.here) in
     let line : p.line ≡ n = subst (HasReached lines n c.reach.new.self.has_failed) on
     c.in_ok-reach.ensures.reached in
     never_late _ lines t c.args.key.now c.args.number n p
@@ -65,21 +67,21 @@ pub returns-clause-moves : goal.returns-clause-moves
 returns-clause-moves g c =
     cursor_moves _ (λ d. d.file) (λ d. rc_slice_items d.lines) (λ d. d.place) _ _
     c.args.files.now c.reach.new.files c.reach.ensures.keeps c.reach.ensures.table.0
-    (ap rc_slice_items c.reach.ensures.table.1) (λ honest t here.
+    (ap rc_slice_items c.reach.ensures.table.1) (λ m honest agree t here.
     let p = c.in-Some.place in
     moved_in t.represents.blocks p c.seek.new.self c.seek.new.self.at c.seek.ensures.same
     (here_of (IsPlaceIn t.represents.blocks) c.reach.new.self.place p
-    (sym c.take.ensures.value ∙ c.in-Some.is) (c.in_ok-reach.ensures.reads honest t here)))
+    (sym c.take.ensures.value ∙ c.in-Some.is) (c.in_ok-reach.ensures.reads m honest agree t here)))
 
 pub returns-clause-finds : goal.returns-clause-finds
-returns-clause-finds g c = λ s.
+returns-clause-finds g c = λ m s.
     let lines = rc_slice_items c.args.self.now.lines in
     let n = c.line_place-line.result in
     let t = s.1.table in
     let p = c.in-Some.place in
     let on = sym c.take.ensures.value ∙ c.in-Some.is in
     let there = here_of (IsPlaceIn t.represents.blocks) c.reach.new.self.place p on
-    (c.in_ok-reach.ensures.reads s.0 t s.1.here) in
+    (c.in_ok-reach.ensures.reads (m c.args.self.now.file) s.0 s.2 t s.1.here) in
     let line : p.line ≡ n = subst (HasReached lines n c.reach.new.self.has_failed) on
     c.in_ok-reach.ensures.reached in
     finds_sought _ lines t c.args.key.now c.args.number n p c.seek.new.self
