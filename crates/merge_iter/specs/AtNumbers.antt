@@ -11,7 +11,8 @@ use Rattle.kv_types.specs.{IsShown}
 use Rattle.merge_iter.specs.ShownEntries.{IsSettled, left_in}
 use Rattle.merge_iter.specs.Searches.{all_shown_alike, settled_alike}
 
-module _ {C S : Type 0} (holds : C → S → Entry → Type 0) (sound : C → S → Type 0) (suits : C → S → S → Type 0)
+module _ {C S : Type 0} (holds : C → S → Entry → Type 0) (sound : C → S → Type 0) (suits : C → S →
+    S → Type 0)
     (keeps : S → S → Type 0) (left : C → Direction → ℕ) (most : C → ℕ) (position : C → Position)
     (laws : IsLawful holds sound suits keeps left most) where
   within : (c : C) (m : Mode) (way : Direction) → left_in (left c) (most c) m way ≤ most c + 2
@@ -57,7 +58,9 @@ module _ {C S : Type 0} (holds : C → S → Entry → Type 0) (sound : C → S 
 module _ {C S K : Type 0} {as_is : S → K} {is_intact : K → S → Type 0}
     (holds : K → C → S → Entry → Type 0) (sound : K → C → S → Type 0) (suits : C → S → S → Type 0)
     (keeps : S → S → Type 0) (left : C → Direction → ℕ) (most : C → ℕ) (position : C → Position)
-    {makes : Bool → S → S → Type 0} (laws : AreLawful as_is is_intact holds sound suits keeps makes left most) where
+    {makes : Bool → S → S → Type 0} (laws : AreLawful as_is is_intact holds sound suits keeps makes
+    left most) where
+  -- no more steps are left than from end to end
   all_within : (c : C) (m : Mode) (way : Direction) → left_in (left c) (most c) m way ≤ most c + 2
   all_within c mode.Inner Forward = let h = laws.within c Forward in omega (arith, h)
   all_within c mode.Inner Backward = omega arith
@@ -66,6 +69,7 @@ module _ {C S K : Type 0} {as_is : S → K} {is_intact : K → S → Type 0}
   all_within c mode.Off way = omega arith
   all_within c mode.Broken way = omega arith
 
+  -- what a view keeps, whatever its inner cursor's source was meant to hold
   pub view_laws : {M : Type 0} (inner : M → C) (at : M → ℕ) (m : M → Mode) (kept : M → Entry)
       → AreLawful {C = M} as_is is_intact (λ w a s. IsShown (at a) (holds w (inner a) s))
       (λ w a s. sound w (inner a) s × IsSettled (at a) (holds w (inner a) s) (m a)

@@ -7,7 +7,6 @@ pub mod ListEntries
 pub mod Lists
 pub mod Merging
 pub mod LentCursors
-pub mod Gaps
 pub mod Unions
 pub mod ShownEntries
 pub mod KeptEntries
@@ -19,7 +18,8 @@ pub mod ListPlacesLemmas
 -- What crates above name.
 pub use Rattle.merge_iter.specs.EntryOrder.{chain, entry_total, never}
 pub use Rattle.merge_iter.specs.EntryParts.{equal_parts, numbers_fall}
-pub use Rattle.merge_iter.specs.LentCursors.{AreDisjoint, AreSound, IsIntact, KeepsCursor, RefusesMove}
+pub use Rattle.merge_iter.specs.LentCursors.{AreDisjoint, AreSound, IsIntact}
+pub use Rattle.merge_iter.specs.LentCursors.{KeepsCursor, RefusesMove}
 pub use Rattle.merge_iter.specs.LentCursors.{union_of}
 pub use Rattle.merge_iter.specs.ListEntries.{IsSortedList, ListHolds}
 pub use Rattle.merge_iter.specs.Merging.{AreApart, EachChild, UnionHolds}

@@ -42,7 +42,8 @@ left_within xs at Backward = behind at (length xs)
 
 pub list_laws : AreLawful {C = ListCursor} {S = Unit {0}} {K = Unit {0}} (λ _. tt) (λ _ _. Unit {0})
     (λ _ c _. ListHolds c.entries.items) (λ _ c _. IsSortedList c.entries.items)
-    (λ _ _ _. Unit {0}) (λ _ _. Unit {0}) (λ _ _ _. Unit {0}) (λ c. entries_left c.entries.items c.at)
+    (λ _ _ _. Unit {0}) (λ _ _. Unit {0}) (λ _ _ _. Unit {0})
+    (λ c. entries_left c.entries.items c.at)
     (λ c. length c.entries.items)
 list_laws = record {
   itself = λ a. tt;

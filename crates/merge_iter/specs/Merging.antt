@@ -100,7 +100,8 @@ module _ {C : Type 0} where
   merged_left left most children place.Broken way = 0
 
 -- the effect of a move of several children
-pub record ChildrenKeep {C S : Type 0} (holds : C → S → Entry → Type 0) (is_sound : C → S → Type 0) (suits : C → S → S → Type 0)
+pub record ChildrenKeep {C S : Type 0} (holds : C → S → Entry → Type 0) (is_sound : C → S → Type 0)
+    (suits : C → S → S → Type 0)
     (keeps : S → S → Type 0) (most : C → ℕ) (old : List C) (before : S) (new : List C) (now : S)
     : Type 0 where
   pub source : keeps before now

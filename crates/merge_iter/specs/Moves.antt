@@ -68,7 +68,8 @@ module _ {C S : Type 0} (holds : C → S → Entry → Type 0) (is_sound : C →
 
 -- what all cursors of a kind have in common, whatever their source was meant to hold
 pub record AreLawful {C S K : Type 0} (as_is : S → K) (is_intact : K → S → Type 0)
-    (holds : K → C → S → Entry → Type 0) (is_sound : K → C → S → Type 0) (suits : C → S → S → Type 0)
+    (holds : K → C → S → Entry → Type 0) (is_sound : K → C → S → Type 0) (suits : C → S → S → Type
+    0)
     (keeps : S → S → Type 0) (makes : Bool → S → S → Type 0) (left : C → Direction → ℕ)
     (most : C → ℕ) : Type 0 where
   -- moves may be none, and moves may follow moves
@@ -93,9 +94,11 @@ pub record AreLawful {C S K : Type 0} (as_is : S → K) (is_intact : K → S →
   pub within : (c : C) (way : Direction) → left c way ≤ most c
 
 module _ {C S K : Type 0} {as_is : S → K} {is_intact : K → S → Type 0}
-    {holds : K → C → S → Entry → Type 0} {is_sound : K → C → S → Type 0} {suits : C → S → S → Type 0}
+    {holds : K → C → S → Entry → Type 0} {is_sound : K → C → S → Type 0} {suits : C → S → S → Type
+    0}
     {keeps : S → S → Type 0} {makes : Bool → S → S → Type 0} {left : C → Direction → ℕ}
     {most : C → ℕ} where
+  -- what they have in common for one content that was meant
   pub law_at : AreLawful as_is is_intact holds is_sound suits keeps makes left most → (meant : K)
       → IsLawful (holds meant) (is_sound meant) suits keeps left most
   law_at laws meant = record {
@@ -118,10 +121,12 @@ pub record Moved {C S K : Type 0} (holds : K → C → S → Entry → Type 0)
 module _ {C S K : Type 0} {holds : K → C → S → Entry → Type 0} {is_sound : K → C → S → Type 0}
     {suits : C → S → S → Type 0} {keeps : S → S → Type 0} {most : C → ℕ} {old : C} {before : S}
     {new : C} {now : S} where
+  -- the effect of a move for one content that was meant
   pub one_move : Moved holds is_sound suits keeps most old before new now → (meant : K)
       → MoveKeeps (holds meant) (is_sound meant) suits keeps most old before new now
   one_move m meant = record { source = m.source; stays = m.stays meant; size = m.size }
 
+  -- the effect of a move, from its effect for each content that was meant
   pub all_moves : K → ((meant : K) → MoveKeeps (holds meant) (is_sound meant) suits keeps most old
       before new now) → Moved holds is_sound suits keeps most old before new now
   all_moves here f = record {

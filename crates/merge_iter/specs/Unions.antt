@@ -47,7 +47,8 @@ module _ {C S : Type 0} (holds : C → S → Entry → Type 0) (sound : C → S 
   pub stays_same : (c : C) (s : S) → EntriesStay holds sound suits c s c s
   stays_same c s h = (h, λ entry. ((λ x. x), (λ x. x)), λ a b z. z)
 
-  pub stays_through : (a b d : C) (s t u : S) → EntriesStay holds sound suits a s b t → EntriesStay holds
+  pub stays_through : (a b d : C) (s t u : S) → EntriesStay holds sound suits a s b t → EntriesStay
+      holds
       sound suits b t d u → EntriesStay holds sound suits a s d u
   stays_through a b d s t u f g h =
       let k = f h in
@@ -60,17 +61,20 @@ module _ {C S : Type 0} (holds : C → S → Entry → Type 0) (sound : C → S 
         λ v w z. m.2 v w (k.2 v w z),
       )
 
-module _ {C S : Type 0} (holds : C → S → Entry → Type 0) (sound : C → S → Type 0) (suits : C → S → S → Type 0)
+module _ {C S : Type 0} (holds : C → S → Entry → Type 0) (sound : C → S → Type 0) (suits : C → S →
+    S → Type 0)
     (keeps : S → S → Type 0) (most : C → ℕ) where
   -- all are sound where they were before
-  pub all_sound : (old new : List C) (before now : S) → ChildrenKeep holds sound suits keeps most old
+  pub all_sound : (old new : List C) (before now : S) → ChildrenKeep holds sound suits keeps most
+      old
       before new now → EachChild (λ c. sound c before) old → EachChild (λ c. sound c now) new
   all_sound old new before now m each j c e =
       let o = there old new j c m.len e in
       (m.each j o.0 c o.1 e (each j o.0 o.1)).0
 
   -- together they hold the same entries
-  pub any_alike : (old new : List C) (before now : S) → ChildrenKeep holds sound suits keeps most old
+  pub any_alike : (old new : List C) (before now : S) → ChildrenKeep holds sound suits keeps most
+      old
       before new now → EachChild (λ c. sound c before) old
       → IsAlike (UnionHolds (λ c. holds c now) new) (UnionHolds (λ c. holds c before) old)
   any_alike old new before now m each entry = (
@@ -81,14 +85,16 @@ module _ {C S : Type 0} (holds : C → S → Entry → Type 0) (sound : C → S 
   )
 
   -- what served all children does so
-  pub all_suited : (old new : List C) (before now : S) → ChildrenKeep holds sound suits keeps most old
+  pub all_suited : (old new : List C) (before now : S) → ChildrenKeep holds sound suits keeps most
+      old
       before new now → EachChild (λ c. sound c before) old → (v w : S)
       → EachChild (λ c. suits c v w) old → EachChild (λ c. suits c v w) new
   all_suited old new before now m each v w all j c e =
       let o = there old new j c m.len e in
       (m.each j o.0 c o.1 e (each j o.0 o.1)).2 v w (all j o.0 o.1)
 
-  pub all_apart : (old new : List C) (before now : S) → ChildrenKeep holds sound suits keeps most old
+  pub all_apart : (old new : List C) (before now : S) → ChildrenKeep holds sound suits keeps most
+      old
       before new now → EachChild (λ c. sound c before) old → AreApart (λ c. holds c before) old
       → AreApart (λ c. holds c now) new
   all_apart old new before now m each apart i j c d a b p q ha hb e =
@@ -97,12 +103,14 @@ module _ {C S : Type 0} (holds : C → S → Entry → Type 0) (sound : C → S 
       apart i j o.0 r.0 a b o.1 r.1 (((m.each i o.0 c o.1 p (each i o.0 o.1)).1 a).0 ha)
       (((m.each j r.0 d r.1 q (each j r.0 r.1)).1 b).0 hb) e
 
-  module _ (left : C → Direction → ℕ) (position : C → Position) (laws : IsLawful holds sound suits keeps
+  module _ (left : C → Direction → ℕ) (position : C → Position) (laws : IsLawful holds sound suits
+      keeps
       left most) where
     -- each child stays as it is from one source to the other
     abbrev AllStay : List C → S → S → Type 0
     AllStay xs a b = EachChild (λ c. EntriesStay holds sound suits c a c b) xs
 
+    -- the union stays where it stands from one source to the other
     placed_on : (xs : List C) (a b : S) → AllStay xs a b → EachChild (λ c. sound c a) xs
         → (at : Place) → IsPlaced (λ c. holds c a) position xs at
         → IsPlaced (λ c. holds c b) position xs at
@@ -117,6 +125,7 @@ module _ {C S : Type 0} (holds : C → S → Entry → Type 0) (sound : C → S 
     placed_on xs a b k each place.Off p = tt
     placed_on xs a b k each place.Broken p = tt
 
+    -- the union has the same entries over both sources
     alike_on : (xs : List C) (a b : S) → AllStay xs a b → EachChild (λ c. sound c a) xs
         → IsAlike (UnionHolds (λ c. holds c b) xs) (UnionHolds (λ c. holds c a) xs)
     alike_on xs a b k each entry = (
@@ -124,6 +133,7 @@ module _ {C S : Type 0} (holds : C → S → Entry → Type 0) (sound : C → S 
       (λ h. (h.0, h.1, h.2, ((k h.0 h.1 h.2 (each h.0 h.1 h.2)).1 entry).1 h.3)),
     )
 
+    -- the union stays sound from one source to the other
     merged_on : (xs : List C) (at : Place) (a b : S) → AllStay xs a b → IsMerge (λ c. holds c a)
         position (λ c. sound c a) xs at
         → IsMerge (λ c. holds c b) position (λ c. sound c b) xs at
@@ -186,10 +196,13 @@ module _ {C S : Type 0} (holds : C → S → Entry → Type 0) (sound : C → S 
 module _ {C S K : Type 0} {as_is : S → K} {is_intact : K → S → Type 0}
     (holds : K → C → S → Entry → Type 0) (sound : K → C → S → Type 0) (suits : C → S → S → Type 0)
     (keeps : S → S → Type 0) (most : C → ℕ) (left : C → Direction → ℕ) (position : C → Position)
-    {makes : Bool → S → S → Type 0} (laws : AreLawful as_is is_intact holds sound suits keeps makes left most) where
+    {makes : Bool → S → S → Type 0} (laws : AreLawful as_is is_intact holds sound suits keeps makes
+    left most) where
+  -- no child has more steps left than from end to end
   every_left : (way : Direction) (xs : List C) → sum_by (λ c. left c way) xs ≤ sum_by most xs
   every_left way xs = sum_by-le-sum_by (λ c. left c way) most xs (λ c. laws.within c way)
 
+  -- nor has the union
   all_within : (xs : List C) (at : Place) (way : Direction) → merged_left left most xs at way ≤
       merged_most most xs
   all_within xs (place.On Forward k) Forward = let h = every_left Forward xs in omega (arith, h)
@@ -199,6 +212,7 @@ module _ {C S K : Type 0} {as_is : S → K} {is_intact : K → S → Type 0}
   all_within xs place.Off way = omega arith
   all_within xs place.Broken way = omega arith
 
+  -- what a union keeps, whatever its children's source was meant to hold
   pub union_laws : {M : Type 0} (children : M → List C) (at : M → Place)
       → AreLawful {C = M} as_is is_intact (λ w m s. UnionHolds (λ c. holds w c s) (children m))
       (λ w m s. IsMerge (λ c. holds w c s) position (λ c. sound w c s) (children m) (at m))

@@ -74,8 +74,8 @@ pub fn start<C: Cursor>(
 ) -> Result<(), CursorError>
     ensures moves { KeepsCursor C.Cursor child.old source.old child.new source.new }
     ensures device { C.makes (reports result) source.old source.new }
-    ensures causes { RefusesMove C.Cursor (IsIntact C.Cursor child.old source.old) ⊥ C.steps_allocate
-        source.old source.new result }
+    ensures causes { RefusesMove C.Cursor (IsIntact C.Cursor child.old source.old) ⊥
+        C.steps_allocate source.old source.new result }
     ensures broken { IsErr result ↔ IsBroken (C.position child.new) }
     ensures finds { (meant : C.Meant) → C.is_sound meant child.old source.old →
         MoveFinds way AtEnd (C.holds meant child.old source.old) result (C.position child.new) }
@@ -95,13 +95,12 @@ pub fn turn<C: Cursor>(
 ) -> Result<(), CursorError>
     ensures moves { KeepsCursor C.Cursor child.old source.old child.new source.new }
     ensures device { C.makes (reports result) source.old source.new }
-    ensures causes { RefusesMove C.Cursor (IsIntact C.Cursor child.old source.old) ⊥ C.steps_allocate
-        source.old source.new result }
+    ensures causes { RefusesMove C.Cursor (IsIntact C.Cursor child.old source.old) ⊥
+        C.steps_allocate source.old source.new result }
     ensures turns { (meant : C.Meant) → (was : Way) (entry : Entry) → IsOpposite was way →
-        C.is_sound meant child.old source.old →
-        IsFirst was (λ p. C.holds meant child.old source.old p × WalkMeets was (At entry) p)
-        (C.position child.old) →
-        MoveFinds way (After entry) (C.holds meant child.old source.old) result (C.position child.new) }
+        C.is_sound meant child.old source.old → IsFirst was (λ p. C.holds meant child.old source.old
+        p × WalkMeets was (At entry) p) (C.position child.old) → MoveFinds way (After entry)
+        (C.holds meant child.old source.old) result (C.position child.new) }
 {
     if child.valid() {
         step(child, way, source)

@@ -10,7 +10,8 @@ ghost use Rattle.merge_iter.specs.Merging.{IsPlaced, union_position, left_along,
 ghost use Rattle.merge_iter.specs.declared.direction.Direction.{Direction as Way};
 ghost use Rattle.merge_iter.specs.declared.direction.Direction.TheVariants.{Forward};
 ghost use Rattle.merge_iter.specs.Moves.{reports};
-ghost use Rattle.merge_iter.specs.LentCursors.{AreDisjoint, AreFirst, AreIntact, AreSound, KeepsChildren};
+ghost use Rattle.merge_iter.specs.LentCursors.{AreDisjoint, AreFirst, AreIntact};
+ghost use Rattle.merge_iter.specs.LentCursors.{AreSound, KeepsChildren};
 ghost use Rattle.merge_iter.specs.LentCursors.{RefusesMove, union_of};
 
 use crate::child::{precedes, start, step, turn};
@@ -58,11 +59,11 @@ fn nearest<C: Cursor>(children: &Vec<C>, way: Direction) -> Option<usize>
 
 /// Where the union stands, once each child stands on its first entry from the start on.
 pub fn settle<C: Cursor>(children: &Vec<C>, way: Direction) -> Place
-    ensures settles { (meant : C.Meant) (start : WalkStart) (source : C.Source) →
-        AreFirst C.Cursor meant way start children.now.items source →
-        IsFirst way (λ p. union_of C.Cursor meant children.now.items source p × WalkMeets way start p)
-        (union_position C.position children.now.items result)
-        × IsPlaced (λ c. C.holds meant c source) C.position children.now.items result }
+    ensures settles { (meant : C.Meant) (start : WalkStart) (source : C.Source) → AreFirst C.Cursor
+        meant way start children.now.items source → IsFirst way (λ p. union_of C.Cursor meant
+        children.now.items source p × WalkMeets way start p) (union_position C.position
+        children.now.items result) × IsPlaced (λ c. C.holds meant c source) C.position
+        children.now.items result }
     ensures left { merged_left C.left C.most children.now.items result way
         ≤ sum_by (λ c. C.left c way) children.now.items }
     ensures unbroken { IsBroken (union_position C.position children.now.items result) → ⊥ }
@@ -79,8 +80,8 @@ pub fn start_all<C: Cursor>(
     way: Direction,
     source: &mut C::Source,
 ) -> Result<(), CursorError>
-    ensures moves { (meant : C.Meant) → KeepsChildren C.Cursor meant children.old.items source.old children.new.items
-        source.new }
+    ensures moves { (meant : C.Meant) → KeepsChildren C.Cursor meant children.old.items source.old
+        children.new.items source.new }
     ensures device { C.makes (reports result) source.old source.new }
     ensures causes { RefusesMove C.Cursor (AreIntact C.Cursor children.old.items source.old) ⊥
         C.steps_allocate source.old source.new result }
@@ -100,8 +101,8 @@ pub fn seek_all<C: Cursor>(
     key: &[u8],
     number: u64,
 ) -> Result<(), CursorError>
-    ensures moves { (meant : C.Meant) → KeepsChildren C.Cursor meant children.old.items source.old children.new.items
-        source.new }
+    ensures moves { (meant : C.Meant) → KeepsChildren C.Cursor meant children.old.items source.old
+        children.new.items source.new }
     ensures device { C.makes (reports result) source.old source.new }
     ensures causes { RefusesMove C.Cursor (AreIntact C.Cursor children.old.items source.old) ⊥
         C.seeks_allocate source.old source.new result }
@@ -122,8 +123,8 @@ pub fn turn_all<C: Cursor>(
     way: Direction,
     source: &mut C::Source,
 ) -> Result<(), CursorError>
-    ensures moves { (meant : C.Meant) → KeepsChildren C.Cursor meant children.old.items source.old children.new.items
-        source.new }
+    ensures moves { (meant : C.Meant) → KeepsChildren C.Cursor meant children.old.items source.old
+        children.new.items source.new }
     ensures device { C.makes (reports result) source.old source.new }
     ensures causes { RefusesMove C.Cursor (AreIntact C.Cursor children.old.items source.old) ⊥
         C.steps_allocate source.old source.new result }
@@ -147,18 +148,18 @@ fn step_at<C: Cursor>(
 ) -> Result<(), CursorError>
     requires room { k < vec_len children.old }
     requires on { (c : C) → slice_get children.old.items k ≡ Some c → IsOn (C.position c) }
-    ensures moves { (meant : C.Meant) → KeepsChildren C.Cursor meant children.old.items source.old children.new.items
-        source.new }
+    ensures moves { (meant : C.Meant) → KeepsChildren C.Cursor meant children.old.items source.old
+        children.new.items source.new }
     ensures device { C.makes (reports result) source.old source.new }
     ensures causes { RefusesMove C.Cursor (AreIntact C.Cursor children.old.items source.old) ⊥
         C.steps_allocate source.old source.new result }
     ensures ends { OnOk result (sum_by (λ c. C.left c way) children.new.items
         < sum_by (λ c. C.left c way) children.old.items) }
-    ensures ahead { (meant : C.Meant) → (c : C) (entry : Entry) → slice_get children.old.items k ≡ Some c →
-        C.position c ≡ On entry → AreDisjoint C.Cursor meant children.old.items source.old →
-        AreSound C.Cursor meant children.old.items source.old →
-        AreFirst C.Cursor meant way (At entry) children.old.items source.old →
-        OnOk result (AreFirst C.Cursor meant way (After entry) children.new.items source.new) }
+    ensures ahead { (meant : C.Meant) → (c : C) (entry : Entry) → slice_get children.old.items k ≡
+        Some c → C.position c ≡ On entry → AreDisjoint C.Cursor meant children.old.items
+        source.old → AreSound C.Cursor meant children.old.items source.old → AreFirst C.Cursor meant
+        way (At entry) children.old.items source.old → OnOk result (AreFirst C.Cursor meant way
+        (After entry) children.new.items source.new) }
 {
     step(&mut children[k], way, source)
 }
@@ -190,18 +191,18 @@ pub fn advance<C: Cursor>(
 ) -> Result<(), CursorError>
     requires room { k < vec_len children.old }
     requires on { (c : C) → slice_get children.old.items k ≡ Some c → IsOn (C.position c) }
-    ensures moves { (meant : C.Meant) → KeepsChildren C.Cursor meant children.old.items source.old children.new.items
-        source.new }
+    ensures moves { (meant : C.Meant) → KeepsChildren C.Cursor meant children.old.items source.old
+        children.new.items source.new }
     ensures device { C.makes (reports result) source.old source.new }
     ensures causes { RefusesMove C.Cursor (AreIntact C.Cursor children.old.items source.old) ⊥
         C.steps_allocate source.old source.new result }
     ensures ends { OnOk result (sum_by (λ c. C.left c way) children.new.items
         < left_along C.left C.most children.old.items was way) }
-    ensures ahead { (meant : C.Meant) → (c : C) (entry : Entry) → slice_get children.old.items k ≡ Some c →
-        C.position c ≡ On entry → AreDisjoint C.Cursor meant children.old.items source.old →
-        AreSound C.Cursor meant children.old.items source.old →
-        AreFirst C.Cursor meant was (At entry) children.old.items source.old →
-        OnOk result (AreFirst C.Cursor meant way (After entry) children.new.items source.new) }
+    ensures ahead { (meant : C.Meant) → (c : C) (entry : Entry) → slice_get children.old.items k ≡
+        Some c → C.position c ≡ On entry → AreDisjoint C.Cursor meant children.old.items
+        source.old → AreSound C.Cursor meant children.old.items source.old → AreFirst C.Cursor meant
+        was (At entry) children.old.items source.old → OnOk result (AreFirst C.Cursor meant way
+        (After entry) children.new.items source.new) }
 {
     if is_same(was, way) {
         step_at(children, k, way, source)

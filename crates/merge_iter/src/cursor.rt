@@ -3,7 +3,8 @@ ghost use Rattle.std.specs.Prelude.{Bool, ◌≡◌, ◌↔◌, ◌<◌, ℕ, Is
 ghost use Rattle.kv_types.specs.{Entry};
 ghost use Rattle.merge_iter.specs.Order.{spot};
 ghost use Rattle.merge_iter.specs.Positions.{Position, AtEnd, At, After, IsOn, IfOn, IsBroken};
-ghost use Rattle.merge_iter.specs.Moves.{CanStep, MoveFinds, Moved, ErrorCauses, AreLawful, reports};
+ghost use Rattle.merge_iter.specs.Moves.{CanStep, MoveFinds, Moved};
+ghost use Rattle.merge_iter.specs.Moves.{ErrorCauses, AreLawful, reports};
 ghost use Rattle.merge_iter.specs.declared.direction.Direction.{Direction as Way};
 ghost use Rattle.merge_iter.specs.declared.direction.Direction.TheVariants.{Forward, Backward};
 
@@ -89,14 +90,14 @@ pub trait Cursor {
         ensures moves { Moved holds is_sound suits keeps most
             self.old source.old self.new source.new }
         ensures device { makes (reports result) source.old source.new }
-        ensures causes { ErrorCauses
-            ((meant : Meant) × is_sound meant self.old source.old × is_intact meant source.old) (IsBroken (position self.old))
-            steps_allocate (failures source.old) (failures source.new) result }
+        ensures causes { ErrorCauses ((meant : Meant) × is_sound meant self.old source.old ×
+            is_intact meant source.old) (IsBroken (position self.old)) steps_allocate
+            (failures source.old) (failures source.new) result }
         ensures broken { IsErr result ↔ IsBroken (position self.new) }
         ensures ends { OnOk result (left self.new Forward < left self.old Forward) }
-        ensures finds { (meant : Meant) → is_sound meant self.old source.old → IfOn (position self.old)
-            (λ entry. MoveFinds Forward (After entry) (holds meant self.old source.old)
-            result (position self.new)) };
+        ensures finds { (meant : Meant) → is_sound meant self.old source.old → IfOn
+            (position self.old) (λ entry. MoveFinds Forward (After entry) (holds meant self.old
+            source.old) result (position self.new)) };
 
     /// Steps to the entry before, or off the end.
     fn prev(&mut self, source: &mut Self::Source) -> Result<(), CursorError>
@@ -104,14 +105,14 @@ pub trait Cursor {
         ensures moves { Moved holds is_sound suits keeps most
             self.old source.old self.new source.new }
         ensures device { makes (reports result) source.old source.new }
-        ensures causes { ErrorCauses
-            ((meant : Meant) × is_sound meant self.old source.old × is_intact meant source.old) (IsBroken (position self.old))
-            steps_allocate (failures source.old) (failures source.new) result }
+        ensures causes { ErrorCauses ((meant : Meant) × is_sound meant self.old source.old ×
+            is_intact meant source.old) (IsBroken (position self.old)) steps_allocate
+            (failures source.old) (failures source.new) result }
         ensures broken { IsErr result ↔ IsBroken (position self.new) }
         ensures ends { OnOk result (left self.new Backward < left self.old Backward) }
-        ensures finds { (meant : Meant) → is_sound meant self.old source.old → IfOn (position self.old)
-            (λ entry. MoveFinds Backward (After entry) (holds meant self.old source.old)
-            result (position self.new)) };
+        ensures finds { (meant : Meant) → is_sound meant self.old source.old → IfOn
+            (position self.old) (λ entry. MoveFinds Backward (After entry) (holds meant self.old
+            source.old) result (position self.new)) };
 
     /// Moves to the first entry that does not come before this key and number.
     fn seek(
@@ -123,21 +124,22 @@ pub trait Cursor {
         ensures moves { Moved holds is_sound suits keeps most
             self.old source.old self.new source.new }
         ensures device { makes (reports result) source.old source.new }
-        ensures causes { ErrorCauses
-            ((meant : Meant) × is_sound meant self.old source.old × is_intact meant source.old) ⊥ seeks_allocate
-            (failures source.old) (failures source.new) result }
+        ensures causes { ErrorCauses ((meant : Meant) × is_sound meant self.old source.old ×
+            is_intact meant source.old) ⊥ seeks_allocate (failures source.old) (failures source.new)
+            result }
         ensures broken { IsErr result ↔ IsBroken (position self.new) }
-        ensures finds { (meant : Meant) → is_sound meant self.old source.old → MoveFinds Forward (At (spot key.now number))
-            (holds meant self.old source.old) result (position self.new) };
+        ensures finds { (meant : Meant) → is_sound meant self.old source.old → MoveFinds Forward
+            (At (spot key.now number)) (holds meant self.old source.old) result
+            (position self.new) };
 
     /// Moves to the first entry.
     fn first(&mut self, source: &mut Self::Source) -> Result<(), CursorError>
         ensures moves { Moved holds is_sound suits keeps most
             self.old source.old self.new source.new }
         ensures device { makes (reports result) source.old source.new }
-        ensures causes { ErrorCauses
-            ((meant : Meant) × is_sound meant self.old source.old × is_intact meant source.old) ⊥ steps_allocate
-            (failures source.old) (failures source.new) result }
+        ensures causes { ErrorCauses ((meant : Meant) × is_sound meant self.old source.old ×
+            is_intact meant source.old) ⊥ steps_allocate (failures source.old) (failures source.new)
+            result }
         ensures broken { IsErr result ↔ IsBroken (position self.new) }
         ensures finds { (meant : Meant) → is_sound meant self.old source.old →
             MoveFinds Forward AtEnd (holds meant self.old source.old) result (position self.new) };
@@ -147,9 +149,9 @@ pub trait Cursor {
         ensures moves { Moved holds is_sound suits keeps most
             self.old source.old self.new source.new }
         ensures device { makes (reports result) source.old source.new }
-        ensures causes { ErrorCauses
-            ((meant : Meant) × is_sound meant self.old source.old × is_intact meant source.old) ⊥ steps_allocate
-            (failures source.old) (failures source.new) result }
+        ensures causes { ErrorCauses ((meant : Meant) × is_sound meant self.old source.old ×
+            is_intact meant source.old) ⊥ steps_allocate (failures source.old) (failures source.new)
+            result }
         ensures broken { IsErr result ↔ IsBroken (position self.new) }
         ensures finds { (meant : Meant) → is_sound meant self.old source.old →
             MoveFinds Backward AtEnd (holds meant self.old source.old) result (position self.new) };

@@ -30,7 +30,8 @@ impl ListCursor {
     /// A cursor over these entries, which are to be in order. It stands on none.
     pub fn new(entries: Vec<OwnedEntry>) -> Self
         ensures off { ⟦<ListCursor as Cursor>⟧.position result ≡ Off }
-        ensures sound { IsSortedList entries.items → ⟦<ListCursor as Cursor>⟧.is_sound tt result tt }
+        ensures sound { IsSortedList entries.items →
+            ⟦<ListCursor as Cursor>⟧.is_sound tt result tt }
         ensures entries { IsAlike (⟦<ListCursor as Cursor>⟧.holds tt result tt)
             (ListHolds entries.items) }
     {

@@ -46,8 +46,8 @@ impl<C: Cursor> Merged<C> {
     // Steps to the next entry in this direction.
     fn walk(&mut self, way: Direction, source: &mut C::Source) -> Result<(), CursorError>
         requires { CanStep (union_position C.position self.old.children.items self.old.place) }
-        ensures moves { (meant : C.Meant) → KeepsChildren C.Cursor meant self.old.children.items source.old
-            self.new.children.items source.new }
+        ensures moves { (meant : C.Meant) → KeepsChildren C.Cursor meant self.old.children.items
+            source.old self.new.children.items source.new }
         ensures sound { (meant : C.Meant) →
             IsUnion C.Cursor meant self.old.children.items self.old.place source.old →
             IsUnion C.Cursor meant self.new.children.items self.new.place source.new }
@@ -61,11 +61,11 @@ impl<C: Cursor> Merged<C> {
         ensures ends { OnOk result
             (merged_left C.left C.most self.new.children.items self.new.place way
             < merged_left C.left C.most self.old.children.items self.old.place way) }
-        ensures finds { (meant : C.Meant) → IsUnion C.Cursor meant self.old.children.items self.old.place source.old →
-            IfOn (union_position C.position self.old.children.items self.old.place)
-            (λ entry. MoveFinds way (After entry)
-            (union_of C.Cursor meant self.old.children.items source.old) result
-            (union_position C.position self.new.children.items self.new.place)) }
+        ensures finds { (meant : C.Meant) → IsUnion C.Cursor meant self.old.children.items
+            self.old.place source.old → IfOn (union_position C.position self.old.children.items
+            self.old.place) (λ entry. MoveFinds way (After entry) (union_of C.Cursor meant
+            self.old.children.items source.old) result (union_position C.position
+            self.new.children.items self.new.place)) }
     {
         let Place::On(was, k) = self.place else {
             return Err(CursorError::Failed);
@@ -81,8 +81,8 @@ impl<C: Cursor> Merged<C> {
 
     // Moves to the first entry of a walk in this direction.
     fn begin(&mut self, way: Direction, source: &mut C::Source) -> Result<(), CursorError>
-        ensures moves { (meant : C.Meant) → KeepsChildren C.Cursor meant self.old.children.items source.old
-            self.new.children.items source.new }
+        ensures moves { (meant : C.Meant) → KeepsChildren C.Cursor meant self.old.children.items
+            source.old self.new.children.items source.new }
         ensures sound { (meant : C.Meant) →
             IsUnion C.Cursor meant self.old.children.items self.old.place source.old →
             IsUnion C.Cursor meant self.new.children.items self.new.place source.new }
@@ -92,9 +92,10 @@ impl<C: Cursor> Merged<C> {
             C.steps_allocate source.old source.new result }
         ensures broken { IsErr result
             ↔ IsBroken (union_position C.position self.new.children.items self.new.place) }
-        ensures finds { (meant : C.Meant) → IsUnion C.Cursor meant self.old.children.items self.old.place source.old →
-            MoveFinds way AtEnd (union_of C.Cursor meant self.old.children.items source.old) result
-            (union_position C.position self.new.children.items self.new.place) }
+        ensures finds { (meant : C.Meant) → IsUnion C.Cursor meant self.old.children.items
+            self.old.place source.old → MoveFinds way AtEnd (union_of C.Cursor meant
+            self.old.children.items source.old) result (union_position C.position
+            self.new.children.items self.new.place) }
     {
         self.place = Place::Broken;
         start_all(&mut self.children, way, source)?;

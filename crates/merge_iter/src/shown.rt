@@ -54,17 +54,17 @@ pub fn find_forward<C: Cursor>(
 ) -> Result<Mode, CursorError>
     ensures moves { KeepsCursor C.Cursor inner.old source.old inner.new source.new }
     ensures device { C.makes (reports result) source.old source.new }
-    ensures causes { RefusesMove C.Cursor (IsIntact C.Cursor inner.old source.old) ⊥ (Unit {0}) source.old
-        source.new result }
+    ensures causes { RefusesMove C.Cursor (IsIntact C.Cursor inner.old source.old) ⊥ (Unit {0})
+        source.old source.new result }
     ensures unbroken { (kept : Entry) →
         IfOk result (λ mode. IsBroken (view_position mode (C.position inner.new) kept) → ⊥) }
     ensures forward { IfOk result IsForward }
     ensures left { IfOk result (λ mode. left_in (C.left inner.new) (C.most inner.new) mode Forward
         ≤ C.left inner.old Forward) }
-    ensures finds { (meant : C.Meant) → (start : WalkStart) (kept : Entry) → C.is_sound meant inner.old source.old →
-        IsAhead at (C.holds meant inner.old source.old) start (IsHidden hides hidden.old.items)
-        (C.position inner.old) → IsFound Forward at (C.holds meant inner.old source.old) start result
-        (C.position inner.new) kept }
+    ensures finds { (meant : C.Meant) → (start : WalkStart) (kept : Entry) → C.is_sound meant
+        inner.old source.old → IsAhead at (C.holds meant inner.old source.old) start (IsHidden hides
+        hidden.old.items) (C.position inner.old) → IsFound Forward at (C.holds meant inner.old
+        source.old) start result (C.position inner.new) kept }
 {
     let mut hiding = hides;
     while inner.valid() {
@@ -110,16 +110,16 @@ pub fn find_back<C: Cursor>(
 ) -> Result<Mode, CursorError>
     ensures moves { KeepsCursor C.Cursor inner.old source.old inner.new source.new }
     ensures device { C.makes (reports result) source.old source.new }
-    ensures causes { RefusesMove C.Cursor (IsIntact C.Cursor inner.old source.old) ⊥ (Unit {0}) source.old
-        source.new result }
+    ensures causes { RefusesMove C.Cursor (IsIntact C.Cursor inner.old source.old) ⊥ (Unit {0})
+        source.old source.new result }
     ensures unbroken { IfOk result
         (λ mode. IsBroken (view_position mode (C.position inner.new) (kept_entry kept.new)) → ⊥) }
     ensures left { IfOk result (λ mode. left_in (C.left inner.new) (C.most inner.new) mode Backward
         ≤ C.left inner.old Backward) }
-    ensures finds { (meant : C.Meant) → (start : WalkStart) → C.is_sound meant inner.old source.old →
-        IsBefore Backward at (C.holds meant inner.old source.old) start (C.position inner.old) →
-        IsFound Backward at (C.holds meant inner.old source.old) start result (C.position inner.new)
-        (kept_entry kept.new) }
+    ensures finds { (meant : C.Meant) → (start : WalkStart) → C.is_sound meant inner.old
+        source.old → IsBefore Backward at (C.holds meant inner.old source.old) start
+        (C.position inner.old) → IsFound Backward at (C.holds meant inner.old source.old) start
+        result (C.position inner.new) (kept_entry kept.new) }
 {
     let mut found = false;
     while inner.valid() {

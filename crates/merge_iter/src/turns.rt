@@ -28,17 +28,16 @@ fn return_to<C: Cursor>(
     requires { IsOn (view_position mode (C.position inner.old) (kept_entry kept.now)) }
     ensures moves { KeepsCursor C.Cursor inner.old source.old inner.new source.new }
     ensures device { C.makes (reports result) source.old source.new }
-    ensures causes { RefusesMove C.Cursor (IsIntact C.Cursor inner.old source.old) ⊥ C.seeks_allocate
-        source.old source.new result }
+    ensures causes { RefusesMove C.Cursor (IsIntact C.Cursor inner.old source.old) ⊥
+        C.seeks_allocate source.old source.new result }
     ensures left { OnOk result (C.left inner.new Forward ≤ left_in (C.left inner.old)
         (C.most inner.old) mode Forward) }
     ensures ready { OnOk result (IsOn (C.position inner.new)
         ⊎ (C.left inner.new Forward < left_in (C.left inner.old) (C.most inner.old) mode Forward)) }
-    ensures returns { (meant : C.Meant) → (at : ℕ) (entry : Entry) → C.is_sound meant inner.old source.old →
-        IsSettled at (C.holds meant inner.old source.old) mode (C.position inner.old)
-        (kept_entry kept.now) →
-        view_position mode (C.position inner.old) (kept_entry kept.now) ≡ On entry →
-        OnOk result (C.position inner.new ≡ On entry) }
+    ensures returns { (meant : C.Meant) → (at : ℕ) (entry : Entry) → C.is_sound meant inner.old
+        source.old → IsSettled at (C.holds meant inner.old source.old) mode (C.position inner.old)
+        (kept_entry kept.now) → view_position mode (C.position inner.old) (kept_entry kept.now) ≡ On
+        entry → OnOk result (C.position inner.new ≡ On entry) }
 {
     match mode {
         Mode::Inner => Ok(()),
@@ -56,8 +55,8 @@ fn leave<C: Cursor>(
 ) -> Result<(), CursorError>
     ensures moves { KeepsCursor C.Cursor inner.old source.old inner.new source.new }
     ensures device { C.makes (reports result) source.old source.new }
-    ensures causes { RefusesMove C.Cursor (IsIntact C.Cursor inner.old source.old) ⊥ (Unit {0}) source.old
-        source.new result }
+    ensures causes { RefusesMove C.Cursor (IsIntact C.Cursor inner.old source.old) ⊥ (Unit {0})
+        source.old source.new result }
     ensures fewer { OnOk result (C.left inner.new Forward ≤ C.left inner.old Forward) }
     ensures left { IsOn (C.position inner.old) →
         OnOk result (C.left inner.new Forward < C.left inner.old Forward) }
@@ -82,8 +81,8 @@ pub fn first_shown<C: Cursor>(
 ) -> Result<Mode, CursorError>
     ensures moves { KeepsCursor C.Cursor inner.old source.old inner.new source.new }
     ensures device { C.makes (reports result) source.old source.new }
-    ensures causes { RefusesMove C.Cursor (IsIntact C.Cursor inner.old source.old) ⊥ (Unit {0}) source.old
-        source.new result }
+    ensures causes { RefusesMove C.Cursor (IsIntact C.Cursor inner.old source.old) ⊥ (Unit {0})
+        source.old source.new result }
     ensures unbroken { IfOk result
         (λ mode. IsBroken (view_position mode (C.position inner.new) (kept_entry kept.new)) → ⊥) }
     ensures finds { (meant : C.Meant) → C.is_sound meant inner.old source.old →
@@ -103,8 +102,8 @@ pub fn last_shown<C: Cursor>(
 ) -> Result<Mode, CursorError>
     ensures moves { KeepsCursor C.Cursor inner.old source.old inner.new source.new }
     ensures device { C.makes (reports result) source.old source.new }
-    ensures causes { RefusesMove C.Cursor (IsIntact C.Cursor inner.old source.old) ⊥ (Unit {0}) source.old
-        source.new result }
+    ensures causes { RefusesMove C.Cursor (IsIntact C.Cursor inner.old source.old) ⊥ (Unit {0})
+        source.old source.new result }
     ensures unbroken { IfOk result
         (λ mode. IsBroken (view_position mode (C.position inner.new) (kept_entry kept.new)) → ⊥) }
     ensures finds { (meant : C.Meant) → C.is_sound meant inner.old source.old →
@@ -143,8 +142,8 @@ pub fn seek_shown<C: Cursor>(
 ) -> Result<Mode, CursorError>
     ensures moves { KeepsCursor C.Cursor inner.old source.old inner.new source.new }
     ensures device { C.makes (reports result) source.old source.new }
-    ensures causes { RefusesMove C.Cursor (IsIntact C.Cursor inner.old source.old) ⊥ (Unit {0}) source.old
-        source.new result }
+    ensures causes { RefusesMove C.Cursor (IsIntact C.Cursor inner.old source.old) ⊥ (Unit {0})
+        source.old source.new result }
     ensures unbroken { IfOk result
         (λ mode. IsBroken (view_position mode (C.position inner.new) (kept_entry kept.new)) → ⊥) }
     ensures finds { (meant : C.Meant) → C.is_sound meant inner.old source.old →
@@ -171,8 +170,8 @@ pub fn next_shown<C: Cursor>(
     requires { IsOn (view_position mode (C.position inner.old) (kept_entry kept.old)) }
     ensures moves { KeepsCursor C.Cursor inner.old source.old inner.new source.new }
     ensures device { C.makes (reports result) source.old source.new }
-    ensures causes { RefusesMove C.Cursor (IsIntact C.Cursor inner.old source.old) ⊥ (Unit {0}) source.old
-        source.new result }
+    ensures causes { RefusesMove C.Cursor (IsIntact C.Cursor inner.old source.old) ⊥ (Unit {0})
+        source.old source.new result }
     ensures unbroken { IfOk result
         (λ mode. IsBroken (view_position mode (C.position inner.new) (kept_entry kept.new)) → ⊥) }
     ensures left { IfOk result (λ new. left_in (C.left inner.new) (C.most inner.new) new Forward
@@ -199,15 +198,14 @@ fn retreat<C: Cursor>(
     requires { IsOn (view_position mode (C.position inner.old) (kept_entry kept.now)) }
     ensures moves { KeepsCursor C.Cursor inner.old source.old inner.new source.new }
     ensures device { C.makes (reports result) source.old source.new }
-    ensures causes { RefusesMove C.Cursor (IsIntact C.Cursor inner.old source.old) ⊥ C.steps_allocate
-        source.old source.new result }
+    ensures causes { RefusesMove C.Cursor (IsIntact C.Cursor inner.old source.old) ⊥
+        C.steps_allocate source.old source.new result }
     ensures left { OnOk result (C.left inner.new Backward < left_in (C.left inner.old)
         (C.most inner.old) mode Backward) }
-    ensures retreats { (meant : C.Meant) → (at : ℕ) (entry : Entry) → C.is_sound meant inner.old source.old →
-        IsSettled at (C.holds meant inner.old source.old) mode (C.position inner.old)
-        (kept_entry kept.now) →
-        view_position mode (C.position inner.old) (kept_entry kept.now) ≡ On entry →
-        OnOk result (IsBefore Backward at (C.holds meant inner.old source.old) (After entry)
+    ensures retreats { (meant : C.Meant) → (at : ℕ) (entry : Entry) → C.is_sound meant inner.old
+        source.old → IsSettled at (C.holds meant inner.old source.old) mode (C.position inner.old)
+        (kept_entry kept.now) → view_position mode (C.position inner.old) (kept_entry kept.now) ≡ On
+        entry → OnOk result (IsBefore Backward at (C.holds meant inner.old source.old) (After entry)
         (C.position inner.new)) }
 {
     match mode {
@@ -229,8 +227,8 @@ pub fn prev_shown<C: Cursor>(
     requires { IsOn (view_position mode (C.position inner.old) (kept_entry kept.old)) }
     ensures moves { KeepsCursor C.Cursor inner.old source.old inner.new source.new }
     ensures device { C.makes (reports result) source.old source.new }
-    ensures causes { RefusesMove C.Cursor (IsIntact C.Cursor inner.old source.old) ⊥ (Unit {0}) source.old
-        source.new result }
+    ensures causes { RefusesMove C.Cursor (IsIntact C.Cursor inner.old source.old) ⊥ (Unit {0})
+        source.old source.new result }
     ensures unbroken { IfOk result
         (λ mode. IsBroken (view_position mode (C.position inner.new) (kept_entry kept.new)) → ⊥) }
     ensures left { IfOk result (λ new. left_in (C.left inner.new) (C.most inner.new) new Backward

@@ -49,8 +49,8 @@ pub record IsBlockAtLine (lines : List IndexLine) (n : ℕ) (file : Slot) (part 
   pub there : IsPartAt (seen file) line.place part
   pub checked : ∥ IsPlacedBlock lines n line part ∥₁
 
--- The answers of a search for the block of line n: the block that the file has for it, and `Damaged`
--- only where it has none.
+-- The answers of a search for the block of line n: the block that the file has for it, and
+-- `Damaged` only where it has none.
 abbrev pub LineBlockAnswer : List IndexLine → ℕ → Slot → Result (RcSlice ℕ Global) TableError
     → Type 0
 LineBlockAnswer lines n file (Ok block) = IsBlockAtLine lines n file (rc_slice_items block)

@@ -10,9 +10,11 @@ module _ {D : Type 0} (g : Ghosts D) where
     pub disk : KeepsDisk g a b (IsTrue failed) ⊥ IsSame
     pub still : IsStill g a b
 
+  -- `false` is never true
   never : IsTrue false → ⊥
   never h = absurd cc
 
+  -- no move makes nothing of it
   pub moves_itself : (a : D) → MovesFiles false a a
   moves_itself a = record {
     disk = record {
@@ -28,11 +30,16 @@ module _ {D : Type 0} (g : Ghosts D) where
     still = λ h. still (g.state a) (g.past a);
   }
 
+  -- a move may follow one that reports nothing
   pub moves_through : (F : Bool) (a b c : D) → MovesFiles false a b → MovesFiles F b c
       → MovesFiles F a c
   moves_through F a b c k m = record {
     disk = record {
-      honest = ((λ h. k.disk.honest.0 (m.disk.honest.0 h)), (λ h. m.disk.honest.1 (k.disk.honest.1 h)));
+      honest = (
+        (λ h. k.disk.honest.0 (m.disk.honest.0 h)),
+        (λ h. m.disk.honest.1 (k.disk.honest.1
+            h)),
+      );
       failed = λ f. subst (λ n. RisesByOne n (g.failures c)) (k.disk.count never) (m.disk.failed f);
       count = λ works. m.disk.count works ∙ k.disk.count never;
       only = λ r n f. m.disk.only (k.disk.reliable r never) n f;

@@ -1,5 +1,6 @@
 -- An open table, and what a lookup in it finds.
-use Rattle.std.specs.Prelude.{◌≡◌, ◌<◌, ◌⊎◌, ℕ, List, [], ◌∷◌, length, slice_get, Option, Some, None, Result, Ok, Err}
+use Rattle.std.specs.Prelude.{◌≡◌, ◌<◌, ◌⊎◌, ℕ, List, [], ◌∷◌, length}
+use Rattle.std.specs.Prelude.{slice_get, Option, Some, None, Result, Ok, Err}
 use Rattle.std.specs.Prelude.{IsSomeAnd, Contains, IfOk, MatchOption}
 use Rattle.std.specs.Option.{option_map}
 use Rattle.std.specs.Rc.{rc_slice_items}
@@ -114,8 +115,8 @@ LookupAnswer file table key at result =
 
 -- ---- lookups in damaged files
 
--- A lookup that succeeds finds what the table has that the file was meant to be. This holds for each
--- table that it may have been meant to be, if the blocks that are not damaged are as they were meant.
+-- A lookup that succeeds finds what the table has that the file was meant to be. This holds for
+-- each table that it may have been meant to be, if its undamaged blocks are as they were meant.
 abbrev pub AnswersAsMeant : Slot → Table → List ℕ → ℕ → Result (Option FoundVersion) TableError
     → Type 0
 AnswersAsMeant file table key at result =

@@ -64,7 +64,8 @@ module _ {C S : Type 0} (g : Ghosts S) (file : C → ℕ) (lines : C → List In
   pub table_laws : (bounded : (c : C) → ForSome (place c) (IsBounded (lines c)))
       → AreLawful {C = C} {S = S} {K = State} g.state (AreIntactFiles g)
       (λ meant c s. FileHolds (meant (file c))) ServesMeant FileSuits
-      (KeepsFiles g) (MovesFiles g) (λ c. steps_left (lines c) (place c)) (λ c. blocks_size (lines c))
+      (KeepsFiles g) (MovesFiles g) (λ c. steps_left (lines c) (place c)) (λ c. blocks_size (lines
+      c))
   table_laws bounded = record {
     itself = keeps_files_itself g;
     through = keeps_files_through g;

@@ -183,7 +183,8 @@ impl<D: Disk + Drop> TableCursor<D> {
 impl<D: Disk + Drop> Cursor for TableCursor<D> {
     ghost use Rattle.sorted_table.specs.LineSizes.{blocks_size, steps_left};
     ghost use Rattle.sorted_table.specs.TableCursors.{CursorServes, FileHolds, table_position};
-    ghost use Rattle.sorted_table.specs.TableCursorLaws.{AreIntactFiles, FileSuits, ServesMeant, table_laws};
+    ghost use Rattle.sorted_table.specs.TableCursorLaws.{AreIntactFiles, FileSuits};
+    ghost use Rattle.sorted_table.specs.TableCursorLaws.{ServesMeant, table_laws};
 
     type Source = Files<D>;
 

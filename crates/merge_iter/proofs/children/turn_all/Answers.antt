@@ -86,11 +86,15 @@ returns-in_err-turn-clause-causes g c =
     (g.C.Cursor.failures c.turn.new.source) r) told
     (tells_from (IsIntact g.C.Cursor c.index_mut.result.now c.loop-i.source)
     (AreIntact g.C.Cursor c.args.children.now.items c.args.source.now) _ _ _ _ i.count
-    (λ all. (all.0, all_sound (g.C.Cursor.holds all.0) (g.C.Cursor.is_sound all.0)
-    g.C.Cursor.suits g.C.Cursor.keeps g.C.Cursor.most c.args.children.now.items
-    c.loop-i.children.items c.args.source.now c.loop-i.source (i.passed all.0).moved all.1
-    c.loop-i.i c.index_mut.result.now at, g.met.C.Cursor.laws.lasts all.0
-    c.args.source.now c.loop-i.source (i.passed all.0).moved.source all.2))
+    (λ all. (
+      all.0,
+      all_sound (g.C.Cursor.holds all.0) (g.C.Cursor.is_sound all.0)
+          g.C.Cursor.suits g.C.Cursor.keeps g.C.Cursor.most c.args.children.now.items
+          c.loop-i.children.items c.args.source.now c.loop-i.source (i.passed all.0).moved all.1
+          c.loop-i.i c.index_mut.result.now at,
+      g.met.C.Cursor.laws.lasts all.0
+          c.args.source.now c.loop-i.source (i.passed all.0).moved.source all.2,
+    ))
     c.turn.ensures.causes)
 
 pub returns-clause-turns : goal.returns-clause-turns
