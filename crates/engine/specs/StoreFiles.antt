@@ -4,7 +4,7 @@ use Rattle.std.specs.Prelude.{length, take, drop, All, Contains, Option}
 use Rattle.std.specs.Option.{option_flatten}
 use Rattle.kv_types.specs.declared.bounds.TheConstants.{MAX_NUMBER}
 use Rattle.kv_types.specs.{BatchContent, IsBatch, map_of}
-use Rattle.disk.specs.{Contents}
+use Rattle.disk.specs.{Contents, State}
 use Rattle.disk.specs.Moments.{LooksAt}
 use Rattle.store_model.specs.{LevelTable}
 use Rattle.store_model.specs.{StoreRepresents, StoreState}
@@ -12,11 +12,13 @@ use Rattle.store_model.specs.{StoreFinds}
 use Rattle.store_model.specs.{IsFlush}
 use Rattle.manifest.specs.declared.LogLine.{LogLine}
 use Rattle.manifest.specs.declared.TableLine.{TableLine}
-use Rattle.manifest.specs.{IsNotCreated, IsSlotFile, ManifestRepresents, NodeVersion, StoreVersion}
+use Rattle.record_log.specs.{IsDurableAs}
+use Rattle.manifest.specs.{HasFirstSlots, IsNotCreated, IsSlotFile, ManifestRepresents, NodeVersion, StoreVersion}
 use Rattle.manifest.specs.{Change, changed, first_version}
 use Rattle.engine.specs.Files.{Facts, IsLog}
 use Rattle.engine.specs.BatchLogs.{HaveBatches}
 use Rattle.engine.specs.LevelTables.{AreTablesOf, FileFits, IsTableOf}
+use Rattle.engine.specs.Settling.{AreAlone}
 
 -- how many batches come before the newest log
 abbrev pub before_newest : List LogLine → ℕ
@@ -126,6 +128,13 @@ FirstFilesRepresent =
     (id : ℕ) (ids : List ℕ) (left : Contents) → ManifestRepresents (first_version id ids) left
     → IsLog (left 3) []
     → FilesRepresent (record { id = id; epoch = 0; ids = ids; floor = 0; kept = 0 }) [] left
+
+-- a disk durably has the files of a new store, and no other: the first slots of its manifest, and a
+-- log without records
+pub record HasFirstFiles (disk : State) (id : ℕ) (ids : List ℕ) : Type 0 where
+  pub slots : HasFirstSlots disk id ids
+  pub log : IsDurableAs disk 3 (0 ∷ [])
+  pub alone : AreAlone (1 ∷ 2 ∷ 3 ∷ []) disk
 
 -- ---- a flush
 

@@ -84,7 +84,7 @@ fn add_all<'a, D: Disk>(
     builder: &mut Builder,
     cursor: &mut MemCursor<'a>,
 ) -> Result<bool, EngineError>
-    requires { (entry : Entry) → ⟦<MemCursor<'a> as Cursor>⟧.holds cursor.old tt entry →
+    requires { (entry : Entry) → ⟦<MemCursor<'a> as Cursor>⟧.holds tt cursor.old tt entry →
         KeepsEntryLimits entry }
     ensures writes { WritesInto D.Disk (builder_file builder.old) disk.old disk.new
         (FailsDevice result) (D.is_honest disk.old ×
@@ -92,7 +92,7 @@ fn add_all<'a, D: Disk>(
     ensures file { OnOk result (builder_file builder.new ≡ builder_file builder.old) }
     ensures added { D.is_honest disk.old →
         Builds (D.state disk.old (builder_file builder.old)) builder.old [] → MatchResult result
-        (HasAddedAll (⟦<MemCursor<'a> as Cursor>⟧.holds cursor.old tt)
+        (HasAddedAll (⟦<MemCursor<'a> as Cursor>⟧.holds tt cursor.old tt)
         (D.state disk.new (builder_file builder.old)) builder.new) IsEngineExternal }
     ensures causes { IfErr result IsEnd }
 {

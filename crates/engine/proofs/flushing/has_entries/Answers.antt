@@ -21,4 +21,4 @@ first_found memtable entries valid Broken alike first is = absurd first
 pub returns-clause-any : goal.returns-clause-any
 returns-clause-any c =
     first_found c.args.memtable.now _ _ _ c.in_ok-cursor.ensures.holds
-    (c.in_ok-first.ensures.finds c.in_ok-cursor.ensures.sound) c.valid.ensures
+    (c.in_ok-first.ensures.finds tt c.in_ok-cursor.ensures.sound) c.valid.ensures
