@@ -32,6 +32,7 @@ flushed_overlaps (inr h) = b_not_a h
 
 planned : IsPlanned both_merge
 planned = record {
+  level = omega arith;
   there = λ t in_t. in_t;
   levels = for_two (λ t. (t.level ≡ 0) ⊎ (t.level ≡ 1)) flushed_table deep_table (inl refl)
       (inr refl);
@@ -39,6 +40,8 @@ planned = record {
   one = λ pos. absurd (omega (arith, pos));
   joint = for_two (λ t. t.level ≡ 0 → RangeLiesIn t.range both_keys) flushed_table deep_table
       (λ at. (a_not_a, b_not_b)) (λ at. absurd (omega (arith, at)));
+  least = (flushed_table, contains_head flushed_table (deep_table ∷ []), refl, refl);
+  greatest = (flushed_table, contains_head flushed_table (deep_table ∷ []), refl, refl);
   overlapping = λ t in_t at. inl in_t;
   needed = for_two (λ t. t.level ≡ 1 → AreDisjoint both_keys t.range → ⊥) flushed_table deep_table
       (λ at. absurd (omega (arith, at))) (λ at. flushed_overlaps);

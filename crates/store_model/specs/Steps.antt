@@ -54,13 +54,14 @@ raised_store store floor kept = record store { floor = floor; kept = kept }
 -- a merge under way: its inputs, of a level and the next one, and the tables when it was planned
 pub record MergePlan : Type 0 where
   pub level : ℕ
-  pub range : KeyRange  -- of the inputs of the level
+  pub range : KeyRange  -- from the least key to the greatest of the inputs of the level
   pub inputs : List LevelTable
   pub tables : List LevelTable
 
--- The inputs are those of a merge of the level: of level 0 all tables, of a deeper one a single
--- table, and what overlaps their range in the next level.
+-- The inputs are those of a merge of a level from 0 to 5: of level 0 all tables, of a deeper one a
+-- single table, and what overlaps their joint range in the next level.
 pub record IsPlanned (plan : MergePlan) : Type 0 where
+  pub level : plan.level ≤ 5
   pub there : (t : LevelTable) → Contains plan.inputs t → Contains plan.tables t
   pub levels : (t : LevelTable) → Contains plan.inputs t
       → (t.level ≡ plan.level) ⊎ (t.level ≡ suc plan.level)
@@ -70,6 +71,11 @@ pub record IsPlanned (plan : MergePlan) : Type 0 where
       → (t : LevelTable) × Contains plan.inputs t × (t.level ≡ plan.level) × (t.range ≡ plan.range)
   pub joint : (t : LevelTable) → Contains plan.inputs t → t.level ≡ plan.level
       → RangeLiesIn t.range plan.range
+  -- both ends of the range are ends of inputs of the level, so it has an input at least
+  pub least : (t : LevelTable) × Contains plan.inputs t × (t.level ≡ plan.level)
+      × (t.range.least ≡ plan.range.least)
+  pub greatest : (t : LevelTable) × Contains plan.inputs t × (t.level ≡ plan.level)
+      × (t.range.greatest ≡ plan.range.greatest)
   pub overlapping : (t : LevelTable) → Contains plan.tables t → t.level ≡ suc plan.level
       → Contains plan.inputs t ⊎ AreDisjoint plan.range t.range
   pub needed : (t : LevelTable) → Contains plan.inputs t → t.level ≡ suc plan.level
