@@ -3,7 +3,7 @@ use Rattle.std.proofs.Common.{◌≡◌, ◌⊎◌, inl, inr, ℕ, ◌<◌, ◌�
 use Rattle.std.proofs.Common.{Some, None, codes, refl, arith}
 use Rattle.kv_types.specs.{Entry, IsUnseen}
 use Rattle.kv_types.specs.Entries.{ViewsAreMaps}
-use Rattle.store_model.specs.Keys.{AreDisjoint, RangeHolds, RangeLiesIn}
+use Rattle.store_model.specs.Keys.{AreDisjointRanges, RangeHolds, RangeLiesIn}
 use Rattle.store_model.specs.Tables.{FitsRange, LevelTable, tables_entries}
 use Rattle.store_model.specs.Stores.{StoreRepresents, memory_entries}
 use Rattle.store_model.specs.Outputs.{HaveOwnRanges}
@@ -26,7 +26,7 @@ use Rattle.store_model.proofs.Plans.{plan_under_way}
 
 -- ---- the plan
 
-flushed_overlaps : AreDisjoint both_keys both_keys → ⊥
+flushed_overlaps : AreDisjointRanges both_keys both_keys → ⊥
 flushed_overlaps (inl h) = b_not_a h
 flushed_overlaps (inr h) = b_not_a h
 
@@ -43,7 +43,8 @@ planned = record {
   least = (flushed_table, contains_head flushed_table (deep_table ∷ []), refl, refl);
   greatest = (flushed_table, contains_head flushed_table (deep_table ∷ []), refl, refl);
   overlapping = λ t in_t at. inl in_t;
-  needed = for_two (λ t. t.level ≡ 1 → AreDisjoint both_keys t.range → ⊥) flushed_table deep_table
+  needed = for_two (λ t. t.level ≡ 1 → AreDisjointRanges both_keys t.range → ⊥) flushed_table
+      deep_table
       (λ at. absurd (omega (arith, at))) (λ at. flushed_overlaps);
 }
 

@@ -1,6 +1,6 @@
 -- The worked example: which merges are planned.
 use Rattle.std.proofs.Common.{◌≡◌, ◌⊎◌, inl, inr, ℕ, List, [], ◌∷◌, Contains, codes, refl, arith}
-use Rattle.store_model.specs.Keys.{AreDisjoint, RangeLiesIn}
+use Rattle.store_model.specs.Keys.{AreDisjointRanges, RangeLiesIn}
 use Rattle.store_model.specs.Tables.{LevelTable}
 use Rattle.store_model.specs.Steps.{IsPlanned}
 use Rattle.store_model.specs.Examples.{PlanExamples, a_table, b_table, both_keys, first_key}
@@ -21,7 +21,7 @@ level_5 = record {
   least = (a_table 5, contains_it (a_table 5), refl, refl);
   greatest = (a_table 5, contains_it (a_table 5), refl, refl);
   overlapping = λ t in_t at. inl in_t;
-  needed = for_one (λ t. t.level ≡ 6 → AreDisjoint first_key t.range → ⊥) (a_table 5)
+  needed = for_one (λ t. t.level ≡ 6 → AreDisjointRanges first_key t.range → ⊥) (a_table 5)
       (λ at. absurd (omega (arith, at)));
 }
 
@@ -32,13 +32,15 @@ too_great : IsPlanned (merge_of 0 both_keys (a_table 0 ∷ b_table 1 ∷ [])) �
 too_great p =
     let end = p.greatest in
     for_two (λ t. t.level ≡ 0 → t.range.greatest ≡ codes "b" → ⊥) (a_table 0) (b_table 1)
-    (λ at is. other_key (codes "a") (codes "b") refl is) (λ at is. absurd (omega (arith, at))) end.0 end.1 end.2 end.3
+    (λ at is. other_key (codes "a") (codes "b") refl is) (λ at is. absurd (omega (arith, at)))
+    end.0 end.1 end.2 end.3
 
 too_small : IsPlanned (merge_of 0 both_keys (b_table 0 ∷ a_table 1 ∷ [])) → ⊥
 too_small p =
     let end = p.least in
     for_two (λ t. t.level ≡ 0 → t.range.least ≡ codes "a" → ⊥) (b_table 0) (a_table 1)
-    (λ at is. other_key (codes "b") (codes "a") refl is) (λ at is. absurd (omega (arith, at))) end.0 end.1 end.2 end.3
+    (λ at is. other_key (codes "b") (codes "a") refl is) (λ at is. absurd (omega (arith, at)))
+    end.0 end.1 end.2 end.3
 
 no_upper : IsPlanned (merge_of 0 first_key (a_table 1 ∷ [])) → ⊥
 no_upper p =
