@@ -14,6 +14,7 @@ pub mod Growth
 pub mod Maps
 pub mod Trace
 pub mod WorkedRuns
+pub mod WorkedSnapshots
 pub mod WorkedDrops
 -- What crates above name.
 pub use Rattle.chain_model.specs.Configuration.{AllDifferent, Configurations, IsId, Lawful}

@@ -1,12 +1,13 @@
 -- Worked drops: the inputs that the first node of a new chain of two drops or refuses, with the
 -- first reason that applies. Batches are numbers here. Definitions without a source are this
 -- store's profile.
-use Rattle.std.specs.Prelude.{◌≡◌, ℕ, [], ◌∷◌, Some}
+use Rattle.std.specs.Prelude.{◌≡◌, ℕ, zero, suc, List, [], ◌∷◌, Some}
 use Rattle.chain_model.specs.declared.drop_reason.DropReason.TheVariants as reason
 use Rattle.chain_model.specs.declared.refusal.Refusal.TheVariants as refusal
 use Rattle.chain_model.specs.Messages.{Forward, Ack}
 use Rattle.chain_model.specs.Machine.{MachineState, created, dropped_for, refused}
-use Rattle.chain_model.specs.Rules.{receive, submit, read, notice, not_for_nodes, unreadable}
+use Rattle.chain_model.specs.Rules.{receive, submit, read, open_snapshot, close_snapshot, notice}
+use Rattle.chain_model.specs.Rules.{not_for_nodes, unreadable}
 
 -- node 1 of the chain of nodes 1 and 2 at its creation
 abbrev pub first : MachineState ℕ
@@ -15,6 +16,15 @@ first = created (1 ∷ 2 ∷ [])
 -- a node whose floor is above its committed number, which no run reaches
 abbrev pub floor_above : MachineState ℕ
 floor_above = record first { floor = 2 }
+
+-- so many snapshots at number 0
+abbrev pub zeros : ℕ → List ℕ
+zeros zero = []
+zeros (suc more) = 0 ∷ zeros more
+
+-- a node that has as many snapshots open as it may have
+abbrev pub all_open : MachineState ℕ
+all_open = record floor_above { snapshots = zeros 64 }
 
 -- The node's drops and refusals, with their reasons. Its configuration lacks node 9.
 pub record WorkedDrops : Type 0 where
@@ -40,3 +50,10 @@ pub record WorkedDrops : Type 0 where
   pub stranger_with_bad_ack : receive 1 first (Ack 1 0 3 1 1)
       ≡ dropped_for first reason.NotSuccessor
   pub too_old_and_too_new : read 1 floor_above 5 (Some 1) ≡ refused floor_above 5 refusal.TooOld
+  pub too_old_and_too_many : open_snapshot 1 all_open 5 (Some 1)
+      ≡ refused all_open 5 refusal.TooOld
+  pub too_new_and_too_many : open_snapshot 1 all_open 5 (Some 2)
+      ≡ refused all_open 5 refusal.NotCommitted
+  pub removed_and_too_many : open_snapshot 9 all_open 5 (Some 2)
+      ≡ refused all_open 5 refusal.Removed
+  pub removed_and_not_open : close_snapshot 9 first 5 3 ≡ refused first 5 refusal.Removed

@@ -1,6 +1,6 @@
 -- Worked runs, with each event's frames, replies and drops. Batches are numbers here. Definitions
 -- without a source are this store's profile.
-use Rattle.std.specs.Prelude.{◌≡◌, ℕ, List, [], ◌∷◌, take, Some, None, true}
+use Rattle.std.specs.Prelude.{◌≡◌, ℕ, zero, suc, List, [], ◌∷◌, ◌++◌, take, Some, None, true}
 use Rattle.chain_model.specs.Configuration.{Configurations}
 use Rattle.chain_model.specs.declared.refusal.Refusal.TheVariants as refusal
 use Rattle.chain_model.specs.declared.drop_reason.DropReason.TheVariants as reason
@@ -208,6 +208,37 @@ a_removed_head_answers_nobody =
     (Deliver 4 Answered, Drops reason.Removed ∷ []) ∷
     []
 
+-- Node 1 is removed, and adopts a later epoch all the same. It sends nothing.
+abbrev pub a_removed_node_adopts_on : Run
+a_removed_node_adopts_on =
+    (Notice 1 1 Answered, Adopts 1 1 ∷ []) ∷
+    (Notice 1 2 Answered, Adopts 1 2 ∷ []) ∷
+    (Notice 1 2 Answered, Drops reason.OldNotice ∷ []) ∷
+    (Tick 1 Answered, Drops reason.Removed ∷ []) ∷
+    []
+
+-- requests i and on submit so many batches to the head of nodes 1 and 2, whose frames are sent
+abbrev pub submits_from : ℕ → ℕ → Run
+submits_from i zero = []
+submits_from i (suc more) =
+    (Ask 1 i (Submit i) Answered, Forwards 1 2 0 i ∷ []) ∷ submits_from (suc i) more
+
+-- the lines of so many frames from node 1 to node 2, with batches k and on
+abbrev pub forwards_from : ℕ → ℕ → List (TraceLine ℕ)
+forwards_from k zero = []
+forwards_from k (suc more) = Forwards 1 2 0 k ∷ forwards_from (suc k) more
+
+-- Two nodes and 17 batches, whose frames are lost but for the first. A tick sends 16 of them, and
+-- the next tick 16 after the first, which the successor then has.
+abbrev pub a_tick_sends_16 : Run
+a_tick_sends_16 =
+    submits_from 1 17 ++
+    (Tick 1 Answered, forwards_from 1 16) ∷
+    (Deliver 1 Answered, Acks 2 1 0 1 1 ∷ []) ∷
+    (Deliver 34 Answered, Commits 1 1 ∷ []) ∷
+    (Tick 1 Answered, forwards_from 2 16) ∷
+    []
+
 -- the worked runs have the expected lines
 pub record WorkedRuns : Type 0 where
   pub repeated : ShowsThat ((1 ∷ 2 ∷ 3 ∷ []) ∷ []) a_repeated_forward_is_dropped
@@ -221,6 +252,9 @@ pub record WorkedRuns : Type 0 where
   pub floor : ShowsThat ((1 ∷ 2 ∷ []) ∷ []) the_floor_waits_for_snapshots
   pub new_successor : ShowsThat ((1 ∷ 2 ∷ 3 ∷ []) ∷ (1 ∷ 3 ∷ []) ∷ []) a_new_successor_is_sent_all
   pub removed : ShowsThat ((1 ∷ 2 ∷ 3 ∷ []) ∷ (2 ∷ 3 ∷ []) ∷ []) a_removed_head_answers_nobody
+  pub adopts_on : ShowsThat ((1 ∷ 2 ∷ 3 ∷ []) ∷ (2 ∷ 3 ∷ []) ∷ (3 ∷ []) ∷ [])
+      a_removed_node_adopts_on
+  pub sends_16 : ShowsThat ((1 ∷ 2 ∷ []) ∷ []) a_tick_sends_16
   -- one request is pending after the first event, and none after the notice
   pub waits : pending_after ((1 ∷ 2 ∷ 3 ∷ []) ∷ (2 ∷ 3 ∷ []) ∷ [])
       (take 1 a_removed_head_answers_nobody) 1 ≡ (1, 1) ∷ []

@@ -14,6 +14,7 @@ ghost use Rattle.chain_model.specs.Retention.{KeepsEnough};
 ghost use Rattle.chain_model.specs.Growth.{StepsGoOn, OnlyGrows};
 ghost use Rattle.chain_model.specs.Maps.{CommutesWithMap};
 ghost use Rattle.chain_model.specs.WorkedRuns.{WorkedRuns};
+ghost use Rattle.chain_model.specs.WorkedSnapshots.{WorkedSnapshots};
 ghost use Rattle.chain_model.specs.WorkedDrops.{WorkedDrops};
 
 mod drop_reason;
@@ -72,9 +73,14 @@ pub fn commutes_with_maps<A, B>()
         es }
 {}
 
-/// Eleven small runs show the expected frames, replies and drops, event by event.
+/// Thirteen small runs show the expected frames, replies and drops, event by event.
 pub fn worked_runs()
     ensures { WorkedRuns }
+{}
+
+/// Five small runs show the replies to requests for snapshots, event by event.
+pub fn worked_snapshots()
+    ensures { WorkedSnapshots }
 {}
 
 /// The drops and refusals of a new node, each with its reason.

@@ -12,14 +12,21 @@ abbrev pub is_dashed : List ℕ → Bool
 is_dashed [] = false
 is_dashed (b ∷ bs) = b == 45
 
--- the SCRIPT of the words `PROGRAM lab SCRIPT`, which begins with - only where it is `-` itself, and
--- of `PROGRAM lab -- SCRIPT`
+-- a word that names a script where no `--` stands before it: one that does not begin with -, or `-`
+-- itself, which names standard input
+abbrev pub names_script : List ℕ → Bool
+names_script word = bytes_eq word (codes "-") || not (is_dashed word)
+
+-- the SCRIPT of the words `PROGRAM lab SCRIPT`, `PROGRAM lab SCRIPT --` and
+-- `PROGRAM lab -- SCRIPT`; only behind `--` may it be any word
 abbrev pub lab_script : List (List ℕ) → Option (List ℕ)
 lab_script (program ∷ name ∷ script ∷ []) =
-    if bytes_eq name (codes "lab") && (bytes_eq script (codes "-") || not (is_dashed script))
-    then Some script else None
-lab_script (program ∷ name ∷ dashes ∷ script ∷ []) =
-    if bytes_eq name (codes "lab") && bytes_eq dashes (codes "--") then Some script else None
+    if bytes_eq name (codes "lab") && names_script script then Some script else None
+lab_script (program ∷ name ∷ first ∷ second ∷ []) =
+    if not (bytes_eq name (codes "lab")) then None
+    else if bytes_eq first (codes "--") then Some second
+    else if bytes_eq second (codes "--") && names_script first then Some first
+    else None
 lab_script _ = None
 
 -- two words or more behind `PROGRAM lab`, one of which begins with -

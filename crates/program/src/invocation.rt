@@ -3,7 +3,7 @@ ghost use Rattle.std.specs.Prelude.{◌≡◌, ◌≢◌, ℕ, List, false, map,
 ghost use Rattle.std.specs.Prelude.{IsOkAnd, MatchOption};
 ghost use Rattle.std.specs.List.{list_any};
 ghost use Rattle.program.specs.Invocations.{AsksForScript, lab_script as script_of, is_dashed};
-ghost use Rattle.program.specs.Invocations.{has_option};
+ghost use Rattle.program.specs.Invocations.{has_option, names_script};
 
 use clap::error::ErrorKind;
 use clap::{Arg, ArgAction, ArgMatches, Command};
@@ -80,16 +80,24 @@ fn begins_with_dash(word: &str) -> bool
     }
 }
 
+/// Whether the word names a script where no `--` stands before it.
+fn names_script(word: &str) -> bool
+    ensures { result ≡ names_script word.now }
+{
+    word == "-" || !begins_with_dash(word)
+}
+
 /// The script of words in their plain form.
 fn lab_script<'a>(words: &'a [&'a str]) -> Option<&'a str>
     ensures { MatchOption result (script_of (map (λ w. w.now) words.now) ≡ None)
         (λ script. script_of (map (λ w. w.now) words.now) ≡ Some script.now) }
 {
     match words {
-        [_, name, script] if *name == "lab" && (*script == "-" || !begins_with_dash(script)) => {
+        [_, name, script] if *name == "lab" && names_script(script) => Some(*script),
+        [_, name, dashes, script] if *name == "lab" && *dashes == "--" => Some(*script),
+        [_, name, script, dashes] if *name == "lab" && *dashes == "--" && names_script(script) => {
             Some(*script)
         }
-        [_, name, dashes, script] if *name == "lab" && *dashes == "--" => Some(*script),
         _ => None,
     }
 }

@@ -1,7 +1,7 @@
 // Scripts that can't be read to their end, or have none, scripts at a path, and outputs that take
 // no more.
 use crate::calls::called;
-use crate::streams::{Broken, Endless, Full};
+use crate::streams::{Broken, Endless, Full, SlowReader, SlowWriter};
 use program::serve;
 use std::fs;
 use std::io::{BufWriter, ErrorKind};
@@ -71,9 +71,11 @@ fn a_script_at_a_path_is_run(rt: HostRuntime) -> Result<(), Fail> {
     fs::write(&rt, path, "config 7\nstop 7\n")?;
     let outcome = called(&rt, &["chainstore", "lab", path], SCRIPT);
     let behind = called(&rt, &["chainstore", "lab", "--", path], SCRIPT);
+    let before = called(&rt, &["chainstore", "lab", path, "--"], SCRIPT);
     fs::remove_file(&rt, path)?;
     assert!(rt; outcome.status == 0 && outcome.prints(b"2: node 7 stopped\n", b""));
     assert!(rt; behind.status == 0 && behind.prints(b"2: node 7 stopped\n", b""));
+    assert!(rt; before.status == 0 && before.prints(b"2: node 7 stopped\n", b""));
     Ok(())
 }
 
@@ -101,4 +103,31 @@ fn an_output_is_flushed(rt: HostRuntime) -> Result<(), Fail> {
         assert!(rt; out.get_ref().taken.as_slice() == &TEXT[..room], "{room}");
     }
     Ok(())
+}
+
+// A call that is interrupted is made again, and less than was asked for is no end.
+#[test]
+fn a_slow_reader_is_read_to_its_end(rt: HostRuntime) {
+    let (mut out, mut err) = (Vec::new(rt.alloc()), Vec::new(rt.alloc()));
+    let (bytes, is_ready) = (SCRIPT, false);
+    let mut input = SlowReader { bytes, is_ready };
+    let status = serve(&rt, WORDS, &mut input, &mut out, &mut err);
+    assert!(rt; status == 0 && out.as_slice() == TEXT && err.is_empty());
+}
+
+#[test]
+fn a_slow_writer_gets_all(rt: HostRuntime) {
+    for (script, status, text, told) in [
+        (SCRIPT, 0, TEXT, b"".as_slice()),
+        (b"fly", 1, b"", b"line 1: unknown statement\n"),
+    ] {
+        let (taken, is_ready) = (Vec::new(rt.alloc()), false);
+        let mut out = SlowWriter { taken, is_ready };
+        let (taken, is_ready) = (Vec::new(rt.alloc()), false);
+        let mut err = SlowWriter { taken, is_ready };
+        let mut input = script;
+        let answer = serve(&rt, WORDS, &mut input, &mut out, &mut err);
+        assert!(rt; answer == status && out.taken.as_slice() == text);
+        assert!(rt; err.taken.as_slice() == told);
+    }
 }

@@ -1,4 +1,5 @@
-// Streams that fail, a reader half way, a writer at its end, and a reader that never ends.
+// Streams that fail, a reader half way, a writer at its end, a reader that never ends, and streams
+// that are slow.
 use std::io::{self, ErrorKind, Read, Write};
 
 // Gives these bytes, and then fails in this way.
@@ -47,6 +48,47 @@ impl Write for Full {
         }
         self.taken.extend_from_slice(&buf[..count])?;
         self.room = self.room.saturating_sub(count);
+        Ok(count)
+    }
+
+    fn flush(&mut self) -> io::Result<()> {
+        Ok(())
+    }
+}
+
+// Gives one byte at each second call, and is interrupted at the others.
+#[derive(Drop)]
+pub struct SlowReader<'a> {
+    pub bytes: &'a [u8],
+    pub is_ready: bool,
+}
+
+impl Read for SlowReader<'_> {
+    fn read(&mut self, buf: &mut [u8]) -> io::Result<usize> {
+        self.is_ready = !self.is_ready;
+        if self.is_ready {
+            return Err(io::Error::from(ErrorKind::Interrupted));
+        }
+        let count = buf.len().min(1);
+        self.bytes.read(&mut buf[..count])
+    }
+}
+
+// Takes one byte at each second call, and is interrupted at the others.
+#[derive(Drop)]
+pub struct SlowWriter {
+    pub taken: Vec<u8>,
+    pub is_ready: bool,
+}
+
+impl Write for SlowWriter {
+    fn write(&mut self, buf: &[u8]) -> io::Result<usize> {
+        self.is_ready = !self.is_ready;
+        if self.is_ready {
+            return Err(io::Error::from(ErrorKind::Interrupted));
+        }
+        let count = buf.len().min(1);
+        self.taken.extend_from_slice(&buf[..count])?;
         Ok(count)
     }
 

@@ -10,6 +10,16 @@ const REFUSED: &[&[&str]] = &[
     &["chainstore", "lab"],
     &["chainstore", "lab", "-", "-"],
     &["chainstore", "lab", "-x"],
+    &["chainstore", "lab", "-x", "--"],
+    &["chainstore", "lab", "-", "-x"],
+    &["chainstore", "lab", "--"],
+    &["chainstore", "lab", "-", "--", "-"],
+    &["chainstore", "lab", "--", "-", "-"],
+    &["chainstore", "lab", "--", "-", "--"],
+    &["chainstore", "lab", "a", "b"],
+    &["chainstore", "lab", "a", "--", "b"],
+    &["chainstore", "lab", "-", "--dir", "a"],
+    &["chainstore", "--", "lab", "-"],
     &["chainstore", "lab", "--help"],
     &["chainstore", "--help"],
     &["chainstore", "-h"],
@@ -34,11 +44,28 @@ fn words_name_a_script(rt: HostRuntime) {
     for words in [
         ["chainstore", "lab", "-"].as_slice(),
         &["chainstore", "lab", "--", "-"],
+        &["chainstore", "lab", "-", "--"],
     ] {
         let outcome = called(&rt, words, SCRIPT);
         assert!(rt; outcome.prints(b"2: committed 1\n3: value 1 at 1\n", b""));
         assert_eq!(rt; outcome.status, 0);
     }
-    let absent = called(&rt, &["chainstore", "lab", "/no/such/script"], SCRIPT);
-    assert!(rt; absent.prints(b"", b"script: unreadable\n") && absent.status == 1);
+}
+
+// Words that name a file that isn't there. Behind `--` a word with a dash is a path as others are.
+const ABSENT: &[&[&str]] = &[
+    &["chainstore", "lab", "/no/such/script"],
+    &["chainstore", "lab", "/no/such/script", "--"],
+    &["chainstore", "lab", "--", "/no/such/script"],
+    &["chainstore", "lab", "--", "-no-such-script"],
+    &["chainstore", "lab", "--", "--"],
+    &["chainstore", "lab", ""],
+];
+
+#[test]
+fn an_absent_script_is_unreadable(rt: HostRuntime) {
+    for words in ABSENT {
+        let outcome = called(&rt, words, SCRIPT);
+        assert!(rt; outcome.prints(b"", b"script: unreadable\n") && outcome.status == 1);
+    }
 }

@@ -3,7 +3,7 @@ use Rattle.std.proofs.Common.{◌≡◌, ◌⊎◌, inl, inr, ℕ, ◌<◌, ◌�
 use Rattle.std.proofs.Common.{Some, None, codes, refl, arith}
 use Rattle.kv_types.specs.{Entry, IsUnseen}
 use Rattle.kv_types.specs.Entries.{ViewsAreMaps}
-use Rattle.store_model.specs.Keys.{AreDisjoint, RangeHolds, RangeLiesIn}
+use Rattle.store_model.specs.Keys.{AreDisjointRanges, RangeHolds, RangeLiesIn}
 use Rattle.store_model.specs.Tables.{FitsRange, LevelTable, tables_entries}
 use Rattle.store_model.specs.Stores.{StoreRepresents, memory_entries}
 use Rattle.store_model.specs.Outputs.{HaveOwnRanges}
@@ -26,12 +26,13 @@ use Rattle.store_model.proofs.Plans.{plan_under_way}
 
 -- ---- the plan
 
-flushed_overlaps : AreDisjoint both_keys both_keys → ⊥
+flushed_overlaps : AreDisjointRanges both_keys both_keys → ⊥
 flushed_overlaps (inl h) = b_not_a h
 flushed_overlaps (inr h) = b_not_a h
 
 planned : IsPlanned both_merge
 planned = record {
+  level = omega arith;
   there = λ t in_t. in_t;
   levels = for_two (λ t. (t.level ≡ 0) ⊎ (t.level ≡ 1)) flushed_table deep_table (inl refl)
       (inr refl);
@@ -39,8 +40,11 @@ planned = record {
   one = λ pos. absurd (omega (arith, pos));
   joint = for_two (λ t. t.level ≡ 0 → RangeLiesIn t.range both_keys) flushed_table deep_table
       (λ at. (a_not_a, b_not_b)) (λ at. absurd (omega (arith, at)));
+  least = (flushed_table, contains_head flushed_table (deep_table ∷ []), refl, refl);
+  greatest = (flushed_table, contains_head flushed_table (deep_table ∷ []), refl, refl);
   overlapping = λ t in_t at. inl in_t;
-  needed = for_two (λ t. t.level ≡ 1 → AreDisjoint both_keys t.range → ⊥) flushed_table deep_table
+  needed = for_two (λ t. t.level ≡ 1 → AreDisjointRanges both_keys t.range → ⊥) flushed_table
+      deep_table
       (λ at. absurd (omega (arith, at))) (λ at. flushed_overlaps);
 }
 

@@ -4,7 +4,7 @@ use Rattle.std.proofs.Common.{Option, Some, None, codes, refl, sym, arith}
 use Rattle.std.specs.declared.cmp.Ordering.TheVariants.{Less, Equal, Greater}
 use Rattle.kv_types.specs.{Entry, IsUnseen, all_entries, map_of}
 use Rattle.kv_types.specs.Entries.{ViewsAreMaps}
-use Rattle.store_model.specs.Keys.{AreDisjoint, KeyPrecedes, RangeHolds}
+use Rattle.store_model.specs.Keys.{AreDisjointRanges, KeyPrecedes, RangeHolds}
 use Rattle.store_model.specs.Tables.{AreLeveled, FitsRange, LevelTable, level_entries}
 use Rattle.store_model.specs.Tables.{tables_entries}
 use Rattle.store_model.specs.Stores.{StoreRepresents, memory_entries, store_entries}
@@ -97,7 +97,7 @@ newer_is t u in_t in_u =
 
 -- level 1 has one table
 abbrev IsBeside : LevelTable → LevelTable → Type 0
-IsBeside t u = t.level ≡ u.level → 0 < t.level → (t ≡ u) ⊎ AreDisjoint t.range u.range
+IsBeside t u = t.level ≡ u.level → 0 < t.level → (t ≡ u) ⊎ AreDisjointRanges t.range u.range
 
 beside_is : (t u : LevelTable) → Contains two_tables.tables t → Contains two_tables.tables u
     → IsBeside t u

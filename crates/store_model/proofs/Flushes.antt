@@ -2,7 +2,7 @@
 use Rattle.std.proofs.Common.{◌≡◌, ◌⊎◌, inl, inr, ℕ, suc, ◌<◌, ◌≤◌, List, [], ◌∷◌, length, take}
 use Rattle.std.proofs.Common.{Contains, refl, subst, arith}
 use Rattle.kv_types.specs.{BatchContent, Entry, map_of}
-use Rattle.store_model.specs.Keys.{AreDisjoint}
+use Rattle.store_model.specs.Keys.{AreDisjointRanges}
 use Rattle.store_model.specs.Tables.{AreLeveled, FitsRange, LevelTable, tables_entries}
 use Rattle.store_model.specs.Stores.{StoreRepresents, StoreState, store_entries}
 use Rattle.store_model.specs.Steps.{AreAlikeDeeper, AreEdited, IsFlush, IsLater, IsUnderWay}
@@ -65,7 +65,7 @@ module _ (l : List BatchContent) (store : StoreState) (new : LevelTable) (after 
 
   -- from level 1 on, tables of one level do not overlap
   abbrev IsBeside : LevelTable → LevelTable → Type 0
-  IsBeside t u = t.level ≡ u.level → 0 < t.level → (t ≡ u) ⊎ AreDisjoint t.range u.range
+  IsBeside t u = t.level ≡ u.level → 0 < t.level → (t ≡ u) ⊎ AreDisjointRanges t.range u.range
 
   old_new_unique : (t : LevelTable) → Contains store.tables t → IsUnique t new
   old_new_unique t in_t a b h g same number =
@@ -177,11 +177,11 @@ module _ (l : List BatchContent) (store : StoreState) (new : LevelTable) (after 
         levels = fits.levels;
         early = fits.early;
         upper = λ t in_t. old_or_new (λ t. t.level ≡ plan.level → Contains plan.inputs t
-            ⊎ (IsLater base t ⊎ AreDisjoint plan.range t.range)) t in_t
+            ⊎ (IsLater base t ⊎ AreDisjointRanges plan.range t.range)) t in_t
             (λ old. fits.upper t old)
             (λ at. inr (inl (λ a h. let high = new_above a h in omega (arith, high, le))));
         lower = λ t in_t. old_or_new (λ t. t.level ≡ suc plan.level → Contains plan.inputs t
-            ⊎ AreDisjoint plan.range t.range) t in_t
+            ⊎ AreDisjointRanges plan.range t.range) t in_t
             (λ old. fits.lower t old) (λ at. absurd (omega (arith, at, zero_level)));
       }
 

@@ -11,3 +11,4 @@ pub mod Written
 pub mod ExampleEntries
 pub mod ExampleStores
 pub mod ExampleMerges
+pub mod ExamplePlans

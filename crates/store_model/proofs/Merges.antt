@@ -3,7 +3,7 @@ use Rattle.std.proofs.Common.{◌≡◌, ◌⊎◌, inl, inr, ℕ, suc, ◌<◌,
 use Rattle.std.proofs.Common.{arith}
 use Rattle.std.proofs.lemmas.Bool.{cases_lt}
 use Rattle.kv_types.specs.{Entry}
-use Rattle.store_model.specs.Keys.{KeyPrecedes, RangeHolds, AreDisjoint}
+use Rattle.store_model.specs.Keys.{KeyPrecedes, RangeHolds, AreDisjointRanges}
 use Rattle.store_model.specs.KeysLemmas.{key_chain, precedes_upto, upto_precedes, disjoint_keys}
 use Rattle.store_model.specs.KeysLemmas.{disjoint_back}
 use Rattle.store_model.specs.Tables.{LevelTable, AreLeveled, tables_entries}
@@ -59,7 +59,8 @@ module _ (flushed base floor : ℕ) (plan : MergePlan) (before outputs after : L
 
   -- so it overlaps no input
   input_disjoint : (t i : LevelTable) → Contains before t → t.level ≡ suc plan.level
-      → AreDisjoint plan.range t.range → Contains plan.inputs i → AreDisjoint t.range i.range
+      → AreDisjointRanges plan.range t.range → Contains plan.inputs i
+      → AreDisjointRanges t.range i.range
   input_disjoint t i in_t at side in_i = elim side [
     | inl x ↦ inr (over t i in_t at x in_i)
     | inr x ↦ inl (under t i in_t at x in_i)
@@ -71,7 +72,8 @@ module _ (flushed base floor : ℕ) (plan : MergePlan) (before outputs after : L
 
   -- and no output, since the ends of an output's range are keys of inputs
   output_disjoint : (t o : LevelTable) → Contains before t → t.level ≡ suc plan.level
-      → AreDisjoint plan.range t.range → Contains outputs o → AreDisjoint t.range o.range
+      → AreDisjointRanges plan.range t.range → Contains outputs o
+      → AreDisjointRanges t.range o.range
   output_disjoint t o in_t at side in_o = elim side [
     | inl x ↦
         let end = merged.own.greatest o in_o in
@@ -218,14 +220,14 @@ module _ (flushed base floor : ℕ) (plan : MergePlan) (before outputs after : L
   ]
 
   plan_disjoint : (t : LevelTable) → Contains before t → (Contains plan.inputs t → ⊥)
-      → t.level ≡ suc plan.level → AreDisjoint plan.range t.range
+      → t.level ≡ suc plan.level → AreDisjointRanges plan.range t.range
   plan_disjoint t in_t out at = elim (fits.lower t in_t at) [
     | inl taken ↦ absurd (out taken)
     | inr side ↦ side
   ]
 
   after_disjoint : (t u : LevelTable) → Contains after t → Contains after u → t.level ≡ u.level
-      → 0 < t.level → (t ≡ u) ⊎ AreDisjoint t.range u.range
+      → 0 < t.level → (t ≡ u) ⊎ AreDisjointRanges t.range u.range
   after_disjoint t u in_t in_u eq pos = elim (edited.stays t in_t) [
     | inl t_old ↦ elim (edited.stays u in_u) [
       | inl u_old ↦ ok.disjoint t u t_old.0 u_old.0 eq pos

@@ -1,7 +1,7 @@
 -- A merge that is planned for the tables of a store can end in it.
 use Rattle.std.proofs.Common.{◌≡◌, ◌⊎◌, inl, inr, ℕ, zero, suc, ◌<◌, Contains, sym, ◌∙◌, subst}
 use Rattle.std.proofs.Common.{arith}
-use Rattle.store_model.specs.Keys.{AreDisjoint}
+use Rattle.store_model.specs.Keys.{AreDisjointRanges}
 use Rattle.store_model.specs.Tables.{AreLeveled, LevelTable}
 use Rattle.store_model.specs.Stores.{StoreState}
 use Rattle.store_model.specs.Steps.{IsPlanned, IsUnderWay, MergePlan, PlanFits}
@@ -14,14 +14,14 @@ module _ (flushed : ℕ) (plan : MergePlan) (ok : AreLeveled flushed plan.tables
     (planned : IsPlanned plan) where
   -- of a level from 1 on one table is an input, and does not overlap the others
   others_beside : (t : LevelTable) → Contains plan.tables t → t.level ≡ plan.level → 0 < plan.level
-      → Contains plan.inputs t ⊎ AreDisjoint plan.range t.range
+      → Contains plan.inputs t ⊎ AreDisjointRanges plan.range t.range
   others_beside t in_t at pos =
       let one = planned.one pos in
       let one_at = one.2 in
       elim (ok.disjoint one.0 t (planned.there one.0 one.1) in_t (one_at ∙ sym at)
       (omega (arith, one_at, pos))) [
         | inl is ↦ inl (subst (λ z. Contains plan.inputs z) is one.1)
-        | inr side ↦ inr (subst (λ z. AreDisjoint z t.range) one.3 side)
+        | inr side ↦ inr (subst (λ z. AreDisjointRanges z t.range) one.3 side)
       ]
 
   plan_fits : PlanFits flushed plan plan.tables

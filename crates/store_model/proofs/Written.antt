@@ -6,7 +6,7 @@ use Rattle.std.proofs.lemmas.List.Elements.{All-contains}
 use Rattle.std.proofs.lemmas.Option.{get_or_from_slice_get, slice_get_within}
 use Rattle.std.proofs.lemmas.List.{get_or_default}
 use Rattle.kv_types.specs.{Entry}
-use Rattle.store_model.specs.Keys.{AreDisjoint, KeyPrecedes}
+use Rattle.store_model.specs.Keys.{AreDisjointRanges, KeyPrecedes}
 use Rattle.store_model.specs.KeysLemmas.{key_never}
 use Rattle.store_model.specs.Tables.{FitsRange, LevelTable}
 use Rattle.store_model.specs.Outputs.{AreInKeyOrder, HaveOwnRanges, IsInKeyOrder}
@@ -73,7 +73,7 @@ module _ (tables : List LevelTable) (ok : AreInKeyOrder tables) where
       (ok.rise i j u lt short))
 
   disjoint : (t u : LevelTable) → Contains tables t → Contains tables u
-      → (t ≡ u) ⊎ AreDisjoint t.range u.range
+      → (t ≡ u) ⊎ AreDisjointRanges t.range u.range
   disjoint t u (i, lt, is_t) (j, short, is_u) = elim (cases_lt i j) [
     | inl before ↦ inr (inl (in_turn t u i j before short is_t is_u))
     | inr ge ↦ elim (cases_lt j i) [

@@ -1,5 +1,5 @@
 -- A small store and its merge, worked out.
-use Rattle.std.specs.Prelude.{◌≡◌, List, [], ◌∷◌, Some, None, codes}
+use Rattle.std.specs.Prelude.{◌≡◌, ℕ, List, [], ◌∷◌, Some, None, codes}
 use Rattle.kv_types.specs.declared.edit.Edit.TheVariants.{Put, Delete}
 use Rattle.kv_types.specs.{BatchContent}
 use Rattle.kv_types.specs.Examples.{entry_at}
@@ -117,3 +117,41 @@ pub record TrimExamples : Type 0 where
   pub first : trimmed_to 1 0 (1 ∷ 2 ∷ []) ≡ 1
   pub not_the_newest : trimmed_to 5 0 (1 ∷ 2 ∷ []) ≡ 2
   pub left : left_later 1 (1 ∷ 2 ∷ []) ≡ 2 ∷ []
+
+-- the key b alone
+abbrev pub second_key : KeyRange
+second_key = record { least = codes "b"; greatest = codes "b" }
+
+-- in level n, the key a alone
+abbrev pub a_table : ℕ → LevelTable
+a_table n = record {
+  level = n;
+  file = 4;
+  range = first_key;
+  entries = entry_at (codes "a") 1 (Some (codes "1")) ∷ [];
+}
+
+-- in level n, the key b alone
+abbrev pub b_table : ℕ → LevelTable
+b_table n = record {
+  level = n;
+  file = 6;
+  range = second_key;
+  entries = entry_at (codes "b") 1 (Some (codes "1")) ∷ [];
+}
+
+-- a merge of all these tables, which are of this level and the next, over this range
+abbrev pub merge_of : ℕ → KeyRange → List LevelTable → MergePlan
+merge_of level range tables =
+    record { level = level; range = range; inputs = tables; tables = tables }
+
+-- which merges are planned
+pub record PlanExamples : Type 0 where
+  pub level_5 : IsPlanned (merge_of 5 first_key (a_table 5 ∷ []))
+  pub level_6 : IsPlanned (merge_of 6 first_key (a_table 6 ∷ [])) → ⊥
+  -- the table of level 1 overlaps none of level 0
+  pub too_great : IsPlanned (merge_of 0 both_keys (a_table 0 ∷ b_table 1 ∷ [])) → ⊥
+  pub too_small : IsPlanned (merge_of 0 both_keys (b_table 0 ∷ a_table 1 ∷ [])) → ⊥
+  -- no table of level 0
+  pub no_upper : IsPlanned (merge_of 0 first_key (a_table 1 ∷ [])) → ⊥
+  pub nothing : IsPlanned (merge_of 0 first_key []) → ⊥

@@ -23,5 +23,5 @@ RangeLiesIn inner outer =
     (KeyPrecedes inner.least outer.least → ⊥) × (KeyPrecedes outer.greatest inner.greatest → ⊥)
 
 -- the ranges do not overlap: one ends before the other begins
-abbrev pub AreDisjoint : KeyRange → KeyRange → Type 0
-AreDisjoint a b = KeyPrecedes a.greatest b.least ⊎ KeyPrecedes b.greatest a.least
+abbrev pub AreDisjointRanges : KeyRange → KeyRange → Type 0
+AreDisjointRanges a b = KeyPrecedes a.greatest b.least ⊎ KeyPrecedes b.greatest a.least

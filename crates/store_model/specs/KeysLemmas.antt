@@ -7,7 +7,7 @@ use Rattle.std.specs.Cmp.{tied_itself}
 use Rattle.std.specs.Cmp.Lexicographic.{slice_cmp, nat_list_cmp_total}
 use Rattle.std.proofs.lemmas.Map.Text.{is_eq-slice_cmp}
 use Rattle.std.proofs.lemmas.Slice.Eq.{bytes_eq-Decides}
-use Rattle.store_model.specs.Keys.{KeyPrecedes, KeyRange, RangeHolds, AreDisjoint}
+use Rattle.store_model.specs.Keys.{KeyPrecedes, KeyRange, RangeHolds, AreDisjointRanges}
 
 -- ---- a strict order
 
@@ -54,11 +54,11 @@ upto_precedes a b c le lt = elim (key_cases a b) [
 -- ---- ranges
 
 -- no key lies in both of two disjoint ranges
-pub disjoint_keys : (a b : KeyRange) (key : List ℕ) → AreDisjoint a b → RangeHolds a key
+pub disjoint_keys : (a b : KeyRange) (key : List ℕ) → AreDisjointRanges a b → RangeHolds a key
     → RangeHolds b key → ⊥
 disjoint_keys a b key (inl x) p q = p.1 (precedes_upto a.greatest b.least key x q.0)
 disjoint_keys a b key (inr x) p q = q.1 (precedes_upto b.greatest a.least key x p.0)
 
-pub disjoint_back : (a b : KeyRange) → AreDisjoint a b → AreDisjoint b a
+pub disjoint_back : (a b : KeyRange) → AreDisjointRanges a b → AreDisjointRanges b a
 disjoint_back a b (inl x) = inr x
 disjoint_back a b (inr x) = inl x

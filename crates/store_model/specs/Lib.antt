@@ -16,7 +16,8 @@ pub mod TablesLemmas
 pub mod StoresLemmas
 pub mod SweepsLemmas
 -- What crates above name.
-pub use Rattle.store_model.specs.Keys.{AreDisjoint, KeyPrecedes, KeyRange, RangeHolds, RangeLiesIn}
+pub use Rattle.store_model.specs.Keys.{AreDisjointRanges, KeyPrecedes, KeyRange, RangeHolds}
+pub use Rattle.store_model.specs.Keys.{RangeLiesIn}
 pub use Rattle.store_model.specs.Tables.{AreLeveled, FitsRange, LevelTable, level_entries}
 pub use Rattle.store_model.specs.Tables.{tables_entries}
 pub use Rattle.store_model.specs.Stores.{StoreRepresents, StoreState, empty_store, memory_entries}

@@ -2,7 +2,7 @@
 use Rattle.std.specs.Prelude.{◌≡◌, ◌⊎◌, ℕ, suc, List, length, All, AllPairs, Contains, slice_get}
 use Rattle.std.specs.Prelude.{Some}
 use Rattle.kv_types.specs.{Entry}
-use Rattle.store_model.specs.Keys.{AreDisjoint, KeyPrecedes}
+use Rattle.store_model.specs.Keys.{AreDisjointRanges, KeyPrecedes}
 use Rattle.store_model.specs.Tables.{FitsRange, LevelTable}
 
 -- the ranges hold the keys of the tables and end at such keys, and no two overlap
@@ -13,7 +13,7 @@ pub record HaveOwnRanges (tables : List LevelTable) : Type 0 where
   pub greatest : (t : LevelTable) → Contains tables t
       → (entry : Entry) × Contains t.entries entry × (entry.key ≡ t.range.greatest)
   pub disjoint : (t u : LevelTable) → Contains tables t → Contains tables u
-      → (t ≡ u) ⊎ AreDisjoint t.range u.range
+      → (t ≡ u) ⊎ AreDisjointRanges t.range u.range
 
 -- the table was written in order of keys, and its range is from the first key to the last
 pub record IsInKeyOrder (table : LevelTable) : Type 0 where

@@ -1,7 +1,7 @@
 -- The steps of a store: a flush, a rise of the floor, and a merge.
 use Rattle.std.specs.Prelude.{◌≡◌, ◌⊎◌, ℕ, suc, ◌<◌, ◌≤◌, List, length, Contains, None}
 use Rattle.kv_types.specs.{BatchContent, Entry}
-use Rattle.store_model.specs.Keys.{KeyRange, RangeHolds, RangeLiesIn, AreDisjoint}
+use Rattle.store_model.specs.Keys.{KeyRange, RangeHolds, RangeLiesIn, AreDisjointRanges}
 use Rattle.store_model.specs.Tables.{LevelTable, FitsRange, tables_entries}
 use Rattle.store_model.specs.Outputs.{HaveOwnRanges}
 use Rattle.store_model.specs.Stores.{StoreState, memory_entries}
@@ -54,13 +54,14 @@ raised_store store floor kept = record store { floor = floor; kept = kept }
 -- a merge under way: its inputs, of a level and the next one, and the tables when it was planned
 pub record MergePlan : Type 0 where
   pub level : ℕ
-  pub range : KeyRange  -- of the inputs of the level
+  pub range : KeyRange  -- from the least key to the greatest of the inputs of the level
   pub inputs : List LevelTable
   pub tables : List LevelTable
 
--- The inputs are those of a merge of the level: of level 0 all tables, of a deeper one a single
--- table, and what overlaps their range in the next level.
+-- The inputs are those of a merge of a level from 0 to 5: of level 0 all tables, of a deeper one a
+-- single table, and what overlaps their joint range in the next level.
 pub record IsPlanned (plan : MergePlan) : Type 0 where
+  pub level : plan.level ≤ 5
   pub there : (t : LevelTable) → Contains plan.inputs t → Contains plan.tables t
   pub levels : (t : LevelTable) → Contains plan.inputs t
       → (t.level ≡ plan.level) ⊎ (t.level ≡ suc plan.level)
@@ -70,10 +71,15 @@ pub record IsPlanned (plan : MergePlan) : Type 0 where
       → (t : LevelTable) × Contains plan.inputs t × (t.level ≡ plan.level) × (t.range ≡ plan.range)
   pub joint : (t : LevelTable) → Contains plan.inputs t → t.level ≡ plan.level
       → RangeLiesIn t.range plan.range
+  -- both ends of the range are ends of inputs of the level, so it has an input at least
+  pub least : (t : LevelTable) × Contains plan.inputs t × (t.level ≡ plan.level)
+      × (t.range.least ≡ plan.range.least)
+  pub greatest : (t : LevelTable) × Contains plan.inputs t × (t.level ≡ plan.level)
+      × (t.range.greatest ≡ plan.range.greatest)
   pub overlapping : (t : LevelTable) → Contains plan.tables t → t.level ≡ suc plan.level
-      → Contains plan.inputs t ⊎ AreDisjoint plan.range t.range
+      → Contains plan.inputs t ⊎ AreDisjointRanges plan.range t.range
   pub needed : (t : LevelTable) → Contains plan.inputs t → t.level ≡ suc plan.level
-      → AreDisjoint plan.range t.range → ⊥
+      → AreDisjointRanges plan.range t.range → ⊥
 
 -- an entry that a newer one overwrites, which every number from the floor on sees
 abbrev pub IsOverwritten : ℕ → List LevelTable → Entry → Type 0
@@ -114,14 +120,14 @@ pub record PlanFits (base : ℕ) (plan : MergePlan) (tables : List LevelTable) :
   pub there : (t : LevelTable) → Contains plan.inputs t → Contains tables t
   pub levels : (t : LevelTable) → Contains plan.inputs t
       → ((t.level ≡ plan.level) × RangeLiesIn t.range plan.range)
-      ⊎ ((t.level ≡ suc plan.level) × (AreDisjoint plan.range t.range → ⊥))
+      ⊎ ((t.level ≡ suc plan.level) × (AreDisjointRanges plan.range t.range → ⊥))
   pub early : (entry : Entry) → tables_entries plan.inputs entry → entry.number ≤ base
   -- what is no input of the level was added since, or does not overlap the range
   pub upper : (t : LevelTable) → Contains tables t → t.level ≡ plan.level
-      → Contains plan.inputs t ⊎ (IsLater base t ⊎ AreDisjoint plan.range t.range)
+      → Contains plan.inputs t ⊎ (IsLater base t ⊎ AreDisjointRanges plan.range t.range)
   -- what is no input of the next level does not overlap the range
   pub lower : (t : LevelTable) → Contains tables t → t.level ≡ suc plan.level
-      → Contains plan.inputs t ⊎ AreDisjoint plan.range t.range
+      → Contains plan.inputs t ⊎ AreDisjointRanges plan.range t.range
 
 -- from level 1 on, the tables are the same
 pub record AreAlikeDeeper (before now : List LevelTable) : Type 0 where

@@ -1,7 +1,7 @@
 -- Tables of entries in levels, and which tables may stand together.
 use Rattle.std.specs.Prelude.{◌≡◌, ◌⊎◌, ℕ, ◌<◌, ◌≤◌, List, Contains}
 use Rattle.kv_types.specs.{Entry}
-use Rattle.store_model.specs.Keys.{KeyPrecedes, KeyRange, RangeHolds, AreDisjoint}
+use Rattle.store_model.specs.Keys.{KeyPrecedes, KeyRange, RangeHolds, AreDisjointRanges}
 
 -- a table as its line in the manifest gives it, with the entries that its file represents
 pub record LevelTable : Type 0 where
@@ -40,4 +40,4 @@ pub record AreLeveled (flushed : ℕ) (tables : List LevelTable) : Type 0 where
       → b.number < a.number
   -- from level 1 on, the tables of a level do not overlap
   pub disjoint : (t u : LevelTable) → Contains tables t → Contains tables u → t.level ≡ u.level
-      → 0 < t.level → (t ≡ u) ⊎ AreDisjoint t.range u.range
+      → 0 < t.level → (t ≡ u) ⊎ AreDisjointRanges t.range u.range

@@ -9,7 +9,8 @@ ghost use Rattle.store_model.specs.Claims.{AlwaysRepresents, MergesKeep, MergesK
 ghost use Rattle.store_model.specs.Claims.{LookUpsAreMaps, OneTableHasKey, StoreEntriesDiffer};
 ghost use Rattle.store_model.specs.Claims.{NextDecides, ReplaysAgree, StoreViewsAreMaps};
 ghost use Rattle.store_model.specs.Claims.{WrittenHaveRanges};
-ghost use Rattle.store_model.specs.Examples.{MergeExamples, StoreExamples, TrimExamples};
+ghost use Rattle.store_model.specs.Examples.{MergeExamples, PlanExamples, StoreExamples};
+ghost use Rattle.store_model.specs.Examples.{TrimExamples};
 
 /// The view of a store at each number from its floor on is the map of so many first batches, and no
 /// two of its entries share key and number.
@@ -103,11 +104,13 @@ pub fn next_decides()
     ensures { NextDecides }
 {}
 
-/// A small store, what reads find in it, its merge at two floors, and logs that are trimmed.
+/// A small store, what reads find in it, its merge at two floors, which merges are planned, and
+/// logs that are trimmed.
 // law: of all definitions
 pub fn examples()
     ensures store { StoreExamples }
     ensures merge { MergeExamples }
+    ensures plans { PlanExamples }
     ensures trims { TrimExamples }
 {
     kv_types::laws::views_are_maps();

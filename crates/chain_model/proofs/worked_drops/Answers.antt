@@ -19,4 +19,8 @@ returns c = record {
   later_epoch_of_stranger = refl;
   stranger_with_bad_ack = refl;
   too_old_and_too_new = refl;
+  too_old_and_too_many = refl;
+  too_new_and_too_many = refl;
+  removed_and_too_many = refl;
+  removed_and_not_open = refl;
 }

@@ -14,6 +14,8 @@ returns c = record {
   floor = refl;
   new_successor = refl;
   removed = refl;
+  adopts_on = refl;
+  sends_16 = refl;
   waits = refl;
   forgets = refl;
 }
