@@ -1,9 +1,9 @@
--- The device behind a disk in memory: its failures, the states that the disk has had, and its fault.
-use Rattle.std.specs.Prelude.{◌≡◌, ℕ, suc, ◌+◌, ◌-◌, List, ◌∷◌, length}
-use Rattle.std.specs.Prelude.{Option, Some, None, Result, Err}
+-- The device behind a disk in memory: its failures, the states that the disk has had, and its marks.
+use Rattle.std.specs.Prelude.{◌≡◌, ℕ, suc, ◌-◌, List, ◌∷◌, length}
+use Rattle.std.specs.Prelude.{Option, Some, Result, Err}
+use Rattle.std.specs.Option.{option_map}
 use Rattle.disk.specs.declared.error.DiskError.{DiskError}
 use Rattle.disk.specs.declared.error.DiskError.TheVariants.{Failed, Memory}
-use Rattle.disk.specs.declared.device.Armed.{Armed}
 use Rattle.disk.specs.States.{Slot}
 use Rattle.disk.specs.Calls.{RisesByOne}
 use Rattle.disk.specs.Faults.{Marks, WasMade, fault_of}
@@ -15,22 +15,10 @@ pub record DeviceState : Type 0 where
   pub past : List (List (ℕ × Slot))
   pub marks : Marks
 
--- how long the past is once a fault has struck, which was armed when it was this one
-abbrev pub strikes_at : {A : Type 0} → List A → Option Armed → Option ℕ
-strikes_at before None = None
-strikes_at before (Some fault) = Some (length before + fault.call)
-
--- The calls that are left to the fault are those that were not made since it was armed. It is armed
--- for a call to come.
-abbrev pub IsLeftOf : {A B : Type 0} → List A → List B → Option Armed → Type 0
-IsLeftOf before past None = Unit {0}
-IsLeftOf before past (Some fault) = fault.left ≡ length before + fault.call - length past
-
--- the device's fault is the one that its marks tell
-pub record IsDevice {A B : Type 0} (before : List A) (past : List B) (marks : Marks)
-    (fault : Option Armed) : Type 0 where
-  pub told : fault_of marks ≡ strikes_at before fault
-  pub left : IsLeftOf before past fault
+-- how many calls are left, where the past is so long, to a fault that strikes where it becomes so
+-- long: none once it has struck
+abbrev pub calls_left : Option ℕ → ℕ → Option ℕ
+calls_left at len = option_map (λ it. it - len) at
 
 -- the fault strikes the next call
 abbrev pub IsNext : DeviceState → Type 0

@@ -31,8 +31,9 @@ pub trait Crash: Disk {
         ensures honest { Self.is_honest self.new ↔ Self.is_honest self.old }
         ensures count { Self.failures self.new ≡ Self.failures self.old }
         ensures reliable { Self.is_reliable self.old → Self.is_reliable self.new }
-        ensures past { AddsMoment (Self.past self.old) (Self.past self.new) (Self.state self.new) }
-        ensures marks { Self.marks self.new ≡
+        ensures past { Self.is_honest self.old →
+            AddsMoment (Self.past self.old) (Self.past self.new) (Self.state self.new) }
+        ensures marks { Self.is_honest self.old → Self.marks self.new ≡
             (length (Self.past self.old), Crashed junk) ∷ Self.marks self.old }
         ensures crashes { Self.is_honest self.old →
             CrashOutcome junk (Self.state self.old) (Self.state self.new) }

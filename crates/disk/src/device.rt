@@ -9,15 +9,6 @@ use crate::{DiskError, Fault, Junk, Mark};
 use std::collections::BTreeMap;
 use std::marker::Model;
 
-/// A fault that the device is armed with.
-#[derive(Clone, Copy)]
-pub struct Armed {
-    // The call that it strikes, from 1 from the moment that it was armed, and how many calls are
-    // left to it, with itself.
-    call: u64,
-    left: u64,
-}
-
 /// A mark, and the past that the device had when it came.
 #[derive(Drop)]
 pub struct Marked {
@@ -28,16 +19,17 @@ pub struct Marked {
 #[derive(Drop)]
 pub struct Device {
     failures: u64,
-    fault: Option<Armed>,
-    // The slots at first and after each call and crash so far, now and when the fault was armed.
+    // How many calls are left to the fault that it is armed with, with the call that this strikes.
+    fault: Option<u64>,
+    // The slots at first and after each call and crash so far.
     history: History<BTreeMap<u64, MemSlot>>,
-    at_arming: History<BTreeMap<u64, MemSlot>>,
     marked: History<Marked>,
 }
 
 impl Model for Device {
-    ghost use Rattle.std.specs.Prelude.{length, map};
-    ghost use Rattle.disk.specs.Devices.{DeviceState, IsDevice};
+    ghost use Rattle.std.specs.Prelude.{◌≡◌, length, map};
+    ghost use Rattle.disk.specs.Devices.{DeviceState, calls_left};
+    ghost use Rattle.disk.specs.Faults.{fault_of};
 
     ghost Value = { DeviceState };
 
@@ -47,8 +39,10 @@ impl Model for Device {
       marks = map (λ it. (length it.at.past, it.mark)) device.marked.past;
     } };
 
-    ghost invariant = { λ device. IsDevice device.at_arming.past device.history.past
-        (map (λ it. (length it.at.past, it.mark)) device.marked.past) device.fault };
+    // The fault is the one that its marks tell.
+    ghost invariant = { λ device. device.fault ≡ calls_left
+        (fault_of (map (λ it. (length it.at.past, it.mark)) device.marked.past))
+        (length device.history.past) };
 }
 
 impl Device {
@@ -62,7 +56,6 @@ impl Device {
             failures: 0,
             fault: None,
             history: History::new().with(slots),
-            at_arming: History::new(),
             marked: History::new(),
         }
     }
@@ -75,7 +68,6 @@ impl Device {
             failures: self.failures,
             fault: self.fault,
             history: self.history.copy(),
-            at_arming: self.at_arming.copy(),
             marked: self.marked.copy(),
         }
     }
@@ -96,11 +88,7 @@ impl Device {
             at: self.history.copy(),
             mark,
         });
-        self.at_arming = self.history.copy();
-        self.fault = match call {
-            None => None,
-            Some(call) => Some(Armed { call, left: call }),
-        };
+        self.fault = call;
     }
 
     /// Whether the fault has struck.
@@ -109,7 +97,7 @@ impl Device {
     {
         match self.fault {
             None => false,
-            Some(fault) => fault.left == 0,
+            Some(left) => left == 0,
         }
     }
 
@@ -119,7 +107,7 @@ impl Device {
     {
         match self.fault {
             None => false,
-            Some(fault) => fault.left == 1,
+            Some(left) => left == 1,
         }
     }
 
@@ -141,10 +129,7 @@ impl Device {
         self.history = self.history.with(slots);
         self.fault = match self.fault {
             None => None,
-            Some(Armed { call, left }) => Some(Armed {
-                call,
-                left: left.saturating_sub(1),
-            }),
+            Some(left) => Some(left.saturating_sub(1)),
         };
     }
 

@@ -15,7 +15,7 @@ returns-clause-allowed c = λ honest.
 
 -- the crash left one state more
 pub returns-clause-past : goal.returns-clause-past
-returns-clause-past c =
+returns-clause-past c = λ honest.
     let left = state_of c.crash_in.new.slots.entries in
     let since : List State = map state_of c.crash.new.self.past in
     subst (λ (disk : Slots). AddsMoment (past_states disk) since left) c.self.view_is
