@@ -18,7 +18,7 @@ use Rattle.engine.proofs.table_writing.add_all.Goals as goal
 
 pub returns-in_err-first-clause-writes : goal.returns-in_err-first-clause-writes
 returns-in_err-first-clause-writes g c =
-    let memory = for_memory _ _ c.first.result c.in_err-first.field-0.0 c.in_err-first.was (tt, (tt, tt))
+    let memory = for_memory _ _ c.first.result c.in_err-first.field-0.0 c.in_err-first.was (tt, tt, tt)
     (λ never. never) c.first.ensures.causes in
     writes_nothing g.D.Disk (builder_file c.args.builder.now) c.args.disk.now
     (memory_answer c.from_residual.result c.in_err-first.field-0.0 memory c.from_residual.ensures.1)
@@ -30,7 +30,7 @@ loop-alloc-init g c =
       file = refl;
       writes = writes_nothing g.D.Disk (builder_file c.args.builder.now) c.args.disk.now
           (λ fails. fails);
-      holds = (c.first.ensures.moves.stays tt tt).1.0;
+      holds = (c.first.ensures.moves.stays tt tt).1;
       unbroken = λ broken. is_answer tt c.first.result c.in_ok-first.was
           (c.first.ensures.broken.1 broken);
       added = record {
@@ -142,7 +142,7 @@ loop-alloc-preserved g c =
       writes = writes_behind g.D.Disk file (λ fails. fails) (λ cause. cause) i.writes
           (writes_done g.D.Disk file (answered c.add_one.result c.in_ok-add_one.was)
           (λ fails. fails) called);
-      holds = alike_through _ _ _ (c.next.ensures.moves.stays tt tt).1.0 i.holds;
+      holds = alike_through _ _ _ (c.next.ensures.moves.stays tt tt).1 i.holds;
       unbroken = λ broken. is_answer tt c.next.result c.in_ok-next.was
           (c.next.ensures.broken.1 broken);
       added = record {
@@ -171,7 +171,7 @@ returns-in_err-next-clause-writes g c =
     let called = subst (λ (f : ℕ). WritesInto g.D.Disk f c.loop-alloc.disk c.add_one.new.disk
     (FailsDevice c.add_one.result) (BuildsNothing c.loop-alloc.builder)) i.file
     c.add_one.ensures.writes in
-    let memory = for_memory _ _ c.next.result c.in_err-next.field-0.0 c.in_err-next.was (tt, (tt, tt))
+    let memory = for_memory _ _ c.next.result c.in_err-next.field-0.0 c.in_err-next.was (tt, tt, tt)
     i.unbroken c.next.ensures.causes in
     writes_behind g.D.Disk file (λ fails. fails) (λ cause. cause) i.writes
     (writes_done g.D.Disk file (answered c.add_one.result c.in_ok-add_one.was)
