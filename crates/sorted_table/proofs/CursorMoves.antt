@@ -8,7 +8,8 @@ use Rattle.table_format.specs.declared.IndexLine.{IndexLine}
 use Rattle.table_files.specs.{KeepsFiles}
 use Rattle.sorted_table.specs.declared.block_place.BlockPlace.{BlockPlace}
 use Rattle.sorted_table.specs.LineSizes.{blocks_size}
-use Rattle.sorted_table.specs.TableCursors.{AreAsMeant, CursorServes, FileHolds, HasLines, IsPlaceIn}
+use Rattle.sorted_table.specs.Meant.{AreAsMeant}
+use Rattle.sorted_table.specs.TableCursors.{CursorServes, FileHolds, HasLines, IsPlaceIn}
 use Rattle.sorted_table.specs.TableCursorLaws.{FileSuits, ServesMeant}
 use Rattle.disk.specs.{Slot, State}
 
@@ -56,8 +57,7 @@ module _ {C S : Type 0} (g : Ghosts S) (file : C → ℕ) (lines : C → List In
     stays = λ m s.
         let slot : g.state a (file old) ≡ g.state b (file new) =
         sym (keeps.same s.0 (file old)) ∙ ap (g.state b) (sym same_file) in
-        let meant : m (file old) ≡ m (file new) = ap m (sym same_file) in
-        (
+        let meant : m (file old) ≡ m (file new) = ap m (sym same_file) in (
           (
             keeps.honest.1 s.0,
             subst (λ z. CursorServes z (lines new) (place new)) meant

@@ -1,9 +1,8 @@
 -- The block of a line, as a read of the file answers.
-use Rattle.std.proofs.Common.{◌≡◌, ℕ, ◌≤◌, ◌<◌, List, length, get_or, Some, Result, Ok, Err}
-use Rattle.std.proofs.Common.{MatchResult, inl, inr, refl, sym, ap, subst, ◌∙◌, arith, IfOk}
+use Rattle.std.proofs.Common.{◌≡◌, ℕ, ◌≤◌, ◌<◌, List, length, Some, Result, Ok, Err}
+use Rattle.std.proofs.Common.{MatchResult, sym, ap, subst, ◌∙◌, arith, IfOk}
 use Rattle.std.specs.List.{slice_get}
 use Rattle.std.specs.Rc.{rc_slice_items}
-use Rattle.std.proofs.lemmas.Option.{slice_get_read}
 use Rattle.std.specs.Global.{Global}
 use Rattle.std.specs.declared.rc.RcSlice.{RcSlice}
 use Rattle.disk.specs.{State}
@@ -17,13 +16,6 @@ use Rattle.sorted_table.specs.BlockPlaces.{PlaceReads}
 use Rattle.sorted_table.specs.LineSizes.{IsBounded, block_size}
 use Rattle.sorted_table.specs.TableCursors.{HasLines, IsPlaceIn}
 use Rattle.sorted_table.proofs.BlockNumbers.{BlockNumber, block_number, length-block_lines}
-
--- the line that was read of the lines
-pub line_at : (lines given : List IndexLine) (n : ℕ) (line : IndexLine) → given ≡ lines
-    → n < length lines → line ≡ get_or given n line → slice_get lines n ≡ Some line
-line_at lines given n line same within is =
-    subst (λ l. slice_get l n ≡ Some line) same
-    (slice_get_read given (length given) n line refl (omega (arith, within, ap length same)) is)
 
 -- the block of a line of a table
 pub block_of_line : (disk : State) (file : ℕ) (lines : List IndexLine) (n : ℕ) (line : IndexLine)
@@ -66,17 +58,7 @@ place_in disk file lines n line t b (Err e) is reads = reads
 
 -- ---- refusals
 
--- the block of a line of a table is not damaged
-pub block_is_right : (disk : State) (file : ℕ) (lines : List IndexLine) (n : ℕ) (line : IndexLine)
-    (t : HasLines (disk file) lines) → BlockNumber t.bytes t.represents.blocks line n
-    → (result : Result (RcSlice ℕ Global) TableError) → result ≡ Err table.Damaged
-    → BlockAnswer disk file line.place line.len result → ⊥
-block_is_right disk file lines n line t b result is answer =
-    let there = block_answer disk file lines n line t b (Err table.Damaged)
-    (subst (BlockAnswer disk file line.place line.len) is answer) in
-    elim there [ inl e ↦ absurd cc | inr e ↦ absurd cc ]
-
--- nor are its entries
+-- the entries of a block of a table are not damaged
 pub places_are_right : {A : Type 0} (P : A → Type 0) (result : Result A TableError)
     → result ≡ Err table.Damaged → MatchResult result P (λ e. e ≡ table.Memory) → ⊥
 places_are_right P result is answer =

@@ -1,6 +1,7 @@
 pub mod SearchesLemmas
 pub mod LookupsLemmas
 pub mod LinesLemmas
+pub mod BlockEnds
 pub mod BlockWalks
 pub mod LineBlocks
 pub mod TailsLemmas
@@ -14,6 +15,7 @@ pub mod StartSearches
 pub mod BlockNumbers
 pub mod FirstBlocks
 pub mod ListPositions
+pub mod MeantLemmas
 pub mod OpenLookups
 pub mod OpenTails
 pub mod TablePlaces

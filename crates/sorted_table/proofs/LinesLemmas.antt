@@ -1,11 +1,11 @@
 -- The place of a spot among the lines of an index.
 use Rattle.std.proofs.Common.{◌≡◌, ◌⊎◌, inl, inr, ℕ, suc, ◌≤◌, ◌<◌, Bool, true, false, List, ◌∷◌, ◌++◌, length, map}
-use Rattle.std.proofs.Common.{take, drop, get_or, Option, Some, None, refl, sym, ap, subst, ◌∙◌, arith}
+use Rattle.std.proofs.Common.{take, drop, get_or, Some, None, refl, sym, ap, subst, ◌∙◌, arith}
 use Rattle.std.specs.List.Sorted.{IsPartitionedBy, IsPartitionPoint}
 use Rattle.std.specs.Ordering.{is_lt}
-use Rattle.std.specs.Option.{option_map}
-use Rattle.std.specs.Slice.{IsItemAt}
-use Rattle.std.proofs.Common.{Bor}
+use Rattle.std.specs.List.{slice_get}
+use Rattle.std.proofs.lemmas.Option.{get_or_from_slice_get, slice_get_cases, slice_get_within}
+use Rattle.std.proofs.Common.{All}
 use Rattle.std.proofs.lemmas.List.{get_or-map, get_or-take, length-map, length-take, take-append-drop}
 use Rattle.std.proofs.Math.Seq.{drop-cons}
 use Rattle.kv_types.specs.{Entry}
@@ -13,7 +13,7 @@ use Rattle.merge_iter.specs.{EntryPrecedes, chain, entry_cmp}
 use Rattle.merge_iter.specs.declared.Direction.TheVariants.{Forward}
 use Rattle.table_format.specs.{AreRising, end_spot}
 use Rattle.table_format.specs.declared.IndexLine.{IndexLine}
-use Rattle.sorted_table.specs.Searches.{EndsEarlier, FindsFirstWithout, IsLinePlace}
+use Rattle.sorted_table.specs.Searches.{EndsEarlier, IsFirstWithout, IsLinePlace}
 use Rattle.sorted_table.proofs.SearchesLemmas.{early_by, late_by}
 
 -- whether the line ends before the spot
@@ -65,17 +65,13 @@ around lines n line within is =
     ∙ ap (λ (l : List IndexLine). take n lines ++ l) (drop-cons lines n line within
     ∙ ap (λ (x : IndexLine). x ∷ drop (suc n) lines) is)
 
--- the line at the place, if there is one
-pub finds_line : (lines : List IndexLine) (place : Entry) (n : ℕ) (found : Option (Bor IndexLine))
-    → IsItemAt lines n found → IsLinePlace lines place n
-    → FindsFirstWithout (EndsEarlier place) lines (option_map (λ line. line.now) found)
-finds_line lines place n None item at =
-    let past : length lines ≤ n = item.3 in
-    λ k d lt. at.0 k d (omega arith) (omega (arith, lt, past))
-finds_line lines place n (Some found) item at =
-    let line = found.now in
-    let within : n < length lines = item.3.0 in
-    let same : get_or lines n line ≡ line = sym item.1 in
+-- the line at the place is the first whose block does not end before the spot
+pub line_first : (lines : List IndexLine) (place : Entry) (n : ℕ) (line : IndexLine)
+    → slice_get lines n ≡ Some line → IsLinePlace lines place n
+    → IsFirstWithout (EndsEarlier place) lines line
+line_first lines place n line there at =
+    let within : n < length lines = slice_get_within lines n line there in
+    let same : get_or lines n line ≡ line = get_or_from_slice_get lines n line line there in
     record {
       before = take n lines;
       after = drop (suc n) lines;
@@ -87,3 +83,16 @@ finds_line lines place n (Some found) item at =
       without = subst (λ (x : IndexLine). EndsEarlier place x → ⊥) same
           (at.1 n line (omega arith) within);
     }
+
+-- where the place is behind all lines, each block ends before the spot
+pub lines_early : (lines : List IndexLine) (place : Entry) (n : ℕ) → length lines ≤ n
+    → IsLinePlace lines place n → All (EndsEarlier place) lines
+lines_early lines place n past at = λ k d lt. at.0 k d (omega arith) (omega (arith, lt, past))
+
+-- there is no line at a number behind the last one
+pub no_line : (lines : List IndexLine) (n : ℕ) → length lines ≤ n → slice_get lines n ≡ None
+no_line lines n past = elim (slice_get_cases lines n).1 [
+  | inl (line, within, is, at) ↦ let short : n < length lines = within in
+      absurd (omega (arith, past, short))
+  | inr (beyond, is) ↦ is
+]

@@ -2,23 +2,32 @@
 use Rattle.std.proofs.Common.{◌≡◌, inr, ℕ, Bool, false, List, map, Option, Some, None}
 use Rattle.std.proofs.Common.{Result, Ok, Err, MatchResult, sym, subst, ◌∙◌}
 use Rattle.std.proofs.Math.Logic.{∥∥₁_elim, ∥∥₁_map}
-use Rattle.std.specs.Prelude.{IsSomeAnd, IsTrue}
+use Rattle.std.specs.Prelude.{IsSomeAnd, IsTrue, MatchOption, ◌≤◌, ◌<◌, length, refl}
 use Rattle.std.specs.Rc.{rc_slice_items}
 use Rattle.std.specs.declared.rc.RcSlice.{RcSlice}
 use Rattle.std.specs.Global.{Global}
 use Rattle.bloom.specs.{Covers, CoversHashed, hashes_of}
+use Rattle.std.specs.List.{slice_get}
+use Rattle.std.proofs.lemmas.Option.{slice_get_within}
 use Rattle.disk.specs.{Slot, State, seen}
 use Rattle.kv_types.specs.{Entry}
 use Rattle.merge_iter.specs.{spot}
-use Rattle.table_files.specs.{BlockAnswer}
-use Rattle.table_format.specs.{AreRising, IsBlock, end_spot}
+use Rattle.table_format.specs.{AreRising, IsBlock, IsEnvironmentError, end_spot}
 use Rattle.table_format.specs.declared.IndexLine.{IndexLine}
 use Rattle.table_format.specs.declared.TableError.{TableError}
 use Rattle.table_format.specs.declared.TableError.TheVariants.{Damaged, Memory}
 use Rattle.sorted_table.specs.declared.found.FoundVersion.{FoundVersion}
 use Rattle.sorted_table.specs.declared.table.Table.{Table}
-use Rattle.sorted_table.specs.Open.{IsOpenOn, LineAnswer, LookupAnswer, LookupFinds}
-use Rattle.sorted_table.specs.Searches.{EndsEarlier, FindsFirstWithout}
+use Rattle.sorted_table.specs.Open.{FindsAtLine, IsOpenOn, LineAnswer, LookupAnswer, LookupFinds, TableServes}
+use Rattle.sorted_table.specs.Meant.{IsBlockAtLine, LineBlockAnswer}
+use Rattle.sorted_table.specs.Searches.{IsLinePlace}
+use Rattle.sorted_table.specs.TableCursors.{HasLines}
+use Rattle.sorted_table.proofs.BlockNumbers.{BlockNumber, some_of}
+use Rattle.sorted_table.proofs.FirstBlocks.{block_of_line}
+use Rattle.sorted_table.proofs.LinesLemmas.{line_first, no_line}
+use Rattle.sorted_table.proofs.MeantLemmas.{line_read}
+use Rattle.sorted_table.proofs.TableLookups.{block_for, result_up}
+use Rattle.table_files.specs.{known_block_answered}
 use Rattle.sorted_table.specs.Tails.{HasTail}
 
 never_twice : IsProp ⊥
@@ -39,50 +48,95 @@ not_denied filter key hashes denies are covered holds =
     let is : IsTrue denies = denied in cc))
 
 -- the answer by a line is that of a lookup
-pub by_line : (file : Slot) (table : Table) (lines : List IndexLine) (key : List ℕ) (at : ℕ)
-    (line : Option IndexLine) (result : Result (Option FoundVersion) TableError)
+pub by_line : (file : Slot) (table : Table) (lines : List IndexLine) (key : List ℕ) (at n : ℕ)
+    (result : Result (Option FoundVersion) TableError)
     → IsOpenOn file table → Covers table.filter.items key → lines ≡ rc_slice_items table.lines
-    → (AreRising (map end_spot lines) → FindsFirstWithout (EndsEarlier (spot key at)) lines line)
-    → LineAnswer line file key at result → LookupAnswer file table key at result
-by_line file table lines key at line result opened covers are finds answer =
+    → (AreRising (map end_spot lines) → IsLinePlace lines (spot key at) n)
+    → LineAnswer lines n file key at result → LookupAnswer file table key at result
+by_line file table lines key at n result opened covers are finds answer =
     let mine = rc_slice_items table.lines in
     let rising = rising_of (seen file) mine table.filter.items opened in
     inr (
       covers,
-      line,
-      subst (λ (l : List IndexLine). FindsFirstWithout (EndsEarlier (spot key at)) l line) are
+      n,
+      subst (λ (l : List IndexLine). IsLinePlace l (spot key at) n) are
           (finds (subst (λ (l : List IndexLine). AreRising (map end_spot l)) (sym are) rising)),
-      answer,
+      subst (λ (l : List IndexLine). LineAnswer l n file key at result) are answer,
     )
 
--- the block was not read
-pub block_refused : (disk : State) (file : ℕ) (line : IndexLine) (key : List ℕ) (at : ℕ)
-    (e : TableError) → BlockAnswer disk file line.place line.len (Err e)
-    → LineAnswer (Some line) (disk file) key at (Err e)
-block_refused disk file line key at e answer is entries has =
-    let none = subst (λ (why : TableError). BlockAnswer disk file line.place line.len (Err why))
-    is answer in
-    none has.part has.len (has.there, ∣ (entries, has.is_block) ∣₁)
+-- without a line nothing is found
+pub none_behind : (file : Slot) (lines : List IndexLine) (key : List ℕ) (at n : ℕ)
+    → length lines ≤ n → LineAnswer lines n file key at (Ok None)
+none_behind file lines key at n past =
+    let found : Option FoundVersion = None in
+    let same : found ≡ None = refl in
+    subst (λ (o : Option IndexLine). MatchOption o (found ≡ None)
+    (λ line. ∥ FindsAtLine lines n file key at found ∥₁)) (sym (no_line lines n past)) same
 
 -- the block was read
-pub block_answers : (disk : State) (file : ℕ) (line : IndexLine) (key : List ℕ) (at : ℕ)
-    (block : RcSlice ℕ Global) (result : Result (Option FoundVersion) TableError)
-    → BlockAnswer disk file line.place line.len (Ok block)
+pub line_answers : (file : Slot) (lines : List IndexLine) (n : ℕ) (line : IndexLine)
+    (key : List ℕ) (at : ℕ) (block : RcSlice ℕ Global)
+    (result : Result (Option FoundVersion) TableError) → slice_get lines n ≡ Some line
+    → LineBlockAnswer lines n file (Ok block)
     → ((entries : List Entry) → IsBlock (rc_slice_items block) entries
     → MatchResult result (LookupFinds entries key at) (λ e. e ≡ Memory))
-    → LineAnswer (Some line) (disk file) key at result
-block_answers disk file line key at block (Ok found) answer finds =
-    ∥∥₁_map answer.1.1 (λ it. (
-      it.0,
-      record {
-        part = rc_slice_items block;
-        len = answer.0;
-        there = answer.1.0;
-        is_block = it.1;
-      },
-      finds it.0 it.1,
-    ))
-block_answers disk file line key at block (Err e) answer finds = λ is entries has.
-    ∥∥₁_elim answer.1.1 never_twice (λ it.
-    let memory : e ≡ Memory = finds it.0 it.1 in
-    let twice : Memory ≡ Damaged = sym memory ∙ is in cc)
+    → LineAnswer lines n file key at result
+line_answers file lines n line key at block (Ok found) there is finds =
+    subst (λ (o : Option IndexLine). MatchOption o (found ≡ None)
+    (λ line. ∥ FindsAtLine lines n file key at found ∥₁)) (sym there)
+    (∥∥₁_map is.checked (λ it.
+    record {
+      part = rc_slice_items block;
+      entries = it.0;
+      there = is;
+      is_block = it.1;
+      finds = finds it.0 it.1;
+    }))
+line_answers file lines n line key at block (Err e) there is finds = (
+  slice_get_within lines n line there,
+  λ damaged part has. ∥∥₁_elim is.checked never_twice (λ it.
+      let memory : e ≡ Memory = finds it.0 it.1 in
+      let twice : Memory ≡ Damaged = sym memory ∙ damaged in cc),
+)
+
+-- ---- tables that serve entries
+
+-- the lines that a table keeps are those of its file
+pub lines_of : (file : Slot) (table : Table) (entries : List Entry) (lines : List IndexLine)
+    → TableServes file table entries → lines ≡ rc_slice_items table.lines → HasLines file lines
+lines_of file table entries lines s are = record {
+  bytes = s.bytes;
+  present = s.present;
+  entries = entries;
+  represents = s.represents;
+  indexed = are ∙ s.lines;
+}
+
+-- the block of one of these lines
+pub block_at : (file : Slot) (lines : List IndexLine) (t : HasLines file lines) (n : ℕ)
+    (line : IndexLine) → slice_get lines n ≡ Some line
+    → BlockNumber t.bytes t.represents.blocks line n
+block_at file lines t n line at =
+    let disk : State = λ k. file in
+    block_of_line disk 0 lines n line t (slice_get_within lines n line at) at
+
+-- a lookup in the block of the first line that does not end before is a lookup in the table
+pub found_as : (file : Slot) (table : Table) (entries : List Entry)
+    (s : TableServes file table entries) (lines : List IndexLine) (n : ℕ) (key : List ℕ) (at : ℕ)
+    (block : RcSlice ℕ Global) (result : Result (Option FoundVersion) TableError)
+    → lines ≡ rc_slice_items table.lines → n < length lines
+    → (AreRising (map end_spot lines) → IsLinePlace lines (spot key at) n)
+    → IsBlockAtLine lines n file (rc_slice_items block)
+    → ((mine : List Entry) → IsBlock (rc_slice_items block) mine
+    → MatchResult result (LookupFinds mine key at) (λ e. e ≡ Memory))
+    → MatchResult result (LookupFinds entries key at) IsEnvironmentError
+found_as file table entries s lines n key at block result are within place read finds =
+    let p = some_of lines n within in
+    let line = p.0 in
+    let disk : State = λ k. file in
+    let b = block_for s.bytes entries s.represents lines key at line (are ∙ s.lines)
+    (λ rising. line_first lines (spot key at) n line p.1 (place rising)) in
+    let same = known_block_answered disk 0 line.place line.len (Ok block) s.bytes b.mine
+    (line_read disk 0 lines n line block p.1 read) s.present b.within b.is_block in
+    result_up s.bytes entries key at line b result
+    (finds b.mine (subst (λ (p : List ℕ). IsBlock p b.mine) (sym same) b.is_block))

@@ -2,6 +2,7 @@ pub mod BlockPlaces
 pub mod EntryReads
 pub mod LineSizes
 pub mod LineSizesLemmas
+pub mod Meant
 pub mod Open
 pub mod RisingEntries
 pub mod Searches
@@ -10,7 +11,8 @@ pub mod TableCursorLaws
 pub mod TableCursors
 pub mod Tails
 -- What crates above name.
-pub use Rattle.sorted_table.specs.Open.{FileRepresents, FinishedTablesAreFiles, HasBlockOf}
+pub use Rattle.sorted_table.specs.Meant.{AreAsMeant, IsBlockAtLine, as_meant_itself}
+pub use Rattle.sorted_table.specs.Open.{AnswersAsMeant, FileRepresents, FinishedTablesAreFiles}
 pub use Rattle.sorted_table.specs.Open.{IsOpenOn, LookupAnswer, LookupFinds}
 pub use Rattle.sorted_table.specs.Open.{TableServes, found_entry, greatest_key, index_lines}
 pub use Rattle.sorted_table.specs.Open.{last_line_key, table_file, table_filter}

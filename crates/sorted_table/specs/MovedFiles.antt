@@ -1,6 +1,6 @@
 -- What a move that reports a failure of the device, or none, makes of a disk.
 use Rattle.disk.specs.declared.Disk.{Ghosts}
-use Rattle.std.proofs.Common.{◌≡◌, ◌↔◌, refl, subst, ◌∙◌, Bool, false, IsTrue}
+use Rattle.std.proofs.Common.{refl, subst, ◌∙◌, Bool, false, IsTrue}
 use Rattle.disk.specs.{IsSame, IsStill, KeepsDisk, RisesByOne}
 use Rattle.disk.specs.StillLemmas.{still, still_more}
 

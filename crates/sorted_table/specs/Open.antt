@@ -1,6 +1,6 @@
 -- An open table, and what a lookup in it finds.
-use Rattle.std.specs.Prelude.{◌≡◌, ◌⊎◌, ℕ, List, [], ◌∷◌, length, Option, Some, None, Result, Ok, Err}
-use Rattle.std.specs.Prelude.{IsSomeAnd, Contains}
+use Rattle.std.specs.Prelude.{◌≡◌, ◌<◌, ◌⊎◌, ℕ, List, [], ◌∷◌, length, slice_get, Option, Some, None, Result, Ok, Err}
+use Rattle.std.specs.Prelude.{IsSomeAnd, Contains, IfOk, MatchOption}
 use Rattle.std.specs.Option.{option_map}
 use Rattle.std.specs.Rc.{rc_slice_items}
 use Rattle.bloom.specs.{Covers}
@@ -8,12 +8,12 @@ use Rattle.disk.specs.{Slot, seen}
 use Rattle.kv_types.specs.{Entry, IsNewest, IsUnseen}
 use Rattle.merge_iter.specs.{spot}
 use Rattle.table_builder.specs.{HoldsTable}
-use Rattle.table_files.specs.{IsPartAt}
 use Rattle.table_format.specs.{IsBlock, TableRepresents, block_lines, last_entry}
 use Rattle.table_format.specs.declared.IndexLine.{IndexLine}
 use Rattle.table_format.specs.declared.TableError.{TableError}
 use Rattle.table_format.specs.declared.TableError.TheVariants.{Damaged}
-use Rattle.sorted_table.specs.Searches.{EndsEarlier, FindsFirstWithout}
+use Rattle.sorted_table.specs.Meant.{AreAsMeant, IsBlockAtLine}
+use Rattle.sorted_table.specs.Searches.{IsLinePlace}
 use Rattle.sorted_table.specs.Tails.{HasTail}
 use Rattle.sorted_table.specs.declared.found.FoundVersion.{FoundVersion}
 use Rattle.sorted_table.specs.declared.table.Table.{Table}
@@ -82,26 +82,25 @@ LookupFinds entries key at (Some found) = IsNewest at (Contains entries) (found_
 
 -- ---- lookups in any open table
 
--- the file has a block of these entries at the line's place, of the line's length
-pub record HasBlockOf (line : IndexLine) (file : Slot) (entries : List Entry) : Type 0 where
+-- the file has a block for line n, and this is found in it
+pub record FindsAtLine (lines : List IndexLine) (n : ℕ) (file : Slot) (key : List ℕ) (at : ℕ)
+    (found : Option FoundVersion) : Type 0 where
   pub part : List ℕ
-  pub len : length part ≡ line.len
-  pub there : IsPartAt (seen file) line.place part
+  pub entries : List Entry
+  pub there : IsBlockAtLine lines n file part
   pub is_block : IsBlock part entries
+  pub finds : LookupFinds entries key at found
 
--- the file has a block for the line, and this is found in it
-abbrev pub FindsInBlock : IndexLine → Slot → List ℕ → ℕ → Option FoundVersion → Type 0
-FindsInBlock line file key at found =
-    (entries : List Entry) × HasBlockOf line file entries × LookupFinds entries key at found
-
--- The answer by a line: what is found in its block, and `Damaged` only where the file has no block
--- for it. Without a line nothing is found.
-abbrev pub LineAnswer : Option IndexLine → Slot → List ℕ → ℕ
+-- The answer by line n: what is found in its block, and `Damaged` only where the file has no block
+-- for it. Without such a line nothing is found.
+abbrev pub LineAnswer : List IndexLine → ℕ → Slot → List ℕ → ℕ
     → Result (Option FoundVersion) TableError → Type 0
-LineAnswer None file key at result = result ≡ Ok None
-LineAnswer (Some line) file key at (Ok found) = ∥ FindsInBlock line file key at found ∥₁
-LineAnswer (Some line) file key at (Err e) =
-    e ≡ Damaged → (entries : List Entry) → HasBlockOf line file entries → ⊥
+LineAnswer lines n file key at (Ok found) =
+    MatchOption (slice_get lines n) (found ≡ None)
+    (λ line. ∥ FindsAtLine lines n file key at found ∥₁)
+LineAnswer lines n file key at (Err e) =
+    (n < length lines)
+    × (e ≡ Damaged → (part : List ℕ) → IsBlockAtLine lines n file part → ⊥)
 
 -- The answer by filter and lines: nothing where the filter denies the key, and else the answer by
 -- the first line whose block does not end before key and number.
@@ -109,7 +108,16 @@ abbrev pub LookupAnswer : Slot → Table → List ℕ → ℕ → Result (Option
     → Type 0
 LookupAnswer file table key at result =
     ((Covers table.filter.items key → ⊥) × (result ≡ Ok None))
-    ⊎ (Covers table.filter.items key
-    × (line : Option IndexLine)
-    × FindsFirstWithout (EndsEarlier (spot key at)) (rc_slice_items table.lines) line
-    × LineAnswer line file key at result)
+    ⊎ (Covers table.filter.items key × (n : ℕ)
+    × IsLinePlace (index_lines table) (spot key at) n
+    × LineAnswer (index_lines table) n file key at result)
+
+-- ---- lookups in damaged files
+
+-- A lookup that succeeds finds what the table has that the file was meant to be. This holds for each
+-- table that it may have been meant to be, if the blocks that are not damaged are as they were meant.
+abbrev pub AnswersAsMeant : Slot → Table → List ℕ → ℕ → Result (Option FoundVersion) TableError
+    → Type 0
+AnswersAsMeant file table key at result =
+    (meant : Slot) (entries : List Entry) → TableServes meant table entries →
+    AreAsMeant file meant (index_lines table) → IfOk result (LookupFinds entries key at)

@@ -1,5 +1,5 @@
 -- A cursor over a table keeps what every cursor keeps.
-use Rattle.std.proofs.Common.{◌≡◌, ◌↔◌, ℕ, List, Option, Some, None, refl, sym, ◌∙◌}
+use Rattle.std.proofs.Common.{◌≡◌, ℕ, List, Option, Some, None, refl, sym, ◌∙◌}
 use Rattle.std.proofs.Common.{subst, IsSomeAnd, Contains}
 use Rattle.std.specs.Option.{ForSome}
 use Rattle.disk.specs.declared.Disk.{Ghosts}
@@ -16,7 +16,8 @@ use Rattle.sorted_table.specs.LineSizes.{IsBounded, blocks_size, steps_left}
 use Rattle.sorted_table.specs.LineSizesLemmas.{steps_within}
 use Rattle.sorted_table.specs.RisingEntries.{rising_apart}
 use Rattle.sorted_table.specs.MovedFiles.{MovesFiles, moves_itself, moves_through}
-use Rattle.sorted_table.specs.TableCursors.{AreAsMeant, CursorServes, FileHolds}
+use Rattle.sorted_table.specs.Meant.{AreAsMeant}
+use Rattle.sorted_table.specs.TableCursors.{CursorServes, FileHolds}
 
 -- ---- the entries of a file
 
@@ -50,46 +51,46 @@ AreIntactFiles g meant disk = g.is_honest disk → (file : ℕ) → g.state disk
 
 module _ {C S : Type 0} (g : Ghosts S) (file : C → ℕ) (lines : C → List IndexLine)
     (place : C → Option BlockPlace) where
-    -- the file was meant to be a table that the cursor serves, and its blocks are as meant
-    abbrev pub ServesMeant : State → C → S → Type 0
-    ServesMeant meant c s =
-        g.is_honest s × CursorServes (meant (file c)) (lines c) (place c)
-        × AreAsMeant (g.state s (file c)) (meant (file c)) (lines c)
+  -- the file was meant to be a table that the cursor serves, and its blocks are as meant
+  abbrev pub ServesMeant : State → C → S → Type 0
+  ServesMeant meant c s =
+      g.is_honest s × CursorServes (meant (file c)) (lines c) (place c)
+      × AreAsMeant (g.state s (file c)) (meant (file c)) (lines c)
 
-    -- a disk that has the same file serves the cursor as well
-    abbrev pub FileSuits : C → S → S → Type 0
-    FileSuits c a b = g.is_honest a → g.is_honest b × (g.state b (file c) ≡ g.state a (file c))
+  -- a disk that has the same file serves the cursor as well
+  abbrev pub FileSuits : C → S → S → Type 0
+  FileSuits c a b = g.is_honest a → g.is_honest b × (g.state b (file c) ≡ g.state a (file c))
 
-    pub table_laws : (bounded : (c : C) → ForSome (place c) (IsBounded (lines c)))
-        → AreLawful {C = C} {S = S} {K = State} g.state (AreIntactFiles g)
-        (λ meant c s. FileHolds (meant (file c))) ServesMeant FileSuits
-        (KeepsFiles g) (MovesFiles g) (λ c. steps_left (lines c) (place c)) (λ c. blocks_size (lines c))
-    table_laws bounded = record {
-      itself = keeps_files_itself g;
-      through = keeps_files_through g;
-      makes_itself = moves_itself g;
-      makes_through = moves_through g;
-      lasts = λ m a b k h honest f. k.same (k.honest.0 honest) f ∙ h (k.honest.0 honest) f;
-      whole = λ a honest f. refl;
-      stays = λ m c a b k s. (
-        (
-          k.honest.1 s.0,
-          s.1,
-          subst (λ slot. AreAsMeant slot (m (file c)) (lines c)) (sym (k.same s.0 (file c))) s.2,
-        ),
-        λ entry. ((λ h. h), (λ h. h)),
-        λ v w z. z,
-      );
-      suited = λ m c a b k s.
-          let it = k s.0 in (
-            (
-              it.0,
-              s.1,
-              subst (λ slot. AreAsMeant slot (m (file c)) (lines c)) (sym it.1) s.2,
-            ),
-            λ entry. ((λ h. h), (λ h. h)),
-            λ v w z. z,
-          );
-      apart = λ m c a s. files_apart (m (file c));
-      within = λ c way. steps_within (lines c) (place c) way (bounded c);
-    }
+  pub table_laws : (bounded : (c : C) → ForSome (place c) (IsBounded (lines c)))
+      → AreLawful {C = C} {S = S} {K = State} g.state (AreIntactFiles g)
+      (λ meant c s. FileHolds (meant (file c))) ServesMeant FileSuits
+      (KeepsFiles g) (MovesFiles g) (λ c. steps_left (lines c) (place c)) (λ c. blocks_size (lines c))
+  table_laws bounded = record {
+    itself = keeps_files_itself g;
+    through = keeps_files_through g;
+    makes_itself = moves_itself g;
+    makes_through = moves_through g;
+    lasts = λ m a b k h honest f. k.same (k.honest.0 honest) f ∙ h (k.honest.0 honest) f;
+    whole = λ a honest f. refl;
+    stays = λ m c a b k s. (
+      (
+        k.honest.1 s.0,
+        s.1,
+        subst (λ slot. AreAsMeant slot (m (file c)) (lines c)) (sym (k.same s.0 (file c))) s.2,
+      ),
+      λ entry. ((λ h. h), (λ h. h)),
+      λ v w z. z,
+    );
+    suited = λ m c a b k s.
+        let it = k s.0 in (
+          (
+            it.0,
+            s.1,
+            subst (λ slot. AreAsMeant slot (m (file c)) (lines c)) (sym it.1) s.2,
+          ),
+          λ entry. ((λ h. h), (λ h. h)),
+          λ v w z. z,
+        );
+    apart = λ m c a s. files_apart (m (file c));
+    within = λ c way. steps_within (lines c) (place c) way (bounded c);
+  }

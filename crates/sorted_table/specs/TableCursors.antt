@@ -7,8 +7,7 @@ use Rattle.merge_iter.specs.{Position, On, Off, Broken}
 use Rattle.merge_iter.specs.declared.Direction.{Direction}
 use Rattle.merge_iter.specs.declared.CursorError.{CursorError}
 use Rattle.merge_iter.specs.declared.CursorError.TheVariants as cursor
-use Rattle.table_files.specs.{IsPartAt}
-use Rattle.table_format.specs.{Block, IsCheckedBlock, TableRepresents, block_entries, block_lines}
+use Rattle.table_format.specs.{Block, TableRepresents, block_entries, block_lines}
 use Rattle.table_format.specs.declared.IndexLine.{IndexLine}
 use Rattle.table_format.specs.declared.TableError.{TableError}
 use Rattle.table_format.specs.declared.TableError.TheVariants as table
@@ -48,14 +47,6 @@ pub record IsPlaceIn (blocks : List Block) (place : BlockPlace) : Type 0 where
   pub block : Block
   pub present : slice_get blocks place.line ≡ Some block
   pub reads : PlaceReads place (block_entries block)
-
--- a block that the file has for one of these lines is the one that it was meant to have there: the
--- other blocks may be damaged
-abbrev pub AreAsMeant : Slot → Slot → List IndexLine → Type 0
-AreAsMeant file meant lines =
-    (n : ℕ) (line : IndexLine) (part : List ℕ) → slice_get lines n ≡ Some line →
-    length part ≡ line.len → IsPartAt (seen file) line.place part → ∥ IsCheckedBlock part ∥₁ →
-    IsPartAt (seen meant) line.place part
 
 -- the file represents a table with these lines, and the place is in one of its blocks
 pub record CursorServes (file : Slot) (lines : List IndexLine) (place : Option BlockPlace)

@@ -5,6 +5,7 @@ mod block;
 mod block_place;
 mod found;
 pub mod laws;
+mod line_block;
 mod lines;
 mod starts;
 mod table;

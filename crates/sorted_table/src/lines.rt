@@ -1,15 +1,15 @@
 //! The search for a block by the lines of an index.
-ghost use Rattle.std.specs.Prelude.{◌≡◌, ◌≤◌, length, map, option_map};
+ghost use Rattle.std.specs.Prelude.{◌≡◌, ◌≤◌, length, map};
 ghost use Rattle.std.specs.Ordering.{is_lt};
 ghost use Rattle.merge_iter.specs.{entry_cmp, spot};
 ghost use Rattle.table_format.specs.{AreRising, end_spot};
-ghost use Rattle.sorted_table.specs.Searches.{EndsEarlier, FindsFirstWithout, IsLinePlace};
+ghost use Rattle.sorted_table.specs.Searches.{IsLinePlace};
 
 use merge_iter::order;
 use table_format::IndexLine;
 
-// Whether the last entry of the line's block comes before the key and number.
-fn ends_before(line: &IndexLine, key: &[u8], number: u64) -> bool
+/// Whether the last entry of the line's block comes before the key and number.
+pub fn ends_before(line: &IndexLine, key: &[u8], number: u64) -> bool
     ensures { result ≡ is_lt (entry_cmp (end_spot line.now) (spot key.now number)) }
 {
     order(line.key.as_bytes(), line.number, key, number).is_lt()
@@ -23,13 +23,4 @@ pub fn line_place(lines: &[IndexLine], key: &[u8], number: u64) -> usize
         IsLinePlace lines.now (spot key.now number) result }
 {
     lines.partition_point(|line| ends_before(line, key, number))
-}
-
-/// The line of the block where the key and number would stand, if there is one.
-pub fn line_for<'a>(lines: &'a [IndexLine], key: &[u8], number: u64) -> Option<&'a IndexLine>
-    ensures { AreRising (map end_spot lines.now) →
-        FindsFirstWithout (EndsEarlier (spot key.now number)) lines.now
-        (option_map (λ line. line.now) result) }
-{
-    lines.get(line_place(lines, key, number))
 }

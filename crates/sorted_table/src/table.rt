@@ -9,7 +9,8 @@ ghost use Rattle.table_format.specs.{IsBuilderError, IsEnvironmentError, Reports
 
 use crate::block::find_in;
 use crate::found::FoundVersion;
-use crate::lines::line_for;
+use crate::line_block::block_of_line;
+use crate::lines::line_place;
 use crate::table_cursor::TableCursor;
 use crate::tail::{parts_of, read_tail};
 use bloom::laws::filters_cover;
@@ -32,10 +33,10 @@ pub struct Table {
 }
 
 impl Table {
-    ghost use Rattle.sorted_table.specs.Open.{FileRepresents, IsOpenOn, LookupAnswer, LookupFinds};
-    ghost use Rattle.sorted_table.specs.Open.{TableServes, greatest_key, index_lines};
-    ghost use Rattle.sorted_table.specs.TableCursors.{AreAsMeant};
-    ghost use Rattle.sorted_table.specs.Open.{last_line_key, table_file, table_filter};
+    ghost use Rattle.sorted_table.specs.Meant.{AreAsMeant};
+    ghost use Rattle.sorted_table.specs.Open.{AnswersAsMeant, FileRepresents, IsOpenOn};
+    ghost use Rattle.sorted_table.specs.Open.{LookupAnswer, LookupFinds, TableServes, greatest_key};
+    ghost use Rattle.sorted_table.specs.Open.{index_lines, last_line_key, table_file, table_filter};
 
     /// Opens the table of a file. It needs three device calls, reads no block, and takes no more
     /// memory than the file is long.
@@ -98,6 +99,9 @@ impl Table {
             IsOpenOn (⟦<Files<D> as Disk>⟧.state files.old (table_file self.now)) self.now →
             LookupAnswer (⟦<Files<D> as Disk>⟧.state files.old (table_file self.now)) self.now
             key.now at result }
+        ensures meant { ⟦<Files<D> as Disk>⟧.is_honest files.old →
+            AnswersAsMeant (⟦<Files<D> as Disk>⟧.state files.old (table_file self.now)) self.now
+            key.now at result }
         ensures unread { (Covers (table_filter self.now) key.now → ⊥) → files.new ≡ files.old }
         ensures refusals { IfErr result (λ e. IsBuilderError e → ⊥) }
         ensures still { IsStill ⟦<Files<D> as Disk>⟧ files.old files.new }
@@ -124,6 +128,9 @@ impl Table {
             IsOpenOn (⟦<Files<D> as Disk>⟧.state files.old (table_file self.now)) self.now →
             LookupAnswer (⟦<Files<D> as Disk>⟧.state files.old (table_file self.now)) self.now
             key.now at result }
+        ensures meant { ⟦<Files<D> as Disk>⟧.is_honest files.old →
+            AnswersAsMeant (⟦<Files<D> as Disk>⟧.state files.old (table_file self.now)) self.now
+            key.now at result }
         ensures unread { (CoversHashed (table_filter self.now) hashes → ⊥) →
             files.new ≡ files.old }
         ensures refusals { IfErr result (λ e. IsBuilderError e → ⊥) }
@@ -133,10 +140,12 @@ impl Table {
             filters_cover(); // law: the filter of some keys covers each of them
             return Ok(None);
         }
-        let Some(line) = line_for(&self.lines, key, at) else {
+        let lines: &[IndexLine] = &self.lines;
+        let number = line_place(lines, key, at);
+        if number >= lines.len() {
             return Ok(None);
-        };
-        let block = files.block(alloc, self.file, line.place, line.len as usize)?;
+        }
+        let block = block_of_line(alloc, files, self.file, lines, number)?;
         find_in(alloc, &block, key, at)
     }
 

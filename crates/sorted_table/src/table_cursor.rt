@@ -11,9 +11,12 @@ ghost use Rattle.table_files.specs.{BlockAnswer};
 ghost use Rattle.table_files.specs.{KeepsFiles};
 ghost use Rattle.sorted_table.specs.BlockPlaces.{PlaceReads};
 ghost use Rattle.sorted_table.specs.LineSizes.{IsBounded};
-ghost use Rattle.sorted_table.specs.TableCursors.{AreAsMeant, HasEntered, HasLines, HasReached, IsPlaceIn, move_error};
+ghost use Rattle.sorted_table.specs.Meant.{AreAsMeant};
+ghost use Rattle.sorted_table.specs.TableCursors.{HasEntered, HasLines, HasReached, IsPlaceIn};
+ghost use Rattle.sorted_table.specs.TableCursors.{move_error};
 
 use crate::block_place::BlockPlace;
+use crate::line_block::block_of_line;
 use crate::lines::line_place;
 use disk::Disk;
 use merge_iter::{Cursor, CursorError, Direction};
@@ -66,10 +69,8 @@ fn first_of<D: Disk + Drop>(
     ensures refusals { IfErr result (λ e. IsBuilderError e → ⊥) }
     ensures still { IsStill ⟦<Files<D> as Disk>⟧ files.old files.new }
 {
-    let number = line;
-    let line = &lines[number];
-    let block = files.block(alloc, file, line.place, line.len as usize)?;
-    BlockPlace::new(number, block, starts)
+    let block = block_of_line(alloc, files, file, lines, line)?;
+    BlockPlace::new(line, block, starts)
 }
 
 /// A cursor over the entries of a table. It shares the lines of the index with its table, and

@@ -1,6 +1,6 @@
 use Rattle.std.proofs.Common.{◌∙◌, ap, subst, sym}
 use Rattle.std.specs.Rc.{rc_slice_items}
-use Rattle.sorted_table.specs.TableCursors.{AreAsMeant}
+use Rattle.sorted_table.specs.Meant.{AreAsMeant}
 use Rattle.sorted_table.proofs.TableShares.{shared}
 use Rattle.sorted_table.proofs.table.Table.cursor.Goals as goal
 
@@ -12,8 +12,7 @@ returns-clause-serves g c = λ meant files entries honest serves agree.
     let table = c.args.self.now in
     let it = shared (state table.file) (state c.new.result.file) table entries
     (rc_slice_items c.new.result.lines) c.new.result.place serves (ap state c.new.ensures.table.0)
-    (ap rc_slice_items c.new.ensures.table.1 ∙ c.in_ok-clone.ensures.cases) c.new.ensures.off.0 in
-    (
+    (ap rc_slice_items c.new.ensures.table.1 ∙ c.in_ok-clone.ensures.cases) c.new.ensures.off.0 in (
       (
         honest,
         it.0,

@@ -1,13 +1,20 @@
-use Rattle.std.proofs.Common.{List, ℕ, Err, Ok, Some, None, inl, refl, sym, subst, ◌∙◌}
+use Rattle.std.proofs.Common.{List, ℕ, arith, Err, Ok, None, inl, refl, sym, subst, ◌∙◌}
 use Rattle.std.proofs.lemmas.Result.{err_from_is_err_and}
+use Rattle.std.specs.Rc.{rc_slice_items}
 use Rattle.bloom.specs.{CoversHashed, hashes_of}
 use Rattle.disk.specs.StillLemmas.{still}
-use Rattle.table_files.specs.{known_block_answered}
-use Rattle.table_format.specs.{IsBlock}
+use Rattle.merge_iter.specs.{spot}
+use Rattle.table_format.specs.{IsBlock, IsEnvironmentError}
+use Rattle.sorted_table.specs.Meant.{IsBlockAtLine}
+use Rattle.sorted_table.specs.Open.{LookupFinds}
+use Rattle.sorted_table.proofs.BlockNumbers.{some_of}
 use Rattle.sorted_table.proofs.FilterLemmas.{denied_unseen}
+use Rattle.sorted_table.proofs.FirstBlocks.{ok_part}
 use Rattle.sorted_table.proofs.KeptDisk.{kept_alike, kept_uncalled}
-use Rattle.sorted_table.proofs.OpenLookups.{block_answers, block_refused, by_line, not_denied}
-use Rattle.sorted_table.proofs.TableLookups.{block_for, no_block, not_device, result_up}
+use Rattle.sorted_table.proofs.LinesLemmas.{lines_early}
+use Rattle.sorted_table.proofs.MeantLemmas.{environmental, never_damaged}
+use Rattle.sorted_table.proofs.OpenLookups.{block_at, by_line, found_as, line_answers, lines_of, none_behind, not_denied}
+use Rattle.sorted_table.proofs.TableLookups.{no_block, not_device}
 use Rattle.sorted_table.proofs.table.Table.get_hashed.Goals as goal
 
 -- the filter denies the key
@@ -26,26 +33,32 @@ pub returns-then-denies-clause-still : goal.returns-then-denies-clause-still
 returns-then-denies-clause-still g c = λ honest. still _ _
 
 -- all blocks end before the key and number
-pub returns-in_default-clause-kept : goal.returns-in_default-clause-kept
-returns-in_default-clause-kept g c = kept_uncalled _ (λ e. cc)
+pub returns-then-number-lines-clause-kept : goal.returns-then-number-lines-clause-kept
+returns-then-number-lines-clause-kept g c = kept_uncalled _ (λ e. cc)
 
-pub returns-in_default-clause-found : goal.returns-in_default-clause-found
-returns-in_default-clause-found g c = λ entries honest s.
-    no_block s.bytes entries s.represents c.deref.result.now c.args.key.now c.args.at
-    (c.deref.ensures.value ∙ s.lines) c.in_default.ensures
+pub returns-then-number-lines-clause-found : goal.returns-then-number-lines-clause-found
+returns-then-number-lines-clause-found g c = λ entries honest s.
+    let lines = c.deref-lines.result.now in
+    no_block s.bytes entries s.represents lines c.args.key.now c.args.at
+    (c.deref-lines.ensures.value ∙ s.lines)
+    (λ rising. lines_early lines (spot c.args.key.now c.args.at) c.line_place-number.result
+    (omega (arith, c.if-number-lines.true)) (c.line_place-number.ensures.place rising))
 
-pub returns-in_default-clause-still : goal.returns-in_default-clause-still
-returns-in_default-clause-still g c = λ honest. still _ _
+pub returns-then-number-lines-clause-still : goal.returns-then-number-lines-clause-still
+returns-then-number-lines-clause-still g c = λ honest. still _ _
 
 -- the block was not read
 pub returns-in_err-block-clause-found : goal.returns-in_err-block-clause-found
 returns-in_err-block-clause-found g c = λ entries honest s.
-    let line = c.in-Some.line.now in
-    let b = block_for s.bytes entries s.represents c.deref.result.now c.args.key.now c.args.at line
-    (c.deref.ensures.value ∙ s.lines) c.in-Some.ensures in
-    let why = known_block_answered (g.D.Disk.state c.args.files.now.disk) c.args.self.now.file
-    line.place line.len (Err c.in_err-block.field-0.0) s.bytes b.mine
-    (c.in_err-block.ensures.answers honest) s.present b.within b.is_block in
+    let lines = c.deref-lines.result.now in
+    let n = c.line_place-number.result in
+    let file = g.D.Disk.state c.args.files.now.disk c.args.self.now.file in
+    let at = some_of lines n (omega (arith, c.if-number-lines.false)) in
+    let t = lines_of file c.args.self.now entries lines s c.deref-lines.ensures.value in
+    let b = block_at file lines t n at.0 at.1 in
+    let e = c.in_err-block.field-0.0 in
+    let why = environmental e c.in_err-block.ensures.refusals
+    (never_damaged file lines t n at.0 e b at.1 (c.in_err-block.ensures.answers honest)) in
     let p = err_from_is_err_and c.from_residual.result c.from_residual.ensures.1 in
     rw (p.1, p.2) why
 
@@ -57,15 +70,13 @@ returns-clause-kept g c =
 
 pub returns-clause-found : goal.returns-clause-found
 returns-clause-found g c = λ entries honest s.
-    let line = c.in-Some.line.now in
-    let b = block_for s.bytes entries s.represents c.deref.result.now c.args.key.now c.args.at line
-    (c.deref.ensures.value ∙ s.lines) c.in-Some.ensures in
-    let read = known_block_answered (g.D.Disk.state c.args.files.now.disk) c.args.self.now.file
-    line.place line.len (Ok c.in_ok-block.block) s.bytes b.mine
-    (c.in_ok-block.ensures.answers honest) s.present b.within b.is_block in
-    result_up s.bytes entries c.args.key.now c.args.at line b c.find_in.result
-    (c.find_in.ensures.found b.mine (subst (λ (p : List ℕ). IsBlock p b.mine)
-    (sym (c.deref-2.ensures.value ∙ read)) b.is_block))
+    found_as (g.D.Disk.state c.args.files.now.disk c.args.self.now.file) c.args.self.now entries s
+    c.deref-lines.result.now c.line_place-number.result c.args.key.now c.args.at c.in_ok-block.block
+    c.find_in.result c.deref-lines.ensures.value
+    (omega (arith, c.if-number-lines.false)) c.line_place-number.ensures.place
+    (c.in_ok-block.ensures.answers honest)
+    (λ mine is. c.find_in.ensures.found mine
+    (subst (λ (p : List ℕ). IsBlock p mine) (sym c.deref.ensures.value) is))
 
 -- ---- of any open table
 
@@ -77,25 +88,28 @@ returns-then-denies-clause-checked g c = λ honest opened.
       refl,
     )
 
-pub returns-in_default-clause-checked : goal.returns-in_default-clause-checked
-returns-in_default-clause-checked g c = λ honest opened.
+pub returns-then-number-lines-clause-checked : goal.returns-then-number-lines-clause-checked
+returns-then-number-lines-clause-checked g c = λ honest opened.
+    let file = g.D.Disk.state c.args.files.now.disk c.args.self.now.file in
+    let n = c.line_place-number.result in
     let covers = not_denied c.args.self.now.filter.items c.args.key.now c.args.hashes
     c.denies.result c.requires c.denies.ensures.covered c.if-denies.false in
-    by_line (g.D.Disk.state c.args.files.now.disk c.args.self.now.file) c.args.self.now
-    c.deref.result.now c.args.key.now c.args.at None (Ok None) opened covers c.deref.ensures.value
-    c.in_default.ensures refl
+    by_line file c.args.self.now c.deref-lines.result.now c.args.key.now c.args.at n (Ok None) opened
+    covers c.deref-lines.ensures.value c.line_place-number.ensures.place
+    (none_behind file c.deref-lines.result.now c.args.key.now c.args.at n
+    (omega (arith, c.if-number-lines.true)))
 
 pub returns-in_err-block-clause-checked : goal.returns-in_err-block-clause-checked
 returns-in_err-block-clause-checked g c = λ honest opened.
     let covers = not_denied c.args.self.now.filter.items c.args.key.now c.args.hashes
     c.denies.result c.requires c.denies.ensures.covered c.if-denies.false in
-    let disk = g.D.Disk.state c.args.files.now.disk in
-    let table = c.args.self.now in
-    let line = c.in-Some.line.now in
-    let why = by_line (disk table.file) table c.deref.result.now c.args.key.now c.args.at
-    (Some line) (Err c.in_err-block.field-0.0) opened covers c.deref.ensures.value c.in-Some.ensures
-    (block_refused disk table.file line c.args.key.now c.args.at c.in_err-block.field-0.0
-    (c.in_err-block.ensures.answers honest)) in
+    let file = g.D.Disk.state c.args.files.now.disk c.args.self.now.file in
+    let why = by_line file c.args.self.now c.deref-lines.result.now c.args.key.now c.args.at
+    c.line_place-number.result (Err c.in_err-block.field-0.0) opened covers c.deref-lines.ensures.value
+    c.line_place-number.ensures.place (
+      omega (arith, c.if-number-lines.false),
+      c.in_err-block.ensures.answers honest,
+    ) in
     let p = err_from_is_err_and c.from_residual.result c.from_residual.ensures.1 in
     rw (p.1, p.2) why
 
@@ -103,12 +117,50 @@ pub returns-clause-checked : goal.returns-clause-checked
 returns-clause-checked g c = λ honest opened.
     let covers = not_denied c.args.self.now.filter.items c.args.key.now c.args.hashes
     c.denies.result c.requires c.denies.ensures.covered c.if-denies.false in
-    let disk = g.D.Disk.state c.args.files.now.disk in
-    let table = c.args.self.now in
-    let line = c.in-Some.line.now in
-    by_line (disk table.file) table c.deref.result.now c.args.key.now c.args.at (Some line)
-    c.find_in.result opened covers c.deref.ensures.value c.in-Some.ensures
-    (block_answers disk table.file line c.args.key.now c.args.at c.in_ok-block.block
-    c.find_in.result (c.in_ok-block.ensures.answers honest) (λ entries is.
-    c.find_in.ensures.found entries
-    (subst (λ (p : List ℕ). IsBlock p entries) (sym c.deref-2.ensures.value) is)))
+    let file = g.D.Disk.state c.args.files.now.disk c.args.self.now.file in
+    let lines = c.deref-lines.result.now in
+    let n = c.line_place-number.result in
+    let at = some_of lines n (omega (arith, c.if-number-lines.false)) in
+    by_line file c.args.self.now lines c.args.key.now c.args.at n c.find_in.result opened covers
+    c.deref-lines.ensures.value c.line_place-number.ensures.place
+    (line_answers file lines n at.0 c.args.key.now c.args.at c.in_ok-block.block c.find_in.result
+    at.1 (c.in_ok-block.ensures.answers honest) (λ mine is. c.find_in.ensures.found mine
+    (subst (λ (p : List ℕ). IsBlock p mine) (sym c.deref.ensures.value) is)))
+
+-- ---- of what the file was meant to be
+
+pub returns-then-denies-clause-meant : goal.returns-then-denies-clause-meant
+returns-then-denies-clause-meant g c = λ honest meant entries s agree.
+    denied_unseen entries s.represents.filter c.args.key.now c.args.at c.filters_cover.ensures
+    s.represents.exact
+    (subst (λ (f : List ℕ). CoversHashed f (hashes_of c.args.key.now) → ⊥) s.filter
+    (subst (λ (h : ℕ × ℕ). CoversHashed c.args.self.now.filter.items h → ⊥) c.requires
+    (c.denies.ensures.denied.0 c.if-denies.true)))
+
+pub returns-then-number-lines-clause-meant : goal.returns-then-number-lines-clause-meant
+returns-then-number-lines-clause-meant g c = λ honest meant entries s agree.
+    let lines = c.deref-lines.result.now in
+    no_block s.bytes entries s.represents lines c.args.key.now c.args.at
+    (c.deref-lines.ensures.value ∙ s.lines)
+    (λ rising. lines_early lines (spot c.args.key.now c.args.at) c.line_place-number.result
+    (omega (arith, c.if-number-lines.true)) (c.line_place-number.ensures.place rising))
+
+pub returns-clause-meant : goal.returns-clause-meant
+returns-clause-meant g c = λ honest meant entries s agree.
+    let file = g.D.Disk.state c.args.files.now.disk c.args.self.now.file in
+    let lines = c.deref-lines.result.now in
+    let n = c.line_place-number.result in
+    let part = rc_slice_items c.in_ok-block.block in
+    let mine = rc_slice_items c.args.self.now.lines in
+    let read : IsBlockAtLine mine n file part = subst (λ l. IsBlockAtLine l n file part)
+    c.deref-lines.ensures.value (c.in_ok-block.ensures.answers honest) in
+    let here : IsBlockAtLine lines n meant part = subst (λ l. IsBlockAtLine l n meant part)
+    (sym c.deref-lines.ensures.value) (agree n part read) in
+    ok_part (LookupFinds entries c.args.key.now c.args.at) IsEnvironmentError c.find_in.result
+    (found_as meant c.args.self.now entries s
+    lines n c.args.key.now c.args.at c.in_ok-block.block
+    c.find_in.result c.deref-lines.ensures.value
+    (omega (arith, c.if-number-lines.false)) c.line_place-number.ensures.place
+    here
+    (λ mine is. c.find_in.ensures.found mine
+    (subst (λ (p : List ℕ). IsBlock p mine) (sym c.deref.ensures.value) is)))
