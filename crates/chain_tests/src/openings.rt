@@ -3,3 +3,4 @@ mod changes;
 mod cuts;
 mod lengths;
 mod small_disk;
+mod two_tables;

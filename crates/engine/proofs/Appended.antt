@@ -115,14 +115,14 @@ module _ (disk : State) (files : StoreFiles) (list : List BatchContent)
   abbrev pub OthersAreLeft : Contents → Type 0
   OthersAreLeft left = (other : ℕ) → other ≢ file → IsFileOutcome (disk other) (left other)
 
-  tables_were : DurableFileIsLeft → (left : Contents) → OthersAreLeft left → (line : TableLine)
+  pub tables_were : DurableFileIsLeft → (left : Contents) → OthersAreLeft left → (line : TableLine)
       → Contains version.tables line → left line.file ≡ contents disk line.file
   tables_were law left others line has = law (disk line.file) (left line.file)
       (All-contains (λ (one : TableLine). IsDurable (disk one.file)) version.tables line
       h.known.durable has) (others line.file (newest_no_table files h.known.usable line has))
 
   -- such contents represent what the logs in them have
-  pub represented : DurableFileIsLeft → HeldVersionIsLeft → (left : Contents)
+  abbrev pub represented : DurableFileIsLeft → HeldVersionIsLeft → (left : Contents)
       → OthersAreLeft left → (more : List BatchContent)
       → HaveBatches left (suc trimmed) (lines_of files.logs) (drop trimmed more)
       → StoreRepresents more (known_store files h.known.tables) → All IsBatch more

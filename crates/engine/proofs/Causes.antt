@@ -1,7 +1,7 @@
 -- Causes of a refusal, by the errors of the layers below.
 use Rattle.std.proofs.Common.{◌≡◌, ◌⊎◌, ℕ, ◌≤◌, List, length, Result, Ok, Err, inl, inr, ap, arith}
 use Rattle.std.proofs.Common.{subst, sym}
-use Rattle.std.specs.Prelude.{IfErr, IsErrAnd, MatchResult, OnOk, IsErrOf}
+use Rattle.std.specs.Prelude.{IfErr, IfOk, IsErrAnd, MatchResult, OnOk, IsErrOf}
 use Rattle.record_log.specs.declared.LogError.{LogError}
 use Rattle.record_log.specs.declared.LogError.TheVariants as log
 use Rattle.record_log.specs.declared.Log.{Log}
@@ -57,3 +57,9 @@ pub if_refuses : {T E : Type 0} (result : Result T E) {e : E} (Q : E → Type 0)
     IsErrAnd result (λ s. s ≡ e) → Q e → IfErr result Q
 if_refuses (Ok x) Q told q = tt
 if_refuses (Err s) Q told q = subst Q (sym told) q
+
+-- a refusal has no answer
+pub answers_nothing : {T E : Type 0} (result : Result T E) (P : E → Type 0) (Q : T → Type 0) →
+    IsErrAnd result P → IfOk result Q
+answers_nothing (Ok x) P Q told = absurd told
+answers_nothing (Err s) P Q told = tt

@@ -15,16 +15,19 @@ use Rattle.engine.specs.declared.store_files.StoreFiles.{StoreFiles}
 use Rattle.engine.specs.declared.error.EngineError.TheVariants as engine
 use Rattle.engine.specs.Calls.{ExplainsRefusal, ListFollows, IsAdrift, IsNoDamage}
 use Rattle.engine.specs.Calls.{IsOldOrNewSince, disk_after}
-use Rattle.engine.specs.Engines.{EngineHolds, EngineReads, HasEnded, IsInMemory, engine_disk}
-use Rattle.engine.specs.Engines.{IsNearlyFull, LookUps, facts_of, raised_facts}
+use Rattle.engine.specs.Engines.{EngineHolds, EngineReads, EngineWasMeant, HasEnded, IsInMemory}
+use Rattle.engine.specs.Engines.{IsNearlyFull, LookUps, WasMeantInMemory, engine_disk, facts_of}
+use Rattle.engine.specs.Engines.{raised_facts}
 use Rattle.engine.specs.Errors.{EndsEngine, IsEnd, IsEngineExternal}
 use Rattle.engine.specs.Files.{Facts}
-use Rattle.engine.specs.OpenFiles.{FilesHold, OpeningRefusal}
-use Rattle.engine.specs.StoreFiles.{FilesRepresent, IsOneOf}
+use Rattle.engine.specs.OpenFiles.{FilesHold, OpeningRefusal, WereMeantToHold}
+use Rattle.engine.specs.StoreFiles.{FilesRepresent, IsOneOf, WereMeant, WereOneOf}
 use Rattle.engine.specs.Tending.{TendMayFail}
 use Rattle.engine.proofs.Appended.{left_now}
 use Rattle.engine.proofs.Causes.{on_ok}
 use Rattle.engine.proofs.KeptFiles.{hold_in}
+use Rattle.engine.proofs.Meant.{still_meant}
+use Rattle.engine.proofs.MeantMoments.{CrashLaws, meant_now}
 
 -- ---- what an answer says
 
@@ -93,6 +96,24 @@ answers_or_machine (Err e) P told = (
       not_external (subst IsEngineExternal is told),
 )
 
+-- an answer and a refusal
+pub match_of : {T : Type 0} (result : Result T EngineError) (P : T → Type 0) →
+    IfOk result P → IfErr result IsEngineExternal → MatchResult result P IsEngineExternal
+match_of (Ok x) P answer why = answer
+match_of (Err e) P answer why = why
+
+-- an answer is as told, and leaves what it leaves
+pub with_left : {T : Type 0} (result : Result T EngineError) (P : T → Type 0) (Q : Type 0) →
+    IfOk result P → OnOk result Q → IfOk result (λ x. P x × Q)
+with_left (Ok x) P Q answer left = (answer, left)
+with_left (Err e) P Q answer left = tt
+
+pub match_left : {T : Type 0} (result : Result T EngineError) (P : T → Type 0) (Q : Type 0) →
+    MatchResult result P IsEngineExternal → OnOk result Q →
+    MatchResult result (λ x. P x × Q) IsEngineExternal
+match_left (Ok x) P Q answer left = (answer, left)
+match_left (Err e) P Q answer left = answer
+
 -- a refusal to open files says what is wrong with them
 pub explains : (e : EngineError) (left : Contents) → OpeningRefusal e left →
     ((facts : Facts) (list : List BatchContent) → FilesRepresent facts list left →
@@ -123,6 +144,13 @@ pub held_of : {D : Type 0} (g : Ghosts D) (engine : Engine D g) (list : List Bat
     EngineReads g engine list → FilesHold (g.state (engine_disk engine)) engine.store list
 unfolding IsInMemory
 held_of g engine list r = r.inside
+
+-- and its files were meant to hold what it was
+pub were_meant : {D : Type 0} (g : Ghosts D) (engine : Engine D g) (list : List BatchContent) →
+    EngineWasMeant g engine list →
+    WereMeantToHold (g.state (engine_disk engine)) engine.store list
+unfolding WasMeantInMemory
+were_meant g engine list m = m.inside
 
 -- where a tend of its files may fail, they are nearly full, or the disk has none of the engine
 pub may_fail : {D : Type 0} (g : Ghosts D) (engine : Engine D g) →
@@ -208,6 +236,42 @@ module _ {D : Type 0} (g : Ghosts D) (laws : LeftFiles) where
       goes_to old new list list result as_before.honest works
       (λ honest held. on_ok result (stays_held old new list as_before honest held))
 
+  -- ---- damaged tables
+
+  -- an engine whose store was meant to hold the list
+  pub meant_of : (engine : Engine D g) (list : List BatchContent) →
+      g.is_honest (engine_disk engine) → (HasEnded engine → ⊥) →
+      WereMeantToHold (g.state (engine_disk engine)) engine.store list →
+      EngineWasMeant g engine list
+  unfolding WasMeantInMemory
+  meant_of engine list honest works w =
+      let disk = g.state (engine_disk engine) in
+      let moments : CrashLaws = record {
+        durable = laws.durable;
+        version = laws.version;
+        reads = laws.reads;
+      } in
+      record {
+        honest = honest;
+        works = works;
+        represents = meant_now moments disk engine.store list w (contents disk) (laws.reads disk);
+        crash = meant_now moments disk engine.store list w;
+        count = w.hold.known.count;
+        inside = w;
+      }
+
+  -- an answer leaves what the engine was meant to read
+  pub meant_on : {T : Type 0} (old new : Engine D g) (list : List BatchContent)
+      (result : Result T EngineError) → IsAsBefore old new → OnOk result (HasEnded new → ⊥) →
+      EngineWasMeant g old list → OnOk result (EngineWasMeant g new list)
+  meant_on old new list (Ok x) as_before works m =
+      meant_of new list (as_before.honest m.honest) works
+      (subst (λ (s : StoreFiles). WereMeantToHold (g.state (engine_disk new)) s list)
+      (sym as_before.store)
+      (still_meant (g.state (engine_disk old)) old.store list (were_meant g old list m)
+      (g.state (engine_disk new)) (as_before.same m.honest)))
+  meant_on old new list (Err e) as_before works m = tt
+
   -- ---- moments
 
   -- no call leaves what the engine holds
@@ -217,6 +281,22 @@ module _ {D : Type 0} (g : Ghosts D) (laws : LeftFiles) where
   none_since engine list r past =
       started (FilesRepresent (facts_of engine) list) (g.state (engine_disk engine)) past
       (holds_of engine list r).crash
+
+-- no call leaves files of one of two lists
+pub one_left : (facts : Facts) (list more : List BatchContent) (disk : State) (past : List State) →
+    OnlyLeaves (WereMeant facts list) disk →
+    LeavesSince disk past disk past (WereOneOf facts list more)
+one_left facts list more disk past only =
+    started (WereOneOf facts list more) disk past (λ left leaves. inl (only left leaves))
+
+-- an engine that works has no next number only at the greatest
+pub only_exhausted : {T : Type 0} {M : Type 0} (result : Result T EngineError) (e : EngineError)
+    (P : T → Type 0) → IsErrAnd result (λ s. s ≡ e) → (e ≡ engine.Failed → ⊥) →
+    (e ≡ engine.Failed) ⊎ ((e ≡ engine.Exhausted) × M) →
+    MatchResult result P (λ s. IsEngineExternal s ⊎ (s ≡ engine.Exhausted))
+only_exhausted (Ok x) e P told works only = absurd told
+only_exhausted (Err s) e P told works (inl failed) = absurd (works failed)
+only_exhausted (Err s) e P told works (inr last) = inr (told ∙ last.0)
 
 -- a refusal that returns the disk as it was leaves what it left
 pub still_refused : {D : Type 0} (g : Ghosts D) (P : Contents → Type 0) (disk : D)

@@ -33,3 +33,6 @@ pub mod OneList
 pub mod Spills
 pub mod TendedFiles
 pub mod Tends
+pub mod Meant
+pub mod MeantOpenings
+pub mod MeantMoments

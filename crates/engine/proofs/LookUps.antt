@@ -90,17 +90,20 @@ found_short left lines tables h at key (Some found) finds long =
     let fits = entries_fit left lines tables h seen.0 seen.1 (found_entry key found) seen.3 in
     too_long (option_map (λ value. value.items) found.value) fits.value long
 
--- the answer of a lookup in tables
-pub told_of_tables : (found : Option FoundVersion) (map : Option (List ℕ))
-    (result : Result (Option (List ℕ)) EngineError)
-    → IfOk result (λ value. value ≡ option_flatten (found_value found))
+-- the answer of a lookup is also what that is
+pub told_as : {found map : Option (List ℕ)} (result : Result (Option (List ℕ)) EngineError)
+    → IfOk result (λ value. value ≡ found) → found ≡ map → IfOk result (λ value. value ≡ map)
+told_as (Ok value) is same = is ∙ same
+told_as (Err e) is same = tt
+
+-- so it is not refused for its length
+pub never_long : (found : Option FoundVersion) (result : Result (Option (List ℕ)) EngineError)
     → IfErr result (λ e. (e ≡ engine.Damaged)
     × IsSomeAnd (option_flatten (found_value found)) (λ bytes. MAX_VALUE < length bytes))
     → (IsSomeAnd (option_flatten (found_value found)) (λ bytes. MAX_VALUE < length bytes) → ⊥)
-    → option_flatten (found_value found) ≡ map
-    → MatchResult result (λ value. value ≡ map) IsEngineExternal
-told_of_tables found map (Ok value) is damaged short same = is ∙ same
-told_of_tables found map (Err e) is damaged short same = absurd (short damaged.1)
+    → IfErr result IsEngineExternal
+never_long found (Ok value) damaged short = tt
+never_long found (Err e) damaged short = absurd (short damaged.1)
 
 -- ---- a batch of the logs
 

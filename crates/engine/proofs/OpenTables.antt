@@ -8,8 +8,8 @@ use Rattle.disk.specs.StillLemmas.{still, still_more}
 use Rattle.kv_types.specs.{Entry}
 use Rattle.table_format.specs.{IsEnvironmentError, TableRepresents}
 use Rattle.table_format.specs.declared.TableError.{TableError}
-use Rattle.sorted_table.specs.{FileRepresents, HasTail, LookupFinds, TableServes, greatest_key}
-use Rattle.sorted_table.specs.{index_lines, last_line_key, table_file, table_filter}
+use Rattle.sorted_table.specs.{AreAsMeant, FileRepresents, HasTail, LookupFinds, TableServes}
+use Rattle.sorted_table.specs.{greatest_key, index_lines, last_line_key, table_file, table_filter}
 use Rattle.sorted_table.specs.declared.Table.{Table}
 use Rattle.sorted_table.specs.declared.FoundVersion.{FoundVersion}
 use Rattle.table_files.specs.{inner_disk}
@@ -21,7 +21,7 @@ use Rattle.engine.specs.KeepingLemmas.{kept_as, kept_behind, neither, same_files
 use Rattle.engine.specs.KeepingLemmas.{unchanged}
 use Rattle.engine.specs.Errors.{IsEngineExternal}
 use Rattle.engine.specs.LevelTables.{EntriesFind, FileFits, FitsLine, IsServed, IsTableOf}
-use Rattle.engine.specs.LevelTables.{error_of_table}
+use Rattle.engine.specs.LevelTables.{WasServed, error_of_table, line_range}
 
 -- a refusal that says nothing of a file
 pub of_table : (e : TableError) → IsEnvironmentError e → IsEngineExternal (error_of_table e)
@@ -65,6 +65,32 @@ served_same old new it table same served = record {
   range = served.range;
   serves = subst (λ (slot : Slot). TableServes slot it.table table.entries)
       (sym (same (table_file it.table))) served.serves;
+}
+
+pub was_same : (old new meant : State) (it : OpenTable) (table : LevelTable) → IsSame old new
+    → WasServed old meant it table → WasServed new meant it table
+was_same old new meant it table same was = record {
+  serves = was.serves;
+  blocks = subst
+      (λ (slot : Slot). AreAsMeant slot (meant (table_file it.table)) (index_lines it.table))
+      (sym (same (table_file it.table))) was.blocks;
+}
+
+-- a table that was opened, by what its line names in what was meant
+pub opened_as_meant : (disk meant : State) (line copy : TableLine) (table : LevelTable)
+    (opened : Table) → copy ≡ line → table_file opened ≡ line.file
+    → IsTableOf (contents meant) line table
+    → TableServes (meant line.file) opened table.entries
+    × AreAsMeant (disk line.file) (meant line.file) (index_lines opened)
+    → WasServed disk meant (record { line = copy; table = opened }) table
+opened_as_meant disk meant line copy table opened same at is both = record {
+  serves = record {
+    level = is.level ∙ ap (λ (l : TableLine). l.level) (sym same);
+    file = is.file ∙ sym at;
+    range = is.range ∙ ap line_range (sym same);
+    serves = subst (λ (f : ℕ). TableServes (meant f) opened table.entries) (sym at) both.0;
+  };
+  blocks = subst (λ (f : ℕ). AreAsMeant (disk f) (meant f) (index_lines opened)) (sym at) both.1;
 }
 
 pub lines_same : (old new : State) (line : TableLine) (table : LevelTable) → IsSame old new

@@ -110,7 +110,7 @@ module _ (version : StoreVersion) (is : IsVersion version) (old new : State)
       (All-contains (λ (l : LogLine). IsGiven version l.file) version.logs line is.lines.log_files
       has) line.file slot refl))
 
-  table_reads : (line : TableLine) → Contains version.tables line
+  pub table_reads : (line : TableLine) → Contains version.tables line
       → contents new line.file ≡ contents old line.file
   table_reads line has = ap seen (spares line.file (λ slot. given_no_slot version line.file
       (All-contains (λ (l : TableLine). IsGiven version l.file) version.tables line

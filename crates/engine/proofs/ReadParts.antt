@@ -5,6 +5,7 @@ use Rattle.std.specs.Prelude.{IsSome, IsSomeAnd}
 use Rattle.std.proofs.lemmas.List.Elements.{All-cons, All-contains, All-contains_itself, All-nil}
 use Rattle.std.proofs.lemmas.List.Elements.{All-weaker}
 use Rattle.kv_types.specs.{BatchContent}
+use Rattle.disk.specs.Crashes.{durable}
 use Rattle.disk.specs.{Contents, IsDurable, IsSame, State, contents, seen}
 use Rattle.memtable.specs.declared.Memtable.{Memtable}
 use Rattle.record_log.specs.{IsDurableAs}
@@ -19,6 +20,7 @@ use Rattle.engine.specs.BatchLogs.{AreParted, HoldsPart, LogsHold, first_number,
 use Rattle.engine.specs.LevelTables.{AreTablesOf, FileFits, FitsLine}
 use Rattle.engine.specs.OpenFiles.{AreBatchesOf, AreReplayed}
 use Rattle.engine.specs.Settling.{AreSynced, AreThere, SlotSettles, SparesAllBut}
+use Rattle.engine.specs.StoreFiles.{durably}
 use Rattle.engine.proofs.FilesApart.{log_no_table}
 use Rattle.engine.proofs.NamedFiles.{logs_same, tables_same}
 use Rattle.engine.proofs.Settles.{settled_alike, settles_twice}
@@ -132,6 +134,15 @@ module _ (version : StoreVersion) (is : IsVersion version) (s1 s2 s3 : State)
       synced.named has in
       subst IsDurable (sym (same line.file ∙ table_stays line has ∙ one.2)) (refl, refl))
       version.tables (All-contains_itself version.tables)
+
+  -- the tables' files durably have what they had
+  pub tables_durably : (line : TableLine) → Contains version.tables line
+      → s3 line.file ≡ durably (contents s1) line.file
+  tables_durably line has =
+      let one = All-contains (λ (l : TableLine). (bytes : List ℕ)
+      × (seen (s1 l.file) ≡ Some bytes) × IsDurableAs s2 l.file bytes) version.tables line
+      synced.named has in
+      table_stays line has ∙ one.2 ∙ sym (ap durable one.1)
 
 -- each file settles
 pub parts_settle : (s1 s2 s3 s4 : State) → ((file : ℕ) → SlotSettles s1 s2 file)

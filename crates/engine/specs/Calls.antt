@@ -1,20 +1,21 @@
 -- What the calls of an engine answer, and what they make of its disk.
 use Rattle.std.specs.Prelude.{◌≡◌, ◌⊎◌, ◌↔◌, ℕ, ◌<◌, ◌≤◌, List, [], ◌∷◌, Result, Ok, Err, IsErrOf}
-use Rattle.std.specs.Prelude.{IsErrAnd, OnOk}
+use Rattle.std.specs.Prelude.{IfOk, IsErrAnd, MatchResult, OnOk}
 use Rattle.kv_types.specs.{BatchContent}
 use Rattle.disk.specs.declared.Disk.{Ghosts}
 use Rattle.disk.specs.{AlwaysLeaves, Contents, KeepsDisk, State}
 use Rattle.engine.specs.declared.engine.Engine.{Engine}
 use Rattle.engine.specs.declared.error.EngineError.{EngineError}
 use Rattle.engine.specs.declared.error.EngineError.TheVariants as engine
-use Rattle.engine.specs.Engines.{EngineHolds, EngineReads, HasEnded, HasOnlyFiles, LookUps}
-use Rattle.engine.specs.Engines.{engine_disk, engine_files, facts_of, look_ups}
+use Rattle.engine.specs.Engines.{EngineHolds, EngineReads, EngineWasMeant, HasEnded, HasOnlyFiles}
+use Rattle.engine.specs.Engines.{LookUps, engine_disk, engine_files, facts_of, look_ups}
 use Rattle.engine.specs.declared.tended.Tended.{Tended}
-use Rattle.engine.specs.Errors.{EndsEngine, FailsDevice, IsEnd}
+use Rattle.engine.specs.Errors.{EndsEngine, FailsDevice, IsEnd, IsEngineExternal}
 use Rattle.engine.specs.Tending.{TellsWork}
 use Rattle.manifest.specs.{IsNotCreated}
 use Rattle.engine.specs.Files.{Facts, first_facts}
-use Rattle.engine.specs.StoreFiles.{HasFirstFiles, IsDamaged, IsOneOf, OpensAs}
+use Rattle.engine.specs.StoreFiles.{FilesRepresent, HasFirstFiles, IsDamaged, IsOneOf, OpensAs}
+use Rattle.engine.specs.StoreFiles.{WereMeant}
 
 -- ---- which reads are refused
 
@@ -112,6 +113,20 @@ pub record IsEngineOf {D : Type 0} (g : Ghosts D) (told : Facts) (list : List Ba
     (engine : Engine D g) : Type 0 where
   pub facts : facts_of engine ≡ told
   pub holds : EngineHolds g engine list
+
+-- the engine tells these facts, and its disk was meant to represent them and the list
+pub record IsMeantEngineOf {D : Type 0} (g : Ghosts D) (told : Facts) (list : List BatchContent)
+    (engine : Engine D g) : Type 0 where
+  pub facts : facts_of engine ≡ told
+  pub meant : EngineWasMeant g engine list
+
+-- Of files that represent these facts and the list, an opening has an engine of both, or an external
+-- refusal. Of files that were meant to, an engine that is opened was meant to read both.
+pub record OpensEngineFor {D : Type 0} (g : Ghosts D) (facts : Facts) (list : List BatchContent)
+    (left : Contents) (result : Result (Engine D g) (EngineError × D)) : Type 0 where
+  pub whole : FilesRepresent facts list left →
+      MatchResult result (IsEngineOf g facts list) (λ refused. IsEngineExternal refused.0)
+  pub meant : WereMeant facts list left → IfOk result (IsMeantEngineOf g facts list)
 
 -- the files open as what the engine tells
 abbrev pub IsOpened : {D : Type 0} {g : Ghosts D} → Contents → Engine D g → Type 0

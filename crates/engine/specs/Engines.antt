@@ -11,10 +11,11 @@ use Rattle.engine.specs.Files.{Facts}
 use Rattle.manifest.specs.{HasFullSlot}
 use Rattle.engine.specs.BatchLogs.{HasFullLog, newest_file}
 use Rattle.engine.specs.LevelTables.{level_count}
-use Rattle.engine.specs.OpenFiles.{FilesHold, batch_count, known_facts, known_version}
+use Rattle.engine.specs.OpenFiles.{FilesHold, WereMeantToHold, batch_count, known_facts}
+use Rattle.engine.specs.OpenFiles.{known_version}
 use Rattle.engine.specs.Openings.{kept_files}
 use Rattle.engine.specs.Settling.{AreAlone}
-use Rattle.engine.specs.StoreFiles.{FilesRepresent}
+use Rattle.engine.specs.StoreFiles.{FilesRepresent, WereMeant}
 use Rattle.engine.specs.Tending.{tended_files}
 
 -- ---- what an engine tells
@@ -116,6 +117,27 @@ pub record EngineHolds {D : Type 0} (g : Ghosts D) (engine : Engine D g) (list :
     : Type 0 where
   pub reads : EngineReads g engine list
   pub crash : OnlyLeaves (FilesRepresent (facts_of engine) list) (g.state (engine_disk engine))
+
+-- ---- damaged tables
+
+-- what the engine has in memory is what its files say, but for damaged blocks of tables
+unfoldable pub WasMeantInMemory : {D : Type 0} (g : Ghosts D) → Engine D g → List BatchContent →
+    Type 0
+WasMeantInMemory g engine list =
+    WereMeantToHold (g.state (engine_disk engine)) engine.store list
+
+-- The engine works, and what its disk reads was meant to represent the list and what the engine
+-- tells: it would, had no table a damaged block. And so was whatever a crash now leaves.
+pub record EngineWasMeant {D : Type 0} (g : Ghosts D) (engine : Engine D g)
+    (list : List BatchContent) : Type 0 where
+  pub honest : g.is_honest (engine_disk engine)
+  pub works : HasEnded engine → ⊥
+  pub represents : WereMeant (facts_of engine) list (contents (g.state (engine_disk engine)))
+  pub crash : OnlyLeaves (WereMeant (facts_of engine) list) (g.state (engine_disk engine))
+  pub count : (look_ups engine).count ≡ length list
+  pub inside : WasMeantInMemory g engine list
+
+-- ---- long files
 
 -- a file of the disk is so long that one more record of the greatest length behind it would end past
 -- the greatest place of a file

@@ -1,17 +1,18 @@
 -- The open tables of a store, level by level, and what a lookup in them finds.
-use Rattle.std.specs.Prelude.{◌≡◌, ℕ, ◌<◌, ◌≤◌, List, [], ◌∷◌, length, map, take, All, Contains}
+use Rattle.std.specs.Prelude.{◌≡◌, ◌⊎◌, ℕ, ◌<◌, ◌≤◌, List, [], ◌∷◌, length, map, take, All, Contains}
 use Rattle.std.specs.Prelude.{Bool, Option, Some, None, IsSomeAnd, ◌==◌, if◌then◌else◌}
 use Rattle.std.specs.List.{AllZip, count_by}
 use Rattle.std.specs.Option.{option_map, option_flatten}
-use Rattle.disk.specs.{State, Contents}
+use Rattle.disk.specs.{Contents, Slot, State}
 use Rattle.kv_types.specs.{BatchContent, Entry, IsNewest, IsUnseen, map_of}
 use Rattle.table_builder.specs.{first_entry}
 use Rattle.table_format.specs.{TableRepresents}
 use Rattle.table_format.specs.declared.IndexLine.{IndexLine}
 use Rattle.table_format.specs.declared.TableError.{TableError}
 use Rattle.table_format.specs.declared.TableError.TheVariants as table
-use Rattle.sorted_table.specs.{HasTail, TableServes, found_entry, greatest_key, last_line_key}
-use Rattle.sorted_table.specs.{table_file}
+use Rattle.sorted_table.specs.{AreAsMeant, FileRepresents, HasTail, IsOpenOn, TableServes}
+use Rattle.sorted_table.specs.{found_entry, greatest_key, index_lines, last_line_key, table_file}
+use Rattle.sorted_table.specs.declared.Table.{Table}
 use Rattle.sorted_table.specs.declared.FoundVersion.{FoundVersion}
 use Rattle.store_model.specs.{KeyRange, LevelTable, NewestHas, StoreFinds, StoreRepresents, StoreState}
 use Rattle.store_model.specs.{TableLacks, level_entries, memory_entries}
@@ -107,6 +108,34 @@ pub record IsServed (disk : State) (it : OpenTable) (table : LevelTable) : Type 
 -- the open tables serve these tables, in the same order
 abbrev pub AreServed : State → LevelTables → List LevelTable → Type 0
 AreServed disk it tables = AllZip (IsServed disk) it.tables.items tables
+
+-- ---- damaged tables
+
+-- The table's file is the one that was meant, or is so but for damaged blocks: a table that is open
+-- on it, by the filter and the index that it ends in, serves what was meant, and each block that is
+-- not damaged is the one that was meant.
+abbrev pub IsTableAsMeant : Slot → Slot → Type 0
+IsTableAsMeant file meant =
+    (file ≡ meant)
+    ⊎ ((table : Table) (entries : List Entry) → IsOpenOn file table → FileRepresents meant entries →
+    TableServes meant table entries × AreAsMeant file meant (index_lines table))
+
+-- each block of the open table's file that is not damaged is the one that it was meant to have
+abbrev pub HasMeantBlocks : State → State → OpenTable → Type 0
+HasMeantBlocks disk meant it =
+    AreAsMeant (disk (table_file it.table)) (meant (table_file it.table)) (index_lines it.table)
+
+-- The open table was meant to serve the table: it would from what the disk was meant to be, and of
+-- that the disk has each block of it that is not damaged.
+pub record WasServed (disk meant : State) (it : OpenTable) (table : LevelTable) : Type 0 where
+  pub serves : IsServed meant it table
+  pub blocks : HasMeantBlocks disk meant it
+
+-- the open tables were meant to serve these tables, in the same order
+abbrev pub WereServed : State → State → LevelTables → List LevelTable → Type 0
+WereServed disk meant it tables = AllZip (WasServed disk meant) it.tables.items tables
+
+-- ---- a table more
 
 -- a table of level 0 more, behind the others of level 0
 abbrev pub with_flushed : List LevelTable → LevelTable → List LevelTable

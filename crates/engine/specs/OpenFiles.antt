@@ -1,6 +1,6 @@
 -- The open files of a store with tables: what they hold in memory, and what their disk represents.
-use Rattle.std.specs.Prelude.{◌≡◌, ◌↔◌, ℕ, suc, ◌+◌, ◌-◌, ◌≤◌, List, length, drop}
-use Rattle.std.specs.Prelude.{All, Contains, IsNone}
+use Rattle.std.specs.Prelude.{◌≡◌, ◌≢◌, ◌↔◌, ℕ, suc, ◌+◌, ◌-◌, ◌≤◌, List, length, drop}
+use Rattle.std.specs.Prelude.{All, Contains, IfOk, IsNone, MatchResult, Result}
 use Rattle.kv_types.specs.declared.bounds.TheConstants.{MAX_NUMBER}
 use Rattle.kv_types.specs.{BatchContent, Entry, IsBatch}
 use Rattle.disk.specs.{Contents, IsDurable, State, contents, seen}
@@ -19,9 +19,13 @@ use Rattle.engine.specs.declared.store_files.StoreFiles.{StoreFiles}
 use Rattle.engine.specs.Files.{Facts}
 use Rattle.engine.specs.BatchLogs.{AreUsable, HaveBatches, LogsHold, first_number, lines_of}
 use Rattle.engine.specs.BatchLogs.{next_number}
-use Rattle.engine.specs.LevelTables.{AreServed, AreTablesOf, FileFits, IsTableOf, table_lines}
+use Rattle.engine.specs.LevelTables.{AreServed, AreTablesOf, FileFits, HasMeantBlocks}
+use Rattle.engine.specs.LevelTables.{IsTableAsMeant, IsTableOf, table_lines}
+use Rattle.engine.specs.declared.levels.LevelTables.{LevelTables}
 use Rattle.engine.specs.Stores.{IsNumberedTo}
-use Rattle.engine.specs.StoreFiles.{AreOrderedNumbers, store_of_version}
+use Rattle.engine.specs.Errors.{IsEngineExternal}
+use Rattle.engine.specs.StoreFiles.{AreOrderedNumbers, FilesRepresent, WereMeant}
+use Rattle.engine.specs.StoreFiles.{store_of_version}
 use Rattle.engine.specs.TableWriting.{PassesLimit}
 
 -- ---- logs that were read
@@ -148,6 +152,32 @@ pub record FilesHold (disk : State) (files : StoreFiles) (list : List BatchConte
   pub unused : (file : ℕ) → (known_version files).version.next_file ≤ file →
       IsNone (seen (disk file))
 
+-- ---- damaged tables
+
+-- The disk is as it was meant to be, but for damaged blocks of the version's tables: each other file
+-- is the same, and a table's file durably has each block that is not damaged.
+pub record IsAsMeant (disk meant : State) (version : StoreVersion) (opened : LevelTables) : Type 0
+  where
+    pub others : (file : ℕ) → All (λ line. line.file ≢ file) version.tables →
+        disk file ≡ meant file
+    pub tables : All (λ line. IsTableAsMeant (disk line.file) (meant line.file)) version.tables
+    pub blocks : All (HasMeantBlocks disk meant) opened.tables.items
+    pub durable : All (λ line. IsDurable (disk line.file)) version.tables
+
+-- the open files were meant to know the list: they would, had the disk no damaged block
+pub record WereMeantToRead (disk : State) (files : StoreFiles) (list : List BatchContent) : Type 0
+  where
+    pub meant : State
+    pub read : FilesAreRead meant files list
+    pub disk_is : IsAsMeant disk meant (known_version files).version files.tables
+
+-- and they were meant to hold it
+pub record WereMeantToHold (disk : State) (files : StoreFiles) (list : List BatchContent) : Type 0
+  where
+    pub meant : State
+    pub hold : FilesHold meant files list
+    pub disk_is : IsAsMeant disk meant (known_version files).version files.tables
+
 -- ---- what an opening tells
 
 -- The slots represent the version that the open files know, its logs have so many batches, and its
@@ -170,3 +200,15 @@ OpeningRefusal engine.Failed left = ⊥
 OpeningRefusal engine.TooOld left = ⊥
 OpeningRefusal engine.NotCommitted left = ⊥
 OpeningRefusal engine.Exhausted left = ⊥
+
+-- ---- an opening
+
+-- Of files that represent these facts and the list, the open files have it, or the refusal is
+-- external. Of files that were meant to, open files were meant to have it.
+pub record OpensFor (facts : Facts) (list : List BatchContent) (left : Contents)
+    (have were_meant_to_have : StoreFiles → Type 0) (result : Result StoreFiles EngineError)
+    : Type 0 where
+  pub whole : FilesRepresent facts list left → MatchResult result
+      (λ files. (known_facts files ≡ facts) × have files) IsEngineExternal
+  pub meant : WereMeant facts list left → IfOk result
+      (λ files. (known_facts files ≡ facts) × were_meant_to_have files)

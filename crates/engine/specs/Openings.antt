@@ -7,7 +7,8 @@ use Rattle.manifest.specs.{IsVersion, StoreVersion}
 use Rattle.manifest.specs.Versions.{files_of}
 use Rattle.engine.specs.declared.opening.ReadParts.{ReadParts}
 use Rattle.engine.specs.BatchLogs.{LogsHold, first_number, next_number}
-use Rattle.engine.specs.LevelTables.{AreServed, AreTablesOf, FileFits, table_lines}
+use Rattle.engine.specs.LevelTables.{AreServed, AreTablesOf, FileFits, IsTableAsMeant, WereServed}
+use Rattle.engine.specs.LevelTables.{table_lines}
 use Rattle.engine.specs.Settling.{SlotSettles}
 use Rattle.engine.specs.OpenFiles.{AreOpenLogs, AreReplayed, HasReplayed}
 use Rattle.engine.specs.StoreFiles.{AreOrderedNumbers}
@@ -40,4 +41,14 @@ pub record PartsHold (disk : State) (version : StoreVersion) (first : ℕ)
   pub entries : HasReplayed parts.memtable first version.flushed batches
   pub read : AreTablesOf (contents disk) version.tables tables
   pub served : AreServed disk parts.tables tables
+  pub durable : All (λ line. IsDurable (disk line.file)) version.tables
+
+-- The parts hold these batches, and were meant to hold these tables: they would, had the disk no
+-- damaged block.
+pub record PartsWereMeant (disk meant : State) (version : StoreVersion) (first : ℕ)
+    (batches : List BatchContent) (tables : List LevelTable) (parts : ReadParts) : Type 0 where
+  pub logs : LogsHold disk parts.logs first batches
+  pub entries : HasReplayed parts.memtable first version.flushed batches
+  pub served : WereServed disk meant parts.tables tables
+  pub files : All (λ line. IsTableAsMeant (disk line.file) (meant line.file)) version.tables
   pub durable : All (λ line. IsDurable (disk line.file)) version.tables

@@ -1,9 +1,10 @@
 -- What slots, logs and tables of a store represent together: a list of batches, and facts beside it.
-use Rattle.std.specs.Prelude.{◌≡◌, ◌⊎◌, ℕ, suc, ◌+◌, ◌-◌, ◌<◌, ◌≤◌, List, [], ◌∷◌, ◌++◌}
+use Rattle.std.specs.Prelude.{◌≡◌, ◌≢◌, ◌⊎◌, ℕ, suc, ◌+◌, ◌-◌, ◌<◌, ◌≤◌, List, [], ◌∷◌, ◌++◌}
 use Rattle.std.specs.Prelude.{length, take, drop, All, Contains, Option}
 use Rattle.std.specs.Option.{option_flatten}
 use Rattle.kv_types.specs.declared.bounds.TheConstants.{MAX_NUMBER}
 use Rattle.kv_types.specs.{BatchContent, IsBatch, map_of}
+use Rattle.disk.specs.Crashes.{durable}
 use Rattle.disk.specs.{Contents, State}
 use Rattle.disk.specs.Moments.{LooksAt}
 use Rattle.store_model.specs.{LevelTable}
@@ -17,7 +18,7 @@ use Rattle.manifest.specs.{HasFirstSlots, IsNotCreated, IsSlotFile, ManifestRepr
 use Rattle.manifest.specs.{Change, changed, first_version}
 use Rattle.engine.specs.Files.{Facts, IsLog}
 use Rattle.engine.specs.BatchLogs.{HaveBatches}
-use Rattle.engine.specs.LevelTables.{AreTablesOf, FileFits, IsTableOf}
+use Rattle.engine.specs.LevelTables.{AreTablesOf, FileFits, IsTableAsMeant, IsTableOf}
 use Rattle.engine.specs.Settling.{AreAlone}
 
 -- how many batches come before the newest log
@@ -60,6 +61,28 @@ pub record FilesRepresent (facts : Facts) (list : List BatchContent) (left : Con
   pub store : StoreRepresents list (store_of_version version facts.kept tables)
   pub each : All IsBatch list
   pub few : length list ≤ MAX_NUMBER
+
+-- ---- damaged tables
+
+-- a disk that durably has these contents
+abbrev pub durably : Contents → State
+durably left file = durable (left file)
+
+-- The files were meant to represent the facts and the list: they would, had no table a damaged block.
+-- Each file that is no table's is as it was meant.
+pub record WereMeant (facts : Facts) (list : List BatchContent) (left : Contents) : Type 0 where
+  pub meant : Contents
+  pub represents : FilesRepresent facts list meant
+  pub others : (file : ℕ) → All (λ line. line.file ≢ file) represents.version.tables →
+      left file ≡ meant file
+  pub tables : All (λ line. IsTableAsMeant (durably left line.file) (durably meant line.file))
+      represents.version.tables
+
+-- the files were meant to represent one of two lists
+abbrev pub WereOneOf : Facts → List BatchContent → List BatchContent → Contents → Type 0
+WereOneOf facts list list' left = WereMeant facts list left ⊎ WereMeant facts list' left
+
+-- ---- files of no store
 
 -- the files neither are those of no store nor represent one
 pub record IsDamaged (left : Contents) : Type 0 where

@@ -54,19 +54,20 @@ impl<D: Disk + Drop> Engine<D> {
     ghost use Rattle.disk.specs.{AlwaysLeaves, contents, IsSame, IsSameBut, IsStill, KeepsDisk};
     ghost use Rattle.disk.specs.{OnlyLeaves};
     ghost use Rattle.chain_model.specs.{place};
-    ghost use Rattle.engine.specs.Calls.{ExplainsRefusal, ListFollows, IsEngineOf, IsJustOpened};
+    ghost use Rattle.engine.specs.Calls.{ExplainsRefusal, ListFollows, IsJustOpened};
     ghost use Rattle.engine.specs.Calls.{IsNewEngine, IsNoDamage, IsOldOrNewSince, IsOpened};
+    ghost use Rattle.engine.specs.Calls.{OpensEngineFor};
     ghost use Rattle.engine.specs.Calls.{IsAdrift, KeepsEngine, RefusedByDevice, TellsReadable};
     ghost use Rattle.engine.specs.Calls.{TellsTend, disk_after};
     ghost use Rattle.engine.specs.Engines.{AreOrdered, EngineHolds, EngineReads, HasEnded};
-    ghost use Rattle.engine.specs.Engines.{HasNearlyFullLog, IsNearlyFull, engine_disk, facts_of};
-    ghost use Rattle.engine.specs.Engines.{engine_files, files_of_tend, look_ups};
-    ghost use Rattle.engine.specs.Engines.{newest_log_file, raised_facts};
+    ghost use Rattle.engine.specs.Engines.{EngineWasMeant, HasNearlyFullLog, IsNearlyFull};
+    ghost use Rattle.engine.specs.Engines.{engine_disk, engine_files, facts_of, files_of_tend};
+    ghost use Rattle.engine.specs.Engines.{look_ups, newest_log_file, raised_facts};
     ghost use Rattle.engine.specs.Engines.{table_count, with_one_more, with_committed};
     ghost use Rattle.engine.specs.Errors.{IsEngineExternal};
     ghost use Rattle.engine.specs.Files.{Facts, IsOwned};
     ghost use Rattle.engine.specs.Settling.{AreReadAlike};
-    ghost use Rattle.engine.specs.StoreFiles.{FilesRepresent, IsOneOf};
+    ghost use Rattle.engine.specs.StoreFiles.{FilesRepresent, IsOneOf, WereOneOf};
     ghost use Rattle.engine.specs.Tending.{IsSameBeside};
 
     /// Creates a store without batches on a disk, whose files are all removed first. A refusal
@@ -107,9 +108,7 @@ impl<D: Disk + Drop> Engine<D> {
     pub fn open(alloc: Global, disk: D, limits: &Limits) -> Result<Engine<D>, (EngineError, D)>
         ensures kept { KeepsDisk D.Disk disk (disk_after result) (RefusedByDevice result) ⊥ IsOwned }
         ensures opened { (facts : Facts) (list : List BatchContent) → D.is_honest disk →
-            FilesRepresent facts list (contents (D.state disk)) →
-            MatchResult result (IsEngineOf D.Disk facts list)
-            (λ refused. IsEngineExternal refused.0) }
+            OpensEngineFor D.Disk facts list (contents (D.state disk)) result }
         ensures told { D.is_honest disk →
             MatchResult result (IsOpened (contents (D.state disk)))
             (λ refused. ExplainsRefusal refused.0 (contents (D.state disk))) }
@@ -177,6 +176,11 @@ impl<D: Disk + Drop> Engine<D> {
         ensures met { (list : List BatchContent) → EngineReads D.Disk self.old list →
             IfErr result (λ e. IsEngineExternal e
             ⊎ ((e ≡ EngineError.Exhausted) × (MAX_NUMBER ≤ (look_ups self.old).count))) }
+        ensures meant { (list : List BatchContent) → EngineWasMeant D.Disk self.old list →
+            MatchResult result (λ _. EngineWasMeant D.Disk self.new (list ++ batch.now ∷ []))
+            (λ e. IsEngineExternal e ⊎ (e ≡ EngineError.Exhausted))
+            × AlwaysLeaves D.Disk (engine_disk self.old) (engine_disk self.new)
+            (WereOneOf (facts_of self.old) list (list ++ batch.now ∷ [])) }
 
         // A crash at any moment since the call began, whatever it answers, leaves the old batches,
         // with or without the new one.
@@ -227,6 +231,11 @@ impl<D: Disk + Drop> Engine<D> {
         ensures readable { TellsReadable (look_ups self.old) at result }
         ensures found { (list : List BatchContent) → EngineReads D.Disk self.old list →
             IfOk result (λ value. value ≡ map_of (take at list) key.now) × IsNoDamage result }
+
+        // A damaged block of a table is never passed over.
+        ensures meant { (list : List BatchContent) → EngineWasMeant D.Disk self.old list →
+            IfOk result (λ value. (value ≡ map_of (take at list) key.now)
+            × EngineWasMeant D.Disk self.new list) }
         ensures kept { (list : List BatchContent) →
             ListFollows D.Disk self.old self.new list list result }
         ensures still { IsStill D.Disk (engine_disk self.old) (engine_disk self.new) }
@@ -249,6 +258,9 @@ impl<D: Disk + Drop> Engine<D> {
         ensures told { look_ups self.new ≡ look_ups self.old }
         ensures found { (list : List BatchContent) → EngineReads D.Disk self.old list →
             MatchResult result (λ batch. place list number ≡ Some batch) IsEngineExternal }
+        ensures meant { (list : List BatchContent) → EngineWasMeant D.Disk self.old list →
+            MatchResult result (λ batch. (place list number ≡ Some batch)
+            × EngineWasMeant D.Disk self.new list) IsEngineExternal }
         ensures kept { (list : List BatchContent) →
             ListFollows D.Disk self.old self.new list list result }
         ensures still { IsStill D.Disk (engine_disk self.old) (engine_disk self.new) }

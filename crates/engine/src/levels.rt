@@ -12,6 +12,7 @@ ghost use Rattle.store_model.specs.{level_entries};
 ghost use Rattle.engine.specs.Errors.{FailsDevice, IsEnd, IsEngineExternal};
 ghost use Rattle.engine.specs.LevelTables.{AreServed, AreTablesOf, EntriesFind, FileFits};
 ghost use Rattle.engine.specs.LevelTables.{IsServed, IsTableOf, LevelsRise, TablesFind};
+ghost use Rattle.engine.specs.LevelTables.{IsTableAsMeant, WasServed, WereServed};
 ghost use Rattle.engine.specs.LevelTables.{error_of_table, is_flushed, level_count, line_range};
 ghost use Rattle.engine.specs.LevelTables.{table_lines, with_flushed, with_flushed_line};
 
@@ -69,6 +70,10 @@ impl OpenTable {
         ensures opened { (table : LevelTable) → D.is_honest disk.old →
             IsTableOf (contents (D.state disk.old)) line.now table →
             MatchResult result (λ it. IsServed (D.state disk.new) it table) IsEngineExternal }
+        ensures meant { (meant : State) (table : LevelTable) → D.is_honest disk.old →
+            IsTableOf (contents meant) line.now table →
+            IsTableAsMeant (D.state disk.old line.now.file) (meant line.now.file) →
+            IfOk result (λ it. WasServed (D.state disk.new) meant it table) }
         ensures line { IfOk result (λ it. it.line ≡ line.now) }
         ensures fits { D.is_honest disk.old →
             OnOk result (FileFits (contents (D.state disk.old)) line.now) }
@@ -93,8 +98,8 @@ impl OpenTable {
         key >= &self.line.least && key <= &self.line.greatest
     }
 
-    // What the table has of the key with these hashes. Where its range does not hold the key, it
-    // is not read.
+    // What the table has of the key with these hashes, or `Damaged` where the block that may have
+    // the key is damaged. Where the range of the table does not hold the key, it is not read.
     fn get<D: Disk + Drop>(
         &self,
         alloc: Global,
@@ -106,9 +111,14 @@ impl OpenTable {
         requires { hashes ≡ hashes_of key.now }
         ensures kept { KeepsDisk ⟦<Files<D> as Disk>⟧ files.old files.new (FailsDevice result) ⊥
             IsSame }
-        ensures found { (table : LevelTable) → ⟦<Files<D> as Disk>⟧.is_honest files.old →
-            IsServed (⟦<Files<D> as Disk>⟧.state files.old) self.now table → FitsRange table →
-            MatchResult result (EntriesFind at (Contains table.entries) key.now) IsEngineExternal }
+        ensures found { (meant : State) (table : LevelTable) →
+            ⟦<Files<D> as Disk>⟧.is_honest files.old →
+            WasServed (⟦<Files<D> as Disk>⟧.state files.old) meant self.now table →
+            FitsRange table →
+            IfOk result (EntriesFind at (Contains table.entries) key.now) }
+        ensures intact { (table : LevelTable) → ⟦<Files<D> as Disk>⟧.is_honest files.old →
+            IsServed (⟦<Files<D> as Disk>⟧.state files.old) self.now table →
+            IfErr result IsEngineExternal }
         ensures causes { IfErr result IsEnd }
         ensures still { IsStill ⟦<Files<D> as Disk>⟧ files.old files.new }
     {
@@ -160,6 +170,10 @@ impl LevelTables {
         ensures opened { (tables : List LevelTable) → D.is_honest disk.old →
             AreTablesOf (contents (D.state disk.old)) lines.now tables →
             MatchResult result (λ it. AreServed (D.state disk.new) it tables) IsEngineExternal }
+        ensures meant { (meant : State) (tables : List LevelTable) → D.is_honest disk.old →
+            AreTablesOf (contents meant) lines.now tables →
+            All (λ line. IsTableAsMeant (D.state disk.old line.file) (meant line.file)) lines.now →
+            IfOk result (λ it. WereServed (D.state disk.new) meant it tables) }
         ensures lines { IfOk result (λ it. table_lines it ≡ lines.now) }
         ensures fits { D.is_honest disk.old →
             OnOk result (All (FileFits (contents (D.state disk.old))) lines.now) }
@@ -216,7 +230,8 @@ impl LevelTables {
     }
 
     /// The newest version of the key with at most this number, if the tables have one. The levels
-    /// are looked up in turn, up to the first that has an entry of the key.
+    /// are looked up in turn, up to the first that has an entry of the key. `Damaged` where a block
+    /// that may have one is damaged.
     pub(crate) fn get<D: Disk + Drop>(
         &self,
         alloc: Global,
@@ -226,11 +241,14 @@ impl LevelTables {
     ) -> Result<Option<FoundVersion>, EngineError>
         ensures kept { KeepsDisk ⟦<Files<D> as Disk>⟧ files.old files.new (FailsDevice result) ⊥
             IsSame }
-        ensures found { (tables : List LevelTable) (flushed : ℕ) →
+        ensures found { (meant : State) (tables : List LevelTable) (flushed : ℕ) →
             ⟦<Files<D> as Disk>⟧.is_honest files.old →
-            AreServed (⟦<Files<D> as Disk>⟧.state files.old) self.now tables →
+            WereServed (⟦<Files<D> as Disk>⟧.state files.old) meant self.now tables →
             AreLeveled flushed tables → LevelsRise tables →
-            MatchResult result (TablesFind at tables key.now) IsEngineExternal }
+            IfOk result (TablesFind at tables key.now) }
+        ensures intact { (tables : List LevelTable) → ⟦<Files<D> as Disk>⟧.is_honest files.old →
+            AreServed (⟦<Files<D> as Disk>⟧.state files.old) self.now tables →
+            IfErr result IsEngineExternal }
         ensures causes { IfErr result IsEnd }
         ensures still { IsStill ⟦<Files<D> as Disk>⟧ files.old files.new }
     {

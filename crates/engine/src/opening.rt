@@ -2,7 +2,7 @@
 ghost use Rattle.std.specs.Prelude.{◌≡◌, ◌↔◌, ◌+◌, ◌-◌, [], IsTrue, ℕ, List, length, IfOk, OnOk};
 ghost use Rattle.std.specs.Prelude.{IfErr, MatchResult};
 ghost use Rattle.kv_types.specs.{BatchContent};
-ghost use Rattle.disk.specs.{AlwaysLeaves, IsStill, KeepsDisk, OnlyLeaves, contents};
+ghost use Rattle.disk.specs.{AlwaysLeaves, IsStill, KeepsDisk, OnlyLeaves, State, contents};
 ghost use Rattle.engine.specs.Errors.{FailsDevice, IsEnd, IsEngineExternal};
 ghost use Rattle.engine.specs.Files.{Facts, IsOwned, first_facts};
 ghost use Rattle.engine.specs.StoreFiles.{FilesRepresent, IsOneOf, before_newest};
@@ -10,8 +10,11 @@ ghost use Rattle.engine.specs.OpenFiles.{AreBatchesOf, AreUsableFiles};
 ghost use Rattle.engine.specs.StoreFiles.{AreOrderedNumbers, HasFirstFiles};
 ghost use Rattle.engine.specs.OpenFiles.{FilesAreRead, FilesHold, FilesOpenAs, OpeningRefusal};
 ghost use Rattle.engine.specs.OpenFiles.{batch_count, known_facts, known_version};
-ghost use Rattle.engine.specs.Openings.{AreParts, PartsHold, WereParts, kept_files};
-ghost use Rattle.engine.specs.LevelTables.{AreTablesOf};
+ghost use Rattle.engine.specs.Openings.{AreParts, PartsHold, PartsWereMeant, WereParts, kept_files};
+ghost use Rattle.engine.specs.LevelTables.{AreTablesOf, IsTableAsMeant};
+ghost use Rattle.engine.specs.OpenFiles.{OpensFor, WereMeantToHold, WereMeantToRead};
+ghost use Rattle.std.specs.Prelude.{All};
+ghost use Rattle.engine.specs.StoreFiles.{durably};
 ghost use Rattle.engine.specs.Settling.{AreSwept, IsReadAlike};
 ghost use Rattle.manifest.specs.{ManifestHolds};
 ghost use Rattle.store_model.specs.{LevelTable};
@@ -102,6 +105,13 @@ fn read_parts<D: Disk>(
         AreOrderedNumbers version.now.version (first - 1) (first - 1 + length batches) →
         MatchResult result
         (PartsHold (D.state disk.new) version.now.version first batches tables) IsEngineExternal }
+    ensures meant { (meant : State) (first : ℕ) (batches : List BatchContent)
+        (tables : List LevelTable) → D.is_honest disk.old →
+        AreBatchesOf (contents (D.state disk.old)) version.now.version.logs first batches →
+        AreTablesOf (contents meant) version.now.version.tables tables →
+        All (λ line. IsTableAsMeant (durably (contents (D.state disk.old)) line.file)
+        (meant line.file)) version.now.version.tables → IfOk result
+        (PartsWereMeant (D.state disk.new) meant version.now.version first batches tables) }
     ensures told { D.is_honest disk.old → IfOk result
         (WereParts (D.state disk.old) (D.state disk.new) version.now.version) }
     ensures usable { IfOk result (AreParts version.now.version) }
@@ -126,9 +136,9 @@ fn read_parts<D: Disk>(
 fn read_files<D: Disk>(alloc: Global, disk: &mut D) -> Result<StoreFiles, EngineError>
     ensures kept { KeepsDisk D.Disk disk.old disk.new (FailsDevice result) ⊥ IsOwned }
     ensures opened { (facts : Facts) (list : List BatchContent) → D.is_honest disk.old →
-        FilesRepresent facts list (contents (D.state disk.old)) → MatchResult result
-        (λ files. (known_facts files ≡ facts) × FilesAreRead (D.state disk.new) files list)
-        IsEngineExternal }
+        OpensFor facts list (contents (D.state disk.old))
+        (λ files. FilesAreRead (D.state disk.new) files list)
+        (λ files. WereMeantToRead (D.state disk.new) files list) result }
     ensures told { D.is_honest disk.old → MatchResult result
         (FilesOpenAs (contents (D.state disk.old)))
         (λ e. OpeningRefusal e (contents (D.state disk.old))) }
@@ -192,9 +202,9 @@ impl StoreFiles {
     pub(crate) fn open<D: Disk>(alloc: Global, disk: &mut D) -> Result<StoreFiles, EngineError>
         ensures kept { KeepsDisk D.Disk disk.old disk.new (FailsDevice result) ⊥ IsOwned }
         ensures opened { (facts : Facts) (list : List BatchContent) → D.is_honest disk.old →
-            FilesRepresent facts list (contents (D.state disk.old)) → MatchResult result
-            (λ files. (known_facts files ≡ facts) × FilesHold (D.state disk.new) files list)
-            IsEngineExternal }
+            OpensFor facts list (contents (D.state disk.old))
+            (λ files. FilesHold (D.state disk.new) files list)
+            (λ files. WereMeantToHold (D.state disk.new) files list) result }
         ensures told { D.is_honest disk.old → MatchResult result
             (FilesOpenAs (contents (D.state disk.old)))
             (λ e. OpeningRefusal e (contents (D.state disk.old))) }

@@ -9,17 +9,17 @@ ghost use Rattle.chain_model.specs.{place};
 ghost use Rattle.engine.specs.BatchLogs.{HasFullLog, newest_file};
 ghost use Rattle.engine.specs.Errors.{FailsDevice, IsEnd, IsEngineExternal};
 ghost use Rattle.engine.specs.OpenFiles.{AreUsableFiles, FilesHold, batch_count, known_facts};
-ghost use Rattle.engine.specs.OpenFiles.{trimmed_count};
+ghost use Rattle.engine.specs.OpenFiles.{WereMeantToHold, trimmed_count};
 ghost use Rattle.memtable.specs.{HasFailedAdd, TableHolds};
 ghost use Rattle.engine.specs.LevelTables.{EntriesHave, found_value};
-ghost use Rattle.engine.specs.StoreFiles.{FilesRepresent};
+ghost use Rattle.engine.specs.StoreFiles.{FilesRepresent, WereOneOf};
 
 use crate::EngineError;
 use crate::batch_logs::BatchLogs;
 use crate::laws::{levels_rise, table_look_ups_are_maps};
 use crate::levels::LevelTables;
 use disk::Disk;
-use disk::laws::{durable_file_is_left, durable_is_left};
+use disk::laws::{durable_file_is_left, durable_is_left, reads_are_outcomes};
 use kv_types::{Batch, Key, Number, Value};
 use manifest::Manifest;
 use manifest::laws::held_versions_are_left;
@@ -97,6 +97,11 @@ impl StoreFiles {
         ensures appended { (list : List BatchContent) → D.is_honest disk.old →
             FilesHold (D.state disk.old) self.old list → MatchResult result
             (λ _. FilesHold (D.state disk.new) self.new (list ++ batch.now ∷ [])) IsEngineExternal }
+        ensures meant { (list : List BatchContent) → D.is_honest disk.old →
+            WereMeantToHold (D.state disk.old) self.old list → MatchResult result
+            (λ _. WereMeantToHold (D.state disk.new) self.new (list ++ batch.now ∷ []))
+            IsEngineExternal × AlwaysLeaves D.Disk disk.old disk.new
+            (WereOneOf (known_facts self.old) list (list ++ batch.now ∷ [])) }
 
         // A crash at any moment since the call began, whatever it answers, leaves the old batches,
         // with or without the new one.
@@ -115,6 +120,7 @@ impl StoreFiles {
         durable_is_left();
         durable_file_is_left();
         held_versions_are_left();
+        reads_are_outcomes(); // law: a crash may leave what is read
         appends_keep(); // law: with one batch more a store represents one more
         let _edits = batch.edits(); // law: these are a batch
         self.memtable.add(number, batch)?;
@@ -132,7 +138,7 @@ impl StoreFiles {
         requires there { (trimmed_count self.now < number) × (number ≤ batch_count self.now) }
         ensures kept { KeepsDisk D.Disk disk.old disk.new (FailsDevice result) ⊥ IsSame }
         ensures found { (list : List BatchContent) → D.is_honest disk.old →
-            FilesHold (D.state disk.old) self.now list →
+            WereMeantToHold (D.state disk.old) self.now list →
             MatchResult result (λ batch. place list number ≡ Some batch) IsEngineExternal }
         ensures causes { IfErr result IsEnd }
         ensures still { IsStill D.Disk disk.old disk.new }
@@ -141,7 +147,7 @@ impl StoreFiles {
     }
 
     /// The value of a key in the map of the first `at` batches: looked up in memory, and then in the
-    /// tables.
+    /// tables. `Damaged` only where a block of a table is damaged.
     pub(crate) fn get<D: Disk + Drop>(
         &self,
         alloc: Global,
@@ -153,9 +159,12 @@ impl StoreFiles {
         ensures kept { KeepsDisk ⟦<Files<D> as Disk>⟧ files.old files.new (FailsDevice result) ⊥
             IsSame }
         ensures found { (list : List BatchContent) → ⟦<Files<D> as Disk>⟧.is_honest files.old →
+            WereMeantToHold (⟦<Files<D> as Disk>⟧.state files.old) self.now list →
+            (known_facts self.now).floor ≤ at → at ≤ batch_count self.now →
+            IfOk result (λ value. value ≡ map_of (take at list) key.now) }
+        ensures intact { (list : List BatchContent) → ⟦<Files<D> as Disk>⟧.is_honest files.old →
             FilesHold (⟦<Files<D> as Disk>⟧.state files.old) self.now list →
-            (known_facts self.now).floor ≤ at → at ≤ batch_count self.now → MatchResult result
-            (λ value. value ≡ map_of (take at list) key.now) IsEngineExternal }
+            IfErr result IsEngineExternal }
         ensures causes { IfErr result IsEnd }
         ensures still { IsStill ⟦<Files<D> as Disk>⟧ files.old files.new }
     {

@@ -27,13 +27,13 @@ const NEWEST: &[Change] = &[("a", Some("\x04"))];
 
 static KEYS: [&str; 3] = ["a", "b", "c"];
 
-fn limits(rt: &impl Abort) -> Limits {
+pub fn limits(rt: &impl Abort) -> Limits {
     Limits::new(16, 4, 2097152, 10485760, 16)
         .ok()
         .expect(rt, "limits")
 }
 
-fn append(rt: &impl Abort, alloc: Global, engine: &mut Engine<MemDisk>, changes: &[Change]) {
+pub fn append(rt: &impl Abort, alloc: Global, engine: &mut Engine<MemDisk>, changes: &[Change]) {
     let batch = batch_of(rt, alloc, changes);
     is_so(rt, engine.append(alloc, &batch).is_ok(), "a batch more");
 }

@@ -4,34 +4,42 @@ use Rattle.disk.specs.StillLemmas.{still_more}
 use Rattle.manifest.specs.{NodeVersion, version_of}
 use Rattle.engine.specs.Errors.{IsEngineExternal}
 use Rattle.engine.specs.OpenFiles.{FilesOpenAs, OpeningRefusal}
-use Rattle.engine.specs.Openings.{AreParts, PartsHold, WereParts}
+use Rattle.engine.specs.Openings.{AreParts, PartsHold, PartsWereMeant, WereParts}
+use Rattle.engine.specs.StoreFiles.{durably}
 use Rattle.engine.proofs.BegunFiles.{manifest_is_external}
-use Rattle.engine.proofs.Causes.{refuses}
+use Rattle.engine.proofs.Causes.{answers_nothing, refuses}
+use Rattle.engine.proofs.MeantOpenings.{asked_as_meant, read_as_meant, slots_are_meant}
 use Rattle.engine.proofs.ReadFiles.{asked, end_explained, opens_as, read_alike, read_as, slots_stay}
 use Rattle.engine.proofs.ReadFiles.{usable_of}
 use Rattle.engine.proofs.opening.read_files.Goals as goal
 
 -- slots that represent a version are opened
 pub returns-in_err-manifest-clause-opened : goal.returns-in_err-manifest-clause-opened
-returns-in_err-manifest-clause-opened g c = λ facts list honest h.
-    refuses c.from_residual.result _ IsEngineExternal c.from_residual.ensures.1
-    (manifest_is_external c.in_err-manifest.field-0.0 (c.in_err-manifest.ensures.opened
-    (record { id = facts.id; version = h.version }) honest h.manifest))
+returns-in_err-manifest-clause-opened g c = λ facts list honest. record {
+  whole = λ h. refuses c.from_residual.result _ IsEngineExternal c.from_residual.ensures.1
+      (manifest_is_external c.in_err-manifest.field-0.0 (c.in_err-manifest.ensures.opened
+      (record { id = facts.id; version = h.version }) honest h.manifest));
+  meant = λ w. answers_nothing c.from_residual.result _ _ c.from_residual.ensures.1;
+}
 
 -- and so are the files that the version names
 pub returns-in_err-parts-clause-opened : goal.returns-in_err-parts-clause-opened
-returns-in_err-parts-clause-opened g c = λ facts list honest h.
-    let s0 = g.D.Disk.state c.args.disk.now in
-    let s1 = g.D.Disk.state c.open.new.disk in
-    let is = c.version_is_one.ensures.lawful (record { id = facts.id; version = h.version })
-    (contents s0) h.manifest in
-    let held = c.in_ok-manifest.ensures.opened (record { id = facts.id; version = h.version })
-    honest h.manifest in
-    let ask = asked s0 s1 (c.open.ensures.kept.files honest) facts list h is c.state.result.now
-    (c.state.ensures ∙ held.knows) in
-    refuses c.from_residual-in_err-parts.result _ IsEngineExternal
-    c.from_residual-in_err-parts.ensures.1 (c.in_err-parts.ensures.opened (suc facts.kept)
-    (drop facts.kept list) h.tables (c.open.ensures.kept.honest.1 honest) ask.0 ask.1 ask.2)
+returns-in_err-parts-clause-opened g c = λ facts list honest. record {
+  whole = λ h.
+      let s0 = g.D.Disk.state c.args.disk.now in
+      let s1 = g.D.Disk.state c.open.new.disk in
+      let is = c.version_is_one.ensures.lawful (record { id = facts.id; version = h.version })
+      (contents s0) h.manifest in
+      let held = c.in_ok-manifest.ensures.opened (record { id = facts.id; version = h.version })
+      honest h.manifest in
+      let ask = asked s0 s1 (c.open.ensures.kept.files honest) facts list h is c.state.result.now
+      (c.state.ensures ∙ held.knows) in
+      refuses c.from_residual-in_err-parts.result _ IsEngineExternal
+      c.from_residual-in_err-parts.ensures.1 (c.in_err-parts.ensures.opened (suc facts.kept)
+      (drop facts.kept list) h.tables (c.open.ensures.kept.honest.1 honest) ask.0 ask.1 ask.2);
+  meant = λ w. answers_nothing c.from_residual-in_err-parts.result _ _
+      c.from_residual-in_err-parts.ensures.1;
+}
 
 pub returns-in_err-parts-clause-told : goal.returns-in_err-parts-clause-told
 returns-in_err-parts-clause-told g c = λ honest.
@@ -87,30 +95,49 @@ returns-clause-alike g c = λ honest.
     read_alike s0 s1 s2 (c.in_ok-manifest.ensures.told honest).read (c.open.ensures.kept.files honest)
     (c.in_ok-parts.ensures.told (c.open.ensures.kept.honest.1 honest)).each
 
--- and hold the list that they represented
+-- and hold the list that they represented, or were meant to represent
 pub returns-clause-opened : goal.returns-clause-opened
-returns-clause-opened g c = λ facts list honest h.
+returns-clause-opened g c = λ facts list honest.
     let s0 = g.D.Disk.state c.args.disk.now in
     let s1 = g.D.Disk.state c.open.new.disk in
     let s2 = g.D.Disk.state c.read_parts.new.disk in
     let manifest = c.in_ok-manifest.manifest in
     let parts = c.in_ok-parts.parts in
     let honest1 = c.open.ensures.kept.honest.1 honest in
-    let is = c.version_is_one.ensures.lawful (record { id = facts.id; version = h.version })
-    (contents s0) h.manifest in
-    let held = c.in_ok-manifest.ensures.opened (record { id = facts.id; version = h.version })
-    honest h.manifest in
-    let same = c.state.ensures ∙ held.knows in
-    let ask = asked s0 s1 (c.open.ensures.kept.files honest) facts list h is c.state.result.now
-    same in
-    let hold = subst (λ (n : NodeVersion). PartsHold s2 n.version (suc facts.kept)
-    (drop facts.kept list) h.tables parts) same (c.in_ok-parts.ensures.opened (suc facts.kept)
-    (drop facts.kept list) h.tables honest1 ask.0 ask.1 ask.2) in
-    let were = subst (λ (n : NodeVersion). WereParts s1 s2 n.version parts) same
-    (c.in_ok-parts.ensures.told honest1) in
+    let spares = c.open.ensures.kept.files honest in
+    let stays = c.held_versions_are_left.ensures.same in
+    let first = suc facts.kept in
+    let batches = drop facts.kept list in
     let usable = usable_of manifest parts c.in_ok-manifest.ensures.works
     (subst (λ (n : NodeVersion). AreParts n.version parts) c.state.ensures
     c.in_ok-parts.ensures.usable) in
-    read_as facts list (contents s0) h c.replays_agree.ensures s2 manifest parts usable
-    (slots_stay c.held_versions_are_left.ensures.same s1 s2 manifest
-    (record { id = facts.id; version = h.version }) held were.each) hold
+    record {
+      whole = λ h.
+          let named : NodeVersion = record { id = facts.id; version = h.version } in
+          let is = c.version_is_one.ensures.lawful named (contents s0) h.manifest in
+          let held = c.in_ok-manifest.ensures.opened named honest h.manifest in
+          let same = c.state.ensures ∙ held.knows in
+          let ask = asked s0 s1 spares facts list h is c.state.result.now same in
+          let hold = subst (λ (n : NodeVersion). PartsHold s2 n.version first batches h.tables parts)
+          same (c.in_ok-parts.ensures.opened first batches h.tables honest1 ask.0 ask.1 ask.2) in
+          let were = subst (λ (n : NodeVersion). WereParts s1 s2 n.version parts) same
+          (c.in_ok-parts.ensures.told honest1) in
+          read_as facts list (contents s0) h c.replays_agree.ensures s2 manifest parts usable
+          (slots_stay stays s1 s2 manifest named held were.each) hold;
+      meant = λ w.
+          let h = w.represents in
+          let named : NodeVersion = record { id = facts.id; version = h.version } in
+          let is = c.version_is_one.ensures.lawful named w.meant h.manifest in
+          let held = c.in_ok-manifest.ensures.opened named honest
+          (slots_are_meant facts list (contents s0) w is) in
+          let same = c.state.ensures ∙ held.knows in
+          let ask = asked_as_meant s0 s1 spares facts list w is c.state.result.now same in
+          let were_parts = subst (λ (n : NodeVersion). PartsWereMeant s2 (durably w.meant) n.version
+          first batches h.tables parts) same (c.in_ok-parts.ensures.meant (durably w.meant) first
+          batches h.tables honest1 ask.0 ask.1 ask.2) in
+          let were = subst (λ (n : NodeVersion). WereParts s1 s2 n.version parts) same
+          (c.in_ok-parts.ensures.told honest1) in
+          read_as_meant facts list (contents s0) w is s2 manifest parts were_parts usable
+          (slots_stay stays s1 s2 manifest named held were.each)
+          c.replays_agree.ensures stays;
+    }

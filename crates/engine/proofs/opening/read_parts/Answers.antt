@@ -1,19 +1,20 @@
 use Rattle.std.proofs.Common.{◌≡◌, ◌-◌, ◌+◌, ℕ, List, length, sym, ap, arith, subst, ◌∙◌}
-use Rattle.disk.specs.{contents}
+use Rattle.disk.specs.{Slot, contents}
 use Rattle.disk.specs.StillLemmas.{still_more}
 use Rattle.manifest.specs.declared.TableLine.{TableLine}
 use Rattle.manifest.specs.{IsVersion, NodeVersion}
 use Rattle.engine.specs.Errors.{IsEngineExternal}
-use Rattle.engine.specs.LevelTables.{AreTablesOf, FileFits}
-use Rattle.engine.specs.StoreFiles.{AreOrderedNumbers}
+use Rattle.engine.specs.LevelTables.{AreTablesOf, FileFits, IsTableAsMeant}
+use Rattle.engine.specs.StoreFiles.{AreOrderedNumbers, durably}
 use Rattle.engine.specs.Settling.{AreSynced, AreThere}
-use Rattle.std.specs.Prelude.{All}
+use Rattle.std.specs.Prelude.{All, Contains}
+use Rattle.std.proofs.lemmas.List.Elements.{All-contains, All-contains_itself, All-weaker}
 use Rattle.engine.proofs.Causes.{refuses}
 use Rattle.engine.proofs.Parts.{held_count, logs_in}
 use Rattle.engine.proofs.ReadParts.{batches_same, begins_at, parts_settle}
 use Rattle.engine.proofs.ReadParts.{replayed_same, tables_are_there, tables_durable, tables_now}
 use Rattle.engine.proofs.Records.{not_true}
-use Rattle.engine.proofs.ReadParts.{synced_reads, tables_then, were_fit}
+use Rattle.engine.proofs.ReadParts.{synced_reads, tables_durably, tables_then, were_fit}
 use Rattle.engine.proofs.opening.read_parts.Goals as goal
 
 -- the files of tables that are named are there
@@ -163,5 +164,48 @@ returns-clause-opened g c = λ first batches tables honest had read ordered.
       served = c.in_ok-tables.ensures.opened tables honest3
           (subst (λ (l : List TableLine). AreTablesOf (contents s3) l tables) (sym lines2)
           (tables_then version is s1 s2 s3 synced others tables read));
+      durable = tables_durable version is s1 s2 s3 synced others s4 same;
+    }
+
+-- .. or were meant to, where blocks of tables are damaged
+pub returns-clause-meant : goal.returns-clause-meant
+returns-clause-meant g c = λ meant first batches tables honest had read as_meant.
+    let s1 = g.D.Disk.state c.args.disk.now in
+    let s2 = g.D.Disk.state c.sync_tables.new.disk in
+    let s3 = g.D.Disk.state c.open_logs.new.disk in
+    let s4 = g.D.Disk.state c.open.new.disk in
+    let honest2 = c.sync_tables.ensures.kept.honest.1 honest in
+    let honest3 = c.open_logs.ensures.kept.honest.1 honest2 in
+    let version = c.args.version.now.version in
+    let is = subst (λ (v : NodeVersion). IsVersion v.version) c.version.view_is
+    c.version.invariant in
+    let lines : c.deref.result.now ≡ version.tables =
+    c.deref.ensures.value ∙ ap (λ (v : NodeVersion). v.version.tables) c.version.view_is in
+    let lines2 : c.deref-2.result.now ≡ version.tables =
+    c.deref-2.ensures.value ∙ ap (λ (v : NodeVersion). v.version.tables) c.version.view_is in
+    let synced = subst (AreSynced s1 s2) lines (c.in_ok-sync_tables.ensures.synced honest) in
+    let others = c.in_ok-logs.ensures.others honest2 in
+    let same = c.open.ensures.kept.files honest3 in
+    let held = c.in_ok-logs.ensures.opened first batches honest2
+    (batches_same (contents s1) (contents s2) (synced_reads s1 s2 version.tables synced)
+    version.logs first batches had) in
+    let files = All-weaker (Contains version.tables)
+    (λ (line : TableLine). IsTableAsMeant (s3 line.file) (meant line.file))
+    (λ line has. subst (λ (s : Slot). IsTableAsMeant s (meant line.file))
+    (sym (tables_durably version is s1 s2 s3 synced others line has))
+    (All-contains (λ (one : TableLine). IsTableAsMeant (durably (contents s1) one.file)
+    (meant one.file)) version.tables line as_meant has)) version.tables
+    (All-contains_itself version.tables) in
+    record {
+      logs = logs_in s3 s4 c.in_ok-logs.logs first batches same held.0;
+      entries = held.1;
+      served = c.in_ok-tables.ensures.meant meant tables honest3
+          (subst (λ (l : List TableLine). AreTablesOf (contents meant) l tables) (sym lines2) read)
+          (subst (All (λ line. IsTableAsMeant (s3 line.file) (meant line.file))) (sym lines2)
+          files);
+      files = All-weaker (λ (line : TableLine). IsTableAsMeant (s3 line.file) (meant line.file))
+          (λ (line : TableLine). IsTableAsMeant (s4 line.file) (meant line.file))
+          (λ line it. subst (λ (s : Slot). IsTableAsMeant s (meant line.file))
+          (sym (same line.file)) it) version.tables files;
       durable = tables_durable version is s1 s2 s3 synced others s4 same;
     }

@@ -2,8 +2,8 @@ use Rattle.std.proofs.Common.{◌∙◌, ap, refl, subst, sym}
 use Rattle.std.proofs.lemmas.Result.{err_from_is_err_and}
 use Rattle.disk.specs.{AlwaysLeaves, OnlyLeaves, contents, seen}
 use Rattle.engine.specs.OpenFiles.{OpeningRefusal}
-use Rattle.engine.specs.StoreFiles.{FilesRepresent, IsOneOf}
-use Rattle.engine.proofs.Engines.{LeftFiles, explains, holds_of, reads_of, since_same}
+use Rattle.engine.specs.StoreFiles.{FilesRepresent, IsOneOf, WereMeant}
+use Rattle.engine.proofs.Engines.{LeftFiles, explains, holds_of, meant_of, reads_of, since_same}
 use Rattle.engine.proofs.Engines.{still_refused}
 use Rattle.engine.proofs.Records.{not_true}
 use Rattle.engine.proofs.engine.Engine.open.Goals as goal
@@ -15,9 +15,9 @@ returns-in_err-files-clause-any_moment g c = λ facts list facts' list' honest o
     still_refused g.D.Disk (IsOneOf facts list facts' list') c.args.disk c.from_residual.result p.0
     c.in_err-files.field-0.0 p.1 p.2 c.in_err-files.ensures.refused.1 only
 
--- what the files represent is held
+-- what the files represent is held, and what they were meant to represent
 pub returns-in-Ok-clause-opened : goal.returns-in-Ok-clause-opened
-returns-in-Ok-clause-opened g c = λ facts list honest represents.
+returns-in-Ok-clause-opened g c = λ facts list honest.
     let laws : LeftFiles = record {
       reads = c.reads_are_outcomes.ensures;
       durable = c.durable_file_is_left.ensures;
@@ -26,13 +26,21 @@ returns-in-Ok-clause-opened g c = λ facts list honest represents.
     } in
     let same = sym c.in_ok-files.ensures.files in
     let honest' = subst g.D.Disk.is_honest same honest in
-    let there = subst (λ d. FilesRepresent facts list (contents (g.D.Disk.state d))) same
-    represents in
-    let opened = c.in-Ok.ensures.opened facts list honest' there in
+    let opens = c.in-Ok.ensures.opened facts list honest' in
+    let now = c.open.ensures.kept.honest.1 honest' in
     record {
-      facts = opened.0;
-      holds = holds_of g.D.Disk laws _ list (reads_of g.D.Disk laws _ list
-          (c.open.ensures.kept.honest.1 honest') not_true opened.1);
+      whole = λ represents.
+          let opened = opens.whole (subst
+          (λ d. FilesRepresent facts list (contents (g.D.Disk.state d))) same represents) in
+          record {
+            facts = opened.0;
+            holds = holds_of g.D.Disk laws _ list (reads_of g.D.Disk laws _ list now not_true
+                opened.1);
+          };
+      meant = λ were.
+          let opened = opens.meant (subst
+          (λ d. WereMeant facts list (contents (g.D.Disk.state d))) same were) in
+          record { facts = opened.0; meant = meant_of g.D.Disk laws _ list now not_true opened.1 };
     }
 
 -- it knows the floor, and no file is left that its version does not name
@@ -74,10 +82,14 @@ returns-in-Err-clause-any_moment g c = λ facts list facts' list' honest only.
 
 -- a refusal says what is wrong
 pub returns-in-Err-clause-opened : goal.returns-in-Err-clause-opened
-returns-in-Err-clause-opened g c = λ facts list honest represents.
+returns-in-Err-clause-opened g c = λ facts list honest.
     let same = sym c.in_ok-files.ensures.files in
-    c.in-Err.ensures.opened facts list (subst g.D.Disk.is_honest same honest)
-    (subst (λ d. FilesRepresent facts list (contents (g.D.Disk.state d))) same represents)
+    record {
+      whole = λ represents.
+          (c.in-Err.ensures.opened facts list (subst g.D.Disk.is_honest same honest)).whole
+          (subst (λ d. FilesRepresent facts list (contents (g.D.Disk.state d))) same represents);
+      meant = λ were. tt;
+    }
 
 pub returns-in-Err-clause-told : goal.returns-in-Err-clause-told
 returns-in-Err-clause-told g c = λ honest.
@@ -86,5 +98,5 @@ returns-in-Err-clause-told g c = λ honest.
     explains c.in-Err.e (contents (g.D.Disk.state c.args.disk))
     (subst (λ d. OpeningRefusal c.in-Err.e (contents (g.D.Disk.state d))) is
     (c.in-Err.ensures.told honest'))
-    (λ facts list represents. c.in-Err.ensures.opened facts list honest'
+    (λ facts list represents. (c.in-Err.ensures.opened facts list honest').whole
     (subst (λ d. FilesRepresent facts list (contents (g.D.Disk.state d))) (sym is) represents))

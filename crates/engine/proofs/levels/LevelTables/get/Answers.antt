@@ -5,11 +5,12 @@ use Rattle.store_model.specs.{LevelTable}
 use Rattle.engine.specs.declared.levels.OpenTable.{OpenTable}
 use Rattle.engine.specs.Errors.{IsEngineExternal}
 use Rattle.engine.specs.KeepingLemmas.{answered}
-use Rattle.engine.specs.LevelTables.{IsServed, TablesFind}
-use Rattle.engine.proofs.Causes.{refuses}
+use Rattle.engine.specs.LevelTables.{IsServed, TablesFind, WasServed}
+use Rattle.engine.proofs.Causes.{if_refuses}
 use Rattle.engine.proofs.LevelLemmas.{Walked, all_walked, found_left, none_found}
 use Rattle.engine.proofs.LevelLemmas.{none_walked, one_walked}
 use Rattle.engine.proofs.OpenTables.{files_ghosts, none_read, read_more, served_same, still_then}
+use Rattle.engine.proofs.OpenTables.{was_same}
 use Rattle.engine.proofs.SideBySide.{all_taken, beside, none_left}
 use Rattle.engine.proofs.levels.LevelTables.get.Goals as goal
 use Rattle.engine.proofs.levels.LevelTables.get.Goals.{else-is_some-via-else-is_some}
@@ -19,13 +20,13 @@ use Rattle.engine.proofs.levels.LevelTables.get.Goals.{else-is_some-via-then-is_
 pub loop-open-init : goal.loop-open-init
 loop-open-init g c = record {
   read = none_read (files_ghosts g.D.Disk) c.args.files.now;
-  walked = λ tables flushed honest served leveled rise.
+  walked = λ meant tables flushed honest served leveled rise.
       none_walked c.args.at c.args.key.now tables rise;
 }
 
 -- a deeper level begins
 pub returns-then-open-level-clause-found : goal.returns-then-open-level-clause-found
-returns-then-open-level-clause-found g c = λ tables flushed honest served leveled rise.
+returns-then-open-level-clause-found g c = λ meant tables flushed honest served leveled rise.
     let s0 = g.D.Disk.state c.args.files.now.disk in
     let i = c.loop-open.open-index in
     let one = c.open-item.result in
@@ -34,13 +35,13 @@ returns-then-open-level-clause-found g c = λ tables flushed honest served level
     let at = c.args.at in
     let key = c.args.key.now in
     let items = c.deref-open-items.result.now in
-    let zip = subst (λ (l : List OpenTable). AllZip (IsServed s0) l tables)
+    let zip = subst (λ (l : List OpenTable). AllZip (WasServed s0 meant) l tables)
     (sym c.deref-open-items.ensures.value) served in
-    let b = beside (IsServed s0) items tables i one zip c.loop-open-test.true c.open-item.is in
+    let b = beside (WasServed s0 meant) items tables i one zip c.loop-open-test.true c.open-item.is in
     let walked = subst (λ (l : List LevelTable). Walked at key (take i tables) l level best) b.left
-    (c.loop-open.invariant.walked tables flushed honest served leveled rise) in
+    (c.loop-open.invariant.walked meant tables flushed honest served leveled rise) in
     let another : b.other.level ≡ level → ⊥ =
-    λ is. c.if-open-level.true (sym b.related.level ∙ is) in
+    λ is. c.if-open-level.true (sym b.related.serves.level ∙ is) in
     subst (λ (l : List LevelTable). TablesFind at l key best) b.whole
     (found_left at key (take i tables) level b.other (drop (i + 1) tables) best
     (sym c.is_some.ensures ∙ c.if-is_some.true) walked another)
@@ -64,35 +65,35 @@ loop-open-preserved g c =
     record {
       read = read_more (files_ghosts g.D.Disk) first mid before.read c.get.ensures.kept
           (answered c.get.result c.in_ok-found.was) c.get.ensures.still;
-      walked = λ tables flushed honest served leveled rise.
-          let zip = subst (λ (l : List OpenTable). AllZip (IsServed s0) l tables)
+      walked = λ meant tables flushed honest served leveled rise.
+          let zip = subst (λ (l : List OpenTable). AllZip (WasServed s0 meant) l tables)
           (sym c.deref-open-items.ensures.value) served in
-          let b = beside (IsServed s0) items tables i one zip c.loop-open-test.true
+          let b = beside (WasServed s0 meant) items tables i one zip c.loop-open-test.true
           c.open-item.is in
           let passed = take i tables in
           let rest = drop (i + 1) tables in
           let walked = subst (λ (l : List LevelTable). Walked at key passed l level best) b.left
-          (before.walked tables flushed honest served leveled rise) in
-          let here = c.in_ok-found.ensures.found b.other (before.read.kept.honest.1 honest)
-          (served_same s0 s1 one b.other (before.read.kept.files honest) b.related)
+          (before.walked meant tables flushed honest served leveled rise) in
+          let here = c.in_ok-found.ensures.found meant b.other (before.read.kept.honest.1 honest)
+          (was_same s0 s1 meant one b.other (before.read.kept.files honest) b.related)
           (leveled.ranges b.other b.there) in
           let goes_on : (best ≡ None) ⊎ (b.other.level ≡ level) =
           elim c.else-is_some.branch [
             | else-is_some-via-then-is_some+else-open-level w ↦
-                inr (b.related.level ∙ w.if-open-level.false)
+                inr (b.related.serves.level ∙ w.if-open-level.false)
             | else-is_some-via-else-is_some w ↦
                 inl (none_found best (sym c.is_some.ensures ∙ w.if-is_some.false))
           ] in
           let more = one_walked at key passed level b.other rest best now walked goes_on
           (λ ready. c.newer_of-best.ensures at key passed b.other ready here) in
-          subst (λ (n : ℕ). Walked at key (take (i + 1) tables) rest n now) b.related.level
+          subst (λ (n : ℕ). Walked at key (take (i + 1) tables) rest n now) b.related.serves.level
           (subst (λ (l : List LevelTable). Walked at key l rest b.other.level now) (sym b.taken)
           more);
     }
 
 -- the table was not read
-pub returns-in_err-found-clause-found : goal.returns-in_err-found-clause-found
-returns-in_err-found-clause-found g c = λ tables flushed honest served leveled rise.
+pub returns-in_err-found-clause-intact : goal.returns-in_err-found-clause-intact
+returns-in_err-found-clause-intact g c = λ tables honest served.
     let s0 = g.D.Disk.state c.args.files.now.disk in
     let s1 = g.D.Disk.state c.loop-open.files.disk in
     let one = c.open-item.result in
@@ -101,10 +102,9 @@ returns-in_err-found-clause-found g c = λ tables flushed honest served leveled 
     (sym c.deref-open-items.ensures.value) served in
     let b = beside (IsServed s0) c.deref-open-items.result.now tables c.loop-open.open-index one zip
     c.loop-open-test.true c.open-item.is in
-    refuses c.from_residual.result _ IsEngineExternal c.from_residual.ensures.1
-    (c.in_err-found.ensures.found b.other (before.honest.1 honest)
-    (served_same s0 s1 one b.other (before.files honest) b.related)
-    (leveled.ranges b.other b.there))
+    if_refuses c.from_residual.result IsEngineExternal c.from_residual.ensures.1
+    (c.in_err-found.ensures.intact b.other (before.honest.1 honest)
+    (served_same s0 s1 one b.other (before.files honest) b.related))
 
 pub returns-in_err-found-clause-still : goal.returns-in_err-found-clause-still
 returns-in_err-found-clause-still g c =
@@ -113,7 +113,7 @@ returns-in_err-found-clause-still g c =
 
 -- all tables were passed
 pub returns-clause-found : goal.returns-clause-found
-returns-clause-found g c = λ tables flushed honest served leveled rise.
+returns-clause-found g c = λ meant tables flushed honest served leveled rise.
     let s0 = g.D.Disk.state c.args.files.now.disk in
     let i = c.loop-open.open-index in
     let best = c.loop-open.best in
@@ -121,11 +121,11 @@ returns-clause-found g c = λ tables flushed honest served leveled rise.
     let at = c.args.at in
     let key = c.args.key.now in
     let items = c.deref-open-items.result.now in
-    let zip = subst (λ (l : List OpenTable). AllZip (IsServed s0) l tables)
+    let zip = subst (λ (l : List OpenTable). AllZip (WasServed s0 meant) l tables)
     (sym c.deref-open-items.ensures.value) served in
-    let taken = all_taken (IsServed s0) items tables i zip c.loop-open-test.false in
-    let left = none_left (IsServed s0) items tables i zip c.loop-open-test.false in
-    let walked = c.loop-open.invariant.walked tables flushed honest served leveled rise in
+    let taken = all_taken (WasServed s0 meant) items tables i zip c.loop-open-test.false in
+    let left = none_left (WasServed s0 meant) items tables i zip c.loop-open-test.false in
+    let walked = c.loop-open.invariant.walked meant tables flushed honest served leveled rise in
     all_walked at key tables level best
     (subst (λ (l : List LevelTable). Walked at key l [] level best) taken
     (subst (λ (l : List LevelTable). Walked at key (take i tables) l level best) left walked))

@@ -1,6 +1,7 @@
 use Rattle.std.proofs.Common.{ℕ, List, drop, take}
+use Rattle.disk.specs.{State}
 use Rattle.store_model.specs.{AreLeveled, LevelTable}
-use Rattle.engine.specs.LevelTables.{AreServed, LevelsRise}
+use Rattle.engine.specs.LevelTables.{LevelsRise, WereServed}
 use Rattle.engine.proofs.LevelLemmas.{Walked}
 use Rattle.engine.proofs.OpenTables.{HasOnlyRead, files_ghosts}
 use Rattle.engine.proofs.levels.LevelTables.get.Given as goal
@@ -9,8 +10,9 @@ use Rattle.engine.proofs.levels.LevelTables.get.Given as goal
 abbrev pub invariant-loop-open : goal.invariant-loop-open
 invariant-loop-open g l = record {
   read : HasOnlyRead (files_ghosts g.D.Disk) l.fn.files l.files;
-  walked : (tables : List LevelTable) (flushed : ℕ) → g.D.Disk.is_honest l.fn.files.disk
-      → AreServed (g.D.Disk.state l.fn.files.disk) l.self tables → AreLeveled flushed tables
-      → LevelsRise tables
+  walked : (meant : State) (tables : List LevelTable) (flushed : ℕ)
+      → g.D.Disk.is_honest l.fn.files.disk
+      → WereServed (g.D.Disk.state l.fn.files.disk) meant l.self tables
+      → AreLeveled flushed tables → LevelsRise tables
       → Walked l.at l.key (take l.open-index tables) (drop l.open-index tables) l.level l.best;
 }

@@ -2,16 +2,16 @@ use Rattle.std.proofs.Common.{◌+◌, All, List, [], ◌∷◌, ◌++◌, ap, m
 use Rattle.std.specs.List.{AllZip}
 use Rattle.std.proofs.lemmas.List.{take_all}
 use Rattle.std.proofs.lemmas.List.Elements.{All-more, All-nil}
-use Rattle.disk.specs.{contents}
+use Rattle.disk.specs.{Slot, contents}
 use Rattle.manifest.specs.declared.TableLine.{TableLine}
 use Rattle.store_model.specs.{LevelTable}
 use Rattle.engine.specs.declared.levels.OpenTable.{OpenTable}
 use Rattle.engine.specs.Errors.{IsEngineExternal}
 use Rattle.engine.specs.KeepingLemmas.{answered}
-use Rattle.engine.specs.LevelTables.{FileFits, IsServed, IsTableOf}
+use Rattle.engine.specs.LevelTables.{FileFits, IsServed, IsTableAsMeant, IsTableOf, WasServed}
 use Rattle.engine.proofs.Causes.{refuses}
 use Rattle.engine.proofs.OpenTables.{fit_same, lines_same, none_read, read_more, same_back, served_same}
-use Rattle.engine.proofs.OpenTables.{still_then}
+use Rattle.engine.proofs.OpenTables.{still_then, was_same}
 use Rattle.engine.proofs.SideBySide.{all_taken, beside, map_more, zip_map, zip_push}
 use Rattle.engine.proofs.levels.LevelTables.open.Goals as goal
 
@@ -24,6 +24,10 @@ loop-line-init g c = record {
   served = λ tables honest are.
       subst (λ (items : List OpenTable).
       AllZip (IsServed (g.D.Disk.state c.args.disk.now)) items [])
+      (sym c.new-tables.ensures.items) tt;
+  meant = λ meant tables honest are as_meant.
+      subst (λ (items : List OpenTable).
+      AllZip (WasServed (g.D.Disk.state c.args.disk.now) meant) items [])
       (sym c.new-tables.ensures.items) tt;
 }
 
@@ -63,6 +67,23 @@ loop-line-preserved g c =
           (before.served tables honest are) mine in
           subst (λ (l : List OpenTable). AllZip (IsServed s0) l (take (i + 1) tables)) (sym pushed)
           (subst (λ (l : List LevelTable). AllZip (IsServed s0) (items ++ one ∷ []) l)
+          (sym b.taken) both);
+      meant = λ meant tables honest are as_meant.
+          let b = beside (IsTableOf (contents meant)) lines tables i line are
+          c.loop-line-test.true c.line-item.is in
+          let file = subst (λ (l : TableLine). IsTableAsMeant (s0 l.file) (meant l.file))
+          (sym c.line-item.is) (as_meant i line c.loop-line-test.true) in
+          let here = subst (λ (s : Slot). IsTableAsMeant s (meant line.file))
+          (sym (before.read.kept.files honest line.file)) file in
+          let new = c.in_ok-open.ensures.meant meant b.other (before.read.kept.honest.1 honest)
+          b.related here in
+          let mine = was_same s2 s0 meant one b.other (same_back s0 s2 (read.kept.files honest))
+          new in
+          let both = zip_push (WasServed s0 meant) items (take i tables) one b.other
+          (before.meant meant tables honest are as_meant) mine in
+          subst (λ (l : List OpenTable). AllZip (WasServed s0 meant) l (take (i + 1) tables))
+          (sym pushed)
+          (subst (λ (l : List LevelTable). AllZip (WasServed s0 meant) (items ++ one ∷ []) l)
           (sym b.taken) both);
     }
 
@@ -109,3 +130,16 @@ returns-clause-opened g c = λ tables honest are.
     (λ it t served. served_same s0 s1 it t (before.read.kept.files honest) served) items tables
     (subst (λ (l : List LevelTable). AllZip (IsServed s0) items l) all
     (before.served tables honest are))
+
+pub returns-clause-meant : goal.returns-clause-meant
+returns-clause-meant g c = λ meant tables honest are as_meant.
+    let s0 = g.D.Disk.state c.args.disk.now in
+    let s1 = g.D.Disk.state c.loop-line.disk in
+    let items = c.loop-line.tables.items in
+    let before = c.loop-line.invariant in
+    let all = all_taken (IsTableOf (contents meant)) c.args.lines.now tables c.loop-line.line-index
+    are c.loop-line-test.false in
+    zip_map (WasServed s0 meant) (WasServed s1 meant)
+    (λ it t was. was_same s0 s1 meant it t (before.read.kept.files honest) was) items tables
+    (subst (λ (l : List LevelTable). AllZip (WasServed s0 meant) items l) all
+    (before.meant meant tables honest are as_meant))

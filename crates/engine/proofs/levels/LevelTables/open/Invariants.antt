@@ -1,8 +1,8 @@
 use Rattle.std.proofs.Common.{◌≡◌, All, List, map, take}
 use Rattle.std.specs.List.{AllZip}
-use Rattle.disk.specs.{contents}
+use Rattle.disk.specs.{State, contents}
 use Rattle.store_model.specs.{LevelTable}
-use Rattle.engine.specs.LevelTables.{AreTablesOf, FileFits, IsServed}
+use Rattle.engine.specs.LevelTables.{AreTablesOf, FileFits, IsServed, IsTableAsMeant, WasServed}
 use Rattle.engine.proofs.OpenTables.{HasOnlyRead}
 use Rattle.engine.proofs.levels.LevelTables.open.Given as goal
 
@@ -16,4 +16,9 @@ invariant-loop-line g l = record {
   served : (tables : List LevelTable) → g.D.Disk.is_honest l.fn.disk
       → AreTablesOf (contents (g.D.Disk.state l.fn.disk)) l.lines tables
       → AllZip (IsServed (g.D.Disk.state l.fn.disk)) l.tables.items (take l.line-index tables);
+  meant : (meant : State) (tables : List LevelTable) → g.D.Disk.is_honest l.fn.disk
+      → AreTablesOf (contents meant) l.lines tables
+      → All (λ line. IsTableAsMeant (g.D.Disk.state l.fn.disk line.file) (meant line.file)) l.lines
+      → AllZip (WasServed (g.D.Disk.state l.fn.disk) meant) l.tables.items
+      (take l.line-index tables);
 }

@@ -1,8 +1,9 @@
 use Rattle.std.proofs.Common.{List, ℕ, subst, Contains}
 use Rattle.disk.specs.StillLemmas.{still}
 use Rattle.engine.specs.Errors.{IsEngineExternal}
+use Rattle.sorted_table.specs.{table_file}
 use Rattle.engine.specs.LevelTables.{EntriesFind}
-use Rattle.engine.proofs.Causes.{refuses}
+use Rattle.engine.proofs.Causes.{if_refuses}
 use Rattle.engine.proofs.OpenTables.{found_in, of_table}
 use Rattle.engine.proofs.levels.OpenTable.get.Goals as goal
 
@@ -11,18 +12,19 @@ pub returns-then-not-may_have-clause-still : goal.returns-then-not-may_have-clau
 returns-then-not-may_have-clause-still g c = λ honest. still _ _
 
 -- the table was not read
-pub returns-in_err-get_hashed-clause-found : goal.returns-in_err-get_hashed-clause-found
-returns-in_err-get_hashed-clause-found g c = λ table honest served fits.
-    refuses c.from_residual.result _ IsEngineExternal c.from_residual.ensures.1
+pub returns-in_err-get_hashed-clause-intact : goal.returns-in_err-get_hashed-clause-intact
+returns-in_err-get_hashed-clause-intact g c = λ table honest served.
+    if_refuses c.from_residual.result IsEngineExternal c.from_residual.ensures.1
     (of_table c.in_err-get_hashed.field-0.0
     (c.in_err-get_hashed.ensures.found table.entries honest served.serves))
 
 -- what the table has
 pub returns-clause-found : goal.returns-clause-found
-returns-clause-found g c = λ table honest served fits.
+returns-clause-found g c = λ meant table honest served fits.
     let found = c.in_ok-get_hashed.field-0 in
     let here = found_in table.entries c.as_bytes.result.now c.get.result found
-    (c.in_ok-get_hashed.ensures.found table.entries honest served.serves) in
+    (c.in_ok-get_hashed.ensures.meant honest (meant (table_file c.args.self.now.table))
+    table.entries served.serves.serves served.blocks) in
     subst (λ (k : List ℕ). EntriesFind c.args.at (Contains table.entries) k found)
     c.as_bytes.ensures.bytes
     (subst (λ (n : ℕ). EntriesFind n (Contains table.entries) c.as_bytes.result.now found)

@@ -1,11 +1,14 @@
-use Rattle.std.proofs.Common.{◌≡◌, ◌∙◌, ℕ, Bool, IsTrue, List, Option, ap, false, subst}
+use Rattle.std.proofs.Common.{◌≡◌, ◌∙◌, ℕ, Bool, IsTrue, List, Option, ap, false, inl, inr, refl}
+use Rattle.std.proofs.Common.{subst, sym}
 use Rattle.std.specs.Prelude.{IsSomeAnd}
-use Rattle.disk.specs.{contents, seen}
+use Rattle.disk.specs.{Slot, contents, seen}
 use Rattle.disk.specs.StillLemmas.{still, still_more, still_same}
-use Rattle.sorted_table.specs.{HasTail, index_lines, table_filter}
+use Rattle.sorted_table.specs.{AreAsMeant, HasTail, IsOpenOn, TableServes, as_meant_itself}
+use Rattle.sorted_table.specs.{index_lines, table_filter}
 use Rattle.engine.specs.Errors.{IsEngineExternal}
 use Rattle.engine.proofs.Causes.{refuses}
-use Rattle.engine.proofs.OpenTables.{file_represents, fit_read, of_table, represents_same}
+use Rattle.engine.proofs.OpenTables.{file_represents, fit_read, of_table, opened_as_meant}
+use Rattle.engine.proofs.OpenTables.{represents_same}
 use Rattle.engine.proofs.levels.OpenTable.open.Goals as goal
 
 never : (b : Bool) → b ≡ false → IsTrue b → ⊥
@@ -92,3 +95,38 @@ returns-clause-fits g c = λ honest.
     (represents_same entries _ _
     (ap seen (c.length.ensures.kept.disk.files honest line.file)) has) in
     (c.ends_with.ensures.serves _ entries serves).0 c.if-not-ends_with.false)
+
+-- and serves what was meant, where it is as it was meant but for damaged blocks
+pub returns-clause-meant : goal.returns-clause-meant
+returns-clause-meant g c = λ meant table honest is as_meant.
+    let line = c.args.line.now in
+    let file = line.file in
+    let opened = c.in_ok-table.table in
+    let s0 = g.D.Disk.state c.args.disk.now in
+    let s1 = g.D.Disk.state c.length.new.self in
+    let s2 = g.D.Disk.state c.open.new.disk in
+    let between = c.length.ensures.kept.disk.honest.1 honest in
+    let first = c.length.ensures.kept.disk.files honest file in
+    let same = c.open.ensures.kept.files between file ∙ first in
+    opened_as_meant s2 meant line c.in_ok-line.line table opened c.in_ok-line.ensures
+    c.in_ok-table.ensures.at is
+    (elim as_meant as (λ _. TableServes (meant file) opened table.entries
+    × AreAsMeant (s2 file) (meant file) (index_lines opened)) [
+      | inl e ↦
+          let has = file_represents (contents meant) line table (s1 file) is
+          (ap seen (first ∙ e)) in
+          let now : s2 file ≡ meant file = same ∙ e in (
+            subst (λ (s : Slot). TableServes s opened table.entries) now
+                (c.in_ok-table.ensures.opened table.entries between has),
+            subst (λ (s : Slot). AreAsMeant (s2 file) s (index_lines opened)) now
+                (as_meant_itself (s2 file) (index_lines opened)),
+          )
+      | inr rest ↦
+          let was = subst (λ (s : Slot). IsOpenOn s opened) same
+          (c.in_ok-table.ensures.checked between) in
+          let both = rest opened table.entries was
+          (file_represents (contents meant) line table (meant file) is refl) in (
+            both.0,
+            subst (λ (s : Slot). AreAsMeant s (meant file) (index_lines opened)) (sym same) both.1,
+          )
+    ])

@@ -1,10 +1,12 @@
-use Rattle.std.proofs.Common.{◌<◌, suc, arith, drop, length}
+use Rattle.std.proofs.Common.{◌<◌, suc, arith, drop, length, rules}
 use Rattle.kv_types.specs.declared.bounds.TheConstants.{MAX_NUMBER}
 use Rattle.engine.specs.OpenFiles.{known_store, trimmed_count}
 use Rattle.engine.proofs.Appended.{appended_told, counts_told, none_appended}
 use Rattle.engine.proofs.Appended.{some_appended, trimmed_few}
 use Rattle.engine.proofs.Entries.{one_more_above}
 use Rattle.engine.proofs.FilesApart.{newest_positive}
+use Rattle.engine.proofs.Meant.{appended_as_meant, logs_are_held}
+use Rattle.engine.proofs.MeantMoments.{CrashLaws, none_meant, some_meant}
 use Rattle.engine.proofs.Records.{not_true}
 use Rattle.engine.proofs.store_files.StoreFiles.append.Goals as goal
 
@@ -66,3 +68,52 @@ returns-clause-appended g c = λ list honest h.
     (λ failed. not_true (c.in_ok-add.ensures.fails.0 failed)) c.in_ok-add.ensures.adds
     c.append.result c.append.ensures.counts)
     (c.append.ensures.appended (suc trimmed) (drop trimmed list) honest h.known.logs)
+
+-- and so where blocks of tables are damaged
+pub returns-clause-meant : goal.returns-clause-meant
+returns-clause-meant g c = λ list honest w.
+    let h = w.hold in
+    let files = c.args.self.now in
+    let disk = g.D.Disk.state c.args.disk.now in
+    let trimmed = trimmed_count files in
+    let store = known_store files h.known.tables in
+    let next = c.requires.next in
+    let count = h.known.count in
+    let entries = one_more_above files.memtable c.add.new.self list c.args.batch.now c.args.number
+    store h.known.entries (omega (arith, next, count)) (trimmed_few w.meant files list h)
+    h.known.store.flushed_count c.in_ok-add.ensures.adds in
+    let some = newest_positive files c.requires.usable in
+    let room : length list < MAX_NUMBER = omega (arith, c.append.ensures.room, some, count) in
+    let laws : CrashLaws = record {
+      durable = c.durable_file_is_left.ensures;
+      version = c.held_versions_are_left.ensures.left;
+      reads = c.reads_are_outcomes.ensures;
+    } in (
+      appended_as_meant disk files list w (g.D.Disk.state c.append.new.disk)
+      (c.append.ensures.kept.files honest) c.args.batch.now c.edits-edits.ensures.batch
+      c.append.new.self c.add.new.self c.append.ensures.lines c.appends_keep.ensures
+      c.held_versions_are_left.ensures.same entries c.append.result
+      (counts_told files c.requires.usable c.append.new.self c.add.new.self c.args.batch.now
+      c.args.number c.requires.next c.append.ensures.lines c.append.ensures.room
+      (λ failed. not_true (c.in_ok-add.ensures.fails.0 failed)) c.in_ok-add.ensures.adds
+      c.append.result c.append.ensures.counts)
+      (c.append.ensures.appended (suc trimmed) (drop trimmed list) honest (logs_are_held disk files list w)),
+      some_meant laws disk files list w c.args.batch.now c.edits-edits.ensures.batch
+          c.appends_keep.ensures room (g.D.Disk.past c.args.disk.now)
+          (g.D.Disk.past c.append.new.disk) (g.D.Disk.state c.append.new.disk)
+          (c.append.ensures.any_moment (suc trimmed) (drop trimmed list) honest
+          (logs_are_held disk files list w)),
+    )
+
+-- nothing was written
+pub returns-in_err-add-clause-meant : goal.returns-in_err-add-clause-meant
+returns-in_err-add-clause-meant g c = λ list honest w.
+    let laws : CrashLaws = record {
+      durable = c.durable_file_is_left.ensures;
+      version = c.held_versions_are_left.ensures.left;
+      reads = c.reads_are_outcomes.ensures;
+    } in (
+      search rules,
+      none_meant laws (g.D.Disk.state c.args.disk.now) c.args.self.now list w c.args.batch.now
+          c.edits-edits.ensures.batch (g.D.Disk.past c.args.disk.now),
+    )

@@ -5,31 +5,44 @@ use Rattle.engine.specs.Openings.{kept_files}
 use Rattle.disk.specs.{seen}
 use Rattle.engine.specs.Settling.{AreSwept, IsReadAlike}
 use Rattle.engine.specs.StoreFiles.{IsOneOf}
-use Rattle.engine.proofs.Causes.{if_refuses, refuses}
+use Rattle.engine.proofs.Causes.{answers_nothing, if_refuses, refuses}
 use Rattle.engine.proofs.KeptFiles.{settled_as, still_keeps}
+use Rattle.engine.proofs.MeantOpenings.{settled_as_meant}
 use Rattle.engine.proofs.OpenMoments.{one_of_is_named, settling_keeps}
 use Rattle.engine.proofs.store_files.StoreFiles.open.Goals as goal
 
 -- the files that are read are those that the disk represents
 pub returns-in_err-files-clause-opened : goal.returns-in_err-files-clause-opened
-returns-in_err-files-clause-opened g c = λ facts list honest represents.
-    refuses c.from_residual.result _ IsEngineExternal c.from_residual.ensures.1
-    (c.in_err-files.ensures.opened facts list honest represents)
+returns-in_err-files-clause-opened g c = λ facts list honest. record {
+  whole = λ represents. refuses c.from_residual.result _ IsEngineExternal
+      c.from_residual.ensures.1 ((c.in_err-files.ensures.opened facts list honest).whole represents);
+  meant = λ were. answers_nothing c.from_residual.result _ _ c.from_residual.ensures.1;
+}
 
 pub returns-clause-opened : goal.returns-clause-opened
-returns-clause-opened g c = λ facts list honest represents.
+returns-clause-opened g c = λ facts list honest.
     let s1 = g.D.Disk.state c.read_files.new.disk in
     let s2 = g.D.Disk.state c.remove_others.new.disk in
     let honest1 = c.read_files.ensures.kept.honest.1 honest in
-    let found = c.in_ok-files.ensures.opened facts list honest represents in
     let files = c.in_ok-files.files in
     let is = c.deref.ensures.value ∙ c.in_ok-kept.ensures
-    ∙ ap (λ (n : NodeVersion). kept_files n.version) c.state.ensures in (
-      found.0,
-      settled_as c.held_versions_are_left.ensures.same list files c.deref.result.now s1 s2 found.1
-          is (c.remove_others.ensures.kept.files honest1)
-          (c.in_ok-remove_others.ensures.alone honest1),
-    )
+    ∙ ap (λ (n : NodeVersion). kept_files n.version) c.state.ensures in
+    record {
+      whole = λ represents.
+          let found = (c.in_ok-files.ensures.opened facts list honest).whole represents in (
+            found.0,
+            settled_as c.held_versions_are_left.ensures.same list files c.deref.result.now s1 s2
+                found.1 is (c.remove_others.ensures.kept.files honest1)
+                (c.in_ok-remove_others.ensures.alone honest1),
+          );
+      meant = λ were.
+          let found = (c.in_ok-files.ensures.opened facts list honest).meant were in (
+            found.0,
+            settled_as_meant c.held_versions_are_left.ensures.same list files c.deref.result.now
+                s1 s2 found.1 is (c.remove_others.ensures.kept.files honest1)
+                (c.in_ok-remove_others.ensures.alone honest1),
+          );
+    }
 
 -- no file is left that the version does not name, and those that it names read as before
 pub returns-clause-swept : goal.returns-clause-swept

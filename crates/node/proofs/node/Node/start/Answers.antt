@@ -10,14 +10,14 @@ use Rattle.node.proofs.node.Node.start.Goals as goal
 -- the machine that the files represent runs
 pub returns-in-Ok-clause-started : goal.returns-in-Ok-clause-started
 returns-in-Ok-clause-started g c = λ x n honest read.
-    let opened = c.in-Ok.ensures.opened (facts_for x n) n.list honest read in
+    let opened = (c.in-Ok.ensures.opened (facts_for x n) n.list honest).whole read in
     started_or_memory g.D.Disk c.run_opened.result x n
     (c.run_opened.ensures.runs x n opened.holds opened.facts) c.run_opened.ensures.memory
 
 pub returns-in-Err-clause-started : goal.returns-in-Err-clause-started
 returns-in-Err-clause-started g c = λ x n honest read.
     subst IsEnvironmental (sym c.from.ensures) (env_of c.in-Err.e
-    (c.in-Err.ensures.opened (facts_for x n) n.list honest read))
+    ((c.in-Err.ensures.opened (facts_for x n) n.list honest).whole read))
 
 -- a refused opening leaves at every moment what the disk left before
 pub returns-in-Err-clause-any_moment : goal.returns-in-Err-clause-any_moment
