@@ -1,6 +1,8 @@
 //! Files with a cache of their blocks: each file answers its own block, and a kept block needs no
 //! call of the device.
+ghost use Rattle.std.specs.Prelude.{◌≤◌, length};
 
+use crate::counts::is_count;
 use crate::sequence::copy_of;
 use disk::{Crash, Disk, Fault, MemDisk};
 use std::alloc::Global;
@@ -11,18 +13,24 @@ use table_format::{LentEntry, TableError, put_entry, seal};
 /// The length of a block whose one entry has a key and a value of one byte.
 const BLOCK: usize = 27;
 
-/// The block whose one entry has this byte as key and value, at number 1.
-fn block_of(rt: &impl Abort, alloc: Global, byte: u8) -> Vec<u8> {
+/// The block whose one entry has this byte as its key and these as its value, at number 1.
+fn block_with(rt: &impl Abort, alloc: Global, byte: u8, value: &[u8]) -> Vec<u8>
+    requires { length value.now ≤ 16_384 }
+{
     let mut block = copy_of(rt, alloc, &[0, 0, 0, 1]);
-    let text = [byte];
     let entry = LentEntry {
-        key: &text,
+        key: &[byte],
         number: 1,
-        value: Some(&text),
+        value: Some(value),
     };
     put_entry(&mut block, entry).expect(rt, "memory");
     seal(&mut block).expect(rt, "memory");
     block
+}
+
+/// The block whose one entry has this byte as key and value, at number 1.
+fn block_of(rt: &impl Abort, alloc: Global, byte: u8) -> Vec<u8> {
+    block_with(rt, alloc, byte, &[byte])
 }
 
 /// Writes that block at the front of the file.
@@ -131,4 +139,43 @@ fn a_changed_byte_is_damage(rt: HostRuntime) {
     let alloc = rt.alloc();
     let mut files = two_files(&rt, alloc, 2);
     assert!(rt; is_damaged(&rt, alloc, &mut files));
+}
+
+// ---- three blocks of one file
+
+/// The length of a block whose one entry has a key of one byte and a value of 5,000.
+const LONG: usize = 5_026;
+
+/// The places and lengths of the blocks: the second one is long.
+static BLOCKS: [(u64, usize); 3] = [(0, BLOCK), (27, LONG), (5_053, BLOCK)];
+
+/// File 1 with these blocks, and a cache of three.
+fn three_blocks(rt: &impl Abort, alloc: Global) -> Files<MemDisk> {
+    let mut disk = MemDisk::new(alloc);
+    write_block(rt, alloc, &mut disk, 1, b'a');
+    let long = block_with(rt, alloc, b'b', &[7; 5_000]);
+    disk.write_at(1, 27, &long).expect(rt, "a write");
+    disk.write_at(1, 5_053, &block_of(rt, alloc, b'c'))
+        .expect(rt, "a write");
+    Files::new(alloc, disk, 3).expect(rt, "memory for the cache")
+}
+
+/// How many of the blocks a read answers.
+fn answered(alloc: Global, files: &mut Files<MemDisk>) -> usize {
+    let mut count = 0usize;
+    for (place, len) in &BLOCKS {
+        if files.block(alloc, 1, *place, *len).is_ok() {
+            count = count.wrapping_add(1);
+        }
+    }
+    count
+}
+
+#[test]
+fn three_blocks_of_a_file_are_kept(rt: HostRuntime) {
+    let alloc = rt.alloc();
+    let mut files = three_blocks(&rt, alloc);
+    is_count(&rt, answered(alloc, &mut files), 3);
+    files.arm(&Fault::Fail(1));
+    is_count(&rt, answered(alloc, &mut files), 3);
 }

@@ -1,4 +1,5 @@
 // The bytes of complete filters, and the keys that they deny.
+use crate::counts::is_count;
 use crate::sequence::key_of;
 use bloom::{BloomError, KeyHashes, build, may_hold, may_hold_hashed};
 use kv_types::Key;
@@ -67,6 +68,36 @@ fn what_was_put_in_is_not_denied(rt: HostRuntime) {
         assert!(rt; is_answer(filter, *key, *is_held), "{key:?}");
     }
     assert!(rt; may_hold(&[], b"h"));
+}
+
+/// A key for each number of two bytes below this one.
+fn many_keys(rt: &impl Abort, alloc: Global, count: u16) -> Vec<Key> {
+    let mut keys = Vec::new(alloc);
+    for i in 0..count {
+        let key = key_of(rt, alloc, &i.to_be_bytes());
+        keys.push(key).expect(rt, "memory");
+    }
+    keys
+}
+
+/// How many of the keys the filter may hold.
+fn held_of(filter: &[u8], keys: &[Key]) -> usize {
+    let mut count = 0usize;
+    for key in keys {
+        if is_answer(filter, key.as_bytes(), true) {
+            count = count.wrapping_add(1);
+        }
+    }
+    count
+}
+
+#[test]
+fn the_filter_of_many_keys(rt: HostRuntime) {
+    let alloc = rt.alloc();
+    let keys = many_keys(&rt, alloc, 1_000);
+    let filter = build(alloc, &keys).expect(&rt, "memory");
+    is_count(&rt, filter.len(), 1_250);
+    is_count(&rt, held_of(&filter, &keys), 1_000);
 }
 
 #[test]

@@ -2,9 +2,10 @@
 
 use crate::counts::is_count;
 use crate::numbered::Numbered;
-use crate::sequence::{Sequence, batch_of, change_of, key_of};
+use crate::sequence::{Change, Sequence, batch_of, change_of, key_of};
 use kv_types::{Batch, Key, Number, Value, value_at};
 use memtable::{Found, Memtable};
+use merge_iter::Cursor;
 use std::alloc::Global;
 use std::process::Abort;
 
@@ -102,4 +103,25 @@ fn agreeing_in_all(rt: &impl Abort, alloc: Global) -> usize {
 #[test]
 fn ten_thousand_batches_at_a_hundred_numbers(rt: HostRuntime) {
     is_count(&rt, agreeing_in_all(&rt, rt.alloc()), 3_200);
+}
+
+/// Whether a seek of a key that is longer than any entry's finds the entry behind it, and none
+/// behind all.
+fn seeks_long_keys(rt: &impl Abort, alloc: Global) -> bool {
+    let change = Change {
+        key: 256,
+        value: Some(7),
+    };
+    let mut table = Numbered::new(alloc);
+    table.add(rt, 1, &batch_of(rt, alloc, &[change]));
+    let mut cursor = table.table().cursor().expect(rt, "memory");
+    cursor.seek(&mut (), &[0; 5_000], 1).expect(rt, "a seek");
+    let is_on = cursor.valid();
+    cursor.seek(&mut (), &[2; 5_000], 1).expect(rt, "a seek");
+    is_on && !cursor.valid()
+}
+
+#[test]
+fn a_seek_of_a_long_key(rt: HostRuntime) {
+    assert!(rt; seeks_long_keys(&rt, rt.alloc()));
 }

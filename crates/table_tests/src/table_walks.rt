@@ -1,6 +1,7 @@
 //! Walks through tables of many blocks, both ways.
-use crate::tables::{FILE, files_of, many, table_in};
-use disk::MemDisk;
+use crate::counts::is_count;
+use crate::tables::{FILE, entry_of, files_of, found_of, many, table_in};
+use disk::{Disk, MemDisk};
 use merge_iter::{Cursor, OwnedEntry};
 use sorted_table::Files;
 use std::alloc::Global;
@@ -79,16 +80,50 @@ pub fn meet_all<C: Cursor>(
     assert!(rt; forward == all && back == all, "{forward} {back}");
 }
 
-fn walk(rt: &impl Abort, alloc: Global, files: &mut Files<MemDisk>, entries: &[OwnedEntry]) {
+/// Walks through the table of these entries, so many, both ways.
+fn walk(rt: &impl Abort, alloc: Global, files: &mut Files<MemDisk>, rows: (&[OwnedEntry], usize)) {
+    let (entries, all) = rows;
     let table = table_in(rt, alloc, files, FILE);
     let mut cursor = table.cursor(alloc).expect(rt, "memory");
-    meet_all(rt, &mut cursor, files, entries, 10_000);
+    meet_all(rt, &mut cursor, files, entries, all);
 }
 
 #[test]
 fn walks_through_many_blocks(rt: HostRuntime) {
     let alloc = rt.alloc();
-    let entries = many(&rt, alloc);
+    let entries = many(&rt, alloc, 10_000, 100);
     let mut files = files_of(&rt, alloc, &entries, 2);
-    walk(&rt, alloc, &mut files, &entries);
+    walk(&rt, alloc, &mut files, (&entries, 10_000));
+}
+
+// A table of more than 1,000 blocks.
+#[test]
+fn walks_through_a_thousand_blocks(rt: HostRuntime) {
+    let alloc = rt.alloc();
+    let entries = many(&rt, alloc, 25_000, 200);
+    let mut files = files_of(&rt, alloc, &entries, 2);
+    let blocks = files.length(FILE).expect(&rt, "a file") / 4_600;
+    assert!(rt; blocks > 1_000, "{blocks}");
+    walk(&rt, alloc, &mut files, (&entries, 25_000));
+}
+
+/// Entries with keys of 1,024 bytes and values of 16,384: the longest that a table may have.
+fn longest(rt: &impl Abort, alloc: Global) -> Vec<OwnedEntry> {
+    let mut entries = Vec::new(alloc);
+    for i in 0..12u8 {
+        let mut key = [b'k'; 1_024];
+        key[1_023] = i;
+        let entry = entry_of(rt, alloc, &key, 9, Some(&[i; 16_384]));
+        entries.push(entry).expect(rt, "memory");
+    }
+    entries
+}
+
+#[test]
+fn walks_through_the_longest_entries(rt: HostRuntime) {
+    let alloc = rt.alloc();
+    let entries = longest(&rt, alloc);
+    let mut files = files_of(&rt, alloc, &entries, 2);
+    is_count(&rt, found_of(&rt, alloc, &mut files, &entries), 12);
+    walk(&rt, alloc, &mut files, (&entries, 12));
 }

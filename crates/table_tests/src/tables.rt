@@ -308,32 +308,28 @@ fn an_opening_makes_three_calls_and_a_lookup_one(rt: HostRuntime) {
 
 // ---- many blocks
 
-const ENTRIES: u16 = 10_000;
-
-/// Entry `i` of many: two of each key, values of 100 bytes, and some deletions.
-fn one_of_many(rt: &impl Abort, alloc: Global, i: u16) -> OwnedEntry {
+/// Entry `i` of many: two of each key, values of so many bytes, 200 at most, and some deletions.
+fn one_of_many(rt: &impl Abort, alloc: Global, i: u16, len: usize) -> OwnedEntry {
     let mut key = [0u8; 16];
     let [high, low] = (i / 2).to_be_bytes();
     (key[6], key[7]) = (high, low);
-    let value = [low; 100];
-    let value = if i % 7 == 0 {
-        None
-    } else {
-        Some(value.as_slice())
-    };
+    let value = [low; 200];
+    let value = if i % 7 == 0 { None } else { value.get(..len) };
     entry_of(rt, alloc, &key, u64::from(u16::MAX - i), value)
 }
 
-pub fn many(rt: &impl Abort, alloc: Global) -> Vec<OwnedEntry> {
+/// So many entries, with values of so many bytes.
+pub fn many(rt: &impl Abort, alloc: Global, count: u16, len: usize) -> Vec<OwnedEntry> {
     let mut entries = Vec::new(alloc);
-    for i in 0..ENTRIES {
-        entries.push(one_of_many(rt, alloc, i)).expect(rt, "memory");
+    for i in 0..count {
+        let entry = one_of_many(rt, alloc, i, len);
+        entries.push(entry).expect(rt, "memory");
     }
     entries
 }
 
 /// How many of the entries lookups find at their own numbers.
-fn found_of(
+pub fn found_of(
     rt: &impl Abort,
     alloc: Global,
     files: &mut Files<MemDisk>,
@@ -359,7 +355,7 @@ fn found_of(
 #[test]
 fn lookups_in_many_blocks(rt: HostRuntime) {
     let alloc = rt.alloc();
-    let entries = many(&rt, alloc);
+    let entries = many(&rt, alloc, 10_000, 100);
     let found = found_of(&rt, alloc, &mut files_of(&rt, alloc, &entries, 8), &entries);
     is_count(&rt, found, 10_000);
 }
