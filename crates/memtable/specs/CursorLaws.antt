@@ -7,7 +7,7 @@ use Rattle.merge_iter.specs.declared.direction.Direction.{Direction}
 use Rattle.kv_types.specs.{Entry}
 use Rattle.merge_iter.specs.{Position, On, Off, Broken, IsApart}
 use Rattle.merge_iter.specs.EntryParts.{equal_parts}
-use Rattle.merge_iter.specs.{AreLawful}
+use Rattle.merge_iter.specs.{AreCursorLaws}
 use Rattle.memtable.specs.declared.cursor.MemCursor.{MemCursor}
 use Rattle.memtable.specs.Maps.{VersionMap, MapHolds, HasRisingNumbers, versions_at, entry_version}
 use Rattle.memtable.specs.Maps.{version_entry}
@@ -66,7 +66,7 @@ mem_left cursor way = left_on (map_entries cursor.map.now.entries) way (mem_posi
 abbrev pub mem_most : MemCursor → ℕ
 mem_most cursor = length (map_entries cursor.map.now.entries)
 
-pub cursor_laws : AreLawful {C = MemCursor} {S = Unit {0}} {K = Unit {0}} (λ _. tt)
+pub cursor_laws : AreCursorLaws {C = MemCursor} {S = Unit {0}} {K = Unit {0}} (λ _. tt)
     (λ _ _. Unit {0}) (λ _ c _. MemCursorHolds c) (λ _ _ _. Unit {0}) (λ _ _ _. Unit {0})
     (λ _ _. Unit {0}) (λ _ _ _. Unit {0}) mem_left mem_most
 cursor_laws = record {

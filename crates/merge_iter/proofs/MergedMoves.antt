@@ -14,7 +14,7 @@ use Rattle.merge_iter.specs.Positions.{WalkStart, WalkMeets}
 use Rattle.merge_iter.specs.Merging.{EachChild, ChildrenKeep, UnionHolds, IsPlaced, IsMerge}
 use Rattle.merge_iter.specs.Merging.{merged_most, child_position, union_position}
 use Rattle.merge_iter.specs.Moves.{MoveKeeps, ErrorCauses, CanStep}
-use Rattle.merge_iter.specs.Unions.{all_sound, all_apart, all_suited, any_alike, first_kept}
+use Rattle.merge_iter.specs.Unions.{all_sound, children_apart, all_suited, any_alike, first_kept}
 
 -- a refusal to a union that stood on an entry
 pub tells_merged : {A : Type 0} (S T : Type 0) (s : Position) (f h : ℕ)
@@ -57,7 +57,7 @@ module _ {C S : Type 0} (holds : C → S → Entry → Type 0) (sound : C → S 
       → IsMerge (λ c. holds c now) position (λ c. sound c now) new at
   merge_after old new before now was at m placed merge = record {
     each = all_sound holds sound suits keeps most old new before now m merge.each;
-    apart = all_apart holds sound suits keeps most old new before now m merge.each merge.apart;
+    apart = children_apart holds sound suits keeps most old new before now m merge.each merge.apart;
     placed = placed;
   }
 

@@ -6,7 +6,7 @@ use Rattle.merge_iter.specs.declared.mode.Mode.{Mode}
 use Rattle.merge_iter.specs.declared.mode.Mode.TheVariants as mode
 use Rattle.kv_types.specs.{Entry}
 use Rattle.merge_iter.specs.Positions.{Position}
-use Rattle.merge_iter.specs.Moves.{AreLawful, IsLawful, law_at}
+use Rattle.merge_iter.specs.Moves.{AreCursorLaws, IsLawful, law_at}
 use Rattle.kv_types.specs.{IsShown}
 use Rattle.merge_iter.specs.ShownEntries.{IsSettled, left_in}
 use Rattle.merge_iter.specs.Searches.{all_shown_alike, settled_alike}
@@ -58,7 +58,7 @@ module _ {C S : Type 0} (holds : C → S → Entry → Type 0) (sound : C → S 
 module _ {C S K : Type 0} {as_is : S → K} {is_intact : K → S → Type 0}
     (holds : K → C → S → Entry → Type 0) (sound : K → C → S → Type 0) (suits : C → S → S → Type 0)
     (keeps : S → S → Type 0) (left : C → Direction → ℕ) (most : C → ℕ) (position : C → Position)
-    {makes : Bool → S → S → Type 0} (laws : AreLawful as_is is_intact holds sound suits keeps makes
+    {makes : Bool → S → S → Type 0} (laws : AreCursorLaws as_is is_intact holds sound suits keeps makes
     left most) where
   -- no more steps are left than from end to end
   all_within : (c : C) (m : Mode) (way : Direction) → left_in (left c) (most c) m way ≤ most c + 2
@@ -71,7 +71,7 @@ module _ {C S K : Type 0} {as_is : S → K} {is_intact : K → S → Type 0}
 
   -- what a view keeps, whatever its inner cursor's source was meant to hold
   pub view_laws : {M : Type 0} (inner : M → C) (at : M → ℕ) (m : M → Mode) (kept : M → Entry)
-      → AreLawful {C = M} as_is is_intact (λ w a s. IsShown (at a) (holds w (inner a) s))
+      → AreCursorLaws {C = M} as_is is_intact (λ w a s. IsShown (at a) (holds w (inner a) s))
       (λ w a s. sound w (inner a) s × IsSettled (at a) (holds w (inner a) s) (m a)
       (position (inner a)) (kept a)) (λ a s t. suits (inner a) s t) keeps makes
       (λ a. left_in (left (inner a)) (most (inner a)) (m a)) (λ a. most (inner a) + 2)

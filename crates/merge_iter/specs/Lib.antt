@@ -24,7 +24,7 @@ pub use Rattle.merge_iter.specs.LentCursors.{union_of}
 pub use Rattle.merge_iter.specs.ListEntries.{IsSortedList, ListHolds}
 pub use Rattle.merge_iter.specs.Merging.{AreApart, EachChild, UnionHolds}
 pub use Rattle.merge_iter.specs.Moves.{CanStep, EntriesStay, ErrorCauses, IsLawful, MoveFinds}
-pub use Rattle.merge_iter.specs.Moves.{AreLawful, Moved, MoveKeeps, reports}
+pub use Rattle.merge_iter.specs.Moves.{AreCursorLaws, Moved, MoveKeeps, reports}
 pub use Rattle.merge_iter.specs.Order.{EntryPrecedes, IsAlike, IsApart, entry_cmp, spot}
 pub use Rattle.merge_iter.specs.Positions.{After, At, AtEnd, Broken, IfOn, IsBroken, IsFirst}
 pub use Rattle.merge_iter.specs.Positions.{IsOn, Off, On, Position, WalkMeets, WalkStart}

@@ -10,7 +10,7 @@ use Rattle.merge_iter.specs.declared.list.ListCursor.{ListCursor}
 use Rattle.merge_iter.specs.Order.{IsApart}
 use Rattle.merge_iter.specs.Positions.{On}
 use Rattle.merge_iter.specs.ListEntries.{position_at, ListHolds, IsSortedList, entries_left}
-use Rattle.merge_iter.specs.Moves.{AreLawful}
+use Rattle.merge_iter.specs.Moves.{AreCursorLaws}
 use Rattle.merge_iter.specs.EntryOrder.{never, same_right, equal_back}
 use Rattle.std.proofs.lemmas.Bool.{ltb-true}
 
@@ -40,7 +40,7 @@ pub left_within : (xs : List OwnedEntry) (at : ℕ) (way : Direction) → entrie
 left_within xs at Forward = omega arith
 left_within xs at Backward = behind at (length xs)
 
-pub list_laws : AreLawful {C = ListCursor} {S = Unit {0}} {K = Unit {0}} (λ _. tt) (λ _ _. Unit {0})
+pub list_laws : AreCursorLaws {C = ListCursor} {S = Unit {0}} {K = Unit {0}} (λ _. tt) (λ _ _. Unit {0})
     (λ _ c _. ListHolds c.entries.items) (λ _ c _. IsSortedList c.entries.items)
     (λ _ _ _. Unit {0}) (λ _ _. Unit {0}) (λ _ _ _. Unit {0})
     (λ c. entries_left c.entries.items c.at)

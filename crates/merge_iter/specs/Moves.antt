@@ -67,7 +67,7 @@ module _ {C S : Type 0} (holds : C → S → Entry → Type 0) (is_sound : C →
     pub size : most new ≡ most old
 
 -- what all cursors of a kind have in common, whatever their source was meant to hold
-pub record AreLawful {C S K : Type 0} (as_is : S → K) (is_intact : K → S → Type 0)
+pub record AreCursorLaws {C S K : Type 0} (as_is : S → K) (is_intact : K → S → Type 0)
     (holds : K → C → S → Entry → Type 0) (is_sound : K → C → S → Type 0) (suits : C → S → S → Type
     0)
     (keeps : S → S → Type 0) (makes : Bool → S → S → Type 0) (left : C → Direction → ℕ)
@@ -99,7 +99,7 @@ module _ {C S K : Type 0} {as_is : S → K} {is_intact : K → S → Type 0}
     {keeps : S → S → Type 0} {makes : Bool → S → S → Type 0} {left : C → Direction → ℕ}
     {most : C → ℕ} where
   -- what they have in common for one content that was meant
-  pub law_at : AreLawful as_is is_intact holds is_sound suits keeps makes left most → (meant : K)
+  pub law_at : AreCursorLaws as_is is_intact holds is_sound suits keeps makes left most → (meant : K)
       → IsLawful (holds meant) (is_sound meant) suits keeps left most
   law_at laws meant = record {
     itself = laws.itself;

@@ -13,7 +13,7 @@ use Rattle.merge_iter.specs.Order.{IsAlike, IsApart}
 use Rattle.merge_iter.specs.Positions.{Position, On, Off, Broken, IsFirst, WalkStart, At, WalkMeets}
 use Rattle.merge_iter.specs.Merging.{EachChild, ChildrenKeep, AreApart, UnionHolds, IsPlaced}
 use Rattle.merge_iter.specs.Merging.{IsMerge, merged_left, merged_most}
-use Rattle.merge_iter.specs.Moves.{AreLawful, EntriesStay, IsLawful, law_at}
+use Rattle.merge_iter.specs.Moves.{AreCursorLaws, EntriesStay, IsLawful, law_at}
 
 -- the same entries have the same first one
 pub same_first : (way : Direction) (P Q : Entry → Type 0) (s : Position) → ((p : Entry) → P p ↔ Q p)
@@ -93,11 +93,11 @@ module _ {C S : Type 0} (holds : C → S → Entry → Type 0) (sound : C → S 
       let o = there old new j c m.len e in
       (m.each j o.0 c o.1 e (each j o.0 o.1)).2 v w (all j o.0 o.1)
 
-  pub all_apart : (old new : List C) (before now : S) → ChildrenKeep holds sound suits keeps most
+  pub children_apart : (old new : List C) (before now : S) → ChildrenKeep holds sound suits keeps most
       old
       before new now → EachChild (λ c. sound c before) old → AreApart (λ c. holds c before) old
       → AreApart (λ c. holds c now) new
-  all_apart old new before now m each apart i j c d a b p q ha hb e =
+  children_apart old new before now m each apart i j c d a b p q ha hb e =
       let o = there old new i c m.len p in
       let r = there old new j d m.len q in
       apart i j o.0 r.0 a b o.1 r.1 (((m.each i o.0 c o.1 p (each i o.0 o.1)).1 a).0 ha)
@@ -196,7 +196,7 @@ module _ {C S : Type 0} (holds : C → S → Entry → Type 0) (sound : C → S 
 module _ {C S K : Type 0} {as_is : S → K} {is_intact : K → S → Type 0}
     (holds : K → C → S → Entry → Type 0) (sound : K → C → S → Type 0) (suits : C → S → S → Type 0)
     (keeps : S → S → Type 0) (most : C → ℕ) (left : C → Direction → ℕ) (position : C → Position)
-    {makes : Bool → S → S → Type 0} (laws : AreLawful as_is is_intact holds sound suits keeps makes
+    {makes : Bool → S → S → Type 0} (laws : AreCursorLaws as_is is_intact holds sound suits keeps makes
     left most) where
   -- no child has more steps left than from end to end
   every_left : (way : Direction) (xs : List C) → sum_by (λ c. left c way) xs ≤ sum_by most xs
@@ -214,7 +214,7 @@ module _ {C S K : Type 0} {as_is : S → K} {is_intact : K → S → Type 0}
 
   -- what a union keeps, whatever its children's source was meant to hold
   pub union_laws : {M : Type 0} (children : M → List C) (at : M → Place)
-      → AreLawful {C = M} as_is is_intact (λ w m s. UnionHolds (λ c. holds w c s) (children m))
+      → AreCursorLaws {C = M} as_is is_intact (λ w m s. UnionHolds (λ c. holds w c s) (children m))
       (λ w m s. IsMerge (λ c. holds w c s) position (λ c. sound w c s) (children m) (at m))
       (λ m a b. EachChild (λ c. suits c a b) (children m)) keeps makes
       (λ m. merged_left left most (children m) (at m)) (λ m. merged_most most (children m))

@@ -4,7 +4,7 @@ ghost use Rattle.kv_types.specs.{Entry};
 ghost use Rattle.merge_iter.specs.Order.{spot};
 ghost use Rattle.merge_iter.specs.Positions.{Position, AtEnd, At, After, IsOn, IfOn, IsBroken};
 ghost use Rattle.merge_iter.specs.Moves.{CanStep, MoveFinds, Moved};
-ghost use Rattle.merge_iter.specs.Moves.{ErrorCauses, AreLawful, reports};
+ghost use Rattle.merge_iter.specs.Moves.{ErrorCauses, AreCursorLaws, reports};
 ghost use Rattle.merge_iter.specs.declared.direction.Direction.{Direction as Way};
 ghost use Rattle.merge_iter.specs.declared.direction.Direction.TheVariants.{Forward, Backward};
 
@@ -158,5 +158,5 @@ pub trait Cursor {
 
     /// What all cursors of a kind have in common: a move of one leaves the others sound, no two
     /// entries share key and number, and `left` is at most `most`.
-    ghost laws: { AreLawful as_is is_intact holds is_sound suits keeps makes left most };
+    ghost laws: { AreCursorLaws as_is is_intact holds is_sound suits keeps makes left most };
 }

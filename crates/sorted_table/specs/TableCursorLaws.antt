@@ -5,7 +5,7 @@ use Rattle.std.specs.Option.{ForSome}
 use Rattle.disk.specs.declared.Disk.{Ghosts}
 use Rattle.disk.specs.{Slot, State, seen}
 use Rattle.kv_types.specs.{Entry}
-use Rattle.merge_iter.specs.{AreLawful, IsApart}
+use Rattle.merge_iter.specs.{AreCursorLaws, IsApart}
 use Rattle.table_format.specs.{AreRising, TableRepresents}
 use Rattle.table_format.specs.declared.IndexLine.{IndexLine}
 use Rattle.table_format.specs.TablesLemmas.{table_is_unique}
@@ -62,7 +62,7 @@ module _ {C S : Type 0} (g : Ghosts S) (file : C → ℕ) (lines : C → List In
   FileSuits c a b = g.is_honest a → g.is_honest b × (g.state b (file c) ≡ g.state a (file c))
 
   pub table_laws : (bounded : (c : C) → ForSome (place c) (IsBounded (lines c)))
-      → AreLawful {C = C} {S = S} {K = State} g.state (AreIntactFiles g)
+      → AreCursorLaws {C = C} {S = S} {K = State} g.state (AreIntactFiles g)
       (λ meant c s. FileHolds (meant (file c))) ServesMeant FileSuits
       (KeepsFiles g) (MovesFiles g) (λ c. steps_left (lines c) (place c)) (λ c. blocks_size (lines
       c))
