@@ -56,7 +56,7 @@ fn kind_of(rt: &impl Abort, alloc: Global, step: &Step) -> EventKind {
 }
 
 /// The event of a step, with this fault.
-fn event(rt: &impl Abort, alloc: Global, step: &Step, fault: Fault) -> Event {
+pub fn event(rt: &impl Abort, alloc: Global, step: &Step, fault: Fault) -> Event {
     let kind = kind_of(rt, alloc, step);
     Event { kind, fault }
 }
@@ -88,11 +88,15 @@ pub fn limits(rt: &impl Abort) -> Limits {
 }
 
 /// The report of these events in a chain of these nodes, whom they name.
-fn report_of(rt: &impl Abort, alloc: Global, ids: &[u16], steps: &[Step]) -> Report {
+pub fn report_of_events(rt: &impl Abort, alloc: Global, ids: &[u16], events: &[Event]) -> Report {
     let configs = configs(rt, alloc, ids);
-    let events = events_of(rt, alloc, steps);
-    assert!(rt; names_nodes(&configs, &events), "no node");
-    run(alloc, &configs, &events, &limits(rt)).expect(rt, "a run")
+    assert!(rt; names_nodes(&configs, events), "no node");
+    run(alloc, &configs, events, &limits(rt)).expect(rt, "a run")
+}
+
+/// The report of events of these steps, without a fault.
+fn report_of(rt: &impl Abort, alloc: Global, ids: &[u16], steps: &[Step]) -> Report {
+    report_of_events(rt, alloc, ids, &events_of(rt, alloc, steps))
 }
 
 fn put_stop(text: &mut String, node: NodeId, cause: Option<Stop>) -> Result<(), AllocError> {

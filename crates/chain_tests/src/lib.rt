@@ -9,6 +9,8 @@ mod courses;
 #[cfg(test)]
 mod example;
 #[cfg(test)]
+mod faults;
+#[cfg(test)]
 mod items;
 #[cfg(test)]
 mod large_store;

@@ -12,6 +12,8 @@ mod Growing
 mod Addressees
 mod Worlds
 mod Nodes
+mod TraceLines
 mod Histories
+mod Freshness
 mod Reports
 mod Told

@@ -14,7 +14,7 @@ use Rattle.chain_core.specs.{Machine}
 use Rattle.lab.specs.declared.report.NodeReport.{NodeReport}
 use Rattle.lab.specs.declared.sim_node.SimNode.{SimNode}
 use Rattle.lab.specs.SimNodes.{HasLogLimit, IsUnarmed, StateRefines, disk_in, is_honest, state}
-use Rattle.lab.specs.Disks.{IsBegun}
+use Rattle.lab.specs.Disks.{IsNewDisk}
 use Rattle.lab.specs.SimNodes.{failures, marks}
 use Rattle.lab.specs.Worlds.{SimNodeRefines, IsCreated, AreCreated, IsLeft, AreLeft, RunRefines}
 use Rattle.lab.specs.Worlds.{HaveLogLimit, IsReportOf}
@@ -106,10 +106,10 @@ none_armed config (s ∷ sims) all x =
 
 -- .. and each was armed with none
 all_begun : (config : List ℕ) (sims : List SimNode) → AllByRecursion (IsCreated config) sims →
-    (x : ℕ) → IsBegun state past_states marks (disks_of sims x)
+    (x : ℕ) → IsNewDisk state past_states marks (disks_of sims x)
 all_begun config [] all x = record { marked = refl; last = λ file. refl }
 all_begun config (s ∷ sims) all x =
-    cond_both (x == s.id) (disk_in s.state) (disks_of sims x) (IsBegun state past_states marks)
+    cond_both (x == s.id) (disk_in s.state) (disks_of sims x) (IsNewDisk state past_states marks)
     (λ same. all.0.marked) (λ other. all_begun config sims all.1 x)
 
 -- nodes with other ids keep theirs

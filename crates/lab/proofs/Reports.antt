@@ -22,6 +22,7 @@ use Rattle.lab.specs.declared.report.NodeReport.{NodeReport}
 use Rattle.lab.specs.declared.report.Report.{Report}
 use Rattle.lab.specs.declared.sim_node.SimNode.{SimNode}
 use Rattle.lab.specs.Disks.{HaveDisks, IsDiskOf}
+use Rattle.lab.specs.Freshness.{NodesKeepEnough, ReadsAreFresh}
 use Rattle.lab.specs.History.{Placed, IsHistory, StepSpeaksOf, HasAll}
 use Rattle.lab.specs.SimNodes.{Choice, IsUnarmed, StateRefines, disk_in, is_honest, state}
 use Rattle.lab.specs.SimNodes.{failures, marks}
@@ -90,8 +91,9 @@ module _ (sims : List SimNode) (posted : List Posted) (cs : Configurations) (eve
     (made : RunRefines sims posted cs events choices steps) where
   -- what is left of a world's nodes is a run
   pub run_left : (report : Report) → report.steps.items ≡ steps →
-      AreLeft sims report.nodes.items → IsRun cs events choices report
-  run_left report same left =
+      AreLeft sims report.nodes.items → ReadsAreFresh cs events choices steps →
+      NodesKeepEnough cs events choices → IsRun cs events choices report
+  run_left report same left fresh enough =
       let nodes = report.nodes.items in
       let machines = node_of cs (modelled_from 1 events choices) in
       let each = left.each machines made.disks made.each in
@@ -113,6 +115,9 @@ module _ (sims : List SimNode) (posted : List Posted) (cs : Configurations) (eve
         numbers = All-weaker Left (λ n. RunningRefines n.running (machines n.id))
             (λ n left. left.numbers)
             nodes each;
+        fresh = subst (λ (l : List (List Line)). ReadsAreFresh cs events choices l) (sym same)
+            fresh;
+        enough = enough;
       }
 
   -- no disk of its nodes has a fault

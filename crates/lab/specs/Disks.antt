@@ -155,8 +155,8 @@ AllFollow {D} state failures past marks cs i (event ∷ events) (choice ∷ choi
 
 -- a disk that was just created: it was armed with no fault then, and its state is the latest of its
 -- past
-abbrev pub IsBegun : {D : Type 0} → (D → State) → (D → List State) → (D → Marks) → D → Type 0
-IsBegun state past marks disk =
+abbrev pub IsNewDisk : {D : Type 0} → (D → State) → (D → List State) → (D → Marks) → D → Type 0
+IsNewDisk state past marks disk =
     IsMarkedSo state past marks ((length (past disk), Armed None) ∷ []) disk
 
 -- the disks that a run leaves, by the ids of their nodes: no call of them failed before it
@@ -166,7 +166,7 @@ pub record AreDisksAfter {D : Type 0} (state : D → State) (failures : D → �
   where
     pub first : ℕ → D
     pub begun : (x : ℕ) → failures (first x) ≡ 0
-    pub marked : (x : ℕ) → IsBegun state past marks (first x)
+    pub marked : (x : ℕ) → IsNewDisk state past marks (first x)
     pub follow : AllFollow state failures past marks cs 1 events choices (model.first_state cs) first
         disks
 

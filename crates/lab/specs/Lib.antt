@@ -4,6 +4,7 @@ pub mod Traces
 pub mod Disks
 pub mod Deliveries
 pub mod Outcomes
+pub mod Freshness
 pub mod Runs
 pub mod History
 pub mod Worlds

@@ -9,6 +9,7 @@ use Rattle.lab.specs.declared.report.Numbers.{Numbers}
 use Rattle.lab.specs.declared.report.NodeReport.{NodeReport}
 use Rattle.lab.specs.declared.report.Report.{Report}
 use Rattle.lab.specs.Disks.{HaveDisks}
+use Rattle.lab.specs.Freshness.{NodesKeepEnough, ReadsAreFresh}
 use Rattle.lab.specs.SimNodes.{Choice, IsUnarmed, state, failures, marks}
 use Rattle.lab.specs.Traces.{modelled_from, IsTrace}
 
@@ -32,7 +33,8 @@ AreNumbersOf cs events choices x told =
 
 -- The report is a run of the model over exactly these events: how each step went was chosen so, and
 -- then each event has the lines of its outcome, and each node is the one behind the run. Its disk
--- is the one that the events left, represents its machine's whole list, and has no fault.
+-- is the one that the events left, represents its machine's whole list, and has no fault. Reads at
+-- the last tail are fresh, and no node gives up what another one may lack.
 pub record IsRun (cs : Configurations) (events : List Event) (choices : List Choice)
     (report : Report) : Type 0 where
   pub trace : IsTrace cs events choices report.steps.items
@@ -41,3 +43,5 @@ pub record IsRun (cs : Configurations) (events : List Event) (choices : List Cho
   pub unarmed : All (λ node. IsUnarmed node.disk) report.nodes.items
   pub numbers : All (λ node. AreNumbersOf cs events choices node.id node.running)
       report.nodes.items
+  pub fresh : ReadsAreFresh cs events choices report.steps.items
+  pub enough : NodesKeepEnough cs events choices

@@ -37,8 +37,9 @@ use Rattle.lab.specs.Events.{NamesNode, modelled}
 use Rattle.lab.specs.Outcomes.{OutcomeRefines, DiskFits, MarksFit, StateFollows, input_junk}
 use Rattle.lab.specs.Outcomes.{sent_by}
 use Rattle.lab.specs.Outcomes.{IsExplained, has_struck_in, outcome_lines}
-use Rattle.lab.specs.Disks.{AreDisksAfter, DiskFollows, HasGrown, HaveDisks, IsBegun, IsDiskOf}
+use Rattle.lab.specs.Disks.{AreDisksAfter, DiskFollows, HasGrown, HaveDisks, IsNewDisk, IsDiskOf}
 use Rattle.lab.specs.Disks.{IsCrashOf}
+use Rattle.lab.specs.Freshness.{NodesKeepEnough, ReadsAreFresh}
 use Rattle.lab.specs.History.{IsHistory}
 use Rattle.lab.specs.Runs.{RunningRefines}
 use Rattle.lab.specs.Traces.{modelled_from, IsTrace}
@@ -101,7 +102,7 @@ pub record SimNodeRefines (nodes : ℕ → Machine) (disks : ℕ → Slots) (sim
 pub record IsCreated (config : List ℕ) (sim : SimNode) : Type 0 where
   pub is : StateRefines is_honest state sim.state sim.id (created config)
   pub count : failures (disk_in sim.state) ≡ 0
-  pub marked : IsBegun state past_states marks (disk_in sim.state)
+  pub marked : IsNewDisk state past_states marks (disk_in sim.state)
 
 -- each of these nodes that is up has this limit for logs
 abbrev pub HaveLogLimit : List SimNode → ℕ → Type 0
@@ -346,13 +347,16 @@ abbrev pub HasEnded : World → Type 0
 HasEnded world = world.ended ≡ true
 
 -- the lines so far are those of a run of the model over these events, and each node has the disk
--- that they left, which represents its machine's whole list, and which has no fault
+-- that they left, which represents its machine's whole list, and which has no fault; reads at the last
+-- tail are fresh, and no node gives up what another one may lack
 pub record IsRunSoFar (world : World) (cs : Configurations) (events : List Event)
     (choices : List Choice) (steps : List (List Line)) : Type 0 where
   pub trace : IsTrace cs events choices steps
   pub disks : HaveDisks state failures past_states marks (λ (sim : SimNode). sim.id)
       (λ (sim : SimNode). disk_in sim.state) cs events choices world.nodes.items
   pub unarmed : All (λ sim. IsUnarmed (disk_in sim.state)) world.nodes.items
+  pub fresh : ReadsAreFresh cs events choices steps
+  pub enough : NodesKeepEnough cs events choices
 
 -- .. and there is one history of them
 abbrev pub HasHistory : World → Configurations → List Event → List (List Line) → Type 0

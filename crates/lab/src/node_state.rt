@@ -40,7 +40,7 @@ fn crash<D: Crash + Drop>(mut disk: D, junk: Junk) -> NodeState<D>
         ⊎ StateRefines D.is_honest D.state result x (stopped a.node) }
     ensures marked { D.is_honest disk → IsMarkedSo D.state D.past D.marks
         ((length (D.past disk), Crashed junk) ∷ D.marks disk) (disk_in result) }
-    ensures forgets { fault_of (D.marks (disk_in result)) ≡ None }
+    ensures forgets { D.is_honest disk → fault_of (D.marks (disk_in result)) ≡ None }
     ensures limit { (n : ℕ) → HasLogLimit result n }
 {
     // laws: what a crash leaves is durable, and a crash leaves it again
@@ -68,7 +68,7 @@ fn stop_by_itself<D: Crash + Drop>(disk: D, stop: Stop, fault: Fault) -> (NodeSt
         D.is_honest disk → IsMarkedSo D.state D.past D.marks
         ((length (D.past disk), Crashed (junk_at_end fault struck)) ∷ D.marks disk)
         (disk_in result.0) }
-    ensures forgets { fault_of (D.marks (disk_in result.0)) ≡ None }
+    ensures forgets { D.is_honest disk → fault_of (D.marks (disk_in result.0)) ≡ None }
     ensures limit { (n : ℕ) → HasLogLimit result.0 n }
 {
     let has_struck = disk.has_struck();

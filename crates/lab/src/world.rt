@@ -27,7 +27,7 @@ use crate::report::{Line, Lines, NodeReport, Numbers, Report};
 use crate::sim_node::SimNode;
 use crate::trace::{one_line, trace_of};
 use crate::{Event, EventRecord, LabError};
-use chain_model::{in_order, one_history, run_is_outcomes};
+use chain_model::{in_order, keeps_enough, one_history, reads_fresh, run_is_outcomes};
 use configurations::{Config, Configs, NodeId};
 use disk::{Fault, MemDisk};
 use kv_types::{Batch, Limits, Number};
@@ -325,6 +325,9 @@ impl World {
             (steps : List (List Line)) →
             HasRun self.now cs events choices steps → HasHistory self.now cs events result.now }
     {
+        // laws: reads at the last tail are fresh, and nothing is given up that may be needed
+        reads_fresh::<Batch>();
+        keeps_enough::<Batch>();
         // laws: a run of the model has one history, and is made of its outcomes
         one_history::<Batch>();
         run_is_outcomes::<Batch>();
@@ -369,6 +372,9 @@ impl World {
             return Err(LabError::Memory);
         }
         let nodes = left_of_all(alloc, nodes)?;
+        // laws: reads at the last tail are fresh, and nothing is given up that may be needed
+        reads_fresh::<Batch>();
+        keeps_enough::<Batch>();
         // laws: a run of the model has one history, and is made of its outcomes
         one_history::<Batch>();
         run_is_outcomes::<Batch>();

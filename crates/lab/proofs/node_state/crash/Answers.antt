@@ -1,5 +1,5 @@
-use Rattle.std.proofs.Common.{List, refl, inl, inr, subst, sym}
-use Rattle.disk.specs.{IsLastLeft, State}
+use Rattle.std.proofs.Common.{List, ap, refl, inl, inr, subst, sym}
+use Rattle.disk.specs.{IsLastLeft, State, fault_of}
 use Rattle.lab.proofs.Rests.{rests_as}
 use Rattle.lab.proofs.node_state.crash.Goals as goal
 
@@ -15,7 +15,12 @@ returns-clause-refines g c = λ x n a honest stops.
 
 pub returns-clause-marked : goal.returns-clause-marked
 returns-clause-marked g c = λ honest. record {
-  marked = c.crash.ensures.marks;
+  marked = c.crash.ensures.marks honest;
   last = subst (λ (l : List State). IsLastLeft l (g.D.Disk.state c.crash.new.self))
-      (sym c.crash.ensures.past.2) (λ file. sym (c.crash.ensures.past.1 file));
+      (sym (c.crash.ensures.past honest).2)
+      (λ file. sym ((c.crash.ensures.past honest).1 file));
 }
+
+-- the latest mark is the crash
+pub returns-clause-forgets : goal.returns-clause-forgets
+returns-clause-forgets g c = λ honest. ap fault_of (c.crash.ensures.marks honest)

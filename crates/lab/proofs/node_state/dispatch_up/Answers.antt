@@ -105,6 +105,6 @@ returns-in-Stop g c = λ limit.
                 (disk_of c.args.node) new (crashed honest)));
             last = before.last;
           });
-      forgets = λ honest unarmed. e.forgets;
+      forgets = λ honest unarmed. e.forgets (subst g.D.Disk.is_honest same honest);
       limit = λ has. e.limit limit;
     })

@@ -101,3 +101,9 @@ returns-in-Err-clause-marked g c = λ honest.
     c.stop_by_itself.result.0 c.stop_by_itself.result.1 _ _ was (λ fails. fails) (λ is. is)
     c.stop_by_itself.ensures.told c.stop_by_itself.ensures.crashes c.arm.new.self _ _ _
     c.arm.ensures c.in-Err.ensures.kept honest c.stop_by_itself.ensures.marked
+
+pub returns-in-Err-clause-forgets : goal.returns-in-Err-clause-forgets
+returns-in-Err-clause-forgets g c = λ honest.
+    let was = spent g.D.Disk c.args.fault c.args.disk c.arm.new.self c.in-Err.disk _ _ _
+    c.arm.ensures c.in-Err.ensures.kept honest in
+    c.stop_by_itself.ensures.forgets was.honest

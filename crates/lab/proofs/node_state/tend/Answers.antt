@@ -117,3 +117,7 @@ returns-in-Err-clause-marked g c = λ honest.
     c.stop_by_itself.ensures.told c.stop_by_itself.ensures.crashes
     (disk_of c.arm.new.self) (IsDeviceStop ended) (MayFail g c) IsOwned
     c.arm.ensures.armed kept honest c.stop_by_itself.ensures.marked
+
+pub returns-in-Err-clause-forgets : goal.returns-in-Err-clause-forgets
+returns-in-Err-clause-forgets g c = λ honest.
+    c.stop_by_itself.ensures.forgets (left_of g c honest).honest

@@ -1,0 +1,217 @@
+-- Reads at the last tail are fresh, by the model's theorem and the lines of each event.
+use Rattle.std.proofs.Common.{◌≡◌, ℕ, suc, ◌≤◌, List, [], ◌∷◌, ◌++◌, length, take, None, true}
+use Rattle.std.proofs.Common.{refl, sym, ap, subst, ◌∙◌, arith}
+use Rattle.std.specs.Prelude.{All}
+use Rattle.std.specs.List.{AllByRecursion}
+use Rattle.std.proofs.lemmas.Bool.{cond_both, cond-true}
+use Rattle.std.proofs.lemmas.List.Elements.{All-from_recursion, recursion_from_All}
+use Rattle.kv_types.specs.{BatchContent}
+use Rattle.chain_model.specs.{Configurations, Lawful, Request, Response, Committed, Shows, Opened}
+use Rattle.chain_model.specs.{Closed, Refused, SystemEvent as ModelEvent, SystemState, Outcome}
+use Rattle.chain_model.specs.{StepResult, Answered, StoppedBefore, StoppedAfter, Answer, answers}
+use Rattle.chain_model.specs.{as_completed, ask, first_state, outcome, reached, refused, run}
+use Rattle.chain_model.specs.{state_after, stops}
+use Rattle.chain_core.specs.{Machine}
+use Rattle.chain_model.specs.declared.Refusal.TheVariants.{NotRunning}
+use Rattle.chain_model.specs.Freshness.{IsAtMost, ReadsFresh}
+use Rattle.chain_model.specs.Retention.{KeepsEnough}
+use Rattle.lab.specs.declared.event.Event.{Event}
+use Rattle.lab.specs.declared.event.EventKind.{EventKind}
+use Rattle.lab.specs.declared.event.EventKind.TheVariants.{Submit, Get, Deliver, Tick, Tend, Start}
+use Rattle.lab.specs.declared.event.EventKind.TheVariants.{Stop}
+use Rattle.lab.specs.declared.report.Line.{Line}
+use Rattle.lab.specs.Events.{modelled, lines_of_event, reply_line, reply_lines}
+use Rattle.lab.specs.Freshness.{AreFresh, IsTailRead, NodesKeepEnough, LineIsAtMost, LineIsFresh}
+use Rattle.lab.specs.Freshness.{ReadsAreFresh}
+use Rattle.lab.specs.SimNodes.{Choice}
+use Rattle.lab.specs.Traces.{IsTrace, lines_from, modelled_from}
+use Rattle.lab.proofs.TraceLines.{IsQuiet, back, both, front, lines_have}
+
+-- ---- lines with numbers at most s
+
+-- a line that is no reply has none
+quiet_below : (s : ℕ) → IsQuiet (LineIsAtMost s)
+quiet_below s = record {
+  nothing = tt;
+  dropped = λ why. tt;
+  started = λ x e n k. tt;
+  forwarded = λ p from to e n. tt;
+  acknowledged = λ p from to e k n. tt;
+  stopped = λ x cause. tt;
+  tended = λ did. tt;
+}
+
+-- a read's line has the number of the model's reply
+shown_below : (s : ℕ) (kind : EventKind) (i n : ℕ) (l : List BatchContent) → n ≤ s →
+    AllByRecursion (LineIsAtMost s) (reply_line kind (Shows i n l))
+shown_below s (Submit x batch) i n l below = tt
+shown_below s (Get x key at) i n l below = (below, tt)
+shown_below s (Deliver p) i n l below = tt
+shown_below s (Tick x) i n l below = tt
+shown_below s (Tend x) i n l below = tt
+shown_below s (Start x) i n l below = tt
+shown_below s (Stop x junk) i n l below = tt
+
+-- so has that of any reply
+reply_below : (s : ℕ) (kind : EventKind) (r : Response BatchContent) → IsAtMost s r →
+    AllByRecursion (LineIsAtMost s) (reply_line kind r)
+reply_below s kind (Committed i n) below = (below, tt)
+reply_below s kind (Shows i n l) below = shown_below s kind i n l below
+reply_below s kind (Opened i n) below = tt
+reply_below s kind (Closed i n) below = tt
+reply_below s kind (Refused i why) below = (tt, tt)
+
+replies_below : (s : ℕ) (kind : EventKind) (replies : List (Response BatchContent)) →
+    AllByRecursion (IsAtMost s) replies → AllByRecursion (LineIsAtMost s) (reply_lines kind replies)
+replies_below s kind [] below = tt
+replies_below s kind (r ∷ replies) below =
+    both (LineIsAtMost s) (reply_line kind r) (reply_lines kind replies)
+    (reply_below s kind r below.0) (replies_below s kind replies below.1)
+
+-- these lines have no greater number than the replies of a run of the model so far
+abbrev IsBounded : SystemState BatchContent → List (List Line) → Type 0
+IsBounded w earlier = (s : ℕ) → AllByRecursion (IsAtMost s) w.replies →
+    AllByRecursion (λ lines. All (LineIsAtMost s) lines) earlier
+
+-- nor have those of one event more
+bounded_more : (cs : Configurations) (w : SystemState BatchContent) (i : ℕ) (event : Event)
+    (ch : Choice) (earlier : List (List Line)) → IsBounded w earlier →
+    IsBounded (state_after cs w (modelled i event.kind ch)) (earlier ++ lines_of_event
+    (length w.frames) event ch (outcome w cs (modelled i event.kind ch)) ∷ [])
+bounded_more cs w i event ch earlier bounded = λ s below.
+    let o = outcome w cs (modelled i event.kind ch) in
+    let lines = lines_of_event (length w.frames) event ch o in
+    both (λ (l : List Line). All (LineIsAtMost s) l) earlier (lines ∷ [])
+    (bounded s (front (IsAtMost s) w.replies o.replies below)) (
+      All-from_recursion (LineIsAtMost s) lines
+          (lines_have (LineIsAtMost s) (quiet_below s) o.acted_on (length w.frames) event ch o
+          (replies_below s event.kind o.replies (back (IsAtMost s) w.replies o.replies below))),
+      tt,
+    )
+
+-- ---- a read at the last tail
+
+-- a line that is no reply shows no value
+quiet_fresh : (earlier : List (List Line)) → IsQuiet (LineIsFresh earlier)
+quiet_fresh earlier = record {
+  nothing = tt;
+  dropped = λ why. tt;
+  started = λ x e n k. tt;
+  forwarded = λ p from to e n. tt;
+  acknowledged = λ p from to e k n. tt;
+  stopped = λ x cause. tt;
+  tended = λ did. tt;
+}
+
+-- the replies to a read of this key show what is fresh
+abbrev HasFresh : List (List Line) → ℕ → List ℕ → Outcome BatchContent → Type 0
+HasFresh earlier t key o =
+    AllByRecursion (LineIsFresh earlier) (reply_lines (Get t key None) o.replies)
+
+-- the answer of a node to the read
+abbrev read_by : ℕ → ℕ → Machine → Answer BatchContent
+read_by t i n = ask t n i (Request.Read None)
+
+module _ (cs : Configurations) (law : (es : List (ModelEvent BatchContent)) → ReadsFresh cs es) where
+  -- where the tail runs, its value is of the whole list
+  ended : (es : List (ModelEvent BatchContent)) (t i : ℕ) (key : List ℕ)
+      (earlier : List (List Line)) → IsBounded (reached cs es) earlier →
+      IsTailRead cs (reached cs es) (Get t key None) t → (went : StepResult) →
+      ((reached cs es).nodes t).running ≡ true →
+      HasFresh earlier t key (as_completed t ((reached cs es).nodes t)
+      (read_by t i ((reached cs es).nodes t)) went)
+  ended es t i key earlier bounded read Answered up =
+      let n = (reached cs es).nodes t in
+      let sees = law es t read.tail read.epoch up in
+      let is = sym (ap (λ (o : Outcome BatchContent). o.replies) (cond-true n.running
+      (as_completed t n (read_by t i n) Answered) (answers t (refused n i NotRunning)) up))
+      ∙ sees.shows i in
+      let below = bounded (length n.list)
+      (recursion_from_All (IsAtMost (length n.list)) (reached cs es).replies sees.before) in
+      subst (λ (l : List (Response BatchContent)). AllByRecursion (LineIsFresh earlier)
+      (reply_lines (Get t key None) l)) (sym is) (
+        All-from_recursion (λ (lines : List Line). All (LineIsAtMost (length n.list)) lines) earlier
+            below,
+        tt,
+      )
+  ended es t i key earlier bounded read StoppedBefore up = tt
+  ended es t i key earlier bounded read StoppedAfter up = tt
+
+  -- the replies to the read, of a tail that is down too
+  tail_replies : (es : List (ModelEvent BatchContent)) (t i : ℕ) (key : List ℕ) (ch : Choice)
+      (earlier : List (List Line)) → IsBounded (reached cs es) earlier →
+      IsTailRead cs (reached cs es) (Get t key None) t →
+      HasFresh earlier t key (outcome (reached cs es) cs (modelled i (Get t key None) ch))
+  tail_replies es t i key ch earlier bounded read =
+      let n = (reached cs es).nodes t in
+      cond_both n.running (as_completed t n (read_by t i n) ch.went)
+      (answers t (refused n i NotRunning)) (HasFresh earlier t key)
+      (ended es t i key earlier bounded read ch.went) (λ down. (tt, tt))
+
+  -- the lines of the read
+  tail_lines : (es : List (ModelEvent BatchContent)) (i : ℕ) (event : Event) (ch : Choice)
+      (earlier : List (List Line)) → IsBounded (reached cs es) earlier → (t : ℕ) →
+      IsTailRead cs (reached cs es) event.kind t →
+      All (LineIsFresh earlier) (lines_of_event (length (reached cs es).frames) event ch
+      (outcome (reached cs es) cs (modelled i event.kind ch)))
+  tail_lines es i event ch earlier bounded t read =
+      let w = reached cs es in
+      let o = outcome w cs (modelled i event.kind ch) in
+      let replies = subst (λ (kind : EventKind). AllByRecursion (LineIsFresh earlier)
+      (reply_lines kind (outcome w cs (modelled i kind ch)).replies)) (sym read.reads)
+      (tail_replies es t i read.key ch earlier bounded (record {
+        key = read.key;
+        reads = refl;
+        tail = read.tail;
+        epoch = read.epoch;
+      })) in
+      All-from_recursion (LineIsFresh earlier) (lines_of_event (length w.frames) event ch o)
+      (lines_have (LineIsFresh earlier) (quiet_fresh earlier) o.acted_on (length w.frames) event ch o
+      replies)
+
+  -- a run of one event more
+  run_one : (es : List (ModelEvent BatchContent)) (e : ModelEvent BatchContent)
+      (w : SystemState BatchContent) → run cs (es ++ e ∷ []) w ≡ state_after cs (run cs es w) e
+  run_one [] e w = refl
+  run_one (first ∷ es) e w = run_one es e (state_after cs w first)
+
+  -- .. and those of all events
+  all_fresh : (i : ℕ) (events : List Event) (chs : List Choice)
+      (es : List (ModelEvent BatchContent)) (earlier : List (List Line)) →
+      length chs ≡ length events → IsBounded (reached cs es) earlier →
+      AreFresh cs i events chs (reached cs es) earlier (lines_from cs i events chs (reached cs es))
+  all_fresh i [] chs es earlier same bounded = tt
+  all_fresh i (event ∷ events) [] es earlier same bounded = absurd (omega arith)
+  all_fresh i (event ∷ events) (ch ∷ chs) es earlier same bounded =
+      let w = reached cs es in
+      let e = modelled i event.kind ch in
+      let lines = lines_of_event (length w.frames) event ch (outcome w cs e) in
+      let next = run_one es e (first_state cs) in (
+        tail_lines es i event ch earlier bounded,
+        subst (λ (v : SystemState BatchContent). AreFresh cs (suc i) events chs v
+            (earlier ++ lines ∷ []) (lines_from cs (suc i) events chs v)) next
+            (all_fresh (suc i) events chs (es ++ e ∷ []) (earlier ++ lines ∷ []) (omega arith)
+            (subst (λ (v : SystemState BatchContent). IsBounded v (earlier ++ lines ∷ [])) (sym next)
+            (bounded_more cs w i event ch earlier bounded))),
+      )
+
+-- the reads of a run are fresh, by the model's law
+pub reads_are_fresh : (cs : Configurations) (events : List Event) (choices : List Choice)
+    (steps : List (List Line)) →
+    ((cs : Configurations) (es : List (ModelEvent BatchContent)) → Lawful cs → ReadsFresh cs es) →
+    Lawful cs → IsTrace cs events choices steps → ReadsAreFresh cs events choices steps
+reads_are_fresh cs events choices steps law lawful trace =
+    let fresh : (es : List (ModelEvent BatchContent)) → ReadsFresh cs es = λ es. law cs es lawful in
+    record {
+      machines = λ k. fresh (modelled_from 1 (take k events) choices);
+      lines = subst (λ (l : List (List Line)). AreFresh cs 1 events choices (first_state cs) [] l)
+          (sym trace.traced)
+          (all_fresh cs fresh 1 events choices [] [] trace.one_each (λ s below. tt));
+    }
+
+-- its nodes keep what may be needed, by the model's law
+pub keep_needed : (cs : Configurations) (events : List Event) (choices : List Choice) →
+    ((cs : Configurations) (es : List (ModelEvent BatchContent)) → Lawful cs → KeepsEnough cs es) →
+    Lawful cs → NodesKeepEnough cs events choices
+keep_needed cs events choices law lawful =
+    λ k. law cs (modelled_from 1 (take k events) choices) lawful
