@@ -5,7 +5,7 @@ use Rattle.std.specs.Prelude.{All, Contains, IsErrAnd, IsNone}
 use Rattle.std.proofs.lemmas.List.Elements.{All-nil}
 use Rattle.kv_types.specs.{Entry, IsBatch}
 use Rattle.disk.specs.{IsDurable, IsSame, IsSameBut, Slot, State, contents, seen}
-use Rattle.record_log.specs.{EndsInRange, count_of}
+use Rattle.record_log.specs.{EndsInRange, IsDurableAs, begun, count_of}
 use Rattle.memtable.specs.{HasFailedAdd, TableHolds}
 use Rattle.store_model.specs.Claims.{EmptyRepresents}
 use Rattle.store_model.specs.{StoreRepresents}
@@ -206,6 +206,17 @@ log_is_spared logged made new slots same = same 3 ∙ slots 3 (λ is. elim is [
 pub absent_ends : (bytes : Option (List ℕ)) → IsNone bytes → EndsInRange bytes
 absent_ends None none = tt
 absent_ends (Some it) none = absurd cc
+
+-- a log that was created without a file before it is a closed gate
+begun_alone : (bytes : Option (List ℕ)) → IsNone bytes → begun bytes ≡ 0 ∷ []
+begun_alone None none = refl
+begun_alone (Some it) none = absurd cc
+
+pub first_log : (before new : State) → AreAlone [] before
+    → IsDurableAs new 3 (begun (seen (before 3))) → IsDurableAs new 3 (0 ∷ [])
+first_log before new alone spelled =
+    subst (IsDurableAs new 3)
+    (begun_alone (seen (before 3)) (alone 3 (λ has. none_in has))) spelled
 
 pub no_file_ends : (disk : State) (file : ℕ) → AreAlone [] disk → EndsInRange (seen (disk file))
 no_file_ends disk file alone = absent_ends (seen (disk file)) (alone file (λ has. none_in has))

@@ -5,21 +5,23 @@ use Rattle.std.specs.Prelude.{◌⊎◌, ◌↔◌, IfErr, IfOk, IsErrAnd, IsErr
 use Rattle.std.specs.Prelude.{is_err}
 use Rattle.kv_types.specs.{BatchContent}
 use Rattle.disk.specs.declared.Disk.{Ghosts}
-use Rattle.disk.specs.{Contents, DurableFileIsLeft, IsCrashOutcome, IsSame, LeavesSince}
-use Rattle.disk.specs.{OnlyLeaves, State, contents}
-use Rattle.disk.specs.MomentsLemmas.{started}
+use Rattle.disk.specs.{AlwaysLeaves, Contents, DurableFileIsLeft, IsCrashOutcome, IsSame}
+use Rattle.disk.specs.{LeavesSince, OnlyLeaves, State, contents}
+use Rattle.disk.specs.MomentsLemmas.{started, weaker}
 use Rattle.manifest.specs.{HeldVersionIsLeft, HeldVersionStays}
 use Rattle.engine.specs.declared.engine.Engine.{Engine}
 use Rattle.engine.specs.declared.error.EngineError.{EngineError}
 use Rattle.engine.specs.declared.store_files.StoreFiles.{StoreFiles}
 use Rattle.engine.specs.declared.error.EngineError.TheVariants as engine
-use Rattle.engine.specs.Calls.{ExplainsRefusal, ListFollows, IsAdrift, IsNoDamage, disk_after}
+use Rattle.engine.specs.Calls.{ExplainsRefusal, ListFollows, IsAdrift, IsNoDamage}
+use Rattle.engine.specs.Calls.{IsOldOrNewSince, disk_after}
 use Rattle.engine.specs.Engines.{EngineHolds, EngineReads, EngineWasMeant, HasEnded, IsInMemory}
 use Rattle.engine.specs.Engines.{IsNearlyFull, LookUps, WasMeantInMemory, engine_disk, facts_of}
+use Rattle.engine.specs.Engines.{raised_facts}
 use Rattle.engine.specs.Errors.{EndsEngine, IsEnd, IsEngineExternal}
 use Rattle.engine.specs.Files.{Facts}
 use Rattle.engine.specs.OpenFiles.{FilesHold, OpeningRefusal, WereMeantToHold}
-use Rattle.engine.specs.StoreFiles.{FilesRepresent, WereMeant, WereOneOf}
+use Rattle.engine.specs.StoreFiles.{FilesRepresent, IsOneOf, WereMeant, WereOneOf}
 use Rattle.engine.specs.Tending.{TendMayFail}
 use Rattle.engine.proofs.Appended.{left_now}
 use Rattle.engine.proofs.Causes.{on_ok}
@@ -315,3 +317,13 @@ pub since_same : {D : Type 0} (g : Ghosts D) (P : Contents → Type 0) {disk was
     LeavesSince (g.state disk) (g.past disk) (g.state new) (g.past new) P
 since_same {D = D} g P {new = new} is run =
     subst (λ (d : D). LeavesSince (g.state d) (g.past d) (g.state new) (g.past new) P) is run
+
+-- files of one store are those of a store whose floor was not raised
+pub not_raised : {D : Type 0} (g : Ghosts D) (engine : Engine D g) (new : D)
+    (list : List BatchContent) →
+    AlwaysLeaves g (engine_disk engine) new (FilesRepresent (facts_of engine) list) →
+    IsOldOrNewSince g (engine_disk engine) new (facts_of engine) list (raised_facts engine) list
+not_raised g engine new list run =
+    weaker (FilesRepresent (facts_of engine) list)
+    (IsOneOf (facts_of engine) list (raised_facts engine) list) (g.state (engine_disk engine))
+    (g.past (engine_disk engine)) (g.state new) (g.past new) (λ left it. inl it) run

@@ -10,6 +10,7 @@ use Rattle.std.proofs.lemmas.List.Elements.{All-weaker}
 use Rattle.std.proofs.lemmas.List.Folds.{list_all-append, list_any-append, list_any_none}
 use Rattle.kv_types.specs.declared.bounds.TheConstants.{MAX_NUMBER}
 use Rattle.chain_model.specs.{is_part}
+use Rattle.manifest.specs.declared.line.TheConstants.{MAX_NEXT}
 use Rattle.manifest.specs.declared.LogLine.{LogLine}
 use Rattle.manifest.specs.declared.TableLine.{TableLine}
 use Rattle.manifest.specs.Lawful.{IsGiven, IsVersion}
@@ -146,7 +147,7 @@ same_ids [] = refl
 same_ids (x ∷ ids) = same_part (x ∷ ids)
 
 module _ (version : StoreVersion) (is : IsVersion version) (count : ℕ) (line : TableLine)
-    (place : LacksPlace version count → ⊥) (rises : version.flushed ≤ count)
+    (place : LacksPlace version → ⊥) (few : count ≤ MAX_NUMBER) (rises : version.flushed ≤ count)
     (next : IsNextTable version line) where
   abbrev begun : LogLine
   begun = begun_log version count
@@ -164,14 +165,9 @@ module _ (version : StoreVersion) (is : IsVersion version) (count : ℕ) (line :
       let no : (4096 ≤ length version.logs) → ⊥ = λ le. place (inl (inr le)) in
       omega (arith, no)
 
-  next_few : version.next_file + 2 ≤ MAX_NUMBER
+  next_few : version.next_file + 2 ≤ MAX_NEXT
   next_few =
-      let no : (MAX_NUMBER < version.next_file + 2) → ⊥ = λ lt. place (inr (inl lt)) in
-      omega (arith, no)
-
-  count_few : count < MAX_NUMBER
-  count_few =
-      let no : (MAX_NUMBER ≤ count) → ⊥ = λ le. place (inr (inr le)) in
+      let no : (MAX_NEXT < version.next_file + 2) → ⊥ = λ lt. place (inr lt) in
       omega (arith, no)
 
   next_least : 3 < version.next_file
@@ -299,14 +295,14 @@ module _ (version : StoreVersion) (is : IsVersion version) (count : ℕ) (line :
   flush_change_is = record {
     next_file = next_few;
     floor = is.floor;
-    flushed = omega (arith, count_few);
+    flushed = few;
     epoch = is.epoch;
     ids = is.ids;
     logs_gone = (omega arith, All-nil _);
     logs_added = (
       omega arith,
       All-cons IsLogLine begun []
-          (omega (arith, next_few), (omega arith, omega (arith, count_few))) (All-nil IsLogLine),
+          (omega (arith, next_few), (omega arith, omega (arith, few))) (All-nil IsLogLine),
     );
     tables_gone = (omega arith, All-nil _);
     tables_added = (omega arith, All-cons IsTableLine line [] next.proper (All-nil IsTableLine));

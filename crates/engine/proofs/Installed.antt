@@ -189,7 +189,7 @@ edit_is files line named count edit same counted is =
     ∙ ap (λ (n : ℕ). flush_change (known_version files).version n line) counted
 
 module _ (files : StoreFiles) (u : AreUsableFiles files) (line : TableLine)
-    (place : LacksPlace (known_version files).version (batch_count files) → ⊥)
+    (place : LacksPlace (known_version files).version → ⊥)
     (next : IsNextTable (known_version files).version line) (file : ℕ)
     (at : file ≡ (known_version files).version.next_file + 1) (edit : Change)
     (is : edit ≡ flush_change (known_version files).version (batch_count files) line) where
@@ -204,8 +204,10 @@ module _ (files : StoreFiles) (u : AreUsableFiles files) (line : TableLine)
 
   fits_flush : IsFit version flush_of × IsChange flush_of
   fits_flush = (
-    flush_fit version u.version (batch_count files) line place u.numbers.flushed_count next,
-    flush_change_is version u.version (batch_count files) line place u.numbers.flushed_count next,
+    flush_fit version u.version (batch_count files) line place u.numbers.few u.numbers.flushed_count
+        next,
+    flush_change_is version u.version (batch_count files) line place u.numbers.few
+        u.numbers.flushed_count next,
   )
 
   after_is : EditsKeepVersions → IsVersion after

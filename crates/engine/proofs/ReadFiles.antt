@@ -2,6 +2,7 @@
 use Rattle.std.proofs.Common.{◌≡◌, ◌≢◌, ◌⊎◌, ◌↔◌, ℕ, suc, ◌+◌, ◌-◌, ◌≤◌, List, [], All, Contains}
 use Rattle.std.proofs.Common.{Option, Some, ap, arith, drop, inl, inr, length, refl, subst, sym, ◌∙◌}
 use Rattle.std.specs.Prelude.{IsSomeAnd}
+use Rattle.std.proofs.lemmas.Bool.{cases_eq}
 use Rattle.std.proofs.lemmas.List.{length-drop}
 use Rattle.std.proofs.lemmas.List.Elements.{All-contains, All-contains_itself, All-drop, All-weaker}
 use Rattle.kv_types.specs.{BatchContent, Entry, IsBatch}
@@ -17,7 +18,7 @@ use Rattle.manifest.specs.Holds.{SparesOthers}
 use Rattle.manifest.specs.Lawful.{IsGiven}
 use Rattle.manifest.specs.{HeldVersionStays, IsSlotFile, IsVersion, ManifestHolds, NodeVersion}
 use Rattle.manifest.specs.{IsNotCreated, ManifestHasFailed, ManifestRepresents, StoreVersion}
-use Rattle.manifest.specs.{other_slot, version_of}
+use Rattle.manifest.specs.{SlotsRead, other_slot, version_of}
 use Rattle.engine.specs.declared.error.EngineError.{EngineError}
 use Rattle.engine.specs.declared.error.EngineError.TheVariants as engine
 use Rattle.engine.specs.Errors.{IsEnd}
@@ -31,12 +32,13 @@ use Rattle.engine.specs.StoreFiles.{AreOrderedNumbers}
 use Rattle.engine.specs.OpenFiles.{FilesAreRead, FilesOpenAs, OpeningRefusal, known_facts}
 use Rattle.engine.specs.OpenFiles.{known_version}
 use Rattle.engine.specs.Openings.{AreParts, PartsHold, WereParts}
-use Rattle.engine.specs.Settling.{SlotSettles}
+use Rattle.engine.specs.Settling.{IsReadAlike, SlotSettles}
 use Rattle.engine.specs.StoreFiles.{FilesRepresent, store_of_version}
 use Rattle.engine.proofs.FilesApart.{given_no_slot}
 use Rattle.engine.proofs.NamedFiles.{logs_same, tables_same}
 use Rattle.engine.proofs.Parts.{held_count}
 use Rattle.engine.proofs.ReadParts.{begins_at}
+use Rattle.engine.proofs.Settles.{settled_alike}
 
 -- ---- slots
 
@@ -49,38 +51,20 @@ settled_same old new file bytes sure (inr synced) =
     let same : bytes ≡ synced.0 = cc in
     synced.2 ∙ ap (λ (b : List ℕ). Kept b b []) (sym same) ∙ sym sure
 
--- no log has the file of a slot
-slot_no_log : (version : StoreVersion) → IsVersion version → (slot : ℕ) → IsSlotFile slot
-    → All (λ (line : LogLine). line.file ≢ slot) version.logs
-slot_no_log version is slot one =
-    All-weaker (λ (line : LogLine). IsGiven version line.file)
-    (λ (line : LogLine). line.file ≢ slot)
-    (λ line given same. given_no_slot version line.file given slot one (sym same)) version.logs
-    is.lines.log_files
-
--- the slots that a manifest holds stay when the files beside logs settle
+-- the slots that a manifest holds stay when the files settle
 pub slots_stay : HeldVersionStays → (old new : State) (manifest : Manifest) (named : NodeVersion)
-    (version : StoreVersion) → IsVersion version → ManifestHolds old manifest named
-    → ((file : ℕ) → All (λ (line : LogLine). line.file ≢ file) version.logs
-    → SlotSettles old new file) → ManifestHolds new manifest named
-slots_stay stays old new manifest named version is h settle = stays old new manifest named h same
+    → ManifestHolds old manifest named → ((file : ℕ) → SlotSettles old new file)
+    → ManifestHolds new manifest named
+slots_stay stays old new manifest named h settle = stays old new manifest named h same
   where
     counting : new manifest.slots.slot ≡ old manifest.slots.slot
     counting = settled_same old new manifest.slots.slot h.records.log.bytes
         (subst (λ (f : ℕ). IsDurableAs old f h.records.log.bytes) h.records.at.in_file
-        h.records.log.sure) (settle manifest.slots.slot
-        (slot_no_log version is manifest.slots.slot h.records.one))
-
-    other_one : IsSlotFile (other_slot manifest.slots.slot)
-    other_one = elim h.records.one as (λ _. IsSlotFile (other_slot manifest.slots.slot)) [
-      | inl one ↦ inr (omega (arith, one))
-      | inr two ↦ inl (omega (arith, two))
-    ]
+        h.records.log.sure) (settle manifest.slots.slot)
 
     other : new (other_slot manifest.slots.slot) ≡ old (other_slot manifest.slots.slot)
     other = settled_same old new (other_slot manifest.slots.slot) h.records.other_bytes
-        h.records.other_sure (settle (other_slot manifest.slots.slot)
-        (slot_no_log version is (other_slot manifest.slots.slot) other_one))
+        h.records.other_sure (settle (other_slot manifest.slots.slot))
 
     one_of : (slot : ℕ) → IsSlotFile slot
         → (slot ≡ manifest.slots.slot) ⊎ (slot ≡ other_slot manifest.slots.slot)
@@ -100,6 +84,21 @@ slots_stay stays old new manifest named version is h settle = stays old new mani
       | inl here ↦ subst (λ (f : ℕ). new f ≡ old f) (sym here) counting
       | inr there ↦ subst (λ (f : ℕ). new f ≡ old f) (sym there) other
     ]
+
+-- a file reads as before: a slot behind the manifest's opening, and each behind the parts'
+pub read_alike : (s0 s1 s2 : State) → SlotsRead s1 (contents s0) → SparesOthers s0 s1
+    → ((file : ℕ) → SlotSettles s1 s2 file) → IsReadAlike s0 s2
+read_alike s0 s1 s2 slots spares settle file =
+    settled_alike s1 s2 file (settle file) ∙ (elim (cases_eq file 1) [
+      | inl one ↦ slots file (inl one)
+      | inr not_one ↦ elim (cases_eq file 2) [
+        | inl two ↦ slots file (inr two)
+        | inr not_two ↦ ap seen (spares file (λ is. elim is [
+          | inl one ↦ absurd (not_one one)
+          | inr two ↦ absurd (not_two two)
+        ]))
+      ]
+    ])
 
 -- ---- contents before the slots were synced
 

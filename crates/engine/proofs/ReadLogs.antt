@@ -3,6 +3,7 @@ use Rattle.std.proofs.Common.{◌≡◌, ◌≢◌, ◌↔◌, ℕ, suc, ◌+◌
 use Rattle.std.proofs.Common.{inl, inr, refl, sym, ap, subst, ◌∙◌, arith, length-append, map}
 use Rattle.std.proofs.Common.{drop, drop-cons, take}
 use Rattle.std.specs.Prelude.{All, slice_index_or}
+use Rattle.std.proofs.lemmas.Bool.{cases_eq}
 use Rattle.std.proofs.lemmas.Bool.Decides.{eqb_tells}
 use Rattle.std.proofs.lemmas.List.{append_assoc, map-append, take-append-drop, take_more}
 use Rattle.std.proofs.lemmas.List.Elements.{All-append, All-cons, All-head, All-nil, All-push, All-same}
@@ -25,9 +26,10 @@ use Rattle.engine.specs.Files.{IsLog}
 use Rattle.engine.specs.KeepingLemmas.{kept_as, kept_behind, neither, unchanged}
 use Rattle.engine.specs.Layout.{records_from}
 use Rattle.engine.specs.Replaying.{AreInLine, AreReadLogs, IsOpenedBehind, IsReadLog, TakesBatches}
-use Rattle.engine.specs.Settling.{AddsNothing}
+use Rattle.engine.specs.Settling.{AddsNothing, SlotSettles}
 use Rattle.engine.specs.Stores.{IsNumberedTo}
 use Rattle.engine.proofs.Entries.{none_numbered}
+use Rattle.engine.proofs.Settles.{settles_twice}
 use Rattle.engine.proofs.Records.{same_batches, stands_once}
 use Rattle.engine.proofs.Parts.{all_before, all_behind, joined_push, kept_beside, part_ends, parted_in}
 use Rattle.engine.proofs.Parts.{parted_push}
@@ -196,6 +198,7 @@ pub none_read : (disk : State) (before flushed : ℕ) (logs : List BatchLog) (me
 none_read disk before flushed logs memtable none empty = record {
   batches = [];
   had = refl;
+  settles = λ file. inl refl;
   each = All-nil IsBatch;
   holds = subst (λ (l : List BatchLog). AreParted (HoldsPart disk) (suc before) l []) (sym none) refl;
   counted = omega arith;
@@ -286,6 +289,11 @@ module _ (passed : List LogLine) (line : LogLine) (before count : ℕ) (logs : L
           batches = read.batches ++ it.here;
           had = parted_push (HasPart (contents old)) (suc before) passed line read.batches it.here
               read.had (first, stood);
+          settles = λ file. settles_twice old mid new file (read.settles file)
+              (elim (cases_eq file line.file) [
+                | inl is ↦ subst (λ (f : ℕ). SlotSettles mid new f) (sym is) it.settles
+                | inr apart ↦ inl (others file apart)
+              ]);
           each = All-append IsBatch read.batches it.here read.each it.each;
           holds = subst (λ (l : List BatchLog).
               AreParted (HoldsPart new) (suc before) l (read.batches ++ it.here)) (sym pushed)

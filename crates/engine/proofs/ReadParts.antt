@@ -23,6 +23,7 @@ use Rattle.engine.specs.Settling.{AreSynced, AreThere, SlotSettles, SparesAllBut
 use Rattle.engine.specs.StoreFiles.{durably}
 use Rattle.engine.proofs.FilesApart.{log_no_table}
 use Rattle.engine.proofs.NamedFiles.{logs_same, tables_same}
+use Rattle.engine.proofs.Settles.{settled_alike, settles_twice}
 
 -- ---- logs
 
@@ -81,14 +82,9 @@ tables_are_there disk (line ∷ lines) (table ∷ tables) h =
 
 -- ---- the states of an opening: after the syncs of tables, of logs, and now
 
-settled_reads : (old new : State) (file : ℕ) → SlotSettles old new file
-    → contents new file ≡ contents old file
-settled_reads old new file (inl same) = ap seen same
-settled_reads old new file (inr synced) = ap seen synced.2 ∙ sym synced.1
-
 pub synced_reads : (old new : State) (lines : List TableLine) → AreSynced old new lines
     → (file : ℕ) → contents new file ≡ contents old file
-synced_reads old new lines synced file = settled_reads old new file (synced.each file)
+synced_reads old new lines synced file = settled_alike old new file (synced.each file)
 
 module _ (version : StoreVersion) (is : IsVersion version) (s1 s2 s3 : State)
     (synced : AreSynced s1 s2 version.tables) (others : SparesAllBut version.logs s2 s3) where
@@ -148,11 +144,9 @@ module _ (version : StoreVersion) (is : IsVersion version) (s1 s2 s3 : State)
       synced.named has in
       table_stays line has ∙ one.2 ∙ sym (ap durable one.1)
 
-  pub others_settle : (s4 : State) → IsSame s3 s4 → (file : ℕ)
-      → All (λ (line : LogLine). line.file ≢ file) version.logs → SlotSettles s1 s4 file
-  others_settle s4 same file apart =
-      let stays : s4 file ≡ s2 file = same file ∙ others file apart in
-      elim (synced.each file) as (λ _. SlotSettles s1 s4 file) [
-        | inl was ↦ inl (stays ∙ was)
-        | inr now ↦ inr (now.0, now.1, stays ∙ now.2)
-      ]
+-- each file settles
+pub parts_settle : (s1 s2 s3 s4 : State) → ((file : ℕ) → SlotSettles s1 s2 file)
+    → ((file : ℕ) → SlotSettles s2 s3 file) → IsSame s3 s4 → (file : ℕ) → SlotSettles s1 s4 file
+parts_settle s1 s2 s3 s4 tables logs same file =
+    settles_twice s1 s3 s4 file (settles_twice s1 s2 s3 file (tables file) (logs file))
+    (inl (same file))

@@ -14,7 +14,8 @@ use Rattle.engine.specs.Errors.{EndsEngine, FailsDevice, IsEnd, IsEngineExternal
 use Rattle.engine.specs.Tending.{TellsWork}
 use Rattle.manifest.specs.{IsNotCreated}
 use Rattle.engine.specs.Files.{Facts, first_facts}
-use Rattle.engine.specs.StoreFiles.{FilesRepresent, IsDamaged, IsOneOf, OpensAs, WereMeant}
+use Rattle.engine.specs.StoreFiles.{FilesRepresent, HasFirstFiles, IsDamaged, IsOneOf, OpensAs}
+use Rattle.engine.specs.StoreFiles.{WereMeant}
 
 -- ---- which reads are refused
 
@@ -86,7 +87,7 @@ abbrev pub RefusedByDevice : {D : Type 0} {g : Ghosts D} → Result (Engine D g)
 RefusedByDevice result = IsErrAnd result (λ refused. refused.0 ≡ engine.Disk)
 
 -- a store without batches, of node x in the first configuration, with this limit for logs; its disk
--- has no file but the slots and its log
+-- has the files of a new store, and no other
 pub record IsNewEngine {D : Type 0} {g : Ghosts D} (x : ℕ) (ids : List ℕ) (log_limit : ℕ)
     (engine : Engine D g) : Type 0 where
   pub works : HasEnded engine → ⊥
@@ -96,7 +97,7 @@ pub record IsNewEngine {D : Type 0} {g : Ghosts D} (x : ℕ) (ids : List ℕ) (l
     committed = 0;
     log_limit = log_limit;
   }
-  pub alone : HasOnlyFiles g engine (1 ∷ 2 ∷ 3 ∷ [])
+  pub files : g.is_honest (engine_disk engine) → HasFirstFiles (g.state (engine_disk engine)) x ids
 
 -- an opened engine has this limit for logs, and knows only the batches below the floor to be
 -- committed; its disk has no file that its version does not name

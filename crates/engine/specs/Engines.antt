@@ -32,6 +32,10 @@ module _ {D : Type 0} {g : Ghosts D} where
   abbrev pub facts_of : Engine D g → Facts
   facts_of engine = known_facts engine.store
 
+  -- the facts that a tend of it may leave: it merges nothing and raises no floor, so they stay
+  abbrev pub raised_facts : Engine D g → Facts
+  raised_facts engine = facts_of engine
+
   abbrev pub look_ups : Engine D g → LookUps
   look_ups engine = record {
     facts = facts_of engine;

@@ -25,7 +25,7 @@ pub use Rattle.engine.specs.Engines.{AreOrdered, HasEnded, HasLongFile, HasOnlyF
 pub use Rattle.engine.specs.Engines.{HasNearlyFullLog, IsNearlyFull}
 pub use Rattle.engine.specs.Engines.{EngineWasMeant, LookUps, EngineReads, engine_disk}
 pub use Rattle.engine.specs.Engines.{engine_files, facts_of}
-pub use Rattle.engine.specs.Engines.{files_of_tend, look_ups, newest_log_file}
+pub use Rattle.engine.specs.Engines.{files_of_tend, look_ups, newest_log_file, raised_facts}
 pub use Rattle.engine.specs.Engines.{table_count, with_one_more, with_committed}
 pub use Rattle.engine.specs.Errors.{EndsEngine, FailsDevice, IsEnd, IsEngineExternal}
 pub use Rattle.engine.specs.Files.{Facts, IsOwned, first_facts}

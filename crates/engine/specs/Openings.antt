@@ -1,5 +1,5 @@
 -- What an opening has read of the files of a store, before the files that no version names are removed.
-use Rattle.std.specs.Prelude.{◌≡◌, ◌≢◌, ℕ, ◌-◌, List, ◌∷◌, All}
+use Rattle.std.specs.Prelude.{◌≡◌, ℕ, ◌-◌, List, ◌∷◌, All}
 use Rattle.kv_types.specs.{BatchContent}
 use Rattle.disk.specs.{IsDurable, State, contents}
 use Rattle.store_model.specs.{LevelTable}
@@ -27,12 +27,12 @@ pub record AreParts (version : StoreVersion) (parts : ReadParts) : Type 0 where
   pub numbers : AreOrderedNumbers version (first_number parts.logs - 1)
       (next_number parts.logs - 1)
 
--- The files had the batches of the logs, and tables that fit their lines. Of the other files none has
--- changed, but for a sync.
+-- The files had the batches of the logs, and tables that fit their lines. No file has changed, but for
+-- a sync.
 pub record WereParts (old new : State) (version : StoreVersion) (parts : ReadParts) : Type 0 where
   pub had : AreReplayed (contents old) version.logs version.flushed parts.logs parts.memtable
   pub fits : All (FileFits (contents old)) version.tables
-  pub others : (file : ℕ) → All (λ line. line.file ≢ file) version.logs → SlotSettles old new file
+  pub each : (file : ℕ) → SlotSettles old new file
 
 -- the parts hold these batches and these tables, which the disk durably has
 pub record PartsHold (disk : State) (version : StoreVersion) (first : ℕ)

@@ -12,6 +12,7 @@ use Rattle.engine.specs.declared.batch_logs.BatchLog.{BatchLog}
 use Rattle.engine.specs.BatchLogs.{AreJoined, AreParted, HaveBatches, HoldsPart, IsWorking, line_of}
 use Rattle.engine.specs.Files.{IsLog}
 use Rattle.engine.specs.Layout.{batch_record, records_from}
+use Rattle.engine.specs.Settling.{SlotSettles}
 use Rattle.engine.specs.Stores.{IsNumberedTo}
 
 -- ---- one record, and the records of one log
@@ -41,11 +42,12 @@ pub record AreTaken (records : List (List ℕ)) (before flushed : ℕ) (old new 
     pub each : All IsBatch batches
     pub entries : TakesBatches old new before flushed batches
 
--- the file had batches behind this number, its log holds them, and the memtable took them
+-- the file had batches behind this number and settles, its log holds them, and the memtable took them
 pub record IsReadLog (old new : State) (file before flushed : ℕ) (one : BatchLog)
     (was now : Memtable) : Type 0 where
   pub here : List BatchContent
   pub had : IsLog (seen (old file)) (records_from (suc before) here)
+  pub settles : SlotSettles old new file
   pub each : All IsBatch here
   pub holds : HoldsPart new (suc before) one here
   pub entries : TakesBatches was now before flushed here
@@ -66,11 +68,12 @@ AreOfDifferentFiles lines = (before behind : List LogLine) (line : LogLine) →
     lines ≡ before ++ line ∷ behind → All (λ other. other.file ≢ line.file) before
 
 -- the files of the lines had batches behind this number, the logs hold them, and the memtable has
--- their entries
+-- their entries; each file settles
 pub record AreReadLogs (old new : State) (lines : List LogLine) (before flushed count : ℕ)
     (logs : List BatchLog) (memtable : Memtable) : Type 0 where
   pub batches : List BatchContent
   pub had : HaveBatches (contents old) (suc before) lines batches
+  pub settles : (file : ℕ) → SlotSettles old new file
   pub each : All IsBatch batches
   pub holds : AreParted (HoldsPart new) (suc before) logs batches
   pub counted : count ≡ before + length batches

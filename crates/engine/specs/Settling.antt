@@ -25,10 +25,19 @@ pub record AreSynced (old new : State) (lines : List TableLine) : Type 0 where
       × IsDurableAs new line.file bytes) lines
   pub each : (file : ℕ) → SlotSettles old new file
 
+-- each file reads as before
+abbrev pub IsReadAlike : State → State → Type 0
+IsReadAlike old new = (file : ℕ) → seen (new file) ≡ seen (old file)
+
 -- the files but those of these logs are as they were
 abbrev pub SparesAllBut : List LogLine → State → State → Type 0
 SparesAllBut lines old new =
     (file : ℕ) → All (λ line. line.file ≢ file) lines → new file ≡ old file
+
+-- the files of these logs settle, and the others are as they were
+pub record LogsSettle (lines : List LogLine) (old new : State) : Type 0 where
+  pub others : SparesAllBut lines old new
+  pub each : (file : ℕ) → SlotSettles old new file
 
 -- the files of these lines exist
 abbrev pub AreThere : State → List TableLine → Type 0
@@ -47,3 +56,12 @@ AreLeftOf kept disk left = (file : ℕ) → Contains kept file → IsFileOutcome
 -- no other file exists
 abbrev pub AreAlone : List ℕ → State → Type 0
 AreAlone kept disk = (file : ℕ) → (Contains kept file → ⊥) → IsNone (seen (disk file))
+
+-- these files read as before
+abbrev pub AreReadAlike : List ℕ → State → State → Type 0
+AreReadAlike kept old new = (file : ℕ) → Contains kept file → seen (new file) ≡ seen (old file)
+
+-- these files read as before, and the others were removed
+pub record AreSwept (kept : List ℕ) (old new : State) : Type 0 where
+  pub alike : AreReadAlike kept old new
+  pub alone : AreAlone kept new

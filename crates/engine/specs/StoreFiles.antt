@@ -13,11 +13,13 @@ use Rattle.store_model.specs.{StoreFinds}
 use Rattle.store_model.specs.{IsFlush}
 use Rattle.manifest.specs.declared.LogLine.{LogLine}
 use Rattle.manifest.specs.declared.TableLine.{TableLine}
-use Rattle.manifest.specs.{IsNotCreated, IsSlotFile, ManifestRepresents, NodeVersion, StoreVersion}
+use Rattle.record_log.specs.{IsDurableAs}
+use Rattle.manifest.specs.{HasFirstSlots, IsNotCreated, IsSlotFile, ManifestRepresents, NodeVersion, StoreVersion}
 use Rattle.manifest.specs.{Change, changed, first_version}
 use Rattle.engine.specs.Files.{Facts, IsLog}
 use Rattle.engine.specs.BatchLogs.{HaveBatches}
 use Rattle.engine.specs.LevelTables.{AreTablesOf, FileFits, IsTableAsMeant, IsTableOf}
+use Rattle.engine.specs.Settling.{AreAlone}
 
 -- how many batches come before the newest log
 abbrev pub before_newest : List LogLine → ℕ
@@ -149,6 +151,13 @@ FirstFilesRepresent =
     (id : ℕ) (ids : List ℕ) (left : Contents) → ManifestRepresents (first_version id ids) left
     → IsLog (left 3) []
     → FilesRepresent (record { id = id; epoch = 0; ids = ids; floor = 0; kept = 0 }) [] left
+
+-- a disk durably has the files of a new store, and no other: the first slots of its manifest, and a
+-- log without records
+pub record HasFirstFiles (disk : State) (id : ℕ) (ids : List ℕ) : Type 0 where
+  pub slots : HasFirstSlots disk id ids
+  pub log : IsDurableAs disk 3 (0 ∷ [])
+  pub alone : AreAlone (1 ∷ 2 ∷ 3 ∷ []) disk
 
 -- ---- a flush
 

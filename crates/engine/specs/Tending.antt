@@ -4,9 +4,10 @@ use Rattle.kv_types.specs.declared.bounds.TheConstants.{MAX_NUMBER}
 use Rattle.kv_types.specs.{BatchContent}
 use Rattle.disk.specs.declared.Disk.{Ghosts}
 use Rattle.disk.specs.{IsSameBut, State}
+use Rattle.manifest.specs.declared.line.TheConstants.{MAX_NEXT}
 use Rattle.manifest.specs.declared.TableLine.{TableLine}
-use Rattle.manifest.specs.{HasFullSlot, HasLongSlot, StoreVersion, counting_file, generation_of}
-use Rattle.manifest.specs.{node_version_after, spare_file}
+use Rattle.manifest.specs.{HasFullSlot, HasLongSlot, HasSameSlots, StoreVersion, counting_file}
+use Rattle.manifest.specs.{generation_of, node_version_after, spare_file}
 use Rattle.engine.specs.BatchLogs.{newest_length}
 use Rattle.engine.specs.declared.flushing.Flushed.{Flushed}
 use Rattle.engine.specs.declared.store_files.StoreFiles.{StoreFiles}
@@ -28,12 +29,12 @@ RewriteIsDue files = HasLongSlot files.manifest
 abbrev pub FlushIsDue : ℕ → StoreFiles → Type 0
 FlushIsDue limit files = (limit < newest_length files.logs) × HasEntry files.memtable
 
--- A flush lacks a place in the version: there are as many tables or logs as there may be, or no
--- number is left for its files or for the first batch of its log.
-abbrev pub LacksPlace : StoreVersion → ℕ → Type 0
-LacksPlace version count =
+-- A flush lacks a place in the version: there are as many tables or logs as there may be, or fewer
+-- than two numbers are left for its files.
+abbrev pub LacksPlace : StoreVersion → Type 0
+LacksPlace version =
     ((4096 ≤ length version.tables) ⊎ (4096 ≤ length version.logs))
-    ⊎ ((MAX_NUMBER < version.next_file + 2) ⊎ (MAX_NUMBER ≤ count))
+    ⊎ (MAX_NEXT < version.next_file + 2)
 
 -- the files that a tend may change: the slots of the manifest, the next file, and the one behind it
 abbrev pub tended_files : StoreFiles → List ℕ
@@ -52,10 +53,11 @@ IsSameBeside files old new = (file : ℕ) → (Contains files file → ⊥) → 
 abbrev pub IsNextTable : StoreVersion → TableLine → Type 0
 IsNextTable version = IsNewLine version.next_file
 
--- the version is the one after the edit of a flush with this table
-abbrev pub IsFlushedBy : TableLine → StoreFiles → StoreFiles → Type 0
-IsFlushedBy line old new = known_version new ≡ node_version_after (known_version old)
-    (flush_change (known_version old).version (batch_count old) line)
+-- the version is the one after the edit of a flush with this table, recorded in the slot that counts
+pub record IsFlushedBy (line : TableLine) (old new : StoreFiles) : Type 0 where
+  pub version : known_version new ≡ node_version_after (known_version old)
+      (flush_change (known_version old).version (batch_count old) line)
+  pub slots : HasSameSlots old.manifest new.manifest
 
 -- The entries in memory are durably in a table of level 0, in the next file, which is open. No other
 -- file changed.
@@ -89,7 +91,7 @@ TellsFlush old new tended.Idle = ⊥
 TellsFlush old new tended.Worked =
     (line : TableLine) × IsNextTable (known_version old).version line × IsFlushedBy line old new
 TellsFlush old new tended.Full =
-    (LacksPlace (known_version old).version (batch_count old) ⊎ IsTooLarge old.memtable)
+    (LacksPlace (known_version old).version ⊎ IsTooLarge old.memtable)
     × (new ≡ old)
 
 -- a tend does the first that is due

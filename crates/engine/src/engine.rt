@@ -61,11 +61,13 @@ impl<D: Disk + Drop> Engine<D> {
     ghost use Rattle.engine.specs.Calls.{TellsTend, disk_after};
     ghost use Rattle.engine.specs.Engines.{AreOrdered, EngineHolds, EngineReads, HasEnded};
     ghost use Rattle.engine.specs.Engines.{EngineWasMeant, HasNearlyFullLog, IsNearlyFull};
-    ghost use Rattle.engine.specs.Engines.{engine_disk, facts_of};
-    ghost use Rattle.engine.specs.Engines.{files_of_tend, look_ups, newest_log_file};
+    ghost use Rattle.engine.specs.Engines.{engine_disk, engine_files, facts_of};
+    ghost use Rattle.engine.specs.Engines.{files_of_tend, look_ups};
+    ghost use Rattle.engine.specs.Engines.{newest_log_file, raised_facts};
     ghost use Rattle.engine.specs.Engines.{table_count, with_one_more, with_committed};
     ghost use Rattle.engine.specs.Errors.{IsEngineExternal};
     ghost use Rattle.engine.specs.Files.{Facts, IsOwned};
+    ghost use Rattle.engine.specs.Settling.{AreReadAlike};
     ghost use Rattle.engine.specs.StoreFiles.{FilesRepresent, IsOneOf, WereOneOf};
     ghost use Rattle.engine.specs.Tending.{IsSameBeside};
 
@@ -119,6 +121,9 @@ impl<D: Disk + Drop> Engine<D> {
             (list' : List BatchContent) → D.is_honest disk →
             OnlyLeaves (IsOneOf facts list facts' list') (D.state disk) →
             AlwaysLeaves D.Disk disk (disk_after result) (IsOneOf facts list facts' list') }
+
+        ensures alike { D.is_honest disk → IfOk result (λ engine. AreReadAlike (engine_files engine)
+            (D.state disk) (D.state (engine_disk engine))) }
 
         // What is refused for its files is left as it was.
         ensures still { IfErr result (λ refused. (IsEngineExternal refused.0 → ⊥) →
@@ -286,10 +291,10 @@ impl<D: Disk + Drop> Engine<D> {
         ensures work { (list : List BatchContent) → EngineReads D.Disk self.old list →
             MatchResult result (TellsTend self.old self.new) IsEngineExternal }
 
-        // A crash at any moment since the call began leaves files of the same store.
+        // A crash at any moment since the call began leaves files of the same list.
         ensures any_moment { (list : List BatchContent) → EngineHolds D.Disk self.old list →
-            AlwaysLeaves D.Disk (engine_disk self.old) (engine_disk self.new)
-            (FilesRepresent (facts_of self.old) list) }
+            IsOldOrNewSince D.Disk (engine_disk self.old) (engine_disk self.new)
+            (facts_of self.old) list (raised_facts self.old) list }
     {
         // laws: what a crash leaves of the files that are named, and what a disk reads
         held_versions_are_left();

@@ -1,7 +1,6 @@
 // A flush: the entries in memory become a table of level 0, and a new log takes the next batches.
 ghost use Rattle.std.specs.Prelude.{◌≡◌, ◌≢◌, ◌↔◌, ◌≤◌, List, IfErr, IfOk, IsTrue, MatchOption};
 ghost use Rattle.std.specs.Prelude.{MatchResult, OnOk};
-ghost use Rattle.kv_types.specs.declared.bounds.TheConstants.{MAX_NUMBER};
 ghost use Rattle.kv_types.specs.{BatchContent};
 ghost use Rattle.disk.specs.{AlwaysLeaves, IsSameBut, KeepsDisk};
 ghost use Rattle.manifest.specs.{HasFullSlot, IsChange, IsFit, IsVersion};
@@ -22,11 +21,10 @@ use crate::table_writing::write_table;
 use disk::Disk;
 use disk::laws::{durable_file_is_left, durable_is_left};
 use kv_types::Number;
-use kv_types::bounds::MAX_NUMBER;
 use manifest::laws::{
     edits_keep_versions, held_versions_are_left, manifest_has_slots, slots_reach_gates,
 };
-use manifest::{LogLine, StoreVersion, TableLine, VersionEdit};
+use manifest::{LogLine, MAX_NEXT, StoreVersion, TableLine, VersionEdit};
 use memtable::Memtable;
 use merge_iter::Cursor;
 use std::alloc::{AllocError, Global};
@@ -51,14 +49,11 @@ pub(crate) fn has_entries(memtable: &Memtable) -> Result<bool, EngineError>
     Ok(cursor.valid())
 }
 
-/// Whether a flush lacks a place in the version, where there are so many batches.
-pub(crate) fn lacks_place(version: &StoreVersion, count: Number) -> bool
-    ensures { IsTrue result ↔ LacksPlace version.now.version count }
+/// Whether a flush lacks a place in the version.
+pub(crate) fn lacks_place(version: &StoreVersion) -> bool
+    ensures { IsTrue result ↔ LacksPlace version.now.version }
 {
-    version.tables.len() >= 4096
-        || version.logs.len() >= 4096
-        || version.next_file > MAX_NUMBER - 2
-        || count.get() >= MAX_NUMBER
+    version.tables.len() >= 4096 || version.logs.len() >= 4096 || version.next_file > MAX_NEXT - 2
 }
 
 // The edit of a flush, where there are so many batches: a table more, and a log for the next ones.
@@ -68,7 +63,7 @@ fn flush_edit(
     count: Number,
     line: TableLine,
 ) -> Result<VersionEdit, AllocError>
-    requires place { LacksPlace version.now.version count → ⊥ }
+    requires place { LacksPlace version.now.version → ⊥ }
     requires flushed { version.now.version.flushed ≤ count }
     requires next { IsNextTable version.now.version line }
     ensures edit { IfOk result (λ edit. edit ≡ flush_change version.now.version count line) }
@@ -104,6 +99,7 @@ impl StoreFiles {
     ) -> Result<Option<Flushed>, EngineError>
         requires usable { AreUsableFiles self.now }
         requires some { HasEntry self.now.memtable }
+        requires place { LacksPlace (known_version self.now).version → ⊥ }
         ensures kept { KeepsDisk D.Disk disk.old disk.new (FailsDevice result)
             (TendMayFail D.Disk disk.old self.now)
             (IsSameBut (known_version self.now).version.next_file) }
@@ -143,7 +139,7 @@ impl StoreFiles {
         made: Flushed,
     ) -> Result<(), EngineError>
         requires usable { AreUsableFiles self.old }
-        requires place { LacksPlace (known_version self.old).version (batch_count self.old) → ⊥ }
+        requires place { LacksPlace (known_version self.old).version → ⊥ }
         requires next { IsNextTable (known_version self.old).version made.line }
         requires opened { made.table.line ≡ made.line }
         ensures kept { KeepsDisk D.Disk disk.old disk.new (FailsDevice result)

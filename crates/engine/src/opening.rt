@@ -1,5 +1,5 @@
 //! Creating and opening the files of a store.
-ghost use Rattle.std.specs.Prelude.{◌≡◌, ◌↔◌, ◌+◌, ◌-◌, [], ◌∷◌, IsTrue, ℕ, List, length, IfOk};
+ghost use Rattle.std.specs.Prelude.{◌≡◌, ◌↔◌, ◌+◌, ◌-◌, [], IsTrue, ℕ, List, length, IfOk, OnOk};
 ghost use Rattle.std.specs.Prelude.{IfErr, MatchResult};
 ghost use Rattle.kv_types.specs.{BatchContent};
 ghost use Rattle.disk.specs.{AlwaysLeaves, IsStill, KeepsDisk, OnlyLeaves, State, contents};
@@ -7,7 +7,7 @@ ghost use Rattle.engine.specs.Errors.{FailsDevice, IsEnd, IsEngineExternal};
 ghost use Rattle.engine.specs.Files.{Facts, IsOwned, first_facts};
 ghost use Rattle.engine.specs.StoreFiles.{FilesRepresent, IsOneOf, before_newest};
 ghost use Rattle.engine.specs.OpenFiles.{AreBatchesOf, AreUsableFiles};
-ghost use Rattle.engine.specs.StoreFiles.{AreOrderedNumbers};
+ghost use Rattle.engine.specs.StoreFiles.{AreOrderedNumbers, HasFirstFiles};
 ghost use Rattle.engine.specs.OpenFiles.{FilesAreRead, FilesHold, FilesOpenAs, OpeningRefusal};
 ghost use Rattle.engine.specs.OpenFiles.{batch_count, known_facts, known_version};
 ghost use Rattle.engine.specs.Openings.{AreParts, PartsHold, PartsWereMeant, WereParts, kept_files};
@@ -15,7 +15,7 @@ ghost use Rattle.engine.specs.LevelTables.{AreTablesOf, IsTableAsMeant};
 ghost use Rattle.engine.specs.OpenFiles.{OpensFor, WereMeantToHold, WereMeantToRead};
 ghost use Rattle.std.specs.Prelude.{All};
 ghost use Rattle.engine.specs.StoreFiles.{durably};
-ghost use Rattle.engine.specs.Settling.{AreAlone};
+ghost use Rattle.engine.specs.Settling.{AreSwept, IsReadAlike};
 ghost use Rattle.manifest.specs.{ManifestHolds};
 ghost use Rattle.store_model.specs.{LevelTable};
 
@@ -145,6 +145,8 @@ fn read_files<D: Disk>(alloc: Global, disk: &mut D) -> Result<StoreFiles, Engine
     ensures held { D.is_honest disk.old → IfOk result
         (λ files. ManifestHolds (D.state disk.new) files.manifest (known_version files)) }
     ensures usable { IfOk result AreUsableFiles }
+    ensures alike { D.is_honest disk.old →
+        OnOk result (IsReadAlike (D.state disk.old) (D.state disk.new)) }
     ensures still { IsStill D.Disk disk.old disk.new }
 {
     version_is_one(); // law: files that represent a version are of a store that was created
@@ -175,8 +177,8 @@ impl StoreFiles {
         ensures facts { IfOk result (λ files. known_facts files ≡ first_facts id config.now) }
         ensures none { IfOk result (λ files. batch_count files ≡ 0) }
         ensures usable { IfOk result AreUsableFiles }
-        ensures alone { D.is_honest disk.old → IfOk result (λ _. AreAlone (1 ∷ 2 ∷ 3 ∷ [])
-            (D.state disk.new)) }
+        ensures first { D.is_honest disk.old →
+            OnOk result (HasFirstFiles (D.state disk.new) id config.now) }
     {
         empty_represents(); // law: a store without batches represents the empty list
         held_versions_are_left(); // law: with the same slots a manifest holds the same version
@@ -215,7 +217,8 @@ impl StoreFiles {
             AlwaysLeaves D.Disk disk.old disk.new (IsOneOf facts list facts' list') }
         ensures usable { IfOk result AreUsableFiles }
         ensures swept { D.is_honest disk.old → IfOk result (λ files.
-            AreAlone (kept_files (known_version files).version) (D.state disk.new)) }
+            AreSwept (kept_files (known_version files).version) (D.state disk.old)
+            (D.state disk.new)) }
 
         // What is refused for its files is left as it was.
         ensures still { IfErr result (λ e. (IsEngineExternal e → ⊥) →

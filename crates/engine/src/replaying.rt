@@ -12,7 +12,7 @@ ghost use Rattle.engine.specs.Layout.{batch_record, records_from};
 ghost use Rattle.engine.specs.OpenFiles.{AreBatchesOf, AreOpenLogs, AreReplayed, HasReplayed};
 ghost use Rattle.engine.specs.Replaying.{AreInLine, AreOfDifferentFiles, AreReadLogs, AreTaken};
 ghost use Rattle.engine.specs.Replaying.{IsOpenedBehind, IsReadLog, IsTaken};
-ghost use Rattle.engine.specs.Settling.{AddsNothing, SparesAllBut};
+ghost use Rattle.engine.specs.Settling.{AddsNothing, LogsSettle, SparesAllBut};
 ghost use Rattle.engine.specs.Stores.{IsNumberedTo};
 
 use crate::EngineError;
@@ -168,8 +168,8 @@ pub(crate) fn open_logs<D: Disk>(
         AreReplayed (contents (D.state disk.old)) version.now.version.logs
         version.now.version.flushed it.0 it.1) }
     ensures usable { IfOk result (λ it. AreOpenLogs version.now.version.logs it.0 it.1) }
-    ensures others { D.is_honest disk.old → OnOk result
-        (SparesAllBut version.now.version.logs (D.state disk.old) (D.state disk.new)) }
+    ensures settled { D.is_honest disk.old → OnOk result
+        (LogsSettle version.now.version.logs (D.state disk.old) (D.state disk.new)) }
     ensures causes { IfErr result IsEnd }
     ensures still { IsStill D.Disk disk.old disk.new }
 {

@@ -2,6 +2,7 @@
 use Rattle.std.proofs.Common.{◌≡◌, ℕ, ◌<◌, ◌≤◌, ◌^◌, List, [], ◌∷◌, length, take, drop}
 use Rattle.std.proofs.Common.{Option, Some, None, false, refl, sym, ap, subst, ◌∙◌, inl, arith}
 use Rattle.std.proofs.Common.{append-nil}
+use Rattle.std.specs.Prelude.{IsNone}
 use Rattle.disk.specs.{State}
 use Rattle.record_log.specs.{IsClosed, Represents}
 use Rattle.record_log.specs.{IsDurableAs}
@@ -14,6 +15,11 @@ use Rattle.manifest.proofs.Rewrites.{new_slot}
 begun_closed : (was : Option (List ℕ)) → IsClosed (begun was)
 begun_closed None = (0, [], (λ e. absurd (omega (arith, e))), refl)
 begun_closed (Some bytes) = (0, drop 1 bytes, (λ e. absurd (omega (arith, e))), refl)
+
+-- of a file that was absent a creation makes the closed gate alone
+pub begun_none : (was : Option (List ℕ)) → IsNone was → begun was ≡ 0 ∷ []
+begun_none None none = refl
+begun_none (Some bytes) none = absurd cc
 
 module _ (id : ℕ) (one : List ℕ) (short : length one < 2 ^ 32) where
   abbrev behind : List ℕ

@@ -20,6 +20,7 @@ use Rattle.kv_types.specs.{text_bytes, text_at}
 use Rattle.kv_types.specs.ByteOrderLemmas.{lt_below}
 use Rattle.kv_types.specs.FieldsLemmas.{IsBytes, IsBytes-rest, Takes, bind_some, some_is}
 use Rattle.kv_types.specs.FieldsLemmas.{text_takes, text_again}
+use Rattle.manifest.specs.declared.line.TheConstants.{MAX_NEXT}
 use Rattle.manifest.specs.declared.error.ManifestError.{ManifestError}
 use Rattle.manifest.specs.declared.error.ManifestError.TheVariants as manifest
 use Rattle.manifest.specs.declared.line.TableName.{TableName}
@@ -27,7 +28,8 @@ use Rattle.manifest.specs.declared.line.TableLine.{TableLine}
 use Rattle.manifest.specs.Versions.{Change}
 use Rattle.manifest.specs.Edits.{log_line_bytes, table_name_bytes, table_line_bytes, change_text}
 use Rattle.manifest.specs.Edits.{IsTableLine, IsLogLine, IsChange, ChangesDiffer, counted_bytes}
-use Rattle.manifest.specs.Reading.{byte_field, count_field, first_field, epoch_field, level_field}
+use Rattle.manifest.specs.Reading.{byte_field, count_field, next_field, first_field, epoch_field}
+use Rattle.manifest.specs.Reading.{level_field}
 use Rattle.manifest.specs.Reading.{config_field, as_log, log_line_at, as_name, table_name_at}
 use Rattle.manifest.specs.Reading.{as_table, has_range, table_line_at, files_at, logs_at, names_at}
 use Rattle.manifest.specs.Reading.{tables_at, as_change, change_front, change_of}
@@ -84,11 +86,17 @@ whole_reads =
     only_reads (λ n. nat_le n MAX_NUMBER) (λ n is t. leb-true n MAX_NUMBER t)
     (λ n is. (omega (arith, is), le-leb n MAX_NUMBER is)) u64_reads
 
-first_reads : Reads (λ n. (1 ≤ n) × (n ≤ MAX_NUMBER)) (to_be_bytes w64) first_field
+next_reads : Reads (λ n. n ≤ MAX_NEXT) (to_be_bytes w64) next_field
+unfolding next_field
+next_reads =
+    only_reads (λ n. nat_le n MAX_NEXT) (λ n is t. leb-true n MAX_NEXT t)
+    (λ n is. (omega (arith, is), le-leb n MAX_NEXT is)) u64_reads
+
+first_reads : Reads (λ n. (1 ≤ n) × (n ≤ MAX_NEXT)) (to_be_bytes w64) first_field
 unfolding first_field
 first_reads =
     only_reads (λ n. nat_le 1 n) (λ n is t. (leb-true 1 n t, is))
-    (λ n is. (is.1, le-leb 1 n is.0)) whole_reads
+    (λ n is. (is.1, le-leb 1 n is.0)) next_reads
 
 epoch_reads : Reads (λ n. n ≤ 15) (to_be_bytes w32) epoch_field
 unfolding epoch_field
@@ -295,7 +303,7 @@ change_reads decides =
     ))
     (spelled_reads change_text grouped
     (made_reads as_change fields_of (λ c. refl) (λ x. refl)
-    (both_reads whole_reads (both_reads whole_reads (both_reads whole_reads
+    (both_reads next_reads (both_reads whole_reads (both_reads whole_reads
     (both_reads epoch_reads (both_reads (config_reads decides) (both_reads files_reads
     (both_reads logs_reads (both_reads names_reads tables_reads))))))))))
 

@@ -15,7 +15,7 @@ use Rattle.record_log.specs.{IsExternal}
 use Rattle.manifest.specs.Errors.{IsManifestExternal, error_by_log}
 use Rattle.manifest.specs.Slots.{SlotsAreLeft, SlotsRepresent, ManifestRepresents}
 use Rattle.manifest.specs.Holds.{SlotsHold}
-use Rattle.manifest.specs.Manifests.{ManifestHolds, ManifestHasFailed}
+use Rattle.manifest.specs.Manifests.{IsRewritten, ManifestHolds, ManifestHasFailed}
 use Rattle.manifest.proofs.Records.{has_old}
 use Rattle.chain_model.specs.{IsId}
 
@@ -198,19 +198,22 @@ module _ (disk : State) (manifest : Manifest) (named : NodeVersion) (text : List
   -- and after the last
   pub whole_held : (new : State) (later : Manifest) → (ManifestHasFailed later → ⊥)
       → later.version ≡ manifest.version → SlotsHold new later.slots named.id (text ∷ [])
-      → ManifestHolds new later named
+      → IsRewritten new later named
   whole_held new later works knows held =
       record {
-        works = works;
-        knows = knows ∙ h.knows;
-        id = h.id;
-        changes = w.change ∷ [];
-        some = λ e. absurd cc;
-        each = All-cons IsChange w.change [] w.is (All-nil IsChange);
-        fit = (w.fit, tt);
-        is = gives_whole;
-        records = subst (λ (t : List ℕ). SlotsHold new later.slots named.id (t ∷ [])) w.spelled
-            held;
+        holds = record {
+          works = works;
+          knows = knows ∙ h.knows;
+          id = h.id;
+          changes = w.change ∷ [];
+          some = λ e. absurd cc;
+          each = All-cons IsChange w.change [] w.is (All-nil IsChange);
+          fit = (w.fit, tt);
+          is = gives_whole;
+          records = subst (λ (t : List ℕ). SlotsHold new later.slots named.id (t ∷ [])) w.spelled
+              held;
+        };
+        one = refl;
       }
 
 -- before the first call

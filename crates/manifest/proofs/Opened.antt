@@ -2,6 +2,7 @@
 use Rattle.std.proofs.Common.{◌≡◌, ℕ, ◌<◌, List, [], ◌∷◌, take, drop, map, get_or}
 use Rattle.std.proofs.Common.{Bool, Option, Some, None, refl, sym, ap, subst, ◌∙◌, arith, inl, inr}
 use Rattle.std.specs.Prelude.{IsNone, IsSomeAnd, ◌⊎◌}
+use Rattle.std.proofs.lemmas.Bool.{cases_eq}
 use Rattle.chain_model.specs.{IsId}
 use Rattle.disk.specs.{AddsNoOutcome, Contents, IsFileOutcome, IsSame, Kept, Slot, State}
 use Rattle.disk.specs.{seen}
@@ -19,7 +20,7 @@ use Rattle.manifest.specs.Errors.{IsManifestExternal, error_by_log}
 use Rattle.manifest.specs.Versions.{NodeVersion, Change, after_all, empty}
 use Rattle.manifest.specs.Edits.{change_text}
 use Rattle.manifest.specs.Slots.{IsNotCreated, IsSlot, IsSlotFile, IsSuperseded, ManifestRepresents}
-use Rattle.manifest.specs.Slots.{SlotsRepresent, head_length, other_slot, slot_head}
+use Rattle.manifest.specs.Slots.{SlotsRead, SlotsRepresent, head_length, other_slot, slot_head}
 use Rattle.manifest.specs.Holds.{SlotsHold}
 use Rattle.manifest.specs.Heads.{NoneCounts, SlotCounts}
 use Rattle.manifest.specs.Replace.{HasGate}
@@ -292,6 +293,20 @@ module _ (it : CountingSlot) (left : Contents) (old new : State) (c : SlotCounts
         gate = other.2.1;
       })
 
+  -- and read as before
+  slots_read : SlotsRead new left
+  slots_read slot one =
+      let own = some_of (left it.slot) _ c.head in
+      let here : IsDurableAs new it.slot holds.bytes =
+      subst (λ (f : ℕ). IsDurableAs new f holds.bytes) at.in_file holds.sure in
+      let same : holds.bytes ≡ own.0 =
+      same_bytes old new it.slot own.0 holds.bytes (kept.durable it.slot c.one own.0 own.1) here adds in
+      elim (cases_eq slot it.slot) [
+        | inl is ↦ subst (λ (f : ℕ). seen (new f) ≡ left f) (sym is)
+            (ap seen here ∙ ap Some same ∙ sym own.1)
+        | inr apart ↦ ap seen (adds.others slot apart) ∙ kept.read slot one
+      ]
+
   -- so the version that they give is opened
   pub opened_is : (slots : SlotPair) (id : ℕ) (named : NodeVersion) (changes : List Change)
       → slots ≡ record {
@@ -313,4 +328,5 @@ module _ (it : CountingSlot) (left : Contents) (old new : State) (c : SlotCounts
             (subst (λ (i : ℕ). SlotsRepresent i records left) (sym of_node) slots_had);
         holds = subst (λ (r : List (List ℕ)). SlotsHold new slots id r) spelled
             (subst (λ (i : ℕ). SlotsHold new slots i records) (sym of_node) (slots_hold slots is));
+        read = slots_read;
       })

@@ -6,6 +6,7 @@ use Rattle.kv_types.specs.declared.bounds.TheConstants.{MAX_NUMBER, MAX_KEY}
 use Rattle.kv_types.specs.Order.{IsBelow}
 use Rattle.kv_types.specs.{text_bytes}
 use Rattle.configurations.specs.{IsConfig, config_text}
+use Rattle.manifest.specs.declared.line.TheConstants.{MAX_NEXT}
 use Rattle.manifest.specs.declared.line.LogLine.{LogLine}
 use Rattle.manifest.specs.declared.line.TableName.{TableName}
 use Rattle.manifest.specs.declared.line.TableLine.{TableLine}
@@ -47,13 +48,14 @@ pub record IsTableLine (line : TableLine) : Type 0 where
   pub short_greatest : length line.greatest ≤ MAX_KEY
   pub proper : IsBelow line.greatest line.least → ⊥
 
--- a log's line names the number of its first batch, which is not 0
+-- a log's line names the number of its first batch, which is not 0, and for a log that has no room
+-- for one is 2^63
 abbrev pub IsLogLine : LogLine → Type 0
-IsLogLine line = (line.file ≤ MAX_NUMBER) × ((1 ≤ line.first) × (line.first ≤ MAX_NUMBER))
+IsLogLine line = (line.file ≤ MAX_NUMBER) × ((1 ≤ line.first) × (line.first ≤ MAX_NEXT))
 
 -- each field is within its limits
 pub record IsChange (change : Change) : Type 0 where
-  pub next_file : change.next_file ≤ MAX_NUMBER
+  pub next_file : change.next_file ≤ MAX_NEXT
   pub floor : change.floor ≤ MAX_NUMBER
   pub flushed : change.flushed ≤ MAX_NUMBER
   pub epoch : change.epoch ≤ 15

@@ -1,9 +1,7 @@
 -- Bytes written by hand.
 use Rattle.std.specs.Prelude.{◌≡◌, List, [], ◌∷◌, ◌++◌, ℕ}
-use Rattle.manifest.specs.Versions.{first_version}
-use Rattle.manifest.specs.Edits.{change_text, table_line_bytes, table_name_bytes}
-use Rattle.manifest.specs.Lawful.{whole_change}
-use Rattle.manifest.specs.Holds.{slot_behind}
+use Rattle.manifest.specs.Edits.{table_line_bytes, table_name_bytes}
+use Rattle.manifest.specs.Holds.{first_slot}
 
 -- the edit of a new node in the configuration of node 1 alone: the next file is 4, and log 3 begins
 -- with batch 1
@@ -16,7 +14,7 @@ first_edit =
 -- the slot of node 1 after `create`: 72 bytes
 abbrev pub FirstSlotIs : Type 0
 FirstSlotIs =
-    1 ∷ slot_behind 1 1 (change_text (whole_change (first_version 1 (1 ∷ [])).version))
+    first_slot 1 (1 ∷ [])
     ≡ 1 ∷ 0 ∷ 0 ∷ 0 ∷ 0 ∷ 0 ∷ 0 ∷ 0 ∷ 1 ∷ 0 ∷ 1 ∷ 1 ∷ 0 ∷ 0 ∷ 0 ∷ 55 ∷ (first_edit ++ 0 ∷ [])
 
 -- a table of level 2 in file 5, of 134 bytes, from key `a` to key `b`; and the same given up

@@ -8,6 +8,9 @@ use Rattle.record_log.specs.{IsAt, LogHolds}
 use Rattle.manifest.specs.declared.slot_pair.SlotPair.{SlotPair}
 use Rattle.manifest.specs.Slots.{IsSlotFile, other_slot, slot_head, head_length, IsSuperseded}
 use Rattle.manifest.specs.Replace.{HasGate}
+use Rattle.manifest.specs.Versions.{first_version}
+use Rattle.manifest.specs.Edits.{change_text}
+use Rattle.manifest.specs.Lawful.{whole_change}
 
 -- what stands behind the gate of a slot with one record: the generation, the id, the record behind
 -- an open gate, and a closed gate
@@ -34,6 +37,17 @@ pub record SlotsHold (disk : State) (slots : SlotPair) (id : ℕ) (records : Lis
 -- the bytes of a new slot with one record, whose gate is closed
 abbrev pub closed_slot : ℕ → ℕ → List ℕ → List ℕ
 closed_slot generation id one = 0 ∷ slot_behind generation id one
+
+-- new slots hold one record: the first one is of generation 1, and of the second there is only a
+-- closed gate
+pub record AreNewSlots (disk : State) (id : ℕ) (one : List ℕ) (slots : SlotPair) : Type 0 where
+  pub holds : SlotsHold disk slots id (one ∷ [])
+  pub first : IsDurableAs disk 1 (1 ∷ slot_behind 1 id one)
+  pub second : IsDurableAs disk 2 (0 ∷ [])
+
+-- the bytes of the slot of a new node: generation 1, and one edit that gives the first version
+abbrev pub first_slot : ℕ → List ℕ → List ℕ
+first_slot id ids = 1 ∷ slot_behind 1 id (change_text (whole_change (first_version id ids).version))
 
 -- the files that are no slots are the same
 abbrev pub SparesOthers : State → State → Type 0

@@ -2,6 +2,7 @@
 use Rattle.std.specs.Prelude.{◌≡◌, ℕ, ◌<◌, ◌≤◌, List, [], All}
 use Rattle.kv_types.specs.declared.bounds.TheConstants.{MAX_NUMBER}
 use Rattle.configurations.specs.{IsConfig}
+use Rattle.manifest.specs.declared.line.TheConstants.{MAX_NEXT}
 use Rattle.manifest.specs.Versions.{StoreVersion, Change, AreLawful, AreInOrder, log_is_before}
 use Rattle.manifest.specs.Versions.{NodeVersion, IsFit, changed, empty, table_is_before}
 use Rattle.manifest.specs.Edits.{IsChange, IsLogLine, IsTableLine, change_text}
@@ -22,7 +23,7 @@ pub record AreLines (version : StoreVersion) : Type 0 where
 -- A version that some edits give: its numbers are within their limits, it has a log, no file is
 -- named twice, and below level 0 no two tables of a level share a key.
 pub record IsVersion (version : StoreVersion) : Type 0 where
-  pub next_file : version.next_file ≤ MAX_NUMBER
+  pub next_file : version.next_file ≤ MAX_NEXT
   pub floor : version.floor ≤ MAX_NUMBER
   pub flushed : version.flushed ≤ MAX_NUMBER
   pub epoch : version.epoch ≤ 15

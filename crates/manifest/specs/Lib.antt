@@ -19,12 +19,15 @@ pub use Rattle.manifest.specs.Errors.{IsManifestExternal, ManifestFailsDevice}
 pub use Rattle.manifest.specs.Laws.{EditsKeepVersions, HeldVersionIsLeft, HeldVersionStays, VersionIsOne}
 pub use Rattle.manifest.specs.Laws.{VersionsAreLawful}
 pub use Rattle.manifest.specs.Lawful.{IsVersion}
-pub use Rattle.manifest.specs.Manifests.{HasFullSlot, HasLongSlot, HasSameSlots}
+pub use Rattle.manifest.specs.Holds.{first_slot}
+pub use Rattle.manifest.specs.Manifests.{HasFirstSlots, HasFullSlot, HasLongSlot, HasSameSlots}
+pub use Rattle.manifest.specs.Manifests.{IsNewManifest, IsOpenedManifest, IsRewritten}
 pub use Rattle.manifest.specs.Manifests.{ManifestHasFailed}
 pub use Rattle.manifest.specs.Manifests.{ManifestHasNoRoom, ManifestHolds, NoRoomIsFull}
 pub use Rattle.manifest.specs.Manifests.{SlotsReachGates, counting_file, first_edit_length}
 pub use Rattle.manifest.specs.Manifests.{generation_of, slot_length, spare_file, version_of}
 pub use Rattle.manifest.specs.Slots.{IsNotCreated, IsSlot, IsSlotFile, IsSuperseded}
-pub use Rattle.manifest.specs.Slots.{ManifestRepresents, SlotsAreLeft, SlotsRepresent, other_slot}
+pub use Rattle.manifest.specs.Slots.{ManifestRepresents, SlotsAreLeft, SlotsRead, SlotsRepresent}
+pub use Rattle.manifest.specs.Slots.{other_slot}
 pub use Rattle.manifest.specs.Versions.{Change, IsFit, NodeVersion, StoreVersion, changed}
 pub use Rattle.manifest.specs.Versions.{first_version, node_version_after}

@@ -1,17 +1,19 @@
 -- An open manifest, and the version that its slots represent.
-use Rattle.std.specs.Prelude.{◌≡◌, ◌≢◌, ℕ, ◌+◌, ◌*◌, ◌<◌, ◌≤◌, List, [], length, map, All}
+use Rattle.std.specs.Prelude.{◌≡◌, ◌≢◌, ℕ, ◌+◌, ◌*◌, ◌<◌, ◌≤◌, List, [], ◌∷◌, length, map, All}
 use Rattle.std.specs.Prelude.{IsSomeAnd, IsTrue}
 use Rattle.chain_model.specs.{IsId}
 use Rattle.disk.specs.{Contents, EndsOutOfRange, State, seen}
 use Rattle.record_log.specs.declared.log.TheConstants.{MAX_RECORD}
-use Rattle.record_log.specs.{HasNoRoom, file_of, first_length, gate_of}
+use Rattle.record_log.specs.{HasNoRoom, IsDurableAs, file_of, first_length, gate_of}
 use Rattle.manifest.specs.declared.manifest.Manifest.{Manifest}
 use Rattle.manifest.specs.declared.error.ManifestError.{ManifestError}
 use Rattle.manifest.specs.declared.error.ManifestError.TheVariants as manifest
 use Rattle.manifest.specs.Versions.{NodeVersion, Change, empty, AreFit, IsFit, after_all}
 use Rattle.manifest.specs.Edits.{IsChange, change_text}
-use Rattle.manifest.specs.Slots.{IsNotCreated, IsSlotFile, ManifestRepresents, other_slot}
-use Rattle.manifest.specs.Holds.{SlotsHold}
+use Rattle.manifest.specs.Versions.{first_version}
+use Rattle.manifest.specs.Slots.{IsNotCreated, IsSlotFile, ManifestRepresents, SlotsRead}
+use Rattle.manifest.specs.Slots.{other_slot}
+use Rattle.manifest.specs.Holds.{SlotsHold, first_slot}
 
 -- an earlier call failed, so the manifest has to be opened again
 abbrev pub ManifestHasFailed : Manifest → Type 0
@@ -68,10 +70,27 @@ pub record ManifestHolds (disk : State) (manifest : Manifest) (named : NodeVersi
   pub is : named.version ≡ after_all empty changes
   pub records : SlotsHold disk manifest.slots named.id (map change_text changes)
 
--- the manifest holds the version that the files represented
+-- the slots of a rewritten manifest hold one edit, which gives the version
+pub record IsRewritten (disk : State) (manifest : Manifest) (named : NodeVersion) : Type 0 where
+  pub holds : ManifestHolds disk manifest named
+  pub one : length holds.changes ≡ 1
+
+-- the manifest holds the version that the files represented, and the slots read as before
 pub record IsOpenedManifest (left : Contents) (new : State) (manifest : Manifest) : Type 0 where
   pub had : ManifestRepresents (version_of manifest) left
   pub holds : ManifestHolds new manifest (version_of manifest)
+  pub read : SlotsRead new left
+
+-- a new manifest durably has the first version of a node: in file 1 an open slot of generation 1
+-- with one edit, and in file 2 a closed gate
+pub record HasFirstSlots (disk : State) (id : ℕ) (ids : List ℕ) : Type 0 where
+  pub first : IsDurableAs disk 1 (first_slot id ids)
+  pub second : IsDurableAs disk 2 (0 ∷ [])
+
+-- a created manifest holds the first version of a node, in its first slots
+pub record IsNewManifest (disk : State) (id : ℕ) (ids : List ℕ) (manifest : Manifest) : Type 0 where
+  pub holds : ManifestHolds disk manifest (first_version id ids)
+  pub slots : HasFirstSlots disk id ids
 
 -- why files are not opened: the machine refused, no store was created, or they represent no version
 abbrev pub ManifestRefusal : ManifestError → Contents → Type 0

@@ -1,18 +1,14 @@
 -- Slots that are opened.
 use Rattle.std.specs.Prelude.{◌≡◌, ℕ, List, Some, map}
 use Rattle.chain_model.specs.{IsId}
-use Rattle.disk.specs.{State, Contents, seen}
+use Rattle.disk.specs.{State, Contents}
 use Rattle.record_log.specs.{IsDurableAs}
 use Rattle.manifest.specs.declared.slot_pair.SlotPair.{SlotPair}
 use Rattle.manifest.specs.Versions.{NodeVersion, Change, empty, after_all}
 use Rattle.manifest.specs.Edits.{change_text}
-use Rattle.manifest.specs.Slots.{IsSlotFile, SlotsRepresent}
+use Rattle.manifest.specs.Slots.{IsSlotFile, SlotsRead, SlotsRepresent}
 use Rattle.manifest.specs.Holds.{SlotsHold}
 use Rattle.manifest.specs.Replays.{IsEditHistory}
-
--- both slots read as these contents
-abbrev pub SlotsRead : State → Contents → Type 0
-SlotsRead disk left = (slot : ℕ) → IsSlotFile slot → seen (disk slot) ≡ left slot
 
 -- both slots read as these contents, and a crash leaves them so
 pub record SlotsAreKept (disk : State) (left : Contents) : Type 0 where
@@ -20,7 +16,7 @@ pub record SlotsAreKept (disk : State) (left : Contents) : Type 0 where
   pub durable : (slot : ℕ) → IsSlotFile slot → (bytes : List ℕ) → left slot ≡ Some bytes →
       IsDurableAs disk slot bytes
 
--- the files represented the version, and the slots hold it
+-- the files represented the version, and the slots hold it and read as before
 pub record AreOpened (left : Contents) (new : State) (slots : SlotPair) (named : NodeVersion)
     : Type 0 where
   pub id : IsId named.id
@@ -29,3 +25,4 @@ pub record AreOpened (left : Contents) (new : State) (slots : SlotPair) (named :
   pub is : named.version ≡ after_all empty changes
   pub had : SlotsRepresent named.id (map change_text changes) left
   pub holds : SlotsHold new slots named.id (map change_text changes)
+  pub read : SlotsRead new left

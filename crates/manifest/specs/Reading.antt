@@ -11,6 +11,7 @@ use Rattle.kv_types.specs.declared.bounds.TheConstants.{MAX_NUMBER, MAX_KEY}
 use Rattle.kv_types.specs.{◌>>=◌, text_at}
 use Rattle.manifest.specs.declared.error.ManifestError.{ManifestError}
 use Rattle.manifest.specs.declared.error.ManifestError.TheVariants as manifest
+use Rattle.manifest.specs.declared.line.TheConstants.{MAX_NEXT}
 use Rattle.manifest.specs.declared.line.LogLine.{LogLine}
 use Rattle.manifest.specs.declared.line.TableName.{TableName}
 use Rattle.manifest.specs.declared.line.TableLine.{TableLine}
@@ -26,8 +27,13 @@ byte_field (b ∷ rest) = Some (b, rest)
 unfoldable pub count_field : Reader ℕ
 count_field bytes = only (λ n. nat_le n MAX_NUMBER) (number_at w64) bytes
 
+-- a number, or the one behind the last of all
+unfoldable pub next_field : Reader ℕ
+next_field bytes = only (λ n. nat_le n MAX_NEXT) (number_at w64) bytes
+
+-- the first number of a log
 unfoldable pub first_field : Reader ℕ
-first_field bytes = only (λ n. nat_le 1 n) count_field bytes
+first_field bytes = only (λ n. nat_le 1 n) next_field bytes
 
 unfoldable pub epoch_field : Reader ℕ
 epoch_field bytes = only (λ n. nat_le n 15) (number_at w32) bytes
@@ -103,7 +109,7 @@ as_change x = record {
 
 unfoldable pub change_front : Reader Change
 change_front bytes =
-    mapped as_change (both count_field (both count_field (both count_field (both epoch_field
+    mapped as_change (both next_field (both count_field (both count_field (both epoch_field
     (both config_field (both files_at (both logs_at (both names_at tables_at)))))))) bytes
 
 -- an edit that is all of the bytes

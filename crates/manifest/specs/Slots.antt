@@ -4,7 +4,7 @@ use Rattle.std.specs.Prelude.{Option, IsSomeAnd, All}
 use Rattle.std.specs.Int.{w16, w64, to_be_bytes}
 use Rattle.kv_types.specs.declared.bounds.TheConstants.{MAX_NUMBER}
 use Rattle.chain_model.specs.{IsId}
-use Rattle.disk.specs.{State, Contents, IsFileOutcome}
+use Rattle.disk.specs.{State, Contents, IsFileOutcome, seen}
 use Rattle.record_log.specs.{IsClosed, Represents}
 use Rattle.manifest.specs.Versions.{NodeVersion, Change, empty, AreFit, after_all}
 use Rattle.manifest.specs.Edits.{IsChange, change_text}
@@ -44,6 +44,10 @@ pub record SlotsRepresent (id : ℕ) (records : List (List ℕ)) (left : Content
   pub limit : generation ≤ MAX_NUMBER
   pub counting : IsSomeAnd (left slot) (IsSlot generation id records)
   pub other : IsSomeAnd (left (other_slot slot)) (IsSuperseded generation)
+
+-- both slots read as these contents
+abbrev pub SlotsRead : State → Contents → Type 0
+SlotsRead disk left = (slot : ℕ) → IsSlotFile slot → seen (disk slot) ≡ left slot
 
 -- What a crash leaves of the slots has P, and of each other file it is what a crash might have left
 -- of a state.

@@ -6,8 +6,7 @@ ghost use Rattle.record_log.specs.{IsClosed};
 ghost use Rattle.kv_types.specs.declared.bounds.TheConstants.{MAX_NUMBER};
 ghost use Rattle.manifest.specs.Errors.{IsManifestExternal, ManifestFailsDevice};
 ghost use Rattle.manifest.specs.Heads.{HeadIs, IsFilled, NoneCounts, SlotCounts};
-ghost use Rattle.manifest.specs.Slots.{IsSlotFile, slot_head};
-ghost use Rattle.manifest.specs.Opening.{SlotsRead};
+ghost use Rattle.manifest.specs.Slots.{IsSlotFile, SlotsRead, slot_head};
 
 use crate::ManifestError;
 use byte_fields::{read_u16, read_u64};

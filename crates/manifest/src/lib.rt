@@ -22,6 +22,6 @@ mod version;
 
 pub use edit::VersionEdit;
 pub use error::ManifestError;
-pub use line::{LogLine, TableLine, TableName};
+pub use line::{LogLine, MAX_NEXT, TableLine, TableName};
 pub use manifest::Manifest;
 pub use version::StoreVersion;

@@ -6,12 +6,13 @@ ghost use Rattle.record_log.specs.declared.log.TheConstants.{MAX_RECORD};
 ghost use Rattle.disk.specs.{AlwaysLeaves, IsSameBut, IsStill, KeepsDisk, State, contents, seen};
 ghost use Rattle.manifest.specs.Errors.{ManifestFailsDevice, IsManifestExternal};
 ghost use Rattle.manifest.specs.Versions.{NodeVersion, IsFit, first_version, node_version_after};
-ghost use Rattle.manifest.specs.Edits.{IsChange};
-ghost use Rattle.manifest.specs.Lawful.{IsWholeEdit};
+ghost use Rattle.manifest.specs.Edits.{IsChange, change_text};
+ghost use Rattle.manifest.specs.Lawful.{IsWholeEdit, whole_change};
 ghost use Rattle.manifest.specs.Slots.{SlotsAreLeft, ManifestRepresents};
 ghost use Rattle.manifest.specs.Holds.{SparesOthers};
 ghost use Rattle.manifest.specs.Manifests.{ManifestHolds, ManifestHasFailed, ManifestHasNoRoom};
-ghost use Rattle.manifest.specs.Manifests.{HasLongSlot, HasSameSlots, IsOpenedManifest};
+ghost use Rattle.manifest.specs.Manifests.{HasLongSlot, HasSameSlots, IsNewManifest};
+ghost use Rattle.manifest.specs.Manifests.{IsOpenedManifest, IsRewritten};
 ghost use Rattle.manifest.specs.Manifests.{ManifestRefusal};
 ghost use Rattle.manifest.specs.Manifests.{counting_file, generation_of, slot_length, spare_file};
 ghost use Rattle.manifest.specs.Manifests.{version_of};
@@ -58,6 +59,8 @@ fn begun_by(alloc: Global, id: NodeId, config: &Config) -> Result<StoreVersion, 
 fn whole_bytes(alloc: Global, version: &StoreVersion) -> Result<Vec<u8>, AllocError>
     ensures short { IfOk result (λ bytes. length bytes.items ≤ MAX_RECORD) }
     ensures whole { IfOk result (λ bytes. IsWholeEdit version.now bytes.items) }
+    ensures spelled { IfOk result
+        (λ bytes. bytes.items ≡ change_text (whole_change version.now.version)) }
 {
     let bytes = bytes_of_whole(alloc, version)?;
     Ok(bytes)
@@ -102,8 +105,7 @@ impl Manifest {
             SparesOthers }
         ensures created { D.is_honest disk.old → IsNone (seen (D.state disk.old 1)) →
             IsNone (seen (D.state disk.old 2)) → MatchResult result
-            (λ manifest. ManifestHolds (D.state disk.new) manifest (first_version id config.now))
-            IsManifestExternal }
+            (IsNewManifest (D.state disk.new) id config.now) IsManifestExternal }
         ensures works { IfOk result (λ manifest. (version_of manifest ≡ first_version id config.now)
             × (ManifestHasFailed manifest → ⊥)) }
         ensures first { IfOk result (λ manifest. generation_of manifest ≡ 1) }
@@ -194,7 +196,7 @@ impl Manifest {
         ensures failed { ManifestHasFailed self.old → IsErrOf result ManifestError.Failed }
         ensures rewritten { (named : NodeVersion) → D.is_honest disk.old →
             ManifestHolds (D.state disk.old) self.old named → MatchResult result
-            (λ _. ManifestHolds (D.state disk.new) self.new named) IsManifestExternal }
+            (λ _. IsRewritten (D.state disk.new) self.new named) IsManifestExternal }
 
         // A crash at any moment since the call began leaves the same version.
         ensures any_moment { (named : NodeVersion) → D.is_honest disk.old →

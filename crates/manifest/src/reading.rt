@@ -8,12 +8,13 @@ ghost use Rattle.byte_fields.specs.{many, number_at};
 ghost use Rattle.manifest.specs.Versions.{Change};
 ghost use Rattle.manifest.specs.Edits.{IsChange, change_text};
 ghost use Rattle.manifest.specs.Reading.{ReadsChangeField, ReadsChange, items_read};
-ghost use Rattle.manifest.specs.Reading.{byte_field, count_field, first_field, epoch_field};
-ghost use Rattle.manifest.specs.Reading.{level_field, config_field, log_line_at, table_name_at};
+ghost use Rattle.manifest.specs.Reading.{byte_field, count_field, next_field, first_field};
+ghost use Rattle.manifest.specs.Reading.{epoch_field, level_field, config_field};
+ghost use Rattle.manifest.specs.Reading.{log_line_at, table_name_at};
 ghost use Rattle.manifest.specs.Reading.{table_line_at, files_at, logs_at, names_at, tables_at};
 ghost use Rattle.manifest.specs.Reading.{change_front, change_of};
 
-use crate::{LogLine, ManifestError, TableLine, TableName, VersionEdit};
+use crate::{LogLine, MAX_NEXT, ManifestError, TableLine, TableName, VersionEdit};
 use byte_fields::{read_u16, read_u32, read_u64};
 use configurations::Config;
 use configurations::laws::test_decides_config;
@@ -73,11 +74,22 @@ fn count_of(bytes: &mut &[u8]) -> Result<u64, ManifestError>
     Ok(number)
 }
 
+#[tactic(auto, unfolding(crate::specs::Reading::next_field))]
+fn next_of(bytes: &mut &[u8]) -> Result<u64, ManifestError>
+    ensures { ReadsChangeField result bytes.new.now (next_field bytes.old.now) }
+{
+    let number = u64_of(bytes)?;
+    if number > MAX_NEXT {
+        return Err(ManifestError::Damaged);
+    }
+    Ok(number)
+}
+
 #[tactic(auto, unfolding(crate::specs::Reading::first_field))]
 fn first_of(bytes: &mut &[u8]) -> Result<u64, ManifestError>
     ensures { ReadsChangeField result bytes.new.now (first_field bytes.old.now) }
 {
-    let number = count_of(bytes)?;
+    let number = next_of(bytes)?;
     if number < 1 {
         return Err(ManifestError::Damaged);
     }
@@ -259,7 +271,7 @@ fn tables_of(alloc: Global, bytes: &mut &[u8]) -> Result<Vec<TableLine>, Manifes
 fn edit_at(alloc: Global, bytes: &mut &[u8]) -> Result<VersionEdit, ManifestError>
     ensures { ReadsChangeField result bytes.new.now (change_front bytes.old.now) }
 {
-    let next_file = count_of(bytes)?;
+    let next_file = next_of(bytes)?;
     let floor = count_of(bytes)?;
     let flushed = count_of(bytes)?;
     let epoch = epoch_of(bytes)?;

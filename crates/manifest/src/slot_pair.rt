@@ -9,7 +9,7 @@ ghost use Rattle.record_log.specs.declared.log.TheConstants.{MAX_RECORD};
 ghost use Rattle.record_log.specs.{DeviceFailed, HasNoRoom};
 ghost use Rattle.record_log.specs.{IsExpected, IsExternal, file_of, first_length, gate_of};
 ghost use Rattle.manifest.specs.Slots.{SlotsAreLeft, SlotsRepresent, other_slot};
-ghost use Rattle.manifest.specs.Holds.{SlotsHold, SparesOthers, closed_slot};
+ghost use Rattle.manifest.specs.Holds.{AreNewSlots, SlotsHold, SparesOthers, closed_slot};
 
 use crate::begin::begin;
 use crate::head::CountingSlot;
@@ -79,7 +79,7 @@ impl SlotPair {
         ensures kept { KeepsDisk D.Disk disk.old disk.new (DeviceFailed result) ⊥ SparesOthers }
         ensures created { D.is_honest disk.old → IsNone (seen (D.state disk.old 1)) →
             IsNone (seen (D.state disk.old 2)) → MatchResult result
-            (λ slots. SlotsHold (D.state disk.new) slots id (one.now ∷ [])) IsExternal }
+            (AreNewSlots (D.state disk.new) id one.now) IsExternal }
         ensures first { IfOk result (λ slots. slots.generation ≡ 1) }
     {
         let closed = bytes_of_slot(alloc, 1, id, one)?;

@@ -11,7 +11,7 @@ use Rattle.disk.specs.MomentsLemmas.{weaker}
 use Rattle.disk.specs.StillLemmas.{still}
 use Rattle.engine.specs.declared.Engine.{Engine}
 use Rattle.engine.specs.{EngineHolds, Facts, FailsDevice, FilesRepresent, IsEngineExternal, IsOneOf}
-use Rattle.engine.specs.{LookUps, OpensAs, TellsReadable, facts_of, look_ups}
+use Rattle.engine.specs.{LookUps, OpensAs, TellsReadable, facts_of, look_ups, raised_facts}
 use Rattle.engine.specs.declared.EngineError.TheVariants as engine
 use Rattle.kv_types.specs.declared.bounds.TheConstants.{MAX_NUMBER}
 use Rattle.engine.specs.declared.EngineError.{EngineError}
@@ -293,13 +293,20 @@ module _ {D : Type 0} (g : Ghosts D) where
   -- a tend leaves it
   pub tends : (old : Node D g) (new : D) (x : ℕ) (n : Machine) →
       NodeRefines g.is_honest g.state old x n →
-      AlwaysLeaves g (disk_of old) new (FilesRepresent (facts_of old.engine) n.list) →
+      AlwaysLeaves g (disk_of old) new
+      (IsOneOf (facts_of old.engine) n.list (raised_facts old.engine) n.list) →
       AlwaysRefines g (disk_of old) new x n n
   tends old new x n r run =
-      weaker (FilesRepresent (facts_of old.engine) n.list)
+      weaker (IsOneOf (facts_of old.engine) n.list (raised_facts old.engine) n.list)
       (λ left. DiskRefines left x n ⊎ DiskRefines left x n) (g.state (disk_of old))
-      (g.past (disk_of old)) (g.state new) (g.past new)
-      (λ left it. inl (subst (λ (f : Facts). FilesRepresent f n.list left) r.facts it)) run
+      (g.past (disk_of old)) (g.state new) (g.past new) one_of run
+    where
+      one_of : (left : Contents) → IsOneOf (facts_of old.engine) n.list (raised_facts old.engine)
+          n.list left → DiskRefines left x n ⊎ DiskRefines left x n
+      one_of left (inl it) =
+          inl (subst (λ (f : Facts). FilesRepresent f n.list left) r.facts it)
+      one_of left (inr it) =
+          inr (subst (λ (f : Facts). FilesRepresent f n.list left) r.facts it)
 
   -- a node whose engine holds what it held runs on
   pub still_runs : (old new : Node D g) (x : ℕ) (n : Machine) →

@@ -46,6 +46,14 @@ pub read_them : (opened : OpenedLog) (found : List (List ℕ)) →
     HasRead opened found
 read_them opened found stands ends = record { stands = stands; ends = ends }
 
+-- the file had the records that were read
+pub had_them : (old new : State) (file start : ℕ) (opened : OpenedLog) (found : List (List ℕ)) →
+    IsRest old file start new opened.bytes.items → HasRead opened found →
+    HasRecords old file start found
+had_them old new file start opened found r read =
+    subst (λ (o : Option (List ℕ)). IsSomeAnd o (λ it. Represents (drop start it) found))
+    (sym r.was) (subst (λ (b : List ℕ). Represents b found) r.is read.stands)
+
 -- a log that knows where the file's records end holds them
 pub holds_them : (old new : State) (file start : ℕ) (opened : OpenedLog)
     (found records : List (List ℕ)) →

@@ -130,9 +130,13 @@ pub record IsAt (file start : ℕ) (log : Log) : Type 0 where
   pub from : start_of log ≡ start
   pub works : HasFailed log → ⊥
 
--- an open log of the file, which holds the records that the file represents and that were read
+-- an open log of the file, which holds the records that the file represents and that were read; the
+-- file durably has the bytes that it had
 pub record IsOpenedLog (old : State) (file start : ℕ) (new : State) (opened : OpenedLog)
     : Type 0 where
+  pub bytes : List ℕ
+  pub was : seen (old file) ≡ Some bytes
+  pub sure : IsDurableAs new file bytes
   pub records : List (List ℕ)
   pub stood : HasRecords old file start records
   pub holds : LogHolds new opened.log records

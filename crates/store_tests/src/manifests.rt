@@ -67,17 +67,18 @@ fn open(rt: &impl Abort, alloc: Global, disk: &mut MemDisk) -> Manifest {
     try_open(rt, alloc, disk).expect(rt, "a manifest")
 }
 
-fn create(rt: &impl Abort, alloc: Global, disk: &mut MemDisk) -> Manifest {
+/// A new manifest of node 1 alone.
+pub fn create<D: Disk>(rt: &impl Abort, alloc: Global, disk: &mut D) -> Manifest {
     let (_epoch, id) = origin(rt, 0, 1);
     let config = config_of(rt, alloc, &[1]);
     Manifest::create(alloc, disk, id, &config).expect(rt, "a manifest")
 }
 
-// The refusal of a rewrite, if it is refused.
-fn refusal(
+/// The refusal of a rewrite, if it is refused.
+pub fn refusal<D: Disk>(
     rt: &impl Abort,
     alloc: Global,
-    disk: &mut MemDisk,
+    disk: &mut D,
     manifest: &mut Manifest,
 ) -> Option<ManifestError> {
     if MAX_NUMBER <= manifest.generation() {
@@ -105,11 +106,11 @@ fn raised(alloc: Global, version: &StoreVersion) -> Result<VersionEdit, AllocErr
     })
 }
 
-// The refusal of a record that raises the floor, if it is refused.
-fn refusal_of_record(
+/// The refusal of a record that raises the floor, if it is refused.
+pub fn refusal_of_record<D: Disk>(
     rt: &impl Abort,
     alloc: Global,
-    disk: &mut MemDisk,
+    disk: &mut D,
     manifest: &mut Manifest,
 ) -> Option<ManifestError> {
     let edit = raised(alloc, manifest.state()).expect(rt, "memory");
@@ -262,6 +263,51 @@ static CHANGED: [Changed; 27] = [
 #[test]
 fn damaged_slots(rt: HostRuntime) {
     all_hold(&rt, rt.alloc(), &CHANGED);
+}
+
+// The slot with this number in the eight bytes from this place on.
+fn slot_with_number(rt: &impl Abort, alloc: Global, at: usize, number: u64) -> Vec<u8> {
+    let mut bytes = copy_of(rt, alloc, SLOT);
+    for (index, byte) in number.to_be_bytes().iter().enumerate() {
+        *bytes
+            .get_mut(at.saturating_add(index))
+            .expect(rt, "a place") = *byte;
+    }
+    bytes
+}
+
+// A place of the slot, the number there, and the refusal.
+struct Limit(usize, u64, Option<ManifestError>);
+
+impl Case for Limit {
+    fn holds(&self, rt: &impl Abort, alloc: Global) -> bool {
+        let bytes = slot_with_number(rt, alloc, self.0, self.1);
+        let mut disk = disk_of(rt, alloc, &bytes, &[0]);
+        answer(rt, alloc, &mut disk).err() == self.2
+    }
+}
+
+// 2^63, where the greatest number is one less.
+const BEHIND: u64 = 9223372036854775808;
+
+static LIMITS: [Limit; 8] = [
+    // The generation.
+    Limit(1, MAX_NUMBER, None),
+    Limit(1, BEHIND, DAMAGED),
+    // Next file and floor.
+    Limit(16, BEHIND, None),
+    Limit(16, 9223372036854775809, DAMAGED),
+    Limit(24, MAX_NUMBER, None),
+    Limit(24, BEHIND, DAMAGED),
+    // The first number of the log.
+    Limit(59, BEHIND, None),
+    Limit(59, 9223372036854775809, DAMAGED),
+];
+
+// A next file and a log's first number may be one behind the greatest number.
+#[test]
+fn numbers_at_their_limits(rt: HostRuntime) {
+    all_hold(&rt, rt.alloc(), &LIMITS);
 }
 
 #[test]

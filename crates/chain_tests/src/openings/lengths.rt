@@ -44,7 +44,7 @@ static ROWS: [Row; 31] = [
     Row(1, 148, WIDE_2, DAMAGED),
     Row(1, 151, WIDE_2, DAMAGED),
     // Next file, floor, flushed, the file and the first number of a log.
-    Row(1, 76, WIDE_8, DAMAGED),
+    Row(1, 76, WIDE_8, SAME),
     Row(1, 76, GREATEST, SAME),
     Row(1, 84, GREATEST, DAMAGED),
     Row(1, 92, GREATEST, DAMAGED),

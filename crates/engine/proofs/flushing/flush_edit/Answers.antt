@@ -1,4 +1,5 @@
-use Rattle.std.proofs.Common.{rules, ◌≡◌, ◌+◌, subst, sym}
+use Rattle.std.proofs.Common.{rules, ◌≡◌, ◌≤◌, ◌+◌, arith, subst, sym}
+use Rattle.kv_types.specs.declared.bounds.TheConstants.{MAX_NUMBER}
 use Rattle.manifest.specs.{Change, IsChange, IsFit, IsVersion, NodeVersion}
 use Rattle.engine.specs.StoreFiles.{flush_change}
 use Rattle.engine.proofs.FlushEdits.{flush_change_is, flush_fit}
@@ -11,6 +12,7 @@ returns-clause-fit c =
     let is = subst (λ (n : NodeVersion). IsVersion n.version) c.version.view_is
     c.version.invariant in
     let place = c.requires.place in
+    let few : c.args.count ≤ MAX_NUMBER = omega (arith, c.get-2.ensures) in
     let same : ◌≡◌ {A = Change} (record {
       next_file = c.version.inside.next_file + 2;
       floor = c.version.inside.floor;
@@ -23,6 +25,6 @@ returns-clause-fit c =
       tables_added = c.push-2.new.self.items;
     }) (flush_change v c.args.count c.args.line) = search rules in
     subst (λ (e : Change). IsFit v e × IsChange e) (sym same) (
-      flush_fit v is c.args.count c.args.line place c.requires.flushed c.requires.next,
-      flush_change_is v is c.args.count c.args.line place c.requires.flushed c.requires.next,
+      flush_fit v is c.args.count c.args.line place few c.requires.flushed c.requires.next,
+      flush_change_is v is c.args.count c.args.line place few c.requires.flushed c.requires.next,
     )

@@ -9,7 +9,8 @@ use Rattle.engine.specs.StoreFiles.{durably}
 use Rattle.engine.proofs.BegunFiles.{manifest_is_external}
 use Rattle.engine.proofs.Causes.{answers_nothing, refuses}
 use Rattle.engine.proofs.MeantOpenings.{asked_as_meant, read_as_meant, slots_are_meant}
-use Rattle.engine.proofs.ReadFiles.{asked, end_explained, opens_as, read_as, slots_stay, usable_of}
+use Rattle.engine.proofs.ReadFiles.{asked, end_explained, opens_as, read_alike, read_as, slots_stay}
+use Rattle.engine.proofs.ReadFiles.{usable_of}
 use Rattle.engine.proofs.opening.read_files.Goals as goal
 
 -- slots that represent a version are opened
@@ -82,9 +83,17 @@ returns-clause-held g c = λ honest.
     let it = c.in_ok-manifest.ensures.told honest in
     let were = subst (λ (n : NodeVersion). WereParts s1 s2 n.version parts) c.state.ensures
     (c.in_ok-parts.ensures.told (c.open.ensures.kept.honest.1 honest)) in
-    slots_stay c.held_versions_are_left.ensures.same s1 s2 manifest (version_of manifest)
-    (version_of manifest).version (c.version_is_one.ensures.lawful _ (contents s0) it.had) it.holds
-    were.others
+    slots_stay c.held_versions_are_left.ensures.same s1 s2 manifest (version_of manifest) it.holds
+    were.each
+
+-- each file reads as before
+pub returns-clause-alike : goal.returns-clause-alike
+returns-clause-alike g c = λ honest.
+    let s0 = g.D.Disk.state c.args.disk.now in
+    let s1 = g.D.Disk.state c.open.new.disk in
+    let s2 = g.D.Disk.state c.read_parts.new.disk in
+    read_alike s0 s1 s2 (c.in_ok-manifest.ensures.told honest).read (c.open.ensures.kept.files honest)
+    (c.in_ok-parts.ensures.told (c.open.ensures.kept.honest.1 honest)).each
 
 -- and hold the list that they represented, or were meant to represent
 pub returns-clause-opened : goal.returns-clause-opened
@@ -114,7 +123,7 @@ returns-clause-opened g c = λ facts list honest.
           let were = subst (λ (n : NodeVersion). WereParts s1 s2 n.version parts) same
           (c.in_ok-parts.ensures.told honest1) in
           read_as facts list (contents s0) h c.replays_agree.ensures s2 manifest parts usable
-          (slots_stay stays s1 s2 manifest named h.version is held were.others) hold;
+          (slots_stay stays s1 s2 manifest named held were.each) hold;
       meant = λ w.
           let h = w.represents in
           let named : NodeVersion = record { id = facts.id; version = h.version } in
@@ -129,6 +138,6 @@ returns-clause-opened g c = λ facts list honest.
           let were = subst (λ (n : NodeVersion). WereParts s1 s2 n.version parts) same
           (c.in_ok-parts.ensures.told honest1) in
           read_as_meant facts list (contents s0) w is s2 manifest parts were_parts usable
-          (slots_stay stays s1 s2 manifest named h.version is held were.others)
+          (slots_stay stays s1 s2 manifest named held were.each)
           c.replays_agree.ensures stays;
     }

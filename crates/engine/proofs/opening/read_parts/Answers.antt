@@ -11,7 +11,7 @@ use Rattle.std.specs.Prelude.{All, Contains}
 use Rattle.std.proofs.lemmas.List.Elements.{All-contains, All-contains_itself, All-weaker}
 use Rattle.engine.proofs.Causes.{refuses}
 use Rattle.engine.proofs.Parts.{held_count, logs_in}
-use Rattle.engine.proofs.ReadParts.{batches_same, begins_at, others_settle}
+use Rattle.engine.proofs.ReadParts.{batches_same, begins_at, parts_settle}
 use Rattle.engine.proofs.ReadParts.{replayed_same, tables_are_there, tables_durable, tables_now}
 use Rattle.engine.proofs.Records.{not_true}
 use Rattle.engine.proofs.ReadParts.{synced_reads, tables_durably, tables_then, were_fit}
@@ -82,7 +82,7 @@ returns-in_err-tables-clause-opened g c = λ first batches tables honest had rea
     refuses c.from_residual-in_err-tables.result _ IsEngineExternal
     c.from_residual-in_err-tables.ensures.1 (c.in_err-tables.ensures.opened tables honest3
     (subst (λ (l : List TableLine). AreTablesOf (contents s3) l tables) (sym lines2)
-    (tables_then version is s1 s2 s3 synced (c.in_ok-logs.ensures.others honest2) tables read)))
+    (tables_then version is s1 s2 s3 synced (c.in_ok-logs.ensures.settled honest2).others tables read)))
 
 -- the numbers are those of the batches
 pub returns-then-not-are_ordered-clause-opened : goal.returns-then-not-are_ordered-clause-opened
@@ -124,14 +124,14 @@ returns-clause-told g c = λ honest.
     let lines2 : c.deref-2.result.now ≡ version.tables =
     c.deref-2.ensures.value ∙ ap (λ (v : NodeVersion). v.version.tables) c.version.view_is in
     let synced = subst (AreSynced s1 s2) lines (c.in_ok-sync_tables.ensures.synced honest) in
-    let others = c.in_ok-logs.ensures.others honest2 in
+    let others = (c.in_ok-logs.ensures.settled honest2).others in
     record {
       had = replayed_same (contents s2) (contents s1)
           (λ file. sym (synced_reads s1 s2 version.tables synced file)) version.logs version.flushed
           c.in_ok-logs.logs c.in_ok-logs.memtable (c.in_ok-logs.ensures.told honest2);
       fits = were_fit version is s1 s2 s3 synced others
           (subst (All (FileFits (contents s3))) lines2 (c.in_ok-tables.ensures.fits honest3));
-      others = others_settle version is s1 s2 s3 synced others s4
+      each = parts_settle s1 s2 s3 s4 synced.each (c.in_ok-logs.ensures.settled honest2).each
           (c.open.ensures.kept.files honest3);
     }
 
@@ -152,7 +152,7 @@ returns-clause-opened g c = λ first batches tables honest had read ordered.
     let lines2 : c.deref-2.result.now ≡ version.tables =
     c.deref-2.ensures.value ∙ ap (λ (v : NodeVersion). v.version.tables) c.version.view_is in
     let synced = subst (AreSynced s1 s2) lines (c.in_ok-sync_tables.ensures.synced honest) in
-    let others = c.in_ok-logs.ensures.others honest2 in
+    let others = (c.in_ok-logs.ensures.settled honest2).others in
     let same = c.open.ensures.kept.files honest3 in
     let held = c.in_ok-logs.ensures.opened first batches honest2
     (batches_same (contents s1) (contents s2) (synced_reads s1 s2 version.tables synced)
@@ -184,7 +184,7 @@ returns-clause-meant g c = λ meant first batches tables honest had read as_mean
     let lines2 : c.deref-2.result.now ≡ version.tables =
     c.deref-2.ensures.value ∙ ap (λ (v : NodeVersion). v.version.tables) c.version.view_is in
     let synced = subst (AreSynced s1 s2) lines (c.in_ok-sync_tables.ensures.synced honest) in
-    let others = c.in_ok-logs.ensures.others honest2 in
+    let others = (c.in_ok-logs.ensures.settled honest2).others in
     let same = c.open.ensures.kept.files honest3 in
     let held = c.in_ok-logs.ensures.opened first batches honest2
     (batches_same (contents s1) (contents s2) (synced_reads s1 s2 version.tables synced)

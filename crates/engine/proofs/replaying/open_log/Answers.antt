@@ -1,4 +1,4 @@
-use Rattle.std.proofs.Common.{List, ℕ, suc, arith, subst}
+use Rattle.std.proofs.Common.{List, ℕ, suc, arith, inr, subst}
 use Rattle.disk.specs.{seen}
 use Rattle.record_log.specs.{LogHolds}
 use Rattle.engine.specs.Errors.{IsEngineExternal}
@@ -56,6 +56,7 @@ returns-clause-read g c = λ honest.
     record {
       here = taken.batches;
       had = subst (IsLog (seen (s0 c.args.file))) taken.spelled o.stood;
+      settles = inr (o.bytes, o.was, o.sure);
       each = taken.each;
       holds = record {
         first = omega arith;

@@ -111,8 +111,10 @@ returns-clause-usable g c =
     (subst AreOfDifferentFiles view (different_files c.version.inside.logs.items
     c.version.inside.tables.items c.version.invariant.lawful.files_once))
 
--- the files of other numbers are as they were
-pub returns-clause-others : goal.returns-clause-others
-returns-clause-others g c = λ honest.
-    subst (λ (l : List LogLine). SparesAllBut l (g.D.Disk.state c.args.disk.now)
-    (g.D.Disk.state c.read_logs.new.disk)) (lines_so g c) (c.in_ok-older.ensures.others honest)
+-- the files settle, and those of other numbers are as they were
+pub returns-clause-settled : goal.returns-clause-settled
+returns-clause-settled g c = λ honest. record {
+  others = subst (λ (l : List LogLine). SparesAllBut l (g.D.Disk.state c.args.disk.now)
+      (g.D.Disk.state c.read_logs.new.disk)) (lines_so g c) (c.in_ok-older.ensures.others honest);
+  each = (read_so g c honest).settles;
+}

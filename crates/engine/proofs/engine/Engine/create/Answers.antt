@@ -22,5 +22,5 @@ pub returns-in-Ok-clause-begun : goal.returns-in-Ok-clause-begun
 returns-in-Ok-clause-begun g c = record {
   works = not_true;
   told = told_of c.in-Ok.ensures.facts c.in-Ok.ensures.none;
-  alone = λ honest. c.in-Ok.ensures.alone (c.create.ensures.kept.honest.0 honest);
+  files = λ honest. c.in-Ok.ensures.first (c.create.ensures.kept.honest.0 honest);
 }

@@ -1,6 +1,6 @@
-use Rattle.std.proofs.Common.{refl, subst, sym}
+use Rattle.std.proofs.Common.{◌∙◌, ap, refl, subst, sym}
 use Rattle.std.proofs.lemmas.Result.{err_from_is_err_and}
-use Rattle.disk.specs.{AlwaysLeaves, OnlyLeaves, contents}
+use Rattle.disk.specs.{AlwaysLeaves, OnlyLeaves, contents, seen}
 use Rattle.engine.specs.OpenFiles.{OpeningRefusal}
 use Rattle.engine.specs.StoreFiles.{FilesRepresent, IsOneOf, WereMeant}
 use Rattle.engine.proofs.Engines.{LeftFiles, explains, holds_of, meant_of, reads_of, since_same}
@@ -49,8 +49,15 @@ returns-in-Ok-clause-fresh g c = record {
   works = not_true;
   committed = c.floor-committed.ensures;
   limit = refl;
-  swept = λ honest. c.in-Ok.ensures.swept (c.open.ensures.kept.honest.0 honest);
+  swept = λ honest. (c.in-Ok.ensures.swept (c.open.ensures.kept.honest.0 honest)).alone;
 }
+
+-- and those that it names read as before
+pub returns-in-Ok-clause-alike : goal.returns-in-Ok-clause-alike
+returns-in-Ok-clause-alike g c = λ honest file has.
+    let same = c.in_ok-files.ensures.files in
+    let honest' = subst g.D.Disk.is_honest (sym same) honest in
+    (c.in-Ok.ensures.swept honest').alike file has ∙ ap (λ d. seen (g.D.Disk.state d file)) same
 
 -- each moment leaves files of the store
 pub returns-in-Ok-clause-any_moment : goal.returns-in-Ok-clause-any_moment

@@ -1,5 +1,5 @@
 use Rattle.engine.proofs.Engines.{LeftFiles, closed_by, ends_by, goes_to, may_fail, no_refusal}
-use Rattle.engine.proofs.Engines.{on_first, on_second, held_of, works_on_ok}
+use Rattle.engine.proofs.Engines.{not_raised, on_first, on_second, held_of, works_on_ok}
 use Rattle.engine.proofs.engine.Engine.tend.Goals as goal
 
 -- a device that works fails where the files are full or are none of the engine
@@ -49,5 +49,6 @@ returns-clause-work g c = λ list r.
 
 pub returns-clause-any_moment : goal.returns-clause-any_moment
 returns-clause-any_moment g c = λ list h.
-    c.tend-answer.ensures.any_moment list h.reads.honest
-    (held_of g.D.Disk c.args.self.now list h.reads)
+    not_raised g.D.Disk c.args.self.now _ list
+    (c.tend-answer.ensures.any_moment list h.reads.honest
+    (held_of g.D.Disk c.args.self.now list h.reads))

@@ -6,7 +6,7 @@ use Rattle.manifest.specs.{IsVersion, NodeVersion}
 use Rattle.engine.specs.Errors.{IsEngineExternal}
 use Rattle.engine.specs.LevelTables.{AreTablesOf}
 use Rattle.engine.proofs.BegunFiles.{counts_none, first_hold, first_line, log_is_spared, no_file_ends, no_slot_yet}
-use Rattle.engine.proofs.BegunFiles.{only_first, rest_is_unused}
+use Rattle.engine.proofs.BegunFiles.{first_log, only_first, rest_is_unused}
 use Rattle.engine.proofs.Causes.{refuses}
 use Rattle.engine.proofs.Parts.{holds_in}
 use Rattle.engine.proofs.store_files.StoreFiles.create.Goals as goal
@@ -76,18 +76,34 @@ returns-clause-created g c = λ honest.
     (c.held_versions_are_left.ensures.same s2 s3 c.in_ok-manifest.manifest _
     (c.in_ok-manifest.ensures.created honest2
     (no_slot_yet s0 s1 1 log_kept alone (λ is. absurd cc))
-    (no_slot_yet s0 s1 2 log_kept alone (λ is. absurd cc))) (λ slot is. same slot))
+    (no_slot_yet s0 s1 2 log_kept alone (λ is. absurd cc))).holds (λ slot is. same slot))
     (record { first = refl; from = at.from; log = holds_in s1 s3 log [] is_spared log_held })
     (c.in_ok-tables.ensures.opened [] honest3 read)
     (rest_is_unused s0 s1 s2 s3 alone log_kept slots_kept same)
 
 -- nor did those calls leave any
-pub returns-clause-alone : goal.returns-clause-alone
-returns-clause-alone g c = λ honest.
+pub returns-clause-first : goal.returns-clause-first
+returns-clause-first g c = λ honest.
     let honest1 = c.remove_others.ensures.kept.honest.1 honest in
     let honest2 = c.create.ensures.kept.honest.1 honest1 in
     let honest3 = c.create-2.ensures.kept.honest.1 honest2 in
-    only_first (g.D.Disk.state c.remove_others.new.disk) (g.D.Disk.state c.create.new.disk)
-    (g.D.Disk.state c.create-2.new.disk) (g.D.Disk.state c.open.new.disk)
-    (c.in_ok-remove_others.ensures.alone honest) (c.create.ensures.kept.files honest1)
-    (c.create-2.ensures.kept.files honest2) (c.open.ensures.kept.files honest3)
+    let s0 = g.D.Disk.state c.remove_others.new.disk in
+    let s1 = g.D.Disk.state c.create.new.disk in
+    let s2 = g.D.Disk.state c.create-2.new.disk in
+    let s3 = g.D.Disk.state c.open.new.disk in
+    let alone = c.in_ok-remove_others.ensures.alone honest in
+    let log_kept = c.create.ensures.kept.files honest1 in
+    let slots_kept = c.create-2.ensures.kept.files honest2 in
+    let same = c.open.ensures.kept.files honest3 in
+    let made = c.in_ok-manifest.ensures.created honest2
+    (no_slot_yet s0 s1 1 log_kept alone (λ is. absurd cc))
+    (no_slot_yet s0 s1 2 log_kept alone (λ is. absurd cc)) in
+    record {
+      slots = record {
+        first = same 1 ∙ made.slots.first;
+        second = same 2 ∙ made.slots.second;
+      };
+      log = log_is_spared s1 s2 s3 slots_kept same
+          ∙ first_log s0 s1 alone (c.in_ok-log.ensures.spelled honest1);
+      alone = only_first s0 s1 s2 s3 alone log_kept slots_kept same;
+    }

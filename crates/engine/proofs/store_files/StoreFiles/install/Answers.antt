@@ -265,13 +265,16 @@ returns-clause-told g c =
               tables = c.add.new.self;
               memtable = c.replace.new.dest;
             }) c.in_default.ensures.told.0 begun.2 begun.1,
-        known files c.requires.usable line c.requires.place c.requires.next
-            (c.behind-self.inside.next_file + 1) at c.in_ok-edit.edit is (record {
-              manifest = c.record.new.self;
-              logs = c.begin.new.self;
-              tables = c.add.new.self;
-              memtable = c.replace.new.dest;
-            }) c.in_default.ensures.told.0 begun.2,
+        record {
+          version = known files c.requires.usable line c.requires.place c.requires.next
+              (c.behind-self.inside.next_file + 1) at c.in_ok-edit.edit is (record {
+                manifest = c.record.new.self;
+                logs = c.begin.new.self;
+                tables = c.add.new.self;
+                memtable = c.replace.new.dest;
+              }) c.in_default.ensures.told.0 begun.2;
+          slots = c.record.ensures.slots;
+        },
       ),
     )
 

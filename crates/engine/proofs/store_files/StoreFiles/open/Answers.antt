@@ -2,7 +2,8 @@ use Rattle.std.proofs.Common.{◌∙◌, ℕ, List, ap, subst}
 use Rattle.manifest.specs.{NodeVersion}
 use Rattle.engine.specs.Errors.{IsEngineExternal}
 use Rattle.engine.specs.Openings.{kept_files}
-use Rattle.engine.specs.Settling.{AreAlone}
+use Rattle.disk.specs.{seen}
+use Rattle.engine.specs.Settling.{AreSwept, IsReadAlike}
 use Rattle.engine.specs.StoreFiles.{IsOneOf}
 use Rattle.engine.proofs.Causes.{answers_nothing, if_refuses, refuses}
 use Rattle.engine.proofs.KeptFiles.{settled_as, still_keeps}
@@ -43,13 +44,22 @@ returns-clause-opened g c = λ facts list honest.
           );
     }
 
--- no file is left that the version does not name
+-- no file is left that the version does not name, and those that it names read as before
 pub returns-clause-swept : goal.returns-clause-swept
 returns-clause-swept g c = λ honest.
-    subst (λ (l : List ℕ). AreAlone l (g.D.Disk.state c.remove_others.new.disk))
+    let s0 = g.D.Disk.state c.args.disk.now in
+    let s1 = g.D.Disk.state c.read_files.new.disk in
+    let s2 = g.D.Disk.state c.remove_others.new.disk in
+    let honest1 = c.read_files.ensures.kept.honest.1 honest in
+    let alike : IsReadAlike s0 s1 = c.in_ok-files.ensures.alike honest in
+    let spares = c.remove_others.ensures.kept.files honest1 in
+    subst (λ (l : List ℕ). AreSwept l s0 s2)
     (c.deref.ensures.value ∙ c.in_ok-kept.ensures
     ∙ ap (λ (n : NodeVersion). kept_files n.version) c.state.ensures)
-    (c.in_ok-remove_others.ensures.alone (c.read_files.ensures.kept.honest.1 honest))
+    (record {
+      alike = λ file has. ap seen (spares file has) ∙ alike file;
+      alone = c.in_ok-remove_others.ensures.alone honest1;
+    })
 
 -- at each moment the disk leaves only files of these stores
 pub returns-in_err-files-clause-any_moment : goal.returns-in_err-files-clause-any_moment

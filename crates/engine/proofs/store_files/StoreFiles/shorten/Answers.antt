@@ -21,7 +21,7 @@ returns-in-Ok-clause-tended g c = λ list honest h.
     held_rewritten disk files list h (g.D.Disk.state c.rewrite.new.disk) c.rewrite.new.self _
     (c.manifest_has_slots.ensures disk files.manifest (known_version files) h.known.manifest).1
     (c.rewrite.ensures.kept.files honest)
-    (c.in-Ok.ensures.rewritten (known_version files) honest h.known.manifest)
+    (c.in-Ok.ensures.rewritten (known_version files) honest h.known.manifest).holds
 
 -- whether the manifest answered or not, each slot that it wrote represents the version
 pub returns-in-Ok-clause-any_moment : goal.returns-in-Ok-clause-any_moment

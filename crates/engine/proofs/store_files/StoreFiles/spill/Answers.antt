@@ -1,6 +1,7 @@
-use Rattle.std.proofs.Common.{◌≡◌, ◌∙◌, Option, ap, subst}
+use Rattle.std.proofs.Common.{◌≡◌, ◌<◌, ◌+◌, ◌∙◌, Option, ap, arith, inr, subst}
 use Rattle.std.specs.Prelude.{IsNone, MatchOption}
 use Rattle.disk.specs.{seen}
+use Rattle.manifest.specs.declared.line.TheConstants.{MAX_NEXT}
 use Rattle.manifest.specs.declared.TableLine.{TableLine}
 use Rattle.manifest.specs.{NodeVersion}
 use Rattle.engine.specs.OpenFiles.{IsTooLarge, IsWrittenTable, known_version}
@@ -9,6 +10,15 @@ use Rattle.engine.proofs.Spills.{next_is_written}
 use Rattle.engine.proofs.store_files.StoreFiles.spill.Goals as goal
 
 -- ---- the table is written
+
+-- a number is left for it
+pub write_table-requires-clause-named : goal.write_table-requires-clause-named
+write_table-requires-clause-named g c =
+    let version = (known_version c.args.self.now).version in
+    let at : c.behind-self.inside.next_file ≡ version.next_file =
+    ap (λ (n : NodeVersion). n.version.next_file) (c.behind-self.view_is ∙ c.state.ensures) in
+    let no : MAX_NEXT < version.next_file + 2 → ⊥ = λ lt. c.requires.place (inr lt) in
+    omega (arith, at, no)
 
 pub returns-in_err-line-clause-any_moment : goal.returns-in_err-line-clause-any_moment
 returns-in_err-line-clause-any_moment g c = λ list honest h.

@@ -1,7 +1,9 @@
-use Rattle.std.proofs.Common.{◌≡◌, ℕ, ◌∷◌, [], false, sym, subst}
+use Rattle.std.proofs.Common.{◌≡◌, ◌∙◌, ℕ, List, ◌∷◌, false, sym, subst}
 use Rattle.manifest.specs.Versions.{NodeVersion, first_version}
-use Rattle.manifest.specs.Holds.{SlotsHold}
-use Rattle.manifest.specs.Lawful.{IsWholeEdit}
+use Rattle.record_log.specs.{IsDurableAs}
+use Rattle.manifest.specs.Edits.{change_text}
+use Rattle.manifest.specs.Holds.{AreNewSlots, slot_behind}
+use Rattle.manifest.specs.Lawful.{IsWholeEdit, whole_change}
 use Rattle.manifest.proofs.Edited.{held_whole}
 use Rattle.std.proofs.Common.{refl}
 use Rattle.std.proofs.lemmas.Result.{err_from_is_err_and}
@@ -17,13 +19,25 @@ returns-clause-created g c = λ honest no1 no2.
     (subst (λ (n : NodeVersion). IsWholeEdit n c.in_ok-bytes.bytes.items) c.in_ok-version.ensures
     c.in_ok-bytes.ensures.whole) in
     let id : c.get.result ≡ c.args.id = c.get.ensures.same in
-    let held : SlotsHold (g.D.Disk.state c.create.new.disk) c.in_ok-slots.slots c.args.id
-    (c.deref.result.now ∷ []) =
-    subst (λ (i : ℕ). SlotsHold (g.D.Disk.state c.create.new.disk) c.in_ok-slots.slots i
-    (c.deref.result.now ∷ [])) id (c.in_ok-slots.ensures.created honest no1 no2) in
-    held_whole (g.D.Disk.state c.create.new.disk)
-    (record { slots = c.in_ok-slots.slots; version = c.in_ok-version.version; has_failed = false })
-    named c.deref.result.now c.get.ensures.id whole (λ e. absurd cc) c.in_ok-version.ensures held
+    let made : AreNewSlots (g.D.Disk.state c.create.new.disk) c.args.id c.deref.result.now
+    c.in_ok-slots.slots =
+    subst (λ (i : ℕ). AreNewSlots (g.D.Disk.state c.create.new.disk) i c.deref.result.now
+    c.in_ok-slots.slots) id (c.in_ok-slots.ensures.created honest no1 no2) in
+    let text : c.deref.result.now ≡ change_text (whole_change named.version) =
+    c.deref.ensures.value ∙ subst (λ (n : NodeVersion).
+    c.in_ok-bytes.bytes.items ≡ change_text (whole_change n.version)) c.in_ok-version.ensures
+    c.in_ok-bytes.ensures.spelled in
+    record {
+      holds = held_whole (g.D.Disk.state c.create.new.disk)
+          (record { slots = c.in_ok-slots.slots; version = c.in_ok-version.version; has_failed = false })
+          named c.deref.result.now c.get.ensures.id whole (λ e. absurd cc) c.in_ok-version.ensures
+          made.holds;
+      slots = record {
+        first = subst (λ (t : List ℕ). IsDurableAs (g.D.Disk.state c.create.new.disk) 1
+            (1 ∷ slot_behind 1 c.args.id t)) text made.first;
+        second = made.second;
+      };
+    }
 
 -- the disk is untouched before the slots are made
 pub returns-in_err-version-clause-kept : goal.returns-in_err-version-clause-kept

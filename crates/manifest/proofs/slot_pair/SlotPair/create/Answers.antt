@@ -5,7 +5,7 @@ use Rattle.disk.specs.{Slot, seen}
 use Rattle.record_log.specs.{IsDurableAs}
 use Rattle.record_log.specs.{begun}
 use Rattle.manifest.specs.Holds.{slot_behind}
-use Rattle.manifest.proofs.Begun.{held_begun, begun_stands, begun_long}
+use Rattle.manifest.proofs.Begun.{held_begun, begun_none, begun_stands, begun_long}
 use Rattle.std.proofs.Common.{refl, inr}
 use Rattle.std.proofs.lemmas.Result.{err_from_is_err_and}
 use Rattle.manifest.proofs.Kept.{closed_fits, disk_fails, fails_disk, kept_as, kept_still, kept_then}
@@ -39,9 +39,19 @@ returns-clause-created g c = λ honest no1 no2.
     let same2 : s2 2 ≡ s1 2 = c.begin.ensures.kept.files honest1 2 (λ e. absurd (omega (arith, e))) in
     let second : IsDurableAs s2 2 (begun (seen (s0 2))) =
     same2 ∙ c.in_ok-create.ensures.spelled honest in
-    held_begun c.args.id one short s2
-    (record { slot = 1; generation = 1; id = c.args.id; other_is_open = false; log = c.in_ok-log.log })
-    (seen (s0 2)) refl refl refl refl c.in_ok-log.ensures.at log done.0 second
+    record {
+      holds = held_begun c.args.id one short s2
+          (record {
+            slot = 1;
+            generation = 1;
+            id = c.args.id;
+            other_is_open = false;
+            log = c.in_ok-log.log;
+          })
+          (seen (s0 2)) refl refl refl refl c.in_ok-log.ensures.at log done.0 second;
+      first = done.0;
+      second = subst (IsDurableAs s2 2) (begun_none (seen (s0 2)) no2) second;
+    }
 
 -- the disk is untouched before the second slot is made
 pub returns-in_err-closed-clause-kept : goal.returns-in_err-closed-clause-kept
