@@ -43,9 +43,19 @@ fn two_tables(rt: &impl Abort, alloc: Global) -> MemDisk {
     let disk = MemDisk::new(alloc);
     let created = Engine::create(alloc, disk, id_of(rt, 1), &config, &limits(rt));
     let mut engine = created.ok().expect(rt, "an engine");
-    append(rt, alloc, &mut engine, &[("a", Some("\x01")), ("b", Some("\x01"))]);
+    append(
+        rt,
+        alloc,
+        &mut engine,
+        &[("a", Some("\x01")), ("b", Some("\x01"))],
+    );
     flush(rt, alloc, &mut engine);
-    append(rt, alloc, &mut engine, &[("a", Some("\x02")), ("c", Some("\x02"))]);
+    append(
+        rt,
+        alloc,
+        &mut engine,
+        &[("a", Some("\x02")), ("c", Some("\x02"))],
+    );
     flush(rt, alloc, &mut engine);
     is_so(rt, engine.tables()[0] == 2, "two tables of level 0");
     engine.into_disk()
@@ -72,7 +82,8 @@ fn with_another(rt: &impl Abort, disk: &MemDisk, file: u64, place: u64) -> MemDi
     let mut disk = disk.clone().expect(rt, "memory");
     let mut byte = [0u8; 1];
     disk.read(file, place, &mut byte).expect(rt, "a read");
-    disk.write_at(file, place, &[byte[0] ^ 1]).expect(rt, "a write");
+    disk.write_at(file, place, &[byte[0] ^ 1])
+        .expect(rt, "a write");
     disk.sync(file).expect(rt, "a sync");
     disk
 }
@@ -81,7 +92,10 @@ fn with_another(rt: &impl Abort, disk: &MemDisk, file: u64, place: u64) -> MemDi
 fn blocks_of_two_tables_with_another_byte(rt: HostRuntime) {
     let (rt, alloc) = (&rt, rt.alloc());
     let mut disk = two_tables(rt, alloc);
-    assert!(rt; length_of(rt, &mut disk, 4) == length_of(rt, &mut disk, 6), "alike tables");
+    assert!(rt;
+        length_of(rt, &mut disk, 4) == length_of(rt, &mut disk, 6),
+        "alike tables"
+    );
     for row in &ROWS {
         for place in 0..BLOCK {
             let disk = with_another(rt, &disk, row.0, place);
@@ -95,7 +109,14 @@ fn blocks_of_two_tables_with_another_byte(rt: HostRuntime) {
 fn two_tables_as_they_are(rt: HostRuntime) {
     let (rt, alloc) = (&rt, rt.alloc());
     let disk = two_tables(rt, alloc);
-    for (name, at, want) in [("a", 2, "2"), ("a", 1, "1"), ("b", 2, "1"), ("b", 1, "1"), ("c", 2, "2"), ("c", 1, "none")] {
+    for (name, at, want) in [
+        ("a", 2, "2"),
+        ("a", 1, "1"),
+        ("b", 2, "1"),
+        ("b", 1, "1"),
+        ("c", 2, "2"),
+        ("c", 1, "none"),
+    ] {
         let disk = disk.clone().expect(rt, "memory");
         is_text(rt, &answer(rt, alloc, disk, name, at), want);
     }
