@@ -1,5 +1,5 @@
-// A store with two tables of level 0, in which each byte of a block is another: a read that comes to
-// the block stops for damage, and answers neither an older value nor none.
+// A store with two tables of level 0, in which each byte of a block is another: a read that comes
+// to the block stops for damage, and answers neither an older value nor none.
 use crate::answers::{is_so, is_text};
 use crate::items::{config_of, id_of, key_of, number};
 use crate::openings::small_disk::{append, length_of, limits};

@@ -97,7 +97,8 @@ returns-clause-meant g c = λ list honest w.
           c.args.number c.requires.next c.append.ensures.lines c.append.ensures.room
           (λ failed. not_true (c.in_ok-add.ensures.fails.0 failed)) c.in_ok-add.ensures.adds
           c.append.result c.append.ensures.counts)
-          (c.append.ensures.appended (suc trimmed) (drop trimmed list) honest (logs_are_held disk files list w)),
+          (c.append.ensures.appended (suc trimmed) (drop trimmed list) honest
+          (logs_are_held disk files list w)),
       some_meant laws disk files list w c.args.batch.now c.edits-edits.ensures.batch
           c.appends_keep.ensures room (g.D.Disk.past c.args.disk.now)
           (g.D.Disk.past c.append.new.disk) (g.D.Disk.state c.append.new.disk)
