@@ -5,7 +5,8 @@ use crate::items::{config_of, id_of, key_of, number};
 use crate::openings::small_disk::{append, length_of, limits};
 use disk::{Disk, MemDisk};
 use engine::{Engine, Tended};
-use std::alloc::Global;
+use kv_types::Value;
+use std::alloc::{AllocError, Global};
 use std::process::Abort;
 
 // The table in whose block a byte is another; a key and a number at which it is read; and what the
@@ -26,11 +27,22 @@ static ROWS: [Row; 10] = [
     // The newer table's filter denies `b`.
     Row(6, "b", 2, "1"),
     Row(6, "c", 2, "damaged"),
-    Row(6, "c", 1, "damaged"),
+    // Its block ends before `c` at 1, and is not read.
+    Row(6, "c", 1, "none"),
+];
+
+// A key and a number, and what a read answers where no byte is another.
+static WHOLE: [(&str, u64, &str); 6] = [
+    ("a", 2, "2"),
+    ("a", 1, "1"),
+    ("b", 2, "1"),
+    ("b", 1, "1"),
+    ("c", 2, "2"),
+    ("c", 1, "none"),
 ];
 
 // The length of the block of either table.
-const BLOCK: u64 = 41;
+const BLOCK: u64 = 42;
 
 fn flush(rt: &impl Abort, alloc: Global, engine: &mut Engine<MemDisk>) {
     let tended = engine.tend(alloc).expect(rt, "a tend");
@@ -61,6 +73,13 @@ fn two_tables(rt: &impl Abort, alloc: Global) -> MemDisk {
     engine.into_disk()
 }
 
+fn put_value(text: &mut String, value: &Value) -> Result<(), AllocError> {
+    for byte in value.as_bytes() {
+        write!(text, "{byte}")?;
+    }
+    Ok(())
+}
+
 // What a read of the key at the number answers, of the store that is opened on the disk.
 fn answer(rt: &impl Abort, alloc: Global, disk: MemDisk, name: &str, at: u64) -> String {
     let mut text = String::new(alloc);
@@ -68,12 +87,11 @@ fn answer(rt: &impl Abort, alloc: Global, disk: MemDisk, name: &str, at: u64) ->
     let mut engine = opened.ok().expect(rt, "an opening that reads no block");
     let count = engine.count();
     engine.set_committed(count);
-    let put = match engine.get(alloc, number(at), &key_of(rt, alloc, name)) {
-        Ok(Some(value)) => write!(text, "{}", value.as_bytes()[0]),
-        Ok(None) => write!(text, "none"),
-        Err(e) => write!(text, "{e}"),
-    };
-    put.expect(rt, "memory");
+    match engine.get(alloc, number(at), &key_of(rt, alloc, name)) {
+        Ok(Some(value)) => put_value(&mut text, &value).expect(rt, "memory"),
+        Ok(None) => write!(text, "none").expect(rt, "memory"),
+        Err(e) => write!(text, "{e}").expect(rt, "memory"),
+    }
     text
 }
 
@@ -109,15 +127,8 @@ fn blocks_of_two_tables_with_another_byte(rt: HostRuntime) {
 fn two_tables_as_they_are(rt: HostRuntime) {
     let (rt, alloc) = (&rt, rt.alloc());
     let disk = two_tables(rt, alloc);
-    for (name, at, want) in [
-        ("a", 2, "2"),
-        ("a", 1, "1"),
-        ("b", 2, "1"),
-        ("b", 1, "1"),
-        ("c", 2, "2"),
-        ("c", 1, "none"),
-    ] {
+    for (name, at, want) in &WHOLE {
         let disk = disk.clone().expect(rt, "memory");
-        is_text(rt, &answer(rt, alloc, disk, name, at), want);
+        is_text(rt, &answer(rt, alloc, disk, *name, *at), *want);
     }
 }
