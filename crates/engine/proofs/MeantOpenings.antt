@@ -1,6 +1,6 @@
 -- An opening of files that were meant to represent a list, of which blocks of tables are damaged.
-use Rattle.std.proofs.Common.{◌≡◌, ◌≢◌, ◌⊎◌, ℕ, List, [], ◌∷◌, Option, Some, None, refl, sym, ◌∙◌, ap}
-use Rattle.std.proofs.Common.{subst, drop, suc, inl, inr, arith}
+use Rattle.std.proofs.Common.{◌≡◌, ◌≢◌, ◌⊎◌, ℕ, List, [], ◌∷◌, Option, Some, None, refl, sym, ◌∙◌}
+use Rattle.std.proofs.Common.{ap, subst, drop, suc, inl, inr, arith}
 use Rattle.std.specs.Prelude.{All, Contains, IsNone, ◌==◌, if◌then◌else◌}
 use Rattle.std.specs.List.{AllZip}
 use Rattle.std.proofs.lemmas.Bool.Decides.{eqb_tells}
@@ -24,7 +24,8 @@ use Rattle.engine.specs.declared.opening.ReadParts.{ReadParts}
 use Rattle.engine.specs.declared.store_files.StoreFiles.{StoreFiles}
 use Rattle.engine.specs.BatchLogs.{lines_of}
 use Rattle.engine.specs.Files.{Facts}
-use Rattle.engine.specs.LevelTables.{AreTablesOf, HasMeantBlocks, IsServed, IsTableAsMeant, WasServed}
+use Rattle.engine.specs.LevelTables.{AreTablesOf, HasMeantBlocks, IsServed, IsTableAsMeant}
+use Rattle.engine.specs.LevelTables.{WasServed}
 use Rattle.engine.specs.OpenFiles.{AreBatchesOf, AreUsableFiles, IsAsMeant}
 use Rattle.engine.specs.OpenFiles.{WereMeantToHold, WereMeantToRead, known_facts, known_version}
 use Rattle.engine.specs.Openings.{PartsHold, PartsWereMeant, kept_files}
@@ -131,7 +132,8 @@ module _ (facts : Facts) (list : List BatchContent) (left : Contents)
 
   pub slots_are_meant : ManifestRepresents asked_named left
   slots_are_meant = version_same w.meant left
-      (λ slot one. w.others slot (slot_beside asked_version is slot one)) asked_named w.represents.manifest
+      (λ slot one. w.others slot (slot_beside asked_version is slot one)) asked_named
+      w.represents.manifest
 
   batches_were : AreBatchesOf left asked_version.logs (suc facts.kept) (drop facts.kept list)
   batches_were =

@@ -120,8 +120,8 @@ pub record IsMeantEngineOf {D : Type 0} (g : Ghosts D) (told : Facts) (list : Li
   pub facts : facts_of engine ≡ told
   pub meant : EngineWasMeant g engine list
 
--- Of files that represent these facts and the list, an opening has an engine of both, or an external
--- refusal. Of files that were meant to, an engine that is opened was meant to read both.
+-- Of files that represent these facts and the list, an opening has an engine of both, or an
+-- external refusal. Of files that were meant to, an engine that is opened was meant to read both.
 pub record OpensEngineFor {D : Type 0} (g : Ghosts D) (facts : Facts) (list : List BatchContent)
     (left : Contents) (result : Result (Engine D g) (EngineError × D)) : Type 0 where
   pub whole : FilesRepresent facts list left →

@@ -1,6 +1,6 @@
 -- The open tables of a store, level by level, and what a lookup in them finds.
-use Rattle.std.specs.Prelude.{◌≡◌, ◌⊎◌, ℕ, ◌<◌, ◌≤◌, List, [], ◌∷◌, length, map, take, All, Contains}
-use Rattle.std.specs.Prelude.{Bool, Option, Some, None, IsSomeAnd, ◌==◌, if◌then◌else◌}
+use Rattle.std.specs.Prelude.{◌≡◌, ◌⊎◌, ℕ, ◌<◌, ◌≤◌, List, [], ◌∷◌, length, map, take, All}
+use Rattle.std.specs.Prelude.{Contains, Bool, Option, Some, None, IsSomeAnd, ◌==◌, if◌then◌else◌}
 use Rattle.std.specs.List.{AllZip, count_by}
 use Rattle.std.specs.Option.{option_map, option_flatten}
 use Rattle.disk.specs.{Contents, Slot, State}

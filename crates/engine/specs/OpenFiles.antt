@@ -154,8 +154,8 @@ pub record FilesHold (disk : State) (files : StoreFiles) (list : List BatchConte
 
 -- ---- damaged tables
 
--- The disk is as it was meant to be, but for damaged blocks of the version's tables: each other file
--- is the same, and a table's file durably has each block that is not damaged.
+-- The disk is as it was meant to be, but for damaged blocks of the version's tables: each other
+-- file is the same, and a table's file durably has each block that is not damaged.
 pub record IsAsMeant (disk meant : State) (version : StoreVersion) (opened : LevelTables) : Type 0
   where
     pub others : (file : ℕ) → All (λ line. line.file ≢ file) version.tables →

@@ -68,8 +68,8 @@ pub record FilesRepresent (facts : Facts) (list : List BatchContent) (left : Con
 abbrev pub durably : Contents → State
 durably left file = durable (left file)
 
--- The files were meant to represent the facts and the list: they would, had no table a damaged block.
--- Each file that is no table's is as it was meant.
+-- The files were meant to represent the facts and the list: they would, had no table a damaged
+-- block. Each file that is no table's is as it was meant.
 pub record WereMeant (facts : Facts) (list : List BatchContent) (left : Contents) : Type 0 where
   pub meant : Contents
   pub represents : FilesRepresent facts list meant

@@ -118,8 +118,8 @@ returns-clause-opened g c = λ facts list honest.
           let held = c.in_ok-manifest.ensures.opened named honest h.manifest in
           let same = c.state.ensures ∙ held.knows in
           let ask = asked s0 s1 spares facts list h is c.state.result.now same in
-          let hold = subst (λ (n : NodeVersion). PartsHold s2 n.version first batches h.tables parts)
-          same (c.in_ok-parts.ensures.opened first batches h.tables honest1 ask.0 ask.1 ask.2) in
+          let hold = subst
+          (λ (n : NodeVersion). PartsHold s2 n.version first batches h.tables parts) same (c.in_ok-parts.ensures.opened first batches h.tables honest1 ask.0 ask.1 ask.2) in
           let were = subst (λ (n : NodeVersion). WereParts s1 s2 n.version parts) same
           (c.in_ok-parts.ensures.told honest1) in
           read_as facts list (contents s0) h c.replays_agree.ensures s2 manifest parts usable

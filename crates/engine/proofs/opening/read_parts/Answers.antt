@@ -184,7 +184,7 @@ returns-clause-meant g c = λ meant first batches tables honest had read as_mean
     let lines2 : c.deref-2.result.now ≡ version.tables =
     c.deref-2.ensures.value ∙ ap (λ (v : NodeVersion). v.version.tables) c.version.view_is in
     let synced = subst (AreSynced s1 s2) lines (c.in_ok-sync_tables.ensures.synced honest) in
-    let others = c.in_ok-logs.ensures.others honest2 in
+    let others = (c.in_ok-logs.ensures.settled honest2).others in
     let same = c.open.ensures.kept.files honest3 in
     let held = c.in_ok-logs.ensures.opened first batches honest2
     (batches_same (contents s1) (contents s2) (synced_reads s1 s2 version.tables synced)

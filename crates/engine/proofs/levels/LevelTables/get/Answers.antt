@@ -37,7 +37,8 @@ returns-then-open-level-clause-found g c = λ meant tables flushed honest served
     let items = c.deref-open-items.result.now in
     let zip = subst (λ (l : List OpenTable). AllZip (WasServed s0 meant) l tables)
     (sym c.deref-open-items.ensures.value) served in
-    let b = beside (WasServed s0 meant) items tables i one zip c.loop-open-test.true c.open-item.is in
+    let b = beside (WasServed s0 meant) items tables i one zip c.loop-open-test.true
+    c.open-item.is in
     let walked = subst (λ (l : List LevelTable). Walked at key (take i tables) l level best) b.left
     (c.loop-open.invariant.walked meant tables flushed honest served leveled rise) in
     let another : b.other.level ≡ level → ⊥ =

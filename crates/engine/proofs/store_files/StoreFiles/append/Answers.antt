@@ -90,14 +90,15 @@ returns-clause-meant g c = λ list honest w.
       reads = c.reads_are_outcomes.ensures;
     } in (
       appended_as_meant disk files list w (g.D.Disk.state c.append.new.disk)
-      (c.append.ensures.kept.files honest) c.args.batch.now c.edits-edits.ensures.batch
-      c.append.new.self c.add.new.self c.append.ensures.lines c.appends_keep.ensures
-      c.held_versions_are_left.ensures.same entries c.append.result
-      (counts_told files c.requires.usable c.append.new.self c.add.new.self c.args.batch.now
-      c.args.number c.requires.next c.append.ensures.lines c.append.ensures.room
-      (λ failed. not_true (c.in_ok-add.ensures.fails.0 failed)) c.in_ok-add.ensures.adds
-      c.append.result c.append.ensures.counts)
-      (c.append.ensures.appended (suc trimmed) (drop trimmed list) honest (logs_are_held disk files list w)),
+          (c.append.ensures.kept.files honest) c.args.batch.now c.edits-edits.ensures.batch
+          c.append.new.self c.add.new.self c.append.ensures.lines c.appends_keep.ensures
+          c.held_versions_are_left.ensures.same entries c.append.result
+          (counts_told files c.requires.usable c.append.new.self c.add.new.self c.args.batch.now
+          c.args.number c.requires.next c.append.ensures.lines c.append.ensures.room
+          (λ failed. not_true (c.in_ok-add.ensures.fails.0 failed)) c.in_ok-add.ensures.adds
+          c.append.result c.append.ensures.counts)
+          (c.append.ensures.appended (suc trimmed) (drop trimmed list) honest
+          (logs_are_held disk files list w)),
       some_meant laws disk files list w c.args.batch.now c.edits-edits.ensures.batch
           c.appends_keep.ensures room (g.D.Disk.past c.args.disk.now)
           (g.D.Disk.past c.append.new.disk) (g.D.Disk.state c.append.new.disk)

@@ -15,7 +15,8 @@ use Rattle.engine.proofs.store_files.StoreFiles.open.Goals as goal
 pub returns-in_err-files-clause-opened : goal.returns-in_err-files-clause-opened
 returns-in_err-files-clause-opened g c = λ facts list honest. record {
   whole = λ represents. refuses c.from_residual.result _ IsEngineExternal
-      c.from_residual.ensures.1 ((c.in_err-files.ensures.opened facts list honest).whole represents);
+      c.from_residual.ensures.1
+      ((c.in_err-files.ensures.opened facts list honest).whole represents);
   meant = λ were. answers_nothing c.from_residual.result _ _ c.from_residual.ensures.1;
 }
 
