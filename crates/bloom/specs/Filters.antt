@@ -9,9 +9,11 @@ use Rattle.sha2.specs.Sha256.{sha256}
 abbrev pub first_hash : List ℕ → ℕ
 first_hash key = from_be_bytes w64 (take 8 (sha256 key))
 
+-- the second hash of a key: the next eight bytes of its SHA-256
 abbrev pub second_hash : List ℕ → ℕ
 second_hash key = from_be_bytes w64 (take 8 (drop 8 (sha256 key)))
 
+-- both hashes of a key
 abbrev pub hashes_of : List ℕ → ℕ × ℕ
 hashes_of key = (first_hash key, second_hash key)
 
@@ -56,6 +58,7 @@ CoversHashed filter hashes =
 abbrev pub Covers : List ℕ → List ℕ → Type 0
 Covers filter key = CoversHashed filter (hashes_of key)
 
+-- a filter covers each of these keys
 abbrev pub CoversAll : List ℕ → List (List ℕ) → Type 0
 CoversAll filter keys = All (λ key. Covers filter key) keys
 

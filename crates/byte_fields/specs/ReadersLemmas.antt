@@ -38,6 +38,7 @@ nothing_read {A} {Is} {spell} {read} reads bytes fits none =
 
 -- ---- one behind the other
 
+-- two readers, one behind the other, read what is spelled so
 pub both_reads : {A B : Type 0} {IsA : A → Type 0} {IsB : B → Type 0} {spell_a : A → List ℕ}
     {spell_b : B → List ℕ} {first : Reader A} {second : Reader B} → Reads IsA spell_a first
     → Reads IsB spell_b second
@@ -62,6 +63,7 @@ both_reads {A} {B} {IsA} {IsB} {spell_a} {spell_b} {first} {second} f s =
 
 -- ---- a reading with a function applied to its value
 
+-- a reader of one type reads another, where the two are the same but for their names
 pub made_reads : {A B : Type 0} {Is : A → Type 0} {spell : A → List ℕ} {read : Reader A}
     (make : A → B) (of : B → A) → ((b : B) → make (of b) ≡ b) → ((a : A) → of (make a) ≡ a)
     → Reads Is spell read
@@ -100,6 +102,7 @@ passed : {A : Type 0} (b : Bool) (x y : A) → cond b (Some x) None ≡ Some y
 passed true x y e = (refl, cc)
 passed false x y e = absurd cc
 
+-- a reader with a test reads what is right and passes it
 pub only_reads : {A : Type 0} {Is Js : A → Type 0} {spell : A → List ℕ} {read : Reader A}
     (test : A → Bool) → ((a : A) → Is a → test a ≡ true → Js a)
     → ((a : A) → Js a → Is a × (test a ≡ true)) → Reads Is spell read
@@ -121,9 +124,11 @@ only_reads {A} {Is} {Js} {spell} {read} test right fails r =
 
 -- ---- numbers
 
+-- bytes are bytes without the first few
 pub IsBytes-drop : (n : ℕ) (bytes : List ℕ) → IsBytes bytes → IsBytes (drop n bytes)
 IsBytes-drop n bytes h i = rw get_or-drop (h (n + i))
 
+-- the first few of bytes are bytes
 pub IsBytes-take : (n : ℕ) (bytes : List ℕ) → IsBytes bytes → IsBytes (take n bytes)
 IsBytes-take n bytes h i =
     elim (cases_lt i n) [
@@ -148,6 +153,7 @@ back8 (b ∷ []) len fits =
     ap (λ (x : ℕ). x ∷ []) same
 back8 (b ∷ c ∷ bytes) len fits = absurd (omega (arith, len))
 
+-- one byte holds each number below 256
 pub wide8 : IsWide w8 256
 wide8 = record {
   len = λ n. refl;
@@ -156,6 +162,7 @@ wide8 = record {
   below = λ bytes fits. omega (arith, fits 0);
 }
 
+-- two bytes hold each number below 2^16
 pub wide16 : IsWide w16 (2 ^ 16)
 wide16 = record {
   len = λ n. refl;
@@ -164,6 +171,7 @@ wide16 = record {
   below = λ bytes fits. omega (arith, fits 0, fits 1);
 }
 
+-- four bytes hold each number below 2^32
 pub wide32 : IsWide w32 (2 ^ 32)
 wide32 = record {
   len = λ n. refl;
@@ -172,6 +180,7 @@ wide32 = record {
   below = λ bytes fits. omega (arith, fits 0, fits 1, fits 2, fits 3);
 }
 
+-- eight bytes hold each number below 2^64
 pub wide64 : IsWide w64 (2 ^ 64)
 wide64 = record {
   len = λ n. refl;
@@ -215,6 +224,7 @@ number_again w bound wide n rest lt =
       wide.again n lt,
     ) refl
 
+-- a number is read as it is spelled in its width
 pub number_reads : (w : Width) (bound : ℕ) → IsWide w bound
     → Reads (λ n. n < bound) (to_be_bytes w) (number_at w)
 number_reads w bound wide =
@@ -222,6 +232,7 @@ number_reads w bound wide =
 
 -- ---- a given number of readings, one behind the other
 
+-- so many readings take so many spellings
 pub many_takes : {A : Type 0} {Is : A → Type 0} {spell : A → List ℕ} {read : Reader A}
     → Reads Is spell read → (n : ℕ) (bytes : List ℕ) (x : List A × List ℕ) → IsBytes bytes
     → many read n bytes ≡ Some x
@@ -245,6 +256,7 @@ many_takes {A} {Is} {spell} {read} r (suc n) bytes x fits e =
     × AllByRecursion Is y.0) (some_is found x b.2)
     (rw flat_map-cons whole, ap suc second.1, (first.1, second.2))
 
+-- items that are spelled one behind the other are read back
 pub many_again : {A : Type 0} {Is : A → Type 0} {spell : A → List ℕ} {read : Reader A}
     → Reads Is spell read → (xs : List A) (rest : List ℕ) → AllByRecursion Is xs
     → many read (length xs) (flat_map spell xs ++ rest) ≡ Some (xs, rest)
@@ -257,6 +269,7 @@ many_again {A} {Is} {spell} {read} r (x ∷ xs) rest is =
     ap (many read (suc (length xs))) regrouped
     ∙ rw (r.again x (flat_map spell xs ++ rest) is.0, many_again r xs rest is.1) refl
 
+-- items behind their number are read as they are spelled
 pub counted_reads : {A : Type 0} {Is : A → Type 0} {IsCount : ℕ → Type 0} {spell : A → List ℕ}
     {spell_count : ℕ → List ℕ} {read : Reader A} {count : Reader ℕ}
     → Reads IsCount spell_count count → Reads Is spell read

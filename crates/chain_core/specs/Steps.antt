@@ -58,6 +58,7 @@ pub record StepLeaves (x : ℕ) (n : Machine) (batch : BatchContent) (d : Done)
   pub frames : a.frames ≡ frames_after x n d a.node
   pub dropped : a.dropped ≡ None
 
+-- each step leaves what its decision says
 abbrev pub StepsLeave : Type 0
 StepsLeave = (x : ℕ) (n : Machine) (batch : BatchContent) (d : Done) →
     StepLeaves x n batch d (done_of x n batch d)

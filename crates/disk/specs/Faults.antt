@@ -17,6 +17,7 @@ abbrev pub call_at : ℕ → Option ℕ
 call_at zero = None
 call_at (suc n) = Some (suc n)
 
+-- the call that a fault strikes, if it strikes one
 abbrev pub struck_call : Fault → Option ℕ
 struck_call fault.None = None
 struck_call (fault.Fail call) = call_at call
@@ -36,6 +37,7 @@ abbrev pub fault_by : ℕ → Mark → Option ℕ
 fault_by len (Armed call) = armed_after len call
 fault_by len (Crashed junk) = None
 
+-- how long the past is once the armed fault has struck, by the latest mark, if one is armed
 abbrev pub fault_of : Marks → Option ℕ
 fault_of [] = None
 fault_of (mark ∷ before) = fault_by mark.0 mark.1

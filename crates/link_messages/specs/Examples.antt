@@ -19,6 +19,7 @@ first_forward = frame.Forward 0 1 1 one_put
 abbrev pub first_ack : Frame
 first_ack = frame.Ack 0 3 1 1
 
+-- the bytes of a batch of one put, and of two frames
 pub record FrameExamples : Type 0 where
   pub put : batch.batch_bytes one_put ≡ 0 ∷ 1 ∷ 1 ∷ 0 ∷ 1 ∷ 97 ∷ 0 ∷ 1 ∷ 49 ∷ []
   pub forward : frame_bytes first_forward

@@ -20,12 +20,15 @@ use Rattle.link_messages.specs.declared.frame.Frame.TheVariants as frame
 abbrev pub u8 : ℕ → List ℕ
 u8 n = to_be_bytes w8 n
 
+-- a number in two bytes
 abbrev pub u16 : ℕ → List ℕ
 u16 n = to_be_bytes w16 n
 
+-- a number in four bytes
 abbrev pub u32 : ℕ → List ℕ
 u32 n = to_be_bytes w32 n
 
+-- a number in eight bytes
 abbrev pub u64 : ℕ → List ℕ
 u64 n = to_be_bytes w64 n
 
@@ -49,6 +52,7 @@ range_text range =
     text_bytes range.from ++
     (optional text_bytes range.to ++ (truth range.backward ++ u32 range.limit))
 
+-- the key and the value
 abbrev pub row_text : Row → List ℕ
 row_text row = text_bytes row.key ++ text_bytes row.value
 
@@ -119,6 +123,7 @@ frame_bytes f = u32 (length (body f)) ++ body f
 abbrev pub IsEpoch : ℕ → Type 0
 IsEpoch epoch = epoch ≤ 15
 
+-- a number of a batch or a request
 abbrev pub IsNumber : ℕ → Type 0
 IsNumber n = n ≤ MAX_NUMBER
 
@@ -126,17 +131,21 @@ IsNumber n = n ≤ MAX_NUMBER
 abbrev pub IsPlace : ℕ → Type 0
 IsPlace n = (1 ≤ n) × (n ≤ MAX_NUMBER)
 
+-- a key within its limit
 abbrev pub IsKey : List ℕ → Type 0
 IsKey key = length key ≤ MAX_KEY
 
+-- a value within its limit
 abbrev pub IsValue : List ℕ → Type 0
 IsValue value = length value ≤ MAX_VALUE
 
+-- a range of keys within their limit, and of rows within those of a page
 pub record IsRange (range : Span) : Type 0 where
   pub from : IsKey range.from
   pub to : IfSome range.to IsKey
   pub limit : (1 ≤ range.limit) × (range.limit ≤ MAX_ROWS)
 
+-- a row whose key and value are within their limits
 abbrev pub IsRow : Row → Type 0
 IsRow row = IsKey row.key × IsValue row.value
 

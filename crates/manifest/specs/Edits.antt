@@ -16,15 +16,19 @@ use Rattle.manifest.specs.Versions.{Change}
 abbrev pub counted_bytes : {A : Type 0} → (A → List ℕ) → List A → List ℕ
 counted_bytes spelled items = to_be_bytes w16 (length items) ++ flat_map spelled items
 
+-- the file of a log, and the number of its first batch, in eight bytes each
 abbrev pub log_line_bytes : LogLine → List ℕ
 log_line_bytes line = to_be_bytes w64 line.file ++ to_be_bytes w64 line.first
 
+-- a table's level in one byte, and its file in eight
 abbrev pub table_name_bytes : TableName → List ℕ
 table_name_bytes one = one.level ∷ to_be_bytes w64 one.file
 
+-- the level of a table in one byte, its file and its length in eight each
 abbrev pub table_head_bytes : TableLine → List ℕ
 table_head_bytes line = line.level ∷ to_be_bytes w64 line.file ++ to_be_bytes w64 line.length
 
+-- the head of a table's line, and its least and its greatest key
 unfoldable pub table_line_bytes : TableLine → List ℕ
 table_line_bytes line = table_head_bytes line ++ (text_bytes line.least ++ text_bytes line.greatest)
 

@@ -31,6 +31,7 @@ ManifestHasNoRoom manifest change = HasNoRoom manifest.slots.log (change_text ch
 abbrev pub counting_file : Manifest → ℕ
 counting_file manifest = file_of manifest.slots.log
 
+-- the file of the other slot
 abbrev pub spare_file : Manifest → ℕ
 spare_file manifest = other_slot manifest.slots.slot
 
@@ -47,6 +48,7 @@ HasSameSlots old new = (counting_file new ≡ counting_file old)
 abbrev pub slot_length : Manifest → ℕ
 slot_length manifest = gate_of manifest.slots.log + 1
 
+-- the length of the first record of the slot that counts
 abbrev pub first_edit_length : Manifest → ℕ
 first_edit_length manifest = first_length manifest.slots.log
 

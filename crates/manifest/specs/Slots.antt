@@ -33,6 +33,7 @@ IsSuperseded generation bytes = IsClosed bytes ⊎ ((lesser : ℕ) × (id : ℕ)
 abbrev pub IsSlotFile : ℕ → Type 0
 IsSlotFile slot = (slot ≡ 1) ⊎ (slot ≡ 2)
 
+-- the other of the two slots
 abbrev pub other_slot : ℕ → ℕ
 other_slot slot = 3 - slot
 
@@ -72,6 +73,7 @@ pub record ManifestRepresents (named : NodeVersion) (left : Contents) : Type 0 w
 abbrev pub IsClosedOrAbsent : Option (List ℕ) → Type 0
 IsClosedOrAbsent file = IsSomeAnd file (λ bytes. (rest : List ℕ) × (bytes ≡ 1 ∷ rest)) → ⊥
 
+-- no slot is open: nothing was created here
 pub record IsNotCreated (left : Contents) : Type 0 where
   pub first : IsClosedOrAbsent (left 1)
   pub second : IsClosedOrAbsent (left 2)

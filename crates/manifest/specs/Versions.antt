@@ -65,6 +65,7 @@ AreInOrder before (x ∷ xs) = All (λ y. before y x ≡ false) xs × AreInOrder
 abbrev pub log_is_before : LogLine → LogLine → Bool
 log_is_before a b = nat_lt a.first b.first
 
+-- the logs and one more, at its place
 abbrev pub with_log : List LogLine → LogLine → List LogLine
 with_log logs line = placed log_is_before logs line
 
@@ -73,6 +74,7 @@ abbrev pub table_is_before : TableLine → TableLine → Bool
 table_is_before a b = nat_lt a.level b.level || (a.level == b.level &&
     (if a.level == 0 then nat_lt a.file b.file else is_lt (slice_cmp nat_cmp a.least b.least)))
 
+-- the tables and one more, at its place
 abbrev pub with_table : List TableLine → TableLine → List TableLine
 with_table tables line = placed table_is_before tables line
 
@@ -80,6 +82,7 @@ with_table tables line = placed table_is_before tables line
 abbrev pub logs_left : List ℕ → List LogLine → List LogLine
 logs_left gone logs = filter (λ line. not (list_any (λ file. file == line.file) gone)) logs
 
+-- the tables that are left when those of these names are given up
 abbrev pub tables_left : List TableName → List TableLine → List TableLine
 tables_left gone tables = filter
     (λ line. not (list_any (λ one. one.level == line.level && one.file == line.file) gone)) tables

@@ -29,6 +29,7 @@ pub all_logs_left : (logs : List LogLine) → logs_left [] logs ≡ logs
 all_logs_left [] = refl
 all_logs_left (line ∷ lines) = ap (λ (l : List LogLine). line ∷ l) (all_logs_left lines)
 
+-- where no table is given up, all are left
 pub all_tables_left : (tables : List TableLine) → tables_left [] tables ≡ tables
 all_tables_left [] = refl
 all_tables_left (line ∷ lines) = ap (λ (l : List TableLine). line ∷ l) (all_tables_left lines)

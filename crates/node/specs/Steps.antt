@@ -98,6 +98,7 @@ replies_to_response input (Response.Opened i s) = []
 replies_to_response input (Response.Closed i s) = []
 replies_to_response input (Response.Refused i why) = reply.Refused i why ∷ []
 
+-- the replies to clients for those of the machine, in order
 abbrev pub replies_of : Input → List (model.Response BatchContent) → List Reply
 replies_of input replies = flat_map (replies_to_response input) replies
 

@@ -15,9 +15,11 @@ use Rattle.lab.specs.declared.EventKind.TheVariants.{Submit, Get, Deliver, Tick,
 use Rattle.program.specs.declared.script.statement.Action.{Action}
 use Rattle.program.specs.declared.script.statement.Action.TheVariants.{Event, Invalid}
 
+-- what is wrong with a key, if anything is
 abbrev pub key_error : List ℕ → Option KvError
 key_error key = if nat_lt MAX_KEY (length key) then Some KeyTooLong else None
 
+-- what is wrong with a value, if anything is
 abbrev pub value_error : List ℕ → Option KvError
 value_error value = if nat_lt MAX_VALUE (length value) then Some ValueTooLong else None
 

@@ -51,6 +51,7 @@ limit_words_fault before faulty (name ∷ word ∷ []) =
     if bytes_eq name (codes "log") && is_log_size (digits_value 10 word) then None else Some BadLimit
 limit_words_fault before faulty words = Some WrongNumberOfWords
 
+-- the least fault of a limit, by its words and by the fault that it bears
 abbrev pub limit_fault : ParserState → List (List ℕ) → Option ScriptError
 limit_fault before args = limit_words_fault before (has_fault args) (before_fault args)
 
@@ -78,6 +79,7 @@ statement_fault before name args =
     option_or (spelling_fault name args)
     (node_fault before.configs (node_named (name ∷ before_fault args)))
 
+-- the least fault of the words of a line: each kind of line has its own
 abbrev pub words_fault : ParserState → List (List ℕ) → Option ScriptError
 words_fault before [] = Some UnknownStatement
 words_fault before (name ∷ args) =
@@ -91,6 +93,7 @@ line_fault before line =
     if nat_lt 262144 (length line) then Some LineTooLong else
     if is_skipped line then None else words_fault before (words_of line)
 
+-- what stands before the line behind these words
 abbrev pub after_words : ParserState → List (List ℕ) → ParserState
 after_words before [] = before
 after_words before (name ∷ args) =

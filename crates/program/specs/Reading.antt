@@ -48,6 +48,7 @@ pub record ReadsFaultAs (name : List ℕ) (words : List (List ℕ)) (fault : Fau
   pub spelled : IsFault fault words
   pub none : takes_fault name ≡ false → fault ≡ disk.None
 
+-- what a reader returned for the fault behind a statement: the one spelled, or what is wrong
 abbrev pub ReadsFault : List ℕ → List (List ℕ) → Result Fault ScriptError → Type 0
 ReadsFault name words (Ok fault) = ReadsFaultAs name words fault
 ReadsFault name words (Err e) = (e ≢ OutOfMemory) → fault_word name words ≡ Some e
@@ -89,6 +90,7 @@ after_item before (Asks action) =
       log = before.log;
     }
 
+-- the statement of an item, if it has one
 abbrev pub statements_of : ℕ → LineItem → List Statement
 statements_of n Skipped = []
 statements_of n (Limit size) = []
@@ -113,12 +115,14 @@ PlacesNode before name args (Ok node) =
     × ((cs : Configurations) × (before.configs ≡ Some cs) × (has (at_epoch cs 0) node ≡ true))
 PlacesNode before name args (Err e) = statement_fault before name args ≡ Some e
 
+-- what a reader returned for the words of a line: their item, or their least fault
 abbrev pub ReadsWords : ParserState → List (List ℕ) → Result LineItem ScriptError → Type 0
 ReadsWords before words (Ok item) =
     (words_fault before words ≡ None) × IsItemOfWords before words item
     × (after_words before words ≡ after_item before item)
 ReadsWords before words (Err e) = (e ≢ OutOfMemory) → words_fault before words ≡ Some e
 
+-- what a reader returned for a line: its item, or its least fault
 abbrev pub ReadsLine : ParserState → List ℕ → Result LineItem ScriptError → Type 0
 ReadsLine before line (Ok item) =
     (line_fault before line ≡ None) × IsItem before line item

@@ -52,6 +52,7 @@ delivery place = faultless (Deliver place)
 abbrev pub deliveries : List ℕ → List lab.Event
 deliveries left = map delivery (take most left)
 
+-- the frames of these that an event does not deliver
 abbrev pub left_after_event : EventKind → List ℕ → List ℕ
 left_after_event (Deliver place) left = without place left
 left_after_event (Submit node batch) left = left
@@ -135,9 +136,11 @@ pub record Stretch : Type 0 where
   pub choices : List Choice
   pub steps : List (List Line)
 
+-- a stretch of no event
 abbrev pub no_stretch : Stretch
 no_stretch = record { events = []; choices = []; steps = [] }
 
+-- two stretches as one
 abbrev pub followed_by : Stretch → Stretch → Stretch
 followed_by first second = record {
   events = first.events ++ second.events;

@@ -30,6 +30,7 @@ abbrev pub is_skipped : List ℕ → Bool
 is_skipped [] = true
 is_skipped (b ∷ bs) = b == 35
 
+-- an action at this line
 abbrev pub statement : ℕ → Action → Statement
 statement n action = record { line = n; action = action }
 
@@ -97,6 +98,7 @@ IsScriptWith log n (line ∷ lines) setup statements =
     ⊎ ((ids : List ℕ) × (words_of line ≡ codes "config" ∷ map decimal ids) × IsConfig ids
     × SetsUp setup log (ids ∷ []) × AreStatements (ids ∷ []) (suc n) lines statements))
 
+-- lines that are a script, the first with number n, with the size of logs that is set by default
 abbrev pub IsScript : ℕ → List (List ℕ) → Setup → List Statement → Type 0
 IsScript = IsScriptWith default_log
 

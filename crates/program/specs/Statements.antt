@@ -40,6 +40,7 @@ abbrev pub AreBytesIn : Edit → Type 0
 AreBytesIn (Put key value) = AreBytes key × AreBytes value
 AreBytesIn (Delete key) = AreBytes key
 
+-- what a stop leaves in unsynced places is of bytes
 abbrev pub AreBytesOf : Junk → Type 0
 AreBytesOf Old = Unit {0}
 AreBytesOf New = Unit {0}
@@ -78,20 +79,24 @@ pub data Kind : Type 0 where
   edit : Kind
   junk : Kind
 
+-- a submit names a node, then edits
 abbrev pub submit_shape : List (List ℕ) → Option (List Kind)
 submit_shape [] = None
 submit_shape (node ∷ edits) = Some (number ∷ map (λ _. edit) edits)
 
+-- a get names a node, a key, and a number or none
 abbrev pub get_shape : ℕ → Option (List Kind)
 get_shape n =
     if n == 2 then Some (number ∷ text ∷ [])
     else if n == 3 then Some (number ∷ text ∷ number ∷ []) else None
 
+-- a stop names a node, and what it leaves or nothing
 abbrev pub stop_shape : ℕ → Option (List Kind)
 stop_shape n =
     if n == 1 then Some (number ∷ [])
     else if n == 2 then Some (number ∷ junk ∷ []) else None
 
+-- a statement of a name alone
 abbrev pub none_shape : ℕ → Option (List Kind)
 none_shape n = if n == 0 then Some [] else None
 
@@ -117,6 +122,7 @@ are_pairs [] = true
 are_pairs (a ∷ []) = false
 are_pairs (a ∷ b ∷ bs) = is_hex a && is_hex b && are_pairs bs
 
+-- the word for what a stop leaves in unsynced places
 abbrev pub is_junk : List ℕ → Bool
 is_junk w =
     bytes_eq w (codes "old") || bytes_eq w (codes "new")
@@ -127,21 +133,25 @@ abbrev pub is_bad_number : Kind × List ℕ → Bool
 is_bad_number (number, w) = not (is_number w)
 is_bad_number (_, w) = false
 
+-- a word that is not the byte string or edit that has to stand there
 abbrev pub is_bad_text : Kind × List ℕ → Bool
 is_bad_text (text, w) = not (is_byte_string w)
 is_bad_text (edit, w) = not (is_edit w)
 is_bad_text (_, w) = false
 
+-- a word that is not what a stop leaves, where that has to stand
 abbrev pub is_bad_junk : Kind × List ℕ → Bool
 is_bad_junk (junk, w) = not (is_junk w)
 is_bad_junk (_, w) = false
 
+-- the least fault of words, each with the kind that has to stand in its place
 abbrev pub fault_of_places : List (Kind × List ℕ) → Option ScriptError
 fault_of_places places =
     if list_any is_bad_number places then Some BadNumber else
     if list_any is_bad_text places then Some BadBytes else
     if list_any is_bad_junk places then Some BadFault else None
 
+-- the name of a statement
 abbrev pub is_name : List ℕ → Bool
 is_name w =
     bytes_eq w (codes "submit") || bytes_eq w (codes "get") || bytes_eq w (codes "stop")

@@ -48,6 +48,7 @@ error_text kv.BadBytes = codes "6 BadBytes"
 error_text kv.Memory = codes "7 Memory"
 error_text kv.BadLimit = codes "8 BadLimit"
 
+-- the name of the reason for a drop
 abbrev pub reason_text : DropReason → List ℕ
 reason_text reason.NotRunning = codes "NotRunning"
 reason_text reason.Running = codes "Running"
@@ -62,12 +63,14 @@ reason_text reason.BadNotice = codes "BadNotice"
 reason_text reason.NotForNodes = codes "NotForNodes"
 reason_text reason.Unreadable = codes "Unreadable"
 
+-- what stopped a node
 abbrev pub cause_text : Stop → List ℕ
 cause_text stop.Disk = codes "disk"
 cause_text stop.Damaged = codes "damaged"
 cause_text stop.Memory = codes "memory"
 cause_text stop.NotCreated = codes "not created"
 
+-- a reply to a client
 abbrev pub reply_text : Reply → List ℕ
 reply_text (Committed request n) = codes "committed " ++ decimal n
 reply_text (Value request n None) = codes "none at " ++ decimal n
@@ -75,6 +78,7 @@ reply_text (Value request n (Some value)) =
     codes "value " ++ (bytes_text value ++ (codes " at " ++ decimal n))
 reply_text (Refused request refusal) = codes "refused " ++ refusal_text refusal
 
+-- a node that started, with what it has
 abbrev pub started_text : ℕ → ℕ → ℕ → ℕ → List ℕ
 started_text node epoch count committed =
     codes "node " ++ (decimal node ++ (codes " started epoch " ++ (decimal epoch
@@ -86,15 +90,18 @@ frame_text place from to kind epoch =
     codes "#" ++ (decimal place ++ (codes " " ++ (decimal from ++ (codes ">" ++ (decimal to
     ++ (codes " " ++ (kind ++ (codes " " ++ decimal epoch))))))))
 
+-- a frame that forwards a batch
 abbrev pub forwarded_text : ℕ → ℕ → ℕ → ℕ → ℕ → List ℕ
 forwarded_text place from to epoch number =
     frame_text place from to (codes "forward") epoch ++ (codes " " ++ decimal number)
 
+-- a frame that acknowledges batches
 abbrev pub acknowledged_text : ℕ → ℕ → ℕ → ℕ → ℕ → ℕ → List ℕ
 acknowledged_text place from to epoch committed have =
     frame_text place from to (codes "ack") epoch
     ++ (codes " " ++ (decimal committed ++ (codes " " ++ decimal have)))
 
+-- a node that stopped, with the cause if it stopped by itself
 abbrev pub stopped_text : ℕ → Option Stop → List ℕ
 stopped_text node None = codes "node " ++ (decimal node ++ codes " stopped")
 stopped_text node (Some cause) =
@@ -122,12 +129,14 @@ kept_text floor kept tables =
     codes "floor " ++ (decimal floor ++ (codes " kept " ++ (decimal kept
     ++ (codes " tables" ++ flat_map spaced tables))))
 
+-- what a node knows of itself: its batches, what it keeps of them, and its tables
 abbrev pub numbers_text : ℕ → Numbers → List ℕ
 numbers_text node it =
     codes "node " ++ (decimal node
     ++ (codes " " ++ (counts_text it.epoch it.count it.committed
     ++ (codes " " ++ kept_text it.floor it.kept it.tables))))
 
+-- a line of a report
 abbrev pub line_text : Line → List ℕ
 line_text line.Nothing = codes "nothing"
 line_text (line.Dropped reason) = codes "dropped " ++ reason_text reason
@@ -157,6 +166,7 @@ abbrev pub line_of_request : List ℕ → ℕ → ℕ → ℕ
 line_of_request events here request =
     option_map_or (λ n. n) (slice_get events (request - 1)) here
 
+-- the number of the request that a reply answers
 abbrev pub request_of : Reply → ℕ
 request_of (Committed request n) = request
 request_of (Value request n value) = request
@@ -173,10 +183,12 @@ reply_place events here (line.Acknowledged place from to epoch committed have) =
 reply_place events here (line.Stopped node cause) = here
 reply_place events here (line.Tended did) = here
 
+-- what is printed for a line of a report
 abbrev pub line_output : List ℕ → ℕ → Line → List ℕ
 line_output events here line =
     flat_map (numbered_line (reply_place events here line)) (line_texts line)
 
+-- what is printed for the lines of a step
 abbrev pub step_text : List ℕ → ℕ → List Line → List ℕ
 step_text events here step = flat_map (line_output events here) step
 
@@ -195,6 +207,7 @@ result_text events turn steps =
     flat_map (step_text events turn.line) (drop turn.silent (take turn.events steps))
     ++ note_text turn.line turn.note
 
+-- what is printed for statements in order, of which each takes the steps of its events
 abbrev pub results_text : List ℕ → List StatementResult → List (List Line) → List ℕ
 results_text events [] steps = []
 results_text events (turn ∷ turns) steps =

@@ -32,6 +32,7 @@ bytes_text (b ∷ bs) = flat_map byte_text (b ∷ bs)
 abbrev pub is_hex : ℕ → Bool
 is_hex b = (nat_le 48 b && nat_le b 57) || (nat_le 97 b && nat_le b 102)
 
+-- the value of a hex digit
 abbrev pub hex_value : ℕ → ℕ
 hex_value b = if nat_le b 57 then b - 48 else b - 87
 

@@ -71,6 +71,7 @@ is_part file bytes place len is size =
     subst (λ (f : Option (List ℕ)). IsPartAt f place (take len (drop place bytes))) (sym is)
     (ap Some (ap (λ (n : ℕ). take n (drop place bytes)) size))
 
+-- a block that is known to read is answered, or the device or memory refuses it
 pub known_block_answered : KnownBlocksAreAnswered
 known_block_answered disk file place len (Ok block) bytes entries answer is within known =
     part_of (seen (disk file)) bytes (rc_slice_items block) place len is answer.0 answer.1.0
