@@ -50,7 +50,7 @@ returns-in_default-index_of-clause-ran c = λ cs events choices steps run.
     })
 
 pub returns-in_default-index_of-clause-limits : goal.returns-in_default-index_of-clause-limits
-returns-in_default-index_of-clause-limits c = λ limit has.
+returns-in_default-index_of-clause-limits c = λ limits has.
     record { given = has.given; nodes = has.nodes }
 
 -- the node took its step

@@ -59,6 +59,6 @@ returns-clause-follows c = λ cs events choices steps run names.
 pub returns-clause-limits : goal.returns-clause-limits
 returns-clause-limits c =
     on_ok_weaker c.apply-applied.result
-    (λ keeps limit has. let now = keeps limit has in
+    (λ keeps limits has. let now = keeps limits has in
     record { given = now.given; nodes = now.nodes })
     c.apply-applied.ensures.limits
