@@ -329,6 +329,7 @@ module _ (in_order : AlwaysInOrder) (cs : Configurations) (events : List Event)
           cause = out.fits;
           struck = stops_so (made.disks x) sim.state may event out.choice o x out.node t.did
               out.ends left;
+          tends = out.tends;
         };
         counted = ap frames_of_step t.traced ∙ out.counted (length posted);
         frames = subst (λ (l : List Posted). AllZip PostedRefines l (w.frames ++ o.frames))
@@ -413,7 +414,15 @@ module _ (in_order : AlwaysInOrder) (cs : Configurations) (events : List Event)
   nothing_next : HasNoDelivery w.frames event.kind → Grows sims posted (Nothing ∷ [])
   nothing_next brings =
       let choice : Choice =
-      record { went = Answered; struck = false; cause = Disk; tended = tended.Idle } in
+      record {
+        went = Answered;
+        struck = false;
+        cause = Disk;
+        tended = tended.Idle;
+        rises = false;
+        gives_up = 0;
+      }
+      in
       let none = nothing_done cs w i event.kind choice brings in
       let same : after w nothing ≡ state_after cs w (modelled i event.kind choice) =
       ap (after w) (sym none) in
@@ -424,6 +433,7 @@ module _ (in_order : AlwaysInOrder) (cs : Configurations) (events : List Event)
           cause = λ stops. absurd (false≢true
               (ap (λ (o : Outcome BatchContent). o.stopped) (sym none) ∙ stops));
           struck = λ strikes. absurd (false≢true strikes);
+          tends = (refl, refl);
         };
         counted = ap (λ (o : Outcome BatchContent). length o.frames) (sym none);
         frames = subst (λ (v : SystemState BatchContent). AllZip PostedRefines posted v.frames) same

@@ -8,6 +8,7 @@ use Rattle.disk.specs.declared.Fault.{Fault}
 use Rattle.disk.specs.declared.Junk.{Junk}
 use Rattle.disk.specs.{RisesByOne, CrashOutcome, IsLastLeft, Marks, State, fault_of, struck_call}
 use Rattle.chain_model.specs.{Answer, dropped_for, refused, started, stopped}
+use Rattle.chain_model.specs.Rules.{tend}
 use Rattle.engine.specs.declared.Tended.{Tended}
 use Rattle.link_messages.specs.declared.Frame.{Frame}
 use Rattle.link_messages.specs.declared.Frame.TheVariants as frame
@@ -125,10 +126,11 @@ TellsTended (Up old) (Up new) answer = TellsTend (engine_of old) (engine_of new)
 TellsTended (Up old) (Down disk) answer = ⊥
 TellsTended (Down disk) new answer = ⊥
 
--- a tend: the node ran, is as it was, and tells what it did; or it stopped by itself; or it is down
+-- a tend, which raises no floor and gives up no batch: the node ran, and tells what it did; or it
+-- stopped by itself; or it is down
 pub data HasTended {D : Type 0} {g : Ghosts D} (is_honest : D → Type 0) (state : D → State) (fault : Fault)
     (struck : Bool) (x : ℕ) (n : Machine) (old new : NodeState D g) (did : StepOutcome) : Type 0 where
-  Tends : n.running ≡ true → StateRefines is_honest state new x n
+  Tends : n.running ≡ true → StateRefines is_honest state new x (tend n false 0).node
       → (answer : Tended) × (did ≡ done.Tended answer) × TellsTended old new answer
       → HasTended is_honest state fault struck x n old new did
   Halts : n.running ≡ true → StopsByItself fault struck did

@@ -43,12 +43,15 @@ StateRefines is_honest state (Up node) x n = NodeRefines is_honest state node x 
 StateRefines is_honest state (Down disk) x n = DownRefines is_honest state disk x n
 
 -- what the code may choose in a step: how it went, whether the event's fault struck in it, why the
--- node stopped if it did, and what it did if it tended
+-- node stopped if it did, and what it did if it tended: whether its floor rises then, and which
+-- batches it gives up
 pub record Choice : Type 0 where
   pub went : model.StepResult
   pub struck : Bool
   pub cause : Cause
   pub tended : Tended
+  pub rises : Bool
+  pub gives_up : ℕ
 
 -- ---- a disk in memory
 

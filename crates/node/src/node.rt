@@ -1,10 +1,11 @@
 // A running node: its store, and the rules of a step over it.
-ghost use Rattle.std.specs.Prelude.{◌≡◌, ◌⊎◌, ◌↔◌, ℕ, length, slice_index};
+ghost use Rattle.std.specs.Prelude.{◌≡◌, ◌⊎◌, ◌↔◌, ℕ, length, slice_index, false};
 ghost use Rattle.std.specs.Prelude.{◌<◌, ◌≤◌, suc, OnOk, IfOk, IfErr, MatchResult, IsErrAnd};
 ghost use Rattle.kv_types.specs.declared.bounds.TheConstants.{MAX_NUMBER};
 ghost use Rattle.disk.specs.{contents, IsArmed, IsSame, IsStill, KeepsDisk};
 ghost use Rattle.chain_model.specs.{created, started, accept, append, forwards, on_ack, resend};
-ghost use Rattle.chain_model.specs.{reply_read, silent};
+ghost use Rattle.chain_model.specs.{reply_read};
+ghost use Rattle.chain_model.specs.Rules.{tend};
 ghost use Rattle.engine.specs.{EngineHolds, HasEnded, IsAdrift, IsJustOpened, IsNearlyFull, IsOwned};
 ghost use Rattle.engine.specs.{TellsTend, TendsAlike, engine_disk, facts_of, look_ups};
 ghost use Rattle.engine.specs.{table_count};
@@ -305,8 +306,8 @@ impl<D: Disk + Drop> Node<D> {
         ensures works { OnOk result (IsReady self.new) }
         ensures limits { node_limits self.new ≡ node_limits self.old }
         ensures ends { (x : ℕ) (n : Machine) → NodeRefines D.is_honest D.state self.old x n →
-            CallRefines D.Disk self.old self.new x n (silent n)
-            (λ tended. NodeRefines D.is_honest D.state self.new x n
+            CallRefines D.Disk self.old self.new x n (tend n false 0)
+            (λ tended. NodeRefines D.is_honest D.state self.new x (tend n false 0).node
             × TellsTend (engine_of self.old) (engine_of self.new) tended) result }
     {
         Ok(self.engine.tend(alloc)?)
