@@ -563,6 +563,7 @@ module _ (in_order : AlwaysInOrder) (cs : Configurations) (events : List Event)
         choice = choice;
         lines = lines;
         run = record {
+          configs = p.keeps.configs ∙ run.configs;
           kept = p.keeps.kept ∙ ap (λ (a : List (List Line)). a ++ (Nothing ∷ []) ∷ []) run.kept;
           taken = p.keeps.taken ∙ ap (λ (l : List Event). l ++ event ∷ []) run.taken;
           made = ran;
@@ -586,6 +587,7 @@ module _ (in_order : AlwaysInOrder) (cs : Configurations) (events : List Event)
         choice = grows.choice;
         lines = h.lines;
         run = record {
+          configs = h.keeps.configs ∙ run.configs;
           kept = h.keeps.kept ∙ ap (λ (a : List (List Line)). a ++ h.lines ∷ []) run.kept;
           taken = h.keeps.taken ∙ ap (λ (l : List Event). l ++ event ∷ []) run.taken;
           made = grows.ran;

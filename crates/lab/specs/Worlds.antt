@@ -280,19 +280,21 @@ pub record AreReportsAfter (cs : Configurations) (limits : Limits) (events : Lis
 abbrev pub events_in : List EventRecord → List Event
 events_in taken = map (λ it. it.event) taken
 
--- the world has applied these events, in each of which was chosen so, and keeps them and the lines
--- of each; its nodes came of them, with its limits
+-- the world has these configurations and applied these events, in each of which was chosen so, and
+-- keeps them and the lines of each; its nodes came of them, with its limits
 pub record HasRun (world : World) (cs : Configurations) (events : List Event)
     (choices : List Choice) (steps : List (List Line)) : Type 0 where
+  pub configs : world.configs ≡ cs
   pub kept : world.steps.items ≡ steps
   pub taken : events_in world.events.items ≡ events
   pub made : RunRefines world.nodes.items world.frames.items cs events choices steps
   pub came : AreNodesAfter cs world.limits events choices world.nodes.items
 
--- the world kept an event with its lines
+-- the world kept an event with its lines, and its configurations
 pub record HasKept (old new : World) (event : Event) (lines : List Line) : Type 0 where
   pub taken : events_in new.events.items ≡ events_in old.events.items ++ event ∷ []
   pub kept : new.steps.items ≡ old.steps.items ++ lines ∷ []
+  pub configs : new.configs ≡ old.configs
 
 -- the world starts nodes with these limits, and each of its nodes that is up has them
 pub record WorldHasLimits (world : World) (limits : Limits) : Type 0 where

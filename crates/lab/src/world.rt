@@ -40,6 +40,7 @@ use std::mem;
 /// An event is one step of one of them.
 #[derive(Drop)]
 pub struct World {
+    configs: Configs,
     limits: Limits,
     nodes: Vec<SimNode>,
     frames: Vec<Posted>,
@@ -189,6 +190,7 @@ impl World {
         ensures limits { IfOk result (λ world. WorldHasLimits world limits.now) }
     {
         Ok(World {
+            configs: configs.clone(alloc)?,
             limits: *limits,
             nodes: created_nodes(alloc, configs.first(), limits)?,
             frames: Vec::new(alloc),
@@ -363,6 +365,7 @@ impl World {
         let World {
             nodes,
             steps,
+            configs: _configs,
             limits: _limits,
             frames: _frames,
             events: _events,

@@ -1,4 +1,4 @@
-use Rattle.std.proofs.Common.{List, ℕ, sym, subst, ◌∙◌}
+use Rattle.std.proofs.Common.{List, refl, sym, subst, ◌∙◌}
 use Rattle.std.proofs.lemmas.List.{with_items_is}
 use Rattle.kv_types.specs.declared.Limits.{Limits}
 use Rattle.disk.specs.declared.Fault.{Fault}
@@ -22,7 +22,11 @@ returns c =
     ∙ sym nodes.ok.0 in
     record {
       lines = c.in_ok-lines.lines;
-      keeps = record { taken = c.in_ok-keep.ensures; kept = c.in_ok-push.ensures.items };
+      keeps = record {
+        taken = c.in_ok-keep.ensures;
+        kept = c.in_ok-push.ensures.items;
+        configs = refl;
+      };
       stepped = record {
         did = did;
         took = subst (λ (l : List SimNode). HasMoved nodes.items it.0 it.1

@@ -13,6 +13,7 @@ returns-clause-ran c =
     let are = subst (λ (ids : List ℕ). AreCreated ids ids limits sims) c.first.ensures.first
     c.in_ok-created_nodes.ensures in
     record {
+      configs = c.in_ok-clone.ensures;
       kept = c.new-3.ensures.items;
       taken = ap (λ (l : List EventRecord). events_in l) c.new-2.ensures.items;
       made = subst (λ (l : List Posted). RunRefines sims l cs [] [] []) (sym c.new.ensures.items)
