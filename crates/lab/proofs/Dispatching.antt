@@ -28,7 +28,8 @@ pub ready_down : {D : Type 0} (g : Ghosts D) (disk : D) → StateIsReady {g = g}
 ready_down g disk other same = absurd cc
 
 -- a node that answered and did nothing else has taken its input
-pub answered_only : {D : Type 0} (g : Ghosts D) (limits : Limits) (it : Fault) (node_input : NodeInput)
+pub answered_only : {D : Type 0} (g : Ghosts D) (limits : Limits) (it : Fault)
+    (node_input : NodeInput)
     (old : NodeState D g) (output : Output) → StateIsReady old →
     IsDown old ⊎ IsSome output.dropped →
     ((x : ℕ) (n : Machine) → StateRefines g.is_honest g.state old x n →
@@ -53,7 +54,8 @@ answered_only g limits it node_input old output ready may refines follows = reco
 }
 
 -- a node that is down takes what does not start it
-pub answered_at_rest : {D : Type 0} (g : Ghosts D) (limits : Limits) (it : Fault) (node_input : NodeInput) (disk : D)
+pub answered_at_rest : {D : Type 0} (g : Ghosts D) (limits : Limits) (it : Fault)
+    (node_input : NodeInput) (disk : D)
     (output : Output) → (node_input ≡ to_node.Start → ⊥) → IsAnswerAtRest node_input output →
     HasDispatched g limits it node_input (Down disk) (Down disk) (done.Answered output)
 answered_at_rest g limits it (to_node.Step inp) disk output other is =

@@ -124,14 +124,16 @@ module _ (cs : Configurations) (e : Event) (ch : Choice) where
   )
 
 -- nodes that follow from some with these limits have them
-pub follow_limited : (cs : Configurations) (limits : Limits) (i : ℕ) (es : List Event) (chs : List Choice)
+pub follow_limited : (cs : Configurations) (limits : Limits) (i : ℕ) (es : List Event)
+    (chs : List Choice)
     (w : SystemState BatchContent) (old new : List SimNode) →
     AllNodesFollow cs limits i es chs w old new → HaveLimits old limits → HaveLimits new limits
 follow_limited cs limits i [] chs w old new all has =
     subst (λ (l : List SimNode). HaveLimits l limits) (sym all) has
 follow_limited cs limits i (e ∷ es) [] w old new all has = absurd all
 follow_limited cs limits i (e ∷ es) (ch ∷ chs) w old new all has =
-    follow_limited cs limits (suc i) es chs (state_after cs w (modelled i e.kind ch)) all.0 new all.4
+    follow_limited cs limits (suc i) es chs (state_after cs w (modelled i e.kind ch)) all.0 new
+    all.4
     all.2
 
 -- each event has its lines

@@ -155,7 +155,8 @@ module _ (sims : List SimNode) (posted : List Posted) (cs : Configurations) (eve
 -- logs
 pub reported_run : {E : Type 0} (world : World) (cs : Configurations) (limits : Limits)
     (events : List Event) (choices : List Choice) (steps : List (List Line)) →
-    HasRun world cs events choices steps → WorldHasLimits world limits → (result : Result Report E) →
+    HasRun world cs events choices steps → WorldHasLimits world limits →
+    (result : Result Report E) →
     IfOk result (IsRun cs events choices) →
     IfOk result (λ report. AllZip IsReportOf world.nodes.items report.nodes.items) →
     IfOk result (λ report. (choices : List Choice) × IsRun cs events choices report
@@ -165,8 +166,8 @@ reported_run world cs limits events choices steps run has (Ok report) is own = (
   is,
   record {
     sims = world.nodes.items;
-    after = subst (λ (own : Limits). AreNodesAfter cs own events choices world.nodes.items) has.given
-        run.came;
+    after = subst (λ (own : Limits). AreNodesAfter cs own events choices world.nodes.items)
+        has.given run.came;
     own = own;
   },
 )

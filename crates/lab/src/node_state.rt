@@ -10,7 +10,8 @@ ghost use Rattle.node.specs.{DiskAlwaysRefines, IsReady, NodeRefines, StopRefine
 ghost use Rattle.node.specs.{node_limits};
 ghost use Rattle.lab.specs.Disks.{HasGrown, IsMarkedSo, junk_at_end};
 ghost use Rattle.lab.specs.Events.{told_cause};
-ghost use Rattle.lab.specs.SimNodes.{DownRefines, StateHasLimits, StateRefines, StateIsReady, disk_in};
+ghost use Rattle.lab.specs.SimNodes.{DownRefines, StateHasLimits, StateIsReady, StateRefines};
+ghost use Rattle.lab.specs.SimNodes.{disk_in};
 ghost use Rattle.lab.specs.Outcomes.{DiskFits, HasCrashed, HasHandled, HasStarted, HasDispatched};
 ghost use Rattle.lab.specs.Outcomes.{HasTended, MarksFit};
 ghost use Rattle.lab.specs.Outcomes.{IsExplained, has_struck_in};

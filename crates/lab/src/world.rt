@@ -11,12 +11,14 @@ ghost use Rattle.lab.specs.Events.{NamesNode};
 ghost use Rattle.chain_core.specs.{Machine};
 ghost use Rattle.disk.specs.{Slots};
 ghost use Rattle.node.specs.{NodeRefines};
-ghost use Rattle.lab.specs.SimNodes.{Choice, StateHasLimits, StateRefines, disk_in, is_honest, state};
+ghost use Rattle.lab.specs.SimNodes.{Choice, StateHasLimits, StateRefines, disk_in};
+ghost use Rattle.lab.specs.SimNodes.{is_honest, state};
 ghost use Rattle.lab.specs.Runs.{AreNumbersOf, IsRun, NumbersRefine};
 ghost use Rattle.lab.specs.History.{OneHistory};
 ghost use Rattle.lab.specs.Worlds.{HasRun, HasApplied, HasEnded, AreCreated, AreLeft, IsCreated};
 ghost use Rattle.lab.specs.Worlds.{IsLeft, IsReportOf, IsRunSoFar, HasFollowed, HasHistory};
-ghost use Rattle.lab.specs.Worlds.{HasStayed, HaveLimits, IsIndexOf, WorldHasLimits, WorldKeepsLimits};
+ghost use Rattle.lab.specs.Worlds.{HasStayed, HaveLimits, IsIndexOf, WorldHasLimits};
+ghost use Rattle.lab.specs.Worlds.{WorldKeepsLimits};
 ghost use Rattle.lab.specs.Worlds.{HasDelivered, HasMoved, HasNoNode, HasPassed, HasTablesOf, TellsTables};
 ghost use Rattle.lab.specs.Worlds.{events_in, frames_in_steps};
 

@@ -671,8 +671,8 @@ gone world setup left all behind turns report g none steps run history own =
       ran = run;
       nodes = record {
         sims = world.nodes.items;
-        after = subst (λ (own : Limits). AreNodesAfter setup.configs own g.past.events g.past.choices
-            world.nodes.items) g.run.limits.given g.run.run.came;
+        after = subst (λ (own : Limits). AreNodesAfter setup.configs own g.past.events
+            g.past.choices world.nodes.items) g.run.limits.given g.run.run.came;
         own = own;
       };
       history = history;

@@ -51,7 +51,8 @@ returns-in-BadFrame g c = λ limits.
     let output = c.dropped-output in
     subst (λ (k : NodeInput). HasDispatched g.D.Disk limits c.args.fault k (Up c.args.node) (Up c.args.node)
     (done.Answered output.result)) (sym c.in-BadFrame.is)
-    (answered_only g.D.Disk limits c.args.fault (to_node.BadFrame c.in-BadFrame.why) (Up c.args.node)
+    (answered_only g.D.Disk limits c.args.fault (to_node.BadFrame c.in-BadFrame.why)
+    (Up c.args.node)
     output.result (ready_up c.args.node c.requires)
     (inr (subst (λ d. IsSome d) (sym output.ensures.dropped) refl))
     (λ x n r. Drops r.core.running r (output.result, refl, output.ensures)) refl)
