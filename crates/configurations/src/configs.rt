@@ -7,6 +7,7 @@ ghost use Rattle.configurations.specs.Refusals.{ListHas, IsLeast};
 
 use crate::{Config, ConfigError, Epoch, NodeId};
 use chain_model::is_part_decides;
+use std::alloc::{AllocError, Global};
 use std::marker::Model;
 
 /// The greatest number of configurations.
@@ -102,5 +103,16 @@ impl Configs {
             (λ it. (epoch < length self.now) × (it.now ≡ at_epoch self.now epoch)) }
     {
         self.configs.get(epoch.get() as usize)
+    }
+
+    /// A copy, with memory of its own.
+    pub fn clone(&self, alloc: Global) -> Result<Configs, AllocError>
+        ensures { IfOk result (λ copy. copy ≡ self.now) }
+    {
+        let mut configs = Vec::new(alloc);
+        for config in &self.configs {
+            configs.push(config.clone()?)?;
+        }
+        Ok(Configs { configs })
     }
 }

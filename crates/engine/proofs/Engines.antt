@@ -72,10 +72,11 @@ module _ {T : Type 0} where
   on_second (Err e) P Q told = told
 
 -- an engine with these facts and so many batches, of which none is known to be committed
-pub told_of : {facts is : Facts} {count number limit : ℕ} → facts ≡ is → count ≡ number →
+pub told_of : {facts is : Facts} {count number : ℕ} {limits : Limits} → facts ≡ is →
+    count ≡ number →
     ◌≡◌ {A = LookUps}
-    (record { facts = facts; count = count; committed = 0; log_limit = limit })
-    (record { facts = is; count = number; committed = 0; log_limit = limit })
+    (record { facts = facts; count = count; committed = 0; limits = limits })
+    (record { facts = is; count = number; committed = 0; limits = limits })
 told_of facts count = rw (facts, count) refl
 
 -- ---- openings

@@ -1,6 +1,7 @@
 -- What the calls of an engine answer, and what they make of its disk.
 use Rattle.std.specs.Prelude.{◌≡◌, ◌⊎◌, ◌↔◌, ℕ, ◌<◌, ◌≤◌, List, [], ◌∷◌, Result, Ok, Err, IsErrOf}
 use Rattle.std.specs.Prelude.{IfOk, IsErrAnd, MatchResult, OnOk}
+use Rattle.kv_types.specs.declared.Limits.{Limits}
 use Rattle.kv_types.specs.{BatchContent}
 use Rattle.disk.specs.declared.Disk.{Ghosts}
 use Rattle.disk.specs.{AlwaysLeaves, Contents, KeepsDisk, State}
@@ -64,9 +65,9 @@ IsOldOrNewSince g old new facts list facts' list' =
 abbrev pub IsAdrift : {D : Type 0} (g : Ghosts D) → Engine D g → Type 0
 IsAdrift g engine = (list : List BatchContent) → EngineReads g engine list → ⊥
 
--- the answer is that of a tend of its files, with its limit
+-- the answer is that of a tend of its files, with its limit for logs
 abbrev pub TellsTend : {D : Type 0} {g : Ghosts D} → Engine D g → Engine D g → Tended → Type 0
-TellsTend old new answer = TellsWork (look_ups old).log_limit old.store new.store answer
+TellsTend old new answer = TellsWork (look_ups old).limits.log old.store new.store answer
 
 -- two engines tell the same of their tends
 abbrev pub TendsAlike : {D : Type 0} {g : Ghosts D} → Engine D g → Engine D g → Type 0
@@ -86,26 +87,26 @@ abbrev pub RefusedByDevice : {D : Type 0} {g : Ghosts D} → Result (Engine D g)
     Type 0
 RefusedByDevice result = IsErrAnd result (λ refused. refused.0 ≡ engine.Disk)
 
--- a store without batches, of node x in the first configuration, with this limit for logs; its disk
--- has the files of a new store, and no other
-pub record IsNewEngine {D : Type 0} {g : Ghosts D} (x : ℕ) (ids : List ℕ) (log_limit : ℕ)
+-- a store without batches, of node x in the first configuration, with these limits; its disk has
+-- the files of a new store, and no other
+pub record IsNewEngine {D : Type 0} {g : Ghosts D} (x : ℕ) (ids : List ℕ) (limits : Limits)
     (engine : Engine D g) : Type 0 where
   pub works : HasEnded engine → ⊥
   pub told : look_ups engine ≡ record {
     facts = first_facts x ids;
     count = 0;
     committed = 0;
-    log_limit = log_limit;
+    limits = limits;
   }
   pub files : g.is_honest (engine_disk engine) → HasFirstFiles (g.state (engine_disk engine)) x ids
 
--- an opened engine has this limit for logs, and knows only the batches below the floor to be
+-- an opened engine has these limits, and knows only the batches below the floor to be
 -- committed; its disk has no file that its version does not name
-pub record IsJustOpened {D : Type 0} {g : Ghosts D} (log_limit : ℕ) (engine : Engine D g) : Type 0
+pub record IsJustOpened {D : Type 0} {g : Ghosts D} (limits : Limits) (engine : Engine D g) : Type 0
   where
     pub works : HasEnded engine → ⊥
     pub committed : (look_ups engine).committed ≡ (look_ups engine).facts.floor
-    pub limit : (look_ups engine).log_limit ≡ log_limit
+    pub limits : (look_ups engine).limits ≡ limits
     pub swept : HasOnlyFiles g engine (engine_files engine)
 
 -- the engine tells these facts, and its disk represents them and the list

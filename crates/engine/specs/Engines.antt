@@ -1,5 +1,6 @@
 -- An engine and the list of batches that its disk represents.
 use Rattle.std.specs.Prelude.{◌≡◌, ◌⊎◌, ℕ, ◌+◌, ◌≤◌, List, length, IsTrue, IsSomeAnd}
+use Rattle.kv_types.specs.declared.Limits.{Limits}
 use Rattle.kv_types.specs.declared.bounds.TheConstants.{MAX_NUMBER}
 use Rattle.kv_types.specs.{BatchContent}
 use Rattle.disk.specs.declared.Disk.{Ghosts}
@@ -21,12 +22,12 @@ use Rattle.engine.specs.Tending.{tended_files}
 -- ---- what an engine tells
 
 -- what an engine knows: the facts of its files, the number of batches, that of the committed ones,
--- and the length of a log above which a flush is due
+-- and the limits by which it works
 pub record LookUps : Type 0 where
   pub facts : Facts
   pub count : ℕ
   pub committed : ℕ
-  pub log_limit : ℕ
+  pub limits : Limits
 
 module _ {D : Type 0} {g : Ghosts D} where
   abbrev pub facts_of : Engine D g → Facts
@@ -41,7 +42,7 @@ module _ {D : Type 0} {g : Ghosts D} where
     facts = facts_of engine;
     count = batch_count engine.store;
     committed = engine.committed;
-    log_limit = engine.log_limit;
+    limits = engine.limits;
   }
 
   -- the disk that it owns

@@ -22,8 +22,7 @@ use table_files::Files;
 pub struct Engine<D: Disk + Drop> {
     files: Files<D>,
     store: StoreFiles,
-    // The size of a log above which a flush is due.
-    log_limit: u64,
+    limits: Limits,
     committed: Number,
     has_ended: bool,
     ghost counted: { AreCounted store committed },
@@ -83,7 +82,7 @@ impl<D: Disk + Drop> Engine<D> {
         ensures created { D.is_honest disk →
             MatchResult result (λ engine. EngineHolds D.Disk engine [])
             (λ refused. IsEngineExternal refused.0) }
-        ensures begun { IfOk result (IsNewEngine id config.now limits.now.log) }
+        ensures begun { IfOk result (IsNewEngine id config.now limits.now) }
     {
         // laws: what a crash leaves of the files that are named, and what a disk reads
         held_versions_are_left();
@@ -94,7 +93,7 @@ impl<D: Disk + Drop> Engine<D> {
             Ok(store) => Ok(Engine {
                 files,
                 store,
-                log_limit: limits.log,
+                limits: *limits,
                 committed: Number::ZERO,
                 has_ended: false,
             }),
@@ -112,7 +111,7 @@ impl<D: Disk + Drop> Engine<D> {
         ensures told { D.is_honest disk →
             MatchResult result (IsOpened (contents (D.state disk)))
             (λ refused. ExplainsRefusal refused.0 (contents (D.state disk))) }
-        ensures fresh { IfOk result (IsJustOpened limits.now.log) }
+        ensures fresh { IfOk result (IsJustOpened limits.now) }
 
         // Where a crash before it leaves only files of these two stores, so does one at any moment
         // since.
@@ -139,7 +138,7 @@ impl<D: Disk + Drop> Engine<D> {
                 Ok(Engine {
                     files,
                     store,
-                    log_limit: limits.log,
+                    limits: *limits,
                     committed,
                     has_ended: false,
                 })
@@ -302,7 +301,7 @@ impl<D: Disk + Drop> Engine<D> {
         if self.has_ended {
             return Err(EngineError::Failed);
         }
-        let answer = self.store.tend(alloc, &mut self.files, self.log_limit);
+        let answer = self.store.tend(alloc, &mut self.files, self.limits.log);
         self.has_ended = answer.is_err();
         answer
     }

@@ -1,5 +1,5 @@
 -- The outcome of what an event delivers, by the kind of event.
-use Rattle.std.proofs.Common.{◌≡◌, ℕ, Bool, List, map, Option, Some, None, refl, sym}
+use Rattle.std.proofs.Common.{◌≡◌, ℕ, Bool, false, List, map, Option, Some, None, refl, sym}
 use Rattle.std.proofs.Common.{ap, subst, ◌∙◌}
 use Rattle.std.proofs.lemmas.Bool.{cond-true, cond-false, false≢true}
 use Rattle.kv_types.specs.{BatchContent}
@@ -122,7 +122,7 @@ module _ {g : Ghosts Slots} (cs : Configurations) (w : SystemState BatchContent)
         IsOutcome cs w i x (Start x) it struck new did
     start (Starts off is traced) =
         let o = answers x (silent (started x (w.nodes x))) in
-        as_chosen cs w i x (Start x) it new did plain o
+        as_chosen cs w i x (Start x) it new did plain (refl, refl) o
         (started x (w.nodes x)) (cond-false _ _ _ off) refl is
         (subst (λ (d : StepOutcome). IsTraced x (with_fault (Start x) it) plain d o) (sym traced)
         (record {
@@ -134,7 +134,7 @@ module _ {g : Ghosts Slots} (cs : Configurations) (w : SystemState BatchContent)
           told = tt;
         }))
     start (Fails off by is) =
-        as_chosen cs w i x (Start x) it new did (chosen StoppedBefore struck by.cause)
+        as_chosen cs w i x (Start x) it new did (chosen StoppedBefore struck by.cause) (refl, refl)
         (stops x (w.nodes x)) (stopped (w.nodes x)) (cond-false _ _ _ off) refl is
         (subst (λ (d : StepOutcome). IsTraced x (with_fault (Start x) it)
         (chosen StoppedBefore struck by.cause) d (stops x (w.nodes x))) (sym by.told)
@@ -143,7 +143,7 @@ module _ {g : Ghosts Slots} (cs : Configurations) (w : SystemState BatchContent)
         (told_fits it struck by.cause by.environmental)))
     start (RunsOn up is traced) =
         let o = answers x (dropped_for (w.nodes x) reason.Running) in
-        as_chosen cs w i x (Start x) it new did plain o (w.nodes x)
+        as_chosen cs w i x (Start x) it new did plain (refl, refl) o (w.nodes x)
         (cond-true _ _ _ up) refl is
         (subst (λ (d : StepOutcome). IsTraced x (with_fault (Start x) it) plain d o) (sym traced.1)
         (drop_traced x (with_fault (Start x) it) plain (w.nodes x) reason.Running traced.0
@@ -154,8 +154,17 @@ module _ {g : Ghosts Slots} (cs : Configurations) (w : SystemState BatchContent)
     tend (Tends up is traced) =
         let o = answers x (silent (w.nodes x)) in
         let choice : Choice =
-        record { went = Answered; struck = struck; cause = Disk; tended = traced.0 } in
-        as_chosen cs w i x (Tend x) it new did choice o (w.nodes x) (cond-true _ _ _ up) refl is
+        record {
+          went = Answered;
+          struck = struck;
+          cause = Disk;
+          tended = traced.0;
+          rises = false;
+          gives_up = 0;
+        }
+        in
+        as_chosen cs w i x (Tend x) it new did choice (refl, refl) o (w.nodes x)
+        (cond-true _ _ _ up) refl is
         (subst (λ (d : StepOutcome). IsTraced x (with_fault (Tend x) it) choice d o) (sym traced.1)
         (record {
           frames = refl;
@@ -166,7 +175,7 @@ module _ {g : Ghosts Slots} (cs : Configurations) (w : SystemState BatchContent)
           told = refl;
         }))
     tend (Halts up by is) =
-        as_chosen cs w i x (Tend x) it new did (chosen StoppedBefore struck by.cause)
+        as_chosen cs w i x (Tend x) it new did (chosen StoppedBefore struck by.cause) (refl, refl)
         (stops x (w.nodes x)) (stopped (w.nodes x)) (cond-true _ _ _ up) refl is
         (subst (λ (d : StepOutcome). IsTraced x (with_fault (Tend x) it)
         (chosen StoppedBefore struck by.cause) d (stops x (w.nodes x))) (sym by.told)
@@ -175,7 +184,7 @@ module _ {g : Ghosts Slots} (cs : Configurations) (w : SystemState BatchContent)
         (told_fits it struck by.cause by.environmental)))
     tend (TendsNot off is traced) =
         let o = answers x (dropped_for (w.nodes x) reason.NotRunning) in
-        as_chosen cs w i x (Tend x) it new did plain o (w.nodes x)
+        as_chosen cs w i x (Tend x) it new did plain (refl, refl) o (w.nodes x)
         (cond-false _ _ _ off) refl is
         (subst (λ (d : StepOutcome). IsTraced x (with_fault (Tend x) it) plain d o)
         (sym traced.1)
@@ -185,7 +194,7 @@ module _ {g : Ghosts Slots} (cs : Configurations) (w : SystemState BatchContent)
     stop : (junk : Junk) → HasStopped is_honest state x (w.nodes x) new did →
         IsOutcome cs w i x (Stop x junk) it struck new did
     stop junk (Stops up is traced) =
-        as_chosen cs w i x (Stop x junk) it new did plain (stops x (w.nodes x))
+        as_chosen cs w i x (Stop x junk) it new did plain (refl, refl) (stops x (w.nodes x))
         (stopped (w.nodes x)) (cond-true _ _ _ up) refl is
         (subst (λ (d : StepOutcome). IsTraced x (with_fault (Stop x junk) it) plain d
         (stops x (w.nodes x))) (sym traced)
@@ -193,7 +202,7 @@ module _ {g : Ghosts Slots} (cs : Configurations) (w : SystemState BatchContent)
         (λ e. refl) tt))
     stop junk (RestsOn off is traced) =
         let o = answers x (dropped_for (w.nodes x) reason.NotRunning) in
-        as_chosen cs w i x (Stop x junk) it new did plain o (w.nodes x)
+        as_chosen cs w i x (Stop x junk) it new did plain (refl, refl) o (w.nodes x)
         (cond-false _ _ _ off) refl is
         (subst (λ (d : StepOutcome). IsTraced x (with_fault (Stop x junk) it) plain d o)
         (sym traced.1)

@@ -1,6 +1,7 @@
 -- A node that takes an input, by the state that it had.
 use Rattle.std.proofs.Common.{◌≡◌, ◌⊎◌, ℕ, [], inl, refl, subst}
 use Rattle.std.specs.Prelude.{IsSome}
+use Rattle.kv_types.specs.declared.Limits.{Limits}
 use Rattle.chain_core.specs.{Machine}
 use Rattle.disk.specs.declared.Fault.{Fault}
 use Rattle.disk.specs.declared.disk.Disk.{Ghosts}
@@ -27,15 +28,16 @@ pub ready_down : {D : Type 0} (g : Ghosts D) (disk : D) → StateIsReady {g = g}
 ready_down g disk other same = absurd cc
 
 -- a node that answered and did nothing else has taken its input
-pub answered_only : {D : Type 0} (g : Ghosts D) (limit : ℕ) (it : Fault) (node_input : NodeInput)
+pub answered_only : {D : Type 0} (g : Ghosts D) (limits : Limits) (it : Fault)
+    (node_input : NodeInput)
     (old : NodeState D g) (output : Output) → StateIsReady old →
     IsDown old ⊎ IsSome output.dropped →
     ((x : ℕ) (n : Machine) → StateRefines g.is_honest g.state old x n →
     OutcomeRefines g.is_honest g.state it (has_struck_in g.past it (disk_in old) old) x n
     node_input old old (done.Answered output)) →
     StateFollows g.is_honest g.state g.failures g.past old node_input old →
-    HasDispatched g limit it node_input old old (done.Answered output)
-answered_only g limit it node_input old output ready may refines follows = record {
+    HasDispatched g limits it node_input old old (done.Answered output)
+answered_only g limits it node_input old output ready may refines follows = record {
   ready = ready;
   refines = refines;
   disk = λ honest. record {
@@ -48,27 +50,28 @@ answered_only g limit it node_input old output ready may refines follows = recor
   grows = λ x n r. ([], refl);
   marked = λ honest. inl (may, refl, refl);
   forgets = λ honest unarmed. unarmed;
-  limit = λ has. has;
+  limits = λ has. has;
 }
 
 -- a node that is down takes what does not start it
-pub answered_at_rest : {D : Type 0} (g : Ghosts D) (limit : ℕ) (it : Fault) (node_input : NodeInput) (disk : D)
+pub answered_at_rest : {D : Type 0} (g : Ghosts D) (limits : Limits) (it : Fault)
+    (node_input : NodeInput) (disk : D)
     (output : Output) → (node_input ≡ to_node.Start → ⊥) → IsAnswerAtRest node_input output →
-    HasDispatched g limit it node_input (Down disk) (Down disk) (done.Answered output)
-answered_at_rest g limit it (to_node.Step inp) disk output other is =
-    answered_only g limit it (to_node.Step inp) (Down disk) output (ready_down g disk)
+    HasDispatched g limits it node_input (Down disk) (Down disk) (done.Answered output)
+answered_at_rest g limits it (to_node.Step inp) disk output other is =
+    answered_only g limits it (to_node.Step inp) (Down disk) output (ready_down g disk)
     (inl tt)
     (λ x n r. Rests r.2 r (output, refl, is n)) refl
-answered_at_rest g limit it (to_node.BadFrame why) disk output other is =
-    answered_only g limit it (to_node.BadFrame why) (Down disk) output (ready_down g disk)
+answered_at_rest g limits it (to_node.BadFrame why) disk output other is =
+    answered_only g limits it (to_node.BadFrame why) (Down disk) output (ready_down g disk)
     (inl tt)
     (λ x n r. DropsResting r.2 r (output, refl, is)) refl
-answered_at_rest g limit it to_node.Tend disk output other is =
-    answered_only g limit it to_node.Tend (Down disk) output (ready_down g disk)
+answered_at_rest g limits it to_node.Tend disk output other is =
+    answered_only g limits it to_node.Tend (Down disk) output (ready_down g disk)
     (inl tt)
     (λ x n r. TendsNot r.2 r (output, refl, is)) refl
-answered_at_rest g limit it to_node.Start disk output other is = absurd (other refl)
-answered_at_rest g limit it (to_node.Stop junk) disk output other is =
-    answered_only g limit it (to_node.Stop junk) (Down disk) output (ready_down g disk)
+answered_at_rest g limits it to_node.Start disk output other is = absurd (other refl)
+answered_at_rest g limits it (to_node.Stop junk) disk output other is =
+    answered_only g limits it (to_node.Stop junk) (Down disk) output (ready_down g disk)
     (inl tt)
     (λ x n r. RestsOn r.2 r (output, refl, is)) refl

@@ -5,6 +5,7 @@ use Rattle.std.proofs.Common.{subst, ◌∙◌, length-append, arith}
 use Rattle.std.specs.Prelude.{All}
 use Rattle.std.specs.List.{AllZip}
 use Rattle.std.proofs.lemmas.Slice.Zip.{AllZip-long}
+use Rattle.kv_types.specs.declared.Limits.{Limits}
 use Rattle.kv_types.specs.{BatchContent}
 use Rattle.chain_model.specs.{Configurations, at_epoch, SystemState, run, reached, first_state}
 use Rattle.chain_model.specs.{state_after, outcome}
@@ -18,7 +19,7 @@ use Rattle.lab.specs.Events.{modelled, lines_of_event, ChoiceFits}
 use Rattle.lab.specs.SimNodes.{Choice, IsUnarmed, state, failures, marks}
 use Rattle.lab.specs.Traces.{modelled_from, lines_from, AllFit}
 use Rattle.lab.specs.Worlds.{PostedRefines, SimNodeRefines, RunRefines, frames_in_steps}
-use Rattle.lab.specs.Worlds.{AllNodesFollow, HaveLogLimit, NodesFollow, NodesRefine}
+use Rattle.lab.specs.Worlds.{AllNodesFollow, HaveLimits, NodesFollow, NodesRefine}
 use Rattle.lab.specs.Worlds.{frames_of_step}
 
 -- one event more at the end
@@ -91,16 +92,16 @@ module _ (cs : Configurations) (e : Event) (ch : Choice) where
         (omega arith) (omega arith) all.2 one,
   )
 
-  pub nodes-push : (limit i k : ℕ) (es : List Event) (chs : List Choice)
+  pub nodes-push : (limits : Limits) (i k : ℕ) (es : List Event) (chs : List Choice)
       (w : SystemState BatchContent) (old sims new : List SimNode) →
       length chs ≡ length es → k ≡ i + length es →
-      AllNodesFollow cs limit i es chs w old sims →
+      AllNodesFollow cs limits i es chs w old sims →
       let u = run cs (modelled_from i es chs) w in
       let o = outcome u cs (modelled k e.kind ch) in
-      NodesFollow o.acted_on e ch o sims new → HaveLogLimit new limit →
+      NodesFollow o.acted_on e ch o sims new → HaveLimits new limits →
       NodesRefine (state_after cs u (modelled k e.kind ch)).nodes new →
-      AllNodesFollow cs limit i (es ++ e ∷ []) (chs ++ ch ∷ []) w old new
-  nodes-push limit i k [] [] w old sims new same at all one has are = (
+      AllNodesFollow cs limits i (es ++ e ∷ []) (chs ++ ch ∷ []) w old new
+  nodes-push limits i k [] [] w old sims new same at all one has are = (
     new,
     subst (λ (l : List SimNode). let o = outcome w cs (modelled i e.kind ch) in
         NodesFollow o.acted_on e ch o l new) all
@@ -111,26 +112,28 @@ module _ (cs : Configurations) (e : Event) (ch : Choice) where
         (omega arith) are,
     refl,
   )
-  nodes-push limit i k [] (c ∷ chs) w old sims new same at all one has are = absurd (omega arith)
-  nodes-push limit i k (f ∷ es) [] w old sims new same at all one has are = absurd all
-  nodes-push limit i k (f ∷ es) (c ∷ chs) w old sims new same at all one has are = (
+  nodes-push limits i k [] (c ∷ chs) w old sims new same at all one has are = absurd (omega arith)
+  nodes-push limits i k (f ∷ es) [] w old sims new same at all one has are = absurd all
+  nodes-push limits i k (f ∷ es) (c ∷ chs) w old sims new same at all one has are = (
     all.0,
     all.1,
     all.2,
     all.3,
-    nodes-push limit (suc i) k es chs (state_after cs w (modelled i f.kind c)) all.0 sims new
+    nodes-push limits (suc i) k es chs (state_after cs w (modelled i f.kind c)) all.0 sims new
         (omega arith) (omega arith) all.4 one has are,
   )
 
--- nodes that follow from some with this limit for logs have it
-pub follow_limited : (cs : Configurations) (limit i : ℕ) (es : List Event) (chs : List Choice)
+-- nodes that follow from some with these limits have them
+pub follow_limited : (cs : Configurations) (limits : Limits) (i : ℕ) (es : List Event)
+    (chs : List Choice)
     (w : SystemState BatchContent) (old new : List SimNode) →
-    AllNodesFollow cs limit i es chs w old new → HaveLogLimit old limit → HaveLogLimit new limit
-follow_limited cs limit i [] chs w old new all has =
-    subst (λ (l : List SimNode). HaveLogLimit l limit) (sym all) has
-follow_limited cs limit i (e ∷ es) [] w old new all has = absurd all
-follow_limited cs limit i (e ∷ es) (ch ∷ chs) w old new all has =
-    follow_limited cs limit (suc i) es chs (state_after cs w (modelled i e.kind ch)) all.0 new all.4
+    AllNodesFollow cs limits i es chs w old new → HaveLimits old limits → HaveLimits new limits
+follow_limited cs limits i [] chs w old new all has =
+    subst (λ (l : List SimNode). HaveLimits l limits) (sym all) has
+follow_limited cs limits i (e ∷ es) [] w old new all has = absurd all
+follow_limited cs limits i (e ∷ es) (ch ∷ chs) w old new all has =
+    follow_limited cs limits (suc i) es chs (state_after cs w (modelled i e.kind ch)) all.0 new
+    all.4
     all.2
 
 -- each event has its lines

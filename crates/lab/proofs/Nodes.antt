@@ -7,34 +7,35 @@ use Rattle.std.specs.List.{AllByRecursion, AllZip}
 use Rattle.std.proofs.lemmas.List.{map-append, take_more}
 use Rattle.std.proofs.lemmas.List.Elements.{All-push, recursion_from_All, All-from_recursion}
 use Rattle.std.proofs.lemmas.Slice.Zip.{all_zipped_more}
+use Rattle.kv_types.specs.declared.Limits.{Limits}
 use Rattle.disk.specs.declared.Mark.TheVariants.{Armed}
 use Rattle.disk.specs.{Slots, fault_of, past_states}
 use Rattle.chain_model.specs.{Configurations, Lawful, AllDifferent, has, at_epoch, created}
 use Rattle.chain_core.specs.{Machine}
 use Rattle.lab.specs.declared.report.NodeReport.{NodeReport}
 use Rattle.lab.specs.declared.sim_node.SimNode.{SimNode}
-use Rattle.lab.specs.SimNodes.{HasLogLimit, IsUnarmed, StateRefines, disk_in, is_honest, state}
+use Rattle.lab.specs.SimNodes.{IsUnarmed, StateHasLimits, StateRefines, disk_in, is_honest, state}
 use Rattle.lab.specs.Disks.{IsNewDisk}
 use Rattle.lab.specs.SimNodes.{failures, marks}
 use Rattle.lab.specs.Worlds.{SimNodeRefines, IsCreated, AreCreated, IsLeft, AreLeft, RunRefines}
-use Rattle.lab.specs.Worlds.{HaveLogLimit, IsReportOf}
+use Rattle.lab.specs.Worlds.{HaveLimits, IsReportOf}
 use Rattle.lab.proofs.Disks.{with_disk, disk_here, disk_elsewhere}
 use Rattle.lab.proofs.SimNodes.{ids_of}
 
 -- one node more
-pub created_next : (config ids : List ℕ) (limit i x : ℕ) (sims now : List SimNode)
+pub created_next : (config ids : List ℕ) (limits : Limits) (i x : ℕ) (sims now : List SimNode)
     (sim : SimNode) → i < length ids → x ≡ get_or ids i x → sim.id ≡ x → IsCreated config sim →
-    HasLogLimit sim.state limit → now ≡ sims ++ sim ∷ [] →
-    AreCreated config (take i ids) limit sims → AreCreated config (take (i + 1) ids) limit now
-created_next config ids limit i x sims now sim within at id is has whole are = record {
+    StateHasLimits sim.state limits → now ≡ sims ++ sim ∷ [] →
+    AreCreated config (take i ids) limits sims → AreCreated config (take (i + 1) ids) limits now
+created_next config ids limits i x sims now sim within at id is has whole are = record {
   nodes = ap (map (λ (s : SimNode). s.id)) whole
       ∙ map-append (λ (s : SimNode). s.id) sims (sim ∷ [])
       ∙ ap₂ (λ (l : List ℕ) (y : ℕ). l ++ y ∷ []) are.nodes (id ∙ at)
       ∙ sym (take_more ids i x within);
   each = subst (λ (l : List SimNode). All (IsCreated config) l) (sym whole)
       (All-push (IsCreated config) sims sim are.each is);
-  limit = subst (λ (l : List SimNode). HaveLogLimit l limit) (sym whole)
-      (All-push (λ (s : SimNode). HasLogLimit s.state limit) sims sim are.limit has);
+  limits = subst (λ (l : List SimNode). HaveLimits l limits) (sym whole)
+      (All-push (λ (s : SimNode). StateHasLimits s.state limits) sims sim are.limits has);
 }
 
 -- of a joined list, each of both
@@ -145,9 +146,9 @@ all_have config (s ∷ sims) differ all = (
 )
 
 -- a world whose nodes were just created has made the run of no events
-pub begun : (cs : Configurations) (limit : ℕ) (sims : List SimNode) → Lawful cs →
-    AreCreated (at_epoch cs 0) (at_epoch cs 0) limit sims → RunRefines sims [] cs [] [] []
-begun cs limit sims lawful are =
+pub begun : (cs : Configurations) (limits : Limits) (sims : List SimNode) → Lawful cs →
+    AreCreated (at_epoch cs 0) (at_epoch cs 0) limits sims → RunRefines sims [] cs [] [] []
+begun cs limits sims lawful are =
     let all = recursion_from_All (IsCreated (at_epoch cs 0)) sims are.each in
     let none = none_failed (at_epoch cs 0) sims all in
     record {

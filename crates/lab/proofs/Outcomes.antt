@@ -145,6 +145,7 @@ pub record IsOutcome {g : Ghosts Slots} (cs : Configurations) (w : SystemState B
     : Type 0 where
   pub choice : Choice
   pub chose : choice.struck ≡ struck
+  pub tends : (choice.rises ≡ false) × (choice.gives_up ≡ 0)
   pub node : Machine
   pub came : (outcome w cs (modelled i kind choice)).acted_on ≡ Some (x, node)
   pub is : StateRefines is_honest state new x node
@@ -170,22 +171,31 @@ pub record IsTraced (x : ℕ) (event : Event) (choice : Choice) (did : StepOutco
 
 abbrev pub chosen : StepResult → Bool → Cause → Choice
 chosen went struck cause =
-    record { went = went; struck = struck; cause = cause; tended = tended.Idle }
+    record {
+      went = went;
+      struck = struck;
+      cause = cause;
+      tended = tended.Idle;
+      rises = false;
+      gives_up = 0;
+    }
 
 module _ {g : Ghosts Slots} (cs : Configurations) (w : SystemState BatchContent) (i x : ℕ)
     (kind : EventKind) (it : Fault) (new : NodeState Slots g) (did : StepOutcome) where
   -- with this choice the outcome is this one
-  pub as_chosen : (choice : Choice) (o : Outcome BatchContent) (n : Machine) →
+  pub as_chosen : (choice : Choice) → (choice.rises ≡ false) × (choice.gives_up ≡ 0) →
+      (o : Outcome BatchContent) (n : Machine) →
       outcome w cs (modelled i kind choice) ≡ o → o.acted_on ≡ Some (x, n) →
       StateRefines is_honest state new x n → IsTraced x (with_fault kind it) choice did o →
       IsOutcome cs w i x kind it choice.struck new did
-  as_chosen choice o n is_o came is tells =
+  as_chosen choice tends o n is_o came is tells =
       let same = sym is_o in
       let all = subst (λ (p : Outcome BatchContent). IsTraced x (with_fault kind it) choice did p)
       same tells in
       record {
         choice = choice;
         chose = refl;
+        tends = tends;
         node = n;
         came = ap (λ (p : Outcome BatchContent). p.acted_on) is_o ∙ came;
         is = is;
@@ -335,21 +345,21 @@ module _ {g : Ghosts Slots} (cs : Configurations) (w : SystemState BatchContent)
   pub given : HasHandled is_honest state it struck x (w.nodes x) inp new did →
       IsOutcome cs w i x kind it struck new did
   given (Answers up is traced) =
-      as_chosen cs w i x kind it new did (chosen Answered struck Disk)
+      as_chosen cs w i x kind it new did (chosen Answered struck Disk) (refl, refl)
       (answers x (answer_to x (w.nodes x) inp)) (answer_to x (w.nodes x) inp).node
       (runs (chosen Answered struck Disk) up) refl is (tells (answer_to x (w.nodes x) inp) traced)
   given (Ends up stop (inl before)) =
-      as_chosen cs w i x kind it new did (chosen StoppedBefore struck stop.cause)
+      as_chosen cs w i x kind it new did (chosen StoppedBefore struck stop.cause) (refl, refl)
       (stops x (w.nodes x)) (stopped (w.nodes x))
       (runs (chosen StoppedBefore struck stop.cause) up) refl before
       (ends StoppedBefore (w.nodes x) stop)
   given (Ends up stop (inr behind)) =
-      as_chosen cs w i x kind it new did (chosen StoppedAfter struck stop.cause)
+      as_chosen cs w i x kind it new did (chosen StoppedAfter struck stop.cause) (refl, refl)
       (stops x (answer_to x (w.nodes x) inp).node) (stopped (answer_to x (w.nodes x) inp).node)
       (runs (chosen StoppedAfter struck stop.cause) up) refl behind
       (ends StoppedAfter (answer_to x (w.nodes x) inp).node stop)
   given (Rests off is traced) =
-      as_chosen cs w i x kind it new did (chosen Answered struck Disk)
+      as_chosen cs w i x kind it new did (chosen Answered struck Disk) (refl, refl)
       (answers x (down_answer (w.nodes x) inp)) (down_answer (w.nodes x) inp).node
       (rests (chosen Answered struck Disk) off) refl
       (subst (λ (n : Machine). StateRefines is_honest state new x n) (sym (rests_same inp)) is)

@@ -3,6 +3,7 @@ use Rattle.std.proofs.Common.{◌≡◌, ℕ, List, true, sym, subst, ◌∙◌}
 use Rattle.std.specs.Prelude.{All, IfOk, Result, Ok, Err}
 use Rattle.std.specs.List.{AllZip, flat_map}
 use Rattle.std.proofs.lemmas.List.Elements.{All-weaker, recursion_from_All}
+use Rattle.kv_types.specs.declared.Limits.{Limits}
 use Rattle.kv_types.specs.{BatchContent}
 use Rattle.disk.specs.{Marks, Slots, State}
 use Rattle.chain_model.specs.{Configurations, has, last_of, ResponseAgrees, OneList, batches, Part}
@@ -30,7 +31,7 @@ use Rattle.lab.specs.Runs.{IsRun, RunningRefines}
 use Rattle.lab.specs.Traces.{modelled_from, IsTrace}
 use Rattle.lab.specs.declared.world.World.{World}
 use Rattle.lab.specs.Worlds.{SimNodeRefines, IsLeft, AreLeft, RunRefines}
-use Rattle.lab.specs.Worlds.{AreNodesAfter, AreReportsAfter, HasOneLogLimit, HasRun, IsReportOf}
+use Rattle.lab.specs.Worlds.{AreNodesAfter, AreReportsAfter, HasRun, IsReportOf, WorldHasLimits}
 use Rattle.lab.proofs.Histories.{numbered_same, submitted_same, all_speak}
 use Rattle.lab.proofs.Nodes.{reported_ids}
 
@@ -150,23 +151,24 @@ module _ (sims : List SimNode) (posted : List Posted) (cs : Configurations) (eve
             }) sims made.each;
       }
 
--- a report of a world that has run these events is of the nodes that they left, with its limit for
+-- a report of a world that has run these events is of the nodes that they left, with its limits
 -- logs
-pub reported_run : {E : Type 0} (world : World) (cs : Configurations) (limit : ℕ)
+pub reported_run : {E : Type 0} (world : World) (cs : Configurations) (limits : Limits)
     (events : List Event) (choices : List Choice) (steps : List (List Line)) →
-    HasRun world cs events choices steps → HasOneLogLimit world limit → (result : Result Report E) →
+    HasRun world cs events choices steps → WorldHasLimits world limits →
+    (result : Result Report E) →
     IfOk result (IsRun cs events choices) →
     IfOk result (λ report. AllZip IsReportOf world.nodes.items report.nodes.items) →
     IfOk result (λ report. (choices : List Choice) × IsRun cs events choices report
-    × AreReportsAfter cs limit events choices report.nodes.items)
-reported_run world cs limit events choices steps run has (Ok report) is own = (
+    × AreReportsAfter cs limits events choices report.nodes.items)
+reported_run world cs limits events choices steps run has (Ok report) is own = (
   choices,
   is,
   record {
     sims = world.nodes.items;
-    after = subst (λ (n : ℕ). AreNodesAfter cs n events choices world.nodes.items) has.given
-        run.came;
+    after = subst (λ (own : Limits). AreNodesAfter cs own events choices world.nodes.items)
+        has.given run.came;
     own = own;
   },
 )
-reported_run world cs limit events choices steps run has (Err e) is own = tt
+reported_run world cs limits events choices steps run has (Err e) is own = tt

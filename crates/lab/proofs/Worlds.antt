@@ -45,7 +45,7 @@ use Rattle.lab.specs.declared.sim_node.SimNode.{SimNode}
 use Rattle.lab.specs.declared.world.World.{World as LabWorld}
 use Rattle.lab.specs.Events.{modelled, lines_of_event, NamesNode}
 use Rattle.lab.specs.SimNodes.{StateRefines, Choice, disk_in, is_honest, state, failures, marks}
-use Rattle.lab.specs.SimNodes.{HasLogLimit, IsUnarmed}
+use Rattle.lab.specs.SimNodes.{IsUnarmed, StateHasLimits}
 use Rattle.lab.specs.Deliveries.{IsDeliveryOf, HasNoDelivery}
 use Rattle.lab.specs.Outcomes.{DiskFits, HasCrashed, IsExplained, OutcomeRefines, StateFollows}
 use Rattle.lab.specs.Outcomes.{HasTended, Halts, Tends, TendsNot, TellsTended}
@@ -57,7 +57,7 @@ use Rattle.lab.specs.Worlds.{PostedRefines, SimNodeRefines, HasMoved, HasNoNode,
 use Rattle.lab.specs.Worlds.{NodesRefine, RunRefines}
 use Rattle.lab.specs.Worlds.{HasRun}
 use Rattle.lab.specs.Worlds.{FollowRun, HasApplied, HasDelivered, HasPassed, HasStayed, Ignores}
-use Rattle.lab.specs.Worlds.{AreNodesAfter, HaveLogLimit, IsIndexOf, KeepsLogLimit, NodesFollow}
+use Rattle.lab.specs.Worlds.{AreNodesAfter, HaveLimits, IsIndexOf, NodesFollow, WorldKeepsLimits}
 use Rattle.lab.specs.Worlds.{Takes}
 use Rattle.lab.specs.Worlds.{frames_of_step}
 use Rattle.lab.proofs.Posting.{zip_both}
@@ -183,13 +183,13 @@ moved old i x between was was' now node_input it did at out id refines disk only
           IsUnarmed (disk_in now.state)) is forgets;
     }
 
--- .. which keeps the limit for logs, and so each node has the one that it had
-pub limited : (old : List SimNode) (i : ℕ) (between was was' now : SimNode) (limit : ℕ) →
+-- .. which keeps the limits, and so each node has those that it had
+pub limited : (old : List SimNode) (i : ℕ) (between was was' now : SimNode) (limits : Limits) →
     i < length old → was ≡ get_or old i was' →
-    (HasLogLimit was.state limit → HasLogLimit now.state limit) → HaveLogLimit old limit →
-    HaveLogLimit (slice_set (slice_set old i between) i now) limit
-limited old i between was was' now limit within out keeps all =
-    let Has : SimNode → Type 0 = λ sim. HasLogLimit sim.state limit in
+    (StateHasLimits was.state limits → StateHasLimits now.state limits) → HaveLimits old limits →
+    HaveLimits (slice_set (slice_set old i between) i now) limits
+limited old i between was was' now limits within out keeps all =
+    let Has : SimNode → Type 0 = λ sim. StateHasLimits sim.state limits in
     let own = subst Has (sym out) (All-get_or Has old i was' within all) in
     subst (λ (l : List SimNode). All Has l) (sym (set-set old i between now))
     (All-set Has old i now (keeps own) all)
@@ -329,6 +329,7 @@ module _ (in_order : AlwaysInOrder) (cs : Configurations) (events : List Event)
           cause = out.fits;
           struck = stops_so (made.disks x) sim.state may event out.choice o x out.node t.did
               out.ends left;
+          tends = out.tends;
         };
         counted = ap frames_of_step t.traced ∙ out.counted (length posted);
         frames = subst (λ (l : List Posted). AllZip PostedRefines l (w.frames ++ o.frames))
@@ -413,7 +414,15 @@ module _ (in_order : AlwaysInOrder) (cs : Configurations) (events : List Event)
   nothing_next : HasNoDelivery w.frames event.kind → Grows sims posted (Nothing ∷ [])
   nothing_next brings =
       let choice : Choice =
-      record { went = Answered; struck = false; cause = Disk; tended = tended.Idle } in
+      record {
+        went = Answered;
+        struck = false;
+        cause = Disk;
+        tended = tended.Idle;
+        rises = false;
+        gives_up = 0;
+      }
+      in
       let none = nothing_done cs w i event.kind choice brings in
       let same : after w nothing ≡ state_after cs w (modelled i event.kind choice) =
       ap (after w) (sym none) in
@@ -424,6 +433,7 @@ module _ (in_order : AlwaysInOrder) (cs : Configurations) (events : List Event)
           cause = λ stops. absurd (false≢true
               (ap (λ (o : Outcome BatchContent). o.stopped) (sym none) ∙ stops));
           struck = λ strikes. absurd (false≢true strikes);
+          tends = (refl, refl);
         };
         counted = ap (λ (o : Outcome BatchContent). length o.frames) (sym none);
         frames = subst (λ (v : SystemState BatchContent). AllZip PostedRefines posted v.frames) same
@@ -479,36 +489,36 @@ module _ (in_order : AlwaysInOrder) (cs : Configurations) (events : List Event)
             HasStepped sims posted it.0 it.1 event.fault lines now more → Grows now more lines
         refined_after lines now more t = refined_next it.0 it.1 lines now more brings t
 
--- a world that passed an event over has the limit for logs that it had
+-- a world that passed an event over has the limits that it had
 pub passed_keeps : (old new : LabWorld) (event : Event) → HasPassed old new event →
-    KeepsLogLimit old new
-passed_keeps old new event p limit has = record {
-  given = ap (λ (limits : Limits). limits.log) p.limits ∙ has.given;
-  nodes = subst (λ (l : List SimNode). HaveLogLimit l limit) (sym p.nodes) has.nodes;
+    WorldKeepsLimits old new
+passed_keeps old new event p limits has = record {
+  given = p.limits ∙ has.given;
+  nodes = subst (λ (l : List SimNode). HaveLimits l limits) (sym p.nodes) has.nodes;
 }
 
--- the nodes of a world with one event more, where it kept its limit for logs
+-- the nodes of a world with one event more, where it kept its limits
 came_next : (cs : Configurations) (events : List Event) (choices : List Choice)
     (steps more : List (List Line)) (old new : LabWorld) → HasRun old cs events choices steps →
     (event : Event) (choice : Choice) →
     RunRefines new.nodes.items new.frames.items cs (events ++ event ∷ []) (choices ++ choice ∷ [])
     more →
     FollowRun cs events choices event choice old.nodes.items new.nodes.items →
-    KeepsLogLimit old new →
-    AreNodesAfter cs new.limits.log (events ++ event ∷ []) (choices ++ choice ∷ []) new.nodes.items
+    WorldKeepsLimits old new →
+    AreNodesAfter cs new.limits (events ++ event ∷ []) (choices ++ choice ∷ []) new.nodes.items
 came_next cs events choices steps more old new run event choice ran follow keeps =
-    let limit = old.limits.log in
+    let limits = old.limits in
     let came = run.came in
-    let has = keeps limit (record {
+    let has = keeps limits (record {
       given = refl;
-      nodes = follow_limited cs limit 1 events choices (first_state cs) came.first old.nodes.items
-          came.follow came.created.limit;
+      nodes = follow_limited cs limits 1 events choices (first_state cs) came.first old.nodes.items
+          came.follow came.created.limits;
     }) in
-    subst (λ (n : ℕ). AreNodesAfter cs n (events ++ event ∷ []) (choices ++ choice ∷ [])
+    subst (λ (own : Limits). AreNodesAfter cs own (events ++ event ∷ []) (choices ++ choice ∷ [])
     new.nodes.items) (sym has.given) (record {
       first = came.first;
       created = came.created;
-      follow = nodes-push cs event choice limit 1 (suc (length events)) events choices
+      follow = nodes-push cs event choice limits 1 (suc (length events)) events choices
           (first_state cs) came.first old.nodes.items new.nodes.items run.made.trace.one_each
           (omega arith)
           came.follow follow has.nodes
@@ -553,6 +563,7 @@ module _ (in_order : AlwaysInOrder) (cs : Configurations) (events : List Event)
         choice = choice;
         lines = lines;
         run = record {
+          configs = p.keeps.configs ∙ run.configs;
           kept = p.keeps.kept ∙ ap (λ (a : List (List Line)). a ++ (Nothing ∷ []) ∷ []) run.kept;
           taken = p.keeps.taken ∙ ap (λ (l : List Event). l ++ event ∷ []) run.taken;
           made = ran;
@@ -576,6 +587,7 @@ module _ (in_order : AlwaysInOrder) (cs : Configurations) (events : List Event)
         choice = grows.choice;
         lines = h.lines;
         run = record {
+          configs = h.keeps.configs ∙ run.configs;
           kept = h.keeps.kept ∙ ap (λ (a : List (List Line)). a ++ h.lines ∷ []) run.kept;
           taken = h.keeps.taken ∙ ap (λ (l : List Event). l ++ event ∷ []) run.taken;
           made = grows.ran;

@@ -48,7 +48,7 @@ modelled i (Submit node batch) choice =
 modelled i (Get node key at) choice = SystemEvent.Ask node i (Request.Read at) choice.went
 modelled i (Deliver place) choice = SystemEvent.Deliver place choice.went
 modelled i (Tick node) choice = SystemEvent.Tick node choice.went
-modelled i (Tend node) choice = SystemEvent.Tend node false 0 choice.went
+modelled i (Tend node) choice = SystemEvent.Tend node choice.rises choice.gives_up choice.went
 modelled i (Start node) choice = SystemEvent.Start node choice.went
 modelled i (Stop node junk) choice = SystemEvent.Stop node
 
@@ -158,3 +158,5 @@ pub record ChoiceFits (event : Event) (choice : Choice) (o : model_frame.Outcome
         IfSome (reported_cause event.kind event.fault choice) IsEnvironmental
     -- where the fault of the event struck, a call of the disk failed, and so the node stopped
     pub struck : choice.struck ≡ true → (o.stopped ≡ true) × (choice.cause ≡ Disk)
+    -- a tend of this store raises no floor and gives up no batch
+    pub tends : (choice.rises ≡ false) × (choice.gives_up ≡ 0)

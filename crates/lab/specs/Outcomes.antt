@@ -1,12 +1,14 @@
 -- The outcomes of a simulated node: the state that each input leaves, its disk and its lines.
 use Rattle.std.specs.Prelude.{◌≡◌, ◌⊎◌, ℕ, List, [], ◌∷◌, ◌++◌, length, map, Option}
 use Rattle.std.specs.Prelude.{Bool, Some, None, IsSome, suc, true, false}
+use Rattle.kv_types.specs.declared.Limits.{Limits}
 use Rattle.kv_types.specs.{BatchContent}
 use Rattle.disk.specs.declared.disk.Disk.{Ghosts}
 use Rattle.disk.specs.declared.Fault.{Fault}
 use Rattle.disk.specs.declared.Junk.{Junk}
 use Rattle.disk.specs.{RisesByOne, CrashOutcome, IsLastLeft, Marks, State, fault_of, struck_call}
 use Rattle.chain_model.specs.{Answer, dropped_for, refused, started, stopped}
+use Rattle.chain_model.specs.Rules.{tend}
 use Rattle.engine.specs.declared.Tended.{Tended}
 use Rattle.link_messages.specs.declared.Frame.{Frame}
 use Rattle.link_messages.specs.declared.Frame.TheVariants as frame
@@ -33,7 +35,7 @@ use Rattle.lab.specs.declared.report.Line.{Line}
 use Rattle.lab.specs.declared.report.Line.TheVariants as line
 use Rattle.lab.specs.Disks.{HasGrown, IsCrashOf, IsMarkedBy, before_crash, has_reached, junk_at_end}
 use Rattle.lab.specs.Events.{dropped_lines, told_cause}
-use Rattle.lab.specs.SimNodes.{HasLogLimit, StateIsReady, StateRefines, IsDown, disk_in}
+use Rattle.lab.specs.SimNodes.{StateHasLimits, StateIsReady, StateRefines, IsDown, disk_in}
 
 -- ---- what a node answers
 
@@ -124,10 +126,11 @@ TellsTended (Up old) (Up new) answer = TellsTend (engine_of old) (engine_of new)
 TellsTended (Up old) (Down disk) answer = ⊥
 TellsTended (Down disk) new answer = ⊥
 
--- a tend: the node ran, is as it was, and tells what it did; or it stopped by itself; or it is down
+-- a tend, which raises no floor and gives up no batch: the node ran, and tells what it did; or it
+-- stopped by itself; or it is down
 pub data HasTended {D : Type 0} {g : Ghosts D} (is_honest : D → Type 0) (state : D → State) (fault : Fault)
     (struck : Bool) (x : ℕ) (n : Machine) (old new : NodeState D g) (did : StepOutcome) : Type 0 where
-  Tends : n.running ≡ true → StateRefines is_honest state new x n
+  Tends : n.running ≡ true → StateRefines is_honest state new x (tend n false 0).node
       → (answer : Tended) × (did ≡ done.Tended answer) × TellsTended old new answer
       → HasTended is_honest state fault struck x n old new did
   Halts : n.running ≡ true → StopsByItself fault struck did
@@ -277,9 +280,9 @@ StateFollows is_honest state failures past (Down disk) (to_node.Stop junk) new =
 
 -- ---- one input of a node
 
--- a node in the old state took this input, with this fault armed, and this limit for logs if it was
+-- a node in the old state took this input, with this fault armed, and these limits if it was
 -- started: its new state and its outcome
-pub record HasDispatched {D : Type 0} (g : Ghosts D) (log_limit : ℕ) (fault : Fault)
+pub record HasDispatched {D : Type 0} (g : Ghosts D) (limits : Limits) (fault : Fault)
     (node_input : NodeInput) (old new : NodeState D g) (did : StepOutcome) : Type 0 where
   pub ready : StateIsReady new
   pub refines : (x : ℕ) (n : Machine) → StateRefines g.is_honest g.state old x n →
@@ -301,8 +304,8 @@ pub record HasDispatched {D : Type 0} (g : Ghosts D) (log_limit : ℕ) (fault : 
   -- the fault is forgotten
   pub forgets : g.is_honest (disk_in old) → fault_of (g.marks (disk_in old)) ≡ None →
       fault_of (g.marks (disk_in new)) ≡ None
-  -- a node that is up has the given limit for logs, if it was down or had that one
-  pub limit : HasLogLimit old log_limit → HasLogLimit new log_limit
+  -- a node that is up has the given limits, if it was down or had those
+  pub limits : StateHasLimits old limits → StateHasLimits new limits
 
 -- ---- the lines of an outcome
 

@@ -1,5 +1,6 @@
 -- Simulated nodes: what a running or stopped one refines, and what the code may choose in a step.
 use Rattle.std.specs.Prelude.{◌≡◌, ℕ, Bool, None, false}
+use Rattle.kv_types.specs.declared.Limits.{Limits}
 use Rattle.disk.specs.{Marks, State, Slots, fault_of, state_of}
 use Rattle.disk.specs.declared.disk.Disk.{Ghosts}
 use Rattle.chain_model.specs as model
@@ -7,7 +8,7 @@ use Rattle.engine.specs.declared.Tended.{Tended}
 use Rattle.chain_core.specs.{Machine}
 use Rattle.node.specs.declared.Node.{Node}
 use Rattle.node.specs.declared.Stop.{Stop as Cause}
-use Rattle.node.specs.{NodeRefines, DiskAlwaysRefines, IsReady, disk_of, log_limit_of}
+use Rattle.node.specs.{NodeRefines, DiskAlwaysRefines, IsReady, disk_of, node_limits}
 use Rattle.lab.specs.declared.node_state.NodeState.{NodeState}
 use Rattle.lab.specs.declared.node_state.NodeState.TheVariants.{Up, Down}
 
@@ -25,10 +26,10 @@ IsDown (Down disk) = Unit {0}
 abbrev pub StateIsReady : {D : Type 0} {g : Ghosts D} → NodeState D g → Type 0
 StateIsReady {D} {g} new = (node : Node D g) → new ≡ Up node → IsReady node
 
--- it has this limit for logs, if it is up
-abbrev pub HasLogLimit : {D : Type 0} {g : Ghosts D} → NodeState D g → ℕ → Type 0
-HasLogLimit (Up node) limit = log_limit_of node ≡ limit
-HasLogLimit (Down disk) limit = Unit {0}
+-- it has these limits, if it is up
+abbrev pub StateHasLimits : {D : Type 0} {g : Ghosts D} → NodeState D g → Limits → Type 0
+StateHasLimits (Up node) limits = node_limits node ≡ limits
+StateHasLimits (Down disk) limits = Unit {0}
 
 -- the disk of a node that is down is honest, and represents machine n as node x
 abbrev pub DownRefines : {D : Type 0} → (D → Type 0) → (D → State) → D → ℕ → Machine → Type 0
@@ -42,12 +43,15 @@ StateRefines is_honest state (Up node) x n = NodeRefines is_honest state node x 
 StateRefines is_honest state (Down disk) x n = DownRefines is_honest state disk x n
 
 -- what the code may choose in a step: how it went, whether the event's fault struck in it, why the
--- node stopped if it did, and what it did if it tended
+-- node stopped if it did, and what it did if it tended: whether its floor rises then, and which
+-- batches it gives up
 pub record Choice : Type 0 where
   pub went : model.StepResult
   pub struck : Bool
   pub cause : Cause
   pub tended : Tended
+  pub rises : Bool
+  pub gives_up : ℕ
 
 -- ---- a disk in memory
 

@@ -3,6 +3,7 @@ use Rattle.std.specs.Prelude.{◌≡◌, ℕ, suc, ◌+◌, ◌≤◌, List, [],
 use Rattle.std.specs.Prelude.{MatchOption, Option, Some, None}
 use Rattle.std.specs.Prelude.{All, true, ◌≢◌, ◌<◌, get_or, slice_index, slice_set}
 use Rattle.std.specs.List.{AllZip, HoldsAt}
+use Rattle.kv_types.specs.declared.Limits.{Limits}
 use Rattle.kv_types.specs.{BatchContent}
 use Rattle.chain_model.specs.{Configurations, Lawful, at_epoch, created}
 use Rattle.chain_model.specs as model_frame
@@ -32,7 +33,7 @@ use Rattle.lab.specs.declared.report.Numbers.{Numbers}
 use Rattle.lab.specs.declared.sim_node.SimNode.{SimNode}
 use Rattle.lab.specs.declared.world.World.{World}
 use Rattle.lab.specs.SimNodes.{Choice, StateRefines, disk_in, is_honest, state, failures, marks}
-use Rattle.lab.specs.SimNodes.{HasLogLimit, IsDown, IsUnarmed}
+use Rattle.lab.specs.SimNodes.{StateHasLimits, IsDown, IsUnarmed}
 use Rattle.lab.specs.Events.{NamesNode, modelled}
 use Rattle.lab.specs.Outcomes.{OutcomeRefines, DiskFits, MarksFit, StateFollows, input_junk}
 use Rattle.lab.specs.Outcomes.{sent_by}
@@ -104,15 +105,15 @@ pub record IsCreated (config : List ℕ) (sim : SimNode) : Type 0 where
   pub count : failures (disk_in sim.state) ≡ 0
   pub marked : IsNewDisk state past_states marks (disk_in sim.state)
 
--- each of these nodes that is up has this limit for logs
-abbrev pub HaveLogLimit : List SimNode → ℕ → Type 0
-HaveLogLimit sims limit = All (λ sim. HasLogLimit sim.state limit) sims
+-- each of these nodes that is up has these limits
+abbrev pub HaveLimits : List SimNode → Limits → Type 0
+HaveLimits sims limits = All (λ sim. StateHasLimits sim.state limits) sims
 
--- these nodes were just created with this configuration and this limit for logs, in this order
-pub record AreCreated (config ids : List ℕ) (log_limit : ℕ) (sims : List SimNode) : Type 0 where
+-- these nodes were just created with this configuration and these limits, in this order
+pub record AreCreated (config ids : List ℕ) (limits : Limits) (sims : List SimNode) : Type 0 where
   pub nodes : map (λ sim. sim.id) sims ≡ ids
   pub each : All (IsCreated config) sims
-  pub limit : HaveLogLimit sims log_limit
+  pub limits : HaveLimits sims limits
 
 -- the report of a node that is this machine and has this disk, at the end of a run
 pub record IsLeft (n : Machine) (own : Slots) (left : NodeReport) : Type 0 where
@@ -248,60 +249,62 @@ NodesRefine machines sims =
     All (λ sim. StateRefines is_honest state sim.state sim.id (machines sim.id)) sims
 
 -- What the events from place i on leave of these nodes, one event after another, from a state of the
--- model on. Behind each of them those that are up have this limit for logs, and all refine their
--- machines.
-abbrev pub AllNodesFollow : Configurations → ℕ → ℕ → List Event → List Choice
+-- model on. Behind each of them those that are up have these limits, and all refine their machines.
+abbrev pub AllNodesFollow : Configurations → Limits → ℕ → List Event → List Choice
     → model_frame.SystemState BatchContent → List SimNode → List SimNode → Type 0
-AllNodesFollow cs log_limit i [] choices w old new = new ≡ old
-AllNodesFollow cs log_limit i (event ∷ events) [] w old new = ⊥
-AllNodesFollow cs log_limit i (event ∷ events) (choice ∷ choices) w old new =
+AllNodesFollow cs limits i [] choices w old new = new ≡ old
+AllNodesFollow cs limits i (event ∷ events) [] w old new = ⊥
+AllNodesFollow cs limits i (event ∷ events) (choice ∷ choices) w old new =
     let o = model_frame.outcome w cs (modelled i event.kind choice) in
     (next : List SimNode) × NodesFollow o.acted_on event choice o old next
-    × HaveLogLimit next log_limit
+    × HaveLimits next limits
     × NodesRefine (model_frame.after w o).nodes next
-    × AllNodesFollow cs log_limit (suc i) events choices (model_frame.after w o) next new
+    × AllNodesFollow cs limits (suc i) events choices (model_frame.after w o) next new
 
--- The nodes that a run leaves: they were created with the first configuration and this limit for
--- logs, and each event left nodes that follow from those before it.
-pub record AreNodesAfter (cs : Configurations) (log_limit : ℕ) (events : List Event)
+-- The nodes that a run leaves: they were created with the first configuration and these limits, and
+-- each event left nodes that follow from those before it.
+pub record AreNodesAfter (cs : Configurations) (limits : Limits) (events : List Event)
     (choices : List Choice) (sims : List SimNode) : Type 0 where
   pub first : List SimNode
-  pub created : AreCreated (at_epoch cs 0) (at_epoch cs 0) log_limit first
-  pub follow : AllNodesFollow cs log_limit 1 events choices (model_frame.first_state cs) first sims
+  pub created : AreCreated (at_epoch cs 0) (at_epoch cs 0) limits first
+  pub follow : AllNodesFollow cs limits 1 events choices (model_frame.first_state cs) first sims
 
 -- the reports are of the nodes that a run leaves, one of each in order
-pub record AreReportsAfter (cs : Configurations) (log_limit : ℕ) (events : List Event)
+pub record AreReportsAfter (cs : Configurations) (limits : Limits) (events : List Event)
     (choices : List Choice) (reports : List NodeReport) : Type 0 where
   pub sims : List SimNode
-  pub after : AreNodesAfter cs log_limit events choices sims
+  pub after : AreNodesAfter cs limits events choices sims
   pub own : AllZip IsReportOf sims reports
 
 -- the events that were applied
 abbrev pub events_in : List EventRecord → List Event
 events_in taken = map (λ it. it.event) taken
 
--- the world has applied these events, in each of which was chosen so, and keeps them and the lines
--- of each; its nodes came of them, with its limit for logs
+-- the world has these configurations and applied these events, in each of which was chosen so, and
+-- keeps them and the lines of each; its nodes came of them, with its limits
 pub record HasRun (world : World) (cs : Configurations) (events : List Event)
     (choices : List Choice) (steps : List (List Line)) : Type 0 where
+  pub configs : world.configs ≡ cs
   pub kept : world.steps.items ≡ steps
   pub taken : events_in world.events.items ≡ events
   pub made : RunRefines world.nodes.items world.frames.items cs events choices steps
-  pub came : AreNodesAfter cs world.limits.log events choices world.nodes.items
+  pub came : AreNodesAfter cs world.limits events choices world.nodes.items
 
--- the world kept an event with its lines
+-- the world kept an event with its lines, and its configurations
 pub record HasKept (old new : World) (event : Event) (lines : List Line) : Type 0 where
   pub taken : events_in new.events.items ≡ events_in old.events.items ++ event ∷ []
   pub kept : new.steps.items ≡ old.steps.items ++ lines ∷ []
+  pub configs : new.configs ≡ old.configs
 
--- the world starts nodes with this limit for logs, and each of its nodes that is up has it
-pub record HasOneLogLimit (world : World) (limit : ℕ) : Type 0 where
-  pub given : world.limits.log ≡ limit
-  pub nodes : HaveLogLimit world.nodes.items limit
+-- the world starts nodes with these limits, and each of its nodes that is up has them
+pub record WorldHasLimits (world : World) (limits : Limits) : Type 0 where
+  pub given : world.limits ≡ limits
+  pub nodes : HaveLimits world.nodes.items limits
 
--- the world keeps the one limit for logs that it had
-abbrev pub KeepsLogLimit : World → World → Type 0
-KeepsLogLimit old new = (limit : ℕ) → HasOneLogLimit old limit → HasOneLogLimit new limit
+-- the world keeps the limits that it had
+abbrev pub WorldKeepsLimits : World → World → Type 0
+WorldKeepsLimits old new =
+    (limits : Limits) → WorldHasLimits old limits → WorldHasLimits new limits
 
 -- the world kept an event that brought nothing to any node, and is as it was otherwise
 pub record HasPassed (old new : World) (event : Event) : Type 0 where
@@ -317,7 +320,7 @@ pub record HasDelivered (old new : World) (event : Event) (x : ℕ) (node_input 
     pub keeps : HasKept old new event lines
     pub stepped : HasStepped old.nodes.items old.frames.items x node_input event.fault lines
         new.nodes.items new.frames.items
-    pub limits : KeepsLogLimit old new
+    pub limits : WorldKeepsLimits old new
 
 -- The world has run one event more, with its lines, and its very nodes follow, as was chosen.
 pub record HasFollowed (old new : World) (cs : Configurations) (events : List Event)

@@ -1,15 +1,17 @@
 // The state of a simulated node, up or down, and how it takes an input.
 ghost use Rattle.std.specs.Prelude.{◌≡◌, ◌↔◌, ◌⊎◌, ◌∷◌, ℕ, Bool, IfOk, IsTrue, None, length};
+ghost use Rattle.kv_types.specs.declared.Limits.{Limits};
 ghost use Rattle.kv_types.specs.{BatchContent};
 ghost use Rattle.chain_model.specs.{Answer, stopped};
 ghost use Rattle.disk.specs.declared.Mark.TheVariants.{Crashed};
 ghost use Rattle.disk.specs.{HasStruck, IsLastLeft, fault_of};
 ghost use Rattle.chain_core.specs.{Machine};
 ghost use Rattle.node.specs.{DiskAlwaysRefines, IsReady, NodeRefines, StopRefines, disk_of};
-ghost use Rattle.node.specs.{log_limit_of};
+ghost use Rattle.node.specs.{node_limits};
 ghost use Rattle.lab.specs.Disks.{HasGrown, IsMarkedSo, junk_at_end};
 ghost use Rattle.lab.specs.Events.{told_cause};
-ghost use Rattle.lab.specs.SimNodes.{DownRefines, HasLogLimit, StateRefines, StateIsReady, disk_in};
+ghost use Rattle.lab.specs.SimNodes.{DownRefines, StateHasLimits, StateIsReady, StateRefines};
+ghost use Rattle.lab.specs.SimNodes.{disk_in};
 ghost use Rattle.lab.specs.Outcomes.{DiskFits, HasCrashed, HasHandled, HasStarted, HasDispatched};
 ghost use Rattle.lab.specs.Outcomes.{HasTended, MarksFit};
 ghost use Rattle.lab.specs.Outcomes.{IsExplained, has_struck_in};
@@ -41,7 +43,7 @@ fn crash<D: Crash + Drop>(mut disk: D, junk: Junk) -> NodeState<D>
     ensures marked { D.is_honest disk → IsMarkedSo D.state D.past D.marks
         ((length (D.past disk), Crashed junk) ∷ D.marks disk) (disk_in result) }
     ensures forgets { D.is_honest disk → fault_of (D.marks (disk_in result)) ≡ None }
-    ensures limit { (n : ℕ) → HasLogLimit result n }
+    ensures limits { (limits : Limits) → StateHasLimits result limits }
 {
     // laws: what a crash leaves is durable, and a crash leaves it again
     durable_is_left();
@@ -69,7 +71,7 @@ fn stop_by_itself<D: Crash + Drop>(disk: D, stop: Stop, fault: Fault) -> (NodeSt
         ((length (D.past disk), Crashed (junk_at_end fault struck)) ∷ D.marks disk)
         (disk_in result.0) }
     ensures forgets { D.is_honest disk → fault_of (D.marks (disk_in result.0)) ≡ None }
-    ensures limit { (n : ℕ) → HasLogLimit result.0 n }
+    ensures limits { (limits : Limits) → StateHasLimits result.0 limits }
 {
     let has_struck = disk.has_struck();
     let (junk, cause) = match fault {
@@ -102,7 +104,7 @@ fn start<D: Crash + Drop>(
         MarksFit D.state D.past D.marks None fault
         (has_struck_in D.past fault disk result.0) result.1 disk result.0 }
     ensures forgets { D.is_honest disk → fault_of (D.marks (disk_in result.0)) ≡ None }
-    ensures limit { HasLogLimit result.0 limits.now.log }
+    ensures limits { StateHasLimits result.0 limits.now }
 {
     disk.arm(&fault);
     match Node::start(alloc, disk, limits) {
@@ -148,7 +150,7 @@ fn step<D: Crash + Drop>(
         result.0 }
     ensures forgets { D.is_honest (disk_of node) →
         fault_of (D.marks (disk_in result.0)) ≡ None }
-    ensures limit { HasLogLimit result.0 (log_limit_of node) }
+    ensures limits { StateHasLimits result.0 (node_limits node) }
 {
     full_logs_are_long::<D>(); // law: where a log is nearly full, a file is long
     node.arm(&fault);
@@ -189,7 +191,7 @@ fn tend<D: Crash + Drop>(
         result.0 }
     ensures forgets { D.is_honest (disk_of node) →
         fault_of (D.marks (disk_in result.0)) ≡ None }
-    ensures limit { HasLogLimit result.0 (log_limit_of node) }
+    ensures limits { StateHasLimits result.0 (node_limits node) }
 {
     full_logs_are_long::<D>(); // law: where a log is nearly full, a file is long
     node.arm(&fault);
@@ -211,8 +213,8 @@ fn dispatch_up<D: Crash + Drop>(
     fault: Fault,
 ) -> (NodeState<D>, StepOutcome)
     requires { IsReady node }
-    ensures { (limit : ℕ) →
-        HasDispatched D.Disk limit fault input (NodeState.Up node) result.0 result.1 }
+    ensures { (limits : Limits) →
+        HasDispatched D.Disk limits fault input (NodeState.Up node) result.0 result.1 }
 {
     match input {
         NodeInput::Step(input) => step(alloc, node, input, fault),
@@ -244,7 +246,7 @@ fn dispatch_down<D: Crash + Drop>(
     limits: &Limits,
 ) -> Result<(NodeState<D>, StepOutcome), AllocError>
     ensures { IfOk result (λ it.
-        HasDispatched D.Disk limits.now.log fault input.now (NodeState.Down disk) it.0 it.1) }
+        HasDispatched D.Disk limits.now fault input.now (NodeState.Down disk) it.0 it.1) }
 {
     if let NodeInput::Start = input {
         return Ok(start(alloc, disk, fault, limits));
@@ -266,7 +268,7 @@ impl<D: Crash + Drop> NodeState<D> {
     ) -> Result<(NodeState<D>, StepOutcome), AllocError>
         requires { StateIsReady self }
         ensures { IfOk result
-            (λ it. HasDispatched D.Disk limits.now.log fault input self it.0 it.1) }
+            (λ it. HasDispatched D.Disk limits.now fault input self it.0 it.1) }
     {
         match self {
             NodeState::Up(node) => Ok(dispatch_up(alloc, node, input, fault)),

@@ -22,7 +22,7 @@ pub fn run(
     requires named { NamesNodes configs.now events.now }
     ensures run { IfOk result (λ report. (choices : List Choice)
         × IsRun configs.now events.now choices report
-        × AreReportsAfter configs.now limits.now.log events.now choices report.nodes.items) }
+        × AreReportsAfter configs.now limits.now events.now choices report.nodes.items) }
     ensures history { IfOk result (OneHistory configs.now events.now) }
 {
     let mut world = World::new(alloc, configs, limits)?;

@@ -11,12 +11,14 @@ ghost use Rattle.lab.specs.Events.{NamesNode};
 ghost use Rattle.chain_core.specs.{Machine};
 ghost use Rattle.disk.specs.{Slots};
 ghost use Rattle.node.specs.{NodeRefines};
-ghost use Rattle.lab.specs.SimNodes.{Choice, HasLogLimit, StateRefines, disk_in, is_honest, state};
+ghost use Rattle.lab.specs.SimNodes.{Choice, StateHasLimits, StateRefines, disk_in};
+ghost use Rattle.lab.specs.SimNodes.{is_honest, state};
 ghost use Rattle.lab.specs.Runs.{AreNumbersOf, IsRun, NumbersRefine};
 ghost use Rattle.lab.specs.History.{OneHistory};
 ghost use Rattle.lab.specs.Worlds.{HasRun, HasApplied, HasEnded, AreCreated, AreLeft, IsCreated};
 ghost use Rattle.lab.specs.Worlds.{IsLeft, IsReportOf, IsRunSoFar, HasFollowed, HasHistory};
-ghost use Rattle.lab.specs.Worlds.{HasOneLogLimit, HasStayed, HaveLogLimit, IsIndexOf, KeepsLogLimit};
+ghost use Rattle.lab.specs.Worlds.{HasStayed, HaveLimits, IsIndexOf, WorldHasLimits};
+ghost use Rattle.lab.specs.Worlds.{WorldKeepsLimits};
 ghost use Rattle.lab.specs.Worlds.{HasDelivered, HasMoved, HasNoNode, HasPassed, HasTablesOf, TellsTables};
 ghost use Rattle.lab.specs.Worlds.{events_in, frames_in_steps};
 
@@ -40,6 +42,7 @@ use std::mem;
 /// An event is one step of one of them.
 #[derive(Drop)]
 pub struct World {
+    configs: Configs,
     limits: Limits,
     nodes: Vec<SimNode>,
     frames: Vec<Posted>,
@@ -58,7 +61,7 @@ fn created_node(
 ) -> Result<SimNode, LabError>
     ensures id { IfOk result (λ node. node.id ≡ id) }
     ensures created { IfOk result (IsCreated config.now) }
-    ensures limit { IfOk result (λ node. HasLogLimit node.state limits.now.log) }
+    ensures limits { IfOk result (λ node. StateHasLimits node.state limits.now) }
 {
     let disk = MemDisk::new(alloc);
     match Node::create(alloc, disk, id, config, limits) {
@@ -81,7 +84,7 @@ fn created_node(
 // All nodes of a configuration, in order.
 fn created_nodes(alloc: Global, config: &Config, limits: &Limits) -> Result<Vec<SimNode>, LabError>
     ensures { IfOk result
-        (λ nodes. AreCreated config.now config.now limits.now.log nodes.items) }
+        (λ nodes. AreCreated config.now config.now limits.now nodes.items) }
 {
     let mut nodes = Vec::new(alloc);
     for id in config.ids() {
@@ -170,8 +173,8 @@ fn step_at(
     requires { IsIndexOf nodes.old index delivery.0 }
     ensures moved { IfOk result
         (λ did. HasMoved nodes.old delivery.0 delivery.1 fault did nodes.new) }
-    ensures limits { HaveLogLimit nodes.old limits.now.log →
-        IfOk result (λ _. HaveLogLimit nodes.new limits.now.log) }
+    ensures limits { HaveLimits nodes.old limits.now →
+        IfOk result (λ _. HaveLimits nodes.new limits.now) }
 {
     let (id, input) = delivery;
     let state = NodeState::Down(MemDisk::new(alloc));
@@ -186,9 +189,10 @@ impl World {
     pub fn new(alloc: Global, configs: &Configs, limits: &Limits) -> Result<World, LabError>
         ensures ran { IfOk result (λ world. HasRun world configs.now [] [] []) }
         ensures goes_on { IfOk result (λ world. HasEnded world → ⊥) }
-        ensures limits { IfOk result (λ world. HasOneLogLimit world limits.now.log) }
+        ensures limits { IfOk result (λ world. WorldHasLimits world limits.now) }
     {
         Ok(World {
+            configs: configs.clone(alloc)?,
             limits: *limits,
             nodes: created_nodes(alloc, configs.first(), limits)?,
             frames: Vec::new(alloc),
@@ -239,7 +243,7 @@ impl World {
             (steps : List (List Line)) →
             HasRun self.old cs events choices steps →
             OnOk result (HasApplied self.old self.new cs events choices steps event.now) }
-        ensures limits { OnOk result (KeepsLogLimit self.old self.new) }
+        ensures limits { OnOk result (WorldKeepsLimits self.old self.new) }
     {
         // No run that memory holds has more events than there are numbers.
         let Some(request) = Number::new(self.steps.len() as u64 + 1) else {
@@ -277,7 +281,7 @@ impl World {
             OnOk result (HasFollowed self.old self.new cs events choices steps event.now) }
         ensures ends { MatchResult result (λ _. HasEnded self.new → ⊥) (λ _. HasEnded self.new) }
         ensures again { HasEnded self.old → IsErr result }
-        ensures limits { OnOk result (KeepsLogLimit self.old self.new) }
+        ensures limits { OnOk result (WorldKeepsLimits self.old self.new) }
     {
         if self.ended {
             return Err(LabError::Memory);
@@ -363,6 +367,7 @@ impl World {
         let World {
             nodes,
             steps,
+            configs: _configs,
             limits: _limits,
             frames: _frames,
             events: _events,

@@ -6,5 +6,5 @@ pub mod Starts
 pub use Rattle.engine.specs.{HasLongFile, IsAdrift, IsNearlyFull, IsOwned}
 pub use Rattle.node.specs.Steps.{DiskAlwaysRefines, DiskRefines, DiskRepresents, IsReady}
 pub use Rattle.node.specs.Steps.{DiskRefinesOneOf, NodeRefines, StopRefines}
-pub use Rattle.node.specs.Steps.{disk_of, engine_of, log_limit_of, replies_of, replies_to_response}
+pub use Rattle.node.specs.Steps.{disk_of, engine_of, node_limits, replies_of, replies_to_response}
 pub use Rattle.node.specs.Stops.{IsDeviceStop, IsEnvironmental}

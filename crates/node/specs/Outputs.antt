@@ -19,7 +19,7 @@ use Rattle.node.specs.declared.output.Reply.{Reply}
 use Rattle.node.specs.declared.output.Reply.TheVariants as reply
 use Rattle.node.specs.declared.stop.Stop.{Stop}
 use Rattle.node.specs.Steps.{DiskRefines, StepRefines, IsReady, NodeRefines, disk_of, engine_of}
-use Rattle.node.specs.Steps.{log_limit_of, replies_of}
+use Rattle.node.specs.Steps.{node_limits, replies_of}
 use Rattle.node.specs.Stops.{IsEnvironmental, IsDeviceStop}
 
 -- the acknowledgement of a request whose batch is committed
@@ -68,11 +68,11 @@ abbrev pub StepEnds : {D : Type 0} → (g : Ghosts D) → (old new : Node D g) �
 StepEnds g old new result x n input a = NodeRefines g.is_honest g.state old x n →
     CallRefines g old new x n a (StepRefines g.is_honest g.state new x input a) result
 
--- the step keeps the node's disk and its limit for logs and, if it ends with an answer, the node is
--- ready for another step
+-- the step keeps the node's disk and its limits and, if it ends with an answer, the node is ready
+-- for another step
 pub record KeepsNode {D T : Type 0} (g : Ghosts D) (old new : Node D g) (result : Result T Stop) :
     Type 0 where
   pub disk : KeepsDisk g (disk_of old) (disk_of new) (IsDeviceStop result)
       (IsNearlyFull (engine_of old)) IsOwned
   pub works : OnOk result (IsReady new)
-  pub limit : log_limit_of new ≡ log_limit_of old
+  pub limits : node_limits new ≡ node_limits old

@@ -2,6 +2,7 @@
 -- of a step.
 use Rattle.std.specs.Prelude.{◌≡◌, ◌⊎◌, ℕ, List, [], ◌∷◌, length}
 use Rattle.std.specs.List.{flat_map}
+use Rattle.kv_types.specs.declared.Limits.{Limits}
 use Rattle.kv_types.specs.{BatchContent, map_of}
 use Rattle.disk.specs.declared.Disk.{Ghosts}
 use Rattle.disk.specs.{State, Contents, IsCrashOutcome}
@@ -53,9 +54,9 @@ module _ {D : Type 0} {g : Ghosts D} where
   abbrev pub disk_of : Node D g → D
   disk_of node = engine_disk node.engine
 
-  -- the length of a log above which a flush is due
-  abbrev pub log_limit_of : Node D g → ℕ
-  log_limit_of node = (look_ups node.engine).log_limit
+  -- the limits by which its store works
+  abbrev pub node_limits : Node D g → Limits
+  node_limits node = (look_ups node.engine).limits
 
 -- a machine has the numbers of an engine
 pub record HasNumbersOf (told : LookUps) (n : Machine) : Type 0 where

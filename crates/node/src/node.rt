@@ -1,10 +1,11 @@
 // A running node: its store, and the rules of a step over it.
-ghost use Rattle.std.specs.Prelude.{◌≡◌, ◌⊎◌, ◌↔◌, ℕ, length, slice_index};
+ghost use Rattle.std.specs.Prelude.{◌≡◌, ◌⊎◌, ◌↔◌, ℕ, length, slice_index, false};
 ghost use Rattle.std.specs.Prelude.{◌<◌, ◌≤◌, suc, OnOk, IfOk, IfErr, MatchResult, IsErrAnd};
 ghost use Rattle.kv_types.specs.declared.bounds.TheConstants.{MAX_NUMBER};
 ghost use Rattle.disk.specs.{contents, IsArmed, IsSame, IsStill, KeepsDisk};
 ghost use Rattle.chain_model.specs.{created, started, accept, append, forwards, on_ack, resend};
-ghost use Rattle.chain_model.specs.{reply_read, silent};
+ghost use Rattle.chain_model.specs.{reply_read};
+ghost use Rattle.chain_model.specs.Rules.{tend};
 ghost use Rattle.engine.specs.{EngineHolds, HasEnded, IsAdrift, IsJustOpened, IsNearlyFull, IsOwned};
 ghost use Rattle.engine.specs.{TellsTend, TendsAlike, engine_disk, facts_of, look_ups};
 ghost use Rattle.engine.specs.{table_count};
@@ -14,7 +15,7 @@ ghost use Rattle.chain_core.specs.{DecisionFitsCount, IsReadOf};
 ghost use Rattle.chain_core.specs.declared.Decision.{Decision};
 ghost use Rattle.node.specs.Steps.{NodeRefines, DiskAlwaysRefines, DiskRefines, IsReady, disk_of};
 ghost use Rattle.node.specs.Steps.{DiskRefinesOneOf, HasNumbersOf, engine_of, facts_for};
-ghost use Rattle.node.specs.Steps.{log_limit_of};
+ghost use Rattle.node.specs.Steps.{node_limits};
 ghost use Rattle.node.specs.Outputs.{AlwaysRefines, CallRefines, StepEnds, NodeFollows};
 ghost use Rattle.node.specs.Outputs.{HasAppended, KeepsNode};
 ghost use Rattle.node.specs.Stops.{IsDeviceStop, IsEnvironmental};
@@ -62,14 +63,14 @@ fn core_of<D: Disk + Drop>(alloc: Global, engine: &Engine<D>, config: Config) ->
 
 // The node of an engine that was opened. A refusal for want of memory returns the disk.
 fn run_opened<D: Disk + Drop>(alloc: Global, mut engine: Engine<D>) -> Result<Node<D>, (Stop, D)>
-    requires { IsJustOpened (look_ups engine).log_limit engine }
+    requires { IsJustOpened (look_ups engine).limits engine }
     ensures disk { disk_behind result ≡ engine_disk engine }
     ensures runs { (x : ℕ) (n : Machine) → EngineHolds D.Disk engine n.list →
         facts_of engine ≡ facts_for x n →
         IfOk result (λ node. NodeRefines D.is_honest D.state node x (started x n)) }
     ensures told { IfOk result (λ node. (facts_of (engine_of node) ≡ facts_of engine)
         × ((look_ups (engine_of node)).count ≡ (look_ups engine).count)) }
-    ensures limit { IfOk result (λ node. log_limit_of node ≡ (look_ups engine).log_limit) }
+    ensures limits { IfOk result (λ node. node_limits node ≡ (look_ups engine).limits) }
     ensures memory { IfErr result (λ refused. refused.0 ≡ Stop.Memory) }
     ensures works { IfOk result IsReady }
 {
@@ -128,7 +129,7 @@ impl<D: Disk + Drop> Node<D> {
             (created config.now))
             (λ refused. IsEnvironmental refused.0) }
         ensures works { IfOk result IsReady }
-        ensures limit { IfOk result (λ node. log_limit_of node ≡ limits.now.log) }
+        ensures limits { IfOk result (λ node. node_limits node ≡ limits.now) }
     {
         let Ok(known) = config.clone() else {
             return Err((Stop::Memory, disk));
@@ -154,7 +155,7 @@ impl<D: Disk + Drop> Node<D> {
             MatchResult result (IsStarted (contents (D.state disk)))
             (λ refused. StartRefusal refused.0 (contents (D.state disk))) }
         ensures works { IfOk result IsReady }
-        ensures limit { IfOk result (λ node. log_limit_of node ≡ limits.now.log) }
+        ensures limits { IfOk result (λ node. node_limits node ≡ limits.now) }
 
         // Where a crash before it leaves only disks of these two machines, so does one at any
         // moment since.
@@ -228,7 +229,7 @@ impl<D: Disk + Drop> Node<D> {
         requires may { IsReady self.old }
         requires there { (committed ≤ have) × (have ≤ self.old.core.count) }
         ensures disk { disk_of self.new ≡ disk_of self.old }
-        ensures limit { log_limit_of self.new ≡ log_limit_of self.old }
+        ensures limits { node_limits self.new ≡ node_limits self.old }
         ensures ends { (x : ℕ) (n : Machine) (input : Input) →
             StepEnds D.Disk self.old self.new result x n input (on_ack x n committed have) }
         ensures memory { IfErr result (λ e. e ≡ Stop.Memory) }
@@ -303,10 +304,10 @@ impl<D: Disk + Drop> Node<D> {
         ensures kept { KeepsDisk D.Disk (disk_of self.old) (disk_of self.new) (IsDeviceStop result)
             (IsNearlyFull (engine_of self.old) ⊎ IsAdrift D.Disk (engine_of self.old)) IsOwned }
         ensures works { OnOk result (IsReady self.new) }
-        ensures limit { log_limit_of self.new ≡ log_limit_of self.old }
+        ensures limits { node_limits self.new ≡ node_limits self.old }
         ensures ends { (x : ℕ) (n : Machine) → NodeRefines D.is_honest D.state self.old x n →
-            CallRefines D.Disk self.old self.new x n (silent n)
-            (λ tended. NodeRefines D.is_honest D.state self.new x n
+            CallRefines D.Disk self.old self.new x n (tend n false 0)
+            (λ tended. NodeRefines D.is_honest D.state self.new x (tend n false 0).node
             × TellsTend (engine_of self.old) (engine_of self.new) tended) result }
     {
         Ok(self.engine.tend(alloc)?)
@@ -398,7 +399,7 @@ impl<D: Crash + Drop> Node<D> {
         ensures refines { (x : ℕ) (n : Machine) → NodeRefines D.is_honest D.state self.old x n →
             NodeRefines D.is_honest D.state self.new x n }
         ensures ready { IsReady self.old → IsReady self.new }
-        ensures limit { log_limit_of self.new ≡ log_limit_of self.old }
+        ensures limits { node_limits self.new ≡ node_limits self.old }
         ensures full { IsNearlyFull (engine_of self.new) ↔ IsNearlyFull (engine_of self.old) }
         ensures tends { TendsAlike (engine_of self.old) (engine_of self.new) }
     {

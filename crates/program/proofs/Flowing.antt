@@ -8,6 +8,7 @@ use Rattle.std.specs.Option.{option_map_or}
 use Rattle.std.proofs.Common.{All, Bool, true, false, if◌then◌else◌, replicate}
 use Rattle.std.proofs.lemmas.Bool.{false≢true}
 use Rattle.std.proofs.lemmas.List.Elements.{All-cons, All-head, All-nil, All-push, All-tail}
+use Rattle.kv_types.specs.declared.Limits.{Limits}
 use Rattle.lab.specs.Machine.{without}
 use Rattle.lab.specs.declared.Event as lab
 use Rattle.lab.specs.declared.EventKind.{EventKind}
@@ -670,8 +671,8 @@ gone world setup left all behind turns report g none steps run history own =
       ran = run;
       nodes = record {
         sims = world.nodes.items;
-        after = subst (λ (n : ℕ). AreNodesAfter setup.configs n g.past.events g.past.choices
-            world.nodes.items) g.run.limit.given g.run.run.came;
+        after = subst (λ (own : Limits). AreNodesAfter setup.configs own g.past.events
+            g.past.choices world.nodes.items) g.run.limits.given g.run.run.came;
         own = own;
       };
       history = history;

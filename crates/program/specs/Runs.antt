@@ -24,9 +24,8 @@ pub record HasRunStatements (setup : Setup) (statements : List Statement)
   pub course : AreResults setup no_stretch [] statements turns all
   pub lines : report.steps.items ≡ all.steps
   pub ran : IsRun setup.configs all.events all.choices report
-  -- the nodes of the report follow event by event, with the script's limit for logs
-  pub nodes : AreReportsAfter setup.configs setup.limits.log all.events all.choices
-      report.nodes.items
+  -- the nodes of the report follow event by event, with the script's limits
+  pub nodes : AreReportsAfter setup.configs setup.limits all.events all.choices report.nodes.items
   pub history : OneHistory setup.configs all.events report
 
 -- .. and this was done with the text of exactly that run

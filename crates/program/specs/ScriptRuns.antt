@@ -14,7 +14,7 @@ use Rattle.lab.specs.declared.Line.TheVariants as line
 use Rattle.lab.specs.declared.Numbers.{Numbers}
 use Rattle.lab.specs.declared.World.{World}
 use Rattle.lab.specs.Tended.TheVariants as tended
-use Rattle.lab.specs.{AreNumbersOf, Choice, HasOneLogLimit, HasRun, TellsTables, frames_in_steps}
+use Rattle.lab.specs.{AreNumbersOf, Choice, HasRun, TellsTables, WorldHasLimits, frames_in_steps}
 use Rattle.program.specs.declared.script.setup.Setup.{Setup}
 use Rattle.program.specs.declared.script.statement.Action.{Action}
 use Rattle.program.specs.declared.script.statement.Action.TheVariants.{Event, Invalid, Flow}
@@ -153,10 +153,10 @@ abbrev pub one_step : lab.Event → Choice → List Line → Stretch
 one_step event choice lines =
     record { events = event ∷ []; choices = choice ∷ []; steps = lines ∷ [] }
 
--- the world has run this far, at the nodes that were set up, with their limit for logs
+-- the world has run this far, at the nodes that were set up, with their limits
 pub record HasRunTo (world : World) (setup : Setup) (past : Stretch) : Type 0 where
   pub run : HasRun world setup.configs past.events past.choices past.steps
-  pub limit : HasOneLogLimit world setup.limits.log
+  pub limits : WorldHasLimits world setup.limits
 
 -- what is shown of a node are its numbers after all that happened, and how many tables its store has
 -- in this world

@@ -23,7 +23,7 @@ loop-event-preserved c =
       was.1 ++ ran.1 ∷ [],
       subst (λ (es : List Event). HasRun c.step.new.self cs es (was.0 ++ ran.0 ∷ [])
           (was.1 ++ ran.1 ∷ [])) more ran.2,
-      c.in_ok-step.ensures.limits c.args.limits.now.log was.3,
+      c.in_ok-step.ensures.limits c.args.limits.now was.3,
     )
 
 pub returns-clause-run : goal.returns-clause-run
@@ -31,7 +31,7 @@ returns-clause-run c =
     let was = c.loop-event.invariant in
     let run = subst (λ (es : List Event). HasRun c.loop-event.world c.args.configs.now es was.0
     was.1) (take_all c.loop-event.event-index c.args.events.now c.loop-event-test.false) was.2 in
-    reported_run c.loop-event.world c.args.configs.now c.args.limits.now.log c.args.events.now
+    reported_run c.loop-event.world c.args.configs.now c.args.limits.now c.args.events.now
     was.0 was.1 run was.3 c.finish.result
     (c.finish.ensures.run c.args.configs.now c.args.events.now was.0 was.1 run)
     c.finish.ensures.own

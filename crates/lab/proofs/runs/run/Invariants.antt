@@ -1,12 +1,12 @@
 use Rattle.std.proofs.Common.{List, take}
 use Rattle.lab.specs.declared.report.Line.{Line}
 use Rattle.lab.specs.SimNodes.{Choice}
-use Rattle.lab.specs.Worlds.{HasOneLogLimit, HasRun}
+use Rattle.lab.specs.Worlds.{HasRun, WorldHasLimits}
 use Rattle.lab.proofs.runs.run.Given as goal
 
--- the world has applied so many events, with the limit for logs that was given
+-- the world has applied so many events, with the limits that were given
 abbrev pub invariant-loop-event : goal.invariant-loop-event
 invariant-loop-event l =
     (choices : List Choice) × (steps : List (List Line))
     × HasRun l.world l.fn.configs (take l.event-index l.events) choices steps
-    × HasOneLogLimit l.world l.fn.limits.log
+    × WorldHasLimits l.world l.fn.limits

@@ -1,6 +1,6 @@
 use Rattle.std.proofs.Common.{refl, slice_set, subst, sym}
 use Rattle.lab.specs.declared.sim_node.SimNode.{SimNode}
-use Rattle.lab.specs.Worlds.{HasMoved, HaveLogLimit}
+use Rattle.lab.specs.Worlds.{HasMoved, HaveLimits}
 use Rattle.lab.proofs.Worlds.{moved, limited}
 use Rattle.lab.proofs.world.step_at.Goals as goal
 
@@ -21,15 +21,15 @@ returns-clause-moved c =
     c.replace-node.ensures.value refl took.refines (took.disk tt) took.only took.follows
     took.grows (took.marked tt) (took.forgets tt))
 
--- .. and each node that is up still has the limit for logs
+-- .. and each node that is up still has the limits
 pub returns-clause-limits : goal.returns-clause-limits
 returns-clause-limits c = λ all.
     let nodes = c.args.nodes.now in
     let i = c.args.index in
     let between = c.replace-node.new.dest in
-    let limit = c.args.limits.now.log in
-    subst (λ (s : SimNode). HaveLogLimit (slice_set (slice_set nodes i between) i s) limit)
+    let limits = c.args.limits.now in
+    subst (λ (s : SimNode). HaveLimits (slice_set (slice_set nodes i between) i s) limits)
     (sym c.replace.ensures.after)
     (limited nodes i between c.replace-node.result c.index-nodes-index.result
-    (record { id = c.args.delivery.0; state = c.in_ok-state.state; ready = _ }) limit
-    c.requires.within c.replace-node.ensures.value c.in_ok-state.ensures.limit all)
+    (record { id = c.args.delivery.0; state = c.in_ok-state.state; ready = _ }) limits
+    c.requires.within c.replace-node.ensures.value c.in_ok-state.ensures.limits all)

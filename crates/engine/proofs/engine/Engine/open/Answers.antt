@@ -48,7 +48,7 @@ pub returns-in-Ok-clause-fresh : goal.returns-in-Ok-clause-fresh
 returns-in-Ok-clause-fresh g c = record {
   works = not_true;
   committed = c.floor-committed.ensures;
-  limit = refl;
+  limits = refl;
   swept = λ honest. (c.in-Ok.ensures.swept (c.open.ensures.kept.honest.0 honest)).alone;
 }
 

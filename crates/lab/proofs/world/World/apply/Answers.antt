@@ -45,12 +45,18 @@ returns-in_default-index_of-clause-ran c = λ cs events choices steps run.
     c.index_of.ensures) in
     ignored_after c.in_order.ensures cs events choices steps self _ run i at event found fits it
     c.in-Some-2.is none (record {
-      run = record { kept = run.kept; taken = run.taken; made = run.made; came = run.came };
+      run = record {
+        configs = run.configs;
+        kept = run.kept;
+        taken = run.taken;
+        made = run.made;
+        came = run.came;
+      };
       nodes = refl;
     })
 
 pub returns-in_default-index_of-clause-limits : goal.returns-in_default-index_of-clause-limits
-returns-in_default-index_of-clause-limits c = λ limit has.
+returns-in_default-index_of-clause-limits c = λ limits has.
     record { given = has.given; nodes = has.nodes }
 
 -- the node took its step

@@ -1,8 +1,9 @@
-use Rattle.std.proofs.Common.{List, ℕ, sym, subst, ◌∙◌}
+use Rattle.std.proofs.Common.{List, refl, sym, subst, ◌∙◌}
 use Rattle.std.proofs.lemmas.List.{with_items_is}
+use Rattle.kv_types.specs.declared.Limits.{Limits}
 use Rattle.disk.specs.declared.Fault.{Fault}
 use Rattle.lab.specs.declared.sim_node.SimNode.{SimNode}
-use Rattle.lab.specs.Worlds.{HasMoved, HaveLogLimit}
+use Rattle.lab.specs.Worlds.{HasMoved, HaveLimits}
 use Rattle.lab.proofs.Worlds.{as_many}
 use Rattle.lab.proofs.world.World.deliver.Goals as goal
 
@@ -21,7 +22,11 @@ returns c =
     ∙ sym nodes.ok.0 in
     record {
       lines = c.in_ok-lines.lines;
-      keeps = record { taken = c.in_ok-keep.ensures; kept = c.in_ok-push.ensures.items };
+      keeps = record {
+        taken = c.in_ok-keep.ensures;
+        kept = c.in_ok-push.ensures.items;
+        configs = refl;
+      };
       stepped = record {
         did = did;
         took = subst (λ (l : List SimNode). HasMoved nodes.items it.0 it.1
@@ -29,14 +34,14 @@ returns c =
         sent = c.in_ok-lines.ensures.posted;
         traced = c.in_ok-lines.ensures.lines;
       };
-      limits = λ limit has. record {
+      limits = λ limits has. record {
         given = has.given;
-        nodes = subst (λ (l : List SimNode). HaveLogLimit l limit)
+        nodes = subst (λ (l : List SimNode). HaveLimits l limits)
             (sym (with_items_is nodes now size))
-            (subst (λ (n : ℕ). HaveLogLimit now n) has.given
+            (subst (λ (own : Limits). HaveLimits now own) has.given
             (c.in_ok-outcome.ensures.limits
-            (subst (λ (n : ℕ). HaveLogLimit c.deref_mut.result.now n) (sym has.given)
-            (subst (λ (l : List SimNode). HaveLogLimit l limit)
+            (subst (λ (own : Limits). HaveLimits c.deref_mut.result.now own) (sym has.given)
+            (subst (λ (l : List SimNode). HaveLimits l limits)
             (sym c.deref_mut.ensures.value) has.nodes))));
       };
     }

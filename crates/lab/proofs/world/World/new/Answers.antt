@@ -9,17 +9,18 @@ pub returns-clause-ran : goal.returns-clause-ran
 returns-clause-ran c =
     let cs = c.args.configs.now in
     let sims = c.in_ok-created_nodes.field-0.items in
-    let limit = c.args.limits.now.log in
-    let are = subst (λ (ids : List ℕ). AreCreated ids ids limit sims) c.first.ensures.first
+    let limits = c.args.limits.now in
+    let are = subst (λ (ids : List ℕ). AreCreated ids ids limits sims) c.first.ensures.first
     c.in_ok-created_nodes.ensures in
     record {
+      configs = c.in_ok-clone.ensures;
       kept = c.new-3.ensures.items;
       taken = ap (λ (l : List EventRecord). events_in l) c.new-2.ensures.items;
       made = subst (λ (l : List Posted). RunRefines sims l cs [] [] []) (sym c.new.ensures.items)
-          (begun cs limit sims c.first.ensures.lawful are);
+          (begun cs limits sims c.first.ensures.lawful are);
       came = record { first = sims; created = are; follow = refl };
     }
 
--- it has the limit that it was given, and so has each node
+-- it has the limits that it was given, and so has each node
 pub returns-clause-limits : goal.returns-clause-limits
-returns-clause-limits c = record { given = refl; nodes = c.in_ok-created_nodes.ensures.limit }
+returns-clause-limits c = record { given = refl; nodes = c.in_ok-created_nodes.ensures.limits }

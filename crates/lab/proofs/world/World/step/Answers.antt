@@ -10,6 +10,7 @@ returns-clause-ran c = λ cs events choices steps run names.
         more.choice,
         more.lines,
         record {
+          configs = more.run.configs;
           kept = more.run.kept;
           taken = more.run.taken;
           made = more.run.made;
@@ -27,6 +28,7 @@ returns-clause-nothing c = λ cs events choices steps run other.
       | Takes names _ ↦ absurd (other names)
       | Ignores _ same ↦ record {
         run = record {
+          configs = same.run.configs;
           kept = same.run.kept;
           taken = same.run.taken;
           made = same.run.made;
@@ -45,6 +47,7 @@ returns-clause-follows c = λ cs events choices steps run names.
         choice = more.choice;
         lines = more.lines;
         run = record {
+          configs = more.run.configs;
           kept = more.run.kept;
           taken = more.run.taken;
           made = more.run.made;
@@ -59,6 +62,6 @@ returns-clause-follows c = λ cs events choices steps run names.
 pub returns-clause-limits : goal.returns-clause-limits
 returns-clause-limits c =
     on_ok_weaker c.apply-applied.result
-    (λ keeps limit has. let now = keeps limit has in
+    (λ keeps limits has. let now = keeps limits has in
     record { given = now.given; nodes = now.nodes })
     c.apply-applied.ensures.limits

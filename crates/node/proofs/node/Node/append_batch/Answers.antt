@@ -113,5 +113,5 @@ returns-clause-kept g c =
             ∙ sym (ap (λ (l : LookUps). l.facts.kept) known);
         committed = sym c.committed.ensures.same ∙ sym (ap (λ (l : LookUps). l.committed) known);
       };
-      limit = ap (λ (l : LookUps). l.log_limit) known ∙ ap (λ (l : LookUps). l.log_limit) told;
+      limits = ap (λ (l : LookUps). l.limits) known ∙ ap (λ (l : LookUps). l.limits) told;
     }

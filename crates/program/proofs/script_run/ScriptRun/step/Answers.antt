@@ -9,7 +9,7 @@ returns c = λ setup past run named.
       ran.1,
       record {
         run = ran.2;
-        limit = c.in_ok-step.ensures.limits setup.limits.log run.limit;
+        limits = c.in_ok-step.ensures.limits setup.limits run.limits;
       },
       added c.sent-before.result c.sent.result _ c.args.self.now.left.items past.steps ran.1
           (c.sent-before.ensures cs _ _ _ run.run) (c.sent.ensures cs _ _ _ ran.2)
