@@ -3,7 +3,7 @@ use Rattle.std.proofs.Common.{◌≡◌, ◌<◌, List, [], ◌∷◌, ◌++◌,
 use Rattle.std.proofs.Common.{inl, inr, Result, Ok, Err, arith, refl, ℕ, length, ◌≤◌, Option, None}
 use Rattle.std.specs.Option.{ForSome}
 use Rattle.std.proofs.Common.{◌∙◌, ap}
-use Rattle.std.specs.Prelude.{Bool, true, false, IsErr, IsErrAnd, MatchResult}
+use Rattle.std.specs.Prelude.{Bool, true, false, IfOk, IsErr, IsErrAnd, MatchResult}
 use Rattle.std.proofs.lemmas.List.Elements.{All-contains, All-nil, All-push, Contains-append_left}
 use Rattle.std.proofs.lemmas.List.Elements.{Contains-push}
 use Rattle.kv_types.specs.{Entry}
@@ -21,12 +21,12 @@ use Rattle.memtable.specs.{KeepsEntryLimits}
 use Rattle.kv_types.specs.declared.bounds.TheConstants.{MAX_VALUE}
 use Rattle.disk.specs.{Slot}
 use Rattle.table_builder.specs.declared.Builder.{Builder}
-use Rattle.table_builder.specs.{Builds, data_size}
+use Rattle.table_builder.specs.{Builds, HoldsEntries, data_size}
 use Rattle.engine.specs.declared.error.EngineError.{EngineError}
 use Rattle.engine.specs.declared.error.EngineError.TheVariants as engine
 use Rattle.engine.specs.Errors.{FailsDevice, IsEngineExternal}
 use Rattle.engine.specs.Errors.{error_of_cursor}
-use Rattle.engine.specs.TableWriting.{HasAddedAll, PassesLimit}
+use Rattle.engine.specs.TableWriting.{HasAddedAll, PassesLimit, TellsRoom}
 
 -- the entries are those of the set that a walk meets before this position
 abbrev pub AreBefore : (Entry → Type 0) → List Entry → Position → Type 0
@@ -61,12 +61,14 @@ alike_through P Q R first next = λ entry. (
 pub alike_itself : (P : Entry → Type 0) → IsAlike P P
 alike_itself P = λ entry. ((λ p. p), (λ p. p))
 
--- what was added to a table of a set's entries, where the table was one to begin with
-pub record AddsUpTo (has : Entry → Type 0) (at : Position) (is_begun : Type 0) (slot : Slot)
+-- what was added to a table of a set's entries, where the table was one to begin with; and what a
+-- builder has in memory, where it had none
+pub record AddsUpTo (has : Entry → Type 0) (at : Position) (is_begun is_empty : Type 0) (slot : Slot)
     (builder : Builder) : Type 0 where
   pub entries : List Entry
   pub walked : Walked has entries at
   pub built : is_begun → Builds slot builder entries
+  pub held : is_empty → HoldsEntries builder entries
 
 -- the only refusal of a cursor in memory that is not broken
 pub for_memory : {R A : Type 0} (S B : Type 0) (result : Result R CursorError) (e : CursorError)
@@ -187,10 +189,10 @@ module _ (has : Entry → Type 0) where
         }
 
 -- where the cursor stands, its entry is one of the set
-pub added_here : (has : Entry → Type 0) (at : Position) (is_begun : Type 0) (slot : Slot)
+pub added_here : (has : Entry → Type 0) (at : Position) (is_begun is_empty : Type 0) (slot : Slot)
     (builder : Builder) (entry : Entry) → IsOn at → IfOn at (λ here. entry ≡ here)
-    → (a : AddsUpTo has at is_begun slot builder) → has entry × CanFollow a.entries entry
-added_here has at is_begun slot builder entry on is a =
+    → (a : AddsUpTo has at is_begun is_empty slot builder) → has entry × CanFollow a.entries entry
+added_here has at is_begun is_empty slot builder entry on is a =
     walk_here has a.entries at entry on is a.walked
 
 -- an entry of a memtable may stand in a table
@@ -206,6 +208,15 @@ table_entry entry limits = record {
     short_value None short = tt
     short_value (Some v) short = short v refl
 
+-- entries that pass the limit are those of another set with the same entries
+limit_like : (own has : Entry → Type 0) → IsAlike own has → PassesLimit own → PassesLimit has
+limit_like own has alike it = record {
+  some = it.some;
+  each = λ k d lt. (alike _).0 (it.each k d lt);
+  rising = it.rising;
+  large = it.large;
+}
+
 -- what was added of one set was added of another with the same entries
 pub added_like : (own has : Entry → Type 0) → IsAlike own has → (slot : Slot) (builder : Builder)
     (result : Result Bool EngineError)
@@ -216,10 +227,12 @@ added_like own has alike slot builder (Ok true) it = record {
   builds = it.builds;
   alike = alike_through (Contains it.entries) own has it.alike alike;
 }
-added_like own has alike slot builder (Ok false) it = record {
-  some = it.some;
-  each = λ k d lt. (alike _).0 (it.each k d lt);
-  rising = it.rising;
-  large = it.large;
-}
+added_like own has alike slot builder (Ok false) it = limit_like own has alike it
 added_like own has alike slot builder (Err e) it = it
+
+-- the answer whether one set has room is that of another with the same entries
+pub room_like : (own has : Entry → Type 0) → IsAlike own has → (result : Result Bool EngineError)
+    → IfOk result (TellsRoom own) → IfOk result (TellsRoom has)
+room_like own has alike (Ok true) it = tt
+room_like own has alike (Ok false) it = limit_like own has alike it
+room_like own has alike (Err e) it = tt

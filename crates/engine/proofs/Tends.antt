@@ -2,7 +2,7 @@
 use Rattle.std.proofs.Common.{◌≤◌, ℕ, List, Contains, ap, arith, inl, inr, refl, subst, sym}
 use Rattle.std.proofs.lemmas.List.Elements.{All-contains}
 use Rattle.std.proofs.Common.{Result, Ok, Err}
-use Rattle.std.specs.Prelude.{IsNone, MatchResult}
+use Rattle.std.specs.Prelude.{IfOk, IsNone, MatchResult}
 use Rattle.kv_types.specs.{BatchContent}
 use Rattle.disk.specs.{DurableFileIsLeft, IsSameBut, LeavesSince, Slot, State, seen}
 use Rattle.disk.specs.MomentsLemmas.{started, weaker}
@@ -17,10 +17,10 @@ use Rattle.engine.specs.declared.store_files.StoreFiles.{StoreFiles}
 use Rattle.engine.specs.declared.error.EngineError.{EngineError}
 use Rattle.engine.specs.declared.tended.Tended.{Tended}
 use Rattle.engine.specs.Errors.{IsEnd, IsEngineExternal, error_of_edit}
-use Rattle.engine.specs.OpenFiles.{FilesHold, known_facts, known_version}
+use Rattle.engine.specs.OpenFiles.{FilesHold, HasEntry, known_facts, known_version}
 use Rattle.engine.specs.StoreFiles.{FilesRepresent}
-use Rattle.engine.specs.Tending.{FlushIsDue, RewriteIsDue, TellsFlush, TellsRewrite, TellsWork}
-use Rattle.engine.specs.Tending.{TellsWork as work}
+use Rattle.engine.specs.Tending.{FlushIsDue, IsTend, RewriteIsDue, TellsFlush, TellsRewrite}
+use Rattle.engine.specs.Tending.{TellsWork, IsTend as tend, TellsWork as work}
 use Rattle.engine.proofs.Appended.{left_now}
 use Rattle.engine.proofs.FilesApart.{given_no_slot}
 use Rattle.engine.proofs.KeptFiles.{held_with, kept_is_given, lines_are_left, slot_is_kept}
@@ -52,6 +52,19 @@ module _ (limit : ℕ) (old new : StoreFiles) (held : Type 0) where
       MatchResult result (λ answer. held × TellsWork limit old new answer) IsEngineExternal
   tells_flush (Ok answer) short due tells = (tells.0, work.Flushes short due tells.1)
   tells_flush (Err e) short due machine = machine
+
+module _ (old new : StoreFiles) where
+  -- whatever its disk did, a rewrite is a tend
+  pub rewrite_is_tend : (result : Result Tended EngineError) →
+      MatchResult result (TellsRewrite old new) IsEnd → IfOk result (IsTend old new)
+  rewrite_is_tend (Ok answer) tells = tend.WasRewrite tells
+  rewrite_is_tend (Err e) ends = tt
+
+  -- and so is a flush
+  pub flush_is_tend : (result : Result Tended EngineError) → HasEntry old.memtable →
+      MatchResult result (TellsFlush old new) IsEnd → IfOk result (IsTend old new)
+  flush_is_tend (Ok answer) some tells = tend.WasFlush some tells
+  flush_is_tend (Err e) some ends = tt
 
 -- ---- the files
 

@@ -12,7 +12,7 @@ use Rattle.engine.specs.Engines.{EngineHolds, EngineReads, EngineWasMeant, HasEn
 use Rattle.engine.specs.Engines.{LookUps, engine_disk, engine_files, facts_of, look_ups}
 use Rattle.engine.specs.declared.tended.Tended.{Tended}
 use Rattle.engine.specs.Errors.{EndsEngine, FailsDevice, IsEnd, IsEngineExternal}
-use Rattle.engine.specs.Tending.{TellsWork}
+use Rattle.engine.specs.Tending.{IsTend, TellsWork}
 use Rattle.manifest.specs.{IsNotCreated}
 use Rattle.engine.specs.Files.{Facts, first_facts}
 use Rattle.engine.specs.StoreFiles.{FilesRepresent, HasFirstFiles, IsDamaged, IsOneOf, OpensAs}
@@ -68,6 +68,10 @@ IsAdrift g engine = (list : List BatchContent) → EngineReads g engine list →
 -- the answer is that of a tend of its files, with its limit for logs
 abbrev pub TellsTend : {D : Type 0} {g : Ghosts D} → Engine D g → Engine D g → Tended → Type 0
 TellsTend old new answer = TellsWork (look_ups old).limits.log old.store new.store answer
+
+-- of any disk: the answer and the files are those of a tend
+abbrev pub IsTendOf : {D : Type 0} {g : Ghosts D} → Engine D g → Engine D g → Tended → Type 0
+IsTendOf old new answer = IsTend old.store new.store answer
 
 -- two engines tell the same of their tends
 abbrev pub TendsAlike : {D : Type 0} {g : Ghosts D} → Engine D g → Engine D g → Type 0

@@ -19,7 +19,7 @@ pub mod KeepingLemmas
 -- What crates above name.
 pub use Rattle.engine.specs.Calls.{IsNewEngine, IsEngineOf, IsJustOpened, IsOldOrNewSince, IsOpened}
 pub use Rattle.engine.specs.Calls.{IsMeantEngineOf, KeepsEngine, ListFollows, ExplainsRefusal}
-pub use Rattle.engine.specs.Calls.{OpensEngineFor, RefusedByDevice}
+pub use Rattle.engine.specs.Calls.{IsTendOf, OpensEngineFor, RefusedByDevice}
 pub use Rattle.engine.specs.Calls.{IsAdrift, TellsReadable, TellsTend, TendsAlike, disk_after}
 pub use Rattle.engine.specs.Engines.{AreOrdered, HasEnded, HasLongFile, HasOnlyFiles, EngineHolds}
 pub use Rattle.engine.specs.Engines.{HasNearlyFullLog, IsNearlyFull}

@@ -12,7 +12,7 @@ use Rattle.manifest.specs.declared.TableLine.{TableLine}
 use Rattle.manifest.specs.{IsTableLine}
 use Rattle.table_builder.specs.declared.Builder.{Builder}
 use Rattle.table_builder.specs.declared.Finished.{Finished}
-use Rattle.table_builder.specs.{Builds, data_size}
+use Rattle.table_builder.specs.{Builds, HoldsEntries, data_size}
 use Rattle.engine.specs.declared.error.EngineError.{EngineError}
 use Rattle.engine.specs.declared.error.EngineError.TheVariants as engine
 
@@ -60,6 +60,12 @@ abbrev pub HasAddedOne : List Entry → Entry → Slot → Builder → Bool → 
 HasAddedOne entries entry slot builder true = Builds slot builder (entries ++ entry ∷ [])
 HasAddedOne entries entry slot builder false = MAX_DATA < data_size (entries ++ entry ∷ [])
 
+-- Of any disk: the builder has the entry behind these in memory, or with it they would pass the
+-- limit of a table's data.
+abbrev pub HoldsOneMore : List Entry → Entry → Builder → Bool → Type 0
+HoldsOneMore entries entry builder true = HoldsEntries builder (entries ++ entry ∷ [])
+HoldsOneMore entries entry builder false = MAX_DATA < data_size (entries ++ entry ∷ [])
+
 -- some entries of the set, in order, already pass the limit of a table's data
 pub record PassesLimit (has : Entry → Type 0) : Type 0 where
   pub some : List Entry
@@ -77,3 +83,8 @@ pub record BuildsAll (has : Entry → Type 0) (slot : Slot) (builder : Builder) 
 abbrev pub HasAddedAll : (Entry → Type 0) → Slot → Builder → Bool → Type 0
 HasAddedAll has slot builder true = BuildsAll has slot builder
 HasAddedAll has slot builder false = PassesLimit has
+
+-- of any disk: the answer whether there was room for the entries of the set
+abbrev pub TellsRoom : (Entry → Type 0) → Bool → Type 0
+TellsRoom has true = Unit {0}
+TellsRoom has false = PassesLimit has

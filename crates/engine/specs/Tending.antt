@@ -94,6 +94,14 @@ TellsFlush old new tended.Full =
     (LacksPlace (known_version old).version ⊎ IsTooLarge old.memtable)
     × (new ≡ old)
 
+-- What a tend of any disk did: a rewrite, a flush of entries in memory, or nothing. So it is full
+-- only where the generation cannot rise, the version lacks a place, or the entries pass the limit of
+-- a table's data.
+pub data IsTend (old new : StoreFiles) (answer : Tended) : Type 0 where
+  WasRewrite : TellsRewrite old new answer → IsTend old new answer
+  WasFlush : HasEntry old.memtable → TellsFlush old new answer → IsTend old new answer
+  WasRest : new ≡ old → answer ≡ tended.Idle → IsTend old new answer
+
 -- a tend does the first that is due
 pub data TellsWork (limit : ℕ) (old new : StoreFiles) (answer : Tended) : Type 0 where
   Rewrites : RewriteIsDue old → TellsRewrite old new answer → TellsWork limit old new answer

@@ -55,7 +55,7 @@ impl<D: Disk + Drop> Engine<D> {
     ghost use Rattle.chain_model.specs.{place};
     ghost use Rattle.engine.specs.Calls.{ExplainsRefusal, ListFollows, IsJustOpened};
     ghost use Rattle.engine.specs.Calls.{IsNewEngine, IsNoDamage, IsOldOrNewSince, IsOpened};
-    ghost use Rattle.engine.specs.Calls.{OpensEngineFor};
+    ghost use Rattle.engine.specs.Calls.{IsTendOf, OpensEngineFor};
     ghost use Rattle.engine.specs.Calls.{IsAdrift, KeepsEngine, RefusedByDevice, TellsReadable};
     ghost use Rattle.engine.specs.Calls.{TellsTend, disk_after};
     ghost use Rattle.engine.specs.Engines.{AreOrdered, EngineHolds, EngineReads, HasEnded};
@@ -288,6 +288,7 @@ impl<D: Disk + Drop> Engine<D> {
             ListFollows D.Disk self.old self.new list list result }
         ensures work { (list : List BatchContent) → EngineReads D.Disk self.old list →
             MatchResult result (TellsTend self.old self.new) IsEngineExternal }
+        ensures did { IfOk result (IsTendOf self.old self.new) }
 
         // A crash at any moment since the call began leaves files of the same list.
         ensures any_moment { (list : List BatchContent) → EngineHolds D.Disk self.old list →

@@ -108,7 +108,7 @@ impl StoreFiles {
             (λ made. MatchOption made
             (IsTooLarge self.now.memtable × FilesHold (D.state disk.new) self.now list)
             (HasSpilled (D.state disk.old) (D.state disk.new) self.now)) IsEngineExternal }
-        ensures line { IfOk result (λ made. MatchOption made Unit
+        ensures line { IfOk result (λ made. MatchOption made (IsTooLarge self.now.memtable)
             (λ it. IsNextTable (known_version self.now).version it.line)) }
         ensures opened { IfOk result (λ made. MatchOption made (Unit {0})
             (λ it. it.table.line ≡ it.line)) }

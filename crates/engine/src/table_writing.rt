@@ -9,11 +9,12 @@ ghost use Rattle.manifest.specs.{IsTableLine};
 ghost use Rattle.memtable.specs.declared.Memtable.{Memtable};
 ghost use Rattle.memtable.specs.{HasFailedAdd, KeepsEntryLimits, TableHolds};
 ghost use Rattle.table_format.specs.{CanFollow, IsTableEntry, lent_entry};
-ghost use Rattle.table_builder.specs.{Builds, BuildsNothing, IsFresh, builder_file};
+ghost use Rattle.table_builder.specs.{Builds, BuildsNothing, HoldsEntries, IsFresh, builder_file};
 ghost use Rattle.engine.specs.Errors.{FailsDevice, IsEnd, IsEngineExternal};
 ghost use Rattle.engine.specs.OpenFiles.{HasEntry, IsTooLarge, IsWrittenTable};
-ghost use Rattle.engine.specs.TableWriting.{BuildsAll, HasAddedAll, HasAddedOne, WritesInto};
-ghost use Rattle.engine.specs.TableWriting.{IsNewLine, error_of_writing, finished_line};
+ghost use Rattle.engine.specs.TableWriting.{BuildsAll, HasAddedAll, HasAddedOne, HoldsOneMore};
+ghost use Rattle.engine.specs.TableWriting.{IsNewLine, TellsRoom, WritesInto, error_of_writing};
+ghost use Rattle.engine.specs.TableWriting.{finished_line};
 
 use crate::EngineError;
 use disk::{Disk, DiskError};
@@ -55,6 +56,9 @@ fn add_one<D: Disk>(
         CanFollow entries (lent_entry entry.entry) → MatchResult result
         (HasAddedOne entries (lent_entry entry.entry) (D.state disk.new (builder_file builder.old))
         builder.new) IsEngineExternal }
+    ensures held { (entries : List Entry) → HoldsEntries builder.old entries →
+        CanFollow entries (lent_entry entry.entry) →
+        IfOk result (HoldsOneMore entries (lent_entry entry.entry) builder.new) }
     ensures causes { IfErr result IsEnd }
 {
     match builder.add(alloc, disk, entry) {
@@ -94,6 +98,8 @@ fn add_all<'a, D: Disk>(
         Builds (D.state disk.old (builder_file builder.old)) builder.old [] → MatchResult result
         (HasAddedAll (⟦<MemCursor<'a> as Cursor>⟧.holds tt cursor.old tt)
         (D.state disk.new (builder_file builder.old)) builder.new) IsEngineExternal }
+    ensures room { HoldsEntries builder.old [] →
+        IfOk result (TellsRoom (⟦<MemCursor<'a> as Cursor>⟧.holds tt cursor.old tt)) }
     ensures causes { IfErr result IsEnd }
 {
     let mut source = ();
@@ -123,6 +129,8 @@ fn add_memtable<D: Disk>(
         Builds (D.state disk.old (builder_file builder.old)) builder.old [] → MatchResult result
         (HasAddedAll (TableHolds memtable.now) (D.state disk.new (builder_file builder.old))
         builder.new) IsEngineExternal }
+    ensures room { HoldsEntries builder.old [] →
+        IfOk result (TellsRoom (TableHolds memtable.now)) }
     ensures causes { IfErr result IsEnd }
 {
     let mut cursor = memtable.cursor()?;
@@ -205,7 +213,8 @@ pub(crate) fn write_table<D: Disk>(
         MatchResult result (λ line. MatchOption line
         (IsTooLarge memtable.now × IsNone (seen (D.state disk.new file)))
         (IsWrittenTable (D.state disk.new) memtable.now file)) IsEngineExternal }
-    ensures line { IfOk result (λ line. MatchOption line (Unit {0}) (IsNewLine file)) }
+    ensures line { IfOk result (λ line. MatchOption line (IsTooLarge memtable.now)
+        (IsNewLine file)) }
     ensures causes { IfErr result IsEnd }
 
     // A crash at any moment since the call began leaves each other file as it was.

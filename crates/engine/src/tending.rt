@@ -1,5 +1,5 @@
 // A tend of a store's files: a rewrite of the manifest, or a flush.
-ghost use Rattle.std.specs.Prelude.{◌≡◌, IfErr, List, MatchResult, OnOk};
+ghost use Rattle.std.specs.Prelude.{◌≡◌, IfErr, IfOk, List, MatchResult, OnOk};
 ghost use Rattle.kv_types.specs.{BatchContent};
 ghost use Rattle.disk.specs.{AlwaysLeaves, KeepsDisk};
 ghost use Rattle.engine.specs.Errors.{FailsDevice, IsEnd, IsEngineExternal};
@@ -7,7 +7,7 @@ ghost use Rattle.engine.specs.Files.{IsOwned};
 ghost use Rattle.engine.specs.OpenFiles.{AreUsableFiles, FilesHold, HasEntry, batch_count};
 ghost use Rattle.engine.specs.OpenFiles.{known_facts};
 ghost use Rattle.engine.specs.StoreFiles.{FilesRepresent};
-ghost use Rattle.engine.specs.Tending.{IsSameBeside, TellsFlush, TellsRewrite, TellsWork};
+ghost use Rattle.engine.specs.Tending.{IsSameBeside, IsTend, TellsFlush, TellsRewrite, TellsWork};
 ghost use Rattle.engine.specs.Tending.{TendMayFail, tended_files};
 
 use crate::EngineError;
@@ -69,7 +69,7 @@ impl StoreFiles {
         ensures usable { OnOk result (AreUsableFiles self.new) }
         ensures told { (batch_count self.new ≡ batch_count self.old)
             × (known_facts self.new ≡ known_facts self.old) }
-        ensures causes { IfErr result IsEnd }
+        ensures work { MatchResult result (TellsFlush self.old self.new) IsEnd }
 
         // A crash at any moment since the call began leaves files of the same store.
         ensures any_moment { (list : List BatchContent) → D.is_honest disk.old →
@@ -112,6 +112,7 @@ impl StoreFiles {
         ensures usable { OnOk result (AreUsableFiles self.new) }
         ensures told { (batch_count self.new ≡ batch_count self.old)
             × (known_facts self.new ≡ known_facts self.old) }
+        ensures did { IfOk result (IsTend self.old self.new) }
         ensures causes { IfErr result IsEnd }
 
         // A crash at any moment since the call began leaves files of the same store.

@@ -75,6 +75,12 @@ abbrev pub AddOutcome : {T : Type 0} → List Entry → Entry → Result T Table
 AddOutcome entries entry (Ok _) slot new = Builds slot new (entries ++ entry ∷ [])
 AddOutcome entries entry (Err e) slot new = AddRefusal e entries entry
 
+-- The answers of `add` of any disk, where the builder has these entries in memory: it has this one
+-- behind them, or no room for it, unless it is refused for damage.
+abbrev pub HeldOutcome : {T : Type 0} → List Entry → Entry → Result T TableError → Builder → Type 0
+HeldOutcome entries entry (Ok _) new = HoldsEntries new (entries ++ entry ∷ [])
+HeldOutcome entries entry (Err e) new = (e ≡ table.Damaged → ⊥) → AddRefusal e entries entry
+
 -- The answers of `add` by the builder alone, which stays with its file. Where the entry is refused,
 -- and after a failure, builder and disk are the same.
 abbrev pub AddStatus : {T : Type 0} → Result T TableError → Builder → Builder → Type 0 → Type 0

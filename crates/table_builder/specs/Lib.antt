@@ -8,8 +8,8 @@ pub mod Tails
 -- What crates above name.
 pub use Rattle.table_builder.specs.Builders.{AddOutcome, AddRefusal, AddStatus, Builds}
 pub use Rattle.table_builder.specs.Builders.{BuildsNothing, FinishStatus, HasBuilderFailed}
-pub use Rattle.table_builder.specs.Builders.{HoldsTable, IsFinishedTable, builder_file}
-pub use Rattle.table_builder.specs.Builders.{entry_count}
+pub use Rattle.table_builder.specs.Builders.{HeldOutcome, HoldsEntries, HoldsTable}
+pub use Rattle.table_builder.specs.Builders.{IsFinishedTable, builder_file, entry_count}
 pub use Rattle.table_builder.specs.Divisions.{data_size}
 pub use Rattle.table_builder.specs.Fresh.{IsFresh}
 pub use Rattle.table_builder.specs.Keys.{first_entry}

@@ -44,8 +44,8 @@ impl Builder {
     ghost use Rattle.table_format.specs.{data_bytes, entry_bytes, lent_entry};
     ghost use Rattle.table_builder.specs.Builders.{AddOutcome, AddRefusal, AddStatus, Builds};
     ghost use Rattle.table_builder.specs.Builders.{BuildsNothing, FinishStatus, HoldsDivision};
-    ghost use Rattle.table_builder.specs.Builders.{HoldsEntries, IsFinishedTable, builder_file};
-    ghost use Rattle.table_builder.specs.Builders.{entry_count};
+    ghost use Rattle.table_builder.specs.Builders.{HeldOutcome, HoldsEntries, IsFinishedTable};
+    ghost use Rattle.table_builder.specs.Builders.{builder_file, entry_count};
     ghost use Rattle.table_builder.specs.Closing.{CanAdd, CanClose, CanEnd, CheckStatus};
     ghost use Rattle.table_builder.specs.Closing.{HasClosed, HasSealed, KeepsKeys, WritesFile};
     ghost use Rattle.table_builder.specs.Divisions.{Division, data_size, division};
@@ -223,6 +223,8 @@ impl Builder {
             Builds (D.state disk.old (builder_file self.old)) self.old entries →
             AddOutcome entries (lent_entry entry.entry) result
             (D.state disk.new (builder_file self.old)) self.new }
+        ensures held { (entries : List Entry) → HoldsEntries self.old entries →
+            HeldOutcome entries (lent_entry entry.entry) result self.new }
 
         // A crash at any moment since the call began leaves each other file as it was.
         ensures any_moment { D.is_honest disk.old → AlwaysLeaves D.Disk disk.old disk.new

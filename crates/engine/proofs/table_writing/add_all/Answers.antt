@@ -5,7 +5,7 @@ use Rattle.memtable.specs.CursorLaws.{MemCursorHolds, cursor_laws, mem_position}
 use Rattle.merge_iter.specs.{IsOn}
 use Rattle.table_format.specs.{lent_entry}
 use Rattle.table_builder.specs.{Builds, BuildsNothing, builder_file}
-use Rattle.engine.specs.TableWriting.{HasAddedAll, HasAddedOne, WritesInto}
+use Rattle.engine.specs.TableWriting.{HasAddedAll, HasAddedOne, HoldsOneMore, WritesInto}
 use Rattle.engine.proofs.Keeping.{done, passed_on}
 use Rattle.engine.proofs.Causes.{refuses}
 use Rattle.engine.proofs.TableCalls.{writes_as, writes_behind, writes_done, writes_nothing}
@@ -38,6 +38,7 @@ loop-alloc-init g c =
         walked = walk_begins has tt c.first.result (mem_position c.first.new.self)
             c.in_ok-first.was (c.first.ensures.finds tt tt);
         built = λ begun. begun.1;
+        held = λ empty. empty;
       };
     }
 
@@ -48,7 +49,7 @@ add_one-requires g c =
     let i = c.loop-alloc.invariant in
     let entry = lent_entry c.entry_at.result in
     table_entry entry (c.requires entry (added_here (MemCursorHolds c.args.cursor.now)
-    (mem_position c.loop-alloc.cursor) _ _ _ entry (c.valid.ensures.0 c.loop-alloc-test.true)
+    (mem_position c.loop-alloc.cursor) _ _ _ _ entry (c.valid.ensures.0 c.loop-alloc-test.true)
     c.entry_at.ensures i.added).0)
 
 pub returns-in_err-add_one-clause-writes : goal.returns-in_err-add_one-clause-writes
@@ -72,7 +73,7 @@ returns-in_err-add_one-clause-added g c = λ honest begun.
     let entry = lent_entry c.entry_at.result in
     let on = c.valid.ensures.0 c.loop-alloc-test.true in
     let here = added_here (MemCursorHolds c.args.cursor.now) (mem_position c.loop-alloc.cursor)
-    _ _ _ entry on c.entry_at.ensures i.added in
+    _ _ _ _ entry on c.entry_at.ensures i.added in
     let builds = subst
     (λ (f : ℕ). Builds (g.D.Disk.state c.loop-alloc.disk f) c.loop-alloc.builder i.added.entries)
     (sym i.file) (i.added.built (honest, begun)) in
@@ -108,7 +109,7 @@ returns-then-not-branch-clause-added g c = λ honest begun.
     let entries = i.added.entries in
     let entry = lent_entry c.entry_at.result in
     let on = c.valid.ensures.0 c.loop-alloc-test.true in
-    let here = added_here has at _ _ _ entry on c.entry_at.ensures i.added in
+    let here = added_here has at _ _ _ _ entry on c.entry_at.ensures i.added in
     let builds = subst
     (λ (f : ℕ). Builds (g.D.Disk.state c.loop-alloc.disk f) c.loop-alloc.builder entries)
     (sym i.file) (i.added.built (honest, begun)) in
@@ -118,6 +119,20 @@ returns-then-not-branch-clause-added g c = λ honest begun.
     b) c.if-not-branch.true
     (c.in_ok-add_one.ensures.added entries (i.writes.kept.honest.1 honest) builds here.1) in
     walk_limit has entries at entry on c.entry_at.ensures i.added.walked builds.holds.rising large
+
+pub returns-then-not-branch-clause-room : goal.returns-then-not-branch-clause-room
+returns-then-not-branch-clause-room g c = λ empty.
+    let i = c.loop-alloc.invariant in
+    let has = MemCursorHolds c.args.cursor.now in
+    let at = mem_position c.loop-alloc.cursor in
+    let entries = i.added.entries in
+    let entry = lent_entry c.entry_at.result in
+    let on = c.valid.ensures.0 c.loop-alloc-test.true in
+    let here = added_here has at _ _ _ _ entry on c.entry_at.ensures i.added in
+    let held = i.added.held empty in
+    let large = subst (λ b. HoldsOneMore entries entry c.add_one.new.builder b)
+    c.if-not-branch.true (c.in_ok-add_one.ensures.held entries held here.1) in
+    walk_limit has entries at entry on c.entry_at.ensures i.added.walked held.rising large
 
 -- ---- it was added, and the cursor moves on
 
@@ -133,7 +148,7 @@ loop-alloc-preserved g c =
     let entries = i.added.entries in
     let entry = lent_entry c.entry_at.result in
     let on = c.valid.ensures.0 c.loop-alloc-test.true in
-    let here = added_here has at _ _ _ entry on c.entry_at.ensures i.added in
+    let here = added_here has at _ _ _ _ entry on c.entry_at.ensures i.added in
     let called = subst (λ (f : ℕ). WritesInto g.D.Disk f c.loop-alloc.disk c.add_one.new.disk
     (FailsDevice c.add_one.result) (BuildsNothing c.loop-alloc.builder)) i.file
     c.add_one.ensures.writes in
@@ -161,6 +176,8 @@ loop-alloc-preserved g c =
             c.add_one.new.builder b) c.if-not-branch.false more in
             subst (λ (f : ℕ). Builds (g.D.Disk.state c.add_one.new.disk f)
             c.add_one.new.builder (entries ++ entry ∷ [])) i.file one;
+        held = λ empty. subst (λ b. HoldsOneMore entries entry c.add_one.new.builder b)
+            c.if-not-branch.false (c.in_ok-add_one.ensures.held entries (i.added.held empty) here.1);
       };
     }
 

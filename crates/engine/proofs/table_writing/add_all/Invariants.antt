@@ -2,7 +2,7 @@ use Rattle.std.proofs.Common.{◌≡◌, []}
 use Rattle.memtable.specs.CursorLaws.{MemCursorHolds, mem_left, mem_position}
 use Rattle.merge_iter.specs.declared.Direction.TheVariants.{Forward}
 use Rattle.merge_iter.specs.{IsAlike, IsBroken}
-use Rattle.table_builder.specs.{Builds, builder_file}
+use Rattle.table_builder.specs.{Builds, HoldsEntries, builder_file}
 use Rattle.engine.specs.TableWriting.{WritesInto}
 use Rattle.engine.proofs.TableWalks.{AddsUpTo}
 use Rattle.engine.proofs.table_writing.add_all.Given as goal
@@ -17,6 +17,7 @@ invariant-loop-alloc g l = record {
   added : AddsUpTo (MemCursorHolds l.fn.cursor) (mem_position l.cursor)
       (g.D.Disk.is_honest l.fn.disk
       × Builds (g.D.Disk.state l.fn.disk (builder_file l.fn.builder)) l.fn.builder [])
+      (HoldsEntries l.fn.builder [])
       (g.D.Disk.state l.disk (builder_file l.fn.builder)) l.builder;
 }
 

@@ -1,3 +1,7 @@
+use Rattle.std.proofs.Common.{None, refl, subst}
+use Rattle.disk.specs.{Absent}
+use Rattle.memtable.specs.{TableHolds}
+use Rattle.engine.specs.TableWriting.{TellsRoom}
 use Rattle.engine.proofs.TableCalls.{moments_join}
 use Rattle.engine.proofs.table_writing.write_table.Goals as goal
 
@@ -26,3 +30,10 @@ pub returns-clause-any_moment : goal.returns-clause-any_moment
 returns-clause-any_moment g c =
     moments_join g.D.Disk c.new-builder.ensures.file c.add_memtable.ensures.writes
     c.remove_file.ensures.writes
+
+-- it was not finished for want of room alone
+pub returns-clause-line : goal.returns-clause-line
+returns-clause-line g c =
+    let empty = (c.new-builder.ensures.began (Absent None) refl).holds in
+    subst (λ b. TellsRoom (TableHolds c.args.memtable.now) b) c.if-branch.false
+    (c.in_ok-add_memtable.ensures.room empty)

@@ -37,6 +37,14 @@ returns-in-None-clause-tended g c = λ list honest h.
     (c.in_ok-made.ensures.spilled list honest h) in
     (told.1, (inr told.0, refl))
 
+pub returns-in-None-clause-work : goal.returns-in-None-clause-work
+returns-in-None-clause-work g c = (
+  inr (subst (λ (o : Option Flushed). MatchOption o (IsTooLarge c.args.self.now.memtable)
+      (λ it. IsNextTable (known_version c.args.self.now).version it.line)) c.in-None.is
+      c.in_ok-made.ensures.line),
+  refl,
+)
+
 -- ---- it was written
 
 pub returns-in_err-install-in-Some-clause-kept : goal.returns-in_err-install-in-Some-clause-kept
@@ -65,6 +73,14 @@ returns-in_err-install-in-Some-clause-tended g c = λ list honest h.
     c.from_residual-in_err-install-in-Some.ensures.1
     (c.in_err-install-in-Some.ensures.installed list between held)
 
+pub returns-in_ok-install-in-Some-clause-work : goal.returns-in_ok-install-in-Some-clause-work
+returns-in_ok-install-in-Some-clause-work g c =
+    let files = c.args.self.now in
+    let next = subst (λ (o : Option Flushed). MatchOption o (IsTooLarge files.memtable)
+    (λ it. IsNextTable (known_version files).version it.line)) c.in-Some.is
+    c.in_ok-made.ensures.line in
+    (c.in-Some.made.line, next, c.in_ok-install-in-Some.ensures.told.1.1)
+
 pub returns-in_ok-install-in-Some-clause-tended : goal.returns-in_ok-install-in-Some-clause-tended
 returns-in_ok-install-in-Some-clause-tended g c = λ list honest h.
     let disk = g.D.Disk.state c.args.disk.now in
@@ -75,12 +91,9 @@ returns-in_ok-install-in-Some-clause-tended g c = λ list honest h.
     (c.in_ok-made.ensures.spilled list honest h) in
     let held : HeldAndSpilled mid files list c.in-Some.made =
     record { before = disk; held = h; spilled = told } in
-    let between = c.spill.ensures.kept.honest.1 honest in
-    let next = subst (λ (o : Option Flushed). MatchOption o Unit
-    (λ it. IsNextTable (known_version files).version it.line)) c.in-Some.is
-    c.in_ok-made.ensures.line in (
+    let between = c.spill.ensures.kept.honest.1 honest in (
       c.in_ok-install-in-Some.ensures.installed list between held,
-      (c.in-Some.made.line, next, c.in_ok-install-in-Some.ensures.told.1.1),
+      returns-in_ok-install-in-Some-clause-work g c,
     )
 
 -- ---- the moments of both calls

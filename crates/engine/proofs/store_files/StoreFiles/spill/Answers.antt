@@ -5,6 +5,7 @@ use Rattle.manifest.specs.declared.line.TheConstants.{MAX_NEXT}
 use Rattle.manifest.specs.declared.TableLine.{TableLine}
 use Rattle.manifest.specs.{NodeVersion}
 use Rattle.engine.specs.OpenFiles.{IsTooLarge, IsWrittenTable, known_version}
+use Rattle.engine.specs.TableWriting.{IsNewLine}
 use Rattle.engine.proofs.Spills.{has_spilled, held_again, next_is_fresh, next_is_opened}
 use Rattle.engine.proofs.Spills.{next_is_written}
 use Rattle.engine.proofs.store_files.StoreFiles.spill.Goals as goal
@@ -47,6 +48,11 @@ returns-in_default-clause-spilled g c = λ list honest h.
       held_again disk files list h next at c.held_versions_are_left.ensures.same new
           (c.write_table.ensures.kept.files honest) told.1,
     )
+
+pub returns-in_default-clause-line : goal.returns-in_default-clause-line
+returns-in_default-clause-line g c =
+    subst (λ (o : Option TableLine). MatchOption o (IsTooLarge c.args.self.now.memtable)
+    (IsNewLine c.behind-self.inside.next_file)) c.in_default.is c.in_ok-line.ensures.line
 
 pub returns-in_default-clause-any_moment : goal.returns-in_default-clause-any_moment
 returns-in_default-clause-any_moment g c = λ list honest h.

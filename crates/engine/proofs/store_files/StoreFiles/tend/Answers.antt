@@ -1,8 +1,9 @@
 use Rattle.std.proofs.Common.{◌<◌, arith, drop, refl, suc}
 use Rattle.engine.specs.BatchLogs.{newest_length}
 use Rattle.engine.specs.OpenFiles.{known_version, trimmed_count}
-use Rattle.engine.specs.Tending.{FlushIsDue, RewriteIsDue, TellsWork as work}
-use Rattle.engine.proofs.Tends.{nothing_called, tells_flush, tells_rewrite}
+use Rattle.engine.specs.Tending.{FlushIsDue, RewriteIsDue, IsTend as tend, TellsWork as work}
+use Rattle.engine.proofs.Tends.{flush_is_tend, nothing_called, rewrite_is_tend, tells_flush}
+use Rattle.engine.proofs.Tends.{tells_rewrite}
 use Rattle.engine.proofs.store_files.StoreFiles.tend.Goals as goal
 
 -- ---- a rewrite is due
@@ -16,6 +17,10 @@ returns-then-has_long_slot-clause-tended g c = λ list honest h.
     c.if-has_long_slot.true in
     tells_rewrite c.args.limit files c.shorten.new.self _ c.shorten.result due
     (c.shorten.ensures.tended list honest h) c.shorten.ensures.work
+
+pub returns-then-has_long_slot-clause-did : goal.returns-then-has_long_slot-clause-did
+returns-then-has_long_slot-clause-did g c =
+    rewrite_is_tend c.args.self.now c.shorten.new.self c.shorten.result c.shorten.ensures.work
 
 -- ---- nothing is due
 
@@ -47,6 +52,12 @@ returns-then-not-branch-clause-tended g c = λ list honest h.
     let any = c.in_ok-has_entries.ensures.any.1 due.1 in
     let none = c.if-not-branch.true in cc in
     (h, work.Rests short rests refl refl)
+
+pub returns-then-newest_length-limit-clause-did : goal.returns-then-newest_length-limit-clause-did
+returns-then-newest_length-limit-clause-did g c = tend.WasRest refl refl
+
+pub returns-then-not-branch-clause-did : goal.returns-then-not-branch-clause-did
+returns-then-not-branch-clause-did g c = tend.WasRest refl refl
 
 -- no call of the disk
 pub returns-then-newest_length-limit-clause-any_moment :
@@ -87,3 +98,8 @@ returns-clause-tended g c = λ list honest h.
     tells_flush c.args.limit files c.flush.new.self _ c.flush.result short
     (long, c.in_ok-has_entries.ensures.any.0 c.if-not-branch.false)
     (c.flush.ensures.tended list honest h)
+
+pub returns-clause-did : goal.returns-clause-did
+returns-clause-did g c =
+    flush_is_tend c.args.self.now c.flush.new.self c.flush.result
+    (c.in_ok-has_entries.ensures.any.0 c.if-not-branch.false) c.flush.ensures.work

@@ -68,22 +68,19 @@ returns-in_err-close_full-clause-added g c = λ entries honest b.
     c.from_residual-in_err-close_full.ensures.1 in
     rw (p.1, p.2) (refused c.in_err-close_full.field-0.0 entries entry why)
 
-pub returns-clause-added : goal.returns-clause-added
-returns-clause-added g c = λ entries honest b.
+-- whatever the disk did, the entry is in memory or in a block that is counted
+pub returns-clause-held : goal.returns-clause-held
+returns-clause-held g c = λ entries h.
     let old = c.args.self.now in
     let mid = c.hold.new.self in
     let last = c.close_full.new.self in
-    let state = g.D.Disk.state in
     let entry = lent_entry c.args.entry in
     let same = c.hold.ensures.same in
-    let m = bounds old entries b.holds in
-    let has = c.in_ok-hold.ensures.block (division entries).opened b.holds.parts.block
+    let m = bounds old entries h in
+    let has = c.in_ok-hold.ensures.block (division entries).opened h.parts.block
     (omega (arith, m.opened_few)) in
-    let knows = c.in_ok-hold.ensures.keys entries b.holds.keys (omega (arith, m.entries_few)) in
-    let can = can_close old mid entries entry b.holds c.requires knows has same.1 same.2 in
-    let fresh = subst
-    (λ (f : ℕ). IsFresh (state c.args.disk.now f) (data_bytes (division entries).closed))
-    (sym same.0) b.file in
+    let knows = c.in_ok-hold.ensures.keys entries h.keys (omega (arith, m.entries_few)) in
+    let can = can_close old mid entries entry h c.requires knows has same.1 same.2 in
     let parts = c.in_ok-close_full.ensures.closed (division entries) entry can in
     let new : Builder = record {
       file = last.file;
@@ -99,10 +96,26 @@ returns-clause-added g c = λ entries honest b.
     } in
     let known : KnowsKeys new.keys (entries ++ entry ∷ []) =
     subst (λ k. KnowsKeys k (entries ++ entry ∷ [])) (sym c.close_full.ensures.keys.keys) knows in
+    held_more old new entries entry h c.requires (c.in_ok-check.ensures.checked entries h) known there
+    (λ h. absurd cc)
+
+pub returns-clause-added : goal.returns-clause-added
+returns-clause-added g c = λ entries honest b.
+    let old = c.args.self.now in
+    let state = g.D.Disk.state in
+    let entry = lent_entry c.args.entry in
+    let same = c.hold.ensures.same in
+    let m = bounds old entries b.holds in
+    let has = c.in_ok-hold.ensures.block (division entries).opened b.holds.parts.block
+    (omega (arith, m.opened_few)) in
+    let knows = c.in_ok-hold.ensures.keys entries b.holds.keys (omega (arith, m.entries_few)) in
+    let can = can_close old c.hold.new.self entries entry b.holds c.requires knows has same.1 same.2 in
+    let fresh = subst
+    (λ (f : ℕ). IsFresh (state c.args.disk.now f) (data_bytes (division entries).closed))
+    (sym same.0) b.file in
     let written = c.in_ok-close_full.ensures.written (division entries) entry can honest fresh in
     record {
-      holds = held_more old new entries entry b.holds c.requires
-          (c.in_ok-check.ensures.checked entries b.holds) known there (λ h. absurd cc);
+      holds = returns-clause-held g c entries b.holds;
       file = subst (λ it. IsFresh (state c.close_full.new.disk old.file) (data_bytes it.closed))
           (sym (division_push entries entry))
           (subst (λ (f : ℕ). IsFresh (state c.close_full.new.disk f)
