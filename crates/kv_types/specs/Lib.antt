@@ -1,4 +1,5 @@
 pub mod Order
+pub mod StoredKeys
 pub mod Content
 pub mod Shared
 pub mod Spelling
@@ -24,3 +25,4 @@ pub use Rattle.kv_types.specs.Reading.{◌>>=◌}
 unfoldable pub use Rattle.kv_types.specs.Reading.{batch_at, text_at}
 pub use Rattle.kv_types.specs.Spans.{Rows, Span}
 pub use Rattle.kv_types.specs.Spelling.{IsBatch, SpellingsDiffer, batch_bytes, text_bytes}
+pub use Rattle.kv_types.specs.StoredKeys.{StoredKey, lent_key, stored_cmp}
