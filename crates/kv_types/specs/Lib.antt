@@ -15,6 +15,7 @@ pub mod FieldsLemmas
 pub mod BatchesLemmas
 pub mod OrderLemmas
 pub mod ByteOrderLemmas
+pub mod StoredKeysLemmas
 -- What crates above name.
 pub use Rattle.kv_types.specs.Content.{BatchContent}
 pub use Rattle.kv_types.specs.Entries.{Entry, IsNewest, IsSeen, IsShown, IsUnseen}
