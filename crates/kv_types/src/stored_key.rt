@@ -1,5 +1,5 @@
 // Stored keys: those of entries, as tables, memtables and cursors order them.
-ghost use Rattle.std.specs.Prelude.{◌≡◌, ◌≤◌, ◌↔◌, [], length, IfOk, IsTrue, OnOk};
+ghost use Rattle.std.specs.Prelude.{◌≡◌, ◌≤◌, ◌↔◌, [], length, IfOk, IsTrue, OnErr, OnOk};
 ghost use Rattle.kv_types.specs.StoredKeys.{lent_key, stored_cmp};
 
 use crate::Key;
@@ -96,9 +96,10 @@ impl KeyBuffer {
         }
     }
 
-    /// Copies a key into the memory.
+    /// Copies a key into the memory. Without room for it the key is the least one.
     pub fn set(&mut self, key: LentKey) -> Result<(), AllocError>
-        ensures { OnOk result (self.new ≡ lent_key key.entry) }
+        ensures set { OnOk result (self.new ≡ lent_key key.entry) }
+        ensures refused { OnErr result (self.new ≡ []) }
     {
         self.bytes.clear();
         self.bytes.extend_from_slice(key.bytes)

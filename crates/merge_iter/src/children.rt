@@ -109,8 +109,7 @@ pub fn seek_all<C: Cursor>(
         C.seeks_allocate source.old source.new result }
     ensures finds { (meant : C.Meant) → AreSound C.Cursor meant children.old.items source.old →
         OnOk result (AreFirst C.Cursor meant Forward (At (spot (lent_key key.entry) number))
-        children.new.items
-        source.new) }
+        children.new.items source.new) }
 {
     for i in 0..children.len() {
         children[i].seek(source, key, number)?;

@@ -118,8 +118,8 @@ pub fn last_shown<C: Cursor>(
 // Whether the entry that was found comes before this key and number.
 fn is_early<C: Cursor>(inner: &C, mode: Mode, key: LentKey, number: u64) -> bool
     ensures early { IsTrue result → (mode ≡ Mode.Inner) × IsOn (C.position inner.now)
-        × IfOn (C.position inner.now) (λ entry. EntryPrecedes Forward entry (spot (lent_key
-        key.entry) number)) }
+        × IfOn (C.position inner.now)
+        (λ entry. EntryPrecedes Forward entry (spot (lent_key key.entry) number)) }
     ensures late { (IsTrue result → ⊥) → mode ≡ Mode.Inner →
         IfOn (C.position inner.now)
         (λ entry. EntryPrecedes Forward entry (spot (lent_key key.entry) number) → ⊥) }
@@ -149,9 +149,9 @@ pub fn seek_shown<C: Cursor>(
     ensures unbroken { IfOk result
         (λ mode. IsBroken (view_position mode (C.position inner.new) (kept_entry kept.new)) → ⊥) }
     ensures finds { (meant : C.Meant) → C.is_sound meant inner.old source.old →
-        IsFound Forward at (C.holds meant inner.old source.old) (At (spot (lent_key key.entry)
-        number)) result
-        (C.position inner.new) (kept_entry kept.new) }
+        IsFound Forward at (C.holds meant inner.old source.old)
+        (At (spot (lent_key key.entry) number)) result (C.position inner.new)
+        (kept_entry kept.new) }
 {
     inner.seek(source, key, at)?;
     let mode = find_forward(inner, source, at, false, &mut kept.key)?;
