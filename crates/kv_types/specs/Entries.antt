@@ -3,10 +3,11 @@ use Rattle.std.specs.Prelude.{◌≡◌, ◌⊎◌, ◌↔◌, ℕ, suc, ◌≤�
 use Rattle.std.specs.Prelude.{IsSome}
 use Rattle.kv_types.specs.Content.{BatchContent, edits_of}
 use Rattle.kv_types.specs.Maps.{last_edit, map_of}
+use Rattle.kv_types.specs.StoredKeys.{StoredKey}
 
 -- a version of a key: the value that a batch left, or none where the batch deleted the key
 pub record Entry : Type 0 where
-  pub key : List ℕ
+  pub key : StoredKey
   pub number : ℕ
   pub value : Option (List ℕ)
 
@@ -36,11 +37,11 @@ pub record IsNewest (at : ℕ) (entries : Entry → Type 0) (entry : Entry) : Ty
       → other.number ≤ entry.number
 
 -- no entry of the key is seen at the number
-abbrev pub IsUnseen : ℕ → (Entry → Type 0) → List ℕ → Type 0
+abbrev pub IsUnseen : ℕ → (Entry → Type 0) → StoredKey → Type 0
 IsUnseen at entries key = (other : Entry) → IsSeen at entries other → other.key ≡ key → ⊥
 
 -- in the view at the number the key has this value, or none
-abbrev pub ViewShows : ℕ → (Entry → Type 0) → List ℕ → Option (List ℕ) → Type 0
+abbrev pub ViewShows : ℕ → (Entry → Type 0) → StoredKey → Option (List ℕ) → Type 0
 ViewShows at entries key value =
     ((number : ℕ) × IsNewest at entries (record { key = key; number = number; value = value }))
     ⊎ (IsUnseen at entries key × (value ≡ None))

@@ -1,4 +1,5 @@
 pub mod Order
+pub mod StoredKeys
 pub mod Content
 pub mod Shared
 pub mod Spelling
@@ -14,6 +15,7 @@ pub mod FieldsLemmas
 pub mod BatchesLemmas
 pub mod OrderLemmas
 pub mod ByteOrderLemmas
+pub mod StoredKeysLemmas
 -- What crates above name.
 pub use Rattle.kv_types.specs.Content.{BatchContent}
 pub use Rattle.kv_types.specs.Entries.{Entry, IsNewest, IsSeen, IsShown, IsUnseen}
@@ -24,3 +26,4 @@ pub use Rattle.kv_types.specs.Reading.{◌>>=◌}
 unfoldable pub use Rattle.kv_types.specs.Reading.{batch_at, text_at}
 pub use Rattle.kv_types.specs.Spans.{Rows, Span}
 pub use Rattle.kv_types.specs.Spelling.{IsBatch, SpellingsDiffer, batch_bytes, text_bytes}
+pub use Rattle.kv_types.specs.StoredKeys.{StoredKey, lent_key, stored_cmp}

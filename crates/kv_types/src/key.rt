@@ -7,13 +7,14 @@ ghost use Rattle.std.specs.Cmp.Lexicographic.{nat_list_cmp_total, texts_po, text
 ghost use Rattle.std.specs.Ordering.{nat_cmp};
 ghost use Rattle.std.proofs.Common.{refl};
 ghost use Rattle.kv_types.specs.Order.{IsBelow};
+ghost use Rattle.kv_types.specs.StoredKeys.{lent_key};
 ghost use Rattle.kv_types.specs.Spelling.{text_bytes};
 ghost use Rattle.kv_types.specs.Reading.{ReadsBytes, text_at};
 
-use crate::KvError;
 use crate::bounds::MAX_KEY;
 use crate::reading::key_of;
 use crate::writing::put_text;
+use crate::{KvError, LentKey};
 use std::alloc::{AllocError, Global};
 use std::cmp::Ordering;
 use std::marker::Model;
@@ -53,6 +54,14 @@ impl Key {
         ensures limit { length self.now ≤ MAX_KEY }
     {
         &self.bytes
+    }
+
+    /// The key as that of an entry.
+    pub fn lent(&self) -> LentKey<'_>
+        ensures key { lent_key result ≡ self.now }
+        ensures limit { length self.now ≤ MAX_KEY }
+    {
+        LentKey::new(&self.bytes)
     }
 
     /// Appends the spelling of the key to `out`.

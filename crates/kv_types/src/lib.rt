@@ -15,6 +15,7 @@ mod range;
 mod reading;
 mod row;
 mod shared;
+mod stored_key;
 mod value;
 mod writing;
 
@@ -28,4 +29,5 @@ pub use number::Number;
 pub use page::Page;
 pub use range::Range;
 pub use row::Row;
+pub use stored_key::{KeyBuffer, LentKey, StoredKey};
 pub use value::Value;

@@ -12,7 +12,7 @@ use Rattle.kv_types.specs.declared.edit.Edit.{Edit}
 use Rattle.kv_types.specs.declared.edit.Edit.TheVariants.{Put, Delete}
 use Rattle.kv_types.specs.Maps.{key_of, value_put, last_edit}
 use Rattle.kv_types.specs.Spelling.{IsEdit}
-use Rattle.kv_types.specs.{Entry, entries_of}
+use Rattle.kv_types.specs.{Entry, StoredKey, entries_of}
 use Rattle.memtable.specs.declared.version.Version.{Version}
 use Rattle.memtable.specs.Versions.{IsRisingList}
 use Rattle.memtable.specs.Maps.{VersionMap, versions_at, added, MapHolds, HasRisingNumbers}
@@ -47,7 +47,7 @@ back old number (Some w) v (inr h) =
 
 pub adds : (m n : VersionMap) (number own : ℕ) (edits given : List Edit) → own ≡ number
     → given ≡ edits
-    → ((q : List ℕ) → versions_at n q ≡ added (versions_at m q) own (last_edit given q))
+    → ((q : StoredKey) → versions_at n q ≡ added (versions_at m q) own (last_edit given q))
     → (entry : Entry) → MapHolds n entry ↔ (MapHolds m entry ⊎ entries_of number edits entry)
 adds m n number own edits given e f is entry =
     let at = subst (λ x. versions_at n entry.key ≡ added (versions_at m entry.key) x
@@ -68,16 +68,16 @@ rising_added old number (Some w) rising below =
     rising_more old (record { number = number; value = w }) rising below
 
 pub still_rising : (m n : VersionMap) (number : ℕ) (edits : List Edit)
-    → ((q : List ℕ) → versions_at n q ≡ added (versions_at m q) number (last_edit edits q))
+    → ((q : StoredKey) → versions_at n q ≡ added (versions_at m q) number (last_edit edits q))
     → HasRisingNumbers m
-    → ((q : List ℕ) (i : ℕ) (v : Version) → slice_get (versions_at m q) i ≡ Some v → v.number <
+    → ((q : StoredKey) (i : ℕ) (v : Version) → slice_get (versions_at m q) i ≡ Some v → v.number <
     number)
     → HasRisingNumbers n
 still_rising m n number edits is rising below q = subst IsRisingList (sym (is q))
     (rising_added (versions_at m q) number (last_edit edits q) (rising q) (below q))
 
 -- the limits of what an edit leaves at a key
-record KeepsLimits (own : List ℕ) (left : Option (List ℕ)) : Type 0 where
+record KeepsLimits (own : StoredKey) (left : Option (List ℕ)) : Type 0 where
   key : length own ≤ MAX_KEY
   value : ForSome left (λ value. length value ≤ MAX_VALUE)
 
@@ -88,14 +88,15 @@ limited_edit (Put key value) h = record {
 }
 limited_edit (Delete key) h = record { key = h; value = λ left is. absurd (cc) }
 
-of_edit : (edit : Edit) (key : List ℕ) (left : Option (List ℕ)) (t : Bool) → bytes_eq (key_of edit)
+of_edit : (edit : Edit) (key : StoredKey) (left : Option (List ℕ)) (t : Bool)
+    → bytes_eq (key_of edit)
     key ≡ t → IsEdit edit → cond t (Some (value_put edit)) None ≡ Some left → KeepsLimits key left
 of_edit edit key left true e h is =
     subst (λ k. KeepsLimits k left) ((bytes_eq-Decides (key_of edit) key).0 e)
     (subst (KeepsLimits (key_of edit)) (same_Some (value_put edit) left is) (limited_edit edit h))
 of_edit edit key left false e h is = absurd (cc)
 
-one_of : (edit : Edit) (edits : List Edit) (key : List ℕ) (left : Option (List ℕ))
+one_of : (edit : Edit) (edits : List Edit) (key : StoredKey) (left : Option (List ℕ))
     (later : Option (Option (List ℕ))) → (later ≡ Some left → KeepsLimits key left) → IsEdit edit
     → option_or later (cond (bytes_eq (key_of edit) key) (Some (value_put edit)) None) ≡ Some left
     → KeepsLimits key left
@@ -103,7 +104,7 @@ one_of edit edits key left (Some x) rest h is = rest is
 one_of edit edits key left None rest h is = of_edit edit key left (bytes_eq (key_of edit) key) refl
     h is
 
-limits_of : (edits : List Edit) (key : List ℕ) (left : Option (List ℕ)) → All IsEdit edits
+limits_of : (edits : List Edit) (key : StoredKey) (left : Option (List ℕ)) → All IsEdit edits
     → last_edit edits key ≡ Some left → KeepsLimits key left
 limits_of [] key left h is = absurd (cc)
 limits_of (edit ∷ edits) key left h is = one_of edit edits key left (last_edit edits key)

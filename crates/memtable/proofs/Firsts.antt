@@ -1,20 +1,18 @@
 -- The first version that a walk over a map meets.
-use Rattle.std.proofs.Common.{◌≡◌, ◌↔◌, ◌⊎◌, inl, inr, ℕ, ◌<◌, sym, ap, ◌∙◌, subst, arith, List}
+use Rattle.std.proofs.Common.{◌≡◌, ◌↔◌, ◌⊎◌, inl, inr, ℕ, ◌<◌, sym, ap, ◌∙◌, subst, arith}
 use Rattle.std.proofs.Common.{Option, Some, None, refl}
 use Rattle.std.specs.List.{slice_get}
 use Rattle.std.specs.Option.{IsSome}
 use Rattle.std.specs.BTreeMap.{get}
 use Rattle.std.specs.Cmp.{tied_itself}
-use Rattle.std.specs.Cmp.Lexicographic.{slice_cmp, nat_list_cmp_total}
 use Rattle.std.specs.declared.cmp.Ordering.{Ordering}
 use Rattle.std.specs.declared.cmp.Ordering.TheVariants.{Less, Equal, Greater}
-use Rattle.std.specs.Ordering.{nat_cmp, ordering_then, ordering_reverse, is_eq}
+use Rattle.std.specs.Ordering.{nat_cmp, ordering_then, ordering_reverse}
 use Rattle.std.proofs.lemmas.Cmp.{ranked, by_ranked}
-use Rattle.std.proofs.lemmas.Map.Text.{is_eq-slice_cmp}
-use Rattle.std.proofs.lemmas.Slice.Eq.{bytes_eq-Decides}
 use Rattle.merge_iter.specs.declared.direction.Direction.{Direction}
 use Rattle.merge_iter.specs.declared.direction.Direction.TheVariants.{Forward, Backward}
-use Rattle.kv_types.specs.{Entry}
+use Rattle.kv_types.specs.{Entry, StoredKey, stored_cmp}
+use Rattle.kv_types.specs.StoredKeysLemmas.{stored_tied, stored_total}
 use Rattle.merge_iter.specs.{Position, On, Off, Broken, entry_cmp, EntryPrecedes, IsFirst}
 use Rattle.merge_iter.specs.EntryParts.{numbers_fall}
 use Rattle.memtable.specs.declared.version.Version.{Version}
@@ -24,22 +22,22 @@ use Rattle.memtable.specs.Maps.{VersionMap, found, versions_at, MapHolds, versio
 use Rattle.memtable.specs.Maps.{entry_version}
 use Rattle.memtable.specs.Places.{position_on}
 
-abbrev pub Keys : List ℕ → List ℕ → Ordering
-Keys k l = slice_cmp nat_cmp k l
+abbrev pub Keys : StoredKey → StoredKey → Ordering
+Keys k l = stored_cmp k l
 
-pub same_key : (k l : List ℕ) → Keys k l ≡ Equal → k ≡ l
-same_key k l e = (bytes_eq-Decides k l).0 (sym (is_eq-slice_cmp k l) ∙ ap is_eq e)
+pub same_key : (k l : StoredKey) → Keys k l ≡ Equal → k ≡ l
+same_key k l e = stored_tied k l e
 
-pub not_less : (k l : List ℕ) → Keys k l ≡ Less → Keys l k ≡ Less → ⊥
-not_less k l h j = let z = nat_list_cmp_total.trans k l k h j in let e : Equal ≡ Less =
-    sym (tied_itself nat_list_cmp_total k) ∙ z in cc
+pub not_less : (k l : StoredKey) → Keys k l ≡ Less → Keys l k ≡ Less → ⊥
+not_less k l h j = let z = stored_total.trans k l k h j in let e : Equal ≡ Less =
+    sym (tied_itself stored_total k) ∙ z in cc
 
-pub not_same : (k l : List ℕ) → k ≡ l → Keys k l ≡ Less → ⊥
+pub not_same : (k l : StoredKey) → k ≡ l → Keys k l ≡ Less → ⊥
 not_same k l e h = let z : Keys l l ≡ Less = subst (λ x. Keys x l ≡ Less) e h in
-    let y : Equal ≡ Less = sym (tied_itself nat_list_cmp_total l) ∙ z in cc
+    let y : Equal ≡ Less = sym (tied_itself stored_total l) ∙ z in cc
 
-pub turned_key : (k l : List ℕ) → Keys k l ≡ Greater → Keys l k ≡ Less
-turned_key k l h = nat_list_cmp_total.antisymm l k ∙ ap ordering_reverse h
+pub turned_key : (k l : StoredKey) → Keys k l ≡ Greater → Keys l k ≡ Less
+turned_key k l h = stored_total.antisymm l k ∙ ap ordering_reverse h
 
 split : (a b : Entry) (o : Ordering) → Keys a.key b.key ≡ o → entry_cmp a b ≡ Less
     → (Keys a.key b.key ≡ Less) ⊎ (a.key ≡ b.key)
@@ -65,12 +63,12 @@ less_cmp x y l = by_ranked (x < y) (x ≡ y) (y < x) (nat_cmp x y) (ranked x y (
 pub by_number : (a b : Entry) → a.key ≡ b.key → b.number < a.number → entry_cmp a b ≡ Less
 by_number a b e l =
     let k : Keys a.key b.key ≡ Equal = subst (λ x. Keys a.key x ≡ Equal) e
-    (tied_itself nat_list_cmp_total a.key) in
+    (tied_itself stored_total a.key) in
     ap (λ o. ordering_then o (nat_cmp b.number a.number)) k ∙ less_cmp b.number a.number l
 
 -- ---- along a walk
 
-abbrev pub KeyPrecedes : Direction → List ℕ → List ℕ → Type 0
+abbrev pub KeyPrecedes : Direction → StoredKey → StoredKey → Type 0
 KeyPrecedes Forward k l = Keys k l ≡ Less
 KeyPrecedes Backward k l = Keys l k ≡ Less
 
@@ -93,16 +91,16 @@ pub precedes_number : (way : Direction) (a b : Entry) → a.key ≡ b.key → Nu
 precedes_number Forward a b e l = by_number a b e l
 precedes_number Backward a b e l = by_number b a (sym e) l
 
-pub keys_apart : (way : Direction) (k l : List ℕ) → KeyPrecedes way k l → KeyPrecedes way l k → ⊥
+pub keys_apart : (way : Direction) (k l : StoredKey) → KeyPrecedes way k l → KeyPrecedes way l k → ⊥
 keys_apart Forward k l h j = not_less k l h j
 keys_apart Backward k l h j = not_less l k h j
 
-pub keys_differ : (way : Direction) (k l : List ℕ) → k ≡ l → KeyPrecedes way k l → ⊥
+pub keys_differ : (way : Direction) (k l : StoredKey) → k ≡ l → KeyPrecedes way k l → ⊥
 keys_differ Forward k l e h = not_same k l e h
 keys_differ Backward k l e h = not_same l k (sym e) h
 
 -- the entry is among the versions of its key
-pub among : (m : VersionMap) (k : List ℕ) (vs : Versions) (entry : Entry) → get (slice_cmp nat_cmp)
+pub among : (m : VersionMap) (k : StoredKey) (vs : Versions) (entry : Entry) → get stored_cmp
     m k ≡ Some vs → entry.key ≡ k → MapHolds m entry → (i : ℕ)
     × (slice_get (all_of vs) i ≡ Some (entry_version entry))
 among m k vs entry is e h = (
@@ -112,9 +110,10 @@ among m k vs entry is e h = (
 )
 
 -- a version that no entry of the set is_met_first before
-pub first_by : (way : Direction) (m : VersionMap) (P : Entry → Type 0) (k : List ℕ) (vs : Versions)
+pub first_by : (way : Direction) (m : VersionMap) (P : Entry → Type 0) (k : StoredKey)
+    (vs : Versions)
     (at : ℕ) (v : Version)
-    → get (slice_cmp nat_cmp) m k ≡ Some vs → slice_get (all_of vs) at ≡ Some v
+    → get stored_cmp m k ≡ Some vs → slice_get (all_of vs) at ≡ Some v
     → P (version_entry k v)
     → ((entry : Entry) → MapHolds m entry → P entry → KeyPrecedes way entry.key k → ⊥)
     → ((i : ℕ) (entry : Entry) → slice_get (all_of vs) i ≡ Some (entry_version entry) → entry.key ≡
@@ -141,10 +140,10 @@ first_alike way m P Q Broken same f = f
 
 -- what has a entry has its key
 pub has_key : (m : VersionMap) (entry : Entry) → MapHolds m entry
-    → IsSome (get (slice_cmp nat_cmp) m entry.key)
-has_key m entry h = some_by (get (slice_cmp nat_cmp) m entry.key) refl
+    → IsSome (get stored_cmp m entry.key)
+has_key m entry h = some_by (get stored_cmp m entry.key) refl
   where
-    some_by : (o : Option Versions) → get (slice_cmp nat_cmp) m entry.key ≡ o → IsSome o
+    some_by : (o : Option Versions) → get stored_cmp m entry.key ≡ o → IsSome o
     some_by None e = absurd (let z : None ≡ Some (entry_version entry) =
         sym (ap (λ x. slice_get (found x) h.0) e) ∙ h.1 in cc)
     some_by (Some x) e = refl

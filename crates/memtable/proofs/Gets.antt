@@ -3,10 +3,8 @@ use Rattle.std.proofs.Common.{◌≡◌, ◌⊎◌, inl, inr, ℕ, ◌<◌, ◌�
 use Rattle.std.proofs.Common.{Option, Some, None}
 use Rattle.std.specs.List.{slice_get}
 use Rattle.std.specs.BTreeMap.{get}
-use Rattle.std.specs.Ordering.{nat_cmp}
-use Rattle.std.specs.Cmp.Lexicographic.{slice_cmp}
 use Rattle.std.proofs.lemmas.Option.{same_Some}
-use Rattle.kv_types.specs.{Entry, IsNewest, IsUnseen}
+use Rattle.kv_types.specs.{Entry, IsNewest, IsUnseen, StoredKey, stored_cmp}
 use Rattle.memtable.specs.declared.version.Version.{Version}
 use Rattle.memtable.specs.declared.version.Versions.{Versions}
 use Rattle.memtable.specs.Versions.{all_of, IsRisingList, IsLastUpTo}
@@ -14,8 +12,8 @@ use Rattle.memtable.specs.Maps.{VersionMap, MapHolds, found, versions_at, entry_
 use Rattle.memtable.specs.Maps.{HasRisingNumbers}
 
 -- the versions that were found rise
-pub found_rising : (m : VersionMap) (key : List ℕ) (vs : Versions) → Some vs ≡ get
-    (slice_cmp nat_cmp) m key → HasRisingNumbers m → IsRisingList (all_of vs)
+pub found_rising : (m : VersionMap) (key : StoredKey) (vs : Versions) → Some vs ≡ get
+    stored_cmp m key → HasRisingNumbers m → IsRisingList (all_of vs)
 found_rising m key vs is rising = subst (λ o. IsRisingList (found o)) (sym is) (rising key)
 
 late : (i at : ℕ) → (i < at) ⊎ ((i ≡ at) ⊎ (at < i))
@@ -34,15 +32,15 @@ greatest xs at place v rising last is i w e le = elim (late i place) [
 ]
 
 -- an entry of the key is among its versions
-held : (m : VersionMap) (key : List ℕ) (other : Entry) → MapHolds m other → other.key ≡ key →
+held : (m : VersionMap) (key : StoredKey) (other : Entry) → MapHolds m other → other.key ≡ key →
     (i : ℕ) × (slice_get (versions_at m key) i ≡ Some (entry_version other))
 held m key other has same =
     (has.0, subst (λ k. slice_get (versions_at m k) has.0 ≡ Some (entry_version other)) same has.1)
 
 -- the version at the place that was found is the newest entry of its key
-pub newest : (m : VersionMap) (key : List ℕ) (vs : Versions) (at own place : ℕ) (v : Version)
+pub newest : (m : VersionMap) (key : StoredKey) (vs : Versions) (at own place : ℕ) (v : Version)
     (value : Option (List ℕ))
-    → own ≡ at → Some vs ≡ get (slice_cmp nat_cmp) m key → HasRisingNumbers m
+    → own ≡ at → Some vs ≡ get stored_cmp m key → HasRisingNumbers m
     → (IsRisingList (all_of vs) → IsLastUpTo (all_of vs) own (Some place))
     → slice_get (all_of vs) place ≡ Some v → v.value ≡ value
     → (number : ℕ) × IsNewest at (MapHolds m) (record { key = key; number = number; value = value })
@@ -69,7 +67,7 @@ newest m key vs at own place v value same is rising last there left =
     )
 
 -- all versions of the key are newer
-unseen : (m : VersionMap) (key : List ℕ) (at : ℕ)
+unseen : (m : VersionMap) (key : StoredKey) (at : ℕ)
     → ((i : ℕ) (v : Version) → slice_get (versions_at m key) i ≡ Some v → at < v.number)
     → IsUnseen at (MapHolds m) key
 unseen m key at late_ other seen same =
@@ -77,14 +75,14 @@ unseen m key at late_ other seen same =
     let h = late_ has.0 (entry_version other) has.1 in
     let l = seen.1 in omega (arith, h, l)
 
-pub none_there : (m : VersionMap) (key : List ℕ) (at : ℕ) → None ≡ get (slice_cmp nat_cmp) m key
+pub none_there : (m : VersionMap) (key : StoredKey) (at : ℕ) → None ≡ get stored_cmp m key
     → IsUnseen at (MapHolds m) key
 none_there m key at is =
     unseen m key at (λ i v e. absurd (let z : None ≡ Some v = ap (λ o. slice_get (found o) i) is
     ∙ e in cc))
 
-pub all_newer : (m : VersionMap) (key : List ℕ) (vs : Versions) (at own : ℕ) → own ≡ at
-    → Some vs ≡ get (slice_cmp nat_cmp) m key → HasRisingNumbers m
+pub all_newer : (m : VersionMap) (key : StoredKey) (vs : Versions) (at own : ℕ) → own ≡ at
+    → Some vs ≡ get stored_cmp m key → HasRisingNumbers m
     → (IsRisingList (all_of vs) → IsLastUpTo (all_of vs) own None)
     → IsUnseen at (MapHolds m) key
 all_newer m key vs at own same is rising last =

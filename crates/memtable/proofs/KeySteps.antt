@@ -1,11 +1,10 @@
 -- Steps from one key of a map to the next, or to the one before.
-use Rattle.std.proofs.Common.{◌≡◌, ℕ, ◌+◌, sym, ◌∙◌, subst, List, [], ◌∷◌, ◌++◌, length, Option}
+use Rattle.std.proofs.Common.{◌≡◌, ◌+◌, sym, ◌∙◌, subst, List, [], ◌∷◌, ◌++◌, length, Option}
 use Rattle.std.proofs.Common.{Some, None, refl, arith}
 use Rattle.std.specs.Option.{IfSome, ForSome}
 use Rattle.std.specs.BTreeMap.{IsOrdered}
-use Rattle.std.specs.Cmp.Lexicographic.{slice_cmp}
-use Rattle.std.specs.Ordering.{nat_cmp}
 use Rattle.std.proofs.lemmas.Option.{same_Some}
+use Rattle.kv_types.specs.{StoredKey, stored_cmp}
 use Rattle.merge_iter.specs.{IsFirst}
 use Rattle.merge_iter.specs.declared.direction.Direction.TheVariants.{Forward, Backward}
 use Rattle.memtable.specs.declared.place.VersionPlace.{VersionPlace}
@@ -24,15 +23,16 @@ one_more [] y = refl
 one_more (x ∷ xs) y = let h = one_more xs y in omega (arith, h)
 
 -- what a step to the next key gives, with the keys that are left behind it
-pub record IsKeyStep (m : VersionMap) (k : List ℕ) (rest : KeyList) (next : Option VersionPlace) :
+pub record IsKeyStep (m : VersionMap) (k : StoredKey) (rest : KeyList) (next : Option VersionPlace)
+    :
     Type 0 where
   pub placed : IfSome next (IsVersionPlace m)
   pub first : HasRisingNumbers m → IsFirst Forward (λ entry. MapHolds m entry × KeyPrecedes Forward
       k entry.key) (maybe_position next)
   pub held : ForSome next (λ place. rest ≡ keys_after m place.key.now)
 
-pub step_after : (m : VersionMap) (k : List ℕ) (keys rest : KeyList) (next : Option VersionPlace)
-    → IsOrdered (slice_cmp nat_cmp) m
+pub step_after : (m : VersionMap) (k : StoredKey) (keys rest : KeyList) (next : Option VersionPlace)
+    → IsOrdered stored_cmp m
     → keys ≡ keys_after m k → IsPopped keys rest next → IsKeyStep m k rest next
 step_after m k keys rest None sorted is none = record {
   placed = tt;
@@ -40,7 +40,7 @@ step_after m k keys rest None sorted is none = record {
   held = λ place e. absurd (cc);
 }
 step_after m k keys rest (Some place) sorted is popped =
-    let entry : List ℕ × Versions = (place.key.now, place.versions.now) in
+    let entry : StoredKey × Versions = (place.key.now, place.versions.now) in
     let own : keys_after m k ≡ entry ∷ rest = sym is ∙ popped.0 in
     let key = next_key m.entries k entry rest sorted own in
     let end = popped.1 in
@@ -53,15 +53,17 @@ step_after m k keys rest (Some place) sorted is popped =
     }
 
 -- the same of a step to the key before
-pub record IsKeyStepBack (m : VersionMap) (k : List ℕ) (rest : KeyList) (next : Option VersionPlace)
+pub record IsKeyStepBack (m : VersionMap) (k : StoredKey) (rest : KeyList)
+    (next : Option VersionPlace)
     : Type 0 where
   pub placed : IfSome next (IsVersionPlace m)
   pub first : HasRisingNumbers m → IsFirst Backward (λ entry. MapHolds m entry × KeyPrecedes
       Backward k entry.key) (maybe_position next)
   pub held : ForSome next (λ place. rest ≡ keys_before m place.key.now)
 
-pub step_before : (m : VersionMap) (k : List ℕ) (keys rest : KeyList) (next : Option VersionPlace)
-    → IsOrdered (slice_cmp nat_cmp) m
+pub step_before : (m : VersionMap) (k : StoredKey) (keys rest : KeyList)
+    (next : Option VersionPlace)
+    → IsOrdered stored_cmp m
     → keys ≡ keys_before m k → IsPoppedBack keys rest next → IsKeyStepBack m k rest next
 step_before m k keys rest None sorted is none = record {
   placed = tt;
@@ -69,7 +71,7 @@ step_before m k keys rest None sorted is none = record {
   held = λ place e. absurd (cc);
 }
 step_before m k keys rest (Some place) sorted is popped =
-    let entry : List ℕ × Versions = (place.key.now, place.versions.now) in
+    let entry : StoredKey × Versions = (place.key.now, place.versions.now) in
     let own : keys_before m k ≡ rest ++ entry ∷ [] = sym is ∙ popped.0 in
     let key = key_before m.entries k entry rest sorted own in
     let start = popped.1 in

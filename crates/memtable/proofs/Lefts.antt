@@ -5,16 +5,15 @@ use Rattle.std.proofs.Common.{Some, None, refl}
 use Rattle.std.specs.List.{slice_get}
 use Rattle.std.specs.Map.{lookup}
 use Rattle.std.specs.BTreeMap.{is_at}
-use Rattle.std.specs.Cmp.Lexicographic.{slice_cmp}
 use Rattle.std.specs.declared.cmp.Ordering.{Ordering}
 use Rattle.std.specs.declared.cmp.Ordering.TheVariants.{Less, Equal, Greater}
-use Rattle.std.specs.Ordering.{nat_cmp, is_lt, is_eq}
+use Rattle.std.specs.Ordering.{is_lt, is_eq}
 use Rattle.std.proofs.lemmas.Option.{same_Some, slice_get_cases}
 use Rattle.std.proofs.lemmas.Map.Text.{is_eq-slice_cmp}
 use Rattle.std.proofs.lemmas.Slice.Eq.{bytes_eq-Decides}
 use Rattle.merge_iter.specs.declared.direction.Direction.{Direction}
 use Rattle.merge_iter.specs.declared.direction.Direction.TheVariants.{Forward, Backward}
-use Rattle.kv_types.specs.{Entry}
+use Rattle.kv_types.specs.{Entry, StoredKey, stored_cmp}
 use Rattle.merge_iter.specs.{Position, On, Off, Broken, EntryPrecedes, IsFirst, IfOn}
 use Rattle.merge_iter.specs.EntryOrder.{never, chain}
 use Rattle.memtable.specs.declared.version.Version.{Version}
@@ -39,17 +38,17 @@ in_right : (entry : Entry) (xs ys : List Entry) → In entry ys → In entry (xs
 in_right entry [] ys h = h
 in_right entry (x ∷ xs) ys h = inr (in_right entry xs ys h)
 
-in_key : (k : List ℕ) (vs : List Version) (i : ℕ) (v : Version) → slice_get vs i ≡ Some v
+in_key : (k : StoredKey) (vs : List Version) (i : ℕ) (v : Version) → slice_get vs i ≡ Some v
     → In (version_entry k v) (key_entries k vs)
 in_key k [] i v e = absurd (let z : None ≡ Some v = e in cc)
 in_key k (x ∷ xs) zero v e = inl (ap (version_entry k) (same_Some x v e))
 in_key k (x ∷ xs) (suc i) v e = inr (in_key k xs i v e)
 
-in_entry : (key : List ℕ) (entry : List ℕ × Versions) (es : List (List ℕ × Versions))
-    (vs : Versions) (i : ℕ) (v : Version) (t : Bool) → is_eq (slice_cmp nat_cmp key entry.0) ≡ t
-    → cond t (Some entry.1) (lookup (is_at (slice_cmp nat_cmp key)) es) ≡ Some vs → slice_get
+in_entry : (key : StoredKey) (entry : StoredKey × Versions) (es : List (StoredKey × Versions))
+    (vs : Versions) (i : ℕ) (v : Version) (t : Bool) → is_eq (stored_cmp key entry.0) ≡ t
+    → cond t (Some entry.1) (lookup (is_at (stored_cmp key)) es) ≡ Some vs → slice_get
     (all_of vs) i ≡ Some v
-    → (lookup (is_at (slice_cmp nat_cmp key)) es ≡ Some vs → In (version_entry key v)
+    → (lookup (is_at (stored_cmp key)) es ≡ Some vs → In (version_entry key v)
     (map_entries es))
     → In (version_entry key v) (key_entries entry.0 (all_of entry.1) ++ map_entries es)
 in_entry key entry es vs i v true is e at rest =
@@ -62,12 +61,12 @@ in_entry key entry es vs i v true is e at rest =
 in_entry key entry es vs i v false is e at rest = in_right (version_entry key v)
     (key_entries entry.0 (all_of entry.1)) (map_entries es) (rest e)
 
-in_all : (key : List ℕ) (es : List (List ℕ × Versions)) (vs : Versions) (i : ℕ) (v : Version)
-    → lookup (is_at (slice_cmp nat_cmp key)) es ≡ Some vs → slice_get (all_of vs) i ≡ Some v
+in_all : (key : StoredKey) (es : List (StoredKey × Versions)) (vs : Versions) (i : ℕ) (v : Version)
+    → lookup (is_at (stored_cmp key)) es ≡ Some vs → slice_get (all_of vs) i ≡ Some v
     → In (version_entry key v) (map_entries es)
 in_all key [] vs i v e at = absurd (let z : None ≡ Some vs = e in cc)
 in_all key (entry ∷ es) vs i v e at = in_entry key entry es vs i v
-    (is_eq (slice_cmp nat_cmp key entry.0)) refl e at (λ h. in_all key es vs i v h at)
+    (is_eq (stored_cmp key entry.0)) refl e at (λ h. in_all key es vs i v h at)
 
 -- ---- counts
 

@@ -6,7 +6,7 @@ use Rattle.std.specs.declared.cmp.Ordering.{Ordering}
 use Rattle.std.specs.declared.cmp.Ordering.TheVariants.{Less, Equal, Greater}
 use Rattle.std.specs.Ordering.{nat_cmp, ordering_then, ordering_reverse}
 use Rattle.merge_iter.specs.declared.direction.Direction.TheVariants.{Forward}
-use Rattle.kv_types.specs.{Entry}
+use Rattle.kv_types.specs.{Entry, StoredKey}
 use Rattle.merge_iter.specs.{Position, EntryPrecedes, IsFirst, spot}
 use Rattle.memtable.specs.Maps.{VersionMap, MapHolds}
 use Rattle.memtable.proofs.Firsts.{Keys, parts, by_key, first_alike}
@@ -55,7 +55,7 @@ tells (suc n) (x ∷ k) [] l m = absurd (omega (arith, m))
 tells (suc n) (x ∷ k) (y ∷ b) l m = heads n x y k b (nat_cmp x y) refl
     (tells n k b (omega (arith, l)) (omega (arith, m)))
 
-pub long_key : (m : VersionMap) (n : ℕ) (bytes own : List ℕ) (number : ℕ) (s : Position)
+pub long_key : (m : VersionMap) (n : ℕ) (bytes own : StoredKey) (number : ℕ) (s : Position)
     → own ≡ take n bytes → n < length bytes
     → ((entry : Entry) → MapHolds m entry → length entry.key ≤ n)
     → IsFirst Forward (λ entry. MapHolds m entry × (Keys own entry.key ≡ Less)) s

@@ -5,13 +5,14 @@ use Rattle.std.proofs.Common.{Some, None, refl, arith}
 use Rattle.std.specs.List.{slice_get}
 use Rattle.std.specs.Option.{option_or, is_some}
 use Rattle.std.specs.Str.{bytes_eq}
-use Rattle.std.specs.Ordering.{nat_cmp, is_eq}
+use Rattle.std.specs.Ordering.{is_eq}
 use Rattle.std.specs.BTreeMap.{get}
-use Rattle.std.specs.Cmp.Lexicographic.{slice_cmp}
 use Rattle.std.proofs.lemmas.Map.Text.{is_eq-slice_cmp}
 use Rattle.std.proofs.lemmas.Slice.Eq.{bytes_eq-Decides}
 use Rattle.kv_types.specs.declared.edit.Edit.{Edit}
 use Rattle.kv_types.specs.Maps.{key_of, value_put, last_edit}
+use Rattle.kv_types.specs.{StoredKey, stored_cmp}
+use Rattle.kv_types.specs.StoredKeysLemmas.{stored_total}
 use Rattle.memtable.specs.declared.version.Version.{Version}
 use Rattle.memtable.specs.declared.version.Versions.{Versions}
 use Rattle.memtable.specs.Versions.{all_of, with_version, lacks}
@@ -21,52 +22,51 @@ use Rattle.std.proofs.Common.{inl, inr, suc, drop, get_or}
 use Rattle.std.proofs.Math.Seq.{drop-cons}
 use Rattle.std.proofs.Math.Nat.{min-eq_left, min-eq_right}
 use Rattle.std.proofs.lemmas.Bool.{cases_lt}
-use Rattle.std.specs.Cmp.Lexicographic.{nat_list_cmp_total}
 use Rattle.memtable.specs.Maps.{VersionMap, found, versions_at, added}
 use Rattle.memtable.proofs.VersionLists.{lacks_last, lacks_greater, with_new, without}
 
-updated_by : (m n : VersionMap) (key q : List ℕ) (w : Versions) (v : Version) (t : Bool)
+updated_by : (m n : VersionMap) (key q : StoredKey) (w : Versions) (v : Version) (t : Bool)
     → bytes_eq key q ≡ t
-    → get (slice_cmp nat_cmp) n q ≡ cond (is_eq (slice_cmp nat_cmp key q)) (Some w)
-    (get (slice_cmp nat_cmp) m q)
+    → get stored_cmp n q ≡ cond (is_eq (stored_cmp key q)) (Some w)
+    (get stored_cmp m q)
     → all_of w ≡ with_version (versions_at m key) v
     → versions_at n q ≡ cond t (with_version (versions_at m q) v) (versions_at m q)
 updated_by m n key q w v true e gets is =
     let s : key ≡ q = (bytes_eq-Decides key q).0 e in
-    let g = gets ∙ ap (λ b. cond b (Some w) (get (slice_cmp nat_cmp) m q)) (is_eq-slice_cmp key q
+    let g = gets ∙ ap (λ b. cond b (Some w) (get stored_cmp m q)) (is_eq-slice_cmp key q
     ∙ e) in
     ap found g ∙ (is ∙ ap (λ k. with_version (versions_at m k) v) s)
 updated_by m n key q w v false e gets is =
-    ap found (gets ∙ ap (λ b. cond b (Some w) (get (slice_cmp nat_cmp) m q)) (is_eq-slice_cmp key q
+    ap found (gets ∙ ap (λ b. cond b (Some w) (get stored_cmp m q)) (is_eq-slice_cmp key q
     ∙ e))
 
-pub updated : (m n : VersionMap) (key : List ℕ) (w : Versions) (v : Version)
-    → ((q : List ℕ) → get (slice_cmp nat_cmp) n q ≡ cond (is_eq (slice_cmp nat_cmp key q)) (Some w)
-    (get (slice_cmp nat_cmp) m q))
+pub updated : (m n : VersionMap) (key : StoredKey) (w : Versions) (v : Version)
+    → ((q : StoredKey) → get stored_cmp n q ≡ cond (is_eq (stored_cmp key q)) (Some w)
+    (get stored_cmp m q))
     → all_of w ≡ with_version (versions_at m key) v
-    → (q : List ℕ) → versions_at n q ≡ cond (bytes_eq key q) (with_version (versions_at m q) v)
+    → (q : StoredKey) → versions_at n q ≡ cond (bytes_eq key q) (with_version (versions_at m q) v)
     (versions_at m q)
 updated m n key w v gets is q = updated_by m n key q w v (bytes_eq key q) refl (gets q) is
 
 -- the key had versions, and what the borrow wrote stands at it
-pub followed : (m inserted n : VersionMap) (key own : List ℕ) (before fresh w : Versions)
+pub followed : (m inserted n : VersionMap) (key own : StoredKey) (before fresh w : Versions)
     (v : Version)
-    → own ≡ key → Some before ≡ get (slice_cmp nat_cmp) m own
-    → ((q : List ℕ) → get (slice_cmp nat_cmp) inserted q ≡ cond (is_eq (slice_cmp nat_cmp own q))
-    (Some fresh) (get (slice_cmp nat_cmp) m q))
-    → ((q : List ℕ) → get (slice_cmp nat_cmp) n q ≡ cond (is_eq (slice_cmp nat_cmp key q)) (Some w)
-    (get (slice_cmp nat_cmp) inserted q))
+    → own ≡ key → Some before ≡ get stored_cmp m own
+    → ((q : StoredKey) → get stored_cmp inserted q ≡ cond (is_eq (stored_cmp own q))
+    (Some fresh) (get stored_cmp m q))
+    → ((q : StoredKey) → get stored_cmp n q ≡ cond (is_eq (stored_cmp key q)) (Some w)
+    (get stored_cmp inserted q))
     → all_of w ≡ with_version (all_of before) v
-    → (q : List ℕ) → versions_at n q ≡ cond (bytes_eq key q) (with_version (versions_at m q) v)
+    → (q : StoredKey) → versions_at n q ≡ cond (bytes_eq key q) (with_version (versions_at m q) v)
     (versions_at m q)
 followed m inserted n key own before fresh w v e had puts writes is =
-    let at : Some before ≡ get (slice_cmp nat_cmp) m key =
-    subst (λ k. Some before ≡ get (slice_cmp nat_cmp) m k) e had in
+    let at : Some before ≡ get stored_cmp m key =
+    subst (λ k. Some before ≡ get stored_cmp m k) e had in
     updated m n key w v
-    (λ q. writes q ∙ (ap (cond (is_eq (slice_cmp nat_cmp key q)) (Some w))
-    (puts q ∙ ap (λ k. cond (is_eq (slice_cmp nat_cmp k q)) (Some fresh)
-    (get (slice_cmp nat_cmp) m q)) e)
-    ∙ twice (is_eq (slice_cmp nat_cmp key q)) (Some w) (Some fresh) (get (slice_cmp nat_cmp) m q)))
+    (λ q. writes q ∙ (ap (cond (is_eq (stored_cmp key q)) (Some w))
+    (puts q ∙ ap (λ k. cond (is_eq (stored_cmp k q)) (Some fresh)
+    (get stored_cmp m q)) e)
+    ∙ twice (is_eq (stored_cmp key q)) (Some w) (Some fresh) (get stored_cmp m q)))
     (is ∙ ap (λ o. with_version (found o) v) at)
   where
     twice : (b : Bool) (x y z : Option Versions) → cond b x (cond b y z) ≡ cond b x z
@@ -74,32 +74,33 @@ followed m inserted n key own before fresh w v e had puts writes is =
     twice false x y z = refl
 
 -- what was inserted is found
-pub found_there : (m n : VersionMap) (key own : List ℕ) (fresh : Versions) → own ≡ key
-    → ((q : List ℕ) → get (slice_cmp nat_cmp) n q ≡ cond (is_eq (slice_cmp nat_cmp own q))
-    (Some fresh) (get (slice_cmp nat_cmp) m q))
-    → get (slice_cmp nat_cmp) n key ≡ Some fresh
+pub found_there : (m n : VersionMap) (key own : StoredKey) (fresh : Versions) → own ≡ key
+    → ((q : StoredKey) → get stored_cmp n q ≡ cond (is_eq (stored_cmp own q))
+    (Some fresh) (get stored_cmp m q))
+    → get stored_cmp n key ≡ Some fresh
 found_there m n key own fresh e puts =
-    puts key ∙ (ap (λ k. cond (is_eq (slice_cmp nat_cmp k key)) (Some fresh)
-    (get (slice_cmp nat_cmp) m key)) e
-    ∙ ap (λ b. cond b (Some fresh) (get (slice_cmp nat_cmp) m key))
-    (ap is_eq (tied_itself nat_list_cmp_total key)))
+    puts key ∙ (ap (λ k. cond (is_eq (stored_cmp k key)) (Some fresh)
+    (get stored_cmp m key)) e
+    ∙ ap (λ b. cond b (Some fresh) (get stored_cmp m key))
+    (ap is_eq (tied_itself stored_total key)))
 
 -- the key had none
-pub begun : (m n : VersionMap) (key own : List ℕ) (w : Versions) (v : Version) → own ≡ key
-    → None ≡ get (slice_cmp nat_cmp) m own
-    → ((q : List ℕ) → get (slice_cmp nat_cmp) n q ≡ cond (is_eq (slice_cmp nat_cmp own q)) (Some w)
-    (get (slice_cmp nat_cmp) m q))
+pub begun : (m n : VersionMap) (key own : StoredKey) (w : Versions) (v : Version) → own ≡ key
+    → None ≡ get stored_cmp m own
+    → ((q : StoredKey) → get stored_cmp n q ≡ cond (is_eq (stored_cmp own q)) (Some w)
+    (get stored_cmp m q))
     → all_of w ≡ v ∷ []
-    → (q : List ℕ) → versions_at n q ≡ cond (bytes_eq key q) (with_version (versions_at m q) v)
+    → (q : StoredKey) → versions_at n q ≡ cond (bytes_eq key q) (with_version (versions_at m q) v)
     (versions_at m q)
 begun m n key own w v e had gets is =
-    let by_key = subst (λ k. (q : List ℕ) → get (slice_cmp nat_cmp) n q ≡ cond
-    (is_eq (slice_cmp nat_cmp k q)) (Some w) (get (slice_cmp nat_cmp) m q)) e gets in
+    let by_key = subst (λ k. (q : StoredKey) → get stored_cmp n q ≡ cond
+    (is_eq (stored_cmp k q)) (Some w) (get stored_cmp m q)) e gets in
     updated m n key w v by_key (is ∙ ap (λ o. with_version (found o) v)
-    (had ∙ ap (get (slice_cmp nat_cmp) m) e))
+    (had ∙ ap (get stored_cmp m) e))
 
-pub lacks_in : (m : VersionMap) (key own : List ℕ) (number : ℕ) (o : Option Versions) (added : Bool)
-    → own ≡ key → o ≡ get (slice_cmp nat_cmp) m own → added ≡ lacks (found o) number → added ≡ lacks
+pub lacks_in : (m : VersionMap) (key own : StoredKey) (number : ℕ) (o : Option Versions)
+    (added : Bool)
+    → own ≡ key → o ≡ get stored_cmp m own → added ≡ lacks (found o) number → added ≡ lacks
     (versions_at m key) number
 lacks_in m key own number o added e is a =
     a ∙ (ap (λ x. lacks (found x) number) is ∙ ap (λ k. lacks (versions_at m k) number) e)
@@ -139,7 +140,7 @@ one_edit true old number x left below = put_on old number x left below
 one_edit false old number x left below = ap (added old number) (sym (or_none x))
 
 -- the versions of a key with what the edits from this one on left
-pub turned : (edit : Edit) (rest : List Edit) (q key : List ℕ) (old now next : List Version)
+pub turned : (edit : Edit) (rest : List Edit) (q key : StoredKey) (old now next : List Version)
     (number : ℕ) (left : Option (List ℕ))
     → key ≡ key_of edit → left ≡ value_put edit
     → ((i : ℕ) (v : Version) → slice_get old i ≡ Some v → v.number < number)
@@ -175,7 +176,8 @@ min_sum a c m = elim (cases_lt a m) [
 capped : (a b c : ℕ) → capped_sum (capped_sum a b) c ≡ capped_sum a (b + c)
 capped a b c = min_sum (a + b) c (2 ^ 64 - 1) ∙ ap (λ n. min n (2 ^ 64 - 1)) (search arith)
 
-pub counted : (edit : Edit) (rest : List Edit) (key : List ℕ) (bytes sum next : ℕ) (is_added : Bool)
+pub counted : (edit : Edit) (rest : List Edit) (key : StoredKey) (bytes sum next : ℕ)
+    (is_added : Bool)
     → key ≡ key_of edit
     → is_added ≡ not (is_some (last_edit rest key)) → sum ≡ capped_sum bytes (edits_size rest)
     → next ≡ cond is_added (capped_sum sum (edit_size edit)) sum

@@ -1,15 +1,13 @@
 -- The first version that does not come before a key and number.
-use Rattle.std.proofs.Common.{◌≡◌, inl, inr, ℕ, ◌<◌, sym, ap, ◌∙◌, subst, arith, List, Some, None}
+use Rattle.std.proofs.Common.{◌≡◌, inl, inr, ℕ, ◌<◌, sym, ap, ◌∙◌, subst, arith, Some, None}
 use Rattle.std.proofs.Common.{refl}
 use Rattle.std.specs.List.{slice_get}
 use Rattle.std.specs.BTreeMap.{get}
-use Rattle.std.specs.Cmp.Lexicographic.{slice_cmp}
 use Rattle.std.specs.declared.cmp.Ordering.{Ordering}
 use Rattle.std.specs.declared.cmp.Ordering.TheVariants.{Less, Equal, Greater}
-use Rattle.std.specs.Ordering.{nat_cmp}
 use Rattle.std.proofs.lemmas.Option.{slice_get_cases}
 use Rattle.merge_iter.specs.declared.direction.Direction.TheVariants.{Forward}
-use Rattle.kv_types.specs.{Entry}
+use Rattle.kv_types.specs.{Entry, StoredKey, stored_cmp}
 use Rattle.merge_iter.specs.{Position, EntryPrecedes, IsFirst, spot}
 use Rattle.memtable.specs.declared.version.Version.{Version}
 use Rattle.memtable.specs.declared.version.Versions.{Versions}
@@ -23,8 +21,8 @@ use Rattle.memtable.proofs.Firsts.{Keys, same_key, not_less, not_same, turned_ke
 use Rattle.memtable.proofs.Firsts.{by_number, first_by, first_alike}
 use Rattle.memtable.proofs.Steps.{earlier}
 
-found_at : (m : VersionMap) (k : List ℕ) (vs : Versions) (at number : ℕ) → Some vs ≡ get
-    (slice_cmp nat_cmp) m k → IsRisingList (all_of vs) → IsLastUpTo (all_of vs) number (Some at)
+found_at : (m : VersionMap) (k : StoredKey) (vs : Versions) (at number : ℕ) → Some vs ≡ get
+    stored_cmp m k → IsRisingList (all_of vs) → IsLastUpTo (all_of vs) number (Some at)
     → IsFirst Forward (λ entry. MapHolds m entry × (EntryPrecedes Forward entry (spot k number)
     → ⊥)) (position_on k (slice_get (all_of vs) at))
 found_at m k vs at number is rising to =
@@ -44,8 +42,8 @@ found_at m k vs at number is rising to =
       | inr (past, none) ↦ absurd (let l = to.0 in omega (arith, past, l))
     ]
 
-pub seek_found : (m : VersionMap) (k stored : List ℕ) (vs : Versions) (at number : ℕ)
-    → Keys k stored ≡ Equal → Some vs ≡ get (slice_cmp nat_cmp) m k → HasRisingNumbers m
+pub seek_found : (m : VersionMap) (k stored : StoredKey) (vs : Versions) (at number : ℕ)
+    → Keys k stored ≡ Equal → Some vs ≡ get stored_cmp m k → HasRisingNumbers m
     → (IsRisingList (all_of vs) → IsLastUpTo (all_of vs) number (Some at))
     → IsFirst Forward (λ entry. MapHolds m entry × (EntryPrecedes Forward entry (spot k number)
     → ⊥)) (position_on stored (slice_get (all_of vs) at))
@@ -56,7 +54,7 @@ seek_found m k stored vs at number e is rising to =
     (position_on x (slice_get (all_of vs) at))) (same_key k stored e)
     (found_at m k vs at number is up (to up))
 
-past_by : (m : VersionMap) (k : List ℕ) (number : ℕ) (entry : Entry) (o : Ordering)
+past_by : (m : VersionMap) (k : StoredKey) (number : ℕ) (entry : Entry) (o : Ordering)
     → ((i : ℕ) (v : Version) → slice_get (versions_at m k) i ≡ Some v → number < v.number)
     → MapHolds m entry → (EntryPrecedes Forward entry (spot k number) → ⊥) → Keys k entry.key ≡ o
     → Keys k entry.key ≡ Less
@@ -68,7 +66,7 @@ past_by m k number entry Equal late has p is =
 past_by m k number entry Greater late has p is =
     absurd (p (by_key entry (spot k number) (turned_key k entry.key is)))
 
-seek_past : (m : VersionMap) (k : List ℕ) (number : ℕ) (s : Position)
+seek_past : (m : VersionMap) (k : StoredKey) (number : ℕ) (s : Position)
     → ((i : ℕ) (v : Version) → slice_get (versions_at m k) i ≡ Some v → number < v.number)
     → IsFirst Forward (λ entry. MapHolds m entry × (Keys k entry.key ≡ Less)) s
     → IsFirst Forward (λ entry. MapHolds m entry × (EntryPrecedes Forward entry (spot k number)
@@ -82,8 +80,8 @@ seek_past m k number s late first =
       (λ p. past_by m k number entry (Keys k entry.key) late has p refl),
     )) first
 
-pub seek_newer : (m : VersionMap) (k : List ℕ) (vs : Versions) (number : ℕ) (s : Position)
-    → Some vs ≡ get (slice_cmp nat_cmp) m k → HasRisingNumbers m
+pub seek_newer : (m : VersionMap) (k : StoredKey) (vs : Versions) (number : ℕ) (s : Position)
+    → Some vs ≡ get stored_cmp m k → HasRisingNumbers m
     → (IsRisingList (all_of vs) → IsLastUpTo (all_of vs) number None)
     → IsFirst Forward (λ entry. MapHolds m entry × (Keys k entry.key ≡ Less)) s
     → IsFirst Forward (λ entry. MapHolds m entry × (EntryPrecedes Forward entry (spot k number)
@@ -92,21 +90,21 @@ seek_newer m k vs number s is rising late =
     seek_past m k number s (λ i v e. late (found_rising m k vs is rising) i v
     (ap (λ o. slice_get (found o) i) is ∙ e))
 
-pub seek_none : (m : VersionMap) (k : List ℕ) (number : ℕ) (s : Position) → None ≡ get
-    (slice_cmp nat_cmp) m k
+pub seek_none : (m : VersionMap) (k : StoredKey) (number : ℕ) (s : Position) → None ≡ get
+    stored_cmp m k
     → IsFirst Forward (λ entry. MapHolds m entry × (Keys k entry.key ≡ Less)) s
     → IsFirst Forward (λ entry. MapHolds m entry × (EntryPrecedes Forward entry (spot k number)
     → ⊥)) s
 seek_none m k number s is = seek_past m k number s
     (λ i v e. absurd (let z : None ≡ Some v = ap (λ o. slice_get (found o) i) is ∙ e in cc))
 
-pub placed_at : (m : VersionMap) (k : List ℕ) (place : VersionPlace) (number : ℕ)
-    → Keys k place.key.now ≡ Equal → Some place.versions.now ≡ get (slice_cmp nat_cmp) m k
+pub placed_at : (m : VersionMap) (k : StoredKey) (place : VersionPlace) (number : ℕ)
+    → Keys k place.key.now ≡ Equal → Some place.versions.now ≡ get stored_cmp m k
     → HasRisingNumbers m
     → (IsRisingList (all_of place.versions.now) → IsLastUpTo (all_of place.versions.now) number
     (Some place.at)) → IsVersionPlace m place
 placed_at m k place number e is rising to = record {
-  found = sym (subst (λ x. Some place.versions.now ≡ get (slice_cmp nat_cmp) m x)
+  found = sym (subst (λ x. Some place.versions.now ≡ get stored_cmp m x)
       (same_key k place.key.now e) is);
   within = (to (found_rising m k place.versions.now is rising)).0;
 }

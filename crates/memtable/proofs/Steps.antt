@@ -5,15 +5,15 @@ use Rattle.std.specs.List.{slice_get}
 use Rattle.std.specs.Option.{IsSome}
 use Rattle.std.specs.BTreeMap.{get}
 use Rattle.std.specs.BTreeMap.Range.{IsRangeOf, IsFromStart, IsUpToEnd}
-use Rattle.std.specs.Cmp.Lexicographic.{slice_cmp, nat_list_cmp_total}
 use Rattle.std.specs.declared.cmp.Ordering.TheVariants.{Greater}
 use Rattle.std.specs.declared.collections.Bound.{Bound}
 use Rattle.std.specs.declared.collections.Bound.TheVariants.{Unbounded}
-use Rattle.std.specs.Ordering.{nat_cmp, ordering_reverse, is_gt, is_lt}
+use Rattle.std.specs.Ordering.{ordering_reverse, is_gt, is_lt}
 use Rattle.std.proofs.lemmas.Option.{same_Some, slice_get_cases, slice_get_within}
 use Rattle.merge_iter.specs.declared.direction.Direction.{Direction}
 use Rattle.merge_iter.specs.declared.direction.Direction.TheVariants.{Forward, Backward}
-use Rattle.kv_types.specs.{Entry}
+use Rattle.kv_types.specs.{Entry, StoredKey, stored_cmp}
+use Rattle.kv_types.specs.StoredKeysLemmas.{stored_total}
 use Rattle.merge_iter.specs.{Position, Off, EntryPrecedes, IsFirst, IfOn}
 use Rattle.memtable.specs.declared.version.Version.{Version}
 use Rattle.memtable.specs.declared.version.Versions.{Versions}
@@ -48,16 +48,16 @@ is_some_not None e h = absurd (cc)
 is_some_not (Some x) e h = absurd (cc)
 
 -- no key passes
-pub none_met : (way : Direction) (m : VersionMap) (P : List ℕ → Type 0)
-    → ((q : List ℕ) → P q → IsSome (get (slice_cmp nat_cmp) m q) → ⊥)
+pub none_met : (way : Direction) (m : VersionMap) (P : StoredKey → Type 0)
+    → ((q : StoredKey) → P q → IsSome (get stored_cmp m q) → ⊥)
     → IsFirst way (λ entry. MapHolds m entry × P entry.key) Off
 none_met way m P none other h = none other.key h.1 (has_key m other h.0)
 
 -- the newest version of the least key
-pub newest_met : (m : VersionMap) (P : List ℕ → Type 0) (k : List ℕ) (vs : Versions) (at : ℕ)
+pub newest_met : (m : VersionMap) (P : StoredKey → Type 0) (k : StoredKey) (vs : Versions) (at : ℕ)
     → HasRisingNumbers m
-    → get (slice_cmp nat_cmp) m k ≡ Some vs → P k
-    → ((q : List ℕ) → P q → IsSome (get (slice_cmp nat_cmp) m q) → KeyPrecedes Forward q k → ⊥)
+    → get stored_cmp m k ≡ Some vs → P k
+    → ((q : StoredKey) → P q → IsSome (get stored_cmp m q) → KeyPrecedes Forward q k → ⊥)
     → at ≡ length vs.older.items
     → IsFirst Forward (λ entry. MapHolds m entry × P entry.key)
     (position_on k (slice_get (all_of vs) at))
@@ -76,10 +76,10 @@ newest_met m P k vs at rising got passes least end =
     ])
 
 -- the oldest version of the greatest key
-pub oldest_met : (m : VersionMap) (P : List ℕ → Type 0) (k : List ℕ) (vs : Versions) (at : ℕ)
+pub oldest_met : (m : VersionMap) (P : StoredKey → Type 0) (k : StoredKey) (vs : Versions) (at : ℕ)
     → HasRisingNumbers m
-    → get (slice_cmp nat_cmp) m k ≡ Some vs → P k
-    → ((q : List ℕ) → P q → IsSome (get (slice_cmp nat_cmp) m q) → KeyPrecedes Backward q k → ⊥)
+    → get stored_cmp m k ≡ Some vs → P k
+    → ((q : StoredKey) → P q → IsSome (get stored_cmp m q) → KeyPrecedes Backward q k → ⊥)
     → at ≡ 0
     → IsFirst Backward (λ entry. MapHolds m entry × P entry.key)
     (position_on k (slice_get (all_of vs) at))
@@ -100,38 +100,40 @@ oldest_met m P k vs at rising got passes greatest start =
 
 -- ---- ranges
 
-pub front_none : (m : VersionMap) (lo : Bound (List ℕ)) (r : List (List ℕ × Versions)) → IsRangeOf
-    (slice_cmp nat_cmp) lo Unbounded m r → r ≡ [] → IsFirst Forward (λ entry. MapHolds m entry
-    × IsFromStart (slice_cmp nat_cmp) lo entry.key) Off
-front_none m lo r is e = none_met Forward m (IsFromStart (slice_cmp nat_cmp) lo)
-    (λ q from. is_some_not (get (slice_cmp nat_cmp) m q) (is.5 e q (from, tt)))
+pub front_none : (m : VersionMap) (lo : Bound (List ℕ)) (r : List (StoredKey × Versions))
+    → IsRangeOf
+    stored_cmp lo Unbounded m r → r ≡ [] → IsFirst Forward (λ entry. MapHolds m entry
+    × IsFromStart stored_cmp lo entry.key) Off
+front_none m lo r is e = none_met Forward m (IsFromStart stored_cmp lo)
+    (λ q from. is_some_not (get stored_cmp m q) (is.5 e q (from, tt)))
 
-pub back_none : (m : VersionMap) (hi : Bound (List ℕ)) (r : List (List ℕ × Versions)) → IsRangeOf
-    (slice_cmp nat_cmp) Unbounded hi m r → r ≡ [] → IsFirst Backward (λ entry. MapHolds m entry
-    × IsUpToEnd (slice_cmp nat_cmp) hi entry.key) Off
-back_none m hi r is e = none_met Backward m (IsUpToEnd (slice_cmp nat_cmp) hi)
-    (λ q upto. is_some_not (get (slice_cmp nat_cmp) m q) (is.5 e q (tt, upto)))
+pub back_none : (m : VersionMap) (hi : Bound (List ℕ)) (r : List (StoredKey × Versions)) → IsRangeOf
+    stored_cmp Unbounded hi m r → r ≡ [] → IsFirst Backward (λ entry. MapHolds m entry
+    × IsUpToEnd stored_cmp hi entry.key) Off
+back_none m hi r is e = none_met Backward m (IsUpToEnd stored_cmp hi)
+    (λ q upto. is_some_not (get stored_cmp m q) (is.5 e q (tt, upto)))
 
-pub front_some : (m : VersionMap) (lo : Bound (List ℕ)) (r t : List (List ℕ × Versions))
-    (k : List ℕ) (vs : Versions) (at : ℕ) → HasRisingNumbers m
-    → IsRangeOf (slice_cmp nat_cmp) lo Unbounded m r → r ≡ (k, vs) ∷ t → at ≡ length vs.older.items
-    → IsFirst Forward (λ entry. MapHolds m entry × IsFromStart (slice_cmp nat_cmp) lo entry.key)
+pub front_some : (m : VersionMap) (lo : Bound (List ℕ)) (r t : List (StoredKey × Versions))
+    (k : StoredKey) (vs : Versions) (at : ℕ) → HasRisingNumbers m
+    → IsRangeOf stored_cmp lo Unbounded m r → r ≡ (k, vs) ∷ t → at ≡ length vs.older.items
+    → IsFirst Forward (λ entry. MapHolds m entry × IsFromStart stored_cmp lo entry.key)
     (position_on k (slice_get (all_of vs) at))
 front_some m lo r t k vs at rising is e end =
-    let f = subst (λ x. IsRangeOf (slice_cmp nat_cmp) lo Unbounded m x) e is in
-    newest_met m (IsFromStart (slice_cmp nat_cmp) lo) k vs at rising f.1.1 f.1.0.0
+    let f = subst (λ x. IsRangeOf stored_cmp lo Unbounded m x) e is in
+    newest_met m (IsFromStart stored_cmp lo) k vs at rising f.1.1 f.1.0.0
     (λ q from some less.
-    let g : Keys k q ≡ Greater = nat_list_cmp_total.antisymm k q ∙ ap ordering_reverse less in
+    let g : Keys k q ≡ Greater = stored_total.antisymm k q ∙ ap ordering_reverse less in
     let z : true ≡ false = sym (ap is_gt g) ∙ f.2 q (from, tt) some in cc) end
 
-pub back_some : (m : VersionMap) (hi : Bound (List ℕ)) (r t : List (List ℕ × Versions)) (k : List ℕ)
+pub back_some : (m : VersionMap) (hi : Bound (List ℕ)) (r t : List (StoredKey
+    × Versions)) (k : StoredKey)
     (vs : Versions) (at : ℕ) → HasRisingNumbers m
-    → IsRangeOf (slice_cmp nat_cmp) Unbounded hi m r → r ≡ t ++ (k, vs) ∷ [] → at ≡ 0
-    → IsFirst Backward (λ entry. MapHolds m entry × IsUpToEnd (slice_cmp nat_cmp) hi entry.key)
+    → IsRangeOf stored_cmp Unbounded hi m r → r ≡ t ++ (k, vs) ∷ [] → at ≡ 0
+    → IsFirst Backward (λ entry. MapHolds m entry × IsUpToEnd stored_cmp hi entry.key)
     (position_on k (slice_get (all_of vs) at))
 back_some m hi r t k vs at rising is e start =
     let entry = is.3 (k, vs) t e in
-    oldest_met m (IsUpToEnd (slice_cmp nat_cmp) hi) k vs at rising entry.1 entry.0.1
+    oldest_met m (IsUpToEnd stored_cmp hi) k vs at rising entry.1 entry.0.1
     (λ q upto some less. let z : true ≡ false = sym (ap is_lt less) ∙ is.4 (k, vs) t e q (tt, upto)
     some in cc) start
 
@@ -155,9 +157,9 @@ no_gap Forward xs i j g a b c rising p q r e m n = let x = earlier xs g i c a ri
 no_gap Backward xs i j g a b c rising p q r e m n = let x = earlier xs i g a c rising p r m in
     let y = earlier xs g j c b rising r q n in omega (arith, x, y, e)
 
-pub step_within : (way : Direction) (m : VersionMap) (k : List ℕ) (vs : Versions) (i j : ℕ)
+pub step_within : (way : Direction) (m : VersionMap) (k : StoredKey) (vs : Versions) (i j : ℕ)
     (a b : Version)
-    → get (slice_cmp nat_cmp) m k ≡ Some vs → IsRisingList (all_of vs) → slice_get (all_of vs) i ≡
+    → get stored_cmp m k ≡ Some vs → IsRisingList (all_of vs) → slice_get (all_of vs) i ≡
     Some a → slice_get (all_of vs) j ≡ Some b → Adjacent way i j
     → IsFirst way (λ entry. MapHolds m entry × EntryPrecedes way (version_entry k a) entry)
     (position_on k (slice_get (all_of vs) j))
@@ -193,9 +195,10 @@ outmost Backward vs i g a c rising p r e n =
       | inr h ↦ (let w = h.0 in omega (arith, w, l, e))
     ]
 
-pub step_out : (way : Direction) (m : VersionMap) (k : List ℕ) (vs : Versions) (i : ℕ) (a : Version)
+pub step_out : (way : Direction) (m : VersionMap) (k : StoredKey) (vs : Versions) (i : ℕ)
+    (a : Version)
     (s : Position)
-    → get (slice_cmp nat_cmp) m k ≡ Some vs → IsRisingList (all_of vs) → slice_get (all_of vs) i ≡
+    → get stored_cmp m k ≡ Some vs → IsRisingList (all_of vs) → slice_get (all_of vs) i ≡
     Some a → IsOutmost way vs i
     → IsFirst way (λ entry. MapHolds m entry × KeyPrecedes way k entry.key) s
     → IsFirst way (λ entry. MapHolds m entry × EntryPrecedes way (version_entry k a) entry) s
@@ -212,13 +215,13 @@ step_out way m k vs i a s is rising p e first =
     )) first
 
 -- what holds of each version that may stand there
-pub on_place : (k : List ℕ) (o : Option Version) (P : Entry → Type 0)
+pub on_place : (k : StoredKey) (o : Option Version) (P : Entry → Type 0)
     → ((v : Version) → o ≡ Some v → P (version_entry k v)) → IfOn (position_on k o) P
 on_place k None P h = tt
 on_place k (Some v) P h = h v refl
 
 -- one version on, or out of the key
-pub next_within : (m : VersionMap) (k : List ℕ) (vs : Versions) (i : ℕ) → get (slice_cmp nat_cmp) m
+pub next_within : (m : VersionMap) (k : StoredKey) (vs : Versions) (i : ℕ) → get stored_cmp m
     k ≡ Some vs → HasRisingNumbers m → 0 < i
     → IfOn (position_on k (slice_get (all_of vs) i))
     (λ here. IsFirst Forward (λ entry. MapHolds m entry × EntryPrecedes Forward here entry)
@@ -234,7 +237,7 @@ next_within m k vs i is rising l =
       | inr (past, none) ↦ absurd (omega (arith, past, w))
     ])
 
-pub prev_within : (m : VersionMap) (k : List ℕ) (vs : Versions) (i : ℕ) → get (slice_cmp nat_cmp) m
+pub prev_within : (m : VersionMap) (k : StoredKey) (vs : Versions) (i : ℕ) → get stored_cmp m
     k ≡ Some vs → HasRisingNumbers m → i < length vs.older.items
     → IfOn (position_on k (slice_get (all_of vs) i))
     (λ here. IsFirst Backward (λ entry. MapHolds m entry × EntryPrecedes Backward here entry)
@@ -254,8 +257,8 @@ prev_within m k vs i is rising l =
     one_more [] y = refl
     one_more (x ∷ xs) y = let h = one_more xs y in omega (arith, h)
 
-pub steps_out : (way : Direction) (m : VersionMap) (k : List ℕ) (vs : Versions) (i : ℕ)
-    (s : Position) → get (slice_cmp nat_cmp) m k ≡ Some vs → HasRisingNumbers m → IsOutmost way vs i
+pub steps_out : (way : Direction) (m : VersionMap) (k : StoredKey) (vs : Versions) (i : ℕ)
+    (s : Position) → get stored_cmp m k ≡ Some vs → HasRisingNumbers m → IsOutmost way vs i
     → IsFirst way (λ entry. MapHolds m entry × KeyPrecedes way k entry.key) s
     → IfOn (position_on k (slice_get (all_of vs) i))
     (λ here. IsFirst way (λ entry. MapHolds m entry × EntryPrecedes way here entry) s)

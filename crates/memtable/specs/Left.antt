@@ -3,7 +3,7 @@ use Rattle.std.specs.Prelude.{ℕ, suc, List, [], ◌∷◌, ◌++◌, Bool, not
 use Rattle.std.specs.Ordering.{is_lt}
 use Rattle.merge_iter.specs.declared.direction.Direction.{Direction}
 use Rattle.merge_iter.specs.declared.direction.Direction.TheVariants.{Forward, Backward}
-use Rattle.kv_types.specs.{Entry}
+use Rattle.kv_types.specs.{Entry, StoredKey}
 use Rattle.merge_iter.specs.{Position, On, Off, Broken, entry_cmp}
 use Rattle.memtable.specs.declared.version.Version.{Version}
 use Rattle.memtable.specs.declared.version.Versions.{Versions}
@@ -11,12 +11,12 @@ use Rattle.memtable.specs.Versions.{all_of}
 use Rattle.memtable.specs.Maps.{version_entry}
 
 -- the entries of a key
-abbrev pub key_entries : List ℕ → List Version → List Entry
+abbrev pub key_entries : StoredKey → List Version → List Entry
 key_entries key [] = []
 key_entries key (version ∷ versions) = version_entry key version ∷ key_entries key versions
 
 -- the entries of all keys
-abbrev pub map_entries : List (List ℕ × Versions) → List Entry
+abbrev pub map_entries : List (StoredKey × Versions) → List Entry
 map_entries [] = []
 map_entries (entry ∷ entries) = key_entries entry.0 (all_of entry.1) ++ map_entries entries
 

@@ -3,9 +3,7 @@ use Rattle.std.specs.Prelude.{◌≡◌, ℕ, ◌≤◌, List, [], ◌∷◌, �
 use Rattle.std.specs.Prelude.{Option, Some, None}
 use Rattle.std.specs.Option.{ForSome}
 use Rattle.std.specs.BTreeMap.{BTreeMap, get}
-use Rattle.std.specs.Ordering.{nat_cmp}
-use Rattle.std.specs.Cmp.Lexicographic.{slice_cmp}
-use Rattle.kv_types.specs.{Entry}
+use Rattle.kv_types.specs.{Entry, StoredKey, stored_cmp}
 use Rattle.kv_types.specs.declared.bounds.TheConstants.{MAX_KEY, MAX_NUMBER, MAX_VALUE}
 use Rattle.memtable.specs.declared.version.Version.{Version}
 use Rattle.memtable.specs.declared.version.Versions.{Versions}
@@ -13,7 +11,7 @@ use Rattle.memtable.specs.Versions.{all_of, IsRisingList}
 
 -- versions by their keys
 abbrev pub VersionMap : Type 0
-VersionMap = BTreeMap (List ℕ) Versions
+VersionMap = BTreeMap StoredKey Versions
 
 -- the versions that were found
 abbrev pub found : Option Versions → List Version
@@ -21,11 +19,11 @@ found None = []
 found (Some versions) = all_of versions
 
 -- the versions of a key
-abbrev pub versions_at : VersionMap → List ℕ → List Version
-versions_at map key = found (get (slice_cmp nat_cmp) map key)
+abbrev pub versions_at : VersionMap → StoredKey → List Version
+versions_at map key = found (get stored_cmp map key)
 
 -- the entry of a key's version
-abbrev pub version_entry : List ℕ → Version → Entry
+abbrev pub version_entry : StoredKey → Version → Entry
 version_entry key version =
     record { key = key; number = version.number; value = version.value }
 
@@ -40,7 +38,7 @@ MapHolds map entry =
 
 -- the numbers of each key rise
 abbrev pub HasRisingNumbers : VersionMap → Type 0
-HasRisingNumbers map = (key : List ℕ) → IsRisingList (versions_at map key)
+HasRisingNumbers map = (key : StoredKey) → IsRisingList (versions_at map key)
 
 -- no key is longer than keys are
 abbrev pub HasShortKeys : VersionMap → Type 0

@@ -1,9 +1,8 @@
 -- Where a cursor over a map position.
-use Rattle.std.specs.Prelude.{◌≡◌, ℕ, ◌<◌, List, length, slice_get, Option, Some, None, Bool, true}
+use Rattle.std.specs.Prelude.{◌≡◌, ◌<◌, length, slice_get, Option, Some, None, Bool, true}
 use Rattle.std.specs.Prelude.{false}
 use Rattle.std.specs.BTreeMap.{get}
-use Rattle.std.specs.Ordering.{nat_cmp}
-use Rattle.std.specs.Cmp.Lexicographic.{slice_cmp}
+use Rattle.kv_types.specs.{StoredKey, stored_cmp}
 use Rattle.merge_iter.specs.{Position, On, Off, Broken}
 use Rattle.memtable.specs.declared.version.Version.{Version}
 use Rattle.memtable.specs.declared.place.VersionPlace.{VersionPlace}
@@ -12,11 +11,11 @@ use Rattle.memtable.specs.Maps.{VersionMap, version_entry}
 
 -- the place is one of the map's
 pub record IsVersionPlace (map : VersionMap) (place : VersionPlace) : Type 0 where
-  pub found : get (slice_cmp nat_cmp) map place.key.now ≡ Some place.versions.now
+  pub found : get stored_cmp map place.key.now ≡ Some place.versions.now
   pub within : place.at < length (all_of place.versions.now)
 
 -- on a version of the key
-abbrev pub position_on : List ℕ → Option Version → Position
+abbrev pub position_on : StoredKey → Option Version → Position
 position_on key None = Off
 position_on key (Some version) = On (version_entry key version)
 

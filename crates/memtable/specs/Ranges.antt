@@ -1,22 +1,21 @@
 -- The keys of a map on one side of a key, with their versions.
-use Rattle.std.specs.Prelude.{◌≡◌, List, ℕ, [], ◌∷◌, ◌++◌, length, Option, MatchOption}
+use Rattle.std.specs.Prelude.{◌≡◌, List, [], ◌∷◌, ◌++◌, length, Option, MatchOption}
 use Rattle.std.specs.BTreeMap.Range.{entries_between}
 use Rattle.std.specs.declared.collections.Bound.TheVariants.{Excluded, Unbounded}
-use Rattle.std.specs.Ordering.{nat_cmp}
-use Rattle.std.specs.Cmp.Lexicographic.{slice_cmp}
+use Rattle.kv_types.specs.{StoredKey, stored_cmp}
 use Rattle.memtable.specs.declared.place.VersionPlace.{VersionPlace}
 use Rattle.memtable.specs.declared.version.Versions.{Versions}
 use Rattle.memtable.specs.Maps.{VersionMap}
 
 -- keys with their versions, in order
 abbrev pub KeyList : Type 0
-KeyList = List (List ℕ × Versions)
+KeyList = List (StoredKey × Versions)
 
-abbrev pub keys_after : VersionMap → List ℕ → KeyList
-keys_after map key = entries_between (slice_cmp nat_cmp) (Excluded key) Unbounded map.entries
+abbrev pub keys_after : VersionMap → StoredKey → KeyList
+keys_after map key = entries_between stored_cmp (Excluded key) Unbounded map.entries
 
-abbrev pub keys_before : VersionMap → List ℕ → KeyList
-keys_before map key = entries_between (slice_cmp nat_cmp) Unbounded (Excluded key) map.entries
+abbrev pub keys_before : VersionMap → StoredKey → KeyList
+keys_before map key = entries_between stored_cmp Unbounded (Excluded key) map.entries
 
 -- the first key is taken from the list, at its newest version
 abbrev pub IsPopped : KeyList → KeyList → Option VersionPlace → Type 0

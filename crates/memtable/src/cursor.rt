@@ -1,8 +1,8 @@
 //! A cursor over the entries of a memtable.
 
-ghost use Rattle.std.specs.Prelude.{◌≡◌, ◌≤◌, IfOk, IfErr, IfSome, length, false, None};
+ghost use Rattle.std.specs.Prelude.{◌≡◌, ◌≤◌, IfOk, IfErr, IfSome, false, None};
 ghost use Rattle.std.specs.Option.{ForSome};
-ghost use Rattle.kv_types.specs.declared.bounds.TheConstants.{MAX_KEY};
+ghost use Rattle.kv_types.specs.{lent_key};
 ghost use Rattle.merge_iter.specs.declared.direction.Direction.TheVariants.{Forward};
 ghost use Rattle.merge_iter.specs.{EntryPrecedes, IsFirst, spot};
 ghost use Rattle.memtable.specs.Maps.{MapHolds, HasRisingNumbers, HasShortKeys};
@@ -11,8 +11,8 @@ ghost use Rattle.memtable.specs.Ranges.{keys_after, keys_before};
 
 use crate::place::{VersionPlace, back, from, front};
 use crate::version::Versions;
-use kv_types::Key;
 use kv_types::bounds::MAX_KEY;
+use kv_types::{LentKey, StoredKey};
 use merge_iter::{Cursor, CursorError};
 use std::alloc::Global;
 use std::collections::BTreeMap;
@@ -24,10 +24,10 @@ use std::ops::Bound;
 #[derive(Drop)]
 pub struct MemCursor<'a> {
     alloc: Global,
-    map: &'a BTreeMap<Key, Versions>,
+    map: &'a BTreeMap<StoredKey, Versions>,
     place: Option<VersionPlace<'a>>,
-    after: Option<Range<'a, Key, Versions>>,
-    before: Option<Range<'a, Key, Versions>>,
+    after: Option<Range<'a, StoredKey, Versions>>,
+    before: Option<Range<'a, StoredKey, Versions>>,
     has_failed: bool,
     ghost rising: { HasRisingNumbers map.now },
     ghost short: { HasShortKeys map.now },
@@ -38,44 +38,32 @@ pub struct MemCursor<'a> {
         keys ≡ keys_before map.now it.key.now)) },
 }
 
-/// A copy of at most as many bytes as a key has.
-fn copied(alloc: Global, bytes: &[u8]) -> Result<Key, CursorError>
-    requires { length bytes.now ≤ MAX_KEY }
-    ensures copy { IfOk result (λ key. key ≡ bytes.now) }
-    ensures memory { IfErr result (λ e. e ≡ CursorError.Memory) }
-{
-    let copy = Vec::from_slice(alloc, bytes)?;
-    match Key::new(copy) {
-        Ok(key) => Ok(key),
-        Err(_) => unreachable!(),
-    }
-}
-
 /// The first version that does not come before this key and number.
 fn sought<'a>(
     alloc: Global,
-    map: &'a BTreeMap<Key, Versions>,
-    key: &[u8],
+    map: &'a BTreeMap<StoredKey, Versions>,
+    key: LentKey,
     number: u64,
 ) -> Result<Option<VersionPlace<'a>>, CursorError>
     requires rising { HasRisingNumbers map.now }
     requires short { HasShortKeys map.now }
     ensures placed { IfOk result (λ place. IfSome place (IsVersionPlace map.now)) }
     ensures first { IfOk result (λ place. IsFirst Forward (λ entry. MapHolds map.now entry
-        × (EntryPrecedes Forward entry (spot key.now number) → ⊥)) (maybe_position place)) }
+        × (EntryPrecedes Forward entry (spot (lent_key key.entry) number) → ⊥))
+        (maybe_position place)) }
     ensures memory { IfErr result (λ e. e ≡ CursorError.Memory) }
 {
     if key.len() > MAX_KEY {
-        let (first, _) = key.split_at(MAX_KEY);
-        let beginning = copied(alloc, first)?;
+        let (first, _) = key.as_bytes().split_at(MAX_KEY);
+        let beginning = LentKey::new(first).to_stored(alloc)?;
         return Ok(front(map, Bound::Excluded(&beginning)));
     }
-    let key = copied(alloc, key)?;
+    let key = key.to_stored(alloc)?;
     Ok(from(map, &key, number))
 }
 
 impl<'a> MemCursor<'a> {
-    pub(crate) fn new(alloc: Global, map: &'a BTreeMap<Key, Versions>) -> MemCursor<'a>
+    pub(crate) fn new(alloc: Global, map: &'a BTreeMap<StoredKey, Versions>) -> MemCursor<'a>
         requires rising { HasRisingNumbers map.now }
         requires short { HasShortKeys map.now }
         ensures map { result.map.now ≡ map.now }
@@ -142,9 +130,9 @@ impl<'a> Cursor for MemCursor<'a> {
         self.place.is_some()
     }
 
-    fn key(&self) -> &[u8] {
+    fn key(&self) -> LentKey<'_> {
         match self.place {
-            Some(place) => place.key.as_bytes(),
+            Some(place) => place.key.lent(),
             None => unreachable!(),
         }
     }
@@ -188,7 +176,7 @@ impl<'a> Cursor for MemCursor<'a> {
         Ok(())
     }
 
-    fn seek(&mut self, _source: &mut (), key: &[u8], number: u64) -> Result<(), CursorError> {
+    fn seek(&mut self, _source: &mut (), key: LentKey<'_>, number: u64) -> Result<(), CursorError> {
         self.place = None;
         self.has_failed = true;
         let place = sought(self.alloc, self.map, key, number)?;

@@ -11,7 +11,7 @@ use crate::error::MemtableError;
 use crate::found::Found;
 use crate::put::put_all;
 use crate::version::Versions;
-use kv_types::{Batch, Key, Number};
+use kv_types::{Batch, Number, StoredKey};
 use merge_iter::Cursor;
 use std::alloc::Global;
 use std::collections::BTreeMap;
@@ -20,7 +20,7 @@ use std::collections::BTreeMap;
 #[derive(Drop)]
 pub struct Memtable {
     alloc: Global,
-    map: BTreeMap<Key, Versions>,
+    map: BTreeMap<StoredKey, Versions>,
     bytes: u64,
     has_failed: bool,
     ghost rising: { has_failed ≡ false → HasRisingNumbers map },
@@ -76,7 +76,7 @@ impl Memtable {
     }
 
     /// What the key has at a number. It takes no memory.
-    pub fn get<'a>(&'a self, key: &Key, at: Number) -> Result<Found<'a>, MemtableError>
+    pub fn get<'a>(&'a self, key: &StoredKey, at: Number) -> Result<Found<'a>, MemtableError>
         ensures found { IfOk result (IsFoundAt self.now key.now at) }
         ensures failed { (result ≡ Err MemtableError.Failed) ↔ HasFailedAdd self.now }
         ensures only { IsOkUnless result MemtableError.Failed }

@@ -3,9 +3,8 @@
 ghost use Rattle.std.specs.Prelude.{◌≡◌, IfSome};
 ghost use Rattle.std.specs.Option.{ForSome};
 ghost use Rattle.std.specs.BTreeMap.Range.{IsFromStart, IsUpToEnd};
-ghost use Rattle.std.specs.Ordering.{nat_cmp};
-ghost use Rattle.std.specs.Cmp.Lexicographic.{slice_cmp};
 ghost use Rattle.std.specs.Range.Bound.{bound_map};
+ghost use Rattle.kv_types.specs.{stored_cmp};
 ghost use Rattle.merge_iter.specs.declared.direction.Direction.TheVariants.{Forward, Backward};
 ghost use Rattle.merge_iter.specs.{EntryPrecedes, IsFirst, IfOn, spot};
 ghost use Rattle.memtable.specs.Maps.{MapHolds, HasRisingNumbers};
@@ -13,7 +12,7 @@ ghost use Rattle.memtable.specs.Places.{IsVersionPlace, place_position, maybe_po
 ghost use Rattle.memtable.specs.Ranges.{keys_after, keys_before, IsPopped, IsPoppedBack};
 
 use crate::version::Versions;
-use kv_types::Key;
+use kv_types::StoredKey;
 use std::collections::BTreeMap;
 use std::collections::btree_map::Range;
 use std::ops::Bound;
@@ -21,19 +20,19 @@ use std::ops::Bound;
 /// A version of a key in a map.
 #[derive(Clone, Copy)]
 pub struct VersionPlace<'a> {
-    pub key: &'a Key,
+    pub key: &'a StoredKey,
     pub versions: &'a Versions,
     pub at: usize,
 }
 
 /// The newest version of the first key from a bound on.
 pub(crate) fn front<'a>(
-    map: &'a BTreeMap<Key, Versions>,
-    start: Bound<&Key>,
+    map: &'a BTreeMap<StoredKey, Versions>,
+    start: Bound<&StoredKey>,
 ) -> Option<VersionPlace<'a>>
     ensures placed { IfSome result (IsVersionPlace map.now) }
     ensures first { HasRisingNumbers map.now → IsFirst Forward (λ entry. MapHolds map.now entry
-        × IsFromStart (slice_cmp nat_cmp) (bound_map (λ x. x.now) start.entry) entry.key)
+        × IsFromStart stored_cmp (bound_map (λ x. x.now) start.entry) entry.key)
         (maybe_position result) }
 {
     let (key, versions) = map.range((start, Bound::Unbounded)).next()?;
@@ -43,12 +42,12 @@ pub(crate) fn front<'a>(
 
 /// The oldest version of the last key up to a bound.
 pub(crate) fn back<'a>(
-    map: &'a BTreeMap<Key, Versions>,
-    end: Bound<&Key>,
+    map: &'a BTreeMap<StoredKey, Versions>,
+    end: Bound<&StoredKey>,
 ) -> Option<VersionPlace<'a>>
     ensures placed { IfSome result (IsVersionPlace map.now) }
     ensures first { HasRisingNumbers map.now → IsFirst Backward (λ entry. MapHolds map.now entry
-        × IsUpToEnd (slice_cmp nat_cmp) (bound_map (λ x. x.now) end.entry) entry.key)
+        × IsUpToEnd stored_cmp (bound_map (λ x. x.now) end.entry) entry.key)
         (maybe_position result) }
 {
     let (key, versions) = map.range((Bound::Unbounded, end)).next_back()?;
@@ -60,7 +59,7 @@ pub(crate) fn back<'a>(
 }
 
 /// The newest version of the first key that is left.
-fn first_of<'a>(keys: &mut Range<'a, Key, Versions>) -> Option<VersionPlace<'a>>
+fn first_of<'a>(keys: &mut Range<'a, StoredKey, Versions>) -> Option<VersionPlace<'a>>
     ensures { IsPopped keys.old keys.new result }
 {
     let (key, versions) = keys.next()?;
@@ -69,7 +68,7 @@ fn first_of<'a>(keys: &mut Range<'a, Key, Versions>) -> Option<VersionPlace<'a>>
 }
 
 /// The oldest version of the last key that is left.
-fn last_of<'a>(keys: &mut Range<'a, Key, Versions>) -> Option<VersionPlace<'a>>
+fn last_of<'a>(keys: &mut Range<'a, StoredKey, Versions>) -> Option<VersionPlace<'a>>
     ensures { IsPoppedBack keys.old keys.new result }
 {
     let (key, versions) = keys.next_back()?;
@@ -84,9 +83,9 @@ impl<'a> VersionPlace<'a> {
     /// The keys behind this one, if they are not at hand.
     fn keys_after(
         self,
-        map: &'a BTreeMap<Key, Versions>,
-        held: Option<Range<'a, Key, Versions>>,
-    ) -> Range<'a, Key, Versions>
+        map: &'a BTreeMap<StoredKey, Versions>,
+        held: Option<Range<'a, StoredKey, Versions>>,
+    ) -> Range<'a, StoredKey, Versions>
         requires { ForSome held (λ keys. keys ≡ keys_after map.now self.key.now) }
         ensures { result ≡ keys_after map.now self.entry.key.now }
     {
@@ -99,9 +98,9 @@ impl<'a> VersionPlace<'a> {
     /// The keys before this one, if they are not at hand.
     fn keys_before(
         self,
-        map: &'a BTreeMap<Key, Versions>,
-        held: Option<Range<'a, Key, Versions>>,
-    ) -> Range<'a, Key, Versions>
+        map: &'a BTreeMap<StoredKey, Versions>,
+        held: Option<Range<'a, StoredKey, Versions>>,
+    ) -> Range<'a, StoredKey, Versions>
         requires { ForSome held (λ keys. keys ≡ keys_before map.now self.key.now) }
         ensures { result ≡ keys_before map.now self.entry.key.now }
     {
@@ -114,9 +113,12 @@ impl<'a> VersionPlace<'a> {
     /// The next version, which is older, or of a greater key, and the keys behind it.
     pub(crate) fn next(
         self,
-        map: &'a BTreeMap<Key, Versions>,
-        held: Option<Range<'a, Key, Versions>>,
-    ) -> (Option<VersionPlace<'a>>, Option<Range<'a, Key, Versions>>)
+        map: &'a BTreeMap<StoredKey, Versions>,
+        held: Option<Range<'a, StoredKey, Versions>>,
+    ) -> (
+        Option<VersionPlace<'a>>,
+        Option<Range<'a, StoredKey, Versions>>,
+    )
         requires placed { IsVersionPlace map.now self }
         requires held { ForSome held (λ keys. keys ≡ keys_after map.now self.key.now) }
         ensures placed { IfSome result.0 (IsVersionPlace map.now) }
@@ -144,9 +146,12 @@ impl<'a> VersionPlace<'a> {
     /// The version before, which is newer, or of a lesser key, and the keys before it.
     pub(crate) fn prev(
         self,
-        map: &'a BTreeMap<Key, Versions>,
-        held: Option<Range<'a, Key, Versions>>,
-    ) -> (Option<VersionPlace<'a>>, Option<Range<'a, Key, Versions>>)
+        map: &'a BTreeMap<StoredKey, Versions>,
+        held: Option<Range<'a, StoredKey, Versions>>,
+    ) -> (
+        Option<VersionPlace<'a>>,
+        Option<Range<'a, StoredKey, Versions>>,
+    )
         requires placed { IsVersionPlace map.now self }
         requires held { ForSome held (λ keys. keys ≡ keys_before map.now self.key.now) }
         ensures placed { IfSome result.0 (IsVersionPlace map.now) }
@@ -173,8 +178,8 @@ impl<'a> VersionPlace<'a> {
 
 /// The first version that does not come before this key and number.
 pub(crate) fn from<'a>(
-    map: &'a BTreeMap<Key, Versions>,
-    key: &Key,
+    map: &'a BTreeMap<StoredKey, Versions>,
+    key: &StoredKey,
     number: u64,
 ) -> Option<VersionPlace<'a>>
     ensures placed { HasRisingNumbers map.now → IfSome result (IsVersionPlace map.now) }

@@ -10,7 +10,7 @@ ghost use Rattle.memtable.specs.Sizes.{edit_size, edits_size, capped_sum};
 
 use crate::bounds::ENTRY_BYTES;
 use crate::version::{Version, Versions};
-use kv_types::{Edit, Key, Value};
+use kv_types::{Edit, StoredKey, Value};
 use std::alloc::{AllocError, Global};
 use std::collections::BTreeMap;
 
@@ -38,8 +38,8 @@ fn size_of(edit: &Edit) -> u64
 /// Adds a version of a key, unless the newest one of the key has its number. Says whether it did.
 fn put(
     alloc: Global,
-    map: &mut BTreeMap<Key, Versions>,
-    key: &Key,
+    map: &mut BTreeMap<StoredKey, Versions>,
+    key: &StoredKey,
     version: Version,
 ) -> Result<bool, AllocError>
     ensures puts { OnOk result ((q : List ℕ) → versions_at map.new q ≡ (if bytes_eq key.now q
@@ -61,7 +61,7 @@ fn put(
 /// with what was added.
 pub(crate) fn put_all(
     alloc: Global,
-    map: &mut BTreeMap<Key, Versions>,
+    map: &mut BTreeMap<StoredKey, Versions>,
     number: u64,
     edits: &[Edit],
     bytes: u64,

@@ -1,13 +1,13 @@
 -- What a search over one cursor keeps, and what it finds.
 use Rattle.std.proofs.Common.{◌≡◌, ℕ, ◌≤◌, ◌<◌, IfOk, OnOk, refl, ◌∙◌, subst, arith, Bool, true}
-use Rattle.std.proofs.Common.{false, List, Result, Ok, Err, IsTrue}
+use Rattle.std.proofs.Common.{false, Result, Ok, Err, IsTrue}
 use Rattle.merge_iter.specs.declared.direction.Direction.{Direction}
 use Rattle.merge_iter.specs.declared.direction.Direction.TheVariants.{Forward, Backward}
 use Rattle.merge_iter.specs.declared.error.CursorError.{CursorError}
 use Rattle.merge_iter.specs.declared.error.CursorError.TheVariants.{Disk, Damaged, Memory, Failed}
 use Rattle.merge_iter.specs.declared.mode.Mode.{Mode}
 use Rattle.merge_iter.specs.declared.mode.Mode.TheVariants as mode
-use Rattle.kv_types.specs.{Entry}
+use Rattle.kv_types.specs.{Entry, StoredKey, stored_cmp}
 use Rattle.merge_iter.specs.Order.{IsAlike, IsApart, EntryPrecedes, spot}
 use Rattle.merge_iter.specs.Positions.{Position, On, Off, Broken, IsOn, IsBroken, IfOn, IsFirst}
 use Rattle.merge_iter.specs.Positions.{WalkStart, At, After, WalkMeets}
@@ -19,7 +19,6 @@ use Rattle.merge_iter.specs.ShownEntries.{IsBefore, IsHidden, IsAhead, IsJudged,
 use Rattle.merge_iter.specs.ShownEntries.{IsOnTheWay, IsSettled}
 use Rattle.std.specs.declared.cmp.Ordering.{Ordering}
 use Rattle.std.specs.Ordering.{is_lt, ordering_then, nat_cmp}
-use Rattle.std.specs.Cmp.Lexicographic.{slice_cmp}
 use Rattle.merge_iter.specs.OrderLemmas.{by_parts}
 use Rattle.merge_iter.specs.Searches.{seek_itself, judged_step, shown_here, shown_none, judged_back}
 use Rattle.merge_iter.specs.Searches.{settled_left, settled_end}
@@ -95,7 +94,8 @@ module _ (at : ℕ) (S N : Entry → Type 0) (same : IsAlike N S) where
   next_of way entry s r ok f = first_kept way (After entry) s N S (flip N S same)
       (subst (λ (q : Result (Unit {0}) CursorError). MoveFinds way (After entry) N q s) ok f)
 
-  pub forward_on : IsApart S → (start : WalkStart) (hides hides' : Bool) (hidden hidden' : List ℕ)
+  pub forward_on : IsApart S → (start : WalkStart) (hides hides' : Bool)
+      (hidden hidden' : StoredKey)
       (s s' : Position) (r : Result (Unit {0}) CursorError) → IsOn s
       → IfOn s (λ entry. IsJudged at hides hidden entry hides' hidden' false) → r ≡ Ok tt
       → IfOn s (λ entry. MoveFinds Forward (After entry) N r s')
@@ -118,7 +118,8 @@ module _ (at : ℕ) (S N : Entry → Type 0) (same : IsAlike N S) where
   back_on apart start found found' w w' Broken s' r on j ok f c = absurd on
 
 module _ (at : ℕ) (S : Entry → Type 0) where
-  pub shown_on : (start : WalkStart) (hides hides' : Bool) (hidden hidden' : List ℕ) (s : Position)
+  pub shown_on : (start : WalkStart) (hides hides' : Bool) (hidden hidden' : StoredKey)
+      (s : Position)
       (kept : Entry) → IsOn s → IfOn s (λ entry. IsJudged at hides hidden entry hides' hidden' true)
       → IsAhead at S start (IsHidden hides hidden) s → IsFirst Forward
       (λ p. IsShown at S p × WalkMeets Forward start p) s × IsSettled at S mode.Inner s kept
@@ -127,7 +128,7 @@ module _ (at : ℕ) (S : Entry → Type 0) where
   shown_on start hides hides' hidden hidden' Off kept on j a = absurd on
   shown_on start hides hides' hidden hidden' Broken kept on j a = absurd on
 
-  pub end_off : (start : WalkStart) (hid : List ℕ → Type 0) (s : Position) → (IsOn s → ⊥)
+  pub end_off : (start : WalkStart) (hid : StoredKey → Type 0) (s : Position) → (IsOn s → ⊥)
       → IsAhead at S start hid s → IsFirst Forward (λ p. IsShown at S p × WalkMeets Forward start p)
       Off
   end_off start hid (On entry) off a = absurd (off tt)
@@ -164,7 +165,7 @@ module _ (at : ℕ) (S : Entry → Type 0) where
   back_end start false w Broken off c = absurd c
 
 -- on the entry again by its key and number
-pub returned : (S : Entry → Type 0) → IsApart S → (w entry : Entry) (key : List ℕ) (s : Position)
+pub returned : (S : Entry → Type 0) → IsApart S → (w entry : Entry) (key : StoredKey) (s : Position)
     (r : Result (Unit {0}) CursorError) → key ≡ w.key → S w → On w ≡ On entry
     → MoveFinds Forward (At (spot key w.number)) S r s → OnOk r (s ≡ On entry)
 returned S apart w entry key s (Ok u) is had on f =
@@ -180,18 +181,18 @@ below (Ok m) f a b h l = omega (arith, h, l)
 below (Err e) f a b h l = tt
 
 -- what a comparison with a spot says of the entry stood on
-pub spot_early : (s : Position) (k key : List ℕ) (m number : ℕ) (r : Ordering) (t : Bool)
+pub spot_early : (s : Position) (k key : StoredKey) (m number : ℕ) (r : Ordering) (t : Bool)
     → IfOn s (λ a. k ≡ a.key) → IfOn s (λ a. m ≡ a.number) → r ≡ ordering_then
-    (slice_cmp nat_cmp k key) (nat_cmp number m) → t ≡ is_lt r
+    (stored_cmp k key) (nat_cmp number m) → t ≡ is_lt r
     → IsTrue t → IfOn s (λ a. EntryPrecedes Forward a (spot key number))
 spot_early (On a) k key m number r t ka ma o is h =
     (by_parts k key m number a (spot key number) r t ka ma refl refl o is).0 h
 spot_early Off k key m number r t ka ma o is h = tt
 spot_early Broken k key m number r t ka ma o is h = tt
 
-pub spot_late : (s : Position) (k key : List ℕ) (m number : ℕ) (r : Ordering) (t : Bool)
+pub spot_late : (s : Position) (k key : StoredKey) (m number : ℕ) (r : Ordering) (t : Bool)
     → IfOn s (λ a. k ≡ a.key) → IfOn s (λ a. m ≡ a.number) → r ≡ ordering_then
-    (slice_cmp nat_cmp k key) (nat_cmp number m) → t ≡ is_lt r
+    (stored_cmp k key) (nat_cmp number m) → t ≡ is_lt r
     → (IsTrue t → ⊥) → IfOn s (λ a. EntryPrecedes Forward a (spot key number) → ⊥)
 spot_late (On a) k key m number r t ka ma o is else_ =
     λ c. else_ ((by_parts k key m number a (spot key number) r t ka ma refl refl o is).1 c)

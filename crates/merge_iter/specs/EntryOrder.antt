@@ -2,18 +2,18 @@
 use Rattle.std.proofs.Common.{◌≡◌, ◌⊎◌, inl, inr, refl, sym, ◌∙◌, ap}
 use Rattle.std.specs.Cmp.{IsTotalOrder, then_total, on_total, back_total, nat_cmp_total}
 use Rattle.std.specs.Cmp.{tied_itself, alike_right}
-use Rattle.std.specs.Cmp.Lexicographic.{lists_total}
 use Rattle.std.specs.declared.cmp.Ordering.{Ordering}
 use Rattle.std.specs.declared.cmp.Ordering.TheVariants.{Less, Equal, Greater}
 use Rattle.std.specs.Ordering.{ordering_reverse}
 use Rattle.merge_iter.specs.declared.direction.Direction.{Direction}
 use Rattle.merge_iter.specs.declared.direction.Direction.TheVariants.{Forward, Backward}
 use Rattle.kv_types.specs.{Entry}
+use Rattle.kv_types.specs.StoredKeysLemmas.{stored_total}
 use Rattle.merge_iter.specs.Order.{entry_cmp, EntryPrecedes}
 use Rattle.merge_iter.specs.Positions.{WalkStart, AtEnd, At, After, WalkMeets}
 
 pub entry_total : IsTotalOrder entry_cmp
-entry_total = then_total (on_total (λ (r : Entry). r.key) (lists_total nat_cmp_total))
+entry_total = then_total (on_total (λ (r : Entry). r.key) stored_total)
     (back_total (on_total (λ (r : Entry). r.number) nat_cmp_total))
 
 own : (a : Entry) → entry_cmp a a ≡ Less → ⊥

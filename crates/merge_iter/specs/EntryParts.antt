@@ -1,14 +1,12 @@
 -- What the order of entries says of their keys and numbers.
-use Rattle.std.proofs.Common.{◌≡◌, ◌<◌, ℕ, ◌⊎◌, inl, inr, refl, sym, ◌∙◌, ap, subst, List}
+use Rattle.std.proofs.Common.{◌≡◌, ◌<◌, ℕ, ◌⊎◌, inl, inr, refl, sym, ◌∙◌, ap, subst}
 use Rattle.std.specs.declared.cmp.Ordering.{Ordering}
 use Rattle.std.specs.declared.cmp.Ordering.TheVariants.{Less, Equal, Greater}
-use Rattle.std.specs.Ordering.{nat_cmp, ordering_then, is_eq}
+use Rattle.std.specs.Ordering.{nat_cmp, ordering_then}
 use Rattle.std.specs.Cmp.{tied_itself}
-use Rattle.std.specs.Cmp.Lexicographic.{slice_cmp, nat_list_cmp_total}
 use Rattle.std.proofs.lemmas.Cmp.{ranked, by_ranked}
-use Rattle.std.proofs.lemmas.Map.Text.{is_eq-slice_cmp}
-use Rattle.std.proofs.lemmas.Slice.Eq.{bytes_eq-Decides}
-use Rattle.kv_types.specs.{Entry}
+use Rattle.kv_types.specs.{Entry, StoredKey, stored_cmp}
+use Rattle.kv_types.specs.StoredKeysLemmas.{stored_tied, stored_total}
 use Rattle.merge_iter.specs.Order.{entry_cmp}
 
 below : (x y : ℕ) → nat_cmp x y ≡ Less → x < y
@@ -23,15 +21,12 @@ level x y e =
     (λ is h. absurd (let k : Less ≡ Equal = sym is ∙ e in cc)) (λ is h. h)
     (λ is h. absurd (let k : Greater ≡ Equal = sym is ∙ e in cc))
 
-same_key : (k l : List ℕ) → slice_cmp nat_cmp k l ≡ Equal → k ≡ l
-same_key k l e = (bytes_eq-Decides k l).0 (sym (is_eq-slice_cmp k l) ∙ ap is_eq e)
-
-split : (a b : Entry) (o : Ordering) → slice_cmp nat_cmp a.key b.key ≡ o → entry_cmp a b ≡ Less
-    → (slice_cmp nat_cmp a.key b.key ≡ Less) ⊎ ((a.key ≡ b.key) × (b.number < a.number))
+split : (a b : Entry) (o : Ordering) → stored_cmp a.key b.key ≡ o → entry_cmp a b ≡ Less
+    → (stored_cmp a.key b.key ≡ Less) ⊎ ((a.key ≡ b.key) × (b.number < a.number))
 split a b Less is h = inl is
 split a b Equal is h =
     inr (
-      same_key a.key b.key is,
+      stored_tied a.key b.key is,
       below b.number a.number
           (sym (ap (λ o. ordering_then o (nat_cmp b.number a.number)) is) ∙ h),
     )
@@ -40,16 +35,16 @@ split a b Greater is h =
     ∙ h in cc)
 
 -- a lesser key, or in one key a greater number
-less_parts : (a b : Entry) → entry_cmp a b ≡ Less → (slice_cmp nat_cmp a.key b.key ≡ Less)
+less_parts : (a b : Entry) → entry_cmp a b ≡ Less → (stored_cmp a.key b.key ≡ Less)
     ⊎ ((a.key ≡ b.key) × (b.number < a.number))
-less_parts a b h = split a b (slice_cmp nat_cmp a.key b.key) refl h
+less_parts a b h = split a b (stored_cmp a.key b.key) refl h
 
-tie : (a b : Entry) (o : Ordering) → slice_cmp nat_cmp a.key b.key ≡ o → entry_cmp a b ≡ Equal
+tie : (a b : Entry) (o : Ordering) → stored_cmp a.key b.key ≡ o → entry_cmp a b ≡ Equal
     → (a.key ≡ b.key) × (a.number ≡ b.number)
 tie a b Less is h = absurd (let k : Less ≡ Equal =
     sym (ap (λ o. ordering_then o (nat_cmp b.number a.number)) is) ∙ h in cc)
 tie a b Equal is h = (
-  same_key a.key b.key is,
+  stored_tied a.key b.key is,
   let tied = sym (ap (λ o. ordering_then o (nat_cmp b.number a.number)) is) ∙ h in
       sym (level b.number a.number tied),
 )
@@ -59,12 +54,12 @@ tie a b Greater is h =
 
 -- one key and one number
 pub equal_parts : (a b : Entry) → entry_cmp a b ≡ Equal → (a.key ≡ b.key) × (a.number ≡ b.number)
-equal_parts a b h = tie a b (slice_cmp nat_cmp a.key b.key) refl h
+equal_parts a b h = tie a b (stored_cmp a.key b.key) refl h
 
-key_never : (k l : List ℕ) → k ≡ l → slice_cmp nat_cmp k l ≡ Less → ⊥
+key_never : (k l : StoredKey) → k ≡ l → stored_cmp k l ≡ Less → ⊥
 key_never k l e h =
-    let z : slice_cmp nat_cmp l l ≡ Less = subst (λ x. slice_cmp nat_cmp x l ≡ Less) e h in
-    let y : Equal ≡ Less = sym (tied_itself nat_list_cmp_total l) ∙ z in cc
+    let z : stored_cmp l l ≡ Less = subst (λ x. stored_cmp x l ≡ Less) e h in
+    let y : Equal ≡ Less = sym (tied_itself stored_total l) ∙ z in cc
 
 -- in one key numbers fall
 pub numbers_fall : (a b : Entry) → entry_cmp a b ≡ Less → a.key ≡ b.key → b.number < a.number
@@ -80,6 +75,6 @@ between a b c h k e = elim (less_parts b c k) [
   | inr n ↦ n.0
   | inl n ↦ elim (less_parts a b h) [
     | inr m ↦ sym m.0 ∙ e
-    | inl m ↦ absurd (key_never a.key c.key e (nat_list_cmp_total.trans a.key b.key c.key m n))
+    | inl m ↦ absurd (key_never a.key c.key e (stored_total.trans a.key b.key c.key m n))
   ]
 ]

@@ -5,4 +5,4 @@ use Rattle.kv_types.specs.{Entry}
 
 -- the entry that was kept
 abbrev pub kept_entry : KeptEntry → Entry
-kept_entry k = record { key = k.key.items; number = k.number; value = Some k.value.items }
+kept_entry k = record { key = k.key; number = k.number; value = Some k.value.items }

@@ -13,7 +13,7 @@ use Rattle.merge_iter.specs.Positions.{Position, On, Off}
 -- an entry in memory, as a version of a key
 abbrev pub entry_of : OwnedEntry → Entry
 entry_of e =
-    record { key = e.key.items; number = e.number; value = option_map (λ v. v.items) e.value }
+    record { key = e.key; number = e.number; value = option_map (λ v. v.items) e.value }
 
 -- the position on an entry, if there is one
 abbrev pub position_of : Option OwnedEntry → Position

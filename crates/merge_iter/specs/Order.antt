@@ -1,19 +1,18 @@
 -- The order of entries, and sets of entries.
-use Rattle.std.specs.Prelude.{◌≡◌, ◌↔◌, ℕ, List, None}
+use Rattle.std.specs.Prelude.{◌≡◌, ◌↔◌, ℕ, None}
 use Rattle.std.specs.declared.cmp.Ordering.{Ordering}
 use Rattle.std.specs.declared.cmp.Ordering.TheVariants.{Less, Equal}
 use Rattle.std.specs.Ordering.{ordering_then, nat_cmp}
-use Rattle.std.specs.Cmp.Lexicographic.{slice_cmp}
-use Rattle.kv_types.specs.{Entry}
+use Rattle.kv_types.specs.{Entry, StoredKey, stored_cmp}
 use Rattle.merge_iter.specs.declared.direction.Direction.{Direction}
 use Rattle.merge_iter.specs.declared.direction.Direction.TheVariants.{Forward, Backward}
 
 -- keys rise, and the numbers of one key fall
 abbrev pub entry_cmp : Entry → Entry → Ordering
-entry_cmp a b = ordering_then (slice_cmp nat_cmp a.key b.key) (nat_cmp b.number a.number)
+entry_cmp a b = ordering_then (stored_cmp a.key b.key) (nat_cmp b.number a.number)
 
 -- the place of a key and number in the order, whichever entry stands there
-abbrev pub spot : List ℕ → ℕ → Entry
+abbrev pub spot : StoredKey → ℕ → Entry
 spot key number = record { key = key; number = number; value = None }
 
 -- a walk in this direction meets `a` before `b`

@@ -6,7 +6,7 @@ use Rattle.merge_iter.specs.declared.direction.Direction.{Direction}
 use Rattle.merge_iter.specs.declared.direction.Direction.TheVariants.{Forward, Backward}
 use Rattle.merge_iter.specs.declared.mode.Mode.{Mode}
 use Rattle.merge_iter.specs.declared.mode.Mode.TheVariants as mode
-use Rattle.kv_types.specs.{Entry}
+use Rattle.kv_types.specs.{Entry, StoredKey}
 use Rattle.merge_iter.specs.Order.{entry_cmp, spot, EntryPrecedes, IsAlike, IsApart}
 use Rattle.merge_iter.specs.Positions.{Position, On, Off, Broken, WalkStart, AtEnd, At, After}
 use Rattle.merge_iter.specs.Positions.{WalkMeets, IsFirst}
@@ -59,11 +59,11 @@ module _ (at : ℕ) (S : Entry → Type 0) where
 
   -- ---- forward
 
-  ahead_step : (start : WalkStart) (hid hid' : List ℕ → Type 0) (r : Entry) (s : Position)
+  ahead_step : (start : WalkStart) (hid hid' : StoredKey → Type 0) (r : Entry) (s : Position)
       → IsAhead at S start hid (On r)
       → ((p : Entry) → IsShown at S p → WalkMeets Forward start p → entry_cmp p r ≡ Equal → ⊥)
       → (hid r.key → hid' r.key) → (r.number ≤ at → hid' r.key)
-      → ((key : List ℕ) (p : Entry) → hid' key → IsShown at S p → WalkMeets Forward start p
+      → ((key : StoredKey) (p : Entry) → hid' key → IsShown at S p → WalkMeets Forward start p
       → p.key ≡ key → ⊥)
       → IsFirst Forward (λ p. S p × EntryPrecedes Forward r p) s → IsAhead at S start hid' s
   ahead_step start hid hid' r s a miss grow marks none f = record {
@@ -83,7 +83,8 @@ module _ (at : ℕ) (S : Entry → Type 0) where
     none = none;
   }
 
-  pub judged_step : IsApart S → (start : WalkStart) (hides hides' : Bool) (hidden hidden' : List ℕ)
+  pub judged_step : IsApart S → (start : WalkStart) (hides hides' : Bool)
+      (hidden hidden' : StoredKey)
       (r : Entry) (s : Position) → IsAhead at S start (IsHidden hides hidden) (On r)
       → IsJudged at hides hidden r hides' hidden' false → IsFirst Forward
       (λ p. S p × EntryPrecedes Forward r p) s → IsAhead at S start (IsHidden hides' hidden') s
@@ -120,7 +121,8 @@ module _ (at : ℕ) (S : Entry → Type 0) where
         ]
       ]) f
 
-  pub shown_here : (start : WalkStart) (hides hides' : Bool) (hidden hidden' : List ℕ) (r : Entry)
+  pub shown_here : (start : WalkStart) (hides hides' : Bool) (hidden hidden' : StoredKey)
+      (r : Entry)
       → IsAhead at S start (IsHidden hides hidden) (On r)
       → IsJudged at hides hidden r hides' hidden' true → IsFirst Forward
       (λ p. IsShown at S p × WalkMeets Forward start p) (On r) × IsShown at S r
@@ -135,12 +137,12 @@ module _ (at : ℕ) (S : Entry → Type 0) where
       ]) in
       (((shown, a.before.1), λ other h c. a.before.2 other h.0 h.1 c), shown)
 
-  pub shown_none : (start : WalkStart) (hid : List ℕ → Type 0) → IsAhead at S start hid Off
+  pub shown_none : (start : WalkStart) (hid : StoredKey → Type 0) → IsAhead at S start hid Off
       → IsFirst Forward (λ p. IsShown at S p × WalkMeets Forward start p) Off
   shown_none start hid a = λ other h. a.before other h.0 h.1
 
   -- from the first entry on
-  pub ahead_first : (hidden : List ℕ) (s : Position) → IsFirst Forward
+  pub ahead_first : (hidden : StoredKey) (s : Position) → IsFirst Forward
       (λ p. S p × WalkMeets Forward AtEnd p) s → IsAhead at S AtEnd (IsHidden false hidden) s
   ahead_first hidden s f = record {
     before = before_of Forward AtEnd s f;
@@ -152,7 +154,7 @@ module _ (at : ℕ) (S : Entry → Type 0) where
   }
 
   -- from a key on
-  pub ahead_seek : (hidden key : List ℕ) (s : Position) → IsFirst Forward
+  pub ahead_seek : (hidden key : StoredKey) (s : Position) → IsFirst Forward
       (λ p. S p × WalkMeets Forward (At (spot key at)) p) s → IsAhead at S (At (spot key at))
       (IsHidden false hidden) s
   ahead_seek hidden key s f = record {
@@ -177,7 +179,7 @@ module _ (at : ℕ) (S : Entry → Type 0) where
   }
 
   -- behind an entry that is shown
-  pub ahead_after : (w : Entry) (key : List ℕ) (s : Position) → IsShown at S w → key ≡ w.key
+  pub ahead_after : (w : Entry) (key : StoredKey) (s : Position) → IsShown at S w → key ≡ w.key
       → IsFirst Forward (λ p. S p × EntryPrecedes Forward w p) s → IsAhead at S (After w)
       (IsHidden true key) s
   ahead_after w key s shown is f = record {
@@ -391,7 +393,7 @@ module _ (at : ℕ) (S : Entry → Type 0) where
   -- ---- from a key and number on
 
   -- an entry that is shown and not before the number asked is not before the number read at
-  not_before : (key : List ℕ) (number : ℕ) (p : Entry) → IsShown at S p
+  not_before : (key : StoredKey) (number : ℕ) (p : Entry) → IsShown at S p
       → (EntryPrecedes Forward p (spot key number) → ⊥) → EntryPrecedes Forward p (spot key at) → ⊥
   not_before key number p sh late k =
       let same : p.key ≡ key = elim (cases Forward p (spot key number)) [
@@ -407,7 +409,7 @@ module _ (at : ℕ) (S : Entry → Type 0) where
       omega (arith, y, z)
 
   -- of the entries shown, those behind an early one are those from the number asked on
-  early_alike : (key : List ℕ) (number : ℕ) (r : Entry) → IsShown at S r
+  early_alike : (key : StoredKey) (number : ℕ) (r : Entry) → IsShown at S r
       → (EntryPrecedes Forward r (spot key at) → ⊥) → EntryPrecedes Forward r (spot key number)
       → (p : Entry) → IsShown at S p → EntryPrecedes Forward r p
       ↔ (EntryPrecedes Forward p (spot key number) → ⊥)
@@ -434,7 +436,8 @@ module _ (at : ℕ) (S : Entry → Type 0) where
     ]),
   )
 
-  pub late_found : (key : List ℕ) (number : ℕ) (m : Mode) (s : Position) (kept : Entry) → IsForward
+  pub late_found : (key : StoredKey) (number : ℕ) (m : Mode) (s : Position) (kept : Entry)
+      → IsForward
       m → (m ≡ mode.Inner → (entry : Entry) → s ≡ On entry → EntryPrecedes Forward entry
       (spot key number) → ⊥)
       → IsFound Forward at S (At (spot key at)) (Ok m) s kept → IsFound Forward at S
@@ -458,7 +461,7 @@ module _ (at : ℕ) (S : Entry → Type 0) where
   late_found key number mode.Kept s kept fw late f = absurd fw
   late_found key number mode.Broken s kept fw late f = absurd fw
 
-  pub early_found : (key : List ℕ) (number : ℕ) (r : Entry) → IsShown at S r
+  pub early_found : (key : StoredKey) (number : ℕ) (r : Entry) → IsShown at S r
       → (EntryPrecedes Forward r (spot key at) → ⊥) → EntryPrecedes Forward r (spot key number)
       → (result : Result Mode CursorError) (s : Position) (kept : Entry) → IsFound Forward at S
       (After r) result s kept → IsFound Forward at S (At (spot key number)) result s kept

@@ -1,5 +1,5 @@
 -- Of the entries of a set, those that are shown at a number.
-use Rattle.std.specs.Prelude.{◌≡◌, ◌⊎◌, ℕ, ◌+◌, ◌<◌, ◌≤◌, List, None, IsSome, Result, IfOk, Bool}
+use Rattle.std.specs.Prelude.{◌≡◌, ◌⊎◌, ℕ, ◌+◌, ◌<◌, ◌≤◌, None, IsSome, Result, IfOk, Bool}
 use Rattle.std.specs.Prelude.{true, false, IsTrue}
 use Rattle.std.specs.declared.cmp.Ordering.TheVariants.{Equal}
 use Rattle.merge_iter.specs.declared.direction.Direction.{Direction}
@@ -7,7 +7,7 @@ use Rattle.merge_iter.specs.declared.direction.Direction.TheVariants.{Forward, B
 use Rattle.merge_iter.specs.declared.error.CursorError.{CursorError}
 use Rattle.merge_iter.specs.declared.mode.Mode.{Mode}
 use Rattle.merge_iter.specs.declared.mode.Mode.TheVariants as mode
-use Rattle.kv_types.specs.{Entry, IsSeen, IsShown}
+use Rattle.kv_types.specs.{Entry, IsSeen, IsShown, StoredKey}
 use Rattle.merge_iter.specs.Order.{entry_cmp, EntryPrecedes}
 use Rattle.merge_iter.specs.Positions.{Position, On, Off, Broken, WalkStart, After, WalkMeets}
 use Rattle.merge_iter.specs.Positions.{IsFirst}
@@ -23,16 +23,16 @@ IsBefore way at entries start Off = (p : Entry) → IsShown at entries p → Wal
 IsBefore way at entries start Broken = ⊥
 
 -- a key of which no entry is shown any more, if there is one
-abbrev pub IsHidden : Bool → List ℕ → List ℕ → Type 0
+abbrev pub IsHidden : Bool → StoredKey → StoredKey → Type 0
 IsHidden hides hidden key = IsTrue hides × (hidden ≡ key)
 
 -- a walk forward meets the newest entry of a key first: where it was passed, the key is hidden
 pub record IsAhead (at : ℕ) (entries : Entry → Type 0) (start : WalkStart)
-    (hidden : List ℕ → Type 0) (s : Position) : Type 0 where
+    (hidden : StoredKey → Type 0) (s : Position) : Type 0 where
   pub before : IsBefore Forward at entries start s
   pub passed : (entry q : Entry) → s ≡ On entry → IsSeen at entries q →
       EntryPrecedes Forward q entry → q.key ≡ entry.key → hidden entry.key
-  pub none : (key : List ℕ) (p : Entry) → hidden key → IsShown at entries p →
+  pub none : (key : StoredKey) (p : Entry) → hidden key → IsShown at entries p →
       WalkMeets Forward start p → p.key ≡ key → ⊥
 
 -- the entry is met by a walk back before the cursor's, or the cursor is at the end
@@ -101,7 +101,7 @@ IsForward mode.Broken = ⊥
 
 -- Forward, the entry is shown; or it is too new, or of a key that is hidden; or it is a deletion,
 -- whose key is hidden from here on.
-abbrev pub IsJudged : ℕ → Bool → List ℕ → Entry → Bool → List ℕ → Bool → Type 0
+abbrev pub IsJudged : ℕ → Bool → StoredKey → Entry → Bool → StoredKey → Bool → Type 0
 IsJudged at hides hidden entry hides' hidden' true =
     (entry.number ≤ at) × (IsHidden hides hidden entry.key → ⊥) × IsSome entry.value
 IsJudged at hides hidden entry hides' hidden' false =

@@ -2,19 +2,19 @@
 use Rattle.std.proofs.Common.{◌≡◌, ◌↔◌, ℕ, inl, inr, refl, sym, ◌∙◌, ap, subst, arith, List, Option}
 use Rattle.std.proofs.Common.{Some, None}
 use Rattle.std.specs.Cmp.{tied_itself}
-use Rattle.kv_types.specs.{Entry, IsNewest, IsShown, ViewShows}
+use Rattle.kv_types.specs.{Entry, IsNewest, IsShown, StoredKey, ViewShows}
 use Rattle.merge_iter.specs.Order.{IsApart}
 use Rattle.merge_iter.specs.EntryOrder.{entry_total}
 
 -- what the view has of a key is in the second set, and no other value is
 abbrev pub IsView : ℕ → (Entry → Type 0) → (Entry → Type 0) → Type 0
 IsView at entries shown =
-    (key value : List ℕ) (seen : Option (List ℕ)) → ViewShows at entries key seen →
+    (key : StoredKey) (value : List ℕ) (seen : Option (List ℕ)) → ViewShows at entries key seen →
     (seen ≡ Some value)
     ↔ ((number : ℕ) × shown (record { key = key; number = number; value = Some value }))
 
 module _ (at : ℕ) (S : Entry → Type 0) where
-  one_value : IsApart S → (k : List ℕ) (m n : ℕ) (o e : Option (List ℕ)) → m ≡ n
+  one_value : IsApart S → (k : StoredKey) (m n : ℕ) (o e : Option (List ℕ)) → m ≡ n
       → S (record { key = k; number = m; value = o })
       → S (record { key = k; number = n; value = e }) → o ≡ e
   one_value apart k m n o e same p q =
@@ -24,7 +24,8 @@ module _ (at : ℕ) (S : Entry → Type 0) where
       (tied_itself entry_total (record { key = k; number = n; value = e })) in
       ap (λ (x : Entry). x.value) z
 
-  shown_value : (k : List ℕ) (n : ℕ) (o : Option (List ℕ)) (v : List ℕ) → o ≡ Some v → IsNewest at S
+  shown_value : (k : StoredKey) (n : ℕ) (o : Option (List ℕ)) (v : List ℕ) → o ≡ Some v
+      → IsNewest at S
       (record { key = k; number = n; value = o }) → IsShown at S
       (record { key = k; number = n; value = Some v })
   shown_value k n o v is d =

@@ -13,6 +13,7 @@ use crate::error::CursorError;
 use crate::kept::KeptEntry;
 use crate::mode::Mode;
 use crate::turns::{first_shown, last_shown, next_shown, prev_shown, seek_shown};
+use kv_types::LentKey;
 use std::alloc::Global;
 
 /// The entries of a cursor that the view at a number shows: of each key the newest with at most
@@ -92,12 +93,12 @@ impl<C: Cursor> Cursor for AtNumber<C> {
         }
     }
 
-    fn key(&self) -> &[u8] {
+    fn key(&self) -> LentKey<'_> {
         match self.mode {
             Mode::Inner => self.inner.key(),
-            Mode::Kept => self.kept.key.as_slice(),
-            Mode::Off => &[],
-            Mode::Broken => &[],
+            Mode::Kept => self.kept.key.lent(),
+            Mode::Off => LentKey::empty(),
+            Mode::Broken => LentKey::empty(),
         }
     }
 
@@ -139,7 +140,12 @@ impl<C: Cursor> Cursor for AtNumber<C> {
         Ok(())
     }
 
-    fn seek(&mut self, source: &mut C::Source, key: &[u8], number: u64) -> Result<(), CursorError> {
+    fn seek(
+        &mut self,
+        source: &mut C::Source,
+        key: LentKey<'_>,
+        number: u64,
+    ) -> Result<(), CursorError> {
         self.mode = Mode::Broken;
         self.mode = seek_shown(
             &mut self.inner,

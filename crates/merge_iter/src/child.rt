@@ -22,7 +22,7 @@ fn comes_before<C: Cursor>(one: &C, other: &C) -> bool
     ensures { IfOn (C.position one.now) (λ a. IfOn (C.position other.now)
         (λ b. IsTrue result ↔ entry_cmp a b ≡ Less)) }
 {
-    match one.key().cmp(&other.key()) {
+    match one.key().cmp(other.key()) {
         Ordering::Less => true,
         Ordering::Equal => other.number() < one.number(),
         Ordering::Greater => false,

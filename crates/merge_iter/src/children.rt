@@ -1,7 +1,7 @@
 //! Several cursors, moved together.
 ghost use Rattle.std.specs.Prelude.{◌≡◌, ◌↔◌, ◌<◌, ◌≤◌, ◌+◌, IsTrue, OnOk, vec_len, Some};
 ghost use Rattle.std.specs.List.{slice_get, sum_by};
-ghost use Rattle.kv_types.specs.{Entry};
+ghost use Rattle.kv_types.specs.{Entry, lent_key};
 ghost use Rattle.merge_iter.specs.Order.{spot};
 ghost use Rattle.merge_iter.specs.Positions.{WalkStart, AtEnd, At, After, WalkMeets, On, IsOn};
 ghost use Rattle.merge_iter.specs.Positions.{IsFirst, IsBroken};
@@ -19,6 +19,7 @@ use crate::cursor::Cursor;
 use crate::direction::Direction;
 use crate::error::CursorError;
 use crate::place::Place;
+use kv_types::LentKey;
 
 // The nearest of the first children, with child `i` as one more of them.
 fn nearer<C: Cursor>(
@@ -98,7 +99,7 @@ pub fn start_all<C: Cursor>(
 pub fn seek_all<C: Cursor>(
     children: &mut Vec<C>,
     source: &mut C::Source,
-    key: &[u8],
+    key: LentKey,
     number: u64,
 ) -> Result<(), CursorError>
     ensures moves { (meant : C.Meant) → KeepsChildren C.Cursor meant children.old.items source.old
@@ -107,8 +108,8 @@ pub fn seek_all<C: Cursor>(
     ensures causes { RefusesMove C.Cursor (AreIntact C.Cursor children.old.items source.old) ⊥
         C.seeks_allocate source.old source.new result }
     ensures finds { (meant : C.Meant) → AreSound C.Cursor meant children.old.items source.old →
-        OnOk result (AreFirst C.Cursor meant Forward (At (spot key.now number)) children.new.items
-        source.new) }
+        OnOk result (AreFirst C.Cursor meant Forward (At (spot (lent_key key.entry) number))
+        children.new.items source.new) }
 {
     for i in 0..children.len() {
         children[i].seek(source, key, number)?;

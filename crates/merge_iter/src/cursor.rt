@@ -1,6 +1,6 @@
 //! What each cursor does.
 ghost use Rattle.std.specs.Prelude.{Bool, ◌≡◌, ◌↔◌, ◌<◌, ℕ, IsTrue, IsErr, OnOk, option_map};
-ghost use Rattle.kv_types.specs.{Entry};
+ghost use Rattle.kv_types.specs.{Entry, lent_key};
 ghost use Rattle.merge_iter.specs.Order.{spot};
 ghost use Rattle.merge_iter.specs.Positions.{Position, AtEnd, At, After, IsOn, IfOn, IsBroken};
 ghost use Rattle.merge_iter.specs.Moves.{CanStep, MoveFinds, Moved};
@@ -9,6 +9,7 @@ ghost use Rattle.merge_iter.specs.declared.direction.Direction.{Direction as Way
 ghost use Rattle.merge_iter.specs.declared.direction.Direction.TheVariants.{Forward, Backward};
 
 use crate::error::CursorError;
+use kv_types::LentKey;
 
 /// A place in a sorted set of entries: keys rise, and the numbers of one key fall.
 ///
@@ -69,9 +70,9 @@ pub trait Cursor {
         ensures { IsTrue result ↔ IsOn (position self.now) };
 
     /// The key of the entry.
-    fn key(&self) -> &[u8]
+    fn key(&self) -> LentKey<'_>
         requires { IsOn (position self.now) }
-        ensures { IfOn (position self.now) (λ entry. result.now ≡ entry.key) };
+        ensures { IfOn (position self.now) (λ entry. lent_key result ≡ entry.key) };
 
     /// The number of the entry.
     fn number(&self) -> u64
@@ -118,7 +119,7 @@ pub trait Cursor {
     fn seek(
         &mut self,
         source: &mut Self::Source,
-        key: &[u8],
+        key: LentKey<'_>,
         number: u64,
     ) -> Result<(), CursorError>
         ensures moves { Moved holds is_sound suits keeps most
@@ -129,7 +130,7 @@ pub trait Cursor {
             result }
         ensures broken { IsErr result ↔ IsBroken (position self.new) }
         ensures finds { (meant : Meant) → is_sound meant self.old source.old → MoveFinds Forward
-            (At (spot key.now number)) (holds meant self.old source.old) result
+            (At (spot (lent_key key.entry) number)) (holds meant self.old source.old) result
             (position self.new) };
 
     /// Moves to the first entry.

@@ -4,12 +4,13 @@ ghost use Rattle.merge_iter.specs.Positions.{IsOn, IfOn};
 ghost use Rattle.merge_iter.specs.KeptEntries.{kept_entry};
 
 use crate::cursor::Cursor;
+use kv_types::KeyBuffer;
 use std::alloc::{AllocError, Global};
 
 /// An entry with a value, in memory of its own.
 #[derive(Drop)]
 pub struct KeptEntry {
-    pub key: Vec<u8>,
+    pub key: KeyBuffer,
     pub number: u64,
     pub value: Vec<u8>,
 }
@@ -20,7 +21,7 @@ impl KeptEntry {
         ensures { kept_entry result ≡ record { key = []; number = 0; value = Some [] } }
     {
         KeptEntry {
-            key: Vec::new(alloc),
+            key: KeyBuffer::new(alloc),
             number: 0,
             value: Vec::new(alloc),
         }
@@ -38,21 +39,14 @@ impl KeptEntry {
             return Ok(false);
         };
         copy(&mut self.value, value)?;
-        copy(&mut self.key, cursor.key())?;
+        self.key.set(cursor.key())?;
         self.number = cursor.number();
         Ok(true)
     }
 }
 
-/// Whether two keys are equal.
-pub fn is_same_key(one: &[u8], other: &[u8]) -> bool
-    ensures { IsTrue result ↔ (one.now ≡ other.now) }
-{
-    one == other
-}
-
-/// Replaces the bytes of the buffer by these.
-pub fn copy(into: &mut Vec<u8>, bytes: &[u8]) -> Result<(), AllocError>
+// Replaces the bytes of the buffer by these.
+fn copy(into: &mut Vec<u8>, bytes: &[u8]) -> Result<(), AllocError>
     ensures { OnOk result (into.new.items ≡ bytes.now) }
 {
     into.clear();

@@ -1,6 +1,7 @@
 //! A cursor over a sorted list in memory.
 ghost use Rattle.std.specs.Prelude.{◌≡◌, length};
 ghost use Rattle.std.specs.Ordering.{is_lt};
+ghost use Rattle.kv_types.specs.{lent_key};
 ghost use Rattle.merge_iter.specs.ListEntries.{position_at, entry_of, ListHolds, IsSortedList};
 ghost use Rattle.merge_iter.specs.ListEntries.{entries_left};
 ghost use Rattle.merge_iter.specs.Lists.{list_laws};
@@ -11,12 +12,13 @@ use crate::cursor::Cursor;
 use crate::error::CursorError;
 use crate::order;
 use crate::owned_entry::OwnedEntry;
+use kv_types::LentKey;
 
 // Whether the entry comes before that key and number.
-fn is_before(entry: &OwnedEntry, key: &[u8], number: u64) -> bool
-    ensures { result ≡ is_lt (entry_cmp (entry_of entry.now) (spot key.now number)) }
+fn is_before(entry: &OwnedEntry, key: LentKey, number: u64) -> bool
+    ensures { result ≡ is_lt (entry_cmp (entry_of entry.now) (spot (lent_key key.entry) number)) }
 {
-    order(entry.key.as_slice(), entry.number, key, number).is_lt()
+    order(entry.key.lent(), entry.number, key, number).is_lt()
 }
 
 /// A cursor over a sorted list in memory. It needs no source, and its moves refuse nothing.
@@ -75,8 +77,8 @@ impl Cursor for ListCursor {
         self.at < self.entries.len()
     }
 
-    fn key(&self) -> &[u8] {
-        self.entries[self.at].key.as_slice()
+    fn key(&self) -> LentKey<'_> {
+        self.entries[self.at].key.lent()
     }
 
     fn number(&self) -> u64 {
@@ -104,7 +106,7 @@ impl Cursor for ListCursor {
         Ok(())
     }
 
-    fn seek(&mut self, _source: &mut (), key: &[u8], number: u64) -> Result<(), CursorError> {
+    fn seek(&mut self, _source: &mut (), key: LentKey<'_>, number: u64) -> Result<(), CursorError> {
         self.at = self
             .entries
             .partition_point(|entry| is_before(entry, key, number));

@@ -14,6 +14,7 @@ use crate::cursor::Cursor;
 use crate::direction::Direction;
 use crate::error::CursorError;
 use crate::place::Place;
+use kv_types::LentKey;
 
 /// The sorted union of several cursors, of which no two hold entries of one key and number. What it
 /// lends is lent by the child that it stands on.
@@ -146,11 +147,11 @@ impl<C: Cursor> Cursor for Merged<C> {
         }
     }
 
-    fn key(&self) -> &[u8] {
+    fn key(&self) -> LentKey<'_> {
         match self.place {
             Place::On(_, k) => self.children[k].key(),
-            Place::Off => &[],
-            Place::Broken => &[],
+            Place::Off => LentKey::empty(),
+            Place::Broken => LentKey::empty(),
         }
     }
 
@@ -178,7 +179,12 @@ impl<C: Cursor> Cursor for Merged<C> {
         self.walk(Direction::Backward, source)
     }
 
-    fn seek(&mut self, source: &mut C::Source, key: &[u8], number: u64) -> Result<(), CursorError> {
+    fn seek(
+        &mut self,
+        source: &mut C::Source,
+        key: LentKey<'_>,
+        number: u64,
+    ) -> Result<(), CursorError> {
         self.place = Place::Broken;
         seek_all(&mut self.children, source, key, number)?;
         self.place = settle(&self.children, Direction::Forward);

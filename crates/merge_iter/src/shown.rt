@@ -13,8 +13,9 @@ ghost use Rattle.merge_iter.specs.LentCursors.{IsIntact, KeepsCursor, RefusesMov
 
 use crate::cursor::Cursor;
 use crate::error::CursorError;
-use crate::kept::{KeptEntry, copy, is_same_key};
+use crate::kept::KeptEntry;
 use crate::mode::Mode;
+use kv_types::KeyBuffer;
 use std::alloc::AllocError;
 
 // Whether the entry is shown. A deletion that is seen hides its key from here on.
@@ -22,23 +23,23 @@ fn is_shown<C: Cursor>(
     inner: &C,
     at: u64,
     hides: &mut bool,
-    hidden: &mut Vec<u8>,
+    hidden: &mut KeyBuffer,
 ) -> Result<bool, AllocError>
     requires { IsOn (C.position inner.now) }
     ensures { IfOk result
         (λ shown. IfOn (C.position inner.now)
-        (λ entry. IsJudged at hides.old hidden.old.items entry hides.new hidden.new.items shown)) }
+        (λ entry. IsJudged at hides.old hidden.old entry hides.new hidden.new shown)) }
 {
     if inner.number() > at {
         return Ok(false);
     }
-    if *hides && is_same_key(hidden.as_slice(), inner.key()) {
+    if *hides && hidden.lent().is_same(inner.key()) {
         return Ok(false);
     }
     if inner.value().is_some() {
         return Ok(true);
     }
-    copy(hidden, inner.key())?;
+    hidden.set(inner.key())?;
     *hides = true;
     Ok(false)
 }
@@ -50,7 +51,7 @@ pub fn find_forward<C: Cursor>(
     source: &mut C::Source,
     at: u64,
     hides: bool,
-    hidden: &mut Vec<u8>,
+    hidden: &mut KeyBuffer,
 ) -> Result<Mode, CursorError>
     ensures moves { KeepsCursor C.Cursor inner.old source.old inner.new source.new }
     ensures device { C.makes (reports result) source.old source.new }
@@ -63,7 +64,7 @@ pub fn find_forward<C: Cursor>(
         ≤ C.left inner.old Forward) }
     ensures finds { (meant : C.Meant) → (start : WalkStart) (kept : Entry) → C.is_sound meant
         inner.old source.old → IsAhead at (C.holds meant inner.old source.old) start (IsHidden hides
-        hidden.old.items) (C.position inner.old) → IsFound Forward at (C.holds meant inner.old
+        hidden.old) (C.position inner.old) → IsFound Forward at (C.holds meant inner.old
         source.old) start result (C.position inner.new) kept }
 {
     let mut hiding = hides;
@@ -93,7 +94,7 @@ fn is_left<C: Cursor>(
     if at < inner.number() {
         return Ok(false);
     }
-    if *found && !is_same_key(kept.key.as_slice(), inner.key()) {
+    if *found && !kept.key.lent().is_same(inner.key()) {
         return Ok(true);
     }
     *found = kept.keep(inner)?;

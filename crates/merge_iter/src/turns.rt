@@ -1,6 +1,6 @@
 //! The moves of a cursor over the entries shown at a number, by moves of the cursor below.
 ghost use Rattle.std.specs.Prelude.{◌≡◌, ◌⊎◌, ◌<◌, ◌≤◌, ℕ, IsTrue, OnOk, IfOk};
-ghost use Rattle.kv_types.specs.{Entry};
+ghost use Rattle.kv_types.specs.{Entry, lent_key};
 ghost use Rattle.merge_iter.specs.Order.{EntryPrecedes, spot};
 ghost use Rattle.merge_iter.specs.Positions.{AtEnd, At, After, On, WalkMeets, IsOn, IfOn, IsBroken};
 ghost use Rattle.merge_iter.specs.Positions.{IsFirst};
@@ -13,10 +13,11 @@ ghost use Rattle.merge_iter.specs.LentCursors.{IsIntact, KeepsCursor, RefusesMov
 
 use crate::cursor::Cursor;
 use crate::error::CursorError;
-use crate::kept::{KeptEntry, copy};
+use crate::kept::KeptEntry;
 use crate::mode::Mode;
 use crate::order;
 use crate::shown::{find_back, find_forward};
+use kv_types::{KeyBuffer, LentKey};
 
 // Moves back onto the entry that is shown, where the cursor has gone on behind it.
 fn return_to<C: Cursor>(
@@ -41,7 +42,7 @@ fn return_to<C: Cursor>(
 {
     match mode {
         Mode::Inner => Ok(()),
-        Mode::Kept => inner.seek(source, kept.key.as_slice(), kept.number),
+        Mode::Kept => inner.seek(source, kept.key.lent(), kept.number),
         Mode::Off => Ok(()),
         Mode::Broken => Ok(()),
     }
@@ -51,7 +52,7 @@ fn return_to<C: Cursor>(
 fn leave<C: Cursor>(
     inner: &mut C,
     source: &mut C::Source,
-    key: &mut Vec<u8>,
+    key: &mut KeyBuffer,
 ) -> Result<(), CursorError>
     ensures moves { KeepsCursor C.Cursor inner.old source.old inner.new source.new }
     ensures device { C.makes (reports result) source.old source.new }
@@ -63,12 +64,12 @@ fn leave<C: Cursor>(
     ensures leaves { (meant : C.Meant) → (entry : Entry) → C.is_sound meant inner.old source.old →
         C.position inner.old ≡ On entry →
         OnOk result (IsFirst Forward (λ p. C.holds meant inner.old source.old p
-        × WalkMeets Forward (After entry) p) (C.position inner.new) × (key.new.items ≡ entry.key)) }
+        × WalkMeets Forward (After entry) p) (C.position inner.new) × (key.new ≡ entry.key)) }
 {
     if !inner.valid() {
         return Ok(());
     }
-    copy(key, inner.key())?;
+    key.set(inner.key())?;
     inner.next(source)
 }
 
@@ -115,12 +116,13 @@ pub fn last_shown<C: Cursor>(
 }
 
 // Whether the entry that was found comes before this key and number.
-fn is_early<C: Cursor>(inner: &C, mode: Mode, key: &[u8], number: u64) -> bool
+fn is_early<C: Cursor>(inner: &C, mode: Mode, key: LentKey, number: u64) -> bool
     ensures early { IsTrue result → (mode ≡ Mode.Inner) × IsOn (C.position inner.now)
-        × IfOn (C.position inner.now) (λ entry. EntryPrecedes Forward entry (spot key.now number)) }
+        × IfOn (C.position inner.now)
+        (λ entry. EntryPrecedes Forward entry (spot (lent_key key.entry) number)) }
     ensures late { (IsTrue result → ⊥) → mode ≡ Mode.Inner →
         IfOn (C.position inner.now)
-        (λ entry. EntryPrecedes Forward entry (spot key.now number) → ⊥) }
+        (λ entry. EntryPrecedes Forward entry (spot (lent_key key.entry) number) → ⊥) }
 {
     match mode {
         Mode::Inner => inner.valid() && order(inner.key(), inner.number(), key, number).is_lt(),
@@ -136,7 +138,7 @@ pub fn seek_shown<C: Cursor>(
     inner: &mut C,
     source: &mut C::Source,
     at: u64,
-    key: &[u8],
+    key: LentKey,
     number: u64,
     kept: &mut KeptEntry,
 ) -> Result<Mode, CursorError>
@@ -147,8 +149,9 @@ pub fn seek_shown<C: Cursor>(
     ensures unbroken { IfOk result
         (λ mode. IsBroken (view_position mode (C.position inner.new) (kept_entry kept.new)) → ⊥) }
     ensures finds { (meant : C.Meant) → C.is_sound meant inner.old source.old →
-        IsFound Forward at (C.holds meant inner.old source.old) (At (spot key.now number)) result
-        (C.position inner.new) (kept_entry kept.new) }
+        IsFound Forward at (C.holds meant inner.old source.old)
+        (At (spot (lent_key key.entry) number)) result (C.position inner.new)
+        (kept_entry kept.new) }
 {
     inner.seek(source, key, at)?;
     let mode = find_forward(inner, source, at, false, &mut kept.key)?;

@@ -4,11 +4,11 @@ use Rattle.std.proofs.Common.{refl, sym, ap, subst}
 use Rattle.std.specs.Str.{bytes_eq}
 use Rattle.std.proofs.lemmas.Slice.Eq.{bytes_eq-Decides}
 use Rattle.kv_types.specs.OrderLemmas.{Among, among_from_Contains, among_of_All}
-use Rattle.kv_types.specs.{Entry, IsUnseen}
+use Rattle.kv_types.specs.{Entry, IsUnseen, StoredKey}
 use Rattle.bloom.specs.Filters.{Covers, FiltersCover, IsFilter}
 use Rattle.table_format.specs.{different_keys}
 
-more_keys : (b : Bool) (k : List ℕ) (ks : List (List ℕ)) (key : List ℕ) → Among key ks
+more_keys : (b : Bool) (k : List ℕ) (ks : List (List ℕ)) (key : StoredKey) → Among key ks
     → Among key (cond b ks (k ∷ ks))
 more_keys true k ks key a = a
 more_keys false k ks key a = inr a

@@ -7,7 +7,7 @@ use Rattle.std.proofs.lemmas.Grind.{flat_map-append}
 use Rattle.std.proofs.lemmas.List.Concat.{flat_map-cons}
 use Rattle.std.proofs.lemmas.List.Elements.{All-from_recursion, recursion_from_All}
 use Rattle.kv_types.specs.OrderLemmas.{Among, Rises, rises_from_AllPairs, AllPairs-rises}
-use Rattle.kv_types.specs.{Entry}
+use Rattle.kv_types.specs.{Entry, StoredKey}
 use Rattle.merge_iter.specs.{EntryPrecedes, chain, spot}
 use Rattle.merge_iter.specs.declared.Direction.TheVariants.{Forward}
 use Rattle.table_format.specs.FrontsLemmas.{IsShortBlock, few_entries, length-block_part, split_each}
@@ -203,7 +203,7 @@ in_two (x ∷ xs) ys z (inr a) =
     elim (in_two xs ys z a) [ inl b ↦ inl (inr b) | inr c ↦ inr c ]
 
 -- an entry of a block that ends before the spot
-early_in : (b : Block) (key : List ℕ) (at : ℕ) → Rises (EntryPrecedes Forward) (block_entries b)
+early_in : (b : Block) (key : StoredKey) (at : ℕ) → Rises (EntryPrecedes Forward) (block_entries b)
     → IsEarlier (spot key at) b.last → (z : Entry) → Among z (block_entries b)
     → IsEarlier (spot key at) z
 early_in b key at rises last z a = elim (in_two b.front (b.last ∷ []) z a) [
@@ -216,7 +216,7 @@ early_in b key at rises last z a = elim (in_two b.front (b.last ∷ []) z a) [
 ]
 
 -- entries of blocks that end before the spot
-pub early_entries : (place : ℕ) (done : List Block) (key : List ℕ) (at : ℕ)
+pub early_entries : (place : ℕ) (done : List Block) (key : StoredKey) (at : ℕ)
     → Rises (EntryPrecedes Forward) (entries_of_blocks done)
     → AllByRecursion (EndsEarlier (spot key at)) (block_lines place done)
     → (z : Entry) → Among z (entries_of_blocks done) → IsEarlier (spot key at) z

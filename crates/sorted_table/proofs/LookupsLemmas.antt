@@ -3,7 +3,7 @@ use Rattle.std.proofs.Common.{◌≡◌, ◌⊎◌, inl, inr, ℕ, ◌≤◌, Li
 use Rattle.std.proofs.Common.{Contains, AllPairs, All, refl, sym, ap, subst, ◌∙◌, arith}
 use Rattle.std.specs.Option.{option_map}
 use Rattle.kv_types.specs.OrderLemmas.{Among, Rises, rises_from_AllPairs, Contains-among, among_from_Contains, among_of_All}
-use Rattle.kv_types.specs.{Entry, IsNewest, IsUnseen}
+use Rattle.kv_types.specs.{Entry, IsNewest, IsUnseen, StoredKey}
 use Rattle.merge_iter.specs.EntryOrder.{cases}
 use Rattle.merge_iter.specs.EntryParts.{between, equal_parts, numbers_fall}
 use Rattle.merge_iter.specs.{EntryPrecedes, spot}
@@ -15,12 +15,12 @@ use Rattle.sorted_table.specs.Searches.{IsEarlier, IsFirstWithout, IsVersionOf}
 -- ---- entries and a spot
 
 -- an entry of the key with at most that number does not come before their spot
-pub seen_is_late : (z : Entry) (key : List ℕ) (at : ℕ) → z.key ≡ key → z.number ≤ at
+pub seen_is_late : (z : Entry) (key : StoredKey) (at : ℕ) → z.key ≡ key → z.number ≤ at
     → IsEarlier (spot key at) z → ⊥
 seen_is_late z key at e le h = let lt = numbers_fall z (spot key at) h e in omega (arith, le, lt)
 
 -- an entry of the key that does not come before the spot has at most that number
-pub late_is_seen : (z : Entry) (key : List ℕ) (at : ℕ) → z.key ≡ key
+pub late_is_seen : (z : Entry) (key : StoredKey) (at : ℕ) → z.key ≡ key
     → (IsEarlier (spot key at) z → ⊥) → z.number ≤ at
 late_is_seen z key at e late = elim (cases Forward z (spot key at)) [
   | inl early ↦ absurd (late early)
@@ -31,7 +31,7 @@ late_is_seen z key at e late = elim (cases Forward z (spot key at)) [
 ]
 
 -- what stands between the spot and an entry of the key has that key
-pub key_between : (z other : Entry) (key : List ℕ) (at : ℕ) → (IsEarlier (spot key at) z → ⊥)
+pub key_between : (z other : Entry) (key : StoredKey) (at : ℕ) → (IsEarlier (spot key at) z → ⊥)
     → EntryPrecedes Forward z other → other.key ≡ key → z.key ≡ key
 key_between z other key at late before e = elim (cases Forward z (spot key at)) [
   | inl early ↦ absurd (late early)
@@ -65,7 +65,7 @@ behind (x ∷ before) after entry z rises a = behind before after entry z rises.
 -- ---- the answers
 
 -- the first late entry, where it has the key
-pub newest_there : (entries : List Entry) (entry : Entry) (key : List ℕ) (at : ℕ)
+pub newest_there : (entries : List Entry) (entry : Entry) (key : StoredKey) (at : ℕ)
     → AllPairs (EntryPrecedes Forward) entries
     → IsFirstWithout (IsEarlier (spot key at)) entries entry → entry.key ≡ key
     → IsNewest at (Contains entries) entry
@@ -92,7 +92,7 @@ newest_there entries entry key at rising f same =
     }
 
 -- the first late entry, where it has another key
-pub unseen_there : (entries : List Entry) (entry : Entry) (key : List ℕ) (at : ℕ)
+pub unseen_there : (entries : List Entry) (entry : Entry) (key : StoredKey) (at : ℕ)
     → AllPairs (EntryPrecedes Forward) entries
     → IsFirstWithout (IsEarlier (spot key at)) entries entry → (entry.key ≡ key → ⊥)
     → IsUnseen at (Contains entries) key
@@ -111,7 +111,7 @@ unseen_there entries entry key at rising f other_key = λ other seen e.
     ]
 
 -- no late entry
-pub unseen_all : (entries : List Entry) (key : List ℕ) (at : ℕ)
+pub unseen_all : (entries : List Entry) (key : StoredKey) (at : ℕ)
     → All (IsEarlier (spot key at)) entries → IsUnseen at (Contains entries) key
 unseen_all entries key at early = λ other seen e. seen_is_late other key at e seen.1
     (among_of_All (IsEarlier (spot key at)) entries other early
@@ -125,7 +125,8 @@ same_entry : (k l : List ℕ) (m n : ℕ) (v w : Option (List ℕ)) → k ≡ l 
 same_entry k l m n v w a b c = cc
 
 -- a version of the newest entry is found
-pub found_by : (entries : List Entry) (entry : Entry) (key : List ℕ) (at : ℕ) (found : FoundVersion)
+pub found_by : (entries : List Entry) (entry : Entry) (key : StoredKey) (at : ℕ)
+    (found : FoundVersion)
     → entry.key ≡ key → IsVersionOf entry found → IsNewest at (Contains entries) entry
     → LookupFinds entries key at (Some found)
 found_by entries entry key at found same is newest =
@@ -151,7 +152,7 @@ in_three (x ∷ before) mine after z (inr a) =
 
 -- What a lookup finds in a block it finds in all entries, where those before the block are early
 -- and an entry of the block is late.
-pub lookup_up : (before mine after : List Entry) (last : Entry) (key : List ℕ) (at : ℕ)
+pub lookup_up : (before mine after : List Entry) (last : Entry) (key : StoredKey) (at : ℕ)
     (found : Option FoundVersion) → ((z : Entry) → Among z before → IsEarlier (spot key at) z)
     → Among last mine → (IsEarlier (spot key at) last → ⊥)
     → ((x y : Entry) → Among x mine → Among y after → EntryPrecedes Forward x y)

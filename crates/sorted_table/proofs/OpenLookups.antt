@@ -10,7 +10,7 @@ use Rattle.bloom.specs.{Covers, CoversHashed, hashes_of}
 use Rattle.std.specs.List.{slice_get}
 use Rattle.std.proofs.lemmas.Option.{slice_get_within}
 use Rattle.disk.specs.{Slot, State, seen}
-use Rattle.kv_types.specs.{Entry}
+use Rattle.kv_types.specs.{Entry, StoredKey}
 use Rattle.merge_iter.specs.{spot}
 use Rattle.table_format.specs.{AreRising, IsBlock, IsEnvironmentError, end_spot}
 use Rattle.table_format.specs.declared.IndexLine.{IndexLine}
@@ -48,7 +48,7 @@ not_denied filter key hashes denies are covered holds =
     let is : IsTrue denies = denied in cc))
 
 -- the answer by a line is that of a lookup
-pub by_line : (file : Slot) (table : Table) (lines : List IndexLine) (key : List ℕ) (at n : ℕ)
+pub by_line : (file : Slot) (table : Table) (lines : List IndexLine) (key : StoredKey) (at n : ℕ)
     (result : Result (Option FoundVersion) TableError)
     → IsOpenOn file table → Covers table.filter.items key → lines ≡ rc_slice_items table.lines
     → (AreRising (map end_spot lines) → IsLinePlace lines (spot key at) n)
@@ -65,7 +65,7 @@ by_line file table lines key at n result opened covers are finds answer =
     )
 
 -- without a line nothing is found
-pub none_behind : (file : Slot) (lines : List IndexLine) (key : List ℕ) (at n : ℕ)
+pub none_behind : (file : Slot) (lines : List IndexLine) (key : StoredKey) (at n : ℕ)
     → length lines ≤ n → LineAnswer lines n file key at (Ok None)
 none_behind file lines key at n past =
     let found : Option FoundVersion = None in
@@ -75,7 +75,7 @@ none_behind file lines key at n past =
 
 -- the block was read
 pub line_answers : (file : Slot) (lines : List IndexLine) (n : ℕ) (line : IndexLine)
-    (key : List ℕ) (at : ℕ) (block : RcSlice ℕ Global)
+    (key : StoredKey) (at : ℕ) (block : RcSlice ℕ Global)
     (result : Result (Option FoundVersion) TableError) → slice_get lines n ≡ Some line
     → LineBlockAnswer lines n file (Ok block)
     → ((entries : List Entry) → IsBlock (rc_slice_items block) entries
@@ -122,7 +122,7 @@ block_at file lines t n line at =
 
 -- a lookup in the block of the first line that does not end before is a lookup in the table
 pub found_as : (file : Slot) (table : Table) (entries : List Entry)
-    (s : TableServes file table entries) (lines : List IndexLine) (n : ℕ) (key : List ℕ) (at : ℕ)
+    (s : TableServes file table entries) (lines : List IndexLine) (n : ℕ) (key : StoredKey) (at : ℕ)
     (block : RcSlice ℕ Global) (result : Result (Option FoundVersion) TableError)
     → lines ≡ rc_slice_items table.lines → n < length lines
     → (AreRising (map end_spot lines) → IsLinePlace lines (spot key at) n)

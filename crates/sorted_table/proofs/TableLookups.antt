@@ -5,7 +5,7 @@ use Rattle.std.specs.Prelude.{IfErr}
 use Rattle.std.specs.List.{AllByRecursion}
 use Rattle.std.proofs.lemmas.List.Elements.{recursion_from_All}
 use Rattle.kv_types.specs.OrderLemmas.{All-among, Among, Rises, rises_from_AllPairs}
-use Rattle.kv_types.specs.{Entry, IsUnseen}
+use Rattle.kv_types.specs.{Entry, IsUnseen, StoredKey}
 use Rattle.merge_iter.specs.{EntryPrecedes, spot}
 use Rattle.merge_iter.specs.declared.Direction.TheVariants.{Forward}
 use Rattle.table_format.specs.{AreRising, IsBlock, IsEnvironmentError, ReportsDevice, TableRepresents}
@@ -29,7 +29,7 @@ rising_here bytes entries s lines is =
 
 -- all blocks end before the spot
 pub no_block : (bytes : List ℕ) (entries : List Entry) (s : TableRepresents bytes entries)
-    (lines : List IndexLine) (key : List ℕ) (at : ℕ) → lines ≡ block_lines 0 s.blocks
+    (lines : List IndexLine) (key : StoredKey) (at : ℕ) → lines ≡ block_lines 0 s.blocks
     → (AreRising (map end_spot lines) → All (EndsEarlier (spot key at)) lines)
     → IsUnseen at (Contains entries) key
 no_block bytes entries s lines key at is early =
@@ -43,7 +43,7 @@ no_block bytes entries s lines key at is early =
     (subst (Among z) s.division a)))
 
 -- what a lookup finds in a block of the file it finds in the table
-pub record BlockForSpot (bytes : List ℕ) (entries : List Entry) (key : List ℕ) (at : ℕ)
+pub record BlockForSpot (bytes : List ℕ) (entries : List Entry) (key : StoredKey) (at : ℕ)
     (line : IndexLine) : Type 0 where
   pub mine : List Entry
   pub is_block : IsBlock (take line.len (drop line.place bytes)) mine
@@ -52,7 +52,7 @@ pub record BlockForSpot (bytes : List ℕ) (entries : List Entry) (key : List �
       → LookupFinds entries key at found
 
 pub block_for : (bytes : List ℕ) (entries : List Entry) (s : TableRepresents bytes entries)
-    (lines : List IndexLine) (key : List ℕ) (at : ℕ) (line : IndexLine)
+    (lines : List IndexLine) (key : StoredKey) (at : ℕ) (line : IndexLine)
     → lines ≡ block_lines 0 s.blocks
     → (AreRising (map end_spot lines) → IsFirstWithout (EndsEarlier (spot key at)) lines line)
     → BlockForSpot bytes entries key at line
@@ -80,7 +80,8 @@ block_for bytes entries s lines key at line is first =
           (rising_parts mine after parts.back).across here);
     }
 
-pub result_up : (bytes : List ℕ) (entries : List Entry) (key : List ℕ) (at : ℕ) (line : IndexLine)
+pub result_up : (bytes : List ℕ) (entries : List Entry) (key : StoredKey) (at : ℕ)
+    (line : IndexLine)
     (b : BlockForSpot bytes entries key at line) (result : Result (Option FoundVersion) TableError)
     → MatchResult result (LookupFinds b.mine key at) (λ e. e ≡ Memory)
     → MatchResult result (LookupFinds entries key at) IsEnvironmentError

@@ -10,7 +10,7 @@ use Rattle.std.proofs.lemmas.Option.{get_or_from_slice_get, slice_get_past, slic
 use Rattle.disk.specs.{Slot}
 use Rattle.kv_types.specs.FieldsLemmas.{some_is}
 use Rattle.kv_types.specs.OrderLemmas.{Among, Rises, rises_from_AllPairs}
-use Rattle.kv_types.specs.{Entry}
+use Rattle.kv_types.specs.{Entry, StoredKey}
 use Rattle.merge_iter.specs.declared.Direction.TheVariants.{Forward}
 use Rattle.merge_iter.specs.{At, EntryPrecedes, MoveFinds, chain, spot}
 use Rattle.table_format.specs.{AreRising, Block, block_bytes, block_entries, block_line, block_lines}
@@ -70,7 +70,8 @@ among_of (x ∷ xs) (suc k) e at = inr (among_of xs k e at)
 same_or_less : (n k : ℕ) → n ≤ k → (n ≡ k) ⊎ (n < k)
 same_or_less n k le = grind arith
 
-module _ (file : Slot) (lines : List IndexLine) (t : HasLines file lines) (key : List ℕ) (number : ℕ)
+module _ (file : Slot) (lines : List IndexLine) (t : HasLines file lines) (key : StoredKey)
+    (number : ℕ)
   where
     abbrev sought : Entry
     sought = spot key number

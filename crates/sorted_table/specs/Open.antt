@@ -6,7 +6,7 @@ use Rattle.std.specs.Option.{option_map}
 use Rattle.std.specs.Rc.{rc_slice_items}
 use Rattle.bloom.specs.{Covers}
 use Rattle.disk.specs.{Slot, seen}
-use Rattle.kv_types.specs.{Entry, IsNewest, IsUnseen}
+use Rattle.kv_types.specs.{Entry, IsNewest, IsUnseen, StoredKey}
 use Rattle.merge_iter.specs.{spot}
 use Rattle.table_builder.specs.{HoldsTable}
 use Rattle.table_format.specs.{IsBlock, TableRepresents, block_lines, last_entry}
@@ -34,7 +34,7 @@ abbrev pub index_lines : Table → List IndexLine
 index_lines table = rc_slice_items table.lines
 
 -- the key of the last of these lines, if there is one
-abbrev pub last_line_key : List IndexLine → Option (List ℕ)
+abbrev pub last_line_key : List IndexLine → Option StoredKey
 last_line_key [] = None
 last_line_key (line ∷ []) = Some line.key
 last_line_key (line ∷ next ∷ lines) = last_line_key (next ∷ lines)
@@ -58,7 +58,7 @@ IsOpenOn file table =
     IsSomeAnd (seen file) (λ bytes. HasTail bytes (index_lines table) (table_filter table))
 
 -- the key of the last of these entries, if there is one
-abbrev pub greatest_key : List Entry → Option (List ℕ)
+abbrev pub greatest_key : List Entry → Option StoredKey
 greatest_key entries = option_map (λ entry. entry.key) (last_entry entries)
 
 -- a file that a builder has finished represents the entries that were added
@@ -69,7 +69,7 @@ FinishedTablesAreFiles = (file : Slot) (entries : List Entry) → HoldsTable fil
 -- ---- lookups
 
 -- what was found of a key, as an entry
-abbrev pub found_entry : List ℕ → FoundVersion → Entry
+abbrev pub found_entry : StoredKey → FoundVersion → Entry
 found_entry key found = record {
   key = key;
   number = found.number;
@@ -77,14 +77,14 @@ found_entry key found = record {
 }
 
 -- a lookup finds the newest entry of the key with at most that number, or that there is none
-abbrev pub LookupFinds : List Entry → List ℕ → ℕ → Option FoundVersion → Type 0
+abbrev pub LookupFinds : List Entry → StoredKey → ℕ → Option FoundVersion → Type 0
 LookupFinds entries key at None = IsUnseen at (Contains entries) key
 LookupFinds entries key at (Some found) = IsNewest at (Contains entries) (found_entry key found)
 
 -- ---- lookups in any open table
 
 -- the file has a block for line n, and this is found in it
-pub record FindsAtLine (lines : List IndexLine) (n : ℕ) (file : Slot) (key : List ℕ) (at : ℕ)
+pub record FindsAtLine (lines : List IndexLine) (n : ℕ) (file : Slot) (key : StoredKey) (at : ℕ)
     (found : Option FoundVersion) : Type 0 where
   pub part : List ℕ
   pub entries : List Entry
@@ -94,7 +94,7 @@ pub record FindsAtLine (lines : List IndexLine) (n : ℕ) (file : Slot) (key : L
 
 -- The answer by line n: what is found in its block, and `Damaged` only where the file has no block
 -- for it. Without such a line nothing is found.
-abbrev pub LineAnswer : List IndexLine → ℕ → Slot → List ℕ → ℕ
+abbrev pub LineAnswer : List IndexLine → ℕ → Slot → StoredKey → ℕ
     → Result (Option FoundVersion) TableError → Type 0
 LineAnswer lines n file key at (Ok found) =
     MatchOption (slice_get lines n) (found ≡ None)
@@ -105,7 +105,7 @@ LineAnswer lines n file key at (Err e) =
 
 -- The answer by filter and lines: nothing where the filter denies the key, and else the answer by
 -- the first line whose block does not end before key and number.
-abbrev pub LookupAnswer : Slot → Table → List ℕ → ℕ → Result (Option FoundVersion) TableError
+abbrev pub LookupAnswer : Slot → Table → StoredKey → ℕ → Result (Option FoundVersion) TableError
     → Type 0
 LookupAnswer file table key at result =
     ((Covers table.filter.items key → ⊥) × (result ≡ Ok None))
@@ -117,7 +117,7 @@ LookupAnswer file table key at result =
 
 -- A lookup that succeeds finds what the table has that the file was meant to be. This holds for
 -- each table that it may have been meant to be, if its undamaged blocks are as they were meant.
-abbrev pub AnswersAsMeant : Slot → Table → List ℕ → ℕ → Result (Option FoundVersion) TableError
+abbrev pub AnswersAsMeant : Slot → Table → StoredKey → ℕ → Result (Option FoundVersion) TableError
     → Type 0
 AnswersAsMeant file table key at result =
     (meant : Slot) (entries : List Entry) → TableServes meant table entries →

@@ -1,20 +1,22 @@
 //! The search for a key and number in a block.
 ghost use Rattle.std.specs.Prelude.{◌≡◌, ◌⊎◌, List, All, MatchResult, IfErr, option_map};
 ghost use Rattle.std.specs.Ordering.{is_lt};
-ghost use Rattle.kv_types.specs.{Entry};
+ghost use Rattle.kv_types.specs.{Entry, lent_key};
 ghost use Rattle.merge_iter.specs.{entry_cmp, spot};
 ghost use Rattle.table_format.specs.{IsBlock, IsTableEntry, entries_bytes, lent_entry};
 ghost use Rattle.sorted_table.specs.Open.{LookupFinds};
 ghost use Rattle.sorted_table.specs.Searches.{FindsFirstWithout, IsEarlier};
 
 use crate::found::{FoundVersion, version_of};
+use kv_types::LentKey;
 use merge_iter::order;
 use std::alloc::Global;
 use table_format::{LentEntry, TableError, entries_in, entry_of};
 
 // Whether the entry comes before the key and number.
-fn is_earlier(entry: LentEntry, key: &[u8], number: u64) -> bool
-    ensures { result ≡ is_lt (entry_cmp (lent_entry entry.entry) (spot key.now number)) }
+fn is_earlier(entry: LentEntry, key: LentKey, number: u64) -> bool
+    ensures { result ≡ is_lt (entry_cmp (lent_entry entry.entry)
+        (spot (lent_key key.entry) number)) }
 {
     order(entry.key, entry.number, key, number).is_lt()
 }
@@ -23,12 +25,13 @@ fn is_earlier(entry: LentEntry, key: &[u8], number: u64) -> bool
 // number.
 fn first_from<'a>(
     text: &'a [u8],
-    key: &[u8],
+    key: LentKey,
     number: u64,
 ) -> Result<Option<LentEntry<'a>>, TableError>
     ensures first { (entries : List Entry) → All IsTableEntry entries →
         text.now ≡ entries_bytes entries →
-        MatchResult result (λ first. FindsFirstWithout (IsEarlier (spot key.now number)) entries
+        MatchResult result (λ first.
+        FindsFirstWithout (IsEarlier (spot (lent_key key.entry) number)) entries
         (option_map lent_entry first)) (λ _. ⊥) }
     ensures only { IfErr result (λ e. e ≡ TableError.Damaged) }
 {
@@ -49,11 +52,12 @@ fn first_from<'a>(
 pub fn find_in(
     alloc: Global,
     block: &[u8],
-    key: &[u8],
+    key: LentKey,
     at: u64,
 ) -> Result<Option<FoundVersion>, TableError>
     ensures found { (entries : List Entry) → IsBlock block.now entries →
-        MatchResult result (LookupFinds entries key.now at) (λ e. e ≡ TableError.Memory) }
+        MatchResult result (LookupFinds entries (lent_key key.entry) at)
+        (λ e. e ≡ TableError.Memory) }
     ensures only { IfErr result (λ e. (e ≡ TableError.Memory) ⊎ (e ≡ TableError.Damaged)) }
 {
     let Some(text) = entries_in(block) else {
@@ -62,7 +66,7 @@ pub fn find_in(
     let Some(entry) = first_from(text, key, at)? else {
         return Ok(None);
     };
-    if entry.key != key {
+    if !entry.key.is_same(key) {
         return Ok(None);
     }
     Ok(Some(version_of(alloc, entry)?))

@@ -2,12 +2,13 @@
 ghost use Rattle.std.specs.Prelude.{◌≡◌, ◌<◌, ◌≤◌, ◌+◌, ◌-◌, ◌⊎◌, List, Some, IfErr, IfOk, IsTrue};
 ghost use Rattle.std.specs.Prelude.{MatchResult, length};
 ghost use Rattle.std.specs.Rc.{rc_slice_items};
-ghost use Rattle.kv_types.specs.{Entry};
+ghost use Rattle.kv_types.specs.{Entry, lent_key};
 ghost use Rattle.merge_iter.specs.{spot};
 ghost use Rattle.table_format.specs.{AreRising, IsBlock, lent_entry};
 ghost use Rattle.sorted_table.specs.EntryReads.{AreRead, SplitsEntries};
 
 use crate::starts::{count_before, entry_from, starts_in};
+use kv_types::LentKey;
 use merge_iter::Direction;
 use std::rc::RcSlice;
 use table_format::{LentEntry, TableError};
@@ -118,12 +119,13 @@ impl BlockPlace {
 
     /// Moves to the first entry of the block that does not come before this key and number.
     /// Answers `false` if there is none, and stays.
-    pub fn seek(&mut self, key: &[u8], number: u64) -> bool
+    pub fn seek(&mut self, key: LentKey, number: u64) -> bool
         ensures same { IsMovedTo self.new.at self.old self.new }
         ensures found { (entries : List Entry) → AreRising entries → PlaceReads self.old entries →
-            IsTrue result → SplitsEntries entries (spot key.now number) self.new.at }
+            IsTrue result → SplitsEntries entries (spot (lent_key key.entry) number) self.new.at }
         ensures none { (entries : List Entry) → AreRising entries → PlaceReads self.old entries →
-            (IsTrue result → ⊥) → SplitsEntries entries (spot key.now number) (length entries) }
+            (IsTrue result → ⊥) → SplitsEntries entries (spot (lent_key key.entry) number)
+            (length entries) }
     {
         let at = count_before(&self.block, &self.starts, key, number);
         if at < self.starts.len() {

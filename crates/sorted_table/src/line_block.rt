@@ -37,7 +37,7 @@ fn ends_of(text: &[u8]) -> Option<(LentEntry<'_>, LentEntry<'_>)>
 fn has_end_of(line: &IndexLine, entry: LentEntry) -> bool
     ensures { IsTrue result ↔ HasEndOf line.now (lent_entry entry.entry) }
 {
-    entry.number == line.number && entry.key == line.key.as_bytes()
+    entry.number == line.number && entry.key.is_same(line.key.lent())
 }
 
 // Whether the entry comes behind the line before this one.

@@ -1,12 +1,13 @@
 //! The places of the entries of a block, and the entries read there.
 ghost use Rattle.std.specs.Prelude.{◌≡◌, ◌≤◌, ◌⊎◌, List, IfErr, IfOk, MatchResult, length, option_map};
-ghost use Rattle.kv_types.specs.{Entry};
+ghost use Rattle.kv_types.specs.{Entry, lent_key};
 ghost use Rattle.merge_iter.specs.{spot};
 ghost use Rattle.table_format.specs.{AreRising, IsBlock, lent_entry};
 ghost use Rattle.sorted_table.specs.EntryReads.{AreRead, ReadsEntries, SplitsEntries, entry_read};
 ghost use Rattle.sorted_table.specs.EntryReads.{is_read_before};
 
 use byte_fields::read_u32;
+use kv_types::LentKey;
 use merge_iter::order;
 use table_format::{LentEntry, TableError, entry_of};
 
@@ -47,8 +48,9 @@ pub fn starts_in(block: &[u8], mut starts: Vec<usize>) -> Result<Vec<usize>, Tab
 }
 
 // Whether the entry that starts there comes before that key and number.
-fn is_before(block: &[u8], start: usize, key: &[u8], number: u64) -> bool
-    ensures { result ≡ is_read_before (entry_read block.now start) (spot key.now number) }
+fn is_before(block: &[u8], start: usize, key: LentKey, number: u64) -> bool
+    ensures { result ≡ is_read_before (entry_read block.now start)
+        (spot (lent_key key.entry) number) }
 {
     match entry_from(block, start) {
         Some(entry) => order(entry.key, entry.number, key, number).is_lt(),
@@ -57,11 +59,11 @@ fn is_before(block: &[u8], start: usize, key: &[u8], number: u64) -> bool
 }
 
 /// How many of the entries come before this key and number.
-pub fn count_before(block: &[u8], starts: &[usize], key: &[u8], number: u64) -> usize
+pub fn count_before(block: &[u8], starts: &[usize], key: LentKey, number: u64) -> usize
     ensures within { result ≤ length starts.now }
     ensures splits { (entries : List Entry) → AreRising entries →
         ReadsEntries block.now starts.now entries →
-        SplitsEntries entries (spot key.now number) result }
+        SplitsEntries entries (spot (lent_key key.entry) number) result }
 {
     starts.partition_point(|start| is_before(block, *start, key, number))
 }

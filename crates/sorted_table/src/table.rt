@@ -3,7 +3,7 @@ ghost use Rattle.std.specs.Prelude.{◌≡◌, ◌↔◌, List, IfOk, IfErr, IsT
 ghost use Rattle.std.specs.Prelude.{option_map};
 ghost use Rattle.bloom.specs.{Covers, CoversHashed, hashes_of};
 ghost use Rattle.disk.specs.{IsSame, IsStill, KeepsDisk, Slot, State};
-ghost use Rattle.kv_types.specs.{Entry};
+ghost use Rattle.kv_types.specs.{Entry, lent_key};
 ghost use Rattle.merge_iter.specs.{IsAlike, Off};
 ghost use Rattle.table_format.specs.{IsBuilderError, IsEnvironmentError, ReportsDevice};
 
@@ -16,7 +16,7 @@ use crate::tail::{parts_of, read_tail};
 use bloom::laws::filters_cover;
 use bloom::{KeyHashes, may_hold_hashed};
 use disk::Disk;
-use kv_types::Key;
+use kv_types::{LentKey, StoredKey};
 use merge_iter::Cursor;
 use std::alloc::Global;
 use std::rc::RcSlice;
@@ -63,7 +63,7 @@ impl Table {
 
     /// The key of the last line of the index, which is that of the last entry. `None` only where
     /// the index has no line.
-    pub fn greatest(&self) -> Option<&Key>
+    pub fn greatest(&self) -> Option<&StoredKey>
         ensures line { option_map (λ key. key.now) result ≡ last_line_key (index_lines self.now) }
         ensures serves { (file : Slot) (entries : List Entry) → TableServes file self.now entries →
             option_map (λ key. key.now) result ≡ greatest_key entries }
@@ -87,26 +87,28 @@ impl Table {
         &self,
         alloc: Global,
         files: &mut Files<D>,
-        key: &[u8],
+        key: LentKey,
         at: u64,
     ) -> Result<Option<FoundVersion>, TableError>
         ensures kept { KeepsDisk ⟦<Files<D> as Disk>⟧ files.old files.new (ReportsDevice result) ⊥
             IsSame }
         ensures found { (entries : List Entry) → ⟦<Files<D> as Disk>⟧.is_honest files.old →
             TableServes (⟦<Files<D> as Disk>⟧.state files.old (table_file self.now)) self.now
-            entries → MatchResult result (LookupFinds entries key.now at) IsEnvironmentError }
+            entries → MatchResult result (LookupFinds entries (lent_key key.entry) at)
+            IsEnvironmentError }
         ensures checked { ⟦<Files<D> as Disk>⟧.is_honest files.old →
             IsOpenOn (⟦<Files<D> as Disk>⟧.state files.old (table_file self.now)) self.now →
             LookupAnswer (⟦<Files<D> as Disk>⟧.state files.old (table_file self.now)) self.now
-            key.now at result }
+            (lent_key key.entry) at result }
         ensures meant { ⟦<Files<D> as Disk>⟧.is_honest files.old →
             AnswersAsMeant (⟦<Files<D> as Disk>⟧.state files.old (table_file self.now)) self.now
-            key.now at result }
-        ensures unread { (Covers (table_filter self.now) key.now → ⊥) → files.new ≡ files.old }
+            (lent_key key.entry) at result }
+        ensures unread { (Covers (table_filter self.now) (lent_key key.entry) → ⊥) →
+            files.new ≡ files.old }
         ensures refusals { IfErr result (λ e. IsBuilderError e → ⊥) }
         ensures still { IsStill ⟦<Files<D> as Disk>⟧ files.old files.new }
     {
-        self.get_hashed(alloc, files, key, KeyHashes::of(key), at)
+        self.get_hashed(alloc, files, key, KeyHashes::of(key.as_bytes()), at)
     }
 
     /// `get` of the key that has these hashes. A lookup in many tables computes them once.
@@ -114,23 +116,24 @@ impl Table {
         &self,
         alloc: Global,
         files: &mut Files<D>,
-        key: &[u8],
+        key: LentKey,
         hashes: KeyHashes,
         at: u64,
     ) -> Result<Option<FoundVersion>, TableError>
-        requires { hashes ≡ hashes_of key.now }
+        requires { hashes ≡ hashes_of (lent_key key) }
         ensures kept { KeepsDisk ⟦<Files<D> as Disk>⟧ files.old files.new (ReportsDevice result) ⊥
             IsSame }
         ensures found { (entries : List Entry) → ⟦<Files<D> as Disk>⟧.is_honest files.old →
             TableServes (⟦<Files<D> as Disk>⟧.state files.old (table_file self.now)) self.now
-            entries → MatchResult result (LookupFinds entries key.now at) IsEnvironmentError }
+            entries → MatchResult result (LookupFinds entries (lent_key key.entry) at)
+            IsEnvironmentError }
         ensures checked { ⟦<Files<D> as Disk>⟧.is_honest files.old →
             IsOpenOn (⟦<Files<D> as Disk>⟧.state files.old (table_file self.now)) self.now →
             LookupAnswer (⟦<Files<D> as Disk>⟧.state files.old (table_file self.now)) self.now
-            key.now at result }
+            (lent_key key.entry) at result }
         ensures meant { ⟦<Files<D> as Disk>⟧.is_honest files.old →
             AnswersAsMeant (⟦<Files<D> as Disk>⟧.state files.old (table_file self.now)) self.now
-            key.now at result }
+            (lent_key key.entry) at result }
         ensures unread { (CoversHashed (table_filter self.now) hashes → ⊥) →
             files.new ≡ files.old }
         ensures refusals { IfErr result (λ e. IsBuilderError e → ⊥) }

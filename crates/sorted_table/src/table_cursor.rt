@@ -19,6 +19,7 @@ use crate::block_place::BlockPlace;
 use crate::line_block::block_of_line;
 use crate::lines::line_place;
 use disk::Disk;
+use kv_types::LentKey;
 use merge_iter::{Cursor, CursorError, Direction};
 use std::alloc::Global;
 use std::marker::PhantomData;
@@ -222,7 +223,7 @@ impl<D: Disk + Drop> Cursor for TableCursor<D> {
         self.place.is_some()
     }
 
-    fn key(&self) -> &[u8] {
+    fn key(&self) -> LentKey<'_> {
         match &self.place {
             Some(place) => place.entry().key,
             None => unreachable!(),
@@ -271,7 +272,12 @@ impl<D: Disk + Drop> Cursor for TableCursor<D> {
         self.enter(files, line - 1, Direction::Backward, place.into_starts())
     }
 
-    fn seek(&mut self, files: &mut Files<D>, key: &[u8], number: u64) -> Result<(), CursorError> {
+    fn seek(
+        &mut self,
+        files: &mut Files<D>,
+        key: LentKey<'_>,
+        number: u64,
+    ) -> Result<(), CursorError> {
         let line = line_place(&self.lines, key, number);
         self.reach(files, line)?;
         let Some(mut place) = self.place.take() else {

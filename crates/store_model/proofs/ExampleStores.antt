@@ -2,7 +2,7 @@
 use Rattle.std.proofs.Common.{◌≡◌, ◌⊎◌, inl, inr, ℕ, ◌<◌, ◌≤◌, List, [], ◌∷◌, Contains, take}
 use Rattle.std.proofs.Common.{Option, Some, None, codes, refl, sym, arith}
 use Rattle.std.specs.declared.cmp.Ordering.TheVariants.{Less, Equal, Greater}
-use Rattle.kv_types.specs.{Entry, IsUnseen, all_entries, map_of}
+use Rattle.kv_types.specs.{Entry, IsUnseen, StoredKey, all_entries, map_of}
 use Rattle.kv_types.specs.Entries.{ViewsAreMaps}
 use Rattle.store_model.specs.Keys.{AreDisjointRanges, KeyPrecedes, RangeHolds}
 use Rattle.store_model.specs.Tables.{AreLeveled, FitsRange, LevelTable, level_entries}
@@ -137,7 +137,7 @@ two_represent law = record {
 -- ---- reads
 
 -- c3 has another key than what is looked up
-memory_lacks : (at : ℕ) (key : List ℕ) → (codes "c" ≡ key → ⊥)
+memory_lacks : (at : ℕ) (key : StoredKey) → (codes "c" ≡ key → ⊥)
     → IsUnseen at (memory_entries three_batches two_tables) key
 memory_lacks at key other e seen same =
     for_memory (λ it. it.key ≡ key → ⊥) other e seen.0 same
@@ -154,7 +154,7 @@ memory_finds = (
   record { seen = (c3_in_memory, omega arith); newest = λ other seen same. seen.1 },
 )
 
-nothing_above : (at : ℕ) (key : List ℕ) → (codes "c" ≡ key → ⊥)
+nothing_above : (at : ℕ) (key : StoredKey) → (codes "c" ≡ key → ⊥)
     → AboveLacks at three_batches two_tables key 0
 nothing_above at key other = record {
   memory = memory_lacks at key other;
@@ -162,13 +162,13 @@ nothing_above at key other = record {
 }
 
 -- the flushed table has nothing at number 1
-flushed_lacks : (key : List ℕ) → TableLacks 1 flushed_table key
+flushed_lacks : (key : StoredKey) → TableLacks 1 flushed_table key
 flushed_lacks key e seen same =
     let two = flushed_number e seen.0 in
     let le = seen.1 in
     omega (arith, two, le)
 
-level_0_lacks : (key : List ℕ) → (codes "c" ≡ key → ⊥)
+level_0_lacks : (key : StoredKey) → (codes "c" ≡ key → ⊥)
     → AboveLacks 1 three_batches two_tables key 1
 level_0_lacks key other = record {
   memory = memory_lacks 1 key other;
@@ -176,7 +176,7 @@ level_0_lacks key other = record {
       (λ lt. flushed_lacks key) (λ lt. absurd (omega (arith, lt)));
 }
 
-level_0_finds : (at : ℕ) → 2 ≤ at → (key : List ℕ) (value : Option (List ℕ))
+level_0_finds : (at : ℕ) → 2 ≤ at → (key : StoredKey) (value : Option (List ℕ))
     → Contains flushed_table.entries (record { key = key; number = 2; value = value })
     → NewestHas at (level_entries two_tables.tables 0) key value
 level_0_finds at high key value has = (
@@ -191,7 +191,7 @@ level_0_finds at high key value has = (
   },
 )
 
-level_1_finds : (key : List ℕ) (value : Option (List ℕ))
+level_1_finds : (key : StoredKey) (value : Option (List ℕ))
     → Contains deep_table.entries (record { key = key; number = 1; value = value })
     → NewestHas 1 (level_entries two_tables.tables 1) key value
 level_1_finds key value has = (

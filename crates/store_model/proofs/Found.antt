@@ -4,7 +4,7 @@ use Rattle.std.proofs.Common.{Contains, Option, Some, None, refl, sym, ◌∙◌
 use Rattle.std.specs.Option.{option_flatten}
 use Rattle.std.proofs.lemmas.Bool.{cases_lt}
 use Rattle.kv_types.specs.Examples.{entry_at}
-use Rattle.kv_types.specs.{BatchContent, Entry, IsNewest, ViewShows, map_of}
+use Rattle.kv_types.specs.{BatchContent, Entry, IsNewest, StoredKey, ViewShows, map_of}
 use Rattle.store_model.specs.Tables.{LevelTable, level_entries}
 use Rattle.store_model.specs.Stores.{StoreRepresents, StoreState, memory_entries, store_entries}
 use Rattle.store_model.specs.LookUps.{AboveLacks, NewestHas, StoreFinds}
@@ -12,7 +12,7 @@ use Rattle.store_model.specs.StoresLemmas.{entries_differ}
 use Rattle.store_model.specs.ViewsLemmas.{shows_one}
 
 module _ (l : List BatchContent) (store : StoreState) (ok : StoreRepresents l store) (at : ℕ)
-    (key : List ℕ) where
+    (key : StoredKey) where
   -- the entries in memory
   abbrev Memory : Entry → Type 0
   Memory = memory_entries l store

@@ -1,7 +1,7 @@
 -- A merge keeps the view at each number from its floor on, and so the store.
 use Rattle.std.proofs.Common.{◌≡◌, ◌⊎◌, inl, inr, ℕ, ◌<◌, ◌≤◌, List, take, Option}
 use Rattle.std.proofs.Common.{arith}
-use Rattle.kv_types.specs.{BatchContent, Entry, ViewShows, map_of}
+use Rattle.kv_types.specs.{BatchContent, Entry, StoredKey, ViewShows, map_of}
 use Rattle.store_model.specs.Tables.{LevelTable, AreLeveled, tables_entries}
 use Rattle.store_model.specs.Stores.{StoreState, StoreRepresents, memory_entries}
 use Rattle.store_model.specs.Steps.{AreAlikeDeeper, AreEdited, IsDropped, IsMerged, IsSpentDeletion}
@@ -54,7 +54,7 @@ module _ (M : Entry → Type 0) (flushed base floor : ℕ) (plan : MergePlan)
       let high = late b g in
       omega (arith, low, high)
 
-  lost : (at : ℕ) → floor ≤ at → (key : List ℕ) → (a : Entry) → Old a
+  lost : (at : ℕ) → floor ≤ at → (key : StoredKey) → (a : Entry) → Old a
       → New a ⊎ (IsSurpassed Old New at key a ⊎ IsNeedless Old New at key a)
   lost at high key a (inr g) = inl (inr g)
   lost at high key a (inl h) = elim (stays_or_dropped a h) [
@@ -68,7 +68,7 @@ module _ (M : Entry → Type 0) (flushed base floor : ℕ) (plan : MergePlan)
   ]
 
   -- the view is the same at each number from the floor on
-  pub merge_view : (at : ℕ) → floor ≤ at → (key : List ℕ) (value : Option (List ℕ))
+  pub merge_view : (at : ℕ) → floor ≤ at → (key : StoredKey) (value : Option (List ℕ))
       → ViewShows at Old key value → ViewShows at New key value
   merge_view at high key value = shows_fewer Old New at key value back (lost at high key)
 
@@ -80,7 +80,7 @@ NoEntry entry = ⊥
 pub merge_table_view : (flushed base floor : ℕ) (plan : MergePlan)
     (before outputs after : List LevelTable) → AreLeveled flushed before
     → PlanFits base plan before → AreAlikeDeeper plan.tables before → IsMerged floor plan outputs
-    → AreEdited plan.inputs outputs before after → (at : ℕ) → floor ≤ at → (key : List ℕ)
+    → AreEdited plan.inputs outputs before after → (at : ℕ) → floor ≤ at → (key : StoredKey)
     (value : Option (List ℕ)) → ViewShows at (tables_entries before) key value
     → ViewShows at (tables_entries after) key value
 merge_table_view flushed base floor plan before outputs after ok fits alike merged edited at high

@@ -2,7 +2,7 @@
 use Rattle.std.specs.Prelude.{◌≡◌, ◌↔◌, ℕ, ◌<◌, ◌≤◌, List, [], ◌∷◌, ◌++◌, length, take, drop}
 use Rattle.std.specs.Prelude.{Contains, Option, IfSome}
 use Rattle.std.specs.Option.{option_flatten}
-use Rattle.kv_types.specs.{BatchContent, Entry, ViewShows, map_of}
+use Rattle.kv_types.specs.{BatchContent, Entry, StoredKey, ViewShows, map_of}
 use Rattle.store_model.specs.Keys.{RangeHolds}
 use Rattle.store_model.specs.Tables.{AreLeveled, LevelTable, level_entries, tables_entries}
 use Rattle.store_model.specs.Stores.{StoreRepresents, StoreState, empty_store, memory_entries}
@@ -133,7 +133,7 @@ MergesKeepViews =
     → AreLeveled flushed before → PlanFits base plan before → AreAlikeDeeper plan.tables before
     → IsMerged floor plan outputs → AreEdited plan.inputs outputs before after
     → AreLeveled flushed after
-    × ((at : ℕ) → floor ≤ at → (key : List ℕ) (value : Option (List ℕ))
+    × ((at : ℕ) → floor ≤ at → (key : StoredKey) (value : Option (List ℕ))
     → ViewShows at (tables_entries before) key value
     → ViewShows at (tables_entries after) key value)
 

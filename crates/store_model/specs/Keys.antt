@@ -1,20 +1,19 @@
--- Keys in byte order, and ranges of keys.
-use Rattle.std.specs.Prelude.{◌≡◌, ◌⊎◌, ℕ, List}
+-- The order of keys, and ranges of keys.
+use Rattle.std.specs.Prelude.{◌≡◌, ◌⊎◌}
 use Rattle.std.specs.declared.cmp.Ordering.TheVariants.{Less}
-use Rattle.std.specs.Ordering.{nat_cmp}
-use Rattle.std.specs.Cmp.Lexicographic.{slice_cmp}
+use Rattle.kv_types.specs.{StoredKey, stored_cmp}
 
--- a key comes before another in byte order
-abbrev pub KeyPrecedes : List ℕ → List ℕ → Type 0
-KeyPrecedes a b = slice_cmp nat_cmp a b ≡ Less
+-- a key comes before another
+abbrev pub KeyPrecedes : StoredKey → StoredKey → Type 0
+KeyPrecedes a b = stored_cmp a b ≡ Less
 
 -- a range of keys, both ends included
 pub record KeyRange : Type 0 where
-  pub least : List ℕ
-  pub greatest : List ℕ
+  pub least : StoredKey
+  pub greatest : StoredKey
 
 -- the range holds the key
-abbrev pub RangeHolds : KeyRange → List ℕ → Type 0
+abbrev pub RangeHolds : KeyRange → StoredKey → Type 0
 RangeHolds range key = (KeyPrecedes key range.least → ⊥) × (KeyPrecedes range.greatest key → ⊥)
 
 -- every key of the first range lies in the second

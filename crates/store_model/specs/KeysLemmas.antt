@@ -1,38 +1,34 @@
--- The laws of byte order, and of ranges of keys.
-use Rattle.std.proofs.Common.{◌≡◌, ◌⊎◌, inl, inr, ℕ, List, refl, sym, ◌∙◌, ap, subst}
+-- The laws of the order of keys, and of ranges of keys.
+use Rattle.std.proofs.Common.{◌≡◌, ◌⊎◌, inl, inr, refl, sym, ◌∙◌, ap, subst}
 use Rattle.std.specs.declared.cmp.Ordering.{Ordering}
 use Rattle.std.specs.declared.cmp.Ordering.TheVariants.{Less, Equal, Greater}
-use Rattle.std.specs.Ordering.{nat_cmp, ordering_reverse, is_eq}
+use Rattle.std.specs.Ordering.{ordering_reverse}
 use Rattle.std.specs.Cmp.{tied_itself}
-use Rattle.std.specs.Cmp.Lexicographic.{slice_cmp, nat_list_cmp_total}
-use Rattle.std.proofs.lemmas.Map.Text.{is_eq-slice_cmp}
-use Rattle.std.proofs.lemmas.Slice.Eq.{bytes_eq-Decides}
+use Rattle.kv_types.specs.{StoredKey, stored_cmp}
+use Rattle.kv_types.specs.StoredKeysLemmas.{stored_total, stored_tied}
 use Rattle.store_model.specs.Keys.{KeyPrecedes, KeyRange, RangeHolds, AreDisjointRanges}
 
 -- ---- a strict order
 
-pub key_never : (a : List ℕ) → KeyPrecedes a a → ⊥
-key_never a h = let e : Equal ≡ Less = sym (tied_itself nat_list_cmp_total a) ∙ h in cc
+pub key_never : (a : StoredKey) → KeyPrecedes a a → ⊥
+key_never a h = let e : Equal ≡ Less = sym (tied_itself stored_total a) ∙ h in cc
 
-pub key_chain : (a b c : List ℕ) → KeyPrecedes a b → KeyPrecedes b c → KeyPrecedes a c
-key_chain a b c h k = nat_list_cmp_total.trans a b c h k
+pub key_chain : (a b c : StoredKey) → KeyPrecedes a b → KeyPrecedes b c → KeyPrecedes a c
+key_chain a b c h k = stored_total.trans a b c h k
 
-tied_keys : (a b : List ℕ) → slice_cmp nat_cmp a b ≡ Equal → a ≡ b
-tied_keys a b h = (bytes_eq-Decides a b).0 (sym (is_eq-slice_cmp a b) ∙ ap is_eq h)
-
-by_answer : (a b : List ℕ) (answer : Ordering) → slice_cmp nat_cmp a b ≡ answer
+by_answer : (a b : StoredKey) (answer : Ordering) → stored_cmp a b ≡ answer
     → KeyPrecedes a b ⊎ ((a ≡ b) ⊎ KeyPrecedes b a)
 by_answer a b Less is = inl is
-by_answer a b Equal is = inr (inl (tied_keys a b is))
+by_answer a b Equal is = inr (inl (stored_tied a b is))
 by_answer a b Greater is =
-    inr (inr (nat_list_cmp_total.antisymm b a ∙ ap ordering_reverse is))
+    inr (inr (stored_total.antisymm b a ∙ ap ordering_reverse is))
 
 -- of two different keys one comes before the other
-pub key_cases : (a b : List ℕ) → KeyPrecedes a b ⊎ ((a ≡ b) ⊎ KeyPrecedes b a)
-key_cases a b = by_answer a b (slice_cmp nat_cmp a b) refl
+pub key_cases : (a b : StoredKey) → KeyPrecedes a b ⊎ ((a ≡ b) ⊎ KeyPrecedes b a)
+key_cases a b = by_answer a b (stored_cmp a b) refl
 
 -- a < b and b <= c
-pub precedes_upto : (a b c : List ℕ) → KeyPrecedes a b → (KeyPrecedes c b → ⊥) → KeyPrecedes a c
+pub precedes_upto : (a b c : StoredKey) → KeyPrecedes a b → (KeyPrecedes c b → ⊥) → KeyPrecedes a c
 precedes_upto a b c lt le = elim (key_cases b c) [
   | inl x ↦ key_chain a b c lt x
   | inr other ↦ elim other [
@@ -42,7 +38,7 @@ precedes_upto a b c lt le = elim (key_cases b c) [
 ]
 
 -- a <= b and b < c
-pub upto_precedes : (a b c : List ℕ) → (KeyPrecedes b a → ⊥) → KeyPrecedes b c → KeyPrecedes a c
+pub upto_precedes : (a b c : StoredKey) → (KeyPrecedes b a → ⊥) → KeyPrecedes b c → KeyPrecedes a c
 upto_precedes a b c le lt = elim (key_cases a b) [
   | inl x ↦ key_chain a b c x lt
   | inr other ↦ elim other [
@@ -54,7 +50,7 @@ upto_precedes a b c le lt = elim (key_cases a b) [
 -- ---- ranges
 
 -- no key lies in both of two disjoint ranges
-pub disjoint_keys : (a b : KeyRange) (key : List ℕ) → AreDisjointRanges a b → RangeHolds a key
+pub disjoint_keys : (a b : KeyRange) (key : StoredKey) → AreDisjointRanges a b → RangeHolds a key
     → RangeHolds b key → ⊥
 disjoint_keys a b key (inl x) p q = p.1 (precedes_upto a.greatest b.least key x q.0)
 disjoint_keys a b key (inr x) p q = q.1 (precedes_upto b.greatest a.least key x p.0)

@@ -1,6 +1,6 @@
 -- Tables that may stand together have the entries of a key in few places.
 use Rattle.std.proofs.Common.{◌≡◌, inl, inr, ℕ, ◌<◌, List, Contains, sym, subst}
-use Rattle.kv_types.specs.{Entry}
+use Rattle.kv_types.specs.{Entry, StoredKey}
 use Rattle.store_model.specs.Keys.{RangeHolds}
 use Rattle.store_model.specs.KeysLemmas.{disjoint_keys}
 use Rattle.store_model.specs.Tables.{AreLeveled, LevelTable, level_entries}
@@ -8,7 +8,7 @@ use Rattle.store_model.specs.Tables.{AreLeveled, LevelTable, level_entries}
 module _ (flushed : ℕ) (tables : List LevelTable) (ok : AreLeveled flushed tables) where
   -- from level 1 on, at most one table of a level can have the key
   pub one_table : (t u : LevelTable) → Contains tables t → Contains tables u → t.level ≡ u.level
-      → 0 < t.level → (key : List ℕ) → RangeHolds t.range key → RangeHolds u.range key → t ≡ u
+      → 0 < t.level → (key : StoredKey) → RangeHolds t.range key → RangeHolds u.range key → t ≡ u
   one_table t u in_t in_u eq pos key p q = elim (ok.disjoint t u in_t in_u eq pos) [
     | inl is ↦ is
     | inr side ↦ absurd (disjoint_keys t.range u.range key side p q)

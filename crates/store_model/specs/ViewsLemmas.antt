@@ -3,9 +3,9 @@ use Rattle.std.proofs.Common.{◌≡◌, ◌⊎◌, inl, inr, ℕ, suc, ◌<◌,
 use Rattle.std.proofs.Common.{refl, sym, ◌∙◌, ap, subst, arith}
 use Rattle.std.proofs.lemmas.Bool.{cases_lt}
 use Rattle.kv_types.specs.Examples.{entry_at}
-use Rattle.kv_types.specs.{Entry, IsSeen, ViewShows}
+use Rattle.kv_types.specs.{Entry, IsSeen, ViewShows, StoredKey}
 
-module _ (S : Entry → Type 0) (at : ℕ) (key : List ℕ) where
+module _ (S : Entry → Type 0) (at : ℕ) (key : StoredKey) where
   -- what is seen at the next number, where the key has no entry, is seen already
   seen_already : ((value : Option (List ℕ)) → S (entry_at key (suc at) value) → ⊥)
       → (other : Entry) → IsSeen (suc at) S other → other.key ≡ key → IsSeen at S other
@@ -51,7 +51,7 @@ module _ (S : Entry → Type 0) (at : ℕ) (key : List ℕ) where
   shows_one one v w (inr u) (inl (n, q)) = absurd (u.0 (entry_at key n w) q.seen refl)
   shows_one one v w (inr u) (inr z) = u.1 ∙ sym z.1
 
-module _ (S T : Entry → Type 0) (at : ℕ) (key : List ℕ) where
+module _ (S T : Entry → Type 0) (at : ℕ) (key : StoredKey) where
   -- sets with the same entries up to the number show the same
   pub shows_alike : (value : Option (List ℕ))
       → ((entry : Entry) → entry.number ≤ at → S entry → T entry)

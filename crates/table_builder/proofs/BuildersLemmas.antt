@@ -79,7 +79,7 @@ pub can_close : (old mid : Builder) (entries : List Entry) (entry : Entry)
     (record { front = (division entries).opened; last = entry })
 can_close old mid entries entry h is knows has written index =
     let m = bounds old entries h in
-    let ends = subst (λ (o : Option Entry). IfSome o (λ r. (mid.keys.last.items ≡ r.key)
+    let ends = subst (λ (o : Option Entry). IfSome o (λ r. (mid.keys.last ≡ r.key)
     × (mid.keys.number ≡ r.number))) (last_push entries entry) knows.last in
     let few = m.blocks_few in
     let small = opened_small (division entries).opened entry m.content is in

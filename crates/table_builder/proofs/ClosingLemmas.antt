@@ -246,7 +246,7 @@ can_close_last it entries first others h is =
     sym f.all ∙ ap (λ (r : List Entry). entries_of_blocks parts.closed ++ r) opened
     ∙ sym (append_assoc (entries_of_blocks parts.closed) one.front (one.last ∷ [])) in
     let at_end = ap last_entry all ∙ last_push (entries_of_blocks parts.closed ++ one.front) one.last in
-    let ends = subst (λ (o : Option Entry). IfSome o (λ r. (it.keys.last.items ≡ r.key)
+    let ends = subst (λ (o : Option Entry). IfSome o (λ r. (it.keys.last ≡ r.key)
     × (it.keys.number ≡ r.number))) at_end h.keys.last in
     let short = f.short in
     let few = m.blocks_few in

@@ -64,26 +64,26 @@ keys_more (x ∷ y ∷ entries) last entry e other =
 
 module _ (was now : AddedKeys) (entries : List Entry) (entry : Entry) (k : KnowsKeys was entries)
     (some : 0 < length entries) (count : now.count ≡ length entries + 1)
-    (least : now.least.items ≡ was.least.items) (last : now.last.items ≡ entry.key)
+    (least : now.least ≡ was.least) (last : now.last ≡ entry.key)
     (number : now.number ≡ entry.number) where
   known : now.hashes.items ≡ map hashes_of (different_keys (entries ++ entry ∷ [])) →
       KnowsKeys now (entries ++ entry ∷ [])
   known hashes = record {
     count = omega (arith, count, length-append entries (entry ∷ []));
     hashes = hashes;
-    least = first_push (λ r. now.least.items ≡ r.key) entries entry some
+    least = first_push (λ r. now.least ≡ r.key) entries entry some
         (subst (λ (b : List ℕ). IfSome (first_entry entries) (λ r. b ≡ r.key)) (sym least) k.least);
-    last = subst (λ (o : Option Entry). IfSome o (λ r. (now.last.items ≡ r.key)
+    last = subst (λ (o : Option Entry). IfSome o (λ r. (now.last ≡ r.key)
         × (now.number ≡ r.number))) (sym (last_push entries entry)) (last, number);
   }
 
   -- the last entry's key, seen by what is kept of it
-  last_is : (end : Entry) → last_entry entries ≡ Some end → was.last.items ≡ end.key
-  last_is end e = (subst (λ (o : Option Entry). IfSome o (λ r. (was.last.items ≡ r.key)
+  last_is : (end : Entry) → last_entry entries ≡ Some end → was.last ≡ end.key
+  last_is end e = (subst (λ (o : Option Entry). IfSome o (λ r. (was.last ≡ r.key)
       × (was.number ≡ r.number))) e k.last).0
 
   -- after an entry of the last key
-  pub knows_same : bytes_eq was.last.items entry.key ≡ true →
+  pub knows_same : bytes_eq was.last entry.key ≡ true →
       now.hashes.items ≡ was.hashes.items → KnowsKeys now (entries ++ entry ∷ [])
   knows_same same hashes =
       let end = last_of_some entries some in
@@ -91,7 +91,7 @@ module _ (was now : AddedKeys) (entries : List Entry) (entry : Entry) (k : Knows
       known (hashes ∙ k.hashes ∙ ap (map hashes_of) (sym (keys_same entries end.0 entry end.1 alike)))
 
   -- after an entry of another key
-  pub knows_other : bytes_eq was.last.items entry.key ≡ false →
+  pub knows_other : bytes_eq was.last entry.key ≡ false →
       now.hashes.items ≡ was.hashes.items ++ hashes_of entry.key ∷ [] →
       KnowsKeys now (entries ++ entry ∷ [])
   knows_other other hashes =
@@ -113,11 +113,11 @@ less_iff Greater = (λ h. absurd cc, λ h. absurd cc)
 -- whether an entry may stand behind the others, by the last key and number
 pub follows_by : (keys : AddedKeys) (entries : List Entry) (entry : Entry) (r : Ordering) (t : Bool)
     → KnowsKeys keys entries → 0 < length entries
-    → r ≡ entry_cmp (spot keys.last.items keys.number) (spot entry.key entry.number)
+    → r ≡ entry_cmp (spot keys.last keys.number) (spot entry.key entry.number)
     → t ≡ is_lt r → IsTrue t ↔ CanFollow entries entry
 follows_by keys entries entry r t k some ordered is =
     let end = last_of_some entries some in
-    let ends = subst (λ (o : Option Entry). IfSome o (λ x. (keys.last.items ≡ x.key)
+    let ends = subst (λ (o : Option Entry). IfSome o (λ x. (keys.last ≡ x.key)
     × (keys.number ≡ x.number))) end.1 k.last in
     let same : r ≡ entry_cmp end.0 entry =
     ordered ∙ ap (λ (key : List ℕ). entry_cmp (spot key keys.number) (spot entry.key entry.number)) ends.0

@@ -39,7 +39,7 @@ CheckStatus (Err table.Failed) it = HasBuilderFailed it
 pub record CanClose (it : Builder) (blocks : List Block) (one : Block) : Type 0 where
   pub closed : HoldsBlocks it blocks
   pub entries : HoldsItems entry_bytes it.block (block_entries one)
-  pub key : it.keys.last.items ≡ one.last.key
+  pub key : it.keys.last ≡ one.last.key
   pub number : it.keys.number ≡ one.last.number
   pub small : length (block_bytes one) < 2 ^ 32
   pub few : length blocks + 1 < 2 ^ 32

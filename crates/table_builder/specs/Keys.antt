@@ -14,6 +14,6 @@ first_entry (entry ∷ entries) = Some entry
 pub record KnowsKeys (keys : AddedKeys) (entries : List Entry) : Type 0 where
   pub count : keys.count ≡ length entries
   pub hashes : keys.hashes.items ≡ map hashes_of (different_keys entries)
-  pub least : IfSome (first_entry entries) (λ entry. keys.least.items ≡ entry.key)
-  pub last : IfSome (last_entry entries) (λ entry. (keys.last.items ≡ entry.key)
+  pub least : IfSome (first_entry entries) (λ entry. keys.least ≡ entry.key)
+  pub last : IfSome (last_entry entries) (λ entry. (keys.last ≡ entry.key)
       × (keys.number ≡ entry.number))

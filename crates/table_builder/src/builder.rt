@@ -1,11 +1,11 @@
 //! The builder of a table.
 use crate::appending::{append, append_last};
-use crate::keys::{AddedKeys, key_from};
+use crate::keys::AddedKeys;
 use crate::part::OpenPart;
 use crate::tail::{short_len, tail_part_of};
 use bloom::build_hashed;
 use disk::Disk;
-use kv_types::Key;
+use kv_types::StoredKey;
 use std::alloc::{AllocError, Global};
 use table_format::sizes::{BLOCK_SIZE, MAX_DATA};
 use table_format::{IndexLine, LentEntry, TableError, entry_len};
@@ -30,8 +30,8 @@ pub struct Builder {
 #[derive(Drop)]
 pub struct Finished {
     pub length: u64,
-    pub least: Key,
-    pub greatest: Key,
+    pub least: StoredKey,
+    pub greatest: StoredKey,
 }
 
 impl Builder {
@@ -142,10 +142,10 @@ impl Builder {
     // The line of the open block, whose length with its digest this is.
     fn open_line(&self, alloc: Global, len: usize) -> Result<IndexLine, AllocError>
         ensures { IfOk result (λ line. (line.place ≡ self.now.written)
-            × (len < 2 ^ 32 → line.len ≡ len) × (line.key ≡ self.now.keys.last.items)
+            × (len < 2 ^ 32 → line.len ≡ len) × (line.key ≡ self.now.keys.last)
             × (line.number ≡ self.now.keys.number)) }
     {
-        let key = key_from(self.keys.last.to_vec(alloc)?);
+        let key = self.keys.last.lent().to_stored(alloc)?;
         Ok(IndexLine {
             place: self.written,
             len: short_len(len),
@@ -290,8 +290,8 @@ impl Builder {
         let keys = self.keys;
         Ok(Finished {
             length: place.saturating_add(tail.len() as u64),
-            least: key_from(keys.least),
-            greatest: key_from(keys.last),
+            least: keys.least.into_stored(),
+            greatest: keys.last.into_stored(),
         })
     }
 

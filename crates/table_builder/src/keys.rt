@@ -3,7 +3,7 @@ ghost use Rattle.std.specs.Prelude.{◌≡◌, ◌≤◌, length};
 ghost use Rattle.kv_types.specs.declared.bounds.TheConstants.{MAX_KEY};
 
 use bloom::KeyHashes;
-use kv_types::Key;
+use kv_types::{KeyBuffer, LentKey};
 use merge_iter::order;
 use std::alloc::{AllocError, Global};
 
@@ -13,29 +13,18 @@ use std::alloc::{AllocError, Global};
 pub struct AddedKeys {
     pub count: u64,
     pub hashes: Vec<KeyHashes>,
-    pub least: Vec<u8>,
-    pub last: Vec<u8>,
+    pub least: KeyBuffer,
+    pub last: KeyBuffer,
     pub number: u64,
-    ghost least_short: { length least.items ≤ MAX_KEY },
-    ghost last_short: { length last.items ≤ MAX_KEY },
-}
-
-/// The key that has these bytes.
-pub fn key_from(bytes: Vec<u8>) -> Key
-    requires { length bytes.items ≤ MAX_KEY }
-    ensures { result ≡ bytes.items }
-{
-    match Key::new(bytes) {
-        Ok(key) => key,
-        Err(_) => unreachable!(),
-    }
+    ghost least_short: { length least ≤ MAX_KEY },
+    ghost last_short: { length last ≤ MAX_KEY },
 }
 
 impl AddedKeys {
     ghost use Rattle.std.specs.Prelude.{◌<◌, ◌^◌, ◌+◌, ◌++◌, ◌∷◌, [], ◌↔◌, ℕ, List};
     ghost use Rattle.std.specs.Prelude.{OnOk, IsTrue};
     ghost use Rattle.bloom.specs.{hashes_of};
-    ghost use Rattle.kv_types.specs.{Entry};
+    ghost use Rattle.kv_types.specs.{Entry, lent_key};
     ghost use Rattle.table_format.specs.{CanFollow};
     ghost use Rattle.table_builder.specs.Keys.{KnowsKeys};
 
@@ -45,58 +34,56 @@ impl AddedKeys {
         AddedKeys {
             count: 0,
             hashes: Vec::new(alloc),
-            least: Vec::new(alloc),
-            last: Vec::new(alloc),
+            least: KeyBuffer::new(alloc),
+            last: KeyBuffer::new(alloc),
             number: 0,
         }
     }
 
     // Adds a key that no entry had.
-    fn add_key(&mut self, key: &[u8]) -> Result<(), AllocError>
-        requires { length key.now ≤ MAX_KEY }
+    fn add_key(&mut self, key: LentKey) -> Result<(), AllocError>
+        requires { length (lent_key key) ≤ MAX_KEY }
         ensures hashes { OnOk result
-            (self.new.hashes.items ≡ self.old.hashes.items ++ hashes_of key.now ∷ []) }
-        ensures last { OnOk result (self.new.last.items ≡ key.now) }
+            (self.new.hashes.items ≡ self.old.hashes.items ++ hashes_of (lent_key key.entry) ∷ []) }
+        ensures last { OnOk result (self.new.last ≡ lent_key key.entry) }
         ensures same { (self.new.count ≡ self.old.count)
-            × (self.new.least.items ≡ self.old.least.items) }
+            × (self.new.least ≡ self.old.least) }
     {
-        self.hashes.push(KeyHashes::of(key))?;
-        self.last.clear();
-        self.last.extend_from_slice(key)
+        self.hashes.push(KeyHashes::of(key.as_bytes()))?;
+        self.last.set(key)
     }
 
     /// Adds an entry with this key and number behind the others.
-    pub fn add(&mut self, key: &[u8], number: u64) -> Result<(), AllocError>
-        requires { length key.now ≤ MAX_KEY }
+    pub fn add(&mut self, key: LentKey, number: u64) -> Result<(), AllocError>
+        requires { length (lent_key key) ≤ MAX_KEY }
         ensures { (entries : List Entry) (entry : Entry) → KnowsKeys self.old entries →
-            entry.key ≡ key.now → entry.number ≡ number → length entries + 1 < 2 ^ 64 →
+            entry.key ≡ lent_key key.entry → entry.number ≡ number → length entries + 1 < 2 ^ 64 →
             OnOk result (KnowsKeys self.new (entries ++ entry ∷ [])) }
     {
         if self.count == 0 {
-            self.least.clear();
-            self.least.extend_from_slice(key)?;
+            self.least.set(key)?;
             self.add_key(key)?;
             self.number = number;
             self.count = 1;
             return Ok(());
         }
-        if self.last.as_slice() != key {
-            self.add_key(key)?;
+        if self.last.lent().is_same(key) {
             self.number = number;
             self.count = self.count.saturating_add(1);
             return Ok(());
         }
+        self.add_key(key)?;
         self.number = number;
         self.count = self.count.saturating_add(1);
         Ok(())
     }
 
     /// Whether an entry with this key and number may stand behind the others.
-    pub fn can_follow(&self, key: &[u8], number: u64) -> bool
+    pub fn can_follow(&self, key: LentKey, number: u64) -> bool
         ensures { (entries : List Entry) (entry : Entry) → KnowsKeys self.now entries →
-            entry.key ≡ key.now → entry.number ≡ number →
+            entry.key ≡ lent_key key.entry → entry.number ≡ number →
             IsTrue result ↔ CanFollow entries entry }
     {
-        self.count == 0 || order(&self.last, self.number, key, number).is_lt()
+        self.count == 0 || order(self.last.lent(), self.number, key, number).is_lt()
     }
 }

@@ -5,7 +5,7 @@ use Rattle.std.specs.List.{flat_map}
 use Rattle.std.specs.Int.{w32, w64, to_be_bytes}
 use Rattle.sha2.specs.Sha256.{sha256}
 use Rattle.kv_types.specs.declared.bounds.TheConstants.{MAX_KEY, MAX_VALUE, MAX_NUMBER}
-use Rattle.kv_types.specs.{Entry, text_bytes}
+use Rattle.kv_types.specs.{Entry, StoredKey, text_bytes}
 use Rattle.merge_iter.specs.declared.Direction.TheVariants.{Forward}
 use Rattle.merge_iter.specs.{EntryPrecedes}
 
@@ -29,11 +29,11 @@ be64 n = to_be_bytes w64 n
 -- ---- entries
 
 -- a key that a table may have
-abbrev pub IsStoredKey : List ℕ → Type 0
+abbrev pub IsStoredKey : StoredKey → Type 0
 IsStoredKey key = length key ≤ MAX_KEY
 
 -- its length and its bytes
-abbrev pub key_bytes : List ℕ → List ℕ
+abbrev pub key_bytes : StoredKey → List ℕ
 key_bytes key = text_bytes key
 
 -- a put is the byte 1 and the value, a deletion the byte 2

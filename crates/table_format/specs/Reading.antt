@@ -3,7 +3,7 @@ use Rattle.std.specs.Prelude.{ℕ, zero, suc, List, [], ◌∷◌, Option, Some,
 use Rattle.std.specs.Option.{option_map}
 use Rattle.std.specs.Int.{w32, w64}
 use Rattle.kv_types.specs.declared.bounds.TheConstants.{MAX_KEY, MAX_VALUE, MAX_NUMBER}
-use Rattle.kv_types.specs.{Entry, ◌>>=◌, text_at}
+use Rattle.kv_types.specs.{Entry, ◌>>=◌, text_at, StoredKey, lent_key}
 use Rattle.byte_fields.specs.{Reader, both, mapped, only, number_at}
 use Rattle.table_format.specs.declared.line.IndexLine.{IndexLine}
 use Rattle.table_format.specs.declared.line.LentLine.{LentLine}
@@ -12,7 +12,7 @@ use Rattle.table_format.specs.declared.entry.LentEntry.{LentEntry}
 
 -- ---- entries
 
-unfoldable pub key_at : Reader (List ℕ)
+unfoldable pub key_at : Reader StoredKey
 key_at bytes = text_at MAX_KEY bytes
 
 -- a number of a batch
@@ -26,7 +26,7 @@ change_at (suc zero ∷ rest) = text_at MAX_VALUE rest >>= λ value. Some (Some 
 change_at (suc (suc zero) ∷ rest) = Some (None, rest)
 change_at (suc (suc (suc b)) ∷ rest) = None
 
-abbrev pub as_entry : List ℕ × (ℕ × Option (List ℕ)) → Entry
+abbrev pub as_entry : StoredKey × (ℕ × Option (List ℕ)) → Entry
 as_entry x = record { key = x.0; number = x.1.0; value = x.1.1 }
 
 unfoldable pub table_entry_at : Reader Entry
@@ -35,7 +35,7 @@ table_entry_at bytes = mapped as_entry (both key_at (both stored_number_at chang
 -- an entry that is lent, as an entry
 abbrev pub lent_entry : LentEntry → Entry
 lent_entry it = record {
-  key = it.key.now;
+  key = lent_key it.key;
   number = it.number;
   value = option_map (λ v. v.now) it.value;
 }
@@ -44,9 +44,9 @@ lent_entry it = record {
 
 -- a line that is lent, as a line
 abbrev pub lent_line : LentLine → IndexLine
-lent_line it = record { place = it.place; len = it.len; key = it.key.now; number = it.number }
+lent_line it = record { place = it.place; len = it.len; key = lent_key it.key; number = it.number }
 
-abbrev pub as_line : ℕ × (ℕ × (List ℕ × ℕ)) → IndexLine
+abbrev pub as_line : ℕ × (ℕ × (StoredKey × ℕ)) → IndexLine
 as_line x = record { place = x.0; len = x.1.0; key = x.1.1.0; number = x.1.1.1 }
 
 unfoldable pub line_at : Reader IndexLine

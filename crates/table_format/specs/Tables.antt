@@ -4,7 +4,7 @@ use Rattle.std.specs.Prelude.{Bool, false, if◌then◌else◌}
 use Rattle.std.specs.List.{flat_map}
 use Rattle.std.specs.Str.{bytes_eq}
 use Rattle.bloom.specs.{IsFilter}
-use Rattle.kv_types.specs.{Entry}
+use Rattle.kv_types.specs.{Entry, StoredKey}
 use Rattle.table_format.specs.declared.sizes.TheConstants.{MAX_DATA}
 use Rattle.table_format.specs.declared.line.IndexLine.{IndexLine}
 use Rattle.table_format.specs.declared.footer.Footer.{Footer}
@@ -65,12 +65,12 @@ abbrev pub filter_part : List ℕ → List ℕ
 filter_part filter = sealed (be32 (length filter) ++ filter)
 
 -- whether the first entry has the key
-abbrev pub begins_with : List ℕ → List Entry → Bool
+abbrev pub begins_with : StoredKey → List Entry → Bool
 begins_with key [] = false
 begins_with key (entry ∷ entries) = bytes_eq key entry.key
 
 -- the keys of rising entries, each once
-abbrev pub different_keys : List Entry → List (List ℕ)
+abbrev pub different_keys : List Entry → List StoredKey
 different_keys [] = []
 different_keys (entry ∷ entries) =
     if begins_with entry.key entries then different_keys entries

@@ -1,17 +1,19 @@
 //! Entries that are lent from the block that they stand in.
 ghost use Rattle.std.specs.Prelude.{◌≡◌, ◌≤◌, length, option_map, IfSome};
 ghost use Rattle.kv_types.specs.declared.bounds.TheConstants.{MAX_KEY};
+ghost use Rattle.kv_types.specs.{lent_key};
 ghost use Rattle.byte_fields.specs.{ReadsFront};
 ghost use Rattle.table_format.specs.Reading.{key_at, stored_number_at, change_at, table_entry_at};
 ghost use Rattle.table_format.specs.Reading.{lent_entry};
 
 use byte_fields::{read_text, read_u64};
+use kv_types::LentKey;
 use kv_types::bounds::{MAX_KEY, MAX_NUMBER, MAX_VALUE};
 
 /// A version of a key, lent: its value at a number, or `None` if the key was deleted there.
 #[derive(Clone, Copy)]
 pub struct LentEntry<'a> {
-    pub key: &'a [u8],
+    pub key: LentKey<'a>,
     pub number: u64,
     pub value: Option<&'a [u8]>,
 }
@@ -28,11 +30,12 @@ pub fn number_of(bytes: &[u8]) -> Option<(u64, &[u8])>
 }
 
 #[tactic(auto, unfolding(crate::specs::Reading::key_at))]
-pub fn key_of(bytes: &[u8]) -> Option<(&[u8], &[u8])>
-    ensures key { ReadsFront (λ x. (x.0.now, x.1.now)) result (key_at bytes.now) }
-    ensures limit { IfSome result (λ x. length x.0.now ≤ MAX_KEY) }
+pub fn key_of(bytes: &[u8]) -> Option<(LentKey<'_>, &[u8])>
+    ensures key { ReadsFront (λ x. (lent_key x.0, x.1.now)) result (key_at bytes.now) }
+    ensures limit { IfSome result (λ x. length (lent_key x.0) ≤ MAX_KEY) }
 {
-    read_text(MAX_KEY, bytes)
+    let (key, rest) = read_text(MAX_KEY, bytes)?;
+    Some((LentKey::new(key), rest))
 }
 
 #[tactic(auto, unfolding(crate::specs::Reading::change_at))]

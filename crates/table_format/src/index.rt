@@ -17,7 +17,7 @@ fn rises(lines: &[IndexLine], line: LentLine) -> bool
         CanFollow (map end_spot lines.now) (end_spot (lent_line line.entry)) }
 {
     match lines.last() {
-        Some(last) => order(last.key.as_bytes(), last.number, line.key, line.number).is_lt(),
+        Some(last) => order(last.key.lent(), last.number, line.key, line.number).is_lt(),
         None => true,
     }
 }

@@ -1,13 +1,14 @@
 //! Lines of an index.
 ghost use Rattle.std.specs.Prelude.{◌≡◌, ◌≤◌, length, IfSome, IfOk, IfErr};
 ghost use Rattle.kv_types.specs.declared.bounds.TheConstants.{MAX_KEY};
+ghost use Rattle.kv_types.specs.{lent_key};
 ghost use Rattle.byte_fields.specs.{ReadsFront};
 ghost use Rattle.table_format.specs.Reading.{lent_line, line_at};
 
 use crate::TableError;
 use crate::entry::{key_of, number_of};
 use byte_fields::{read_u32, read_u64};
-use kv_types::Key;
+use kv_types::{LentKey, StoredKey};
 use std::alloc::Global;
 
 /// A line of an index: the place of a block in the file, its length with its digest, and key and
@@ -16,7 +17,7 @@ use std::alloc::Global;
 pub struct IndexLine {
     pub place: u64,
     pub len: u32,
-    pub key: Key,
+    pub key: StoredKey,
     pub number: u64,
 }
 
@@ -25,7 +26,7 @@ pub struct IndexLine {
 pub struct LentLine<'a> {
     pub place: u64,
     pub len: u32,
-    pub key: &'a [u8],
+    pub key: LentKey<'a>,
     pub number: u64,
 }
 
@@ -33,7 +34,7 @@ pub struct LentLine<'a> {
 #[tactic(auto, unfolding(crate::specs::Reading::line_at))]
 pub fn line_of(bytes: &[u8]) -> Option<(LentLine<'_>, &[u8])>
     ensures line { ReadsFront (λ x. (lent_line x.0, x.1.now)) result (line_at bytes.now) }
-    ensures limit { IfSome result (λ x. length x.0.key.now ≤ MAX_KEY) }
+    ensures limit { IfSome result (λ x. length (lent_key x.0.key) ≤ MAX_KEY) }
 {
     let (place, rest) = read_u64(bytes)?;
     let (len, rest) = read_u32(rest)?;
@@ -50,13 +51,11 @@ pub fn line_of(bytes: &[u8]) -> Option<(LentLine<'_>, &[u8])>
 
 /// A copy of a line.
 pub fn copied(alloc: Global, line: LentLine) -> Result<IndexLine, TableError>
-    requires { length line.key.now ≤ MAX_KEY }
+    requires { length (lent_key line.key) ≤ MAX_KEY }
     ensures copied { IfOk result (λ copy. copy ≡ lent_line line.entry) }
     ensures memory { IfErr result (λ e. e ≡ TableError.Memory) }
 {
-    let Ok(key) = Key::new(line.key.to_vec(alloc)?) else {
-        return Err(TableError::Memory);
-    };
+    let key = line.key.to_stored(alloc)?;
     Ok(IndexLine {
         place: line.place,
         len: line.len,

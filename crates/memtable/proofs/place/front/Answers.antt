@@ -1,8 +1,7 @@
 use Rattle.std.proofs.Common.{rules, subst, sym}
 use Rattle.std.specs.BTreeMap.Range.{IsFromStart}
-use Rattle.std.specs.Cmp.Lexicographic.{slice_cmp}
-use Rattle.std.specs.Ordering.{nat_cmp}
 use Rattle.std.specs.Range.Bound.{bound_map}
+use Rattle.kv_types.specs.{stored_cmp}
 use Rattle.merge_iter.specs.declared.direction.Direction.TheVariants.{Forward}
 use Rattle.merge_iter.specs.{IsFirst}
 use Rattle.memtable.specs.Maps.{MapHolds}
@@ -13,7 +12,7 @@ use Rattle.memtable.proofs.place.front.Goals as goal
 pub returns-in_err-key-clause-first : goal.returns-in_err-key-clause-first
 returns-in_err-key-clause-first c rising =
     subst (λ o. IsFirst Forward (λ entry. MapHolds c.args.map.now entry × IsFromStart
-    (slice_cmp nat_cmp) (bound_map (λ x. x.now) c.args.start) entry.key) (maybe_position o))
+    stored_cmp (bound_map (λ x. x.now) c.args.start) entry.key) (maybe_position o))
     (sym c.from_residual.ensures)
     (front_none c.args.map.now _ _ (c.range.ensures.in_range tt) (c.in_err-key.ensures.steps.0))
 

@@ -1,6 +1,7 @@
-use Rattle.std.proofs.Common.{◌≡◌, ◌∷◌, ◌-◌, ℕ, List, drop, sym, ap, subst}
+use Rattle.std.proofs.Common.{◌≡◌, ◌∷◌, ◌-◌, drop, sym, ap, subst}
 use Rattle.std.proofs.Common.{true, false, ◌∙◌, refl}
 use Rattle.kv_types.specs.Maps.{last_edit}
+use Rattle.kv_types.specs.{StoredKey}
 use Rattle.memtable.specs.Maps.{versions_at, added}
 use Rattle.memtable.specs.Versions.{lacks}
 use Rattle.memtable.specs.Sizes.{edits_size, capped_sum}
@@ -14,7 +15,7 @@ loop-i-preserved-then-branch c =
     let edit = c.index-edits-i.result in
     let edits = c.args.edits.now in
     let key = c.key.result.now in
-    let old = λ (q : List ℕ). versions_at c.args.map.now q in
+    let old = λ (q : StoredKey). versions_at c.args.map.now q in
     let rest = drop at.i edits in
     let is : edit ∷ rest ≡ drop (at.i - 1) edits =
     sym (from_last edits at.i edit c.loop-i-test.true at.auto.i c.index-edits-i.is) in
@@ -40,7 +41,7 @@ loop-i-preserved c =
     let edit = c.index-edits-i.result in
     let edits = c.args.edits.now in
     let key = c.key.result.now in
-    let old = λ (q : List ℕ). versions_at c.args.map.now q in
+    let old = λ (q : StoredKey). versions_at c.args.map.now q in
     let rest = drop at.i edits in
     let is : edit ∷ rest ≡ drop (at.i - 1) edits =
     sym (from_last edits at.i edit c.loop-i-test.true at.auto.i c.index-edits-i.is) in

@@ -1,6 +1,7 @@
 use Rattle.std.proofs.Common.{false, ◌≡◌, ◌<◌, refl, length, arith, ◌∙◌, subst, Err}
 use Rattle.std.proofs.lemmas.Result.{err_from_is_err_and}
 use Rattle.std.proofs.lemmas.Option.{slice_get_read, slice_get_within}
+use Rattle.kv_types.specs.{lent_key}
 use Rattle.merge_iter.specs.declared.direction.Direction.TheVariants.{Forward}
 use Rattle.merge_iter.specs.Order.{spot}
 use Rattle.merge_iter.specs.Positions.{At}
@@ -41,7 +42,7 @@ loop-i-preserved g c =
       count = c.seek.ensures.causes.others (λ e. let h = c.in_ok-seek.was in cc) ∙ i.count;
       brought = λ meant given. brings (g.C.Cursor.holds meant) (g.C.Cursor.is_sound meant) g.C.Cursor.suits g.C.Cursor.keeps
           g.C.Cursor.left g.C.Cursor.most g.C.Cursor.position (law_at g.met.C.Cursor.laws meant) Forward
-          (At (spot c.args.key.now c.args.number))
+          (At (spot (lent_key c.args.key) c.args.number))
           (EachChild (λ d. (g.C.Cursor.is_sound meant) d c.args.source.now) c.args.children.now.items)
           c.args.children.now.items c.loop-i.children.items c.args.source.now c.loop-i.source
           c.seek.new.source c.loop-i.i c.index_mut.result.now c.seek.new.self c.seek.result at

@@ -35,12 +35,12 @@ loop-inner-preserved g c =
       ahead = λ meant start s a. forward_on c.args.at ((g.C.Cursor.holds meant) c.args.inner.now
           c.args.source.now) ((g.C.Cursor.holds meant) c.loop-inner.inner c.loop-inner.source)
           (i.moved.stays meant s).1 ((law_at g.met.C.Cursor.laws meant).apart c.args.inner.now c.args.source.now s) start
-          c.loop-inner.hiding c.is_shown.new.hides c.loop-inner.hidden.items
-          c.is_shown.new.hidden.items (g.C.Cursor.position c.loop-inner.inner)
+          c.loop-inner.hiding c.is_shown.new.hides c.loop-inner.hidden
+          c.is_shown.new.hidden (g.C.Cursor.position c.loop-inner.inner)
           (g.C.Cursor.position c.next.new.self) c.next.result on
           (subst (λ b. IfOn (g.C.Cursor.position c.loop-inner.inner)
-          (λ entry. IsJudged c.args.at c.loop-inner.hiding c.loop-inner.hidden.items entry
-          c.is_shown.new.hides c.is_shown.new.hidden.items b)) c.if-branch.false
+          (λ entry. IsJudged c.args.at c.loop-inner.hiding c.loop-inner.hidden entry
+          c.is_shown.new.hides c.is_shown.new.hidden b)) c.if-branch.false
           c.in_ok-is_shown.ensures)
           c.in_ok-next.was ((c.next.ensures.finds meant) (i.moved.stays meant s).0) ((i.ahead meant) start s a);
     }
@@ -51,11 +51,11 @@ returns-then-branch-clause-finds g c meant start kept s a =
     let on : IsOn (g.C.Cursor.position c.loop-inner.inner) =
     c.valid.ensures.0 c.loop-inner-test.true in
     shown_on c.args.at ((g.C.Cursor.holds meant) c.args.inner.now c.args.source.now) start
-    c.loop-inner.hiding c.is_shown.new.hides c.loop-inner.hidden.items
-    c.is_shown.new.hidden.items (g.C.Cursor.position c.loop-inner.inner) kept on
+    c.loop-inner.hiding c.is_shown.new.hides c.loop-inner.hidden
+    c.is_shown.new.hidden (g.C.Cursor.position c.loop-inner.inner) kept on
     (subst (λ b. IfOn (g.C.Cursor.position c.loop-inner.inner)
-    (λ entry. IsJudged c.args.at c.loop-inner.hiding c.loop-inner.hidden.items entry
-    c.is_shown.new.hides c.is_shown.new.hidden.items b)) c.if-branch.true
+    (λ entry. IsJudged c.args.at c.loop-inner.hiding c.loop-inner.hidden entry
+    c.is_shown.new.hides c.is_shown.new.hidden b)) c.if-branch.true
     c.in_ok-is_shown.ensures) ((i.ahead meant) start s a)
 
 pub returns-clause-finds : goal.returns-clause-finds
@@ -63,7 +63,7 @@ returns-clause-finds g c meant start kept s a =
     let off : IsOn (g.C.Cursor.position c.loop-inner.inner) → ⊥ = λ on. let z =
     c.valid.ensures.1 on in let f = c.loop-inner-test.false in cc in (
       end_off c.args.at ((g.C.Cursor.holds meant) c.args.inner.now c.args.source.now) start
-          (IsHidden c.loop-inner.hiding c.loop-inner.hidden.items)
+          (IsHidden c.loop-inner.hiding c.loop-inner.hidden)
           (g.C.Cursor.position c.loop-inner.inner) off ((c.loop-inner.invariant.ahead meant) start s a),
       tt,
     )

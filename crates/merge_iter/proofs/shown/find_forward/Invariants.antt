@@ -15,9 +15,9 @@ invariant-loop-inner g l = record {
   left : g.C.Cursor.left l.inner Forward ≤ g.C.Cursor.left l.initial.inner Forward;
   ahead : (meant : g.C.Cursor.Meant) (start : WalkStart) → (g.C.Cursor.is_sound meant) l.initial.inner l.initial.source
       → IsAhead l.at ((g.C.Cursor.holds meant) l.initial.inner l.initial.source) start
-      (IsHidden l.initial.hiding l.initial.hidden.items) (g.C.Cursor.position l.initial.inner)
+      (IsHidden l.initial.hiding l.initial.hidden) (g.C.Cursor.position l.initial.inner)
       → IsAhead l.at ((g.C.Cursor.holds meant) l.initial.inner l.initial.source) start
-      (IsHidden l.hiding l.hidden.items) (g.C.Cursor.position l.inner);
+      (IsHidden l.hiding l.hidden) (g.C.Cursor.position l.inner);
 }
 
 abbrev pub decreases-loop-inner : goal.decreases-loop-inner

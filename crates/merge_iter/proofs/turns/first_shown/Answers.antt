@@ -18,4 +18,4 @@ returns-clause-finds g c meant s =
     ((g.C.Cursor.holds meant) c.args.inner.now c.args.source.now) m.1) Forward AtEnd _ _ _
     ((c.find_forward.ensures.finds meant) AtEnd _ m.0
     (ahead_first c.args.at ((g.C.Cursor.holds meant) c.first.new.self c.first.new.source)
-    c.args.kept.now.key.items (g.C.Cursor.position c.first.new.self) f))
+    c.args.kept.now.key (g.C.Cursor.position c.first.new.self) f))

@@ -1,4 +1,5 @@
 use Rattle.std.proofs.Common.{◌≡◌, subst}
+use Rattle.kv_types.specs.{lent_key}
 use Rattle.merge_iter.specs.Positions.{On}
 use Rattle.merge_iter.specs.KeptEntries.{kept_entry}
 use Rattle.merge_iter.specs.Moves.{law_at}
@@ -15,5 +16,5 @@ returns-in-Kept-clause-returns g c meant at entry s settled on =
     ≡ On entry) c.in-Kept.is on in
     returned ((g.C.Cursor.holds meant) c.args.inner.now c.args.source.now)
     ((law_at g.met.C.Cursor.laws meant).apart c.args.inner.now c.args.source.now s) w entry
-    c.as_slice.result.now (g.C.Cursor.position c.seek.new.self) c.seek.result
-    c.as_slice.ensures.value here.0.newest.seen.0 is ((c.seek.ensures.finds meant) s)
+    (lent_key c.lent.result) (g.C.Cursor.position c.seek.new.self) c.seek.result
+    c.lent.ensures here.0.newest.seen.0 is ((c.seek.ensures.finds meant) s)

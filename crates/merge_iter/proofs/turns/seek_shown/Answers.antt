@@ -10,19 +10,19 @@ use Rattle.merge_iter.specs.Moves.{one_move}
 use Rattle.merge_iter.proofs.Walked.{flip, on_row}
 use Rattle.merge_iter.specs.Order.{EntryPrecedes}
 use Rattle.merge_iter.specs.Positions.{IsFirst, IfOn, WalkMeets}
-use Rattle.kv_types.specs.{IsShown}
+use Rattle.kv_types.specs.{IsShown, lent_key}
 use Rattle.merge_iter.specs.ShownEntries.{view_position}
 use Rattle.merge_iter.proofs.turns.seek_shown.Goals as goal
 
 pub returns-clause-finds : goal.returns-clause-finds
 returns-clause-finds g c meant s =
     let m = (one_move c.seek.ensures.moves meant).stays s in
-    let f = first_kept Forward (At (spot c.args.key.now c.args.at))
+    let f = first_kept Forward (At (spot (lent_key c.args.key) c.args.at))
     (g.C.Cursor.position c.seek.new.self) ((g.C.Cursor.holds meant) c.args.inner.now c.args.source.now)
     ((g.C.Cursor.holds meant) c.seek.new.self c.seek.new.source) m.1 ((c.in_ok-seek.ensures.finds meant) s) in
     let a = ahead_seek c.args.at ((g.C.Cursor.holds meant) c.seek.new.self c.seek.new.source)
-    c.args.kept.now.key.items c.args.key.now (g.C.Cursor.position c.seek.new.self) f in
-    let found = (c.in_ok-mode.ensures.finds meant) (At (spot c.args.key.now c.args.at))
+    c.args.kept.now.key (lent_key c.args.key) (g.C.Cursor.position c.seek.new.self) f in
+    let found = (c.in_ok-mode.ensures.finds meant) (At (spot (lent_key c.args.key) c.args.at))
     (kept_entry c.args.kept.now) m.0 a in
     let late = c.is_early.ensures.late (λ h. let z = c.if-is_early.false in
     let y : IsTrue c.is_early.result = h in let x : false ≡ true = sym z ∙ y in cc) in
@@ -30,38 +30,39 @@ returns-clause-finds g c meant s =
     ((g.C.Cursor.holds meant) c.args.inner.now c.args.source.now)
     (flip ((g.C.Cursor.holds meant) c.seek.new.self c.seek.new.source)
     ((g.C.Cursor.holds meant) c.args.inner.now c.args.source.now) m.1) Forward
-    (At (spot c.args.key.now c.args.number)) (Ok c.in_ok-mode.mode)
+    (At (spot (lent_key c.args.key) c.args.number)) (Ok c.in_ok-mode.mode)
     (g.C.Cursor.position c.find_forward.new.inner) _
-    (late_found c.args.at ((g.C.Cursor.holds meant) c.seek.new.self c.seek.new.source) c.args.key.now
+    (late_found c.args.at ((g.C.Cursor.holds meant) c.seek.new.self c.seek.new.source) (lent_key
+    c.args.key)
     c.args.number c.in_ok-mode.mode (g.C.Cursor.position c.find_forward.new.inner) _
     c.in_ok-mode.ensures.forward
     (λ e entry on. subst
-    (λ v. IfOn v (λ r. EntryPrecedes Forward r (spot c.args.key.now c.args.number) → ⊥)) on
+    (λ v. IfOn v (λ r. EntryPrecedes Forward r (spot (lent_key c.args.key) c.args.number) → ⊥)) on
     (late e))
-    ((c.in_ok-mode.ensures.finds meant) (At (spot c.args.key.now c.args.at)) _ m.0 a))
+    ((c.in_ok-mode.ensures.finds meant) (At (spot (lent_key c.args.key) c.args.at)) _ m.0 a))
 
 pub returns-then-is_early-clause-finds : goal.returns-then-is_early-clause-finds
 returns-then-is_early-clause-finds g c meant s =
     let m = (one_move c.seek.ensures.moves meant).stays s in
-    let f = first_kept Forward (At (spot c.args.key.now c.args.at))
+    let f = first_kept Forward (At (spot (lent_key c.args.key) c.args.at))
     (g.C.Cursor.position c.seek.new.self) ((g.C.Cursor.holds meant) c.args.inner.now c.args.source.now)
     ((g.C.Cursor.holds meant) c.seek.new.self c.seek.new.source) m.1 ((c.in_ok-seek.ensures.finds meant) s) in
     let a = ahead_seek c.args.at ((g.C.Cursor.holds meant) c.seek.new.self c.seek.new.source)
-    c.args.kept.now.key.items c.args.key.now (g.C.Cursor.position c.seek.new.self) f in
-    let found = (c.in_ok-mode.ensures.finds meant) (At (spot c.args.key.now c.args.at))
+    c.args.kept.now.key (lent_key c.args.key) (g.C.Cursor.position c.seek.new.self) f in
+    let found = (c.in_ok-mode.ensures.finds meant) (At (spot (lent_key c.args.key) c.args.at))
     (kept_entry c.args.kept.now) m.0 a in
     let early = c.is_early.ensures.early c.if-is_early.true in
     let r = on_row (g.C.Cursor.position c.find_forward.new.inner) early.1 in
     let here = subst (λ v. IsFirst Forward
     (λ p. IsShown c.args.at ((g.C.Cursor.holds meant) c.seek.new.self c.seek.new.source) p × WalkMeets
-    Forward (At (spot c.args.key.now c.args.at)) p) v) r.1
+    Forward (At (spot (lent_key c.args.key) c.args.at)) p) v) r.1
     (subst (λ w. IsFirst Forward
     (λ p. IsShown c.args.at ((g.C.Cursor.holds meant) c.seek.new.self c.seek.new.source) p × WalkMeets
-    Forward (At (spot c.args.key.now c.args.at)) p)
+    Forward (At (spot (lent_key c.args.key) c.args.at)) p)
     (view_position w (g.C.Cursor.position c.find_forward.new.inner)
     (kept_entry c.args.kept.now))) early.0 found.0) in
     let soon = subst (λ v. IfOn v
-    (λ q. EntryPrecedes Forward q (spot c.args.key.now c.args.number))) r.1 early.2 in
+    (λ q. EntryPrecedes Forward q (spot (lent_key c.args.key) c.args.number))) r.1 early.2 in
     let m2 = (one_move c.find_forward.ensures.moves meant).stays m.0 in
     let m3 = (one_move c.leave.ensures.moves meant).stays m2.0 in
     let gone = (c.in_ok-leave.ensures.leaves meant) r.0 m2.0 r.1 in
@@ -79,8 +80,9 @@ returns-then-is_early-clause-finds g c meant s =
     ((g.C.Cursor.holds meant) c.args.inner.now c.args.source.now)
     (flip ((g.C.Cursor.holds meant) c.seek.new.self c.seek.new.source)
     ((g.C.Cursor.holds meant) c.args.inner.now c.args.source.now) m.1) Forward
-    (At (spot c.args.key.now c.args.number)) _ _ _
-    (early_found c.args.at ((g.C.Cursor.holds meant) c.seek.new.self c.seek.new.source) c.args.key.now
+    (At (spot (lent_key c.args.key) c.args.number)) _ _ _
+    (early_found c.args.at ((g.C.Cursor.holds meant) c.seek.new.self c.seek.new.source) (lent_key
+    c.args.key)
     c.args.number r.0 here.0.0 here.0.1 soon _ _ _
     (found_alike c.args.at ((g.C.Cursor.holds meant) c.find_forward.new.inner c.find_forward.new.source)
     ((g.C.Cursor.holds meant) c.seek.new.self c.seek.new.source)

@@ -1,4 +1,5 @@
 use Rattle.std.proofs.Common.{length, arith}
+use Rattle.kv_types.specs.{lent_key}
 use Rattle.merge_iter.specs.{spot}
 use Rattle.table_format.specs.BlockLoopLemmas.{entry_shorter}
 use Rattle.table_format.specs.CasesLemmas.{is_nothing, not_empty}
@@ -9,7 +10,7 @@ use Rattle.sorted_table.proofs.block.first_from.Goals as goal
 
 pub loop-rest-init : goal.loop-rest-init
 loop-rest-init c =
-    walk_begins (spot c.args.key.now c.args.number) c.args.text.now
+    walk_begins (spot (lent_key c.args.key) c.args.number) c.args.text.now
     (λ i. omega (arith, c.type_inv.text i))
 
 pub loop-rest-smaller : goal.loop-rest-smaller
@@ -19,7 +20,7 @@ loop-rest-smaller c =
 
 pub loop-rest-preserved : goal.loop-rest-preserved
 loop-rest-preserved c =
-    let place = spot c.args.key.now c.args.number in
+    let place = spot (lent_key c.args.key) c.args.number in
     let entry = lent_entry c.in-Some.entry in
     walk_next place c.args.text.now c.loop-rest.rest.now entry c.in-Some.after.now
     c.loop-rest.invariant c.in-Some.ensures
@@ -28,13 +29,14 @@ loop-rest-preserved c =
 pub returns-in_default-clause-first : goal.returns-in_default-clause-first
 returns-in_default-clause-first c = λ entries each is.
     let rest = c.loop-rest.rest.now in
-    walk_none (spot c.args.key.now c.args.number) c.args.text.now rest c.loop-rest.invariant entries
+    walk_none (spot (lent_key c.args.key) c.args.number) c.args.text.now rest c.loop-rest.invariant
+    entries
     each is (not_empty (length rest) c.is_empty.result c.is_empty.ensures c.loop-rest-test.true)
     c.in_default.ensures
 
 pub returns-then-not-is_earlier-clause-first : goal.returns-then-not-is_earlier-clause-first
 returns-then-not-is_earlier-clause-first c = λ entries each is.
-    let place = spot c.args.key.now c.args.number in
+    let place = spot (lent_key c.args.key) c.args.number in
     let rest = c.loop-rest.rest.now in
     let entry = lent_entry c.in-Some.entry in
     walk_finds place c.args.text.now rest entry c.in-Some.after.now c.loop-rest.invariant entries
@@ -45,5 +47,6 @@ returns-then-not-is_earlier-clause-first c = λ entries each is.
 pub returns-clause-first : goal.returns-clause-first
 returns-clause-first c = λ entries each is.
     let rest = c.loop-rest.rest.now in
-    walk_ends (spot c.args.key.now c.args.number) c.args.text.now rest c.loop-rest.invariant entries
+    walk_ends (spot (lent_key c.args.key) c.args.number) c.args.text.now rest c.loop-rest.invariant
+    entries
     each is (is_nothing (length rest) c.is_empty.result c.is_empty.ensures c.loop-rest-test.false)

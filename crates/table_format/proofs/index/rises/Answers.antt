@@ -1,11 +1,9 @@
 use Rattle.std.proofs.Common.{◌≡◌, ◌↔◌, IsTrue, Bool, Option, IfSome, subst, sym, ap, ◌∙◌}
 use Rattle.std.specs.Ordering.{is_lt, ordering_then, nat_cmp}
-use Rattle.std.specs.Cmp.Lexicographic.{slice_cmp}
-use Rattle.std.proofs.Common.{List, ℕ}
 use Rattle.merge_iter.specs.OrderLemmas.{less_iff}
 use Rattle.merge_iter.specs.{EntryPrecedes, entry_cmp}
 use Rattle.merge_iter.specs.declared.Direction.TheVariants.{Forward}
-use Rattle.kv_types.specs.{Entry}
+use Rattle.kv_types.specs.{Entry, StoredKey, stored_cmp}
 use Rattle.table_format.proofs.IndexLoops.{last_line}
 use Rattle.table_format.specs.Parts.{end_spot}
 use Rattle.table_format.specs.Reading.{lent_line}
@@ -16,8 +14,8 @@ returns-in-Some c =
     let last = end_spot c.in-Some.last.now in
     let entry = end_spot (lent_line c.args.line) in
     let order : c.order.result ≡ entry_cmp last entry =
-    c.order.ensures ∙ ap (λ (k : List ℕ). ordering_then (slice_cmp nat_cmp k entry.key)
-    (nat_cmp entry.number last.number)) c.as_bytes.ensures.bytes in
+    c.order.ensures ∙ ap (λ (k : StoredKey). ordering_then (stored_cmp k entry.key)
+    (nat_cmp entry.number last.number)) c.lent.ensures.key in
     let one : IsTrue c.is_lt.result ↔ EntryPrecedes Forward last entry =
     subst (λ (b : Bool). IsTrue b ↔ EntryPrecedes Forward last entry)
     (sym (c.is_lt.ensures ∙ ap is_lt order)) (less_iff (entry_cmp last entry)) in

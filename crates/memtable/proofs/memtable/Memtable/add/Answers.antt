@@ -1,5 +1,6 @@
-use Rattle.std.proofs.Common.{◌≡◌, ◌<◌, ℕ, List, subst, sym, Some}
+use Rattle.std.proofs.Common.{◌≡◌, ◌<◌, ℕ, subst, sym, Some}
 use Rattle.std.specs.List.{slice_get}
+use Rattle.kv_types.specs.{StoredKey}
 use Rattle.memtable.specs.declared.version.Version.{Version}
 use Rattle.memtable.specs.Maps.{version_entry, versions_at}
 use Rattle.memtable.specs.Tables.{TableHolds}
@@ -21,7 +22,7 @@ invariant_of-self-2 c =
     let edits = c.edits-edits.result.now in
     let puts = c.in_ok-self.ensures.puts in
     let is_new = c.requires (not_true c.if-self.false) in
-    let below = λ (q : List ℕ) (i : ℕ) (v : Version)
+    let below = λ (q : StoredKey) (i : ℕ) (v : Version)
     (e : slice_get (versions_at old.map q) i ≡ Some v).
     subst (λ n. v.number < n) (sym c.get.ensures.same) (is_new (version_entry q v) (i, e)) in
     record {

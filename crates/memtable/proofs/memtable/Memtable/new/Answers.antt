@@ -1,9 +1,8 @@
 use Rattle.std.proofs.Common.{◌≡◌, sym, ap, ◌∙◌, Some, None}
 use Rattle.std.specs.BTreeMap.{is_at}
-use Rattle.std.specs.Cmp.Lexicographic.{slice_cmp}
 use Rattle.std.specs.List.{slice_get}
 use Rattle.std.specs.Map.{lookup}
-use Rattle.std.specs.Ordering.{nat_cmp}
+use Rattle.kv_types.specs.{stored_cmp}
 use Rattle.memtable.specs.Maps.{entry_version, found}
 use Rattle.memtable.specs.Tables.{TableHolds}
 use Rattle.memtable.proofs.memtable.Memtable.new.Goals as goal
@@ -12,6 +11,6 @@ pub returns-clause-empty : goal.returns-clause-empty
 unfolding TableHolds
 returns-clause-empty c = λ entry has.
     let none : None ≡ Some (entry_version entry) =
-    sym (ap (λ es. slice_get (found (lookup (is_at (slice_cmp nat_cmp entry.key)) es)) has.0)
+    sym (ap (λ es. slice_get (found (lookup (is_at (stored_cmp entry.key)) es)) has.0)
     c.new.ensures.empty) ∙ has.1 in
     cc

@@ -1,5 +1,6 @@
 use Rattle.std.proofs.Common.{◌≡◌, subst, sym, rules}
 use Rattle.std.proofs.lemmas.List.Sorted.{IsPartitionPoint-from_clause}
+use Rattle.kv_types.specs.{lent_key}
 use Rattle.merge_iter.specs.Order.{spot}
 use Rattle.merge_iter.specs.ListEntries.{IsSortedList}
 use Rattle.merge_iter.proofs.ListSearches.{IsSought, is_early, partitioned, sought}
@@ -9,7 +10,7 @@ pub returns-clause-finds : goal.returns-clause-finds
 returns-clause-finds c meant rising =
     let xs = c.deref.result.now in
     let same : xs ≡ c.args.self.now.entries.items = c.deref.ensures.value in
-    let place = spot c.args.key.now c.args.number in
+    let place = spot (lent_key c.args.key) c.args.number in
     let sorted = subst IsSortedList (sym same) rising in
     let n = c.partition_point-self.result in
     let point = IsPartitionPoint-from_clause (is_early place) xs n

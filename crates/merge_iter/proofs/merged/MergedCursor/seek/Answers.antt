@@ -1,4 +1,5 @@
 use Rattle.merge_iter.specs.Moves.{all_moves}
+use Rattle.kv_types.specs.{lent_key}
 use Rattle.merge_iter.specs.declared.direction.Direction.TheVariants.{Forward}
 use Rattle.merge_iter.specs.declared.place.Place.TheVariants as place
 use Rattle.merge_iter.specs.Order.{spot}
@@ -26,7 +27,8 @@ returns-clause-moves g c = all_moves (g.C.Cursor.as_is c.args.source.now) (λ me
     g.C.Cursor.position c.args.self.now.children.items c.seek_all.new.children.items
     c.args.source.now c.seek_all.new.source c.args.self.now.place c.settle-self.result
     (c.seek_all.ensures.moves meant)
-    ((c.settle-self.ensures.settles meant) (At (spot c.args.key.now c.args.number)) c.seek_all.new.source
+    ((c.settle-self.ensures.settles meant) (At (spot (lent_key c.args.key) c.args.number))
+    c.seek_all.new.source
     ((c.in_ok-seek_all.ensures.finds meant) m.each)).1 m))
 
 pub returns-clause-finds : goal.returns-clause-finds
@@ -34,7 +36,7 @@ returns-clause-finds g c meant m =
     finds_after (g.C.Cursor.holds meant) (g.C.Cursor.is_sound meant) g.C.Cursor.suits g.C.Cursor.keeps g.C.Cursor.most
     g.C.Cursor.position c.args.self.now.children.items c.seek_all.new.children.items
     c.args.source.now c.seek_all.new.source (c.seek_all.ensures.moves meant) m.each Forward
-    (At (spot c.args.key.now c.args.number))
+    (At (spot (lent_key c.args.key) c.args.number))
     (union_position g.C.Cursor.position c.seek_all.new.children.items c.settle-self.result)
-    ((c.settle-self.ensures.settles meant) (At (spot c.args.key.now c.args.number))
+    ((c.settle-self.ensures.settles meant) (At (spot (lent_key c.args.key) c.args.number))
     c.seek_all.new.source ((c.in_ok-seek_all.ensures.finds meant) m.each)).0

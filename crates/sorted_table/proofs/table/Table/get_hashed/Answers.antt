@@ -2,6 +2,7 @@ use Rattle.std.proofs.Common.{List, ℕ, arith, Err, Ok, None, inl, refl, sym, s
 use Rattle.std.proofs.lemmas.Result.{err_from_is_err_and}
 use Rattle.std.specs.Rc.{rc_slice_items}
 use Rattle.bloom.specs.{CoversHashed, hashes_of}
+use Rattle.kv_types.specs.{lent_key}
 use Rattle.disk.specs.StillLemmas.{still}
 use Rattle.merge_iter.specs.{spot}
 use Rattle.table_format.specs.{IsBlock, IsEnvironmentError}
@@ -23,9 +24,10 @@ returns-then-denies-clause-kept g c = kept_uncalled _ (λ e. cc)
 
 pub returns-then-denies-clause-found : goal.returns-then-denies-clause-found
 returns-then-denies-clause-found g c = λ entries honest s.
-    denied_unseen entries s.represents.filter c.args.key.now c.args.at c.filters_cover.ensures
+    denied_unseen entries s.represents.filter (lent_key c.args.key) c.args.at
+    c.filters_cover.ensures
     s.represents.exact
-    (subst (λ (f : List ℕ). CoversHashed f (hashes_of c.args.key.now) → ⊥) s.filter
+    (subst (λ (f : List ℕ). CoversHashed f (hashes_of (lent_key c.args.key)) → ⊥) s.filter
     (subst (λ (h : ℕ × ℕ). CoversHashed c.args.self.now.filter.items h → ⊥) c.requires
     (c.denies.ensures.denied.0 c.if-denies.true)))
 
@@ -39,9 +41,9 @@ returns-then-number-lines-clause-kept g c = kept_uncalled _ (λ e. cc)
 pub returns-then-number-lines-clause-found : goal.returns-then-number-lines-clause-found
 returns-then-number-lines-clause-found g c = λ entries honest s.
     let lines = c.deref-lines.result.now in
-    no_block s.bytes entries s.represents lines c.args.key.now c.args.at
+    no_block s.bytes entries s.represents lines (lent_key c.args.key) c.args.at
     (c.deref-lines.ensures.value ∙ s.lines)
-    (λ rising. lines_early lines (spot c.args.key.now c.args.at) c.line_place-number.result
+    (λ rising. lines_early lines (spot (lent_key c.args.key) c.args.at) c.line_place-number.result
     (omega (arith, c.if-number-lines.true)) (c.line_place-number.ensures.place rising))
 
 pub returns-then-number-lines-clause-still : goal.returns-then-number-lines-clause-still
@@ -71,7 +73,8 @@ returns-clause-kept g c =
 pub returns-clause-found : goal.returns-clause-found
 returns-clause-found g c = λ entries honest s.
     found_as (g.D.Disk.state c.args.files.now.disk c.args.self.now.file) c.args.self.now entries s
-    c.deref-lines.result.now c.line_place-number.result c.args.key.now c.args.at c.in_ok-block.block
+    c.deref-lines.result.now c.line_place-number.result (lent_key c.args.key) c.args.at
+    c.in_ok-block.block
     c.find_in.result c.deref-lines.ensures.value
     (omega (arith, c.if-number-lines.false)) c.line_place-number.ensures.place
     (c.in_ok-block.ensures.answers honest)
@@ -92,19 +95,20 @@ pub returns-then-number-lines-clause-checked : goal.returns-then-number-lines-cl
 returns-then-number-lines-clause-checked g c = λ honest opened.
     let file = g.D.Disk.state c.args.files.now.disk c.args.self.now.file in
     let n = c.line_place-number.result in
-    let covers = not_denied c.args.self.now.filter.items c.args.key.now c.args.hashes
+    let covers = not_denied c.args.self.now.filter.items (lent_key c.args.key) c.args.hashes
     c.denies.result c.requires c.denies.ensures.covered c.if-denies.false in
-    by_line file c.args.self.now c.deref-lines.result.now c.args.key.now c.args.at n (Ok None) opened
+    by_line file c.args.self.now c.deref-lines.result.now (lent_key c.args.key) c.args.at n (Ok
+    None) opened
     covers c.deref-lines.ensures.value c.line_place-number.ensures.place
-    (none_behind file c.deref-lines.result.now c.args.key.now c.args.at n
+    (none_behind file c.deref-lines.result.now (lent_key c.args.key) c.args.at n
     (omega (arith, c.if-number-lines.true)))
 
 pub returns-in_err-block-clause-checked : goal.returns-in_err-block-clause-checked
 returns-in_err-block-clause-checked g c = λ honest opened.
-    let covers = not_denied c.args.self.now.filter.items c.args.key.now c.args.hashes
+    let covers = not_denied c.args.self.now.filter.items (lent_key c.args.key) c.args.hashes
     c.denies.result c.requires c.denies.ensures.covered c.if-denies.false in
     let file = g.D.Disk.state c.args.files.now.disk c.args.self.now.file in
-    let why = by_line file c.args.self.now c.deref-lines.result.now c.args.key.now c.args.at
+    let why = by_line file c.args.self.now c.deref-lines.result.now (lent_key c.args.key) c.args.at
     c.line_place-number.result (Err c.in_err-block.field-0.0) opened covers c.deref-lines.ensures.value
     c.line_place-number.ensures.place (
       omega (arith, c.if-number-lines.false),
@@ -115,15 +119,17 @@ returns-in_err-block-clause-checked g c = λ honest opened.
 
 pub returns-clause-checked : goal.returns-clause-checked
 returns-clause-checked g c = λ honest opened.
-    let covers = not_denied c.args.self.now.filter.items c.args.key.now c.args.hashes
+    let covers = not_denied c.args.self.now.filter.items (lent_key c.args.key) c.args.hashes
     c.denies.result c.requires c.denies.ensures.covered c.if-denies.false in
     let file = g.D.Disk.state c.args.files.now.disk c.args.self.now.file in
     let lines = c.deref-lines.result.now in
     let n = c.line_place-number.result in
     let at = some_of lines n (omega (arith, c.if-number-lines.false)) in
-    by_line file c.args.self.now lines c.args.key.now c.args.at n c.find_in.result opened covers
+    by_line file c.args.self.now lines (lent_key c.args.key) c.args.at n c.find_in.result opened
+    covers
     c.deref-lines.ensures.value c.line_place-number.ensures.place
-    (line_answers file lines n at.0 c.args.key.now c.args.at c.in_ok-block.block c.find_in.result
+    (line_answers file lines n at.0 (lent_key c.args.key) c.args.at c.in_ok-block.block
+    c.find_in.result
     at.1 (c.in_ok-block.ensures.answers honest) (λ mine is. c.find_in.ensures.found mine
     (subst (λ (p : List ℕ). IsBlock p mine) (sym c.deref.ensures.value) is)))
 
@@ -131,18 +137,19 @@ returns-clause-checked g c = λ honest opened.
 
 pub returns-then-denies-clause-meant : goal.returns-then-denies-clause-meant
 returns-then-denies-clause-meant g c = λ honest meant entries s agree.
-    denied_unseen entries s.represents.filter c.args.key.now c.args.at c.filters_cover.ensures
+    denied_unseen entries s.represents.filter (lent_key c.args.key) c.args.at
+    c.filters_cover.ensures
     s.represents.exact
-    (subst (λ (f : List ℕ). CoversHashed f (hashes_of c.args.key.now) → ⊥) s.filter
+    (subst (λ (f : List ℕ). CoversHashed f (hashes_of (lent_key c.args.key)) → ⊥) s.filter
     (subst (λ (h : ℕ × ℕ). CoversHashed c.args.self.now.filter.items h → ⊥) c.requires
     (c.denies.ensures.denied.0 c.if-denies.true)))
 
 pub returns-then-number-lines-clause-meant : goal.returns-then-number-lines-clause-meant
 returns-then-number-lines-clause-meant g c = λ honest meant entries s agree.
     let lines = c.deref-lines.result.now in
-    no_block s.bytes entries s.represents lines c.args.key.now c.args.at
+    no_block s.bytes entries s.represents lines (lent_key c.args.key) c.args.at
     (c.deref-lines.ensures.value ∙ s.lines)
-    (λ rising. lines_early lines (spot c.args.key.now c.args.at) c.line_place-number.result
+    (λ rising. lines_early lines (spot (lent_key c.args.key) c.args.at) c.line_place-number.result
     (omega (arith, c.if-number-lines.true)) (c.line_place-number.ensures.place rising))
 
 pub returns-clause-meant : goal.returns-clause-meant
@@ -156,9 +163,10 @@ returns-clause-meant g c = λ honest meant entries s agree.
     c.deref-lines.ensures.value (c.in_ok-block.ensures.answers honest) in
     let here : IsBlockAtLine lines n meant part = subst (λ l. IsBlockAtLine l n meant part)
     (sym c.deref-lines.ensures.value) (agree n part read) in
-    ok_part (LookupFinds entries c.args.key.now c.args.at) IsEnvironmentError c.find_in.result
+    ok_part (LookupFinds entries (lent_key c.args.key) c.args.at) IsEnvironmentError
+    c.find_in.result
     (found_as meant c.args.self.now entries s
-    lines n c.args.key.now c.args.at c.in_ok-block.block
+    lines n (lent_key c.args.key) c.args.at c.in_ok-block.block
     c.find_in.result c.deref-lines.ensures.value
     (omega (arith, c.if-number-lines.false)) c.line_place-number.ensures.place
     here

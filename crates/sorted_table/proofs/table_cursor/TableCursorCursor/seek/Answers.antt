@@ -1,5 +1,6 @@
 use Rattle.std.proofs.Common.{◌≡◌, ◌∙◌, refl, ap, sym, subst, arith, IfSome}
 use Rattle.std.specs.Rc.{rc_slice_items}
+use Rattle.kv_types.specs.{lent_key}
 use Rattle.table_format.specs.{block_entries}
 use Rattle.sorted_table.specs.TableCursors.{HasReached, IsPlaceIn}
 use Rattle.sorted_table.proofs.CursorMoves.{cursor_moves, damaged_never, is_off}
@@ -30,9 +31,9 @@ returns-in_default-clause-finds g c = λ m s.
     let failed = c.reach.new.self.has_failed in
     let off = subst (HasReached lines n failed) (sym c.take.ensures.value ∙ c.in_default.is)
     c.in_ok-reach.ensures.reached in
-    finds_none_sought _ lines s.1.table c.args.key.now c.args.number n failed c.take.new.self
+    finds_none_sought _ lines s.1.table (lent_key c.args.key) c.args.number n failed c.take.new.self
     (omega (arith, c.line_place-line.ensures.within, c.deref.ensures.len))
-    (line_place_in _ lines s.1.table c.args.key.now c.args.number c.deref.result.now n
+    (line_place_in _ lines s.1.table (lent_key c.args.key) c.args.number c.deref.result.now n
     c.deref.ensures.value c.line_place-line.ensures.place) off.1 off.0 c.take.ensures.after
 
 pub returns-then-not-seek-clause-moves : goal.returns-then-not-seek-clause-moves
@@ -56,11 +57,11 @@ returns-then-not-seek-clause-causes g c =
     (whole.0 c.args.self.now.file) s.0 s.2 t s.1.here) in
     let line : p.line ≡ n = subst (HasReached lines n c.reach.new.self.has_failed) on
     c.in_ok-reach.ensures.reached in
-    never_late _ lines t c.args.key.now c.args.number n p
-    (line_place_in _ lines t c.args.key.now c.args.number c.deref.result.now n
+    never_late _ lines t (lent_key c.args.key) c.args.number n p
+    (line_place_in _ lines t (lent_key c.args.key) c.args.number c.deref.result.now n
     c.deref.ensures.value c.line_place-line.ensures.place) there line
     (c.seek.ensures.none (block_entries there.block)
-    (rising_at _ lines t c.args.key.now c.args.number p there) there.reads
+    (rising_at _ lines t (lent_key c.args.key) c.args.number p there) there.reads
     (is_off c.seek.result c.if-not-seek.true)))
 
 pub returns-clause-moves : goal.returns-clause-moves
@@ -84,9 +85,9 @@ returns-clause-finds g c = λ m s.
     (c.in_ok-reach.ensures.reads (m c.args.self.now.file) s.0 s.2 t s.1.here) in
     let line : p.line ≡ n = subst (HasReached lines n c.reach.new.self.has_failed) on
     c.in_ok-reach.ensures.reached in
-    finds_sought _ lines t c.args.key.now c.args.number n p c.seek.new.self
+    finds_sought _ lines t (lent_key c.args.key) c.args.number n p c.seek.new.self
     (omega (arith, c.line_place-line.ensures.within, c.deref.ensures.len))
-    (line_place_in _ lines t c.args.key.now c.args.number c.deref.result.now n
+    (line_place_in _ lines t (lent_key c.args.key) c.args.number c.deref.result.now n
     c.deref.ensures.value c.line_place-line.ensures.place) there line c.seek.ensures.same
     (c.if-not-seek.ensures.found (block_entries there.block)
-    (rising_at _ lines t c.args.key.now c.args.number p there) there.reads refl)
+    (rising_at _ lines t (lent_key c.args.key) c.args.number p there) there.reads refl)

@@ -41,8 +41,8 @@ returns-clause-ended g c = λ blocks entries can honest fresh.
     × (holds.blocks ≡ blocks)) (sym value) t.0 in
     let keys = c.in_ok-tail.ensures.keys in
     let size = can.size in
-    let least = c.key_from.ensures ∙ ap (λ k. k.least.items) keys in
-    let greatest = c.key_from-2.ensures ∙ ap (λ k. k.last.items) keys in
+    let least = c.into_stored.ensures ∙ ap (λ k. k.least) keys in
+    let greatest = c.into_stored-2.ensures ∙ ap (λ k. k.last) keys in
     record {
       holds = record {
         bytes = data_bytes blocks ++ tail;
@@ -63,6 +63,6 @@ returns-clause-ended g c = λ blocks entries can honest fresh.
       );
       least = subst (λ (b : List ℕ). IfSome (first_entry entries) (λ entry. b ≡ entry.key)) (sym least)
           can.keys.least;
-      greatest = last_key (last_entry entries) it.keys.last.items c.key_from-2.result it.keys.number
+      greatest = last_key (last_entry entries) it.keys.last c.into_stored-2.result it.keys.number
           greatest can.keys.last;
     }
