@@ -3,7 +3,7 @@ ghost use Rattle.std.specs.Prelude.{◌≡◌, length};
 ghost use Rattle.std.specs.Ordering.{is_lt};
 ghost use Rattle.merge_iter.specs.ListEntries.{position_at, entry_of, ListHolds, IsSortedList};
 ghost use Rattle.merge_iter.specs.ListEntries.{entries_left};
-ghost use Rattle.merge_iter.specs.Lists.{list_laws};
+ghost use Rattle.merge_iter.specs.Lists.{list_fits, list_laws};
 ghost use Rattle.merge_iter.specs.Order.{IsAlike, entry_cmp, spot};
 ghost use Rattle.merge_iter.specs.Positions.{Off};
 
@@ -123,4 +123,6 @@ impl Cursor for ListCursor {
     }
 
     ghost laws = { list_laws };
+
+    ghost fits = { list_fits };
 }

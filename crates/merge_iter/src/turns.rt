@@ -6,7 +6,8 @@ ghost use Rattle.merge_iter.specs.Positions.{AtEnd, At, After, On, WalkMeets, Is
 ghost use Rattle.merge_iter.specs.Positions.{IsFirst};
 ghost use Rattle.merge_iter.specs.KeptEntries.{kept_entry};
 ghost use Rattle.merge_iter.specs.ShownEntries.{IsBefore, IsFound, IsSettled, view_position};
-ghost use Rattle.merge_iter.specs.ShownEntries.{left_in};
+ghost use Rattle.merge_iter.specs.ShownEntries.{IfKept, left_in};
+ghost use Rattle.merge_iter.specs.TableEntries.{IsTableEntry};
 ghost use Rattle.merge_iter.specs.declared.direction.Direction.TheVariants.{Forward, Backward};
 ghost use Rattle.merge_iter.specs.Moves.{reports};
 ghost use Rattle.merge_iter.specs.LentCursors.{IsIntact, KeepsCursor, RefusesMove};
@@ -85,6 +86,7 @@ pub fn first_shown<C: Cursor>(
         source.old source.new result }
     ensures unbroken { IfOk result
         (λ mode. IsBroken (view_position mode (C.position inner.new) (kept_entry kept.new)) → ⊥) }
+    ensures fits { IfOk result (λ mode. IfKept mode (IsTableEntry (kept_entry kept.new))) }
     ensures finds { (meant : C.Meant) → C.is_sound meant inner.old source.old →
         IsFound Forward at (C.holds meant inner.old source.old) AtEnd result (C.position inner.new)
         (kept_entry kept.new) }
@@ -106,6 +108,7 @@ pub fn last_shown<C: Cursor>(
         source.old source.new result }
     ensures unbroken { IfOk result
         (λ mode. IsBroken (view_position mode (C.position inner.new) (kept_entry kept.new)) → ⊥) }
+    ensures fits { IfOk result (λ mode. IfKept mode (IsTableEntry (kept_entry kept.new))) }
     ensures finds { (meant : C.Meant) → C.is_sound meant inner.old source.old →
         IsFound Backward at (C.holds meant inner.old source.old) AtEnd result (C.position inner.new)
         (kept_entry kept.new) }
@@ -146,6 +149,7 @@ pub fn seek_shown<C: Cursor>(
         source.old source.new result }
     ensures unbroken { IfOk result
         (λ mode. IsBroken (view_position mode (C.position inner.new) (kept_entry kept.new)) → ⊥) }
+    ensures fits { IfOk result (λ mode. IfKept mode (IsTableEntry (kept_entry kept.new))) }
     ensures finds { (meant : C.Meant) → C.is_sound meant inner.old source.old →
         IsFound Forward at (C.holds meant inner.old source.old) (At (spot key.now number)) result
         (C.position inner.new) (kept_entry kept.new) }
@@ -174,6 +178,7 @@ pub fn next_shown<C: Cursor>(
         source.old source.new result }
     ensures unbroken { IfOk result
         (λ mode. IsBroken (view_position mode (C.position inner.new) (kept_entry kept.new)) → ⊥) }
+    ensures fits { IfOk result (λ mode. IfKept mode (IsTableEntry (kept_entry kept.new))) }
     ensures left { IfOk result (λ new. left_in (C.left inner.new) (C.most inner.new) new Forward
         < left_in (C.left inner.old) (C.most inner.old) mode Forward) }
     ensures finds { (meant : C.Meant) → (entry : Entry) → C.is_sound meant inner.old source.old →
@@ -231,6 +236,7 @@ pub fn prev_shown<C: Cursor>(
         source.old source.new result }
     ensures unbroken { IfOk result
         (λ mode. IsBroken (view_position mode (C.position inner.new) (kept_entry kept.new)) → ⊥) }
+    ensures fits { IfOk result (λ mode. IfKept mode (IsTableEntry (kept_entry kept.new))) }
     ensures left { IfOk result (λ new. left_in (C.left inner.new) (C.most inner.new) new Backward
         < left_in (C.left inner.old) (C.most inner.old) mode Backward) }
     ensures finds { (meant : C.Meant) → (entry : Entry) → C.is_sound meant inner.old source.old →

@@ -1,6 +1,7 @@
 //! A place in a block.
 ghost use Rattle.std.specs.Prelude.{◌≡◌, ◌<◌, ◌≤◌, ◌+◌, ◌-◌, ◌⊎◌, List, Some, IfErr, IfOk, IsTrue};
 ghost use Rattle.std.specs.Prelude.{MatchResult, length};
+ghost use Rattle.std.proofs.Props.{props};
 ghost use Rattle.std.specs.Rc.{rc_slice_items};
 ghost use Rattle.kv_types.specs.{Entry};
 ghost use Rattle.merge_iter.specs.{spot};
@@ -20,7 +21,7 @@ pub struct BlockPlace {
     block: RcSlice<u8>,
     starts: Vec<usize>,
     at: usize,
-    ghost read: { AreRead (rc_slice_items block) starts.items },
+    ghost read: { AreRead (rc_slice_items block) starts.items } by { Prim.hlevel props },
     ghost within: { at < length starts.items },
 }
 
@@ -116,21 +117,19 @@ impl BlockPlace {
         self
     }
 
-    /// Moves to the first entry of the block that does not come before this key and number.
-    /// Answers `false` if there is none, and stays.
-    pub fn seek(&mut self, key: &[u8], number: u64) -> bool
+    /// Moves to the first entry of the block that does not come before this key and number, or to
+    /// the last entry.
+    pub fn seek(&mut self, key: &[u8], number: u64)
         ensures same { IsMovedTo self.new.at self.old self.new }
         ensures found { (entries : List Entry) → AreRising entries → PlaceReads self.old entries →
-            IsTrue result → SplitsEntries entries (spot key.now number) self.new.at }
-        ensures none { (entries : List Entry) → AreRising entries → PlaceReads self.old entries →
-            (IsTrue result → ⊥) → SplitsEntries entries (spot key.now number) (length entries) }
+            (SplitsEntries entries (spot key.now number) (length entries) → ⊥) →
+            SplitsEntries entries (spot key.now number) self.new.at }
     {
         let at = count_before(&self.block, &self.starts, key, number);
-        if at < self.starts.len() {
-            self.at = at;
-            true
+        self.at = if at < self.starts.len() {
+            at
         } else {
-            false
-        }
+            self.starts.len() - 1
+        };
     }
 }

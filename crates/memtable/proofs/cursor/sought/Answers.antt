@@ -10,5 +10,5 @@ copied-requires c = subst (λ xs. length xs ≤ MAX_KEY) (sym c.split_at.ensures
 pub returns-then-key-gt-MAX_KEY-clause-first : goal.returns-then-key-gt-MAX_KEY-clause-first
 returns-then-key-gt-MAX_KEY-clause-first c = long_key c.args.map.now MAX_KEY c.args.key.now _
     c.args.number _ (c.in_ok-beginning.ensures.copy ∙ c.split_at.ensures.front)
-    (search (arith, c.if-key-gt-MAX_KEY.true)) c.requires.short
+    (search (arith, c.if-key-gt-MAX_KEY.true)) (λ entry has. (c.requires.limits entry has).key)
     (c.front.ensures.first c.requires.rising)
