@@ -8,6 +8,7 @@ use Rattle.kv_types.specs.declared.bounds.TheConstants.{MAX_KEY}
 use Rattle.kv_types.specs.{Entry, text_bytes}
 use Rattle.merge_iter.specs.declared.Direction.TheVariants.{Forward}
 use Rattle.merge_iter.specs.{EntryPrecedes}
+pub use Rattle.merge_iter.specs.{IsTableEntry}
 
 -- ---- parts of a file
 
@@ -47,9 +48,6 @@ entry_bytes entry = key_bytes entry.key ++ (be64 entry.number ++ change_bytes en
 
 abbrev pub entries_bytes : List Entry → List ℕ
 entries_bytes entries = flat_map entry_bytes entries
-
--- an entry keeps the limits of keys, numbers and values
-pub use Rattle.merge_iter.specs.{IsTableEntry}
 
 -- each entry comes before those behind it: keys rise, and the numbers of one key fall
 abbrev pub AreRising : List Entry → Type 0
