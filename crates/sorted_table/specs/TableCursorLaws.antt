@@ -66,11 +66,12 @@ fits_at block None is = tt
 pub table_fits : (has_failed : Bool) (place : Option BlockPlace)
     → IfOn (table_position has_failed place) IsTableEntry
 table_fits has_failed (Some place) =
-    fits_at (rc_slice_items place.block) (slice_get place.starts.items place.at)
-    (λ s here. subst (λ (t : ℕ). IsSomeAnd (entry_read (rc_slice_items place.block) t) IsTableEntry)
-    (get_or_from_slice_get place.starts.items place.at s s here)
-    (All-get_or _ place.starts.items place.at s
-    (slice_get_within place.starts.items place.at s here) place.read))
+    let block = rc_slice_items place.block in
+    let starts = place.starts.items in
+    let P : ℕ → Type 0 = λ start. IsSomeAnd (entry_read block start) IsTableEntry in
+    fits_at block (slice_get starts place.at)
+    (λ s here. subst P (get_or_from_slice_get starts place.at s s here)
+    (All-get_or P starts place.at s (slice_get_within starts place.at s here) place.read))
 table_fits true None = tt
 table_fits false None = tt
 

@@ -126,10 +126,10 @@ impl BlockPlace {
             SplitsEntries entries (spot key.now number) self.new.at }
     {
         let at = count_before(&self.block, &self.starts, key, number);
-        self.at = if at < self.starts.len() {
-            at
-        } else {
-            self.starts.len() - 1
-        };
+        if at < self.starts.len() {
+            self.at = at;
+            return;
+        }
+        self.at = self.starts.len() - 1;
     }
 }
