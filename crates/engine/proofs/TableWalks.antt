@@ -1,7 +1,6 @@
 -- What a walk over sorted entries has added to a table.
 use Rattle.std.proofs.Common.{◌≡◌, ◌<◌, List, [], ◌∷◌, ◌++◌, All, Contains, Some, IfSome, sym, subst}
 use Rattle.std.proofs.Common.{inl, inr, Result, Ok, Err, arith, refl, ℕ, length, ◌≤◌, Option, None}
-use Rattle.std.specs.Option.{ForSome}
 use Rattle.std.proofs.Common.{◌∙◌, ap}
 use Rattle.std.specs.Prelude.{Bool, true, false, IfOk, IsErr, IsErrAnd, MatchResult}
 use Rattle.std.proofs.lemmas.List.Elements.{All-contains, All-nil, All-push, Contains-append_left}
@@ -17,8 +16,6 @@ use Rattle.merge_iter.specs.{WalkStart}
 use Rattle.table_format.specs.declared.sizes.TheConstants.{MAX_DATA}
 use Rattle.table_format.specs.RisingLemmas.{last_push, rising_push}
 use Rattle.table_format.specs.{AreRising, CanFollow, IsTableEntry}
-use Rattle.memtable.specs.{KeepsEntryLimits}
-use Rattle.kv_types.specs.declared.bounds.TheConstants.{MAX_VALUE}
 use Rattle.disk.specs.{Slot}
 use Rattle.table_builder.specs.declared.Builder.{Builder}
 use Rattle.table_builder.specs.{Builds, HoldsEntries, data_size}
@@ -195,18 +192,12 @@ pub added_here : (has : Entry → Type 0) (at : Position) (is_begun is_empty : T
 added_here has at is_begun is_empty slot builder entry on is a =
     walk_here has a.entries at entry on is a.walked
 
--- an entry of a memtable may stand in a table
-pub table_entry : (entry : Entry) → KeepsEntryLimits entry → IsTableEntry entry
-table_entry entry limits = record {
-  key = limits.key;
-  number = limits.number;
-  value = short_value entry.value limits.value;
-}
-  where
-    short_value : (value : Option (List ℕ)) → ForSome value (λ v. length v ≤ MAX_VALUE)
-        → IfSome value (λ v. length v ≤ MAX_VALUE)
-    short_value None short = tt
-    short_value (Some v) short = short v refl
+-- what is true where the cursor stands is true of its entry
+pub true_here : (at : Position) (P : Entry → Type 0) (entry : Entry) → IsOn at
+    → IfOn at (λ here. entry ≡ here) → IfOn at P → P entry
+true_here (On here) P entry on is at = subst P (sym is) at
+true_here Off P entry on is at = absurd on
+true_here Broken P entry on is at = absurd on
 
 -- entries that pass the limit are those of another set with the same entries
 limit_like : (own has : Entry → Type 0) → IsAlike own has → PassesLimit own → PassesLimit has

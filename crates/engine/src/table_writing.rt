@@ -7,7 +7,7 @@ ghost use Rattle.kv_types.specs.{Entry};
 ghost use Rattle.merge_iter.specs.{IfOn, IsOn};
 ghost use Rattle.manifest.specs.{IsTableLine};
 ghost use Rattle.memtable.specs.declared.Memtable.{Memtable};
-ghost use Rattle.memtable.specs.{HasFailedAdd, KeepsEntryLimits, TableHolds};
+ghost use Rattle.memtable.specs.{HasFailedAdd, TableHolds};
 ghost use Rattle.table_format.specs.{CanFollow, IsTableEntry, lent_entry};
 ghost use Rattle.table_builder.specs.{Builds, BuildsNothing, HoldsEntries, IsFresh, builder_file};
 ghost use Rattle.engine.specs.Errors.{FailsDevice, IsEnd, IsEngineExternal};
@@ -88,8 +88,6 @@ fn add_all<'a, D: Disk>(
     builder: &mut Builder,
     cursor: &mut MemCursor<'a>,
 ) -> Result<bool, EngineError>
-    requires { (entry : Entry) → ⟦<MemCursor<'a> as Cursor>⟧.holds tt cursor.old tt entry →
-        KeepsEntryLimits entry }
     ensures writes { WritesInto D.Disk (builder_file builder.old) disk.old disk.new
         (FailsDevice result) (D.is_honest disk.old ×
         Builds (D.state disk.old (builder_file builder.old)) builder.old [] → ⊥) }

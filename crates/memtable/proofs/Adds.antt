@@ -1,8 +1,8 @@
 -- The entries of a map with the entries of a batch.
 use Rattle.std.proofs.Common.{◌≡◌, ◌↔◌, ◌⊎◌, inl, inr, ℕ, ◌<◌, ◌≤◌, sym, ap, ◌∙◌, subst, List, []}
-use Rattle.std.proofs.Common.{◌∷◌, length, Bool, true, false, cond, Option, Some, None, refl, All}
+use Rattle.std.proofs.Common.{◌∷◌, length, Bool, true, false, cond, Option, Some, None, IfSome, refl, All}
 use Rattle.std.specs.List.{slice_get}
-use Rattle.std.specs.Option.{ForSome, option_or}
+use Rattle.std.specs.Option.{option_or}
 use Rattle.std.specs.Str.{bytes_eq}
 use Rattle.std.proofs.lemmas.Option.{same_Some, slice_get_within}
 use Rattle.std.proofs.lemmas.List.Elements.{All-head, All-tail}
@@ -79,14 +79,11 @@ still_rising m n number edits is rising below q = subst IsRisingList (sym (is q)
 -- the limits of what an edit leaves at a key
 record KeepsLimits (own : StoredKey) (left : Option (List ℕ)) : Type 0 where
   key : length own ≤ MAX_KEY
-  value : ForSome left (λ value. length value ≤ MAX_VALUE)
+  value : IfSome left (λ value. length value ≤ MAX_VALUE)
 
 limited_edit : (edit : Edit) → IsEdit edit → KeepsLimits (key_of edit) (value_put edit)
-limited_edit (Put key value) h = record {
-  key = h.0;
-  value = λ left is. subst (λ v. length v ≤ MAX_VALUE) (same_Some value left is) h.1;
-}
-limited_edit (Delete key) h = record { key = h; value = λ left is. absurd (cc) }
+limited_edit (Put key value) h = record { key = h.0; value = h.1 }
+limited_edit (Delete key) h = record { key = h; value = tt }
 
 of_edit : (edit : Edit) (key : StoredKey) (left : Option (List ℕ)) (t : Bool)
     → bytes_eq (key_of edit)

@@ -1,17 +1,23 @@
 -- A cursor over a memtable keeps what every cursor keeps.
 use Rattle.std.proofs.Common.{◌≡◌, ℕ, suc, ◌⊎◌, inl, inr, ◌<◌, ◌≤◌, sym, ap, ◌∙◌, subst, arith}
-use Rattle.std.proofs.Common.{List, [], ◌∷◌, length, Bool, true, false, cond, Some}
+use Rattle.std.proofs.Common.{List, [], ◌∷◌, length, Bool, true, false, cond, Option, Some, None}
+use Rattle.std.proofs.Common.{refl}
+use Rattle.std.specs.Option.{ForSome}
 use Rattle.std.specs.List.{slice_get}
 use Rattle.std.proofs.lemmas.Option.{same_Some}
 use Rattle.merge_iter.specs.declared.direction.Direction.{Direction}
 use Rattle.kv_types.specs.{Entry}
-use Rattle.merge_iter.specs.{Position, On, Off, Broken, IsApart}
+use Rattle.merge_iter.specs.{IfOn, IsTableEntry, Position, On, Off, Broken, IsApart}
 use Rattle.merge_iter.specs.EntryParts.{equal_parts}
 use Rattle.merge_iter.specs.{AreCursorLaws}
 use Rattle.memtable.specs.declared.cursor.MemCursor.{MemCursor}
+use Rattle.memtable.specs.declared.place.VersionPlace.{VersionPlace}
+use Rattle.memtable.specs.declared.version.Version.{Version}
+use Rattle.memtable.specs.declared.version.Versions.{Versions}
 use Rattle.memtable.specs.Maps.{VersionMap, MapHolds, HasRisingNumbers, versions_at, entry_version}
-use Rattle.memtable.specs.Maps.{version_entry}
-use Rattle.memtable.specs.Places.{cursor_position}
+use Rattle.memtable.specs.Maps.{HasLimits, found, version_entry}
+use Rattle.memtable.specs.Places.{IsVersionPlace, cursor_position, position_on}
+use Rattle.memtable.specs.Versions.{all_of}
 use Rattle.memtable.specs.Left.{map_entries, count, left_on}
 
 one : (b : Bool) (m n : ℕ) → m ≤ n → cond b (suc m) m ≤ suc n
@@ -48,6 +54,26 @@ apart m rising a b p q e =
       ]
     ]
 
+-- ---- the entry that it stands on
+
+fits_on : (map : VersionMap) (place : VersionPlace) (version : Option Version) → HasLimits map
+    → IsVersionPlace map place → slice_get (all_of place.versions.now) place.at ≡ version
+    → IfOn (position_on place.key.now version) IsTableEntry
+fits_on map place None limits is here = tt
+fits_on map place (Some version) limits is here =
+    limits (version_entry place.key.now version)
+    (place.at, ap (λ (o : Option Versions). slice_get (found o) place.at) is.found ∙ here)
+
+-- it keeps the limits that each entry of the map keeps
+mem_fits : (map : VersionMap) (has_failed : Bool) (place : Option VersionPlace)
+    → HasLimits map → ForSome place (IsVersionPlace map)
+    → IfOn (cursor_position has_failed place) IsTableEntry
+mem_fits map has_failed (Some place) limits placed =
+    fits_on map place (slice_get (all_of place.versions.now) place.at) limits (placed place refl)
+    refl
+mem_fits map true None limits placed = tt
+mem_fits map false None limits placed = tt
+
 -- ---- what the cursor is as one
 
 -- where it stands
@@ -81,3 +107,7 @@ cursor_laws = record {
   apart = λ m c a s. apart c.map.now c.rising;
   within = λ c way. left_within (map_entries c.map.now.entries) way (mem_position c);
 }
+
+-- the entry on which the cursor stands keeps its limits
+pub cursor_fits : (c : MemCursor) → IfOn (mem_position c) IsTableEntry
+cursor_fits c = mem_fits c.map.now c.has_failed c.place c.limits c.placed

@@ -7,6 +7,5 @@ pub mod Ranges
 pub mod Left
 pub mod CursorLaws
 -- What crates above name.
-pub use Rattle.memtable.specs.Maps.{KeepsEntryLimits}
 pub use Rattle.memtable.specs.Sizes.{batch_size, capped_sum}
 pub use Rattle.memtable.specs.Tables.{HasFailedAdd, IsFoundAt, IsNewNumber, TableHolds, table_bytes}

@@ -1,10 +1,9 @@
 -- The entries of a map from keys to their versions.
-use Rattle.std.specs.Prelude.{◌≡◌, ℕ, ◌≤◌, List, [], ◌∷◌, ◌++◌, length, slice_get}
+use Rattle.std.specs.Prelude.{◌≡◌, ℕ, List, [], ◌∷◌, ◌++◌, slice_get}
 use Rattle.std.specs.Prelude.{Option, Some, None}
-use Rattle.std.specs.Option.{ForSome}
 use Rattle.std.specs.BTreeMap.{BTreeMap, get}
 use Rattle.kv_types.specs.{Entry, StoredKey, stored_cmp}
-use Rattle.kv_types.specs.declared.bounds.TheConstants.{MAX_KEY, MAX_NUMBER, MAX_VALUE}
+use Rattle.merge_iter.specs.{IsTableEntry}
 use Rattle.memtable.specs.declared.version.Version.{Version}
 use Rattle.memtable.specs.declared.version.Versions.{Versions}
 use Rattle.memtable.specs.Versions.{all_of, IsRisingList}
@@ -40,19 +39,9 @@ MapHolds map entry =
 abbrev pub HasRisingNumbers : VersionMap → Type 0
 HasRisingNumbers map = (key : StoredKey) → IsRisingList (versions_at map key)
 
--- no key is longer than keys are
-abbrev pub HasShortKeys : VersionMap → Type 0
-HasShortKeys map = (entry : Entry) → MapHolds map entry → length entry.key ≤ MAX_KEY
-
--- the entry keeps the limits of keys, numbers and values
-pub record KeepsEntryLimits (entry : Entry) : Type 0 where
-  pub key : length entry.key ≤ MAX_KEY
-  pub number : entry.number ≤ MAX_NUMBER
-  pub value : ForSome entry.value (λ value. length value ≤ MAX_VALUE)
-
 -- each entry of the map keeps its limits
 abbrev pub HasLimits : VersionMap → Type 0
-HasLimits map = (entry : Entry) → MapHolds map entry → KeepsEntryLimits entry
+HasLimits map = (entry : Entry) → MapHolds map entry → IsTableEntry entry
 
 -- one more version of a key, if there is one
 abbrev pub added : List Version → ℕ → Option (Option (List ℕ)) → List Version

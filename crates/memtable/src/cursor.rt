@@ -3,9 +3,10 @@
 ghost use Rattle.std.specs.Prelude.{◌≡◌, ◌≤◌, IfOk, IfErr, IfSome, false, None};
 ghost use Rattle.std.specs.Option.{ForSome};
 ghost use Rattle.kv_types.specs.{lent_key};
+ghost use Rattle.std.proofs.Props.{props};
 ghost use Rattle.merge_iter.specs.declared.direction.Direction.TheVariants.{Forward};
 ghost use Rattle.merge_iter.specs.{EntryPrecedes, IsFirst, spot};
-ghost use Rattle.memtable.specs.Maps.{MapHolds, HasRisingNumbers, HasShortKeys};
+ghost use Rattle.memtable.specs.Maps.{MapHolds, HasRisingNumbers, HasLimits};
 ghost use Rattle.memtable.specs.Places.{IsVersionPlace, maybe_position};
 ghost use Rattle.memtable.specs.Ranges.{keys_after, keys_before};
 
@@ -30,7 +31,7 @@ pub struct MemCursor<'a> {
     before: Option<Range<'a, StoredKey, Versions>>,
     has_failed: bool,
     ghost rising: { HasRisingNumbers map.now },
-    ghost short: { HasShortKeys map.now },
+    ghost limits: { HasLimits map.now } by { Prim.hlevel props },
     ghost placed: { ForSome place (λ it. IsVersionPlace map.now it) },
     ghost held: { ForSome place (λ it. ForSome after (λ keys.
         keys ≡ keys_after map.now it.key.now)) },
@@ -46,7 +47,7 @@ fn sought<'a>(
     number: u64,
 ) -> Result<Option<VersionPlace<'a>>, CursorError>
     requires rising { HasRisingNumbers map.now }
-    requires short { HasShortKeys map.now }
+    requires limits { HasLimits map.now }
     ensures placed { IfOk result (λ place. IfSome place (IsVersionPlace map.now)) }
     ensures first { IfOk result (λ place. IsFirst Forward (λ entry. MapHolds map.now entry
         × (EntryPrecedes Forward entry (spot (lent_key key.entry) number) → ⊥))
@@ -65,7 +66,7 @@ fn sought<'a>(
 impl<'a> MemCursor<'a> {
     pub(crate) fn new(alloc: Global, map: &'a BTreeMap<StoredKey, Versions>) -> MemCursor<'a>
         requires rising { HasRisingNumbers map.now }
-        requires short { HasShortKeys map.now }
+        requires limits { HasLimits map.now }
         ensures map { result.map.now ≡ map.now }
         ensures off { (result.place ≡ None) × (result.has_failed ≡ false) }
     {
@@ -93,8 +94,8 @@ impl<'a> MemCursor<'a> {
 }
 
 impl<'a> Cursor for MemCursor<'a> {
-    ghost use Rattle.memtable.specs.CursorLaws.{cursor_laws, mem_position, MemCursorHolds};
-    ghost use Rattle.memtable.specs.CursorLaws.{mem_left, mem_most};
+    ghost use Rattle.memtable.specs.CursorLaws.{cursor_fits, cursor_laws, mem_position};
+    ghost use Rattle.memtable.specs.CursorLaws.{MemCursorHolds, mem_left, mem_most};
 
     type Source = ();
 
@@ -195,4 +196,6 @@ impl<'a> Cursor for MemCursor<'a> {
     }
 
     ghost laws = { cursor_laws };
+
+    ghost fits = { cursor_fits };
 }

@@ -3,8 +3,9 @@
 ghost use Rattle.std.specs.Prelude.{◌≡◌, ◌↔◌, ◌⊎◌, IsErr, IsErrOf, IfOk, OnOk, OnErr};
 ghost use Rattle.std.specs.Prelude.{IsOkUnless, Err, false};
 ghost use Rattle.kv_types.specs.{Entry, entries_of};
-ghost use Rattle.merge_iter.specs.{IsAlike, Off};
-ghost use Rattle.memtable.specs.Maps.{HasLimits, HasRisingNumbers, KeepsEntryLimits};
+ghost use Rattle.std.proofs.Props.{props};
+ghost use Rattle.merge_iter.specs.{IsAlike, IsTableEntry, Off};
+ghost use Rattle.memtable.specs.Maps.{HasLimits, HasRisingNumbers};
 
 use crate::cursor::MemCursor;
 use crate::error::MemtableError;
@@ -24,7 +25,7 @@ pub struct Memtable {
     bytes: u64,
     has_failed: bool,
     ghost rising: { has_failed ≡ false → HasRisingNumbers map },
-    ghost limits: { has_failed ≡ false → HasLimits map },
+    ghost limits: { has_failed ≡ false → HasLimits map } by { Prim.hlevel props },
 }
 
 impl Memtable {
@@ -102,7 +103,7 @@ impl Memtable {
             IsAlike (⟦<MemCursor<'a> as Cursor>⟧.holds tt cursor tt) (TableHolds self.now)) }
         ensures sound { IfOk result (λ cursor. ⟦<MemCursor<'a> as Cursor>⟧.is_sound tt cursor tt) }
         ensures limits { IfOk result (λ cursor. (entry : Entry) → TableHolds self.now entry →
-            KeepsEntryLimits entry) }
+            IsTableEntry entry) }
         ensures off { IfOk result (λ cursor. ⟦<MemCursor<'a> as Cursor>⟧.position cursor ≡ Off) }
         ensures failed { (result ≡ Err MemtableError.Failed) ↔ HasFailedAdd self.now }
         ensures only { IsOkUnless result MemtableError.Failed }

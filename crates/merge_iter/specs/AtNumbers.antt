@@ -1,14 +1,15 @@
 -- What a cursor over the entries shown at a number keeps.
-use Rattle.std.proofs.Common.{Bool, ◌≤◌, ◌+◌, ℕ, arith}
+use Rattle.std.proofs.Common.{Bool, ◌≤◌, ◌+◌, ℕ, arith, refl}
 use Rattle.merge_iter.specs.declared.direction.Direction.{Direction}
 use Rattle.merge_iter.specs.declared.direction.Direction.TheVariants.{Forward, Backward}
 use Rattle.merge_iter.specs.declared.mode.Mode.{Mode}
 use Rattle.merge_iter.specs.declared.mode.Mode.TheVariants as mode
 use Rattle.kv_types.specs.{Entry}
-use Rattle.merge_iter.specs.Positions.{Position}
+use Rattle.merge_iter.specs.Positions.{Position, IfOn}
+use Rattle.merge_iter.specs.TableEntries.{IsTableEntry}
 use Rattle.merge_iter.specs.Moves.{AreCursorLaws, IsLawful, law_at}
 use Rattle.kv_types.specs.{IsShown}
-use Rattle.merge_iter.specs.ShownEntries.{IsSettled, left_in}
+use Rattle.merge_iter.specs.ShownEntries.{IfKept, IsSettled, left_in, view_position}
 use Rattle.merge_iter.specs.Searches.{all_shown_alike, settled_alike}
 
 module _ {C S : Type 0} (holds : C → S → Entry → Type 0) (sound : C → S → Type 0) (suits : C → S →
@@ -90,3 +91,13 @@ module _ {C S K : Type 0} {as_is : S → K} {is_intact : K → S → Type 0}
         at m kept).apart;
     within = λ a way. all_within (inner a) (m a) way;
   }
+
+-- ---- the entry of a view
+
+-- the entry on which a view stands keeps its limits, if the inner cursor's and the kept one do
+pub view_fits : (m : Mode) (inner : Position) (kept : Entry) → IfOn inner IsTableEntry
+    → IfKept m (IsTableEntry kept) → IfOn (view_position m inner kept) IsTableEntry
+view_fits mode.Inner inner kept here own = here
+view_fits mode.Kept inner kept here own = own refl
+view_fits mode.Off inner kept here own = tt
+view_fits mode.Broken inner kept here own = tt

@@ -1,5 +1,6 @@
 pub mod Order
 pub mod Positions
+pub mod TableEntries
 pub mod Moves
 pub mod EntryOrder
 pub mod EntryParts
@@ -28,4 +29,5 @@ pub use Rattle.merge_iter.specs.Moves.{AreCursorLaws, Moved, MoveKeeps, reports}
 pub use Rattle.merge_iter.specs.Order.{EntryPrecedes, IsAlike, IsApart, entry_cmp, spot}
 pub use Rattle.merge_iter.specs.Positions.{After, At, AtEnd, Broken, IfOn, IsBroken, IsFirst}
 pub use Rattle.merge_iter.specs.Positions.{IsOn, Off, On, Position, WalkMeets, WalkStart}
+pub use Rattle.merge_iter.specs.TableEntries.{IsTableEntry}
 pub use Rattle.merge_iter.specs.Views.{IsView}

@@ -1,15 +1,18 @@
 -- A list in memory keeps what every cursor keeps.
 use Rattle.std.proofs.Common.{◌≡◌, ℕ, ◌⊎◌, inl, inr, ◌<◌, ◌≤◌, ◌+◌, sym, ap, ◌∙◌, arith, List}
 use Rattle.std.proofs.Common.{length, Bool, true, false, nat_lt, if◌then◌else◌}
-use Rattle.std.proofs.Common.{refl}
+use Rattle.std.proofs.Common.{refl, Option, Some, None}
+use Rattle.std.specs.List.{slice_get}
 use Rattle.std.specs.declared.cmp.Ordering.TheVariants.{Less, Equal}
 use Rattle.merge_iter.specs.declared.direction.Direction.{Direction}
 use Rattle.merge_iter.specs.declared.direction.Direction.TheVariants.{Forward, Backward}
 use Rattle.merge_iter.specs.declared.owned_entry.OwnedEntry.{OwnedEntry}
 use Rattle.merge_iter.specs.declared.list.ListCursor.{ListCursor}
 use Rattle.merge_iter.specs.Order.{IsApart}
-use Rattle.merge_iter.specs.Positions.{On}
-use Rattle.merge_iter.specs.ListEntries.{position_at, ListHolds, IsSortedList, entries_left}
+use Rattle.merge_iter.specs.Positions.{On, IfOn}
+use Rattle.merge_iter.specs.TableEntries.{IsTableEntry}
+use Rattle.merge_iter.specs.ListEntries.{position_at, position_of, ListHolds, IsSortedList}
+use Rattle.merge_iter.specs.ListEntries.{entries_left}
 use Rattle.merge_iter.specs.Moves.{AreCursorLaws}
 use Rattle.merge_iter.specs.EntryOrder.{never, same_right, equal_back}
 use Rattle.std.proofs.lemmas.Bool.{ltb-true}
@@ -57,3 +60,12 @@ list_laws = record {
   apart = λ m c a s. one_place c.entries.items s;
   within = λ c way. left_within c.entries.items c.at way;
 }
+
+-- an entry in memory keeps its limits
+owned_fits : (e : Option OwnedEntry) → IfOn (position_of e) IsTableEntry
+owned_fits None = tt
+owned_fits (Some e) = e.limits
+
+-- so does the one on which a list's cursor stands
+pub list_fits : (c : ListCursor) → IfOn (position_at c.entries.items c.at) IsTableEntry
+list_fits c = owned_fits (slice_get c.entries.items c.at)

@@ -64,6 +64,10 @@ view_position mode.Broken inner kept = Broken
 view_position mode.Inner inner kept = inner
 view_position mode.Kept inner kept = On kept
 
+-- this is true where the entry is one that was kept
+abbrev pub IfKept : Mode → Type 0 → Type 0
+IfKept m P = m ≡ mode.Kept → P
+
 -- the entry is shown; behind a kept one the inner cursor has gone on back
 abbrev pub IsSettled : ℕ → (Entry → Type 0) → Mode → Position → Entry → Type 0
 IsSettled at entries mode.Off inner kept = Unit {0}

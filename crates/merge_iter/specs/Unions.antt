@@ -1,6 +1,6 @@
 -- What a union of cursors keeps, where its children and their source are moved.
-use Rattle.std.proofs.Common.{Bool, ◌≡◌, ◌↔◌, ◌<◌, ◌≤◌, ℕ, inl, inr, refl, sym, ◌∙◌, subst}
-use Rattle.std.proofs.Common.{List, length, Some, arith}
+use Rattle.std.proofs.Common.{Bool, ◌≡◌, ◌↔◌, ◌<◌, ◌≤◌, ℕ, inl, inr, sym, ◌∙◌, subst}
+use Rattle.std.proofs.Common.{List, length, Option, Some, None, arith}
 use Rattle.std.specs.List.{slice_get, sum_by}
 use Rattle.std.proofs.lemmas.Option.{slice_get_within, slice_get_cases}
 use Rattle.std.proofs.lemmas.List.Sums.{sum_by-le-sum_by}
@@ -11,8 +11,11 @@ use Rattle.merge_iter.specs.declared.place.Place.TheVariants as place
 use Rattle.kv_types.specs.{Entry}
 use Rattle.merge_iter.specs.Order.{IsAlike, IsApart}
 use Rattle.merge_iter.specs.Positions.{Position, On, Off, Broken, IsFirst, WalkStart, At, WalkMeets}
+use Rattle.merge_iter.specs.Positions.{IfOn}
+use Rattle.merge_iter.specs.TableEntries.{IsTableEntry}
 use Rattle.merge_iter.specs.Merging.{EachChild, ChildrenKeep, AreApart, UnionHolds, IsPlaced}
-use Rattle.merge_iter.specs.Merging.{IsMerge, merged_left, merged_most}
+use Rattle.merge_iter.specs.Merging.{IsMerge, child_position, merged_left, merged_most}
+use Rattle.merge_iter.specs.Merging.{union_position}
 use Rattle.merge_iter.specs.Moves.{AreCursorLaws, EntriesStay, IsLawful, law_at}
 
 -- the same entries have the same first one
@@ -233,3 +236,19 @@ module _ {C S K : Type 0} {as_is : S → K} {is_intact : K → S → Type 0}
         children at).apart;
     within = λ m way. all_within (children m) (at m) way;
   }
+
+-- ---- the entry of a union
+
+module _ {C : Type 0} (position : C → Position)
+    (fits : (c : C) → IfOn (position c) IsTableEntry) where
+  -- the entry of a child keeps its limits
+  child_fits : (c : Option C) → IfOn (child_position position c) IsTableEntry
+  child_fits None = tt
+  child_fits (Some c) = fits c
+
+  -- so does the one on which the union stands
+  pub union_fits : (children : List C) (at : Place)
+      → IfOn (union_position position children at) IsTableEntry
+  union_fits children (place.On way k) = child_fits (slice_get children k)
+  union_fits children place.Off = tt
+  union_fits children place.Broken = tt

@@ -1,12 +1,14 @@
 //! The entries that the view at a number shows.
+ghost use Rattle.std.proofs.Props.{props};
 ghost use Rattle.std.specs.Prelude.{◌≡◌, ◌+◌};
 ghost use Rattle.merge_iter.specs.Order.{IsAlike};
 ghost use Rattle.merge_iter.specs.Positions.{Off};
 ghost use Rattle.merge_iter.specs.KeptEntries.{kept_entry};
 ghost use Rattle.kv_types.specs.{IsShown};
-ghost use Rattle.merge_iter.specs.ShownEntries.{IsSettled, view_position, left_in};
+ghost use Rattle.merge_iter.specs.ShownEntries.{IfKept, IsSettled, view_position, left_in};
+ghost use Rattle.merge_iter.specs.TableEntries.{IsTableEntry};
 ghost use Rattle.merge_iter.specs.Views.{IsView};
-ghost use Rattle.merge_iter.specs.AtNumbers.{view_laws};
+ghost use Rattle.merge_iter.specs.AtNumbers.{view_fits, view_laws};
 
 use crate::cursor::Cursor;
 use crate::error::CursorError;
@@ -28,6 +30,7 @@ pub struct AtNumber<C> {
     at: u64,
     mode: Mode,
     kept: KeptEntry,
+    ghost kept_fits: { IfKept mode (IsTableEntry (kept_entry kept)) } by { Prim.hlevel props },
 }
 
 impl<C: Cursor> AtNumber<C> {
@@ -172,4 +175,7 @@ impl<C: Cursor> Cursor for AtNumber<C> {
 
     ghost laws = { view_laws C.holds C.is_sound C.suits C.keeps C.left C.most C.position C.laws
         (λ a. a.inner) (λ a. a.at) (λ a. a.mode) (λ a. kept_entry a.kept) };
+
+    ghost fits = { λ a. view_fits a.mode (C.position a.inner) (kept_entry a.kept) (C.fits a.inner)
+        a.kept_fits };
 }

@@ -3,6 +3,7 @@ ghost use Rattle.std.specs.Prelude.{Bool, ◌≡◌, ◌↔◌, ◌<◌, ℕ, Is
 ghost use Rattle.kv_types.specs.{Entry, lent_key};
 ghost use Rattle.merge_iter.specs.Order.{spot};
 ghost use Rattle.merge_iter.specs.Positions.{Position, AtEnd, At, After, IsOn, IfOn, IsBroken};
+ghost use Rattle.merge_iter.specs.TableEntries.{IsTableEntry};
 ghost use Rattle.merge_iter.specs.Moves.{CanStep, MoveFinds, Moved};
 ghost use Rattle.merge_iter.specs.Moves.{ErrorCauses, AreCursorLaws, reports};
 ghost use Rattle.merge_iter.specs.declared.direction.Direction.{Direction as Way};
@@ -160,4 +161,7 @@ pub trait Cursor {
     /// What all cursors of a kind have in common: a move of one leaves the others sound, no two
     /// entries share key and number, and `left` is at most `most`.
     ghost laws: { AreCursorLaws as_is is_intact holds is_sound suits keeps makes left most };
+
+    /// An entry on which a cursor stands keeps the limits of a table's entry, whatever the source.
+    ghost fits: { (cursor : Self) → IfOn (position cursor) IsTableEntry };
 }

@@ -4,7 +4,7 @@ ghost use Rattle.std.specs.Ordering.{is_lt};
 ghost use Rattle.kv_types.specs.{lent_key};
 ghost use Rattle.merge_iter.specs.ListEntries.{position_at, entry_of, ListHolds, IsSortedList};
 ghost use Rattle.merge_iter.specs.ListEntries.{entries_left};
-ghost use Rattle.merge_iter.specs.Lists.{list_laws};
+ghost use Rattle.merge_iter.specs.Lists.{list_fits, list_laws};
 ghost use Rattle.merge_iter.specs.Order.{IsAlike, entry_cmp, spot};
 ghost use Rattle.merge_iter.specs.Positions.{Off};
 
@@ -125,4 +125,6 @@ impl Cursor for ListCursor {
     }
 
     ghost laws = { list_laws };
+
+    ghost fits = { list_fits };
 }

@@ -4,7 +4,7 @@ ghost use Rattle.merge_iter.specs.Order.{IsAlike};
 ghost use Rattle.merge_iter.specs.Positions.{After, AtEnd, IfOn, IsBroken, Off};
 ghost use Rattle.merge_iter.specs.Moves.{CanStep, MoveFinds, reports};
 ghost use Rattle.merge_iter.specs.Merging.{EachChild, union_position, merged_left, merged_most};
-ghost use Rattle.merge_iter.specs.Unions.{union_laws};
+ghost use Rattle.merge_iter.specs.Unions.{union_fits, union_laws};
 ghost use Rattle.merge_iter.specs.LentCursors.{AreDisjoint, AreSound, IsUnion, KeepsChildren};
 ghost use Rattle.merge_iter.specs.LentCursors.{IsIntactUnion};
 ghost use Rattle.merge_iter.specs.LentCursors.{RefusesMove, union_of};
@@ -201,4 +201,6 @@ impl<C: Cursor> Cursor for Merged<C> {
 
     ghost laws = { union_laws C.holds C.is_sound C.suits C.keeps C.most C.left C.position C.laws
         (λ m. m.children.items) (λ m. m.place) };
+
+    ghost fits = { λ m. union_fits C.position C.fits m.children.items m.place };
 }

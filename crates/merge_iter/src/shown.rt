@@ -4,9 +4,10 @@ ghost use Rattle.kv_types.specs.{Entry};
 ghost use Rattle.merge_iter.specs.Positions.{WalkStart, IsOn, IfOn, IsBroken};
 ghost use Rattle.merge_iter.specs.KeptEntries.{kept_entry};
 ghost use Rattle.merge_iter.specs.ShownEntries.{IsHidden, IsJudged, IsJudgedBack, IsAhead};
-ghost use Rattle.merge_iter.specs.ShownEntries.{IsBefore};
+ghost use Rattle.merge_iter.specs.ShownEntries.{IfKept, IsBefore};
 ghost use Rattle.merge_iter.specs.ShownEntries.{IsFound, IsForward};
 ghost use Rattle.merge_iter.specs.ShownEntries.{view_position, left_in};
+ghost use Rattle.merge_iter.specs.TableEntries.{IsTableEntry};
 ghost use Rattle.merge_iter.specs.declared.direction.Direction.TheVariants.{Forward, Backward};
 ghost use Rattle.merge_iter.specs.Moves.{reports};
 ghost use Rattle.merge_iter.specs.LentCursors.{IsIntact, KeepsCursor, RefusesMove};
@@ -115,6 +116,7 @@ pub fn find_back<C: Cursor>(
         source.old source.new result }
     ensures unbroken { IfOk result
         (λ mode. IsBroken (view_position mode (C.position inner.new) (kept_entry kept.new)) → ⊥) }
+    ensures fits { IfOk result (λ mode. IfKept mode (IsTableEntry (kept_entry kept.new))) }
     ensures left { IfOk result (λ mode. left_in (C.left inner.new) (C.most inner.new) mode Backward
         ≤ C.left inner.old Backward) }
     ensures finds { (meant : C.Meant) → (start : WalkStart) → C.is_sound meant inner.old

@@ -6,7 +6,8 @@ ghost use Rattle.merge_iter.specs.Positions.{AtEnd, At, After, On, WalkMeets, Is
 ghost use Rattle.merge_iter.specs.Positions.{IsFirst};
 ghost use Rattle.merge_iter.specs.KeptEntries.{kept_entry};
 ghost use Rattle.merge_iter.specs.ShownEntries.{IsBefore, IsFound, IsSettled, view_position};
-ghost use Rattle.merge_iter.specs.ShownEntries.{left_in};
+ghost use Rattle.merge_iter.specs.ShownEntries.{IfKept, left_in};
+ghost use Rattle.merge_iter.specs.TableEntries.{IsTableEntry};
 ghost use Rattle.merge_iter.specs.declared.direction.Direction.TheVariants.{Forward, Backward};
 ghost use Rattle.merge_iter.specs.Moves.{reports};
 ghost use Rattle.merge_iter.specs.LentCursors.{IsIntact, KeepsCursor, RefusesMove};
@@ -86,6 +87,7 @@ pub fn first_shown<C: Cursor>(
         source.old source.new result }
     ensures unbroken { IfOk result
         (λ mode. IsBroken (view_position mode (C.position inner.new) (kept_entry kept.new)) → ⊥) }
+    ensures fits { IfOk result (λ mode. IfKept mode (IsTableEntry (kept_entry kept.new))) }
     ensures finds { (meant : C.Meant) → C.is_sound meant inner.old source.old →
         IsFound Forward at (C.holds meant inner.old source.old) AtEnd result (C.position inner.new)
         (kept_entry kept.new) }
@@ -107,6 +109,7 @@ pub fn last_shown<C: Cursor>(
         source.old source.new result }
     ensures unbroken { IfOk result
         (λ mode. IsBroken (view_position mode (C.position inner.new) (kept_entry kept.new)) → ⊥) }
+    ensures fits { IfOk result (λ mode. IfKept mode (IsTableEntry (kept_entry kept.new))) }
     ensures finds { (meant : C.Meant) → C.is_sound meant inner.old source.old →
         IsFound Backward at (C.holds meant inner.old source.old) AtEnd result (C.position inner.new)
         (kept_entry kept.new) }
@@ -148,6 +151,7 @@ pub fn seek_shown<C: Cursor>(
         source.old source.new result }
     ensures unbroken { IfOk result
         (λ mode. IsBroken (view_position mode (C.position inner.new) (kept_entry kept.new)) → ⊥) }
+    ensures fits { IfOk result (λ mode. IfKept mode (IsTableEntry (kept_entry kept.new))) }
     ensures finds { (meant : C.Meant) → C.is_sound meant inner.old source.old →
         IsFound Forward at (C.holds meant inner.old source.old)
         (At (spot (lent_key key.entry) number)) result (C.position inner.new)
@@ -177,6 +181,7 @@ pub fn next_shown<C: Cursor>(
         source.old source.new result }
     ensures unbroken { IfOk result
         (λ mode. IsBroken (view_position mode (C.position inner.new) (kept_entry kept.new)) → ⊥) }
+    ensures fits { IfOk result (λ mode. IfKept mode (IsTableEntry (kept_entry kept.new))) }
     ensures left { IfOk result (λ new. left_in (C.left inner.new) (C.most inner.new) new Forward
         < left_in (C.left inner.old) (C.most inner.old) mode Forward) }
     ensures finds { (meant : C.Meant) → (entry : Entry) → C.is_sound meant inner.old source.old →
@@ -234,6 +239,7 @@ pub fn prev_shown<C: Cursor>(
         source.old source.new result }
     ensures unbroken { IfOk result
         (λ mode. IsBroken (view_position mode (C.position inner.new) (kept_entry kept.new)) → ⊥) }
+    ensures fits { IfOk result (λ mode. IfKept mode (IsTableEntry (kept_entry kept.new))) }
     ensures left { IfOk result (λ new. left_in (C.left inner.new) (C.most inner.new) new Backward
         < left_in (C.left inner.old) (C.most inner.old) mode Backward) }
     ensures finds { (meant : C.Meant) → (entry : Entry) → C.is_sound meant inner.old source.old →

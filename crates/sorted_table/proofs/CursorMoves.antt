@@ -2,8 +2,7 @@
 use Rattle.std.proofs.Common.{◌≡◌, ◌↔◌, ℕ, List, Option, None, IfSome, sym, ap, subst, ◌∙◌}
 use Rattle.std.proofs.Common.{Result, Ok, Err, OnOk, OnErr, Bool, true, false, IsTrue}
 use Rattle.disk.specs.declared.Disk.{Ghosts}
-use Rattle.merge_iter.specs.{ErrorCauses, Moved}
-use Rattle.merge_iter.specs.declared.CursorError.TheVariants as cursor
+use Rattle.merge_iter.specs.{Moved}
 use Rattle.table_format.specs.declared.IndexLine.{IndexLine}
 use Rattle.table_files.specs.{KeepsFiles}
 use Rattle.sorted_table.specs.declared.block_place.BlockPlace.{BlockPlace}
@@ -12,10 +11,6 @@ use Rattle.sorted_table.specs.Meant.{AreAsMeant}
 use Rattle.sorted_table.specs.TableCursors.{CursorServes, FileHolds, HasLines, IsPlaceIn}
 use Rattle.sorted_table.specs.TableCursorLaws.{FileSuits, ServesMeant}
 use Rattle.disk.specs.{Slot, State}
-
-pub is_off : (b : Bool) → b ≡ false → IsTrue b → ⊥
-is_off true is h = absurd cc
-is_off false is h = absurd cc
 
 -- what follows where a test fails
 pub when_false : (b : Bool) (P : Type 0) → b ≡ false → ((IsTrue b → ⊥) → P) → P
@@ -27,18 +22,6 @@ pub entered_or_none : {A B : Type 0} {E : Type 0} (P : B → Type 0) (o : Option
     (result : Result A E) → OnOk result (IfSome o P) → OnErr result ((o ≡ None) × Q) → IfSome o P
 entered_or_none P o Q (Ok x) entered refused = entered
 entered_or_none P o Q (Err e) entered refused = subst (λ p. IfSome p P) (sym refused.0) tt
-
--- a refusal that only an unsound cursor meets, behind calls that succeeded
-pub damaged_never : {R A : Type 0} (sound all : Type 0) (before : ℕ) (x : R) (now : ℕ)
-    → ErrorCauses {R = R} all ⊥ A before now (Ok x) → (sound → ⊥)
-    → ErrorCauses {R = R} sound ⊥ A before now (Err cursor.Damaged)
-damaged_never sound all before x now causes never = record {
-  disk = λ e. absurd cc;
-  others = λ e. causes.others (λ d. absurd cc);
-  damaged = λ e s. never s;
-  memory = λ e. absurd cc;
-  failed = ((λ e. cc), (λ b. absurd b));
-}
 
 module _ {C S : Type 0} (g : Ghosts S) (file : C → ℕ) (lines : C → List IndexLine)
     (place : C → Option BlockPlace) where

@@ -1,6 +1,6 @@
 -- Entries of a block, read one behind the other, and again from their places.
 use Rattle.std.proofs.Common.{◌≡◌, ℕ, ◌+◌, ◌-◌, ◌≤◌, ◌<◌, List, [], ◌∷◌, ◌++◌, length, map, take, drop}
-use Rattle.std.proofs.Common.{Option, Some, None, IsSome, All, refl, sym, ap, subst, ◌∙◌, arith}
+use Rattle.std.proofs.Common.{Option, Some, None, IsSomeAnd, All, refl, sym, ap, subst, ◌∙◌, arith}
 use Rattle.std.proofs.Common.{append_assoc, length-append, take-append-drop}
 use Rattle.std.specs.List.{AllByRecursion}
 use Rattle.std.specs.Option.{option_map}
@@ -186,16 +186,19 @@ all_read block first rest starts count entries w b each is =
 -- ---- all of them
 
 each_read : (block starts : List ℕ) (entries : List Entry) → ReadsEntries block starts entries
-    → AllByRecursion (λ start. IsSome (entry_read block start)) starts
-each_read block [] entries is = tt
-each_read block (s ∷ starts) [] is = absurd cc
-each_read block (s ∷ starts) (x ∷ entries) is =
+    → AllByRecursion IsTableEntry entries
+    → AllByRecursion (λ start. IsSomeAnd (entry_read block start) IsTableEntry) starts
+each_read block [] entries is each = tt
+each_read block (s ∷ starts) [] is each = absurd cc
+each_read block (s ∷ starts) (x ∷ entries) is each =
     let here : entry_read block s ≡ Some x = cc in
-    let others : map (entry_read block) starts ≡ map Some entries = cc in
-    (subst IsSome (sym here) refl, each_read block starts entries others)
+    let others : map (entry_read block) starts ≡ map Some entries = cc in (
+      subst (λ (o : Option Entry). IsSomeAnd o IsTableEntry) (sym here) each.0,
+      each_read block starts entries others each.1,
+    )
 
 pub are_read : (block starts : List ℕ) (entries : List Entry) → ReadsEntries block starts entries
-    → AreRead block starts
-are_read block starts entries is =
-    All-from_recursion (λ start. IsSome (entry_read block start)) starts
-    (each_read block starts entries is)
+    → AllByRecursion IsTableEntry entries → AreRead block starts
+are_read block starts entries is each =
+    All-from_recursion (λ start. IsSomeAnd (entry_read block start) IsTableEntry) starts
+    (each_read block starts entries is each)

@@ -1,11 +1,14 @@
 -- A cursor over a table keeps what every cursor keeps.
 use Rattle.std.proofs.Common.{◌≡◌, ℕ, List, Option, Some, None, refl, sym, ◌∙◌}
-use Rattle.std.proofs.Common.{subst, IsSomeAnd, Contains}
+use Rattle.std.proofs.Common.{subst, IsSomeAnd, Contains, Bool, true, false, slice_get}
+use Rattle.std.specs.Rc.{rc_slice_items}
 use Rattle.std.specs.Option.{ForSome}
+use Rattle.std.proofs.lemmas.Option.{get_or_from_slice_get, slice_get_within}
+use Rattle.std.proofs.lemmas.List.Elements.{All-get_or}
 use Rattle.disk.specs.declared.Disk.{Ghosts}
 use Rattle.disk.specs.{Slot, State, seen}
-use Rattle.kv_types.specs.{Entry}
-use Rattle.merge_iter.specs.{AreCursorLaws, IsApart}
+use Rattle.kv_types.specs.{Entry, ◌>>=◌}
+use Rattle.merge_iter.specs.{AreCursorLaws, IfOn, IsApart, IsTableEntry}
 use Rattle.table_format.specs.{AreRising, TableRepresents}
 use Rattle.table_format.specs.declared.IndexLine.{IndexLine}
 use Rattle.table_format.specs.TablesLemmas.{table_is_unique}
@@ -17,7 +20,9 @@ use Rattle.sorted_table.specs.LineSizesLemmas.{steps_within}
 use Rattle.sorted_table.specs.RisingEntries.{rising_apart}
 use Rattle.sorted_table.specs.MovedFiles.{MovesFiles, moves_itself, moves_through}
 use Rattle.sorted_table.specs.Meant.{AreAsMeant}
-use Rattle.sorted_table.specs.TableCursors.{CursorServes, FileHolds}
+use Rattle.sorted_table.specs.EntryReads.{entry_read}
+use Rattle.sorted_table.specs.TableCursors.{CursorServes, FileHolds, entry_position}
+use Rattle.sorted_table.specs.TableCursors.{table_position}
 
 -- ---- the entries of a file
 
@@ -42,6 +47,33 @@ files_apart file a b p q e =
     let same = one_list file q.0 p.0 q.1 p.1 in
     rising_apart p.0 (rising_of (seen file) p.0 p.1) a b p.2
     (subst (λ l. Contains l b) same q.2) e
+
+-- ---- the entry that a cursor stands on
+
+-- an entry that was read keeps its limits
+read_fits : (entry : Option Entry) → IsSomeAnd entry IsTableEntry
+    → IfOn (entry_position entry) IsTableEntry
+read_fits (Some entry) is = is
+read_fits None is = absurd is
+
+fits_at : (block : List ℕ) (start : Option ℕ)
+    → ((s : ℕ) → start ≡ Some s → IsSomeAnd (entry_read block s) IsTableEntry)
+    → IfOn (entry_position (start >>= λ s. entry_read block s)) IsTableEntry
+fits_at block (Some s) is = read_fits (entry_read block s) (is s refl)
+fits_at block None is = tt
+
+-- so does the one at a place in a block
+pub table_fits : (has_failed : Bool) (place : Option BlockPlace)
+    → IfOn (table_position has_failed place) IsTableEntry
+table_fits has_failed (Some place) =
+    let block = rc_slice_items place.block in
+    let starts = place.starts.items in
+    let P : ℕ → Type 0 = λ start. IsSomeAnd (entry_read block start) IsTableEntry in
+    fits_at block (slice_get starts place.at)
+    (λ s here. subst P (get_or_from_slice_get starts place.at s s here)
+    (All-get_or P starts place.at s (slice_get_within starts place.at s here) place.read))
+table_fits true None = tt
+table_fits false None = tt
 
 -- ---- the laws
 

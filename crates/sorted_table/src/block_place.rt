@@ -1,6 +1,7 @@
 //! A place in a block.
 ghost use Rattle.std.specs.Prelude.{◌≡◌, ◌<◌, ◌≤◌, ◌+◌, ◌-◌, ◌⊎◌, List, Some, IfErr, IfOk, IsTrue};
 ghost use Rattle.std.specs.Prelude.{MatchResult, length};
+ghost use Rattle.std.proofs.Props.{props};
 ghost use Rattle.std.specs.Rc.{rc_slice_items};
 ghost use Rattle.kv_types.specs.{Entry, lent_key};
 ghost use Rattle.merge_iter.specs.{spot};
@@ -21,7 +22,7 @@ pub struct BlockPlace {
     block: RcSlice<u8>,
     starts: Vec<usize>,
     at: usize,
-    ghost read: { AreRead (rc_slice_items block) starts.items },
+    ghost read: { AreRead (rc_slice_items block) starts.items } by { Prim.hlevel props },
     ghost within: { at < length starts.items },
 }
 
@@ -117,22 +118,19 @@ impl BlockPlace {
         self
     }
 
-    /// Moves to the first entry of the block that does not come before this key and number.
-    /// Answers `false` if there is none, and stays.
-    pub fn seek(&mut self, key: LentKey, number: u64) -> bool
+    /// Moves to the first entry of the block that does not come before this key and number, or to
+    /// the last entry.
+    pub fn seek(&mut self, key: LentKey, number: u64)
         ensures same { IsMovedTo self.new.at self.old self.new }
         ensures found { (entries : List Entry) → AreRising entries → PlaceReads self.old entries →
-            IsTrue result → SplitsEntries entries (spot (lent_key key.entry) number) self.new.at }
-        ensures none { (entries : List Entry) → AreRising entries → PlaceReads self.old entries →
-            (IsTrue result → ⊥) → SplitsEntries entries (spot (lent_key key.entry) number)
-            (length entries) }
+            (SplitsEntries entries (spot (lent_key key.entry) number) (length entries) → ⊥) →
+            SplitsEntries entries (spot (lent_key key.entry) number) self.new.at }
     {
         let at = count_before(&self.block, &self.starts, key, number);
         if at < self.starts.len() {
             self.at = at;
-            true
-        } else {
-            false
+            return;
         }
+        self.at = self.starts.len() - 1;
     }
 }

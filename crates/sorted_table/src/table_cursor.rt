@@ -185,7 +185,7 @@ impl<D: Disk + Drop> Cursor for TableCursor<D> {
     ghost use Rattle.sorted_table.specs.LineSizes.{blocks_size, steps_left};
     ghost use Rattle.sorted_table.specs.TableCursors.{CursorServes, FileHolds, table_position};
     ghost use Rattle.sorted_table.specs.TableCursorLaws.{AreIntactFiles, FileSuits};
-    ghost use Rattle.sorted_table.specs.TableCursorLaws.{ServesMeant, table_laws};
+    ghost use Rattle.sorted_table.specs.TableCursorLaws.{ServesMeant, table_fits, table_laws};
 
     type Source = Files<D>;
 
@@ -283,10 +283,8 @@ impl<D: Disk + Drop> Cursor for TableCursor<D> {
         let Some(mut place) = self.place.take() else {
             return Ok(());
         };
-        if !place.seek(key, number) {
-            self.has_failed = true;
-            return Err(CursorError::Damaged);
-        }
+        // The last entry of the block is not before them, since its line is not.
+        place.seek(key, number);
         self.place = Some(place);
         Ok(())
     }
@@ -304,4 +302,6 @@ impl<D: Disk + Drop> Cursor for TableCursor<D> {
 
     ghost laws = { table_laws ⟦<Files<D> as Disk>⟧ (λ c. c.file) (λ c. rc_slice_items c.lines)
         (λ c. c.place) (λ c. c.bounded) };
+
+    ghost fits = { λ c. table_fits c.has_failed c.place };
 }

@@ -4,10 +4,11 @@ use Rattle.std.specs.Prelude.{Option, Some, None, IfSome, All, AllPairs}
 use Rattle.std.specs.List.{flat_map}
 use Rattle.std.specs.Int.{w32, w64, to_be_bytes}
 use Rattle.sha2.specs.Sha256.{sha256}
-use Rattle.kv_types.specs.declared.bounds.TheConstants.{MAX_KEY, MAX_VALUE, MAX_NUMBER}
 use Rattle.kv_types.specs.{Entry, StoredKey, text_bytes}
+use Rattle.kv_types.specs.declared.bounds.TheConstants.{MAX_KEY}
 use Rattle.merge_iter.specs.declared.Direction.TheVariants.{Forward}
 use Rattle.merge_iter.specs.{EntryPrecedes}
+pub use Rattle.merge_iter.specs.{IsTableEntry}
 
 -- ---- parts of a file
 
@@ -47,12 +48,6 @@ entry_bytes entry = key_bytes entry.key ++ (be64 entry.number ++ change_bytes en
 
 abbrev pub entries_bytes : List Entry → List ℕ
 entries_bytes entries = flat_map entry_bytes entries
-
--- an entry keeps the limits of keys, numbers and values
-pub record IsTableEntry (entry : Entry) : Type 0 where
-  pub key : IsStoredKey entry.key
-  pub number : entry.number ≤ MAX_NUMBER
-  pub value : IfSome entry.value (λ value. length value ≤ MAX_VALUE)
 
 -- each entry comes before those behind it: keys rise, and the numbers of one key fall
 abbrev pub AreRising : List Entry → Type 0

@@ -1,13 +1,11 @@
 //! Tables in files: their bytes, lookups, the calls of the device that these make, and what damage
 //! answers.
-ghost use Rattle.std.specs.Prelude.{IfSome};
 ghost use Rattle.table_format.specs.{IsTableEntry, lent_entry};
 
 use crate::counts::is_count;
 use crate::parts::{BLOCK, FILTER, FOOTER, INDEX};
 use crate::sequence::copy_of;
 use disk::{Crash, Disk, Fault, MemDisk};
-use kv_types::bounds::{MAX_KEY, MAX_NUMBER, MAX_VALUE};
 use merge_iter::OwnedEntry;
 use sorted_table::{Table, TableError};
 use std::alloc::Global;
@@ -19,22 +17,15 @@ use table_format::LentEntry;
 /// The file of the table.
 pub const FILE: u64 = 3;
 
-/// The entry, lent, if it is within the limits of tables.
-fn lent(entry: &OwnedEntry) -> Option<LentEntry<'_>>
-    ensures { IfSome result (λ lent. IsTableEntry (lent_entry lent)) }
+/// The entry, lent.
+fn lent(entry: &OwnedEntry) -> LentEntry<'_>
+    ensures { IsTableEntry (lent_entry result) }
 {
-    let value = entry.value.as_deref();
-    if entry.key.len() > MAX_KEY || entry.number > MAX_NUMBER {
-        return None;
-    }
-    if value.is_some_and(|value| value.len() > MAX_VALUE) {
-        return None;
-    }
-    Some(LentEntry {
+    LentEntry {
         key: &entry.key,
         number: entry.number,
-        value,
-    })
+        value: entry.value.as_deref(),
+    }
 }
 
 /// Adds these entries.
@@ -46,8 +37,7 @@ fn add_all<D: Disk>(
     entries: &[OwnedEntry],
 ) {
     for entry in entries {
-        let entry = lent(entry).expect(rt, "an entry within the limits");
-        builder.add(alloc, disk, entry).expect(rt, "an entry");
+        builder.add(alloc, disk, lent(entry)).expect(rt, "an entry");
     }
 }
 
@@ -81,11 +71,9 @@ pub fn entry_of(
     number: u64,
     value: Option<&[u8]>,
 ) -> OwnedEntry {
-    OwnedEntry {
-        key: copy_of(rt, alloc, key),
-        number,
-        value: copy_of_some(rt, alloc, value),
-    }
+    let key = copy_of(rt, alloc, key);
+    let value = copy_of_some(rt, alloc, value);
+    OwnedEntry::new(key, number, value).expect(rt, "an entry within the limits")
 }
 
 /// The disk with a cache of so many blocks.

@@ -1,8 +1,8 @@
 use Rattle.std.proofs.Common.{ℕ, [], ◌∷◌, ◌++◌, ◌∙◌, refl, subst, sym}
 use Rattle.engine.specs.Errors.{FailsDevice, IsEngineExternal}
 use Rattle.engine.specs.KeepingLemmas.{answered}
-use Rattle.memtable.specs.CursorLaws.{MemCursorHolds, cursor_laws, mem_position}
-use Rattle.merge_iter.specs.{IsOn}
+use Rattle.memtable.specs.CursorLaws.{MemCursorHolds, cursor_fits, cursor_laws, mem_position}
+use Rattle.merge_iter.specs.{IsOn, IsTableEntry}
 use Rattle.table_format.specs.{lent_entry}
 use Rattle.table_builder.specs.{Builds, BuildsNothing, builder_file}
 use Rattle.engine.specs.TableWriting.{HasAddedAll, HasAddedOne, HoldsOneMore, WritesInto}
@@ -10,7 +10,7 @@ use Rattle.engine.proofs.Keeping.{done, passed_on}
 use Rattle.engine.proofs.Causes.{refuses}
 use Rattle.engine.proofs.TableCalls.{writes_as, writes_behind, writes_done, writes_nothing}
 use Rattle.engine.proofs.TableWalks.{added_here, alike_through, for_memory, is_answer}
-use Rattle.engine.proofs.TableWalks.{memory_answer, table_entry, walk_begins, walk_ends}
+use Rattle.engine.proofs.TableWalks.{memory_answer, true_here, walk_begins, walk_ends}
 use Rattle.engine.proofs.TableWalks.{walk_goes, walk_limit}
 use Rattle.engine.proofs.table_writing.add_all.Goals as goal
 
@@ -46,11 +46,8 @@ loop-alloc-init g c =
 
 pub add_one-requires : goal.add_one-requires
 add_one-requires g c =
-    let i = c.loop-alloc.invariant in
-    let entry = lent_entry c.entry_at.result in
-    table_entry entry (c.requires entry (added_here (MemCursorHolds c.args.cursor.now)
-    (mem_position c.loop-alloc.cursor) _ _ _ _ entry (c.valid.ensures.0 c.loop-alloc-test.true)
-    c.entry_at.ensures i.added).0)
+    true_here (mem_position c.loop-alloc.cursor) IsTableEntry (lent_entry c.entry_at.result)
+    (c.valid.ensures.0 c.loop-alloc-test.true) c.entry_at.ensures (cursor_fits c.loop-alloc.cursor)
 
 pub returns-in_err-add_one-clause-writes : goal.returns-in_err-add_one-clause-writes
 returns-in_err-add_one-clause-writes g c =

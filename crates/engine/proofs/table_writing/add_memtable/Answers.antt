@@ -4,10 +4,6 @@ use Rattle.table_builder.specs.{builder_file}
 use Rattle.engine.proofs.TableWalks.{added_like, room_like}
 use Rattle.engine.proofs.table_writing.add_memtable.Goals as goal
 
-pub add_all-requires : goal.add_all-requires
-add_all-requires g c = λ entry has.
-    c.in_ok-cursor.ensures.limits entry ((c.in_ok-cursor.ensures.holds entry).0 has)
-
 pub returns-clause-added : goal.returns-clause-added
 returns-clause-added g c = λ honest begun.
     added_like (MemCursorHolds c.in_ok-cursor.cursor) (TableHolds c.args.memtable.now)

@@ -1,6 +1,5 @@
 use Rattle.std.proofs.Common.{refl, length, arith}
 use Rattle.std.proofs.lemmas.Option.{slice_get_read}
-use Rattle.merge_iter.specs.Merging.{EachChild}
 use Rattle.merge_iter.specs.Moves.{one_move}
 use Rattle.merge_iter.specs.LentCursors.{AreIntact, IsIntact}
 use Rattle.merge_iter.specs.Moves.{law_at}

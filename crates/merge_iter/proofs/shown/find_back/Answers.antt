@@ -5,6 +5,7 @@ use Rattle.merge_iter.specs.KeptEntries.{kept_entry}
 use Rattle.merge_iter.specs.Moves.{law_at}
 use Rattle.merge_iter.specs.Moves.{reports}
 use Rattle.merge_iter.proofs.Walked.{all_itself, all_through, back_on, left_on, back_end}
+use Rattle.merge_iter.proofs.KeptLimits.{back_fits, left_fits}
 use Rattle.merge_iter.proofs.shown.find_back.Goals as goal
 
 pub loop-inner-init : goal.loop-inner-init
@@ -15,6 +16,7 @@ loop-inner-init g c = record {
   count = refl;
   left = omega arith;
   less = λ e. let z : false ≡ true = e in cc;
+  fits = λ e. let z : false ≡ true = e in cc;
   way = λ meant start s a. a;
 }
 
@@ -35,6 +37,13 @@ loop-inner-preserved g c =
       count = c.prev.ensures.causes.others (λ e. cc) ∙ i.count;
       left = omega (arith, less, fewer);
       less = λ e. omega (arith, less, fewer);
+      fits = back_fits c.args.at c.loop-inner.found (kept_entry c.loop-inner.kept)
+          c.is_left.new.found (kept_entry c.is_left.new.kept)
+          (g.C.Cursor.position c.loop-inner.inner) on (g.met.C.Cursor.fits c.loop-inner.inner)
+          (subst (λ b. IfOn (g.C.Cursor.position c.loop-inner.inner)
+          (λ entry. IsJudgedBack c.args.at c.loop-inner.found (kept_entry c.loop-inner.kept)
+          entry c.is_left.new.found (kept_entry c.is_left.new.kept) b)) c.if-branch.false
+          c.in_ok-is_left.ensures) i.fits;
       way = λ meant start s a. back_on c.args.at ((g.C.Cursor.holds meant) c.args.inner.now c.args.source.now)
           ((g.C.Cursor.holds meant) c.loop-inner.inner c.loop-inner.source) (i.moved.stays meant s).1
           ((law_at g.met.C.Cursor.laws meant).apart c.args.inner.now c.args.source.now s) start c.loop-inner.found
@@ -60,6 +69,17 @@ returns-then-branch-clause-finds g c meant start s a =
     (λ entry. IsJudgedBack c.args.at c.loop-inner.found (kept_entry c.loop-inner.kept) entry
     c.is_left.new.found (kept_entry c.is_left.new.kept) b)) c.if-branch.true
     c.in_ok-is_left.ensures) ((i.way meant) start s a)
+
+pub returns-then-branch-clause-fits : goal.returns-then-branch-clause-fits
+returns-then-branch-clause-fits g c = λ kept.
+    let i = c.loop-inner.invariant in
+    left_fits c.args.at c.loop-inner.found (kept_entry c.loop-inner.kept) c.is_left.new.found
+    (kept_entry c.is_left.new.kept) (g.C.Cursor.position c.loop-inner.inner)
+    (c.valid.ensures.0 c.loop-inner-test.true)
+    (subst (λ b. IfOn (g.C.Cursor.position c.loop-inner.inner)
+    (λ entry. IsJudgedBack c.args.at c.loop-inner.found (kept_entry c.loop-inner.kept) entry
+    c.is_left.new.found (kept_entry c.is_left.new.kept) b)) c.if-branch.true
+    c.in_ok-is_left.ensures) i.fits
 
 pub returns-then-found-clause-finds : goal.returns-then-found-clause-finds
 returns-then-found-clause-finds g c meant start s a =

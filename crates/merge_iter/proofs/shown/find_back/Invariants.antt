@@ -2,6 +2,7 @@ use Rattle.std.proofs.Common.{false, ◌≡◌, ◌≤◌, ◌<◌, IsTrue}
 use Rattle.merge_iter.specs.declared.direction.Direction.TheVariants.{Backward}
 use Rattle.merge_iter.specs.Positions.{WalkStart}
 use Rattle.merge_iter.specs.Moves.{Moved}
+use Rattle.merge_iter.specs.TableEntries.{IsTableEntry}
 use Rattle.merge_iter.specs.KeptEntries.{kept_entry}
 use Rattle.merge_iter.specs.ShownEntries.{IsBefore, IsOnTheWay}
 use Rattle.merge_iter.proofs.shown.find_back.Given as goal
@@ -16,6 +17,7 @@ invariant-loop-inner g l = record {
   left : g.C.Cursor.left l.inner Backward ≤ g.C.Cursor.left l.initial.inner Backward;
   less : IsTrue l.found → g.C.Cursor.left l.inner Backward < g.C.Cursor.left l.initial.inner
       Backward;
+  fits : IsTrue l.found → IsTableEntry (kept_entry l.kept);
   way : (meant : g.C.Cursor.Meant) (start : WalkStart) → (g.C.Cursor.is_sound meant) l.initial.inner l.initial.source
       → IsBefore Backward l.at ((g.C.Cursor.holds meant) l.initial.inner l.initial.source) start
       (g.C.Cursor.position l.initial.inner)

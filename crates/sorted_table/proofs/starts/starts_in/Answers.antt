@@ -44,7 +44,7 @@ loop-done-preserved c = record {
 pub returns-clause-read : goal.returns-clause-read
 returns-clause-read c =
     let w = c.loop-done.invariant.walked in
-    are_read c.args.block.now c.loop-done.starts.items w.entries w.again
+    are_read c.args.block.now c.loop-done.starts.items w.entries w.again w.passed.each
 
 pub returns-clause-few : goal.returns-clause-few
 returns-clause-few c =

@@ -1,4 +1,4 @@
-use Rattle.std.proofs.Common.{◌≡◌, ◌+◌, Ok, ap, subst, sym}
+use Rattle.std.proofs.Common.{◌+◌, Ok, ap, subst, sym}
 use Rattle.merge_iter.specs.KeptEntries.{kept_entry}
 use Rattle.merge_iter.specs.Positions.{After, IfOn}
 use Rattle.merge_iter.specs.Moves.{MoveFinds}

@@ -3,7 +3,7 @@ use Rattle.std.proofs.lemmas.Result.{err_from_is_err_and}
 use Rattle.merge_iter.specs.declared.place.Place.TheVariants as place
 use Rattle.merge_iter.specs.Positions.{Position, On, IsOn, IsBroken, IfOn, After}
 use Rattle.merge_iter.specs.Moves.{ErrorCauses, MoveFinds}
-use Rattle.merge_iter.specs.Merging.{EachChild, UnionHolds, IsPlaced, IsMerge, union_position}
+use Rattle.merge_iter.specs.Merging.{UnionHolds, IsPlaced, union_position}
 use Rattle.merge_iter.specs.Merging.{child_position}
 use Rattle.merge_iter.specs.LentCursors.{AreIntact, IsIntactUnion}
 use Rattle.merge_iter.proofs.MergedMoves.{tells_merged, child_at, merge_after, finds_after}

@@ -1,9 +1,9 @@
-use Rattle.std.proofs.Common.{◌≡◌, ◌∙◌, refl, ap, sym, subst, arith, IfSome}
+use Rattle.std.proofs.Common.{◌≡◌, ◌∙◌, ap, sym, subst, arith, IfSome}
 use Rattle.std.specs.Rc.{rc_slice_items}
 use Rattle.kv_types.specs.{lent_key}
 use Rattle.table_format.specs.{block_entries}
 use Rattle.sorted_table.specs.TableCursors.{HasReached, IsPlaceIn}
-use Rattle.sorted_table.proofs.CursorMoves.{cursor_moves, damaged_never, is_off}
+use Rattle.sorted_table.proofs.CursorMoves.{cursor_moves}
 use Rattle.sorted_table.proofs.TableFinds.{here_of}
 use Rattle.sorted_table.proofs.TablePlaces.{moved_in}
 use Rattle.sorted_table.proofs.TableSeeks.{finds_none_sought, finds_sought, line_place_in}
@@ -36,34 +36,6 @@ returns-in_default-clause-finds g c = λ m s.
     (line_place_in _ lines s.1.table (lent_key c.args.key) c.args.number c.deref.result.now n
     c.deref.ensures.value c.line_place-line.ensures.place) off.1 off.0 c.take.ensures.after
 
-pub returns-then-not-seek-clause-moves : goal.returns-then-not-seek-clause-moves
-returns-then-not-seek-clause-moves g c =
-    cursor_moves _ (λ d. d.file) (λ d. rc_slice_items d.lines) (λ d. d.place) _ _
-    c.args.files.now c.reach.new.files c.reach.ensures.keeps c.reach.ensures.table.0
-    (ap rc_slice_items c.reach.ensures.table.1) (λ m honest agree t here.
-    subst (λ o. IfSome o (IsPlaceIn t.represents.blocks)) (sym c.take.ensures.after) tt)
-
-pub returns-then-not-seek-clause-causes : goal.returns-then-not-seek-clause-causes
-returns-then-not-seek-clause-causes g c =
-    damaged_never _ _ _ c.in_ok-reach.field-0 _ c.in_ok-reach.ensures.causes (λ whole.
-    let s = whole.1 in
-    let lines = rc_slice_items c.args.self.now.lines in
-    let n = c.line_place-line.result in
-    let t = s.1.table in
-    let p = c.in-Some.place in
-    let on = sym c.take.ensures.value ∙ c.in-Some.is in
-    let there = here_of (IsPlaceIn t.represents.blocks) c.reach.new.self.place p on
-    (c.in_ok-reach.ensures.reads
-    (whole.0 c.args.self.now.file) s.0 s.2 t s.1.here) in
-    let line : p.line ≡ n = subst (HasReached lines n c.reach.new.self.has_failed) on
-    c.in_ok-reach.ensures.reached in
-    never_late _ lines t (lent_key c.args.key) c.args.number n p
-    (line_place_in _ lines t (lent_key c.args.key) c.args.number c.deref.result.now n
-    c.deref.ensures.value c.line_place-line.ensures.place) there line
-    (c.seek.ensures.none (block_entries there.block)
-    (rising_at _ lines t (lent_key c.args.key) c.args.number p there) there.reads
-    (is_off c.seek.result c.if-not-seek.true)))
-
 pub returns-clause-moves : goal.returns-clause-moves
 returns-clause-moves g c =
     cursor_moves _ (λ d. d.file) (λ d. rc_slice_items d.lines) (λ d. d.place) _ _
@@ -89,5 +61,8 @@ returns-clause-finds g c = λ m s.
     (omega (arith, c.line_place-line.ensures.within, c.deref.ensures.len))
     (line_place_in _ lines t (lent_key c.args.key) c.args.number c.deref.result.now n
     c.deref.ensures.value c.line_place-line.ensures.place) there line c.seek.ensures.same
-    (c.if-not-seek.ensures.found (block_entries there.block)
-    (rising_at _ lines t (lent_key c.args.key) c.args.number p there) there.reads refl)
+    (c.seek.ensures.found (block_entries there.block)
+    (rising_at _ lines t (lent_key c.args.key) c.args.number p there) there.reads
+    (never_late _ lines t (lent_key c.args.key) c.args.number n p
+    (line_place_in _ lines t (lent_key c.args.key) c.args.number c.deref.result.now n
+    c.deref.ensures.value c.line_place-line.ensures.place) there line))
