@@ -1,6 +1,6 @@
 -- What a walk over sorted entries has added to a table.
-use Rattle.std.proofs.Common.{◌≡◌, ◌<◌, List, [], ◌∷◌, ◌++◌, All, Contains, Some, IfSome, sym, subst}
-use Rattle.std.proofs.Common.{inl, inr, Result, Ok, Err, arith, refl, ℕ, length, ◌≤◌, Option, None}
+use Rattle.std.proofs.Common.{◌≡◌, ◌<◌, List, [], ◌∷◌, ◌++◌, All, Contains, IfSome, sym, subst}
+use Rattle.std.proofs.Common.{inl, inr, Result, Ok, Err, arith, refl}
 use Rattle.std.proofs.Common.{◌∙◌, ap}
 use Rattle.std.specs.Prelude.{Bool, true, false, IfOk, IsErr, IsErrAnd, MatchResult}
 use Rattle.std.proofs.lemmas.List.Elements.{All-contains, All-nil, All-push, Contains-append_left}
@@ -15,7 +15,7 @@ use Rattle.merge_iter.specs.{ErrorCauses, IsOn, MoveFinds, Off, On, Position, Wa
 use Rattle.merge_iter.specs.{WalkStart}
 use Rattle.table_format.specs.declared.sizes.TheConstants.{MAX_DATA}
 use Rattle.table_format.specs.RisingLemmas.{last_push, rising_push}
-use Rattle.table_format.specs.{AreRising, CanFollow, IsTableEntry}
+use Rattle.table_format.specs.{AreRising, CanFollow}
 use Rattle.disk.specs.{Slot}
 use Rattle.table_builder.specs.declared.Builder.{Builder}
 use Rattle.table_builder.specs.{Builds, HoldsEntries, data_size}

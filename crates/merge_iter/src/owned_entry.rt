@@ -14,9 +14,9 @@ pub struct OwnedEntry {
     pub number: u64,
     pub value: Option<Vec<u8>>,
     ghost limits: { IsTableEntry (record {
-        key = key;
-        number = number;
-        value = option_map (λ v. v.items) value;
+      key = key;
+      number = number;
+      value = option_map (λ v. v.items) value;
     }) } by { Prim.hlevel props },
 }
 
@@ -26,9 +26,9 @@ impl OwnedEntry {
         ensures made { IfSome result (λ entry. (entry.key ≡ key) × (entry.number ≡ number)
             × (entry.value ≡ value)) }
         ensures limits { IsSome result ↔ IsTableEntry (record {
-            key = key;
-            number = number;
-            value = option_map (λ v. v.items) value;
+          key = key;
+          number = number;
+          value = option_map (λ v. v.items) value;
         }) }
     {
         let value_len = match &value {
