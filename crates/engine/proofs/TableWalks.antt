@@ -60,8 +60,8 @@ alike_itself P = λ entry. ((λ p. p), (λ p. p))
 
 -- what was added to a table of a set's entries, where the table was one to begin with; and what a
 -- builder has in memory, where it had none
-pub record AddsUpTo (has : Entry → Type 0) (at : Position) (is_begun is_empty : Type 0) (slot : Slot)
-    (builder : Builder) : Type 0 where
+pub record AddsUpTo (has : Entry → Type 0) (at : Position) (is_begun is_empty : Type 0)
+    (slot : Slot) (builder : Builder) : Type 0 where
   pub entries : List Entry
   pub walked : Walked has entries at
   pub built : is_begun → Builds slot builder entries

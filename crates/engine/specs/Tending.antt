@@ -95,8 +95,8 @@ TellsFlush old new tended.Full =
     × (new ≡ old)
 
 -- What a tend of any disk did: a rewrite, a flush of entries in memory, or nothing. So it is full
--- only where the generation cannot rise, the version lacks a place, or the entries pass the limit of
--- a table's data.
+-- only where the generation cannot rise, the version lacks a place, or the entries pass the limit
+-- of a table's data.
 pub data IsTend (old new : StoreFiles) (answer : Tended) : Type 0 where
   WasRewrite : TellsRewrite old new answer → IsTend old new answer
   WasFlush : HasEntry old.memtable → TellsFlush old new answer → IsTend old new answer

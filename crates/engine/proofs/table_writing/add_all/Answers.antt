@@ -173,8 +173,10 @@ loop-alloc-preserved g c =
             c.add_one.new.builder b) c.if-not-branch.false more in
             subst (λ (f : ℕ). Builds (g.D.Disk.state c.add_one.new.disk f)
             c.add_one.new.builder (entries ++ entry ∷ [])) i.file one;
-        held = λ empty. subst (λ b. HoldsOneMore entries entry c.add_one.new.builder b)
-            c.if-not-branch.false (c.in_ok-add_one.ensures.held entries (i.added.held empty) here.1);
+        held = λ empty.
+            let more = c.in_ok-add_one.ensures.held entries (i.added.held empty) here.1 in
+            subst (λ b. HoldsOneMore entries entry c.add_one.new.builder b) c.if-not-branch.false
+            more;
       };
     }
 

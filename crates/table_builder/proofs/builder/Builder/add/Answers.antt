@@ -96,12 +96,13 @@ returns-clause-held g c = λ entries h.
     } in
     let known : KnowsKeys new.keys (entries ++ entry ∷ []) =
     subst (λ k. KnowsKeys k (entries ++ entry ∷ [])) (sym c.close_full.ensures.keys.keys) knows in
-    held_more old new entries entry h c.requires (c.in_ok-check.ensures.checked entries h) known there
-    (λ h. absurd cc)
+    held_more old new entries entry h c.requires (c.in_ok-check.ensures.checked entries h) known
+    there (λ h. absurd cc)
 
 pub returns-clause-added : goal.returns-clause-added
 returns-clause-added g c = λ entries honest b.
     let old = c.args.self.now in
+    let mid = c.hold.new.self in
     let state = g.D.Disk.state in
     let entry = lent_entry c.args.entry in
     let same = c.hold.ensures.same in
@@ -109,7 +110,7 @@ returns-clause-added g c = λ entries honest b.
     let has = c.in_ok-hold.ensures.block (division entries).opened b.holds.parts.block
     (omega (arith, m.opened_few)) in
     let knows = c.in_ok-hold.ensures.keys entries b.holds.keys (omega (arith, m.entries_few)) in
-    let can = can_close old c.hold.new.self entries entry b.holds c.requires knows has same.1 same.2 in
+    let can = can_close old mid entries entry b.holds c.requires knows has same.1 same.2 in
     let fresh = subst
     (λ (f : ℕ). IsFresh (state c.args.disk.now f) (data_bytes (division entries).closed))
     (sym same.0) b.file in
