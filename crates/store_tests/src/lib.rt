@@ -12,6 +12,8 @@ mod cases;
 #[cfg(test)]
 mod crashes;
 #[cfg(test)]
+mod damaged_logs;
+#[cfg(test)]
 mod edges;
 #[cfg(test)]
 mod faults;

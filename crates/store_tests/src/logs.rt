@@ -350,6 +350,31 @@ fn a_failure_stays_until_the_log_is_opened(rt: HostRuntime) {
     is_so(&rt, opens, "other records");
 }
 
+// What becomes of the file below a log of one record, and why that record is then not read.
+struct Below(Act, Option<LogError>);
+
+impl Case for Below {
+    fn holds(&self, rt: &impl Abort, alloc: Global) -> bool {
+        let mut disk = MemDisk::new(alloc);
+        let log = log_of(rt, alloc, &mut disk, ONE);
+        run(rt, &mut disk, &[self.0]);
+        log.len() == 1 && log.record(alloc, &mut disk, 0).err() == self.1
+    }
+}
+
+static BELOW: [Below; 4] = [
+    Below(REMOVE, LOST),
+    Below(Act::Cut(FILE, 5), SHORT),
+    Below(Act::Cut(FILE, 7), SHORT),
+    // Without its closed gate the record is there.
+    Below(Act::Cut(FILE, 8), None),
+];
+
+#[test]
+fn a_record_of_a_file_that_is_cut(rt: HostRuntime) {
+    all_hold(&rt, rt.alloc(), &BELOW);
+}
+
 // A refusal, and its text.
 struct Text(LogError, &'static str);
 
