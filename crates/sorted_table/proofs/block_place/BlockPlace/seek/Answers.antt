@@ -1,5 +1,6 @@
 use Rattle.std.proofs.Common.{arith, subst, sym}
 use Rattle.std.specs.Rc.{rc_slice_items}
+use Rattle.kv_types.specs.{lent_key}
 use Rattle.merge_iter.specs.{spot}
 use Rattle.sorted_table.specs.EntryReads.{ReadsEntries, SplitsEntries}
 use Rattle.sorted_table.proofs.StartWalks.{count_read}
@@ -15,5 +16,5 @@ returns-clause-found c = λ entries rising reads some.
     reads) in
     let split = c.count_before-at.ensures.splits entries rising is in
     let len = count_read (rc_slice_items old.block) old.starts.items entries reads in
-    absurd (some (subst (SplitsEntries entries (spot c.args.key.now c.args.number))
+    absurd (some (subst (SplitsEntries entries (spot (lent_key c.args.key) c.args.number))
     (search (arith, len, split.within, c.if-at-len.false, c.len.ensures)) split))
