@@ -5,9 +5,10 @@ ghost use Rattle.table_format.specs.{IsTableEntry, lent_entry};
 
 use crate::counts::is_count;
 use crate::parts::{BLOCK, FILTER, FOOTER, INDEX};
-use crate::sequence::copy_of;
+use crate::sequence::{copy_of, key_of};
 use disk::{Crash, Disk, Fault, MemDisk};
-use kv_types::bounds::{MAX_KEY, MAX_NUMBER, MAX_VALUE};
+use kv_types::LentKey;
+use kv_types::bounds::{MAX_NUMBER, MAX_VALUE};
 use merge_iter::OwnedEntry;
 use sorted_table::{Table, TableError};
 use std::alloc::Global;
@@ -24,14 +25,14 @@ fn lent(entry: &OwnedEntry) -> Option<LentEntry<'_>>
     ensures { IfSome result (λ lent. IsTableEntry (lent_entry lent)) }
 {
     let value = entry.value.as_deref();
-    if entry.key.len() > MAX_KEY || entry.number > MAX_NUMBER {
+    if entry.number > MAX_NUMBER {
         return None;
     }
     if value.is_some_and(|value| value.len() > MAX_VALUE) {
         return None;
     }
     Some(LentEntry {
-        key: &entry.key,
+        key: entry.key.lent(),
         number: entry.number,
         value,
     })
@@ -82,7 +83,7 @@ pub fn entry_of(
     value: Option<&[u8]>,
 ) -> OwnedEntry {
     OwnedEntry {
-        key: copy_of(rt, alloc, key),
+        key: key_of(rt, alloc, key),
         number,
         value: copy_of_some(rt, alloc, value),
     }
@@ -171,7 +172,7 @@ fn finds(
     alloc: Global,
     table: &Table,
     files: &mut Files<MemDisk>,
-    (key, at): (&[u8], u64),
+    (key, at): (LentKey, u64),
     want: Option<&OwnedEntry>,
 ) -> bool {
     let found = table.get(alloc, files, key, at).expect(rt, "a lookup");
@@ -226,7 +227,7 @@ fn is_found(
         Some(place) => entries.get(place),
         None => None,
     };
-    finds(rt, alloc, table, files, (&entry.key, at), want)
+    finds(rt, alloc, table, files, (entry.key.lent(), at), want)
 }
 
 fn all_are_found(
@@ -267,8 +268,8 @@ fn opening_reaches(rt: &impl Abort, alloc: Global, call: u64) -> bool {
 
 /// Whether two lookups of one key both answer.
 fn both_answer(alloc: Global, table: &Table, files: &mut Files<MemDisk>) -> bool {
-    let first = table.get(alloc, files, b"@", 5).is_ok();
-    let second = table.get(alloc, files, b"@", 5).is_ok();
+    let first = table.get(alloc, files, LentKey::new(b"@"), 5).is_ok();
+    let second = table.get(alloc, files, LentKey::new(b"@"), 5).is_ok();
     first && second
 }
 
@@ -343,7 +344,7 @@ pub fn found_of(
             alloc,
             &table,
             files,
-            (&entry.key, entry.number),
+            (entry.key.lent(), entry.number),
             Some(entry),
         ) {
             count = count.wrapping_add(1);
@@ -372,7 +373,7 @@ fn files_with(rt: &impl Abort, alloc: Global, bytes: &[u8]) -> Files<MemDisk> {
 /// Opens the table of the file, looks its only key up, and answers the refusal.
 fn refusal_of(alloc: Global, files: &mut Files<MemDisk>) -> Option<TableError> {
     match Table::open(alloc, files, FILE) {
-        Ok(table) => table.get(alloc, files, b"a", 1).err(),
+        Ok(table) => table.get(alloc, files, LentKey::new(b"a"), 1).err(),
         Err(e) => Some(e),
     }
 }
@@ -412,8 +413,8 @@ fn damage_and_short_files_are_found(rt: HostRuntime) {
 
 /// Whether a lookup of `a` says that the block is damaged, twice.
 fn is_refused_twice(alloc: Global, table: &Table, files: &mut Files<MemDisk>) -> bool {
-    let first = table.get(alloc, files, b"a", 1).err();
-    let second = table.get(alloc, files, b"a", 1).err();
+    let first = table.get(alloc, files, LentKey::new(b"a"), 1).err();
+    let second = table.get(alloc, files, LentKey::new(b"a"), 1).err();
     first == Some(TableError::Damaged) && second == Some(TableError::Damaged)
 }
 
@@ -456,7 +457,10 @@ fn value_count(
     files: &mut Files<MemDisk>,
     value: &[u8],
 ) -> usize {
-    match table.get(alloc, files, b"a", 1).expect(rt, "a lookup") {
+    match table
+        .get(alloc, files, LentKey::new(b"a"), 1)
+        .expect(rt, "a lookup")
+    {
         Some(found) => (found.value.as_deref() == Some(value)) as usize,
         None => 0,
     }
