@@ -2,7 +2,7 @@
 use Rattle.std.proofs.Common.{◌≡◌, ◌↔◌, ◌⊎◌, ℕ, zero, suc, ◌+◌, ◌≤◌, List, [], ◌∷◌, ◌++◌}
 use Rattle.std.proofs.Common.{length, Some, inl, inr, refl, sym, ap, subst, ◌∙◌, arith}
 use Rattle.std.specs.Prelude.{slice_get}
-use Rattle.kv_types.specs.{BatchContent, Entry, IsNewest, IsUnseen}
+use Rattle.kv_types.specs.{BatchContent, Entry, IsNewest, IsUnseen, StoredKey}
 use Rattle.kv_types.specs.{all_entries, entries_of}
 use Rattle.memtable.specs.declared.Memtable.{Memtable}
 use Rattle.memtable.specs.{HasFailedAdd, TableHolds}
@@ -131,5 +131,5 @@ module _ (at : ℕ) (A B : Entry → Type 0) (same : (entry : Entry) → A entry
     newest = λ other seen key. h.newest other ((same other).1 seen.0, seen.1) key;
   }
 
-  pub unseen_in : (key : List ℕ) → IsUnseen at A key → IsUnseen at B key
+  pub unseen_in : (key : StoredKey) → IsUnseen at A key → IsUnseen at B key
   unseen_in key none other seen = none other ((same other).1 seen.0, seen.1)

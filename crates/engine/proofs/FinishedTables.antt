@@ -5,7 +5,6 @@ use Rattle.std.proofs.Common.{length-append}
 use Rattle.std.proofs.Common.{Result, Ok, Err}
 use Rattle.std.specs.Option.{option_map}
 use Rattle.std.specs.Prelude.{IsSomeAnd, MatchResult, ◌↔◌}
-use Rattle.std.specs.Cmp.Lexicographic.{nat_list_cmp_total, slice_cmp}
 use Rattle.std.specs.Ordering.{nat_cmp, ordering_reverse, ordering_then}
 use Rattle.std.specs.declared.cmp.Ordering.TheVariants.{Greater, Less}
 use Rattle.disk.specs.{Slot, State, seen, IsDurable}
@@ -13,7 +12,8 @@ use Rattle.kv_types.specs.declared.bounds.TheConstants.{MAX_KEY, MAX_NUMBER}
 use Rattle.kv_types.specs.ByteOrderLemmas.{Less-below}
 use Rattle.kv_types.specs.OrderLemmas.{Among, Rises, among_from_Contains, among_of_All}
 use Rattle.kv_types.specs.OrderLemmas.{rises_from_AllPairs}
-use Rattle.kv_types.specs.{Entry}
+use Rattle.kv_types.specs.{Entry, StoredKey, stored_cmp}
+use Rattle.kv_types.specs.StoredKeysLemmas.{stored_total}
 use Rattle.merge_iter.specs.declared.Direction.TheVariants.{Forward}
 use Rattle.merge_iter.specs.{EntryPrecedes}
 use Rattle.memtable.specs.declared.Memtable.{Memtable}
@@ -42,8 +42,8 @@ use Rattle.engine.specs.TableWriting.{finished_line}
 -- an entry's key is not behind those of the entries that follow it
 not_behind : (a b : Entry) → EntryPrecedes Forward a b → KeyPrecedes b.key a.key → ⊥
 not_behind a b less back =
-    let turned : slice_cmp nat_cmp a.key b.key ≡ Greater =
-    nat_list_cmp_total.antisymm a.key b.key ∙ ap ordering_reverse back in
+    let turned : stored_cmp a.key b.key ≡ Greater =
+    stored_total.antisymm a.key b.key ∙ ap ordering_reverse back in
     let wrong : Greater ≡ Less =
     sym (ap (λ o. ordering_then o (nat_cmp b.number a.number)) turned) ∙ less in
     cc
@@ -69,7 +69,7 @@ last_greatest (x ∷ y ∷ xs) last is rises e (inr later) before =
     last_greatest (y ∷ xs) last is rises.1 e later before
 
 -- the ends of entries, by the keys that a finished table names
-pub record HasEnds (entries : List Entry) (least greatest : List ℕ) : Type 0 where
+pub record HasEnds (entries : List Entry) (least greatest : StoredKey) : Type 0 where
   pub short_least : length least ≤ MAX_KEY
   pub short_greatest : length greatest ≤ MAX_KEY
   pub proper : KeyPrecedes greatest least → ⊥
@@ -94,7 +94,7 @@ entries_end x xs last is each rising =
       last = ap (option_map (λ (e : Entry). e.key)) is;
     }
 
-has_ends : (entries : List Entry) (least greatest : List ℕ) → All IsTableEntry entries
+has_ends : (entries : List Entry) (least greatest : StoredKey) → All IsTableEntry entries
     → AreRising entries → 1 ≤ length entries
     → IfSome (first_entry entries) (λ entry. least ≡ entry.key)
     → IfSome (last_entry entries) (λ entry. greatest ≡ entry.key)
@@ -104,8 +104,8 @@ has_ends (x ∷ xs) least greatest each rising some first end =
     let last = last_of_some (x ∷ xs) (omega arith) in
     let is : greatest ≡ last.0.key =
     subst (λ (o : Option Entry). IfSome o (λ entry. greatest ≡ entry.key)) last.1 end in
-    subst (λ (k : List ℕ). HasEnds (x ∷ xs) k greatest) (sym first)
-    (subst (λ (k : List ℕ). HasEnds (x ∷ xs) x.key k) (sym is)
+    subst (λ (k : StoredKey). HasEnds (x ∷ xs) k greatest) (sym first)
+    (subst (λ (k : StoredKey). HasEnds (x ∷ xs) x.key k) (sym is)
     (entries_end x xs last.0 last.1 each rising))
 
 -- ---- its length

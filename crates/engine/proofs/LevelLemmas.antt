@@ -9,7 +9,7 @@ use Rattle.std.proofs.lemmas.List.Elements.{All-cons, All-head, All-nil, All-tai
 use Rattle.std.proofs.lemmas.List.Elements.{Contains-append_cases, Contains-append_left}
 use Rattle.std.proofs.lemmas.List.Elements.{Contains-push, Contains-push_cases}
 use Rattle.disk.specs.{Contents, State}
-use Rattle.kv_types.specs.{Entry, IsNewest, IsUnseen}
+use Rattle.kv_types.specs.{Entry, IsNewest, IsUnseen, StoredKey}
 use Rattle.sorted_table.specs.{found_entry}
 use Rattle.sorted_table.specs.declared.FoundVersion.{FoundVersion}
 use Rattle.store_model.specs.{LevelTable, TableLacks, level_entries}
@@ -89,7 +89,7 @@ module _ (disk : State) (one : OpenTable) (table : LevelTable) (is : IsServed di
 
 -- ---- what two sets of entries have together
 
-module _ (at : ℕ) (key : List ℕ) (S T U : Entry → Type 0) (left : (e : Entry) → S e → U e)
+module _ (at : ℕ) (key : StoredKey) (S T U : Entry → Type 0) (left : (e : Entry) → S e → U e)
     (right : (e : Entry) → T e → U e) (either : (e : Entry) → U e → S e ⊎ T e) where
   -- the newest of the one is not older than any of the other
   pub keeps_left : (mine : Entry) → mine.key ≡ key → IsNewest at S mine
@@ -144,7 +144,7 @@ module _ (tables : List LevelTable) (table : LevelTable) where
       → Contains table.entries e ⊎ level_entries tables table.level e
   in_other e it = elim (in_either e it) [ inl old ↦ inr old | inr new ↦ inl new ]
 
-  module _ (at : ℕ) (key : List ℕ) where
+  module _ (at : ℕ) (key : StoredKey) where
     abbrev Former : Entry → Type 0
     Former = level_entries tables table.level
 
@@ -178,7 +178,7 @@ module _ (tables : List LevelTable) (table : LevelTable) where
 -- ---- a walk over tables in order of level
 
 -- the walk has passed some tables, is in this level, and has found its newest entry of the key
-pub record Walked (at : ℕ) (key : List ℕ) (passed rest : List LevelTable) (level : ℕ)
+pub record Walked (at : ℕ) (key : StoredKey) (passed rest : List LevelTable) (level : ℕ)
     (best : Option FoundVersion) : Type 0 where
   pub lesser : LesserLack at passed key level
   pub found : EntriesFind at (level_entries passed level) key best
@@ -199,7 +199,7 @@ past_level level table rest lt rise t c =
     All-contains (NotLess table.level) (table ∷ rest) t all c in
     omega (arith, le, lt)
 
-module _ (at : ℕ) (key : List ℕ) where
+module _ (at : ℕ) (key : StoredKey) where
   -- no table was passed
   pub none_walked : (tables : List LevelTable) → LevelsRise tables
       → Walked at key [] tables 0 None
@@ -325,7 +325,8 @@ module _ (at : ℕ) (key : List ℕ) where
           }
 
 -- of a walk that has found an entry
-pub found_left : (at : ℕ) (key : List ℕ) (passed : List LevelTable) (level : ℕ) (table : LevelTable)
+pub found_left : (at : ℕ) (key : StoredKey) (passed : List LevelTable) (level : ℕ)
+    (table : LevelTable)
     (rest : List LevelTable) (best : Option FoundVersion) → is_some best ≡ true
     → Walked at key passed (table ∷ rest) level best → (table.level ≡ level → ⊥)
     → TablesFind at (passed ++ table ∷ rest) key best

@@ -4,7 +4,7 @@ use Rattle.std.specs.Prelude.{Contains, Bool, Option, Some, None, IsSomeAnd, ◌
 use Rattle.std.specs.List.{AllZip, count_by}
 use Rattle.std.specs.Option.{option_map, option_flatten}
 use Rattle.disk.specs.{Contents, Slot, State}
-use Rattle.kv_types.specs.{BatchContent, Entry, IsNewest, IsUnseen, map_of}
+use Rattle.kv_types.specs.{BatchContent, Entry, IsNewest, IsUnseen, StoredKey, map_of}
 use Rattle.table_builder.specs.{first_entry}
 use Rattle.table_format.specs.{TableRepresents}
 use Rattle.table_format.specs.declared.IndexLine.{IndexLine}
@@ -39,7 +39,7 @@ abbrev pub line_range : TableLine → KeyRange
 line_range line = record { least = line.least; greatest = line.greatest }
 
 -- the key of the first of these entries, if there is one
-abbrev pub least_key : List Entry → Option (List ℕ)
+abbrev pub least_key : List Entry → Option StoredKey
 least_key entries = option_map (λ entry. entry.key) (first_entry entries)
 
 -- The line names the table: its file has the line's length, and represents the table's entries, which
@@ -158,23 +158,23 @@ FlushedTablesRise =
 -- ---- lookups
 
 -- of these entries a lookup finds the newest of the key that is seen at the number, or none
-abbrev pub EntriesFind : ℕ → (Entry → Type 0) → List ℕ → Option FoundVersion → Type 0
+abbrev pub EntriesFind : ℕ → (Entry → Type 0) → StoredKey → Option FoundVersion → Type 0
 EntriesFind at entries key None = IsUnseen at entries key
 EntriesFind at entries key (Some found) = IsNewest at entries (found_entry key found)
 
 -- of these entries the newest of the key that is seen at the number has this value or is a deletion,
 -- or there is none
-abbrev pub EntriesHave : ℕ → (Entry → Type 0) → List ℕ → Option (Option (List ℕ)) → Type 0
+abbrev pub EntriesHave : ℕ → (Entry → Type 0) → StoredKey → Option (Option (List ℕ)) → Type 0
 EntriesHave at entries key None = IsUnseen at entries key
 EntriesHave at entries key (Some value) = NewestHas at entries key value
 
 -- no table of a lesser level has an entry of the key that is seen at the number
-abbrev pub LesserLack : ℕ → List LevelTable → List ℕ → ℕ → Type 0
+abbrev pub LesserLack : ℕ → List LevelTable → StoredKey → ℕ → Type 0
 LesserLack at tables key level =
     (t : LevelTable) → Contains tables t → t.level < level → TableLacks at t key
 
 -- a lookup in tables looks in each level in turn, and stops at the first that has an entry
-abbrev pub TablesFind : ℕ → List LevelTable → List ℕ → Option FoundVersion → Type 0
+abbrev pub TablesFind : ℕ → List LevelTable → StoredKey → Option FoundVersion → Type 0
 TablesFind at tables key None = (t : LevelTable) → Contains tables t → TableLacks at t key
 TablesFind at tables key (Some found) =
     (level : ℕ) × LesserLack at tables key level

@@ -19,7 +19,7 @@ ghost use Rattle.engine.specs.LevelTables.{table_lines, with_flushed, with_flush
 use crate::EngineError;
 use bloom::KeyHashes;
 use disk::Disk;
-use kv_types::{Key, Number};
+use kv_types::{Number, StoredKey};
 use manifest::TableLine;
 use sorted_table::{FoundVersion, Table};
 use std::alloc::Global;
@@ -40,7 +40,7 @@ impl From<TableError> for EngineError {
 }
 
 // Whether the last line of the table's index has this key, as its last entry has.
-fn ends_with(table: &Table, key: &Key) -> bool
+fn ends_with(table: &Table, key: &StoredKey) -> bool
     ensures line { IsTrue result ↔ (last_line_key (index_lines table.now) ≡ Some key.now) }
     ensures serves { (file : Slot) (entries : List Entry) → TableServes file table.now entries →
         IsTrue result ↔ (greatest_key entries ≡ Some key.now) }
@@ -92,7 +92,7 @@ impl OpenTable {
     }
 
     // Whether the range of the table holds the key.
-    fn may_have(&self, key: &Key) -> bool
+    fn may_have(&self, key: &StoredKey) -> bool
         ensures { IsTrue result ↔ RangeHolds (line_range self.now.line) key.now }
     {
         key >= &self.line.least && key <= &self.line.greatest
@@ -104,7 +104,7 @@ impl OpenTable {
         &self,
         alloc: Global,
         files: &mut Files<D>,
-        key: &Key,
+        key: &StoredKey,
         hashes: KeyHashes,
         at: Number,
     ) -> Result<Option<FoundVersion>, EngineError>
@@ -127,7 +127,7 @@ impl OpenTable {
         }
         Ok(
             self.table
-                .get_hashed(alloc, files, key.as_bytes(), hashes, at.get())?,
+                .get_hashed(alloc, files, key.lent(), hashes, at.get())?,
         )
     }
 }
@@ -236,7 +236,7 @@ impl LevelTables {
         &self,
         alloc: Global,
         files: &mut Files<D>,
-        key: &Key,
+        key: &StoredKey,
         at: Number,
     ) -> Result<Option<FoundVersion>, EngineError>
         ensures kept { KeepsDisk ⟦<Files<D> as Disk>⟧ files.old files.new (FailsDevice result) ⊥

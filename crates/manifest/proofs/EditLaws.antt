@@ -6,8 +6,7 @@ use Rattle.std.proofs.Common.{append_assoc}
 use Rattle.std.proofs.lemmas.List.{append-nil, nil_from_length}
 use Rattle.std.specs.Prelude.{IsSomeAnd, option_map, Result, Ok, Err, IfOk, IfErr, IsErrOf}
 use Rattle.std.specs.Int.{w8, w16, w32, w64, to_be_bytes}
-use Rattle.std.specs.Ordering.{nat_cmp, is_lt}
-use Rattle.std.specs.Cmp.Lexicographic.{slice_cmp}
+use Rattle.std.specs.Ordering.{is_lt}
 use Rattle.std.proofs.lemmas.Bool.{leb-true, le-leb, eqb-true}
 use Rattle.byte_fields.specs.{number_at}
 use Rattle.byte_fields.specs.ReadersLemmas.{Reads, both_reads, made_reads, only_reads, number_reads}
@@ -16,7 +15,7 @@ use Rattle.byte_fields.specs.ReadersLemmas.{right_reads, nothing_read}
 use Rattle.configurations.specs.{IsConfig, TestDecidesConfig, is_config, config_text}
 use Rattle.kv_types.specs.declared.bounds.TheConstants.{MAX_NUMBER, MAX_KEY}
 use Rattle.kv_types.specs.Order.{IsBelow}
-use Rattle.kv_types.specs.{text_bytes, text_at}
+use Rattle.kv_types.specs.{text_bytes, text_at, stored_cmp}
 use Rattle.kv_types.specs.ByteOrderLemmas.{lt_below}
 use Rattle.kv_types.specs.FieldsLemmas.{IsBytes, IsBytes-rest, Takes, bind_some, some_is}
 use Rattle.kv_types.specs.FieldsLemmas.{text_takes, text_again}
@@ -159,13 +158,13 @@ name_reads =
 
 proper_true : (line : TableLine) → has_range line ≡ true → IsBelow line.greatest line.least → ⊥
 proper_true line t below =
-    let h : is_lt (slice_cmp nat_cmp line.greatest line.least) ≡ true =
+    let h : is_lt (stored_cmp line.greatest line.least) ≡ true =
     (lt_below line.greatest line.least).1 below in
     absurd (cc (h, not_true _ t))
 
 proper_test : (line : TableLine) → (IsBelow line.greatest line.least → ⊥) → has_range line ≡ true
 proper_test line proper =
-    ap not (false_from (is_lt (slice_cmp nat_cmp line.greatest line.least))
+    ap not (false_from (is_lt (stored_cmp line.greatest line.least))
     (λ t. proper ((lt_below line.greatest line.least).0 t)))
 
 table_reads : Reads IsTableLine table_line_bytes table_line_at

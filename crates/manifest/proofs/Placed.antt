@@ -7,10 +7,10 @@ use Rattle.std.specs.List.{fold, filter, insert}
 use Rattle.std.proofs.lemmas.Bool.{ltb-true, lt-ltb, eqb-true, eq-eqb, le-ltb, ne_eqb}
 use Rattle.std.proofs.lemmas.List.Elements.{All-cons, All-nil, All-head, All-tail, All-filter}
 use Rattle.std.proofs.lemmas.List.Elements.{All-weaker}
-use Rattle.std.specs.Ordering.{nat_cmp, is_lt}
-use Rattle.std.specs.Cmp.Lexicographic.{slice_cmp}
+use Rattle.std.specs.Ordering.{is_lt}
 use Rattle.kv_types.specs.Order.{IsBelow}
 use Rattle.kv_types.specs.ByteOrderLemmas.{lt_below, below_is_strict}
+use Rattle.kv_types.specs.{stored_cmp}
 use Rattle.manifest.specs.declared.line.TableLine.{TableLine}
 use Rattle.manifest.specs.VersionsLemmas.{placed_last}
 use Rattle.manifest.specs.Versions.{placed, log_is_before, table_is_before, AreInOrder}
@@ -186,7 +186,7 @@ eqb_zero (suc n) e = omega arith
 is_before : (a b : TableLine) → table_is_before a b ≡ true → IsBefore a b
 is_before a b e =
     let file = ltb a.file b.file in
-    let key = is_lt (slice_cmp nat_cmp a.least b.least) in
+    let key = is_lt (stored_cmp a.least b.least) in
     elim (or_true (ltb a.level b.level)
     (eqb a.level b.level && cond (eqb a.level 0) file key) e) [
       | inl lt ↦ inl (ltb-true a.level b.level lt)
@@ -209,7 +209,7 @@ from_before a b (inr (same, inl (top, lt))) =
       lt-ltb a.file b.file lt,
     ) refl
 from_before a b (inr (same, inr (deep, lt))) =
-    let key : is_lt (slice_cmp nat_cmp a.least b.least) ≡ true = (lt_below a.least b.least).1 lt in
+    let key : is_lt (stored_cmp a.least b.least) ≡ true = (lt_below a.least b.least).1 lt in
     rw (
       le-ltb a.level b.level (omega (arith, same)),
       eq-eqb a.level b.level same,

@@ -3,12 +3,11 @@ use Rattle.std.specs.Prelude.{◌≡◌, ℕ, List, [], ◌∷◌, length, nat_l
 use Rattle.std.specs.Prelude.{Option, Some, None, Result, Ok, Err, if◌then◌else◌}
 use Rattle.std.specs.Global.{Vec}
 use Rattle.std.specs.Int.{w8, w16, w32, w64}
-use Rattle.std.specs.Ordering.{nat_cmp, is_lt}
-use Rattle.std.specs.Cmp.Lexicographic.{slice_cmp}
+use Rattle.std.specs.Ordering.{is_lt}
 use Rattle.byte_fields.specs.{Reader, both, mapped, only, counted, number_at}
 use Rattle.configurations.specs.{is_config}
 use Rattle.kv_types.specs.declared.bounds.TheConstants.{MAX_NUMBER, MAX_KEY}
-use Rattle.kv_types.specs.{◌>>=◌, text_at}
+use Rattle.kv_types.specs.{◌>>=◌, text_at, StoredKey, stored_cmp}
 use Rattle.manifest.specs.declared.error.ManifestError.{ManifestError}
 use Rattle.manifest.specs.declared.error.ManifestError.TheVariants as manifest
 use Rattle.manifest.specs.declared.line.TheConstants.{MAX_NEXT}
@@ -67,7 +66,7 @@ unfoldable pub table_name_at : Reader TableName
 table_name_at bytes = mapped as_name (both level_field count_field) bytes
 
 -- the parts of a table's line, as a line
-abbrev pub as_table : (ℕ × (ℕ × ℕ)) × (List ℕ × List ℕ) → TableLine
+abbrev pub as_table : (ℕ × (ℕ × ℕ)) × (StoredKey × StoredKey) → TableLine
 as_table x = record {
   level = x.0.0;
   file = x.0.1.0;
@@ -78,7 +77,7 @@ as_table x = record {
 
 -- the least key does not stand behind the greatest
 abbrev pub has_range : TableLine → Bool
-has_range line = not (is_lt (slice_cmp nat_cmp line.greatest line.least))
+has_range line = not (is_lt (stored_cmp line.greatest line.least))
 
 -- a table's line: level, file, length, least and greatest key, in this order
 unfoldable pub table_line_at : Reader TableLine

@@ -2,8 +2,8 @@
 use Rattle.std.specs.Prelude.{◌≡◌, ℕ, ◌<◌, ◌≤◌, List, [], ◌∷◌, ◌++◌, length, map, All, Bool, true, false}
 use Rattle.std.specs.Prelude.{Option, Some, None, not, ◌&&◌, ◌||◌, nat_le, nat_lt, ◌==◌, if◌then◌else◌, IsTrue}
 use Rattle.std.specs.List.{fold, filter, list_all, list_any}
-use Rattle.std.specs.Ordering.{nat_cmp, is_lt}
-use Rattle.std.specs.Cmp.Lexicographic.{slice_cmp}
+use Rattle.std.specs.Ordering.{is_lt}
+use Rattle.kv_types.specs.{stored_cmp}
 use Rattle.chain_model.specs.{is_part}
 use Rattle.manifest.specs.declared.line.LogLine.{LogLine}
 use Rattle.manifest.specs.declared.line.TableName.{TableName}
@@ -72,7 +72,7 @@ with_log logs line = placed log_is_before logs line
 -- tables stand by level, in level 0 by file, and in a deeper one by key
 abbrev pub table_is_before : TableLine → TableLine → Bool
 table_is_before a b = nat_lt a.level b.level || (a.level == b.level &&
-    (if a.level == 0 then nat_lt a.file b.file else is_lt (slice_cmp nat_cmp a.least b.least)))
+    (if a.level == 0 then nat_lt a.file b.file else is_lt (stored_cmp a.least b.least)))
 
 -- the tables and one more, at its place
 abbrev pub with_table : List TableLine → TableLine → List TableLine
@@ -136,8 +136,8 @@ is_new_file version change file =
 -- two ranges of one level below level 0 share no key
 abbrev pub are_apart : TableLine → TableLine → Bool
 are_apart a b =
-    not (a.level == b.level) || a.level == 0 || is_lt (slice_cmp nat_cmp a.greatest b.least)
-    || is_lt (slice_cmp nat_cmp b.greatest a.least)
+    not (a.level == b.level) || a.level == 0 || is_lt (stored_cmp a.greatest b.least)
+    || is_lt (stored_cmp b.greatest a.least)
 
 -- each two of the tables
 abbrev pub all_apart : List TableLine → Bool

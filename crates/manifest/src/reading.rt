@@ -19,7 +19,7 @@ use byte_fields::{read_u16, read_u32, read_u64};
 use configurations::Config;
 use configurations::laws::test_decides_config;
 use kv_types::bounds::MAX_NUMBER;
-use kv_types::{Key, KvError};
+use kv_types::{KvError, StoredKey};
 use std::alloc::{AllocError, Global};
 
 #[tactic(auto, unfolding(crate::specs::Reading::byte_field))]
@@ -118,10 +118,10 @@ fn level_of(bytes: &mut &[u8]) -> Result<u8, ManifestError>
     Ok(number)
 }
 
-fn key_of(alloc: Global, bytes: &mut &[u8]) -> Result<Key, ManifestError>
+fn key_of(alloc: Global, bytes: &mut &[u8]) -> Result<StoredKey, ManifestError>
     ensures { ReadsChangeField result bytes.new.now (text_at MAX_KEY bytes.old.now) }
 {
-    match Key::read_from(alloc, bytes) {
+    match StoredKey::read_from(alloc, bytes) {
         Ok((read, rest)) => {
             *bytes = rest;
             Ok(read)

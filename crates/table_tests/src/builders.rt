@@ -1,6 +1,7 @@
 // Builders under way: refused entries, data sizes, and the blocks of a long table.
 use crate::tables::bytes_of;
 use disk::MemDisk;
+use kv_types::LentKey;
 use std::alloc::Global;
 use std::process::Abort;
 use table_builder::{Builder, Finished};
@@ -16,7 +17,7 @@ fn add_a(
     number: u8,
 ) -> Result<(), TableError> {
     let entry = LentEntry {
-        key: b"a",
+        key: LentKey::new(b"a"),
         number: number as u64,
         value: None,
     };
@@ -50,8 +51,9 @@ fn a_refused_entry_leaves_the_builder(rt: HostRuntime) {
 /// Adds 1,000 keys, each at number 1.
 fn fill(rt: &impl Abort, alloc: Global, builder: &mut Builder, disk: &mut MemDisk) {
     for i in 0..1000u16 {
+        let key = i.to_be_bytes();
         let entry = LentEntry {
-            key: &i.to_be_bytes(),
+            key: LentKey::new(&key),
             number: 1,
             value: Some(&[7; 100]),
         };

@@ -5,6 +5,7 @@ ghost use Rattle.std.specs.Prelude.{◌≤◌, length};
 use crate::counts::is_count;
 use crate::sequence::copy_of;
 use disk::{Crash, Disk, Fault, MemDisk};
+use kv_types::LentKey;
 use std::alloc::Global;
 use std::process::Abort;
 use table_files::Files;
@@ -18,8 +19,9 @@ fn block_with(rt: &impl Abort, alloc: Global, byte: u8, value: &[u8]) -> Vec<u8>
     requires { length value.now ≤ 16_384 }
 {
     let mut block = copy_of(rt, alloc, &[0, 0, 0, 1]);
+    let key = [byte];
     let entry = LentEntry {
-        key: &[byte],
+        key: LentKey::new(&key),
         number: 1,
         value: Some(value),
     };

@@ -3,7 +3,7 @@
 use crate::counts::is_count;
 use crate::numbered::Numbered;
 use crate::sequence::{Change, Sequence, batch_of, change_of, key_of};
-use kv_types::{Batch, Key, Number, Value, value_at};
+use kv_types::{Batch, Key, LentKey, Number, Value, value_at};
 use memtable::{Found, Memtable};
 use merge_iter::Cursor;
 use std::alloc::Global;
@@ -115,9 +115,11 @@ fn seeks_long_keys(rt: &impl Abort, alloc: Global) -> bool {
     let mut table = Numbered::new(alloc);
     table.add(rt, 1, &batch_of(rt, alloc, &[change]));
     let mut cursor = table.table().cursor().expect(rt, "memory");
-    cursor.seek(&mut (), &[0; 5_000], 1).expect(rt, "a seek");
+    let least = LentKey::new(&[0; 5_000]);
+    cursor.seek(&mut (), least, 1).expect(rt, "a seek");
     let is_on = cursor.valid();
-    cursor.seek(&mut (), &[2; 5_000], 1).expect(rt, "a seek");
+    let greatest = LentKey::new(&[2; 5_000]);
+    cursor.seek(&mut (), greatest, 1).expect(rt, "a seek");
     is_on && !cursor.valid()
 }
 

@@ -1,5 +1,6 @@
 // The parts of the smallest table, written and read, and each of their bytes damaged.
 use crate::sequence::{copy_of, key_of};
+use kv_types::LentKey;
 use std::alloc::Global;
 use std::process::Abort;
 use table_format::{
@@ -43,7 +44,7 @@ fn sealed(rt: &impl Abort, mut part: Vec<u8>) -> Vec<u8> {
 fn block(rt: &impl Abort, alloc: Global) -> Vec<u8> {
     let mut part = part_of_one(rt, alloc);
     let entry = LentEntry {
-        key: b"a",
+        key: LentKey::new(b"a"),
         number: 1,
         value: Some(b"1"),
     };
@@ -98,7 +99,10 @@ fn is_block(part: &[u8]) -> bool {
     let Some((entry, rest)) = entry_of(text) else {
         return false;
     };
-    rest.is_empty() && entry.key == b"a".as_slice() && entry.number == 1 && entry.value.is_some()
+    rest.is_empty()
+        && entry.key.as_bytes() == b"a".as_slice()
+        && entry.number == 1
+        && entry.value.is_some()
 }
 
 fn is_filter(part: &[u8]) -> bool {

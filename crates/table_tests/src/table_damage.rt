@@ -7,6 +7,7 @@ use crate::parts::{BLOCK, FILTER};
 use crate::sequence::{copy_of, key_of};
 use crate::tables::{FILE, build, entry_of, table_in, with_cache};
 use disk::{Disk, MemDisk};
+use kv_types::LentKey;
 use merge_iter::{AtNumber, Cursor, CursorError, Merged, OwnedEntry};
 use sorted_table::{Files, TableCursor, TableError};
 use std::alloc::Global;
@@ -65,7 +66,7 @@ fn union_in(
 fn stands_on<C: Cursor>(cursor: &C, key: u8) -> bool
     ensures { IsTrue result → IsOn (C.position cursor.now) }
 {
-    cursor.valid() && cursor.key() == [key].as_slice()
+    cursor.valid() && cursor.key().as_bytes() == [key].as_slice()
 }
 
 /// Whether the refusal was for damage, and steps behind it are refused for that.
@@ -134,8 +135,8 @@ fn is_stopped<C: Cursor>(
         met_back(cursor, source, keys),
     );
     assert!(rt; met == want, "{} {}", met.0, met.1);
-    let is_refused = cursor.seek(source, b"4x", 1) == Err(CursorError::Damaged);
-    let goes_on = cursor.seek(source, b"7", 1).is_ok() && stands_on(cursor, b'7');
+    let is_refused = cursor.seek(source, LentKey::new(b"4x"), 1) == Err(CursorError::Damaged);
+    let goes_on = cursor.seek(source, LentKey::new(b"7"), 1).is_ok() && stands_on(cursor, b'7');
     assert!(rt; is_refused && goes_on, "seeks");
 }
 
@@ -231,7 +232,9 @@ fn a_union_that_turns_at_damage(rt: HostRuntime) {
     let alloc = rt.alloc();
     let mut files = damaged_files(&rt, alloc);
     let mut union = union_in(&rt, alloc, &mut files);
-    union.seek(&mut files, b"6", 1).expect(&rt, "a seek");
+    union
+        .seek(&mut files, LentKey::new(b"6"), 1)
+        .expect(&rt, "a seek");
     assert!(rt; stands_on(&union, b'6'), "on 6");
     if union.valid() {
         let refused = union.prev(&mut files) == DAMAGED;
@@ -261,7 +264,7 @@ fn a_view_that_seeks_behind_an_entry_before_damage(rt: HostRuntime) {
     let mut files = files_damaged_at(&rt, alloc, 1, 12_500);
     let inner = cursor_in(&rt, alloc, &mut files, FILE);
     let mut view = AtNumber::new(alloc, inner, 2);
-    let refused = view.seek(&mut files, b"3", 1) == DAMAGED;
+    let refused = view.seek(&mut files, LentKey::new(b"3"), 1) == DAMAGED;
     assert!(rt; refused && !view.valid(), "a seek");
 }
 
@@ -317,11 +320,12 @@ fn a_block_that_ends_before_its_line_says(rt: HostRuntime) {
     let alloc = rt.alloc();
     let mut files = ends_too_early(&rt, alloc);
     let mut cursor = cursor_in(&rt, alloc, &mut files, FILE);
-    let refused = cursor.seek(&mut files, b"b", 1) == DAMAGED;
+    let refused = cursor.seek(&mut files, LentKey::new(b"b"), 1) == DAMAGED;
     assert!(rt; refused && !cursor.valid(), "a seek");
     let refused = cursor.first(&mut files) == DAMAGED;
     assert!(rt; refused && !cursor.valid(), "the first");
     let table = table_in(&rt, alloc, &mut files, FILE);
-    let refused = table.get(alloc, &mut files, b"a", 1).err() == Some(TableError::Damaged);
+    let refused = table.get(alloc, &mut files, LentKey::new(b"a"), 1).err()
+        == Some(TableError::Damaged);
     assert!(rt; refused, "a lookup");
 }

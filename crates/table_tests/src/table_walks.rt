@@ -10,7 +10,7 @@ use std::process::Abort;
 /// Whether the cursor stands on this entry.
 fn stands_on<C: Cursor>(cursor: &C, want: &OwnedEntry) -> bool {
     cursor.valid()
-        && cursor.key() == want.key.as_slice()
+        && cursor.key().is_same(want.key.lent())
         && cursor.number() == want.number
         && cursor.value() == want.value.as_deref()
 }

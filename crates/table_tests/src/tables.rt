@@ -4,8 +4,9 @@ ghost use Rattle.table_format.specs.{IsTableEntry, lent_entry};
 
 use crate::counts::is_count;
 use crate::parts::{BLOCK, FILTER, FOOTER, INDEX};
-use crate::sequence::copy_of;
+use crate::sequence::{copy_of, key_of};
 use disk::{Crash, Disk, Fault, MemDisk};
+use kv_types::LentKey;
 use merge_iter::OwnedEntry;
 use sorted_table::{Table, TableError};
 use std::alloc::Global;
@@ -22,7 +23,7 @@ fn lent(entry: &OwnedEntry) -> LentEntry<'_>
     ensures { IsTableEntry (lent_entry result) }
 {
     LentEntry {
-        key: &entry.key,
+        key: entry.key.lent(),
         number: entry.number,
         value: entry.value.as_deref(),
     }
@@ -71,7 +72,7 @@ pub fn entry_of(
     number: u64,
     value: Option<&[u8]>,
 ) -> OwnedEntry {
-    let key = copy_of(rt, alloc, key);
+    let key = key_of(rt, alloc, key);
     let value = copy_of_some(rt, alloc, value);
     OwnedEntry::new(key, number, value).expect(rt, "an entry within the limits")
 }
@@ -159,7 +160,7 @@ fn finds(
     alloc: Global,
     table: &Table,
     files: &mut Files<MemDisk>,
-    (key, at): (&[u8], u64),
+    (key, at): (LentKey, u64),
     want: Option<&OwnedEntry>,
 ) -> bool {
     let found = table.get(alloc, files, key, at).expect(rt, "a lookup");
@@ -214,7 +215,7 @@ fn is_found(
         Some(place) => entries.get(place),
         None => None,
     };
-    finds(rt, alloc, table, files, (&entry.key, at), want)
+    finds(rt, alloc, table, files, (entry.key.lent(), at), want)
 }
 
 fn all_are_found(
@@ -255,8 +256,8 @@ fn opening_reaches(rt: &impl Abort, alloc: Global, call: u64) -> bool {
 
 /// Whether two lookups of one key both answer.
 fn both_answer(alloc: Global, table: &Table, files: &mut Files<MemDisk>) -> bool {
-    let first = table.get(alloc, files, b"@", 5).is_ok();
-    let second = table.get(alloc, files, b"@", 5).is_ok();
+    let first = table.get(alloc, files, LentKey::new(b"@"), 5).is_ok();
+    let second = table.get(alloc, files, LentKey::new(b"@"), 5).is_ok();
     first && second
 }
 
@@ -331,7 +332,7 @@ pub fn found_of(
             alloc,
             &table,
             files,
-            (&entry.key, entry.number),
+            (entry.key.lent(), entry.number),
             Some(entry),
         ) {
             count = count.wrapping_add(1);
@@ -360,7 +361,7 @@ fn files_with(rt: &impl Abort, alloc: Global, bytes: &[u8]) -> Files<MemDisk> {
 /// Opens the table of the file, looks its only key up, and answers the refusal.
 fn refusal_of(alloc: Global, files: &mut Files<MemDisk>) -> Option<TableError> {
     match Table::open(alloc, files, FILE) {
-        Ok(table) => table.get(alloc, files, b"a", 1).err(),
+        Ok(table) => table.get(alloc, files, LentKey::new(b"a"), 1).err(),
         Err(e) => Some(e),
     }
 }
@@ -400,8 +401,8 @@ fn damage_and_short_files_are_found(rt: HostRuntime) {
 
 /// Whether a lookup of `a` says that the block is damaged, twice.
 fn is_refused_twice(alloc: Global, table: &Table, files: &mut Files<MemDisk>) -> bool {
-    let first = table.get(alloc, files, b"a", 1).err();
-    let second = table.get(alloc, files, b"a", 1).err();
+    let first = table.get(alloc, files, LentKey::new(b"a"), 1).err();
+    let second = table.get(alloc, files, LentKey::new(b"a"), 1).err();
     first == Some(TableError::Damaged) && second == Some(TableError::Damaged)
 }
 
@@ -444,7 +445,10 @@ fn value_count(
     files: &mut Files<MemDisk>,
     value: &[u8],
 ) -> usize {
-    match table.get(alloc, files, b"a", 1).expect(rt, "a lookup") {
+    match table
+        .get(alloc, files, LentKey::new(b"a"), 1)
+        .expect(rt, "a lookup")
+    {
         Some(found) => (found.value.as_deref() == Some(value)) as usize,
         None => 0,
     }

@@ -6,6 +6,7 @@ use crate::numbered::Numbered;
 use crate::plain::{Move, PlainEntry, PlainWalk, add_all, move_of, shown_at};
 use crate::sequence::{Change, Sequence, batch_of, change_of};
 use crate::tables::entry_of;
+use kv_types::LentKey;
 use memtable::MemCursor;
 use merge_iter::{AtNumber, Cursor, CursorError, ListCursor, Merged, OwnedEntry};
 use std::alloc::Global;
@@ -126,7 +127,7 @@ fn apply<C: Cursor>(cursor: &mut C, source: &mut C::Source, step: Move) -> Resul
     match step {
         Move::First => cursor.first(source),
         Move::Last => cursor.last(source),
-        Move::Seek(key, number) => cursor.seek(source, &key.to_be_bytes(), number),
+        Move::Seek(key, number) => cursor.seek(source, LentKey::new(&key.to_be_bytes()), number),
         Move::Next if cursor.valid() => cursor.next(source),
         Move::Prev if cursor.valid() => cursor.prev(source),
         _ => Ok(()),
@@ -149,7 +150,7 @@ fn stands_on<C: Cursor>(cursor: &C, want: Option<PlainEntry>) -> bool {
     let Some(entry) = want else {
         return false;
     };
-    cursor.key() == entry.key.to_be_bytes().as_slice()
+    cursor.key().as_bytes() == entry.key.to_be_bytes().as_slice()
         && cursor.number() == entry.number
         && is_value(cursor.value(), entry.value)
 }

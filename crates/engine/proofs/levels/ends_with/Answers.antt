@@ -1,9 +1,10 @@
-use Rattle.std.proofs.Common.{◌≡◌, ◌∙◌, List, ℕ, Option, Some, None, ap, sym}
+use Rattle.std.proofs.Common.{◌≡◌, ◌∙◌, Option, Some, None, ap, sym}
 use Rattle.std.proofs.lemmas.Slice.Eq.{bytes_eq-Decides}
 use Rattle.kv_types.specs.FieldsLemmas.{some_is}
+use Rattle.kv_types.specs.{StoredKey}
 use Rattle.engine.proofs.levels.ends_with.Goals as goal
 
-none_is : (key : List ℕ) (of : Option (List ℕ)) → None ≡ of → of ≡ Some key → ⊥
+none_is : (key : StoredKey) (of : Option StoredKey) → None ≡ of → of ≡ Some key → ⊥
 none_is key of is same = let e : None ≡ Some key = is ∙ same in cc
 
 -- the keys are equal where their bytes are

@@ -1,4 +1,5 @@
-use Rattle.std.proofs.Common.{List, ℕ, subst, Contains}
+use Rattle.std.proofs.Common.{ℕ, subst, Contains}
+use Rattle.kv_types.specs.{StoredKey, lent_key}
 use Rattle.disk.specs.StillLemmas.{still}
 use Rattle.engine.specs.Errors.{IsEngineExternal}
 use Rattle.sorted_table.specs.{table_file}
@@ -22,10 +23,10 @@ returns-in_err-get_hashed-clause-intact g c = λ table honest served.
 pub returns-clause-found : goal.returns-clause-found
 returns-clause-found g c = λ meant table honest served fits.
     let found = c.in_ok-get_hashed.field-0 in
-    let here = found_in table.entries c.as_bytes.result.now c.get.result found
+    let here = found_in table.entries (lent_key c.lent.result) c.get.result found
     (c.in_ok-get_hashed.ensures.meant honest (meant (table_file c.args.self.now.table))
     table.entries served.serves.serves served.blocks) in
-    subst (λ (k : List ℕ). EntriesFind c.args.at (Contains table.entries) k found)
-    c.as_bytes.ensures.bytes
-    (subst (λ (n : ℕ). EntriesFind n (Contains table.entries) c.as_bytes.result.now found)
+    subst (λ (k : StoredKey). EntriesFind c.args.at (Contains table.entries) k found)
+    c.lent.ensures.key
+    (subst (λ (n : ℕ). EntriesFind n (Contains table.entries) (lent_key c.lent.result) found)
     c.get.ensures.same here)
