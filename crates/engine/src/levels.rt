@@ -216,10 +216,10 @@ impl LevelTables {
 
     /// Adds an open table behind those of level 0. A refusal changes nothing.
     pub(crate) fn add(&mut self, opened: OpenTable) -> Result<(), EngineError>
-        ensures added { (disk : State) (tables : List LevelTable) (table : LevelTable) →
-            AreServed disk self.old tables → IsServed disk opened table →
-            MatchResult result (λ _. AreServed disk self.new (with_flushed tables table))
-            (λ _. AreServed disk self.new tables) }
+        ensures added { (disk meant : State) (tables : List LevelTable) (table : LevelTable) →
+            WereServed disk meant self.old tables → WasServed disk meant opened table →
+            MatchResult result (λ _. WereServed disk meant self.new (with_flushed tables table))
+            (λ _. WereServed disk meant self.new tables) }
         ensures lines { OnOk result (table_lines self.new
             ≡ with_flushed_line (table_lines self.old) opened.line) }
         ensures memory { IfErr result (λ e. e ≡ EngineError.Memory) }
