@@ -109,8 +109,9 @@ pub explains : (e : EngineError) (left : Contents) → OpeningRefusal e left →
     IsEngineExternal e) → ExplainsRefusal e left
 explains engine.Disk left told opens = tt
 explains engine.Damaged left told opens = record {
-  created = told;
+  created = told.0;
   no_store = λ facts list files. not_external (opens facts list files);
+  shut = told.1;
 }
 explains engine.Memory left told opens = tt
 explains engine.NotCreated left told opens = told

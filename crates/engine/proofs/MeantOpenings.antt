@@ -1,6 +1,7 @@
 -- An opening of files that were meant to represent a list, of which blocks of tables are damaged.
 use Rattle.std.proofs.Common.{◌≡◌, ◌≢◌, ◌⊎◌, ℕ, List, [], ◌∷◌, Option, Some, None, refl, sym, ◌∙◌}
-use Rattle.std.proofs.Common.{ap, subst, drop, suc, inl, inr, arith}
+use Rattle.std.proofs.Common.{ap, subst, drop, length, suc, inl, inr, arith, ◌+◌, ◌-◌}
+use Rattle.std.proofs.lemmas.List.{length-drop}
 use Rattle.std.specs.Prelude.{All, Contains, IsNone, ◌==◌, if◌then◌else◌}
 use Rattle.std.specs.List.{AllZip}
 use Rattle.std.proofs.lemmas.Bool.Decides.{eqb_tells}
@@ -32,12 +33,14 @@ use Rattle.engine.specs.OpenFiles.{AreBatchesOf, AreUsableFiles, IsAsMeant}
 use Rattle.engine.specs.OpenFiles.{WereMeantToHold, WereMeantToRead, known_facts, known_version}
 use Rattle.engine.specs.Openings.{PartsHold, PartsWereMeant, kept_files}
 use Rattle.engine.specs.Settling.{AreAlone, SparesFiles}
-use Rattle.engine.specs.StoreFiles.{IsStoreFile, NamesStoreFile, WereMeant, WereOneOf, durably}
+use Rattle.engine.specs.StoreFiles.{AreOrderedNumbers, DamagedFilesOpen, IsStoreFile}
+use Rattle.engine.specs.StoreFiles.{NamesStoreFile, WereMeant, WereOneOf, durably}
 use Rattle.engine.proofs.FilesApart.{given_no_slot, log_no_table}
 use Rattle.engine.proofs.KeptFiles.{named_logs_in, served_in, settled_hold, table_is_kept}
 use Rattle.engine.proofs.Meant.{as_meant_stays, blocks_stay}
 use Rattle.engine.proofs.NamedFiles.{files_are_named, logs_same, tables_same, version_same}
-use Rattle.engine.proofs.ReadFiles.{batches_of, batches_then, files_of_parts, read_as, table_reads}
+use Rattle.engine.proofs.ReadFiles.{batches_of, batches_then, files_of_parts, kept_few, ordered_of}
+use Rattle.engine.proofs.ReadFiles.{read_as, table_reads}
 
 -- ---- durable contents
 
@@ -406,3 +409,32 @@ were_one_is_named one lawful facts list facts' list' left other agree (inl w) =
     inl (still_were_meant one lawful facts list left other agree w)
 were_one_is_named one lawful facts list facts' list' left other agree (inr w) =
     inr (still_were_meant one lawful facts' list' left other agree w)
+
+-- ---- files of which only blocks of tables are damaged
+
+-- they open as the list
+pub damaged_open : VersionsAreLawful → DamagedFilesOpen
+damaged_open lawful facts list left w fits =
+    let h = w.represents in
+    let is = lawful (record { id = facts.id; version = h.version }) w.meant h.manifest in
+    let had = batches_were facts list left w is in
+    let behind = length-drop facts.kept list in
+    let less = kept_few facts list w.meant h in
+    let total : suc facts.kept - 1 + length (drop facts.kept list) ≡ length list =
+    omega (arith, behind, less) in
+    let back : suc facts.kept - 1 ≡ facts.kept = omega arith in
+    record {
+      version = h.version;
+      manifest = slots_are_meant facts list left w is;
+      epoch = h.epoch;
+      ids = h.ids;
+      floor = h.floor;
+      batches = drop facts.kept list;
+      logs = had.have;
+      each = had.each;
+      counted = omega (arith, behind, less);
+      numbers = subst (λ (k : ℕ). AreOrderedNumbers h.version k (length list)) back
+          (subst (AreOrderedNumbers h.version (suc facts.kept - 1)) total
+          (ordered_of facts list w.meant h));
+      tables = fits;
+    }

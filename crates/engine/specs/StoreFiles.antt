@@ -97,12 +97,7 @@ pub record StillLeavesOneOf {D : Type 0} (g : Ghosts D) (old new : D) (facts : F
   pub meant : OnlyLeaves (WereOneOf facts list facts' list') (g.state old) →
       AlwaysLeaves g old new (WereOneOf facts list facts' list')
 
--- ---- files of no store
-
--- the files neither are those of no store nor represent one
-pub record IsDamaged (left : Contents) : Type 0 where
-  pub created : IsNotCreated left → ⊥
-  pub no_store : (facts : Facts) (list : List BatchContent) → FilesRepresent facts list left → ⊥
+-- ---- files that are opened
 
 -- The slots represent a version with these facts, its logs have the batches behind the first `kept`
 -- ones, so many in all, its numbers are in order, and the files of its tables fit their lines. An
@@ -119,6 +114,20 @@ pub record OpensAs (left : Contents) (facts : Facts) (count : ℕ) : Type 0 wher
   pub counted : count ≡ facts.kept + length batches
   pub numbers : AreOrderedNumbers version facts.kept count
   pub tables : All (FileFits left) version.tables
+
+-- The files are of a store that was created, and represent none. They lack something of what an
+-- opening reads.
+pub record IsDamaged (left : Contents) : Type 0 where
+  pub created : IsNotCreated left → ⊥
+  pub no_store : (facts : Facts) (list : List BatchContent) → FilesRepresent facts list left → ⊥
+  pub shut : (facts : Facts) (count : ℕ) → OpensAs left facts count → ⊥
+
+-- Files that were meant to represent a list open as it where each table's file fits its line, so
+-- that of tables only blocks are damaged.
+abbrev pub DamagedFilesOpen : Type 0
+DamagedFilesOpen = (facts : Facts) (list : List BatchContent) (left : Contents)
+    (files : WereMeant facts list left) → All (FileFits left) files.represents.version.tables →
+    OpensAs left facts (length list)
 
 -- the version has the file as a log or as a table
 abbrev pub NamesStoreFile : StoreVersion → ℕ → Type 0

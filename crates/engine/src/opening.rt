@@ -10,7 +10,8 @@ ghost use Rattle.engine.specs.OpenFiles.{AreBatchesOf, AreUsableFiles};
 ghost use Rattle.engine.specs.StoreFiles.{AreOrderedNumbers, HasFirstFiles};
 ghost use Rattle.engine.specs.OpenFiles.{FilesAreRead, FilesHold, FilesOpenAs, OpeningRefusal};
 ghost use Rattle.engine.specs.OpenFiles.{batch_count, known_facts, known_version};
-ghost use Rattle.engine.specs.Openings.{AreParts, PartsHold, PartsWereMeant, WereParts, kept_files};
+ghost use Rattle.engine.specs.Openings.{AreParts, HasParts, PartsHold, PartsWereMeant, WereParts};
+ghost use Rattle.engine.specs.Openings.{kept_files};
 ghost use Rattle.engine.specs.LevelTables.{AreTablesOf, IsTableAsMeant};
 ghost use Rattle.engine.specs.OpenFiles.{OpensFor, WereMeantToHold, WereMeantToRead};
 ghost use Rattle.std.specs.Prelude.{All};
@@ -112,8 +113,9 @@ fn read_parts<D: Disk>(
         All (λ line. IsTableAsMeant (durably (contents (D.state disk.old)) line.file)
         (meant line.file)) version.now.version.tables → IfOk result
         (PartsWereMeant (D.state disk.new) meant version.now.version first batches tables) }
-    ensures told { D.is_honest disk.old → IfOk result
-        (WereParts (D.state disk.old) (D.state disk.new) version.now.version) }
+    ensures told { D.is_honest disk.old → MatchResult result
+        (WereParts (D.state disk.old) (D.state disk.new) version.now.version)
+        (λ e. HasParts (contents (D.state disk.old)) version.now.version → IsEngineExternal e) }
     ensures usable { IfOk result (AreParts version.now.version) }
     ensures causes { IfErr result IsEnd }
     ensures still { IsStill D.Disk disk.old disk.new }
