@@ -21,7 +21,8 @@ use Rattle.engine.specs.Engines.{raised_facts}
 use Rattle.engine.specs.Errors.{EndsEngine, IsEnd, IsEngineExternal}
 use Rattle.engine.specs.Files.{Facts}
 use Rattle.engine.specs.OpenFiles.{FilesHold, OpeningRefusal, WereMeantToHold}
-use Rattle.engine.specs.StoreFiles.{FilesRepresent, IsOneOf, WereMeant, WereOneOf}
+use Rattle.engine.specs.StoreFiles.{FilesRepresent, IsOneOf, StillLeavesOneOf, WereMeant}
+use Rattle.engine.specs.StoreFiles.{WereOneOf}
 use Rattle.engine.specs.Tending.{TendMayFail}
 use Rattle.engine.proofs.Appended.{left_now}
 use Rattle.engine.proofs.Causes.{on_ok}
@@ -103,26 +104,15 @@ pub match_of : {T : Type 0} (result : Result T EngineError) (P : T → Type 0) �
 match_of (Ok x) P answer why = answer
 match_of (Err e) P answer why = why
 
--- an answer is as told, and leaves what it leaves
-pub with_left : {T : Type 0} (result : Result T EngineError) (P : T → Type 0) (Q : Type 0) →
-    IfOk result P → OnOk result Q → IfOk result (λ x. P x × Q)
-with_left (Ok x) P Q answer left = (answer, left)
-with_left (Err e) P Q answer left = tt
-
-pub match_left : {T : Type 0} (result : Result T EngineError) (P : T → Type 0) (Q : Type 0) →
-    MatchResult result P IsEngineExternal → OnOk result Q →
-    MatchResult result (λ x. P x × Q) IsEngineExternal
-match_left (Ok x) P Q answer left = (answer, left)
-match_left (Err e) P Q answer left = answer
-
 -- a refusal to open files says what is wrong with them
 pub explains : (e : EngineError) (left : Contents) → OpeningRefusal e left →
     ((facts : Facts) (list : List BatchContent) → FilesRepresent facts list left →
     IsEngineExternal e) → ExplainsRefusal e left
 explains engine.Disk left told opens = tt
 explains engine.Damaged left told opens = record {
-  created = told;
+  created = told.0;
   no_store = λ facts list files. not_external (opens facts list files);
+  shut = told.1;
 }
 explains engine.Memory left told opens = tt
 explains engine.NotCreated left told opens = told
@@ -191,22 +181,54 @@ module _ {D : Type 0} (g : Ghosts D) (laws : LeftFiles) where
         laws.durable laws.version;
   }
 
+  -- ---- damaged tables
+
+  -- an engine whose store was meant to hold the list
+  pub meant_of : (engine : Engine D g) (list : List BatchContent) →
+      g.is_honest (engine_disk engine) → (HasEnded engine → ⊥) →
+      WereMeantToHold (g.state (engine_disk engine)) engine.store list →
+      EngineWasMeant g engine list
+  unfolding WasMeantInMemory
+  meant_of engine list honest works w =
+      let disk = g.state (engine_disk engine) in
+      let moments : CrashLaws = record {
+        durable = laws.durable;
+        version = laws.version;
+        reads = laws.reads;
+      } in
+      record {
+        honest = honest;
+        works = works;
+        represents = meant_now moments disk engine.store list w (contents disk) (laws.reads disk);
+        crash = meant_now moments disk engine.store list w;
+        count = w.hold.known.count;
+        inside = w;
+      }
+
   -- ---- calls of an engine
 
-  -- an answer leaves an engine that holds what its store holds
+  -- an answer leaves an engine that holds what its store holds, or was meant to
   pub goes_to : {T : Type 0} (old new : Engine D g) (list more : List BatchContent)
       (result : Result T EngineError) →
       (g.is_honest (engine_disk old) → g.is_honest (engine_disk new)) →
       OnOk result (HasEnded new → ⊥) →
       (g.is_honest (engine_disk old) → FilesHold (g.state (engine_disk old)) old.store list →
       OnOk result (FilesHold (g.state (engine_disk new)) new.store more)) →
+      (g.is_honest (engine_disk old) →
+      WereMeantToHold (g.state (engine_disk old)) old.store list →
+      OnOk result (WereMeantToHold (g.state (engine_disk new)) new.store more)) →
       ListFollows g old new list more result
-  goes_to old new list more (Ok x) honest works held =
+  goes_to old new list more (Ok x) honest works held were =
       let next : EngineReads g old list → EngineReads g new more = λ r.
       reads_of new more (honest r.honest) works (held r.honest (held_of g old list r)) in
-      record { reads = next; holds = λ h. holds_of new more (next h.reads) }
-  goes_to old new list more (Err e) honest works held =
-      record { reads = λ r. tt; holds = λ h. tt }
+      record {
+        reads = next;
+        holds = λ h. holds_of new more (next h.reads);
+        meant = λ m. meant_of new more (honest m.honest) works
+            (were m.honest (were_meant g old list m));
+      }
+  goes_to old new list more (Err e) honest works held were =
+      record { reads = λ r. tt; holds = λ h. tt; meant = λ m. tt }
 
   -- the disk and the store of an engine are the same
   pub record IsAsBefore (old new : Engine D g) : Type 0 where
@@ -236,42 +258,10 @@ module _ {D : Type 0} (g : Ghosts D) (laws : LeftFiles) where
   goes_on old new list result as_before works =
       goes_to old new list list result as_before.honest works
       (λ honest held. on_ok result (stays_held old new list as_before honest held))
-
-  -- ---- damaged tables
-
-  -- an engine whose store was meant to hold the list
-  pub meant_of : (engine : Engine D g) (list : List BatchContent) →
-      g.is_honest (engine_disk engine) → (HasEnded engine → ⊥) →
-      WereMeantToHold (g.state (engine_disk engine)) engine.store list →
-      EngineWasMeant g engine list
-  unfolding WasMeantInMemory
-  meant_of engine list honest works w =
-      let disk = g.state (engine_disk engine) in
-      let moments : CrashLaws = record {
-        durable = laws.durable;
-        version = laws.version;
-        reads = laws.reads;
-      } in
-      record {
-        honest = honest;
-        works = works;
-        represents = meant_now moments disk engine.store list w (contents disk) (laws.reads disk);
-        crash = meant_now moments disk engine.store list w;
-        count = w.hold.known.count;
-        inside = w;
-      }
-
-  -- an answer leaves what the engine was meant to read
-  pub meant_on : {T : Type 0} (old new : Engine D g) (list : List BatchContent)
-      (result : Result T EngineError) → IsAsBefore old new → OnOk result (HasEnded new → ⊥) →
-      EngineWasMeant g old list → OnOk result (EngineWasMeant g new list)
-  meant_on old new list (Ok x) as_before works m =
-      meant_of new list (as_before.honest m.honest) works
+      (λ honest w. on_ok result
       (subst (λ (s : StoreFiles). WereMeantToHold (g.state (engine_disk new)) s list)
-      (sym as_before.store)
-      (still_meant (g.state (engine_disk old)) old.store list (were_meant g old list m)
-      (g.state (engine_disk new)) (as_before.same m.honest)))
-  meant_on old new list (Err e) as_before works m = tt
+      (sym as_before.store) (still_meant (g.state (engine_disk old)) old.store list w
+      (g.state (engine_disk new)) (as_before.same honest))))
 
   -- ---- moments
 
@@ -286,18 +276,18 @@ module _ {D : Type 0} (g : Ghosts D) (laws : LeftFiles) where
 -- no call leaves files of one of two lists
 pub one_left : (facts : Facts) (list more : List BatchContent) (disk : State) (past : List State) →
     OnlyLeaves (WereMeant facts list) disk →
-    LeavesSince disk past disk past (WereOneOf facts list more)
+    LeavesSince disk past disk past (WereOneOf facts list facts more)
 one_left facts list more disk past only =
-    started (WereOneOf facts list more) disk past (λ left leaves. inl (only left leaves))
+    started (WereOneOf facts list facts more) disk past (λ left leaves. inl (only left leaves))
 
 -- an engine that works has no next number only at the greatest
-pub only_exhausted : {T : Type 0} {M : Type 0} (result : Result T EngineError) (e : EngineError)
-    (P : T → Type 0) → IsErrAnd result (λ s. s ≡ e) → (e ≡ engine.Failed → ⊥) →
+pub only_exhausted : {T : Type 0} {M : Type 0} (result : Result T EngineError) (e : EngineError) →
+    IsErrAnd result (λ s. s ≡ e) → (e ≡ engine.Failed → ⊥) →
     (e ≡ engine.Failed) ⊎ ((e ≡ engine.Exhausted) × M) →
-    MatchResult result P (λ s. IsEngineExternal s ⊎ (s ≡ engine.Exhausted))
-only_exhausted (Ok x) e P told works only = absurd told
-only_exhausted (Err s) e P told works (inl failed) = absurd (works failed)
-only_exhausted (Err s) e P told works (inr last) = inr (told ∙ last.0)
+    IfErr result (λ s. IsEngineExternal s ⊎ (s ≡ engine.Exhausted))
+only_exhausted (Ok x) e told works only = absurd told
+only_exhausted (Err s) e told works (inl failed) = absurd (works failed)
+only_exhausted (Err s) e told works (inr last) = inr (told ∙ last.0)
 
 -- a refusal that returns the disk as it was leaves what it left
 pub still_refused : {D : Type 0} (g : Ghosts D) (P : Contents → Type 0) (disk : D)
@@ -313,11 +303,18 @@ still_refused {D = D} g P disk result e told is same given only =
     (started P (g.state disk) (g.past disk) only)
 
 -- moments since a disk are those since an equal one
-pub since_same : {D : Type 0} (g : Ghosts D) (P : Contents → Type 0) {disk was new : D} →
-    was ≡ disk → LeavesSince (g.state was) (g.past was) (g.state new) (g.past new) P →
-    LeavesSince (g.state disk) (g.past disk) (g.state new) (g.past new) P
-since_same {D = D} g P {new = new} is run =
-    subst (λ (d : D). LeavesSince (g.state d) (g.past d) (g.state new) (g.past new) P) is run
+pub leaves_since_same : {D : Type 0} (g : Ghosts D) {disk was new : D} (facts : Facts)
+    (list : List BatchContent) (facts' : Facts) (list' : List BatchContent) → was ≡ disk →
+    (OnlyLeaves (IsOneOf facts list facts' list') (g.state was) →
+    LeavesSince (g.state was) (g.past was) (g.state new) (g.past new)
+    (IsOneOf facts list facts' list')) →
+    (OnlyLeaves (WereOneOf facts list facts' list') (g.state was) →
+    LeavesSince (g.state was) (g.past was) (g.state new) (g.past new)
+    (WereOneOf facts list facts' list')) →
+    StillLeavesOneOf g disk new facts list facts' list'
+leaves_since_same {D = D} g {new = new} facts list facts' list' is whole meant =
+    subst (λ (d : D). StillLeavesOneOf g d new facts list facts' list') is
+    (record { whole = whole; meant = meant })
 
 -- files of one store are those of a store whose floor was not raised
 pub not_raised : {D : Type 0} (g : Ghosts D) (engine : Engine D g) (new : D)
@@ -327,4 +324,15 @@ pub not_raised : {D : Type 0} (g : Ghosts D) (engine : Engine D g) (new : D)
 not_raised g engine new list run =
     weaker (FilesRepresent (facts_of engine) list)
     (IsOneOf (facts_of engine) list (raised_facts engine) list) (g.state (engine_disk engine))
+    (g.past (engine_disk engine)) (g.state new) (g.past new) (λ left it. inl it) run
+
+-- .. and so were they, where they were meant to be
+pub were_not_raised : {D : Type 0} (g : Ghosts D) (engine : Engine D g) (new : D)
+    (list : List BatchContent) →
+    AlwaysLeaves g (engine_disk engine) new (WereMeant (facts_of engine) list) →
+    AlwaysLeaves g (engine_disk engine) new
+    (WereOneOf (facts_of engine) list (raised_facts engine) list)
+were_not_raised g engine new list run =
+    weaker (WereMeant (facts_of engine) list)
+    (WereOneOf (facts_of engine) list (raised_facts engine) list) (g.state (engine_disk engine))
     (g.past (engine_disk engine)) (g.state new) (g.past new) (λ left it. inl it) run

@@ -79,7 +79,7 @@ module _ (disk : State) (version : StoreVersion) (logs : BatchLogs) (trimmed : �
     (h : NamedHold disk version logs trimmed tables list) where
   -- where slots represent the version, a crash that leaves what it might of the files it names
   -- leaves the list
-  pub named_left : DurableFileIsLeft → (id : ℕ) (left : Contents)
+  unfoldable pub named_left : DurableFileIsLeft → (id : ℕ) (left : Contents)
       → ManifestRepresents (record { id = id; version = version }) left
       → ((line : LogLine) → Contains version.logs line
       → IsFileOutcome (disk line.file) (left line.file))
@@ -210,7 +210,7 @@ module _ (files : StoreFiles) (u : AreUsableFiles files) (line : TableLine)
         u.numbers.flushed_count next,
   )
 
-  after_is : EditsKeepVersions → IsVersion after
+  pub after_is : EditsKeepVersions → IsVersion after
   after_is law = law version flush_of u.version fits_flush.0 fits_flush.1
 
   -- no log has the new log's file
@@ -265,7 +265,7 @@ module _ (files : StoreFiles) (u : AreUsableFiles files) (line : TableLine)
   newest_is = newest_after version (batch_count files) line logs_are
 
   -- and the new table behind the others of level 0
-  tables_are : after.tables ≡ with_flushed_line version.tables line
+  pub tables_are : after.tables ≡ with_flushed_line version.tables line
   tables_are =
       tables_after version (batch_count files) line
       ∙ flushed_lines line next.level version.tables
@@ -382,7 +382,7 @@ module _ (files : StoreFiles) (u : AreUsableFiles files) (line : TableLine)
         (λ old has. hs.spilled.spares old.file
         (λ same. let lt = table_less old has in omega (arith, same, lt)))
 
-    spilled_manifest : HeldVersionStays → ManifestHolds s1 files.manifest (known_version files)
+    pub spilled_manifest : HeldVersionStays → ManifestHolds s1 files.manifest (known_version files)
     spilled_manifest stays = stays s0 s1 files.manifest (known_version files) hs.held.known.manifest
         (λ slot is. hs.spilled.spares slot
         (λ same. let lt = slot_less slot is in omega (arith, same, lt)))
@@ -428,7 +428,7 @@ module _ (files : StoreFiles) (u : AreUsableFiles files) (line : TableLine)
     module _ (s2 : State) (spares : IsSameBut file s1 s2) (logs : BatchLogs)
         (lines : lines_of logs ≡ with_line files.logs file)
         (began : LogsHold s2 logs (suc trimmed) (drop trimmed list)) (keeps : FlushesKeep) where
-      named_old : NamedHold s2 version files.logs trimmed tables list
+      pub named_old : NamedHold s2 version files.logs trimmed tables list
       named_old = named_in s1 version files.logs trimmed tables list spilled_named s2
           (λ old has. spares old.file
           (λ same. let lt = log_less old has in omega (arith, same, lt, at)))
@@ -453,7 +453,7 @@ module _ (files : StoreFiles) (u : AreUsableFiles files) (line : TableLine)
       new_stays : s2 line.file ≡ s1 line.file
       new_stays = spares line.file (λ same. omega (arith, same, next.file, at))
 
-      named_new : NamedHold s2 after logs trimmed (with_flushed tables table) list
+      pub named_new : NamedHold s2 after logs trimmed (with_flushed tables table) list
       named_new =
           let back = sym tables_are in
           let P : TableLine → Type 0 = λ old. IsDurable (s2 old.file) in

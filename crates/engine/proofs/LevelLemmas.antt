@@ -17,7 +17,7 @@ use Rattle.store_model.specs.PlacesLemmas.{contains_none}
 use Rattle.manifest.specs.declared.TableLine.{TableLine}
 use Rattle.manifest.specs.Versions.{table_is_before}
 use Rattle.engine.specs.declared.levels.OpenTable.{OpenTable}
-use Rattle.engine.specs.LevelTables.{FlushedTablesRise, IsServed, is_flushed, with_flushed}
+use Rattle.engine.specs.LevelTables.{FlushedTablesRise, WasServed, is_flushed, with_flushed}
 use Rattle.engine.specs.LevelTables.{AreTablesOf, EntriesFind, LesserLack, LevelsRise}
 use Rattle.engine.specs.LevelTables.{LinesInOrderRise, TablesFind, TablesFindForStores}
 
@@ -67,23 +67,24 @@ flushed_tables_rise (t ∷ ts) table is rise = elim (either (t.level == 0)) [
   | inr deeper ↦ rw deeper (λ k d lt. omega (arith, is), rise)
 ]
 
-module _ (disk : State) (one : OpenTable) (table : LevelTable) (is : IsServed disk one table) where
+module _ (disk meant : State) (one : OpenTable) (table : LevelTable)
+    (is : WasServed disk meant one table) where
   -- an open table more, behind those of level 0
   pub served_with : (items : List OpenTable) (tables : List LevelTable)
-      → AllZip (IsServed disk) items tables
-      → AllZip (IsServed disk) (insert items (prefix_len is_flushed items) one)
+      → AllZip (WasServed disk meant) items tables
+      → AllZip (WasServed disk meant) (insert items (prefix_len is_flushed items) one)
       (with_flushed tables table)
   served_with [] [] zip = (is, tt)
   served_with [] (t ∷ ts) zip = absurd zip
   served_with (a ∷ xs) [] zip = absurd zip
   served_with (a ∷ xs) (t ∷ ts) zip = elim (either (a.line.level == 0)) [
     | inl zeroth ↦
-        let too : (t.level == 0) ≡ true = ap (λ n. n == 0) zip.0.level ∙ zeroth in
+        let too : (t.level == 0) ≡ true = ap (λ n. n == 0) zip.0.serves.level ∙ zeroth in
         let next : 1 + prefix_len is_flushed xs ≡ suc (prefix_len is_flushed xs) =
         omega arith in
         rw (zeroth, too, next) (zip.0, served_with xs ts zip.1)
     | inr deeper ↦
-        let too : (t.level == 0) ≡ false = ap (λ n. n == 0) zip.0.level ∙ deeper in
+        let too : (t.level == 0) ≡ false = ap (λ n. n == 0) zip.0.serves.level ∙ deeper in
         rw (deeper, too) (is, zip)
   ]
 

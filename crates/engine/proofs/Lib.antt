@@ -35,4 +35,7 @@ pub mod TendedFiles
 pub mod Tends
 pub mod Meant
 pub mod MeantOpenings
+pub mod MeantFiles
 pub mod MeantMoments
+pub mod MeantTends
+pub mod MeantInstalls

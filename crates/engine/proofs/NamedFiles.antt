@@ -95,7 +95,7 @@ module _ (left other : Contents) where
   )
 
 -- so the files represent the same
-pub files_are_named : StoreFilesAreNamed
+unfoldable pub files_are_named : StoreFilesAreNamed
 files_are_named facts list left other agree h =
     let named : NodeVersion = record { id = facts.id; version = h.version } in
     record {

@@ -14,13 +14,15 @@ use Rattle.disk.specs.StepsLemmas.{read_is_outcome}
 use Rattle.store_model.specs.PlacesLemmas.{contains_cases, contains_head, contains_next}
 use Rattle.store_model.specs.PlacesLemmas.{contains_none}
 use Rattle.manifest.specs.{HeldVersionIsLeft, ManifestHolds, StoreVersion, VersionIsOne}
+use Rattle.manifest.specs.{VersionsAreLawful}
 use Rattle.engine.specs.declared.store_files.StoreFiles.{StoreFiles}
 use Rattle.engine.specs.Files.{Facts}
 use Rattle.engine.specs.OpenFiles.{known_version}
 use Rattle.engine.specs.Openings.{kept_files}
 use Rattle.engine.specs.Settling.{AreLeftOf}
-use Rattle.engine.specs.StoreFiles.{IsOneOf, IsStoreFile, NamesStoreFile}
+use Rattle.engine.specs.StoreFiles.{IsOneOf, IsStoreFile, NamesStoreFile, WereOneOf}
 use Rattle.engine.proofs.KeptFiles.{log_is_kept, slot_is_kept, still_keeps, table_is_kept}
+use Rattle.engine.proofs.MeantOpenings.{were_one_is_named}
 use Rattle.engine.proofs.NamedFiles.{files_are_named}
 
 -- ---- some files as a crash left them
@@ -117,3 +119,25 @@ module _ (P : Contents → Type 0) (looks : LooksAt IsStoreFile P) where
       let run = still_keeps P old past mid so_far only before in
       join P old mid new past so_far since run (weaker (AreLeftOf kept mid) P mid so_far new since
       (named_keep held_is_left version_is_one mid files kept holds is run.now) removed)
+
+-- so files of one of two stores stay so, and so do those that were meant to be of one
+pub settling_keeps_each : (facts : Facts) (list : List BatchContent) (facts' : Facts)
+    (list' : List BatchContent) → HeldVersionIsLeft → VersionIsOne → VersionsAreLawful →
+    (files : StoreFiles) (kept : List ℕ) (old mid new : State) (past so_far since : List State) →
+    ManifestHolds mid files.manifest (known_version files) →
+    kept ≡ kept_files (known_version files).version →
+    LeavesSince old past mid so_far (IsCrashOutcome old) →
+    LeavesSince mid so_far new since (AreLeftOf kept mid) →
+    (OnlyLeaves (IsOneOf facts list facts' list') old →
+    LeavesSince old past new since (IsOneOf facts list facts' list'))
+    × (OnlyLeaves (WereOneOf facts list facts' list') old →
+    LeavesSince old past new since (WereOneOf facts list facts' list'))
+settling_keeps_each facts list facts' list' left one lawful files kept old mid new past so_far
+    since holds is before removed = (
+      λ only. settling_keeps (IsOneOf facts list facts' list')
+          (one_of_is_named facts list facts' list') left one files kept old mid new past so_far
+          since holds is only before removed,
+      λ only. settling_keeps (WereOneOf facts list facts' list')
+          (were_one_is_named one lawful facts list facts' list') left one files kept old mid new
+          past so_far since holds is only before removed,
+    )

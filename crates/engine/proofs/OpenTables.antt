@@ -8,7 +8,9 @@ use Rattle.disk.specs.StillLemmas.{still, still_more}
 use Rattle.kv_types.specs.{Entry}
 use Rattle.table_format.specs.{IsEnvironmentError, TableRepresents}
 use Rattle.table_format.specs.declared.TableError.{TableError}
-use Rattle.sorted_table.specs.{AreAsMeant, FileRepresents, HasTail, LookupFinds, TableServes}
+use Rattle.sorted_table.specs.{AreAsMeant, CanBeOpen, FileRepresents, HasItsLines, HasTail}
+use Rattle.sorted_table.specs.{LookupFinds, TableServes}
+use Rattle.table_format.specs.declared.IndexLine.{IndexLine}
 use Rattle.sorted_table.specs.{greatest_key, index_lines, last_line_key, table_file, table_filter}
 use Rattle.sorted_table.specs.declared.Table.{Table}
 use Rattle.sorted_table.specs.declared.FoundVersion.{FoundVersion}
@@ -128,6 +130,46 @@ fit_read (Some bytes) line len answer same table tail last ends = record {
   last = last;
   greatest = ends;
 }
+
+-- ---- a file that fits its line
+
+-- it has the line's length
+pub fits_length : (file : Option (List ℕ)) (line : TableLine) (len : ℕ)
+    → IsSomeAnd file (λ bytes. (len ≡ length bytes) × (len < 2 ^ 63))
+    → IsSomeAnd file (FitsLine line) → (len ≡ line.length → ⊥) → ⊥
+fits_length None line len answer fit other = absurd answer
+fits_length (Some bytes) line len answer fit other = other (answer.0 ∙ fit.len)
+
+-- a table can be open on it
+pub fits_opens : (old new : Slot) (line : TableLine) → seen new ≡ seen old
+    → IsSomeAnd (seen old) (FitsLine line) → CanBeOpen new
+fits_opens old new line same fit =
+    subst (λ (o : Option (List ℕ)). IsSomeAnd o
+    (λ bytes. (lines : List IndexLine) × (filter : List ℕ) × HasTail bytes lines filter)) (sym same)
+    (fit_tail (seen old) line fit)
+  where
+    fit_tail : (o : Option (List ℕ)) (line : TableLine) → IsSomeAnd o (FitsLine line)
+        → IsSomeAnd o (λ bytes.
+        (lines : List IndexLine) × (filter : List ℕ) × HasTail bytes lines filter)
+    fit_tail None line fit = absurd fit
+    fit_tail (Some bytes) line fit = (fit.lines, fit.filter, fit.tail)
+
+-- and its last line has the line's greatest key
+pub fits_last : (old new : Slot) (line : TableLine) → seen new ≡ seen old
+    → IsSomeAnd (seen old) (FitsLine line) → (table : Table) → HasItsLines new table
+    → last_line_key (index_lines table) ≡ Some line.greatest
+fits_last old new line same fit table has =
+    last_of (seen old) fit (λ lines filter tail. has lines filter
+    (subst (λ (o : Option (List ℕ)). IsSomeAnd o (λ bytes. HasTail bytes lines filter)) (sym same)
+    tail))
+  where
+    last_of : (o : Option (List ℕ)) → IsSomeAnd o (FitsLine line)
+        → ((lines : List IndexLine) (filter : List ℕ)
+        → IsSomeAnd o (λ bytes. HasTail bytes lines filter) → lines ≡ index_lines table)
+        → last_line_key (index_lines table) ≡ Some line.greatest
+    last_of None fit same = absurd fit
+    last_of (Some bytes) fit same =
+        ap last_line_key (sym (same fit.lines fit.filter fit.tail)) ∙ fit.last
 
 pub same_back : (old new : State) → IsSame old new → IsSame new old
 same_back old new same file = sym (same file)

@@ -18,10 +18,13 @@ use Rattle.manifest.specs.Holds.{SparesOthers}
 use Rattle.manifest.specs.Lawful.{IsGiven}
 use Rattle.manifest.specs.{HeldVersionStays, IsSlotFile, IsVersion, ManifestHolds, NodeVersion}
 use Rattle.manifest.specs.{IsNotCreated, ManifestHasFailed, ManifestRepresents, StoreVersion}
+use Rattle.manifest.specs.declared.ManifestError.{ManifestError}
+use Rattle.manifest.specs.declared.ManifestError.TheVariants as manifest
+use Rattle.manifest.specs.Manifests.{ManifestRefusal}
 use Rattle.manifest.specs.{SlotsRead, other_slot, version_of}
 use Rattle.engine.specs.declared.error.EngineError.{EngineError}
 use Rattle.engine.specs.declared.error.EngineError.TheVariants as engine
-use Rattle.engine.specs.Errors.{IsEnd}
+use Rattle.engine.specs.Errors.{IsEnd, IsEngineExternal, error_of_manifest}
 use Rattle.engine.specs.declared.opening.ReadParts.{ReadParts}
 use Rattle.engine.specs.declared.store_files.StoreFiles.{StoreFiles}
 use Rattle.engine.specs.BatchLogs.{LogsHold, first_number}
@@ -31,9 +34,9 @@ use Rattle.engine.specs.OpenFiles.{AreBatchesOf, AreUsableFiles}
 use Rattle.engine.specs.StoreFiles.{AreOrderedNumbers}
 use Rattle.engine.specs.OpenFiles.{FilesAreRead, FilesOpenAs, OpeningRefusal, known_facts}
 use Rattle.engine.specs.OpenFiles.{known_version}
-use Rattle.engine.specs.Openings.{AreParts, PartsHold, WereParts}
+use Rattle.engine.specs.Openings.{AreParts, HasParts, PartsHold, WereParts}
 use Rattle.engine.specs.Settling.{IsReadAlike, SlotSettles}
-use Rattle.engine.specs.StoreFiles.{FilesRepresent, store_of_version}
+use Rattle.engine.specs.StoreFiles.{FilesRepresent, OpensAs, store_of_version}
 use Rattle.engine.proofs.FilesApart.{given_no_slot}
 use Rattle.engine.proofs.NamedFiles.{logs_same, tables_same}
 use Rattle.engine.proofs.Parts.{held_count}
@@ -142,6 +145,15 @@ module _ (version : StoreVersion) (is : IsVersion version) (old new : State)
   tables_then tables h =
       tables_same (contents old) (contents new) version.tables tables table_reads h
 
+  pub fit_then : All (FileFits (contents old)) version.tables
+      → All (FileFits (contents new)) version.tables
+  fit_then fit =
+      All-weaker (Contains version.tables) (FileFits (contents new))
+      (λ line has. subst (λ (o : Option (List ℕ)). IsSomeAnd o (FitsLine line))
+      (sym (table_reads line has))
+      (All-contains (FileFits (contents old)) version.tables line fit has)) version.tables
+      (All-contains_itself version.tables)
+
   pub fit_before : All (FileFits (contents new)) version.tables
       → All (FileFits (contents old)) version.tables
   fit_before fit =
@@ -150,6 +162,11 @@ module _ (version : StoreVersion) (is : IsVersion version) (old new : State)
       (table_reads line has)
       (All-contains (FileFits (contents new)) version.tables line fit has)) version.tables
       (All-contains_itself version.tables)
+
+-- damage is no external refusal
+damage_is_own : IsEngineExternal engine.Damaged → ⊥
+damage_is_own (inl is) = cc
+damage_is_own (inr is) = cc
 
 -- ---- what represented files give
 
@@ -177,7 +194,7 @@ files_of_parts manifest parts = record {
 
 module _ (facts : Facts) (list : List BatchContent) (left : Contents)
     (h : FilesRepresent facts list left) where
-  kept_few : facts.kept ≤ length list
+  pub kept_few : facts.kept ≤ length list
   kept_few =
       let floor = h.store.kept_floor in
       let count = h.store.floor_count in
@@ -329,14 +346,52 @@ opens_as s0 s1 s2 spares manifest parts is had w =
       tables = fit_before (version_of manifest).version is s0 s1 spares w.fits;
     }
 
--- a refusal after the manifest was opened is of a store that was created
+-- files that open as something have the parts, behind the opening of the manifest
+pub parts_then : (s0 s1 : State) → SparesOthers s0 s1 → (facts : Facts) (count : ℕ)
+    → (o : OpensAs (contents s0) facts count) → IsVersion o.version
+    → HasParts (contents s1) o.version
+parts_then s0 s1 spares facts count o is =
+    let kept = facts.kept in
+    let counted = o.counted in
+    let few = o.numbers.few in
+    let back : kept ≡ suc kept - 1 = omega arith in
+    record {
+      first = suc kept;
+      batches = o.batches;
+      had = batches_then o.version is s0 s1 spares (suc kept) o.batches (record {
+        positive = omega arith;
+        have = o.logs;
+        each = o.each;
+        few = omega (arith, counted, few);
+      });
+      fits = fit_then o.version is s0 s1 spares o.tables;
+      ordered = subst (λ (k : ℕ). AreOrderedNumbers o.version k (k + length o.batches)) back
+          (subst (AreOrderedNumbers o.version kept) counted o.numbers);
+    }
+
+-- a refusal after the manifest was opened is of a store that was created, and of files that open as
+-- nothing
 pub end_explained : (e : EngineError) (left : Contents) → IsEnd e → (IsNotCreated left → ⊥)
+    → ((facts : Facts) (count : ℕ) → OpensAs left facts count → IsEngineExternal e)
     → OpeningRefusal e left
-end_explained engine.Disk left ends created = tt
-end_explained engine.Damaged left ends created = created
-end_explained engine.Memory left ends created = tt
-end_explained engine.NotCreated left ends created = absurd ends
-end_explained engine.Failed left ends created = absurd ends
-end_explained engine.TooOld left ends created = absurd ends
-end_explained engine.NotCommitted left ends created = absurd ends
-end_explained engine.Exhausted left ends created = absurd ends
+end_explained engine.Disk left ends created opens = tt
+end_explained engine.Damaged left ends created opens =
+    (created, λ facts count it. damage_is_own (opens facts count it))
+end_explained engine.Memory left ends created opens = tt
+end_explained engine.NotCreated left ends created opens = absurd ends
+end_explained engine.Failed left ends created opens = absurd ends
+end_explained engine.TooOld left ends created opens = absurd ends
+end_explained engine.NotCommitted left ends created opens = absurd ends
+end_explained engine.Exhausted left ends created opens = absurd ends
+
+-- so is one of the manifest
+pub slots_explained : (e : ManifestError) (left : Contents) → ManifestRefusal e left
+    → OpeningRefusal (error_of_manifest e) left
+slots_explained manifest.Disk left told = tt
+slots_explained manifest.Damaged left told = (
+  told.0,
+  λ facts count it. told.1 (record { id = facts.id; version = it.version }) it.manifest,
+)
+slots_explained manifest.NotCreated left told = told
+slots_explained manifest.Memory left told = tt
+slots_explained manifest.Failed left told = absurd told

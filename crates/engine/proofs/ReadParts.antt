@@ -80,6 +80,13 @@ tables_are_there disk (line ∷ lines) (table ∷ tables) h =
     × TableRepresents bytes table.entries) h.0.represents)
     (tables_are_there disk lines tables h.1)
 
+-- so do files that fit their lines
+pub fitting_are_there : (disk : State) (lines : List TableLine)
+    → All (FileFits (contents disk)) lines → AreThere disk lines
+fitting_are_there disk lines fit =
+    All-weaker (FileFits (contents disk)) (λ (line : TableLine). IsSome (seen (disk line.file)))
+    (λ line one. is_there (seen (disk line.file)) (FitsLine line) one) lines fit
+
 -- ---- the states of an opening: after the syncs of tables, of logs, and now
 
 pub synced_reads : (old new : State) (lines : List TableLine) → AreSynced old new lines
@@ -122,6 +129,15 @@ module _ (version : StoreVersion) (is : IsVersion version) (s1 s2 s3 : State)
       (λ line has. subst (λ (o : Option (List ℕ)). IsSomeAnd o (FitsLine line))
       (table_reads line has)
       (All-contains (FileFits (contents s3)) version.tables line fit has)) version.tables
+      (All-contains_itself version.tables)
+
+  pub will_fit : All (FileFits (contents s1)) version.tables
+      → All (FileFits (contents s3)) version.tables
+  will_fit fit =
+      All-weaker (Contains version.tables) (FileFits (contents s3))
+      (λ line has. subst (λ (o : Option (List ℕ)). IsSomeAnd o (FitsLine line))
+      (sym (table_reads line has))
+      (All-contains (FileFits (contents s1)) version.tables line fit has)) version.tables
       (All-contains_itself version.tables)
 
   pub tables_durable : (s4 : State) → IsSame s3 s4

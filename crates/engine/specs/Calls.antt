@@ -47,11 +47,13 @@ pub record KeepsEngine {D T : Type 0} (g : Ghosts D) (old new : Engine D g)
   pub ends : HasEnded new ↔ (HasEnded old ⊎ EndsEngine result)
   pub refusal : IsErrAnd result (λ e. IsEnd e → ⊥) → new ≡ old
 
--- the disk represents this list after the call, where it represented that one before
+-- the disk represents this list after the call, where it represented that one before, and was meant
+-- to, where it was meant to represent that one
 pub record ListFollows {D T : Type 0} (g : Ghosts D) (old new : Engine D g)
     (list more : List BatchContent) (result : Result T EngineError) : Type 0 where
   pub reads : EngineReads g old list → OnOk result (EngineReads g new more)
   pub holds : EngineHolds g old list → OnOk result (EngineHolds g new more)
+  pub meant : EngineWasMeant g old list → OnOk result (EngineWasMeant g new more)
 
 -- a crash at any moment since the call began leaves files of one of two stores
 abbrev pub IsOldOrNewSince : {D : Type 0} → Ghosts D → D → D → Facts → List BatchContent → Facts →

@@ -29,6 +29,7 @@ pub use Rattle.engine.specs.Engines.{files_of_tend, look_ups, newest_log_file, r
 pub use Rattle.engine.specs.Engines.{table_count, with_one_more, with_committed}
 pub use Rattle.engine.specs.Errors.{EndsEngine, FailsDevice, IsEnd, IsEngineExternal}
 pub use Rattle.engine.specs.Files.{Facts, IsOwned, first_facts}
-pub use Rattle.engine.specs.StoreFiles.{FilesRepresent, IsDamaged, IsOneOf, OpensAs, WereMeant}
+pub use Rattle.engine.specs.StoreFiles.{FilesRepresent, IsDamaged, IsOneOf, OpensAs}
+pub use Rattle.engine.specs.StoreFiles.{StillLeavesOneOf, WereMeant, WereOneOf}
 pub use Rattle.engine.specs.Tending.{IsSameBeside}
 pub use Rattle.manifest.specs.{IsNotCreated}

@@ -24,7 +24,7 @@ use Rattle.engine.specs.LevelTables.{IsTableAsMeant, IsTableOf, table_lines}
 use Rattle.engine.specs.declared.levels.LevelTables.{LevelTables}
 use Rattle.engine.specs.Stores.{IsNumberedTo}
 use Rattle.engine.specs.Errors.{IsEngineExternal}
-use Rattle.engine.specs.StoreFiles.{AreOrderedNumbers, FilesRepresent, WereMeant}
+use Rattle.engine.specs.StoreFiles.{AreOrderedNumbers, FilesRepresent, OpensAs, WereMeant}
 use Rattle.engine.specs.StoreFiles.{store_of_version}
 use Rattle.engine.specs.TableWriting.{PassesLimit}
 
@@ -190,10 +190,12 @@ pub record FilesOpenAs (left : Contents) (files : StoreFiles) : Type 0 where
   pub count : batch_count files ≡ trimmed_count files + length batches
   pub tables : All (FileFits left) (known_version files).version.tables
 
--- why files were not opened: an external refusal, no store was created, or one was
+-- why files were not opened: an external refusal, no store was created, or one was and lacks
+-- something of what an opening reads
 abbrev pub OpeningRefusal : EngineError → Contents → Type 0
 OpeningRefusal engine.Disk left = Unit {0}
-OpeningRefusal engine.Damaged left = IsNotCreated left → ⊥
+OpeningRefusal engine.Damaged left =
+    (IsNotCreated left → ⊥) × ((facts : Facts) (count : ℕ) → OpensAs left facts count → ⊥)
 OpeningRefusal engine.Memory left = Unit {0}
 OpeningRefusal engine.NotCreated left = IsNotCreated left
 OpeningRefusal engine.Failed left = ⊥

@@ -1,7 +1,7 @@
 -- What an opening has read of the files of a store, before the files that no version names are removed.
-use Rattle.std.specs.Prelude.{◌≡◌, ℕ, ◌-◌, List, ◌∷◌, All}
+use Rattle.std.specs.Prelude.{◌≡◌, ℕ, ◌+◌, ◌-◌, List, ◌∷◌, All, length}
 use Rattle.kv_types.specs.{BatchContent}
-use Rattle.disk.specs.{IsDurable, State, contents}
+use Rattle.disk.specs.{Contents, IsDurable, State, contents}
 use Rattle.store_model.specs.{LevelTable}
 use Rattle.manifest.specs.{IsVersion, StoreVersion}
 use Rattle.manifest.specs.Versions.{files_of}
@@ -10,7 +10,7 @@ use Rattle.engine.specs.BatchLogs.{LogsHold, first_number, next_number}
 use Rattle.engine.specs.LevelTables.{AreServed, AreTablesOf, FileFits, IsTableAsMeant, WereServed}
 use Rattle.engine.specs.LevelTables.{table_lines}
 use Rattle.engine.specs.Settling.{SlotSettles}
-use Rattle.engine.specs.OpenFiles.{AreOpenLogs, AreReplayed, HasReplayed}
+use Rattle.engine.specs.OpenFiles.{AreBatchesOf, AreOpenLogs, AreReplayed, HasReplayed}
 use Rattle.engine.specs.StoreFiles.{AreOrderedNumbers}
 
 -- the slots, and the files that the version names
@@ -26,6 +26,14 @@ pub record AreParts (version : StoreVersion) (parts : ReadParts) : Type 0 where
   pub tables : table_lines parts.tables ≡ version.tables
   pub numbers : AreOrderedNumbers version (first_number parts.logs - 1)
       (next_number parts.logs - 1)
+
+-- The files have batches and tables for the lines of the version, and its numbers are in order.
+pub record HasParts (left : Contents) (version : StoreVersion) : Type 0 where
+  pub first : ℕ
+  pub batches : List BatchContent
+  pub had : AreBatchesOf left version.logs first batches
+  pub fits : All (FileFits left) version.tables
+  pub ordered : AreOrderedNumbers version (first - 1) (first - 1 + length batches)
 
 -- The files had the batches of the logs, and tables that fit their lines. No file has changed, but for
 -- a sync.

@@ -5,7 +5,8 @@ use Rattle.std.specs.Option.{option_flatten}
 use Rattle.kv_types.specs.declared.bounds.TheConstants.{MAX_NUMBER}
 use Rattle.kv_types.specs.{BatchContent, IsBatch, map_of}
 use Rattle.disk.specs.Crashes.{durable}
-use Rattle.disk.specs.{Contents, State}
+use Rattle.disk.specs.declared.Disk.{Ghosts}
+use Rattle.disk.specs.{AlwaysLeaves, Contents, OnlyLeaves, State}
 use Rattle.disk.specs.Moments.{LooksAt}
 use Rattle.store_model.specs.{LevelTable}
 use Rattle.store_model.specs.{StoreRepresents, StoreState}
@@ -62,6 +63,11 @@ pub record FilesRepresent (facts : Facts) (list : List BatchContent) (left : Con
   pub each : All IsBatch list
   pub few : length list ≤ MAX_NUMBER
 
+-- the files represent one of two stores
+abbrev pub IsOneOf : Facts → List BatchContent → Facts → List BatchContent → Contents → Type 0
+IsOneOf facts list facts' list' left =
+    FilesRepresent facts list left ⊎ FilesRepresent facts' list' left
+
 -- ---- damaged tables
 
 -- a disk that durably has these contents
@@ -78,21 +84,20 @@ pub record WereMeant (facts : Facts) (list : List BatchContent) (left : Contents
   pub tables : All (λ line. IsTableAsMeant (durably left line.file) (durably meant line.file))
       represents.version.tables
 
--- the files were meant to represent one of two lists
-abbrev pub WereOneOf : Facts → List BatchContent → List BatchContent → Contents → Type 0
-WereOneOf facts list list' left = WereMeant facts list left ⊎ WereMeant facts list' left
+-- the files were meant to represent one of two stores
+abbrev pub WereOneOf : Facts → List BatchContent → Facts → List BatchContent → Contents → Type 0
+WereOneOf facts list facts' list' left = WereMeant facts list left ⊎ WereMeant facts' list' left
 
--- ---- files of no store
+-- Where a crash before a call leaves only files of one of two stores, so does one at each moment
+-- since it began. So too where these were meant to be of one.
+pub record StillLeavesOneOf {D : Type 0} (g : Ghosts D) (old new : D) (facts : Facts)
+    (list : List BatchContent) (facts' : Facts) (list' : List BatchContent) : Type 0 where
+  pub whole : OnlyLeaves (IsOneOf facts list facts' list') (g.state old) →
+      AlwaysLeaves g old new (IsOneOf facts list facts' list')
+  pub meant : OnlyLeaves (WereOneOf facts list facts' list') (g.state old) →
+      AlwaysLeaves g old new (WereOneOf facts list facts' list')
 
--- the files neither are those of no store nor represent one
-pub record IsDamaged (left : Contents) : Type 0 where
-  pub created : IsNotCreated left → ⊥
-  pub no_store : (facts : Facts) (list : List BatchContent) → FilesRepresent facts list left → ⊥
-
--- the files represent one of two stores
-abbrev pub IsOneOf : Facts → List BatchContent → Facts → List BatchContent → Contents → Type 0
-IsOneOf facts list facts' list' left =
-    FilesRepresent facts list left ⊎ FilesRepresent facts' list' left
+-- ---- files that are opened
 
 -- The slots represent a version with these facts, its logs have the batches behind the first `kept`
 -- ones, so many in all, its numbers are in order, and the files of its tables fit their lines. An
@@ -109,6 +114,20 @@ pub record OpensAs (left : Contents) (facts : Facts) (count : ℕ) : Type 0 wher
   pub counted : count ≡ facts.kept + length batches
   pub numbers : AreOrderedNumbers version facts.kept count
   pub tables : All (FileFits left) version.tables
+
+-- The files are of a store that was created, and represent none. They lack something of what an
+-- opening reads.
+pub record IsDamaged (left : Contents) : Type 0 where
+  pub created : IsNotCreated left → ⊥
+  pub no_store : (facts : Facts) (list : List BatchContent) → FilesRepresent facts list left → ⊥
+  pub shut : (facts : Facts) (count : ℕ) → OpensAs left facts count → ⊥
+
+-- Files that were meant to represent a list open as it where each table's file fits its line, so
+-- that of tables only blocks are damaged.
+abbrev pub DamagedFilesOpen : Type 0
+DamagedFilesOpen = (facts : Facts) (list : List BatchContent) (left : Contents)
+    (files : WereMeant facts list left) → All (FileFits left) files.represents.version.tables →
+    OpensAs left facts (length list)
 
 -- the version has the file as a log or as a table
 abbrev pub NamesStoreFile : StoreVersion → ℕ → Type 0

@@ -15,7 +15,7 @@ use Rattle.engine.specs.declared.tended.Tended.{Tended}
 use Rattle.engine.specs.declared.tended.Tended.TheVariants as tended
 use Rattle.engine.specs.LevelTables.{IsServed}
 use Rattle.engine.specs.OpenFiles.{FilesHold, HasEntry, IsTooLarge, IsWrittenTable, batch_count}
-use Rattle.engine.specs.OpenFiles.{known_version}
+use Rattle.engine.specs.OpenFiles.{WereMeantToHold, known_version}
 use Rattle.engine.specs.StoreFiles.{flush_change}
 use Rattle.engine.specs.TableWriting.{IsNewLine}
 
@@ -71,6 +71,13 @@ pub record HeldAndSpilled (disk : State) (files : StoreFiles) (list : List Batch
     (it : Flushed) : Type 0 where
   pub before : State
   pub held : FilesHold before files list
+  pub spilled : HasSpilled before disk files it
+
+-- the disk was meant to have such files before, and then their entries were spilled
+pub record MeantAndSpilled (disk : State) (files : StoreFiles) (list : List BatchContent)
+    (it : Flushed) : Type 0 where
+  pub before : State
+  pub meant : WereMeantToHold before files list
   pub spilled : HasSpilled before disk files it
 
 -- ---- the answers of a tend

@@ -51,7 +51,6 @@ impl<D: Disk + Drop> Engine<D> {
     ghost use Rattle.kv_types.specs.declared.bounds.TheConstants.{MAX_NUMBER};
     ghost use Rattle.kv_types.specs.{BatchContent, map_of};
     ghost use Rattle.disk.specs.{AlwaysLeaves, contents, IsSame, IsSameBut, IsStill, KeepsDisk};
-    ghost use Rattle.disk.specs.{OnlyLeaves};
     ghost use Rattle.chain_model.specs.{place};
     ghost use Rattle.engine.specs.Calls.{ExplainsRefusal, ListFollows, IsJustOpened};
     ghost use Rattle.engine.specs.Calls.{IsNewEngine, IsNoDamage, IsOldOrNewSince, IsOpened};
@@ -66,7 +65,7 @@ impl<D: Disk + Drop> Engine<D> {
     ghost use Rattle.engine.specs.Errors.{IsEngineExternal};
     ghost use Rattle.engine.specs.Files.{Facts, IsOwned};
     ghost use Rattle.engine.specs.Settling.{AreReadAlike};
-    ghost use Rattle.engine.specs.StoreFiles.{FilesRepresent, IsOneOf, WereOneOf};
+    ghost use Rattle.engine.specs.StoreFiles.{StillLeavesOneOf, WereOneOf};
     ghost use Rattle.engine.specs.Tending.{IsSameBeside};
 
     /// Creates a store without batches on a disk, whose files are all removed first. A refusal
@@ -114,11 +113,10 @@ impl<D: Disk + Drop> Engine<D> {
         ensures fresh { IfOk result (IsJustOpened limits.now) }
 
         // Where a crash before it leaves only files of these two stores, so does one at any moment
-        // since.
+        // since; also where they were meant to be.
         ensures any_moment { (facts : Facts) (list : List BatchContent) (facts' : Facts)
             (list' : List BatchContent) → D.is_honest disk →
-            OnlyLeaves (IsOneOf facts list facts' list') (D.state disk) →
-            AlwaysLeaves D.Disk disk (disk_after result) (IsOneOf facts list facts' list') }
+            StillLeavesOneOf D.Disk disk (disk_after result) facts list facts' list' }
 
         ensures alike { D.is_honest disk → IfOk result (λ engine. AreReadAlike (engine_files engine)
             (D.state disk) (D.state (engine_disk engine))) }
@@ -176,10 +174,9 @@ impl<D: Disk + Drop> Engine<D> {
             IfErr result (λ e. IsEngineExternal e
             ⊎ ((e ≡ EngineError.Exhausted) × (MAX_NUMBER ≤ (look_ups self.old).count))) }
         ensures meant { (list : List BatchContent) → EngineWasMeant D.Disk self.old list →
-            MatchResult result (λ _. EngineWasMeant D.Disk self.new (list ++ batch.now ∷ []))
-            (λ e. IsEngineExternal e ⊎ (e ≡ EngineError.Exhausted))
+            IfErr result (λ e. IsEngineExternal e ⊎ (e ≡ EngineError.Exhausted))
             × AlwaysLeaves D.Disk (engine_disk self.old) (engine_disk self.new)
-            (WereOneOf (facts_of self.old) list (list ++ batch.now ∷ [])) }
+            (WereOneOf (facts_of self.old) list (facts_of self.old) (list ++ batch.now ∷ [])) }
 
         // A crash at any moment since the call began, whatever it answers, leaves the old batches,
         // with or without the new one.
@@ -233,8 +230,7 @@ impl<D: Disk + Drop> Engine<D> {
 
         // A damaged block of a table is never passed over.
         ensures meant { (list : List BatchContent) → EngineWasMeant D.Disk self.old list →
-            IfOk result (λ value. (value ≡ map_of (take at list) key.now)
-            × EngineWasMeant D.Disk self.new list) }
+            IfOk result (λ value. value ≡ map_of (take at list) key.now) }
         ensures kept { (list : List BatchContent) →
             ListFollows D.Disk self.old self.new list list result }
         ensures still { IsStill D.Disk (engine_disk self.old) (engine_disk self.new) }
@@ -258,8 +254,7 @@ impl<D: Disk + Drop> Engine<D> {
         ensures found { (list : List BatchContent) → EngineReads D.Disk self.old list →
             MatchResult result (λ batch. place list number ≡ Some batch) IsEngineExternal }
         ensures meant { (list : List BatchContent) → EngineWasMeant D.Disk self.old list →
-            MatchResult result (λ batch. (place list number ≡ Some batch)
-            × EngineWasMeant D.Disk self.new list) IsEngineExternal }
+            MatchResult result (λ batch. place list number ≡ Some batch) IsEngineExternal }
         ensures kept { (list : List BatchContent) →
             ListFollows D.Disk self.old self.new list list result }
         ensures still { IsStill D.Disk (engine_disk self.old) (engine_disk self.new) }
@@ -294,6 +289,12 @@ impl<D: Disk + Drop> Engine<D> {
         ensures any_moment { (list : List BatchContent) → EngineHolds D.Disk self.old list →
             IsOldOrNewSince D.Disk (engine_disk self.old) (engine_disk self.new)
             (facts_of self.old) list (raised_facts self.old) list }
+
+        // So does one of files that were meant to represent it.
+        ensures meant { (list : List BatchContent) → EngineWasMeant D.Disk self.old list →
+            AlwaysLeaves D.Disk (engine_disk self.old) (engine_disk self.new)
+            (WereOneOf (facts_of self.old) list (raised_facts self.old) list)
+            × MatchResult result (TellsTend self.old self.new) IsEngineExternal }
     {
         // laws: what a crash leaves of the files that are named, and what a disk reads
         held_versions_are_left();

@@ -8,10 +8,11 @@ ghost use Rattle.memtable.specs.{HasFailedAdd};
 ghost use Rattle.engine.specs.Errors.{FailsDevice, IsEnd, IsEngineExternal};
 ghost use Rattle.engine.specs.Files.{IsOwned};
 ghost use Rattle.engine.specs.OpenFiles.{AreUsableFiles, FilesHold, HasEntry, IsTooLarge};
-ghost use Rattle.engine.specs.OpenFiles.{batch_count, known_facts, known_version};
-ghost use Rattle.engine.specs.StoreFiles.{FilesRepresent, flush_change};
+ghost use Rattle.engine.specs.OpenFiles.{WereMeantToHold, batch_count, known_facts, known_version};
+ghost use Rattle.engine.specs.StoreFiles.{FilesRepresent, WereMeant, flush_change};
 ghost use Rattle.engine.specs.Tending.{HasSpilled, HeldAndSpilled, IsFlushedBy, IsNextTable};
-ghost use Rattle.engine.specs.Tending.{IsSameBeside, LacksPlace, TendMayFail, tended_files};
+ghost use Rattle.engine.specs.Tending.{IsSameBeside, LacksPlace, MeantAndSpilled, TendMayFail};
+ghost use Rattle.engine.specs.Tending.{tended_files};
 
 use crate::EngineError;
 use crate::error::refusal_of_edit;
@@ -108,6 +109,12 @@ impl StoreFiles {
             (λ made. MatchOption made
             (IsTooLarge self.now.memtable × FilesHold (D.state disk.new) self.now list)
             (HasSpilled (D.state disk.old) (D.state disk.new) self.now)) IsEngineExternal }
+        ensures meant { (list : List BatchContent) → D.is_honest disk.old →
+            WereMeantToHold (D.state disk.old) self.now list → MatchResult result
+            (λ made. MatchOption made
+            (IsTooLarge self.now.memtable × WereMeantToHold (D.state disk.new) self.now list)
+            (HasSpilled (D.state disk.old) (D.state disk.new) self.now)) IsEngineExternal
+            × AlwaysLeaves D.Disk disk.old disk.new (WereMeant (known_facts self.now) list) }
         ensures line { IfOk result (λ made. MatchOption made (IsTooLarge self.now.memtable)
             (λ it. IsNextTable (known_version self.now).version it.line)) }
         ensures opened { IfOk result (λ made. MatchOption made (Unit {0})
@@ -149,6 +156,10 @@ impl StoreFiles {
         ensures installed { (list : List BatchContent) → D.is_honest disk.old →
             HeldAndSpilled (D.state disk.old) self.old list made → MatchResult result
             (λ _. FilesHold (D.state disk.new) self.new list) IsEngineExternal }
+        ensures meant { (list : List BatchContent) → D.is_honest disk.old →
+            MeantAndSpilled (D.state disk.old) self.old list made → MatchResult result
+            (λ _. WereMeantToHold (D.state disk.new) self.new list) IsEngineExternal
+            × AlwaysLeaves D.Disk disk.old disk.new (WereMeant (known_facts self.old) list) }
         ensures told { MatchResult result
             (λ _. AreUsableFiles self.new × ((batch_count self.new ≡ batch_count self.old)
             × IsFlushedBy made.line self.old self.new))

@@ -6,7 +6,7 @@ ghost use Rattle.engine.specs.declared.engine.Engine.{Engine};
 ghost use Rattle.engine.specs.Engines.{EngineReads, HasLongFile, IsNearlyFull, engine_disk};
 ghost use Rattle.engine.specs.LevelTables.{FlushedTablesRise, LinesInOrderRise};
 ghost use Rattle.engine.specs.LevelTables.{TableLookUpsAreMaps, TablesFindForStores};
-ghost use Rattle.engine.specs.StoreFiles.{FirstFilesRepresent, FlushesRepresent};
+ghost use Rattle.engine.specs.StoreFiles.{DamagedFilesOpen, FirstFilesRepresent, FlushesRepresent};
 ghost use Rattle.engine.specs.StoreFiles.{LongerLogsRepresent, StoreFilesAreNamed};
 ghost use Rattle.engine.specs.StoreFiles.{StoreFilesAreOne};
 ghost use Rattle.engine.specs.StoreFiles.{StoreFilesShowMaps};
@@ -62,6 +62,14 @@ pub fn store_files_are_one()
     // laws: and each log one list of batches
     records_are_unique();
     spellings_differ();
+}
+
+/// Files that were meant to represent a list open as it, where of tables only blocks are damaged.
+// law: of `WereMeant`
+pub fn damaged_files_open()
+    ensures { DamagedFilesOpen }
+{
+    version_is_one(); // law: files represent a lawful version
 }
 
 /// What a lookup in memory and tables finds is what the map of so many first batches has.

@@ -59,8 +59,9 @@ pub(crate) struct OpenTable {
 }
 
 impl OpenTable {
-    /// Opens the table that a line names. `Damaged` where the file has not the line's length,
-    /// represents no table, or one whose greatest key is not the line's.
+    /// Opens the table that a line names. `Damaged` only where the file does not fit the line:
+    /// where it has not the line's length, or no filter, index and footer at its end, or another
+    /// greatest key in the index.
     pub(crate) fn open<D: Disk>(
         alloc: Global,
         disk: &mut D,
@@ -75,8 +76,9 @@ impl OpenTable {
             IsTableAsMeant (D.state disk.old line.now.file) (meant line.now.file) →
             IfOk result (λ it. WasServed (D.state disk.new) meant it table) }
         ensures line { IfOk result (λ it. it.line ≡ line.now) }
-        ensures fits { D.is_honest disk.old →
-            OnOk result (FileFits (contents (D.state disk.old)) line.now) }
+        ensures fits { D.is_honest disk.old → MatchResult result
+            (λ _. FileFits (contents (D.state disk.old)) line.now)
+            (λ e. FileFits (contents (D.state disk.old)) line.now → IsEngineExternal e) }
         ensures causes { IfErr result IsEnd }
         ensures still { IsStill D.Disk disk.old disk.new }
     {
@@ -159,8 +161,7 @@ pub(crate) struct LevelTables {
 }
 
 impl LevelTables {
-    /// Opens the tables that these lines name. `Damaged` only where they name none: where a file has
-    /// not its line's length, represents no table, or one whose greatest key is not the line's.
+    /// Opens the tables that these lines name. `Damaged` only where a file does not fit its line.
     pub(crate) fn open<D: Disk>(
         alloc: Global,
         disk: &mut D,
@@ -175,8 +176,9 @@ impl LevelTables {
             All (λ line. IsTableAsMeant (D.state disk.old line.file) (meant line.file)) lines.now →
             IfOk result (λ it. WereServed (D.state disk.new) meant it tables) }
         ensures lines { IfOk result (λ it. table_lines it ≡ lines.now) }
-        ensures fits { D.is_honest disk.old →
-            OnOk result (All (FileFits (contents (D.state disk.old))) lines.now) }
+        ensures fits { D.is_honest disk.old → MatchResult result
+            (λ _. All (FileFits (contents (D.state disk.old))) lines.now)
+            (λ e. All (FileFits (contents (D.state disk.old))) lines.now → IsEngineExternal e) }
         ensures causes { IfErr result IsEnd }
         ensures still { IsStill D.Disk disk.old disk.new }
     {
@@ -216,10 +218,10 @@ impl LevelTables {
 
     /// Adds an open table behind those of level 0. A refusal changes nothing.
     pub(crate) fn add(&mut self, opened: OpenTable) -> Result<(), EngineError>
-        ensures added { (disk : State) (tables : List LevelTable) (table : LevelTable) →
-            AreServed disk self.old tables → IsServed disk opened table →
-            MatchResult result (λ _. AreServed disk self.new (with_flushed tables table))
-            (λ _. AreServed disk self.new tables) }
+        ensures added { (disk meant : State) (tables : List LevelTable) (table : LevelTable) →
+            WereServed disk meant self.old tables → WasServed disk meant opened table →
+            MatchResult result (λ _. WereServed disk meant self.new (with_flushed tables table))
+            (λ _. WereServed disk meant self.new tables) }
         ensures lines { OnOk result (table_lines self.new
             ≡ with_flushed_line (table_lines self.old) opened.line) }
         ensures memory { IfErr result (λ e. e ≡ EngineError.Memory) }

@@ -2,15 +2,16 @@
 ghost use Rattle.std.specs.Prelude.{◌≡◌, ◌↔◌, ◌+◌, ◌-◌, [], IsTrue, ℕ, List, length, IfOk, OnOk};
 ghost use Rattle.std.specs.Prelude.{IfErr, MatchResult};
 ghost use Rattle.kv_types.specs.{BatchContent};
-ghost use Rattle.disk.specs.{AlwaysLeaves, IsStill, KeepsDisk, OnlyLeaves, State, contents};
+ghost use Rattle.disk.specs.{IsStill, KeepsDisk, State, contents};
 ghost use Rattle.engine.specs.Errors.{FailsDevice, IsEnd, IsEngineExternal};
 ghost use Rattle.engine.specs.Files.{Facts, IsOwned, first_facts};
-ghost use Rattle.engine.specs.StoreFiles.{FilesRepresent, IsOneOf, before_newest};
+ghost use Rattle.engine.specs.StoreFiles.{StillLeavesOneOf, before_newest};
 ghost use Rattle.engine.specs.OpenFiles.{AreBatchesOf, AreUsableFiles};
 ghost use Rattle.engine.specs.StoreFiles.{AreOrderedNumbers, HasFirstFiles};
 ghost use Rattle.engine.specs.OpenFiles.{FilesAreRead, FilesHold, FilesOpenAs, OpeningRefusal};
 ghost use Rattle.engine.specs.OpenFiles.{batch_count, known_facts, known_version};
-ghost use Rattle.engine.specs.Openings.{AreParts, PartsHold, PartsWereMeant, WereParts, kept_files};
+ghost use Rattle.engine.specs.Openings.{AreParts, HasParts, PartsHold, PartsWereMeant, WereParts};
+ghost use Rattle.engine.specs.Openings.{kept_files};
 ghost use Rattle.engine.specs.LevelTables.{AreTablesOf, IsTableAsMeant};
 ghost use Rattle.engine.specs.OpenFiles.{OpensFor, WereMeantToHold, WereMeantToRead};
 ghost use Rattle.std.specs.Prelude.{All};
@@ -112,8 +113,9 @@ fn read_parts<D: Disk>(
         All (λ line. IsTableAsMeant (durably (contents (D.state disk.old)) line.file)
         (meant line.file)) version.now.version.tables → IfOk result
         (PartsWereMeant (D.state disk.new) meant version.now.version first batches tables) }
-    ensures told { D.is_honest disk.old → IfOk result
-        (WereParts (D.state disk.old) (D.state disk.new) version.now.version) }
+    ensures told { D.is_honest disk.old → MatchResult result
+        (WereParts (D.state disk.old) (D.state disk.new) version.now.version)
+        (λ e. HasParts (contents (D.state disk.old)) version.now.version → IsEngineExternal e) }
     ensures usable { IfOk result (AreParts version.now.version) }
     ensures causes { IfErr result IsEnd }
     ensures still { IsStill D.Disk disk.old disk.new }
@@ -209,12 +211,9 @@ impl StoreFiles {
             (FilesOpenAs (contents (D.state disk.old)))
             (λ e. OpeningRefusal e (contents (D.state disk.old))) }
 
-        // Where a crash before it leaves only files of these two stores, so does one at any moment
-        // since.
         ensures any_moment { (facts : Facts) (list : List BatchContent) (facts' : Facts)
             (list' : List BatchContent) → D.is_honest disk.old →
-            OnlyLeaves (IsOneOf facts list facts' list') (D.state disk.old) →
-            AlwaysLeaves D.Disk disk.old disk.new (IsOneOf facts list facts' list') }
+            StillLeavesOneOf D.Disk disk.old disk.new facts list facts' list' }
         ensures usable { IfOk result AreUsableFiles }
         ensures swept { D.is_honest disk.old → IfOk result (λ files.
             AreSwept (kept_files (known_version files).version) (D.state disk.old)

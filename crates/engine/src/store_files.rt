@@ -100,8 +100,8 @@ impl StoreFiles {
         ensures meant { (list : List BatchContent) → D.is_honest disk.old →
             WereMeantToHold (D.state disk.old) self.old list → MatchResult result
             (λ _. WereMeantToHold (D.state disk.new) self.new (list ++ batch.now ∷ []))
-            IsEngineExternal × AlwaysLeaves D.Disk disk.old disk.new
-            (WereOneOf (known_facts self.old) list (list ++ batch.now ∷ [])) }
+            IsEngineExternal × AlwaysLeaves D.Disk disk.old disk.new (WereOneOf
+            (known_facts self.old) list (known_facts self.old) (list ++ batch.now ∷ [])) }
 
         // A crash at any moment since the call began, whatever it answers, leaves the old batches,
         // with or without the new one.

@@ -5,8 +5,8 @@ ghost use Rattle.disk.specs.{AlwaysLeaves, KeepsDisk};
 ghost use Rattle.engine.specs.Errors.{FailsDevice, IsEnd, IsEngineExternal};
 ghost use Rattle.engine.specs.Files.{IsOwned};
 ghost use Rattle.engine.specs.OpenFiles.{AreUsableFiles, FilesHold, HasEntry, batch_count};
-ghost use Rattle.engine.specs.OpenFiles.{known_facts};
-ghost use Rattle.engine.specs.StoreFiles.{FilesRepresent};
+ghost use Rattle.engine.specs.OpenFiles.{WereMeantToHold, known_facts};
+ghost use Rattle.engine.specs.StoreFiles.{FilesRepresent, WereMeant};
 ghost use Rattle.engine.specs.Tending.{IsSameBeside, IsTend, TellsFlush, TellsRewrite, TellsWork};
 ghost use Rattle.engine.specs.Tending.{TendMayFail, tended_files};
 
@@ -29,6 +29,10 @@ impl StoreFiles {
         ensures tended { (list : List BatchContent) → D.is_honest disk.old →
             FilesHold (D.state disk.old) self.old list → MatchResult result
             (λ _. FilesHold (D.state disk.new) self.new list) IsEngineExternal }
+        ensures meant { (list : List BatchContent) → D.is_honest disk.old →
+            WereMeantToHold (D.state disk.old) self.old list → MatchResult result
+            (λ _. WereMeantToHold (D.state disk.new) self.new list) IsEngineExternal
+            × AlwaysLeaves D.Disk disk.old disk.new (WereMeant (known_facts self.old) list) }
         ensures usable { OnOk result (AreUsableFiles self.new) }
         ensures touches { D.is_honest disk.old → IsSameBeside (tended_files self.old)
             (D.state disk.old) (D.state disk.new) }
@@ -64,6 +68,11 @@ impl StoreFiles {
             FilesHold (D.state disk.old) self.old list → MatchResult result
             (λ tended. FilesHold (D.state disk.new) self.new list
             × TellsFlush self.old self.new tended) IsEngineExternal }
+        ensures meant { (list : List BatchContent) → D.is_honest disk.old →
+            WereMeantToHold (D.state disk.old) self.old list → MatchResult result
+            (λ tended. WereMeantToHold (D.state disk.new) self.new list
+            × TellsFlush self.old self.new tended) IsEngineExternal
+            × AlwaysLeaves D.Disk disk.old disk.new (WereMeant (known_facts self.old) list) }
         ensures touches { D.is_honest disk.old → IsSameBeside (tended_files self.old)
             (D.state disk.old) (D.state disk.new) }
         ensures usable { OnOk result (AreUsableFiles self.new) }
@@ -107,6 +116,11 @@ impl StoreFiles {
             FilesHold (D.state disk.old) self.old list → MatchResult result
             (λ tended. FilesHold (D.state disk.new) self.new list
             × TellsWork limit self.old self.new tended) IsEngineExternal }
+        ensures meant { (list : List BatchContent) → D.is_honest disk.old →
+            WereMeantToHold (D.state disk.old) self.old list → MatchResult result
+            (λ tended. WereMeantToHold (D.state disk.new) self.new list
+            × TellsWork limit self.old self.new tended) IsEngineExternal
+            × AlwaysLeaves D.Disk disk.old disk.new (WereMeant (known_facts self.old) list) }
         ensures touches { D.is_honest disk.old → IsSameBeside (tended_files self.old)
             (D.state disk.old) (D.state disk.new) }
         ensures usable { OnOk result (AreUsableFiles self.new) }

@@ -57,6 +57,17 @@ abbrev pub IsOpenOn : Slot → Table → Type 0
 IsOpenOn file table =
     IsSomeAnd (seen file) (λ bytes. HasTail bytes (index_lines table) (table_filter table))
 
+-- the table keeps the lines of each tail that the file has
+abbrev pub HasItsLines : Slot → Table → Type 0
+HasItsLines file table =
+    (lines : List IndexLine) (filter : List ℕ)
+    → IsSomeAnd (seen file) (λ bytes. HasTail bytes lines filter) → lines ≡ index_lines table
+
+-- a table can be open on the file: the bytes end in a tail
+abbrev pub CanBeOpen : Slot → Type 0
+CanBeOpen file = IsSomeAnd (seen file)
+    (λ bytes. (lines : List IndexLine) × (filter : List ℕ) × HasTail bytes lines filter)
+
 -- the key of the last of these entries, if there is one
 abbrev pub greatest_key : List Entry → Option StoredKey
 greatest_key entries = option_map (λ entry. entry.key) (last_entry entries)

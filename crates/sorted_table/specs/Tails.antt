@@ -55,3 +55,7 @@ pub record ReadsTail (part : List ℕ) (tail : Tail) (bytes : List ℕ) : Type 0
   pub len : end + 52 ≡ length bytes
   pub says : FooterSays (take 52 (drop end bytes)) end tail
   pub content : part ≡ take tail.len (drop tail.place bytes)
+
+-- the bytes have some tail by their last 52
+abbrev pub HasReadTail : List ℕ → Type 0
+HasReadTail bytes = (part : List ℕ) × (tail : Tail) × ReadsTail part tail bytes

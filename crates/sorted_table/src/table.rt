@@ -34,7 +34,8 @@ pub struct Table {
 
 impl Table {
     ghost use Rattle.sorted_table.specs.Meant.{AreAsMeant};
-    ghost use Rattle.sorted_table.specs.Open.{AnswersAsMeant, FileRepresents, IsOpenOn};
+    ghost use Rattle.sorted_table.specs.Open.{AnswersAsMeant, CanBeOpen, FileRepresents};
+    ghost use Rattle.sorted_table.specs.Open.{HasItsLines, IsOpenOn};
     ghost use Rattle.sorted_table.specs.Open.{LookupAnswer, LookupFinds, TableServes, greatest_key};
     ghost use Rattle.sorted_table.specs.Open.{index_lines, last_line_key, table_file, table_filter};
 
@@ -48,7 +49,9 @@ impl Table {
             MatchResult result (λ table. TableServes (D.state disk.new file) table entries)
             IsEnvironmentError }
         ensures checked { D.is_honest disk.old →
-            IfOk result (IsOpenOn (D.state disk.new file)) }
+            MatchResult result (λ table. IsOpenOn (D.state disk.new file) table
+            × HasItsLines (D.state disk.old file) table)
+            (λ e. CanBeOpen (D.state disk.old file) → IsEnvironmentError e) }
         ensures refusals { IfErr result (λ e. IsBuilderError e → ⊥) }
         ensures still { IsStill D.Disk disk.old disk.new }
     {

@@ -6,7 +6,9 @@ ghost use Rattle.disk.specs.{IsSame, IsStill, KeepsDisk, seen};
 ghost use Rattle.kv_types.specs.{Entry};
 ghost use Rattle.table_format.specs.{IsBuilderError, IsEnvironmentError, ReportsDevice};
 ghost use Rattle.table_format.specs.{IsFilterPart, IsIndex, TableRepresents, block_lines};
-ghost use Rattle.sorted_table.specs.Tails.{FooterSays, IsTail, ReadsTail, tail_bytes};
+ghost use Rattle.sorted_table.specs.Tails.{FooterSays, HasReadTail, IsTail, ReadsTail, tail_bytes};
+ghost use Rattle.sorted_table.specs.declared.tail.Tail.{Tail};
+ghost use Rattle.table_format.specs.declared.IndexLine.{IndexLine};
 
 use disk::Disk;
 use std::alloc::Global;
@@ -37,7 +39,8 @@ fn are_placed(footer: Footer, end: u64) -> bool
 fn tail_of(footer: &[u8], end: u64) -> Option<Tail>
     ensures within { IfSome result (λ tail. tail.filter_len ≤ tail.len) }
     ensures ends { IfSome result (λ tail. tail.place + tail.len ≡ end) }
-    ensures says { IfSome result (FooterSays footer.now end) }
+    ensures says { MatchOption result ((tail : Tail) → FooterSays footer.now end tail → ⊥)
+        (FooterSays footer.now end) }
     ensures tail { (bytes : List ℕ) (entries : List Entry) (table : TableRepresents bytes entries) →
         end + FOOTER_SIZE ≡ length bytes → footer.now ≡ take FOOTER_SIZE (drop end bytes) →
         MatchOption result ⊥ (IsTail table.blocks table.filter) }
@@ -110,8 +113,9 @@ pub fn read_tail<D: Disk>(
         D.is_honest disk.old → seen (D.state disk.old file) ≡ Some bytes →
         MatchResult result (λ x. (x.0.items ≡ tail_bytes table.blocks table.filter)
         × IsTail table.blocks table.filter x.1) IsEnvironmentError }
-    ensures there { D.is_honest disk.old → IfOk result (λ x.
-        IsSomeAnd (seen (D.state disk.old file)) (ReadsTail x.0.items x.1)) }
+    ensures there { D.is_honest disk.old → MatchResult result
+        (λ x. IsSomeAnd (seen (D.state disk.old file)) (ReadsTail x.0.items x.1))
+        (λ e. IsSomeAnd (seen (D.state disk.old file)) HasReadTail → IsEnvironmentError e) }
     ensures within { IfOk result (λ x. x.1.filter_len ≤ length x.0.items) }
     ensures refusals { IfErr result (λ e. IsBuilderError e → ⊥) }
     ensures still { IsStill D.Disk disk.old disk.new }
@@ -135,8 +139,14 @@ pub fn parts_of(
         bytes.now ≡ tail_bytes table.blocks table.filter → IsTail table.blocks table.filter tail →
         MatchResult result (λ x. (rc_slice_items x.0 ≡ block_lines 0 table.blocks)
         × (x.1.items ≡ table.filter)) (λ e. e ≡ TableError.Memory) }
-    ensures checked { IfOk result (λ x. IsFilterPart (take tail.filter_len bytes.now) x.1.items
-        × IsIndex (drop tail.filter_len bytes.now) tail.place (rc_slice_items x.0)) }
+    ensures checked { MatchResult result
+        (λ x. IsFilterPart (take tail.filter_len bytes.now) x.1.items
+        × IsIndex (drop tail.filter_len bytes.now) tail.place (rc_slice_items x.0)
+        × ((lines : List IndexLine) → IsIndex (drop tail.filter_len bytes.now) tail.place lines →
+        lines ≡ rc_slice_items x.0))
+        (λ e. (filter : List ℕ) (lines : List IndexLine) →
+        IsFilterPart (take tail.filter_len bytes.now) filter →
+        IsIndex (drop tail.filter_len bytes.now) tail.place lines → e ≡ TableError.Memory) }
     ensures only { IfErr result (λ e. (e ≡ TableError.Memory) ⊎ (e ≡ TableError.Damaged)) }
 {
     let (filter, index) = bytes.split_at(tail.filter_len);

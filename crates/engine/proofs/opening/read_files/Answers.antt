@@ -1,16 +1,16 @@
-use Rattle.std.proofs.Common.{◌∙◌, suc, drop, subst}
+use Rattle.std.proofs.Common.{◌∙◌, suc, drop, subst, sym}
 use Rattle.disk.specs.{contents}
 use Rattle.disk.specs.StillLemmas.{still_more}
 use Rattle.manifest.specs.{NodeVersion, version_of}
 use Rattle.engine.specs.Errors.{IsEngineExternal}
 use Rattle.engine.specs.OpenFiles.{FilesOpenAs, OpeningRefusal}
-use Rattle.engine.specs.Openings.{AreParts, PartsHold, PartsWereMeant, WereParts}
+use Rattle.engine.specs.Openings.{AreParts, HasParts, PartsHold, PartsWereMeant, WereParts}
 use Rattle.engine.specs.StoreFiles.{durably}
 use Rattle.engine.proofs.BegunFiles.{manifest_is_external}
 use Rattle.engine.proofs.Causes.{answers_nothing, refuses}
 use Rattle.engine.proofs.MeantOpenings.{asked_as_meant, read_as_meant, slots_are_meant}
-use Rattle.engine.proofs.ReadFiles.{asked, end_explained, opens_as, read_alike, read_as, slots_stay}
-use Rattle.engine.proofs.ReadFiles.{usable_of}
+use Rattle.engine.proofs.ReadFiles.{asked, end_explained, opens_as, parts_then, read_alike}
+use Rattle.engine.proofs.ReadFiles.{read_as, slots_explained, slots_stay, usable_of}
 use Rattle.engine.proofs.opening.read_files.Goals as goal
 
 -- slots that represent a version are opened
@@ -41,13 +41,30 @@ returns-in_err-parts-clause-opened g c = λ facts list honest. record {
       c.from_residual-in_err-parts.ensures.1;
 }
 
+pub returns-in_err-manifest-clause-told : goal.returns-in_err-manifest-clause-told
+returns-in_err-manifest-clause-told g c = λ honest.
+    let left = contents (g.D.Disk.state c.args.disk.now) in
+    refuses c.from_residual.result (FilesOpenAs left) (λ e. OpeningRefusal e left)
+    c.from_residual.ensures.1 (slots_explained c.in_err-manifest.field-0.0 left
+    (c.in_err-manifest.ensures.told honest))
+
 pub returns-in_err-parts-clause-told : goal.returns-in_err-parts-clause-told
 returns-in_err-parts-clause-told g c = λ honest.
-    let left = contents (g.D.Disk.state c.args.disk.now) in
+    let s0 = g.D.Disk.state c.args.disk.now in
+    let s1 = g.D.Disk.state c.open.new.disk in
+    let left = contents s0 in
     let had = (c.in_ok-manifest.ensures.told honest).had in
     refuses c.from_residual-in_err-parts.result (FilesOpenAs left) (λ e. OpeningRefusal e left)
     c.from_residual-in_err-parts.ensures.1 (end_explained c.in_err-parts.field-0.0 left
-    c.in_err-parts.ensures.causes (c.version_is_one.ensures.created _ left had))
+    c.in_err-parts.ensures.causes (c.version_is_one.ensures.created _ left had)
+    (λ facts count opens.
+    let named : NodeVersion = record { id = facts.id; version = opens.version } in
+    let is = c.version_is_one.ensures.lawful named left opens.manifest in
+    let held = c.in_ok-manifest.ensures.opened named honest opens.manifest in
+    c.in_err-parts.ensures.told (c.open.ensures.kept.honest.1 honest)
+    (subst (λ (n : NodeVersion). HasParts (contents s1) n.version)
+    (sym (c.state.ensures ∙ held.knows))
+    (parts_then s0 s1 (c.open.ensures.kept.files honest) facts count opens is))))
 
 pub returns-in_err-parts-clause-still : goal.returns-in_err-parts-clause-still
 returns-in_err-parts-clause-still g c = λ honest.

@@ -11,10 +11,10 @@ use Rattle.std.specs.Prelude.{All, Contains}
 use Rattle.std.proofs.lemmas.List.Elements.{All-contains, All-contains_itself, All-weaker}
 use Rattle.engine.proofs.Causes.{refuses}
 use Rattle.engine.proofs.Parts.{held_count, logs_in}
-use Rattle.engine.proofs.ReadParts.{batches_same, begins_at, parts_settle}
+use Rattle.engine.proofs.ReadParts.{batches_same, begins_at, fitting_are_there, parts_settle}
 use Rattle.engine.proofs.ReadParts.{replayed_same, tables_are_there, tables_durable, tables_now}
 use Rattle.engine.proofs.Records.{not_true}
-use Rattle.engine.proofs.ReadParts.{synced_reads, tables_durably, tables_then, were_fit}
+use Rattle.engine.proofs.ReadParts.{synced_reads, tables_durably, tables_then, were_fit, will_fit}
 use Rattle.engine.proofs.opening.read_parts.Goals as goal
 
 -- the files of tables that are named are there
@@ -209,3 +209,69 @@ returns-clause-meant g c = λ meant first batches tables honest had read as_mean
           (sym (same line.file)) it) version.tables files;
       durable = tables_durable version is s1 s2 s3 synced others s4 same;
     }
+
+-- ---- files that have the parts
+
+pub returns-in_err-sync_tables-clause-told : goal.returns-in_err-sync_tables-clause-told
+returns-in_err-sync_tables-clause-told g c = λ honest.
+    let disk = g.D.Disk.state c.args.disk.now in
+    let lines : c.deref.result.now ≡ c.args.version.now.version.tables =
+    c.deref.ensures.value ∙ ap (λ (v : NodeVersion). v.version.tables) c.version.view_is in
+    refuses c.from_residual.result _ _ c.from_residual.ensures.1
+    (λ has. c.in_err-sync_tables.ensures.there honest (subst (AreThere disk) (sym lines)
+    (fitting_are_there disk c.args.version.now.version.tables has.fits)))
+
+pub returns-in_err-logs-clause-told : goal.returns-in_err-logs-clause-told
+returns-in_err-logs-clause-told g c = λ honest.
+    let s1 = g.D.Disk.state c.args.disk.now in
+    let s2 = g.D.Disk.state c.sync_tables.new.disk in
+    let same = synced_reads s1 s2 c.deref.result.now (c.in_ok-sync_tables.ensures.synced honest) in
+    refuses c.from_residual-in_err-logs.result _ _
+    c.from_residual-in_err-logs.ensures.1 (λ has. c.in_err-logs.ensures.opened has.first has.batches
+    (c.sync_tables.ensures.kept.honest.1 honest)
+    (batches_same (contents s1) (contents s2) same c.args.version.now.version.logs has.first
+    has.batches has.had))
+
+pub returns-in_err-tables-clause-told : goal.returns-in_err-tables-clause-told
+returns-in_err-tables-clause-told g c = λ honest.
+    let s1 = g.D.Disk.state c.args.disk.now in
+    let s2 = g.D.Disk.state c.sync_tables.new.disk in
+    let s3 = g.D.Disk.state c.open_logs.new.disk in
+    let honest2 = c.sync_tables.ensures.kept.honest.1 honest in
+    let honest3 = c.open_logs.ensures.kept.honest.1 honest2 in
+    let version = c.args.version.now.version in
+    let is = subst (λ (v : NodeVersion). IsVersion v.version) c.version.view_is
+    c.version.invariant in
+    let lines : c.deref.result.now ≡ version.tables =
+    c.deref.ensures.value ∙ ap (λ (v : NodeVersion). v.version.tables) c.version.view_is in
+    let lines2 : c.deref-2.result.now ≡ version.tables =
+    c.deref-2.ensures.value ∙ ap (λ (v : NodeVersion). v.version.tables) c.version.view_is in
+    let synced = subst (AreSynced s1 s2) lines (c.in_ok-sync_tables.ensures.synced honest) in
+    refuses c.from_residual-in_err-tables.result _ _
+    c.from_residual-in_err-tables.ensures.1 (λ has. c.in_err-tables.ensures.fits honest3
+    (subst (All (FileFits (contents s3))) (sym lines2)
+    (will_fit version is s1 s2 s3 synced (c.in_ok-logs.ensures.settled honest2).others has.fits)))
+
+pub returns-then-not-are_ordered-clause-told : goal.returns-then-not-are_ordered-clause-told
+returns-then-not-are_ordered-clause-told g c = λ honest has.
+    let s1 = g.D.Disk.state c.args.disk.now in
+    let s2 = g.D.Disk.state c.sync_tables.new.disk in
+    let s3 = g.D.Disk.state c.open_logs.new.disk in
+    let honest2 = c.sync_tables.ensures.kept.honest.1 honest in
+    let version = c.args.version.now.version in
+    let logs = c.in_ok-logs.logs in
+    let first = has.first in
+    let batches = has.batches in
+    let same = synced_reads s1 s2 c.deref.result.now (c.in_ok-sync_tables.ensures.synced honest) in
+    let held = (c.in_ok-logs.ensures.opened first batches honest2
+    (batches_same (contents s1) (contents s2) same version.logs first batches has.had)).0 in
+    let trimmed : c.saturating_sub-trimmed.result ≡ first - 1 = c.saturating_sub-trimmed.ensures
+    ∙ ap (λ (n : ℕ). n - 1) (c.first_number.ensures ∙ begins_at s3 logs first batches held) in
+    let long = held_count s3 logs first batches held in
+    let last = c.last_number.ensures in
+    let positive = has.had.positive in
+    let count : c.last_number.result ≡ first - 1 + length batches =
+    omega (arith, last, long, positive) in
+    absurd (not_true (sym c.if-not-are_ordered.true ∙ c.are_ordered.ensures.1
+    (subst (λ (t : ℕ). AreOrderedNumbers version t c.last_number.result) (sym trimmed)
+    (subst (AreOrderedNumbers version (first - 1)) (sym count) has.ordered))))

@@ -3,8 +3,8 @@ use Rattle.std.proofs.lemmas.Result.{err_from_is_err_and}
 use Rattle.disk.specs.StillLemmas.{still_more}
 use Rattle.disk.specs.{seen}
 use Rattle.sorted_table.proofs.TailsLemmas.{long_enough, tail_at, tail_within}
-use Rattle.sorted_table.specs.Tails.{FooterSays, ReadsTail}
-use Rattle.sorted_table.proofs.OpenTails.{some_and}
+use Rattle.sorted_table.specs.Tails.{FooterSays, HasReadTail, ReadsTail}
+use Rattle.sorted_table.proofs.OpenTails.{refused_so, says_by, some_and, some_one}
 use Rattle.sorted_table.proofs.tail.read_tail.Goals as goal
 
 -- the footer was not read
@@ -69,3 +69,30 @@ returns-clause-there g c = λ honest.
           c.in-Some.ensures.says;
       content = c.in_ok-bytes.ensures.read bytes (c.read_footer.ensures.kept.honest.1 honest) there';
     })
+
+-- a tail that the footer says where to find is read
+pub returns-in_err-footer-clause-there : goal.returns-in_err-footer-clause-there
+returns-in_err-footer-clause-there g c = λ honest.
+    refused_so c.from_residual.result _ _ c.from_residual.ensures.1 (λ has.
+    let it = some_one HasReadTail (seen (g.D.Disk.state c.args.disk.now c.args.file)) has in
+    let len = it.2.2.len in
+    c.in_err-footer.ensures.footer it.0 honest it.1 (omega (arith, len)))
+
+pub returns-in_default-clause-there : goal.returns-in_default-clause-there
+returns-in_default-clause-there g c = λ honest has.
+    let it = some_one HasReadTail (seen (g.D.Disk.state c.args.disk.now c.args.file)) has in
+    let foot = c.in_ok-footer.ensures.footer it.0 honest it.1 in
+    absurd (c.in_default.ensures.says it.2.1 (says_by it.0 c.in_ok-footer.footer
+    c.in_ok-footer.end foot.0 foot.1 it.2.0 it.2.1 it.2.2))
+
+pub returns-in_err-bytes-clause-there : goal.returns-in_err-bytes-clause-there
+returns-in_err-bytes-clause-there g c = λ honest.
+    refused_so c.from_residual-in_err-bytes.result _ _ c.from_residual-in_err-bytes.ensures.1
+    (λ has.
+    let it = some_one HasReadTail (seen (g.D.Disk.state c.args.disk.now c.args.file)) has in
+    let foot = c.in_ok-footer.ensures.footer it.0 honest it.1 in
+    let ends = c.in-Some.ensures.ends in
+    let long = foot.0 in
+    let there' = ap seen (c.read_footer.ensures.kept.files honest c.args.file) ∙ it.1 in
+    c.in_err-bytes.ensures.read it.0 (c.read_footer.ensures.kept.honest.1 honest) there'
+    (omega (arith, ends, long)))

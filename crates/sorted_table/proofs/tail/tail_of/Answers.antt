@@ -1,5 +1,6 @@
 use Rattle.std.proofs.Common.{◌≡◌, refl, sym, arith, Bool, false, IsTrue}
 use Rattle.table_format.specs.{table_footer}
+use Rattle.sorted_table.proofs.OpenTails.{none_told, places_of}
 use Rattle.sorted_table.proofs.TailsLemmas.{footer_here, placed, tail_by}
 use Rattle.sorted_table.proofs.tail.tail_of.Goals as goal
 
@@ -41,3 +42,15 @@ returns-clause-says c =
       ends = omega (arith, index, end);
       within = omega (arith, index, end);
     }
+
+-- where it is none, no footer says where a tail stands
+pub returns-in_err-footer-clause-says : goal.returns-in_err-footer-clause-says
+returns-in_err-footer-clause-says c =
+    none_told c.from_residual.result _ _ c.from_residual.ensures
+    (λ tail says. c.in_err-footer.ensures says.footer says.is_footer)
+
+pub returns-then-not-are_placed-clause-says : goal.returns-then-not-are_placed-clause-says
+returns-then-not-are_placed-clause-says c = λ tail says.
+    let same = c.in_ok-footer.ensures.1 says.footer says.is_footer in
+    refused c.are_placed.result c.if-not-are_placed.true (c.are_placed.ensures.1
+    (places_of c.args.footer.now c.args.end tail says c.in_ok-footer.footer same))

@@ -1,8 +1,7 @@
 use Rattle.std.proofs.Common.{refl}
 use Rattle.disk.specs.StillLemmas.{still}
 use Rattle.engine.specs.Engines.{engine_disk}
-use Rattle.engine.proofs.Engines.{LeftFiles, goes_on, held_of, match_left, meant_on, were_meant}
-use Rattle.engine.proofs.Engines.{works_on_ok}
+use Rattle.engine.proofs.Engines.{LeftFiles, goes_on, held_of, were_meant, works_on_ok}
 use Rattle.engine.proofs.Meant.{meant_as_is}
 use Rattle.engine.proofs.engine.Engine.batch.Goals as goal
 
@@ -19,19 +18,7 @@ returns-clause-found g c = λ list r.
 
 pub returns-clause-meant : goal.returns-clause-meant
 returns-clause-meant g c = λ list m.
-    let laws : LeftFiles = record {
-      reads = c.reads_are_outcomes.ensures;
-      durable = c.durable_file_is_left.ensures;
-      version = c.held_versions_are_left.ensures.left;
-      stays = c.held_versions_are_left.ensures.same;
-    } in
-    match_left c.batch-answer.result _ _ (c.batch-answer.ensures.found list m.honest
-    (were_meant g.D.Disk c.args.self.now list m))
-    (meant_on g.D.Disk laws c.args.self.now _ list c.batch-answer.result (record {
-      store = refl;
-      honest = c.batch-answer.ensures.kept.honest.1;
-      same = c.batch-answer.ensures.kept.files;
-    }) (works_on_ok c.batch-answer.result c.is_err-self.result c.is_err-self.ensures.value) m)
+    c.batch-answer.ensures.found list m.honest (were_meant g.D.Disk c.args.self.now list m)
 
 pub returns-clause-kept : goal.returns-clause-kept
 returns-clause-kept g c = λ list.

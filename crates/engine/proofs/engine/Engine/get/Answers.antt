@@ -3,7 +3,7 @@ use Rattle.disk.specs.StillLemmas.{still}
 use Rattle.engine.specs.OpenFiles.{batch_count}
 use Rattle.engine.specs.Engines.{engine_disk}
 use Rattle.engine.proofs.Engines.{LeftFiles, answers_or_machine, goes_on, held_of, match_of}
-use Rattle.engine.proofs.Engines.{meant_on, were_meant, with_left, works_on_ok}
+use Rattle.engine.proofs.Engines.{were_meant, works_on_ok}
 use Rattle.engine.proofs.Meant.{meant_as_is}
 use Rattle.engine.proofs.engine.Engine.get.Goals as goal
 
@@ -27,23 +27,12 @@ returns-clause-found g c = λ list r.
 -- and it is what they were meant to have
 pub returns-clause-meant : goal.returns-clause-meant
 returns-clause-meant g c = λ list m.
-    let laws : LeftFiles = record {
-      reads = c.reads_are_outcomes.ensures;
-      durable = c.durable_file_is_left.ensures;
-      version = c.held_versions_are_left.ensures.left;
-      stays = c.held_versions_are_left.ensures.same;
-    } in
     let readable = c.in_ok-may_read.ensures.readable in
     let counted = c.args.self.now.counted.committed in
     let count : c.args.at ≤ batch_count c.args.self.now.store =
     omega (arith, readable.1, counted) in
-    with_left c.get-answer.result _ _ (c.get-answer.ensures.found list m.honest
-    (were_meant g.D.Disk c.args.self.now list m) readable.0 count)
-    (meant_on g.D.Disk laws c.args.self.now _ list c.get-answer.result (record {
-      store = refl;
-      honest = c.get-answer.ensures.kept.honest.1;
-      same = c.get-answer.ensures.kept.files;
-    }) (works_on_ok c.get-answer.result c.is_err-self.result c.is_err-self.ensures.value) m)
+    c.get-answer.ensures.found list m.honest (were_meant g.D.Disk c.args.self.now list m)
+    readable.0 count
 
 pub returns-clause-kept : goal.returns-clause-kept
 returns-clause-kept g c = λ list.

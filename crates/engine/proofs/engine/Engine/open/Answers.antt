@@ -1,19 +1,26 @@
 use Rattle.std.proofs.Common.{◌∙◌, ap, refl, subst, sym}
 use Rattle.std.proofs.lemmas.Result.{err_from_is_err_and}
-use Rattle.disk.specs.{AlwaysLeaves, OnlyLeaves, contents, seen}
+use Rattle.disk.specs.{contents, seen}
 use Rattle.engine.specs.OpenFiles.{OpeningRefusal}
-use Rattle.engine.specs.StoreFiles.{FilesRepresent, IsOneOf, WereMeant}
-use Rattle.engine.proofs.Engines.{LeftFiles, explains, holds_of, meant_of, reads_of, since_same}
-use Rattle.engine.proofs.Engines.{still_refused}
+use Rattle.engine.specs.StoreFiles.{FilesRepresent, IsOneOf, StillLeavesOneOf, WereMeant}
+use Rattle.engine.specs.StoreFiles.{WereOneOf}
+use Rattle.engine.proofs.Engines.{LeftFiles, explains, holds_of, leaves_since_same, meant_of}
+use Rattle.engine.proofs.Engines.{reads_of, still_refused}
 use Rattle.engine.proofs.Records.{not_true}
 use Rattle.engine.proofs.engine.Engine.open.Goals as goal
 
 -- there was no memory for the cache
 pub returns-in_err-files-clause-any_moment : goal.returns-in_err-files-clause-any_moment
-returns-in_err-files-clause-any_moment g c = λ facts list facts' list' honest only.
+returns-in_err-files-clause-any_moment g c = λ facts list facts' list' honest.
     let p = err_from_is_err_and c.from_residual.result c.from_residual.ensures.1 in
-    still_refused g.D.Disk (IsOneOf facts list facts' list') c.args.disk c.from_residual.result p.0
-    c.in_err-files.field-0.0 p.1 p.2 c.in_err-files.ensures.refused.1 only
+    record {
+      whole = still_refused g.D.Disk (IsOneOf facts list facts' list') c.args.disk
+          c.from_residual.result p.0 c.in_err-files.field-0.0 p.1 p.2
+          c.in_err-files.ensures.refused.1;
+      meant = still_refused g.D.Disk (WereOneOf facts list facts' list') c.args.disk
+          c.from_residual.result p.0 c.in_err-files.field-0.0 p.1 p.2
+          c.in_err-files.ensures.refused.1;
+    }
 
 -- what the files represent is held, and what they were meant to represent
 pub returns-in-Ok-clause-opened : goal.returns-in-Ok-clause-opened
@@ -61,24 +68,21 @@ returns-in-Ok-clause-alike g c = λ honest file has.
 
 -- each moment leaves files of the store
 pub returns-in-Ok-clause-any_moment : goal.returns-in-Ok-clause-any_moment
-returns-in-Ok-clause-any_moment g c = λ facts list facts' list' honest only.
+returns-in-Ok-clause-any_moment g c = λ facts list facts' list' honest.
     let is = c.in_ok-files.ensures.files in
     let honest' = subst g.D.Disk.is_honest (sym is) honest in
-    let left = subst (λ d. OnlyLeaves (IsOneOf facts list facts' list') (g.D.Disk.state d)) (sym is)
-    only in
-    since_same g.D.Disk (IsOneOf facts list facts' list') is
-    (c.open.ensures.any_moment facts list facts' list' honest' left)
+    let leaves = c.open.ensures.any_moment facts list facts' list' honest' in
+    leaves_since_same g.D.Disk facts list facts' list' is leaves.whole leaves.meant
 
 -- also of a refused opening
 pub returns-in-Err-clause-any_moment : goal.returns-in-Err-clause-any_moment
-returns-in-Err-clause-any_moment g c = λ facts list facts' list' honest only.
+returns-in-Err-clause-any_moment g c = λ facts list facts' list' honest.
     let is = c.in_ok-files.ensures.files in
     let honest' = subst g.D.Disk.is_honest (sym is) honest in
-    let left = subst (λ d. OnlyLeaves (IsOneOf facts list facts' list') (g.D.Disk.state d)) (sym is)
-    only in
-    subst (λ d. AlwaysLeaves g.D.Disk c.args.disk d (IsOneOf facts list facts' list'))
-    (sym c.into_disk.ensures) (since_same g.D.Disk (IsOneOf facts list facts' list') is
-    (c.in-Err.ensures.any_moment facts list facts' list' honest' left))
+    let leaves = c.in-Err.ensures.any_moment facts list facts' list' honest' in
+    subst (λ d. StillLeavesOneOf g.D.Disk c.args.disk d facts list facts' list')
+    (sym c.into_disk.ensures)
+    (leaves_since_same g.D.Disk facts list facts' list' is leaves.whole leaves.meant)
 
 -- a refusal says what is wrong
 pub returns-in-Err-clause-opened : goal.returns-in-Err-clause-opened

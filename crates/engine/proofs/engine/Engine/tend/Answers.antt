@@ -1,5 +1,6 @@
 use Rattle.engine.proofs.Engines.{LeftFiles, closed_by, ends_by, goes_to, may_fail, no_refusal}
-use Rattle.engine.proofs.Engines.{not_raised, on_first, on_second, held_of, works_on_ok}
+use Rattle.engine.proofs.Engines.{held_of, not_raised, on_first, on_second, were_meant}
+use Rattle.engine.proofs.Engines.{were_not_raised, works_on_ok}
 use Rattle.engine.proofs.engine.Engine.tend.Goals as goal
 
 -- a device that works fails where the files are full or are none of the engine
@@ -40,6 +41,8 @@ returns-clause-tended g c = λ list.
     (works_on_ok c.tend-answer.result c.is_err-self.result c.is_err-self.ensures.value)
     (λ honest held. on_first c.tend-answer.result _ _
     (c.tend-answer.ensures.tended list honest held))
+    (λ honest w. on_first c.tend-answer.result _ _
+    (c.tend-answer.ensures.meant list honest w).0)
 
 -- what was due was done
 pub returns-clause-work : goal.returns-clause-work
@@ -52,3 +55,12 @@ returns-clause-any_moment g c = λ list h.
     not_raised g.D.Disk c.args.self.now _ list
     (c.tend-answer.ensures.any_moment list h.reads.honest
     (held_of g.D.Disk c.args.self.now list h.reads))
+
+-- .. also where blocks of tables are damaged
+pub returns-clause-meant : goal.returns-clause-meant
+returns-clause-meant g c = λ list m.
+    let both = c.tend-answer.ensures.meant list m.honest
+    (were_meant g.D.Disk c.args.self.now list m) in (
+      were_not_raised g.D.Disk c.args.self.now _ list both.1,
+      on_second c.tend-answer.result _ _ both.0,
+    )

@@ -2,20 +2,20 @@ use Rattle.std.proofs.Common.{List, ℕ, map, subst, sym, ap, arith, ◌∙◌}
 use Rattle.std.specs.List.{AllZip, insert}
 use Rattle.std.proofs.lemmas.List.Sums.{prefix_len-le-length}
 use Rattle.engine.specs.declared.levels.OpenTable.{OpenTable}
-use Rattle.engine.specs.LevelTables.{IsServed, is_flushed, with_flushed}
+use Rattle.engine.specs.LevelTables.{WasServed, is_flushed, with_flushed}
 use Rattle.engine.proofs.FlushedTables.{lines_with}
 use Rattle.engine.proofs.LevelLemmas.{served_with}
 use Rattle.engine.proofs.levels.LevelTables.add.Goals as goal
 
 -- it stands behind the tables of level 0
 pub returns-clause-added : goal.returns-clause-added
-returns-clause-added c = λ disk tables table served is.
+returns-clause-added c = λ disk meant tables table served is.
     let items = c.args.self.now.tables.items in
     let one = c.args.opened in
-    subst (λ (l : List OpenTable). AllZip (IsServed disk) l (with_flushed tables table))
+    subst (λ (l : List OpenTable). AllZip (WasServed disk meant) l (with_flushed tables table))
     (sym (c.in_ok-insert.ensures.items
     ∙ ap (λ (n : ℕ). insert items n one) c.flushed-place.ensures))
-    (served_with disk one table is items tables served)
+    (served_with disk meant one table is items tables served)
 
 -- and so its line among theirs
 pub returns-clause-lines : goal.returns-clause-lines

@@ -143,3 +143,16 @@ returns-clause-meant g c = λ meant tables honest are as_meant.
     (λ it t was. was_same s0 s1 meant it t (before.read.kept.files honest) was) items tables
     (subst (λ (l : List LevelTable). AllZip (WasServed s0 meant) items l) all
     (before.meant meant tables honest are as_meant))
+
+-- a file that fits its line is opened, or the refusal is external
+pub returns-in_err-open-clause-fits : goal.returns-in_err-open-clause-fits
+returns-in_err-open-clause-fits g c = λ honest.
+    let s0 = g.D.Disk.state c.args.disk.now in
+    let s1 = g.D.Disk.state c.loop-line.disk in
+    let line = c.line-item.result in
+    let before = c.loop-line.invariant.read.kept in
+    refuses c.from_residual.result _ _ c.from_residual.ensures.1 (λ all.
+    let fit = subst (λ (l : TableLine). FileFits (contents s0) l) (sym c.line-item.is)
+    (all c.loop-line.line-index line c.loop-line-test.true) in
+    c.in_err-open.ensures.fits (before.honest.1 honest)
+    (fit_same s1 s0 line (same_back s0 s1 (before.files honest)) fit))

@@ -7,7 +7,8 @@ use Rattle.sorted_table.specs.{AreAsMeant, HasTail, IsOpenOn, TableServes, as_me
 use Rattle.sorted_table.specs.{index_lines, table_filter}
 use Rattle.engine.specs.Errors.{IsEngineExternal}
 use Rattle.engine.proofs.Causes.{refuses}
-use Rattle.engine.proofs.OpenTables.{file_represents, fit_read, of_table, opened_as_meant}
+use Rattle.engine.proofs.OpenTables.{file_represents, fit_read, fits_last, fits_length}
+use Rattle.engine.proofs.OpenTables.{fits_opens, of_table, opened_as_meant}
 use Rattle.engine.proofs.OpenTables.{represents_same}
 use Rattle.engine.proofs.levels.OpenTable.open.Goals as goal
 
@@ -86,7 +87,8 @@ returns-clause-fits g c = λ honest.
     let tail = subst (λ (file : Option (List ℕ)).
     IsSomeAnd file (λ bytes. HasTail bytes (index_lines table) (table_filter table)))
     (ap seen (c.open.ensures.kept.files between line.file
-    ∙ c.length.ensures.kept.disk.files honest line.file)) (c.in_ok-table.ensures.checked between) in
+    ∙ c.length.ensures.kept.disk.files honest line.file))
+    (c.in_ok-table.ensures.checked between).0 in
     fit_read (contents (g.D.Disk.state c.args.disk.now) line.file) line c.in_ok-length.field-0
     (c.in_ok-length.ensures.length honest) c.if-branch-line.false table tail
     (c.ends_with.ensures.line.0 c.if-not-ends_with.false)
@@ -123,10 +125,37 @@ returns-clause-meant g c = λ meant table honest is as_meant.
           )
       | inr rest ↦
           let was = subst (λ (s : Slot). IsOpenOn s opened) same
-          (c.in_ok-table.ensures.checked between) in
+          (c.in_ok-table.ensures.checked between).0 in
           let both = rest opened table.entries was
           (file_represents (contents meant) line table (meant file) is refl) in (
             both.0,
             subst (λ (s : Slot). AreAsMeant s (meant file) (index_lines opened)) (sym same) both.1,
           )
     ])
+
+-- ---- a file that fits the line
+
+pub returns-then-branch-line-clause-fits : goal.returns-then-branch-line-clause-fits
+returns-then-branch-line-clause-fits g c = λ honest fit.
+    absurd (fits_length (contents (g.D.Disk.state c.args.disk.now) c.args.line.now.file)
+    c.args.line.now c.in_ok-length.field-0 (c.in_ok-length.ensures.length honest) fit
+    c.if-branch-line.true)
+
+pub returns-in_err-table-clause-fits : goal.returns-in_err-table-clause-fits
+returns-in_err-table-clause-fits g c = λ honest.
+    let line = c.args.line.now in
+    refuses c.from_residual-in_err-table.result _ _
+    c.from_residual-in_err-table.ensures.1 (λ fit. of_table c.in_err-table.field-0.0
+    (c.in_err-table.ensures.checked (c.length.ensures.kept.disk.honest.1 honest)
+    (fits_opens (g.D.Disk.state c.args.disk.now line.file)
+    (g.D.Disk.state c.length.new.self line.file) line
+    (ap seen (c.length.ensures.kept.disk.files honest line.file)) fit)))
+
+pub returns-then-not-ends_with-clause-fits : goal.returns-then-not-ends_with-clause-fits
+returns-then-not-ends_with-clause-fits g c = λ honest fit.
+    let line = c.args.line.now in
+    let has = (c.in_ok-table.ensures.checked (c.length.ensures.kept.disk.honest.1 honest)).1 in
+    absurd (never c.ends_with.result c.if-not-ends_with.true (c.ends_with.ensures.line.1
+    (fits_last (g.D.Disk.state c.args.disk.now line.file)
+    (g.D.Disk.state c.length.new.self line.file) line
+    (ap seen (c.length.ensures.kept.disk.files honest line.file)) fit c.in_ok-table.table has)))

@@ -4,11 +4,15 @@ use Rattle.disk.specs.MomentsLemmas.{join}
 use Rattle.engine.specs.declared.flushing.Flushed.{Flushed}
 use Rattle.engine.specs.Errors.{IsEngineExternal}
 use Rattle.engine.specs.KeepingLemmas.{answered, kept_as, kept_behind, kept_but}
-use Rattle.engine.specs.OpenFiles.{FilesHold, IsTooLarge, known_facts, known_version}
-use Rattle.engine.specs.StoreFiles.{FilesRepresent}
-use Rattle.engine.specs.Tending.{HasSpilled, HeldAndSpilled, IsNextTable}
+use Rattle.engine.specs.OpenFiles.{FilesHold, IsTooLarge, WereMeantToHold, known_facts}
+use Rattle.engine.specs.OpenFiles.{known_version}
+use Rattle.engine.specs.StoreFiles.{FilesRepresent, WereMeant}
+use Rattle.manifest.specs.{NodeVersion}
+use Rattle.engine.specs.Tending.{HasSpilled, HeldAndSpilled, IsNextTable, LacksPlace}
+use Rattle.engine.specs.Tending.{MeantAndSpilled}
 use Rattle.engine.proofs.Causes.{refuses}
 use Rattle.engine.proofs.Keeping.{passed_on}
+use Rattle.engine.proofs.MeantTends.{not_called}
 use Rattle.engine.proofs.TendedFiles.{beside_both, table_alone}
 use Rattle.engine.proofs.Tends.{nothing_called}
 use Rattle.engine.proofs.store_files.StoreFiles.flush.Goals as goal
@@ -161,3 +165,83 @@ returns-in_ok-install-in-Some-clause-touches g c = λ honest.
     beside_both files disk mid (g.D.Disk.state c.install.new.disk)
     (table_alone files disk mid (c.spill.ensures.kept.files honest))
     (c.install.ensures.touches (c.spill.ensures.kept.honest.1 honest))
+
+-- ---- damaged tables
+
+pub returns-then-lacks_place-clause-meant : goal.returns-then-lacks_place-clause-meant
+returns-then-lacks_place-clause-meant g c = λ list honest w. (
+  (
+    w,
+    (
+      inl (subst (λ (n : NodeVersion). LacksPlace n.version) c.state.ensures
+          (c.lacks_place.ensures.0 c.if-lacks_place.true)),
+      refl,
+    ),
+  ),
+  not_called (g.D.Disk.state c.args.disk.now) c.args.self.now list w
+      c.durable_file_is_left.ensures c.held_versions_are_left.ensures.left
+      (g.D.Disk.past c.args.disk.now),
+)
+
+pub returns-in_err-made-clause-meant : goal.returns-in_err-made-clause-meant
+returns-in_err-made-clause-meant g c = λ list honest w.
+    let both = c.in_err-made.ensures.meant list honest w in (
+      refuses c.from_residual.result _ IsEngineExternal c.from_residual.ensures.1 both.0,
+      both.1,
+    )
+
+pub returns-in-None-clause-meant : goal.returns-in-None-clause-meant
+returns-in-None-clause-meant g c = λ list honest w.
+    let disk = g.D.Disk.state c.args.disk.now in
+    let files = c.args.self.now in
+    let mid = g.D.Disk.state c.spill.new.disk in
+    let both = c.in_ok-made.ensures.meant list honest w in
+    let told = subst (λ (o : Option Flushed). MatchOption o
+    (IsTooLarge files.memtable × WereMeantToHold mid files list) (HasSpilled disk mid files))
+    c.in-None.is both.0 in ((told.1, (inr told.0, refl)), both.1)
+
+pub returns-in_err-install-in-Some-clause-meant :
+    goal.returns-in_err-install-in-Some-clause-meant
+returns-in_err-install-in-Some-clause-meant g c = λ list honest w.
+    let disk = g.D.Disk.state c.args.disk.now in
+    let files = c.args.self.now in
+    let mid = g.D.Disk.state c.spill.new.disk in
+    let both = c.in_ok-made.ensures.meant list honest w in
+    let told = subst (λ (o : Option Flushed). MatchOption o
+    (IsTooLarge files.memtable × WereMeantToHold mid files list) (HasSpilled disk mid files))
+    c.in-Some.is both.0 in
+    let were : MeantAndSpilled mid files list c.in-Some.made =
+    record { before = disk; meant = w; spilled = told } in
+    let then = c.in_err-install-in-Some.ensures.meant list
+    (c.spill.ensures.kept.honest.1 honest) were in (
+      refuses c.from_residual-in_err-install-in-Some.result _ IsEngineExternal
+          c.from_residual-in_err-install-in-Some.ensures.1 then.0,
+      join (WereMeant (known_facts files) list) disk mid (g.D.Disk.state c.install.new.disk)
+          (g.D.Disk.past c.args.disk.now) (g.D.Disk.past c.spill.new.disk)
+          (g.D.Disk.past c.install.new.disk) both.1 then.1,
+    )
+
+pub returns-in_ok-install-in-Some-clause-meant : goal.returns-in_ok-install-in-Some-clause-meant
+returns-in_ok-install-in-Some-clause-meant g c = λ list honest w.
+    let disk = g.D.Disk.state c.args.disk.now in
+    let files = c.args.self.now in
+    let mid = g.D.Disk.state c.spill.new.disk in
+    let both = c.in_ok-made.ensures.meant list honest w in
+    let told = subst (λ (o : Option Flushed). MatchOption o
+    (IsTooLarge files.memtable × WereMeantToHold mid files list) (HasSpilled disk mid files))
+    c.in-Some.is both.0 in
+    let were : MeantAndSpilled mid files list c.in-Some.made =
+    record { before = disk; meant = w; spilled = told } in
+    let then = c.in_ok-install-in-Some.ensures.meant list
+    (c.spill.ensures.kept.honest.1 honest) were in
+    let next = subst (λ (o : Option Flushed). MatchOption o Unit
+    (λ it. IsNextTable (known_version files).version it.line)) c.in-Some.is
+    c.in_ok-made.ensures.line in (
+      (
+        then.0,
+        (c.in-Some.made.line, next, c.in_ok-install-in-Some.ensures.told.1.1),
+      ),
+      join (WereMeant (known_facts files) list) disk mid (g.D.Disk.state c.install.new.disk)
+          (g.D.Disk.past c.args.disk.now) (g.D.Disk.past c.spill.new.disk)
+          (g.D.Disk.past c.install.new.disk) both.1 then.1,
+    )

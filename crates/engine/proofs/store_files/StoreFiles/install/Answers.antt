@@ -8,7 +8,7 @@ use Rattle.engine.specs.Errors.{FailsDevice, IsEngineExternal}
 use Rattle.engine.specs.declared.error.EngineError.TheVariants.{Disk}
 use Rattle.std.specs.Prelude.{◌≡◌, IfErr}
 use Rattle.engine.specs.KeepingLemmas.{answered, kept_as, kept_behind, kept_but, neither}
-use Rattle.engine.specs.LevelTables.{table_lines, with_flushed_line}
+use Rattle.engine.specs.LevelTables.{table_lines, with_flushed, with_flushed_line}
 use Rattle.engine.specs.OpenFiles.{batch_count, known_version, trimmed_count}
 use Rattle.engine.specs.StoreFiles.{flush_change}
 use Rattle.engine.proofs.Causes.{if_refuses, refuses}
@@ -16,6 +16,12 @@ use Rattle.engine.proofs.Installed.{beside_new, count_kept, edit_is, edit_is_rec
 use Rattle.engine.proofs.Installed.{installed_holds, installed_usable, known, log_begins}
 use Rattle.engine.proofs.Installed.{manifest_begun, new_ends, new_served, none_begun, old_served}
 use Rattle.engine.proofs.Installed.{spilled_named}
+use Rattle.sorted_table.specs.{as_meant_itself, index_lines, table_file}
+use Rattle.engine.proofs.Meant.{own_blocks, zip_was}
+use Rattle.engine.proofs.MeantInstalls.{all_served, edit_was_recorded, installed_as_meant}
+use Rattle.engine.proofs.MeantInstalls.{log_was_begun, m3, manifest_was_begun, meant_ends}
+use Rattle.engine.proofs.MeantInstalls.{meant_logs, none_were}
+use Rattle.engine.proofs.MeantOpenings.{zip_serves}
 use Rattle.engine.proofs.TendedFiles.{beside_both, counting_alone, log_alone}
 use Rattle.engine.proofs.Tends.{edit_is_external}
 use Rattle.engine.proofs.store_files.StoreFiles.install.Goals as goal
@@ -329,11 +335,19 @@ returns-clause-installed g c = λ list honest hs.
     (subst (λ (m : Memtable). (entry : Entry) → TableHolds m entry → ⊥)
     (sym c.replace.ensures.after) c.new.ensures.empty))
     (c.in_default.ensures.recorded (known_version files) honest2 held)
-    (c.in_ok-add.ensures.added s3 hs.held.known.tables hs.spilled.written.table
+    (zip_serves s3 s3 c.add.new.self.tables.items
+    (with_flushed hs.held.known.tables hs.spilled.written.table)
+    (c.in_ok-add.ensures.added s3 s3 hs.held.known.tables hs.spilled.written.table
+    (zip_was s3 s3 files.tables.tables.items hs.held.known.tables
     (old_served files c.requires.usable line c.requires.place c.requires.next
     (c.behind-self.inside.next_file + 1) at c.in_ok-edit.edit is s1 list one hs s2 spares c.begin.new.self begun.2 began keeps s3 _ slot same)
-    (new_served files c.requires.usable line c.requires.place c.requires.next
-    (c.behind-self.inside.next_file + 1) at c.in_ok-edit.edit is s1 list one hs s2 spares c.begin.new.self begun.2 began keeps s3 _ slot same))
+    (own_blocks s3 files.tables.tables.items))
+    (record {
+      serves = new_served files c.requires.usable line c.requires.place c.requires.next
+          (c.behind-self.inside.next_file + 1) at c.in_ok-edit.edit is s1 list one hs s2 spares
+          c.begin.new.self begun.2 began keeps s3 _ slot same;
+      blocks = as_meant_itself (s3 (table_file one.table)) (index_lines one.table);
+    })))
     (subst (λ (m : Memtable). (entry : Entry) → TableHolds m entry → ⊥) memtable
     c.new.ensures.empty)
 
@@ -414,3 +428,190 @@ returns-in_err-add-clause-kept g c =
         subst (λ r. IfErr r (λ e. e ≡ Disk → ⊥)) fails
         (if_refuses c.from_residual-in_err-add.result (λ e. e ≡ Disk → ⊥)
         c.from_residual-in_err-add.ensures.1 (λ is. absurd cc)) refl
+
+-- ---- damaged tables
+
+pub returns-in_err-edit-clause-meant : goal.returns-in_err-edit-clause-meant
+returns-in_err-edit-clause-meant g c = λ list honest ms.
+    let files = c.args.self.now in
+    let line = c.args.made.line in
+    let version = (known_version files).version in (
+      refuses c.from_residual.result _ IsEngineExternal c.from_residual.ensures.1 (inr refl),
+      none_were files c.requires.usable line c.requires.place c.requires.next
+          (version.next_file + 1) refl (flush_change version (batch_count files) line) refl
+          (g.D.Disk.state c.args.disk.now) list c.args.made.table ms
+          c.durable_file_is_left.ensures c.held_versions_are_left.ensures.left
+          c.held_versions_are_left.ensures.same (g.D.Disk.past c.args.disk.now),
+    )
+
+pub returns-in_err-begin-clause-meant : goal.returns-in_err-begin-clause-meant
+returns-in_err-begin-clause-meant g c = λ list honest ms.
+    let files = c.args.self.now in
+    let line = c.args.made.line in
+    let at = ap (λ (n : NodeVersion). n.version.next_file + 1)
+    (c.behind-self.view_is ∙ c.state.ensures) in
+    let is = edit_is files line c.state-2.result.now c.last_number-count.result c.in_ok-edit.edit
+    c.state-2.ensures c.last_number-count.ensures c.in_ok-edit.ensures.edit in
+    let one = c.args.made.table in
+    let s1 = g.D.Disk.state c.args.disk.now in
+    let trimmed = trimmed_count files in
+    let stays = c.held_versions_are_left.ensures.same in (
+      refuses c.from_residual-in_err-begin.result _ IsEngineExternal
+          c.from_residual-in_err-begin.ensures.1
+          (c.in_err-begin.ensures.begun (suc trimmed) (drop trimmed list) honest
+          (meant_ends files c.requires.usable line c.requires.place c.requires.next
+          (c.behind-self.inside.next_file + 1) at c.in_ok-edit.edit is s1 list one ms)
+          (meant_logs files c.requires.usable line c.requires.place c.requires.next
+          (c.behind-self.inside.next_file + 1) at c.in_ok-edit.edit is s1 list one ms)),
+      log_was_begun files c.requires.usable line c.requires.place c.requires.next
+          (c.behind-self.inside.next_file + 1) at c.in_ok-edit.edit is s1 list one ms
+          c.durable_file_is_left.ensures c.held_versions_are_left.ensures.left stays
+          (g.D.Disk.past c.args.disk.now) (g.D.Disk.past c.begin.new.disk)
+          (g.D.Disk.state c.begin.new.disk) (c.begin.ensures.any_moment honest),
+    )
+
+pub returns-in-Err-clause-meant : goal.returns-in-Err-clause-meant
+returns-in-Err-clause-meant g c = λ list honest ms.
+    let files = c.args.self.now in
+    let line = c.args.made.line in
+    let at = ap (λ (n : NodeVersion). n.version.next_file + 1)
+    (c.behind-self.view_is ∙ c.state.ensures) in
+    let is = edit_is files line c.state-2.result.now c.last_number-count.result c.in_ok-edit.edit
+    c.state-2.ensures c.last_number-count.ensures c.in_ok-edit.ensures.edit in
+    let one = c.args.made.table in
+    let s1 = g.D.Disk.state c.args.disk.now in
+    let s2 = g.D.Disk.state c.begin.new.disk in
+    let trimmed = trimmed_count files in
+    let stays = c.held_versions_are_left.ensures.same in
+    let spares = c.begin.ensures.kept.files honest in
+    let honest2 = c.begin.ensures.kept.honest.1 honest in
+    let keeps = c.flushes_keep.ensures.list in
+    let lines = c.in_ok-begin.ensures.told.2 in
+    let began = c.in_ok-begin.ensures.begun (suc trimmed) (drop trimmed list) honest
+    (meant_ends files c.requires.usable line c.requires.place c.requires.next
+    (c.behind-self.inside.next_file + 1) at c.in_ok-edit.edit is s1 list one ms)
+    (meant_logs files c.requires.usable line c.requires.place c.requires.next
+    (c.behind-self.inside.next_file + 1) at c.in_ok-edit.edit is s1 list one ms) in
+    let held = manifest_was_begun files c.requires.usable line c.requires.place c.requires.next
+    (c.behind-self.inside.next_file + 1) at c.in_ok-edit.edit is s1 list one ms
+    s2 spares c.begin.new.self lines began keeps stays in (
+      subst IsEngineExternal (sym c.refusal_of_edit.ensures) (edit_is_external c.in-Err.e
+          (c.in-Err.ensures.recorded (known_version files) honest2 held)),
+      edit_was_recorded files c.requires.usable line c.requires.place c.requires.next
+          (c.behind-self.inside.next_file + 1) at c.in_ok-edit.edit is s1 list one ms
+          s2 spares c.begin.new.self lines
+          began keeps c.durable_file_is_left.ensures c.held_versions_are_left.ensures.left stays
+          c.edits_keep_versions.ensures (g.D.Disk.past c.args.disk.now)
+          (g.D.Disk.past c.begin.new.disk) (g.D.Disk.past c.record.new.disk)
+          (g.D.Disk.state c.record.new.disk) (c.begin.ensures.any_moment honest)
+          (c.record.ensures.any_moment (known_version files) honest2 held),
+    )
+
+pub returns-in_err-add-clause-meant : goal.returns-in_err-add-clause-meant
+returns-in_err-add-clause-meant g c = λ list honest ms.
+    let files = c.args.self.now in
+    let line = c.args.made.line in
+    let at = ap (λ (n : NodeVersion). n.version.next_file + 1)
+    (c.behind-self.view_is ∙ c.state.ensures) in
+    let is = edit_is files line c.state-2.result.now c.last_number-count.result c.in_ok-edit.edit
+    c.state-2.ensures c.last_number-count.ensures c.in_ok-edit.ensures.edit in
+    let one = c.args.made.table in
+    let s1 = g.D.Disk.state c.args.disk.now in
+    let s2 = g.D.Disk.state c.begin.new.disk in
+    let trimmed = trimmed_count files in
+    let stays = c.held_versions_are_left.ensures.same in
+    let spares = c.begin.ensures.kept.files honest in
+    let honest2 = c.begin.ensures.kept.honest.1 honest in
+    let keeps = c.flushes_keep.ensures.list in
+    let lines = c.in_ok-begin.ensures.told.2 in
+    let began = c.in_ok-begin.ensures.begun (suc trimmed) (drop trimmed list) honest
+    (meant_ends files c.requires.usable line c.requires.place c.requires.next
+    (c.behind-self.inside.next_file + 1) at c.in_ok-edit.edit is s1 list one ms)
+    (meant_logs files c.requires.usable line c.requires.place c.requires.next
+    (c.behind-self.inside.next_file + 1) at c.in_ok-edit.edit is s1 list one ms) in
+    let held = manifest_was_begun files c.requires.usable line c.requires.place c.requires.next
+    (c.behind-self.inside.next_file + 1) at c.in_ok-edit.edit is s1 list one ms
+    s2 spares c.begin.new.self lines began keeps stays in (
+      refuses c.from_residual-in_err-add.result _ IsEngineExternal
+          c.from_residual-in_err-add.ensures.1 (inr c.in_err-add.ensures.memory),
+      edit_was_recorded files c.requires.usable line c.requires.place c.requires.next
+          (c.behind-self.inside.next_file + 1) at c.in_ok-edit.edit is s1 list one ms
+          s2 spares c.begin.new.self lines
+          began keeps c.durable_file_is_left.ensures c.held_versions_are_left.ensures.left stays
+          c.edits_keep_versions.ensures (g.D.Disk.past c.args.disk.now)
+          (g.D.Disk.past c.begin.new.disk) (g.D.Disk.past c.record.new.disk)
+          (g.D.Disk.state c.record.new.disk) (c.begin.ensures.any_moment honest)
+          (c.record.ensures.any_moment (known_version files) honest2 held),
+    )
+
+pub returns-clause-meant : goal.returns-clause-meant
+returns-clause-meant g c = λ list honest ms.
+    let files = c.args.self.now in
+    let line = c.args.made.line in
+    let at = ap (λ (n : NodeVersion). n.version.next_file + 1)
+    (c.behind-self.view_is ∙ c.state.ensures) in
+    let is = edit_is files line c.state-2.result.now c.last_number-count.result c.in_ok-edit.edit
+    c.state-2.ensures c.last_number-count.ensures c.in_ok-edit.ensures.edit in
+    let one = c.args.made.table in
+    let s1 = g.D.Disk.state c.args.disk.now in
+    let s2 = g.D.Disk.state c.begin.new.disk in
+    let trimmed = trimmed_count files in
+    let stays = c.held_versions_are_left.ensures.same in
+    let spares = c.begin.ensures.kept.files honest in
+    let honest2 = c.begin.ensures.kept.honest.1 honest in
+    let keeps = c.flushes_keep.ensures.list in
+    let lines = c.in_ok-begin.ensures.told.2 in
+    let began = c.in_ok-begin.ensures.begun (suc trimmed) (drop trimmed list) honest
+    (meant_ends files c.requires.usable line c.requires.place c.requires.next
+    (c.behind-self.inside.next_file + 1) at c.in_ok-edit.edit is s1 list one ms)
+    (meant_logs files c.requires.usable line c.requires.place c.requires.next
+    (c.behind-self.inside.next_file + 1) at c.in_ok-edit.edit is s1 list one ms) in
+    let held = manifest_was_begun files c.requires.usable line c.requires.place c.requires.next
+    (c.behind-self.inside.next_file + 1) at c.in_ok-edit.edit is s1 list one ms
+    s2 spares c.begin.new.self lines began keeps stays in
+    let s3 = g.D.Disk.state c.record.new.disk in
+    let slot = (c.manifest_has_slots.ensures s2 files.manifest (known_version files) held).0 in
+    let same = c.record.ensures.kept.files honest2 in
+    let begun = c.in_ok-begin.ensures.told in
+    let empty = subst (λ (m : Memtable). (entry : Entry) → TableHolds m entry → ⊥)
+    (sym c.replace.ensures.after) c.new.ensures.empty in
+    let usable = installed_usable files c.requires.usable line c.requires.place c.requires.next
+    (c.behind-self.inside.next_file + 1) at c.in_ok-edit.edit is (record {
+      manifest = c.record.new.self;
+      logs = c.begin.new.self;
+      tables = c.add.new.self;
+      memtable = c.replace.new.dest;
+    })
+    c.in_default.ensures.told.0 lines begun.1
+    c.edits_keep_versions.ensures c.in_default.ensures.told.1 begun.0
+    (c.in_ok-add.ensures.lines ∙ ap (λ (l : TableLine).
+    with_flushed_line (table_lines files.tables) l) c.requires.opened)
+    (subst (λ (m : Memtable). HasFailedAdd m → ⊥) (sym c.replace.ensures.after)
+    c.new.ensures.works) empty in
+    let served = all_served files c.requires.usable line c.requires.place c.requires.next
+    (c.behind-self.inside.next_file + 1) at c.in_ok-edit.edit is s1 list one ms
+    s2 spares c.begin.new.self lines began keeps s3 _ slot same in
+    let mended = m3 files c.requires.usable line c.requires.place c.requires.next
+    (c.behind-self.inside.next_file + 1) at c.in_ok-edit.edit is s1 list one ms
+    s2 spares c.begin.new.self lines began keeps s3 _ slot same in (
+      installed_as_meant files c.requires.usable line c.requires.place c.requires.next
+          (c.behind-self.inside.next_file + 1) at c.in_ok-edit.edit is s1 list one ms
+          s2 spares c.begin.new.self lines began keeps s3 _ slot same
+          c.edits_keep_versions.ensures stays (record {
+            manifest = c.record.new.self;
+            logs = c.begin.new.self;
+            tables = c.add.new.self;
+            memtable = c.replace.new.dest;
+          }) refl c.in_default.ensures.told.0 begun.1
+          usable (c.in_default.ensures.recorded (known_version files) honest2 held)
+          (c.in_ok-add.ensures.added s3 mended ms.meant.hold.known.tables ms.spilled.written.table
+          served.0 served.1) empty,
+      edit_was_recorded files c.requires.usable line c.requires.place c.requires.next
+          (c.behind-self.inside.next_file + 1) at c.in_ok-edit.edit is s1 list one ms
+          s2 spares c.begin.new.self lines
+          began keeps c.durable_file_is_left.ensures c.held_versions_are_left.ensures.left stays
+          c.edits_keep_versions.ensures (g.D.Disk.past c.args.disk.now)
+          (g.D.Disk.past c.begin.new.disk) (g.D.Disk.past c.record.new.disk)
+          (g.D.Disk.state c.record.new.disk) (c.begin.ensures.any_moment honest)
+          (c.record.ensures.any_moment (known_version files) honest2 held),
+    )

@@ -4,11 +4,11 @@ use Rattle.engine.specs.Errors.{IsEngineExternal}
 use Rattle.engine.specs.Openings.{kept_files}
 use Rattle.disk.specs.{seen}
 use Rattle.engine.specs.Settling.{AreSwept, IsReadAlike}
-use Rattle.engine.specs.StoreFiles.{IsOneOf}
+use Rattle.engine.specs.StoreFiles.{IsOneOf, WereOneOf}
 use Rattle.engine.proofs.Causes.{answers_nothing, if_refuses, refuses}
 use Rattle.engine.proofs.KeptFiles.{settled_as, still_keeps}
 use Rattle.engine.proofs.MeantOpenings.{settled_as_meant}
-use Rattle.engine.proofs.OpenMoments.{one_of_is_named, settling_keeps}
+use Rattle.engine.proofs.OpenMoments.{settling_keeps_each}
 use Rattle.engine.proofs.store_files.StoreFiles.open.Goals as goal
 
 -- the files that are read are those that the disk represents
@@ -64,43 +64,57 @@ returns-clause-swept g c = λ honest.
 
 -- at each moment the disk leaves only files of these stores
 pub returns-in_err-files-clause-any_moment : goal.returns-in_err-files-clause-any_moment
-returns-in_err-files-clause-any_moment g c = λ facts list facts' list' honest only.
-    still_keeps (IsOneOf facts list facts' list') (g.D.Disk.state c.args.disk.now)
-    (g.D.Disk.past c.args.disk.now) (g.D.Disk.state c.read_files.new.disk)
-    (g.D.Disk.past c.read_files.new.disk) only (c.read_files.ensures.still honest)
+returns-in_err-files-clause-any_moment g c = λ facts list facts' list' honest. record {
+  whole = λ only. still_keeps (IsOneOf facts list facts' list') (g.D.Disk.state c.args.disk.now)
+      (g.D.Disk.past c.args.disk.now) (g.D.Disk.state c.read_files.new.disk)
+      (g.D.Disk.past c.read_files.new.disk) only (c.read_files.ensures.still honest);
+  meant = λ only. still_keeps (WereOneOf facts list facts' list')
+      (g.D.Disk.state c.args.disk.now) (g.D.Disk.past c.args.disk.now)
+      (g.D.Disk.state c.read_files.new.disk) (g.D.Disk.past c.read_files.new.disk) only
+      (c.read_files.ensures.still honest);
+}
 
 pub returns-in_err-kept-clause-any_moment : goal.returns-in_err-kept-clause-any_moment
-returns-in_err-kept-clause-any_moment g c = λ facts list facts' list' honest only.
-    still_keeps (IsOneOf facts list facts' list') (g.D.Disk.state c.args.disk.now)
-    (g.D.Disk.past c.args.disk.now) (g.D.Disk.state c.read_files.new.disk)
-    (g.D.Disk.past c.read_files.new.disk) only (c.read_files.ensures.still honest)
+returns-in_err-kept-clause-any_moment g c = λ facts list facts' list' honest. record {
+  whole = λ only. still_keeps (IsOneOf facts list facts' list') (g.D.Disk.state c.args.disk.now)
+      (g.D.Disk.past c.args.disk.now) (g.D.Disk.state c.read_files.new.disk)
+      (g.D.Disk.past c.read_files.new.disk) only (c.read_files.ensures.still honest);
+  meant = λ only. still_keeps (WereOneOf facts list facts' list')
+      (g.D.Disk.state c.args.disk.now) (g.D.Disk.past c.args.disk.now)
+      (g.D.Disk.state c.read_files.new.disk) (g.D.Disk.past c.read_files.new.disk) only
+      (c.read_files.ensures.still honest);
+}
 
 pub returns-in_err-remove_others-clause-any_moment :
     goal.returns-in_err-remove_others-clause-any_moment
-returns-in_err-remove_others-clause-any_moment g c = λ facts list facts' list' honest only.
+returns-in_err-remove_others-clause-any_moment g c = λ facts list facts' list' honest.
     let honest1 = c.read_files.ensures.kept.honest.1 honest in
     let is = c.deref.ensures.value ∙ c.in_ok-kept.ensures
     ∙ ap (λ (n : NodeVersion). kept_files n.version) c.state.ensures in
-    settling_keeps (IsOneOf facts list facts' list') (one_of_is_named facts list facts' list')
-    c.held_versions_are_left.ensures.left c.version_is_one.ensures.one c.in_ok-files.files
-    c.deref.result.now (g.D.Disk.state c.args.disk.now) (g.D.Disk.state c.read_files.new.disk)
+    let each = settling_keeps_each facts list facts' list'
+    c.held_versions_are_left.ensures.left c.version_is_one.ensures.one
+    c.version_is_one.ensures.lawful c.in_ok-files.files c.deref.result.now
+    (g.D.Disk.state c.args.disk.now) (g.D.Disk.state c.read_files.new.disk)
     (g.D.Disk.state c.remove_others.new.disk) (g.D.Disk.past c.args.disk.now)
     (g.D.Disk.past c.read_files.new.disk) (g.D.Disk.past c.remove_others.new.disk)
-    (c.in_ok-files.ensures.held honest) is only (c.read_files.ensures.still honest)
-    (c.remove_others.ensures.any_moment honest1)
+    (c.in_ok-files.ensures.held honest) is (c.read_files.ensures.still honest)
+    (c.remove_others.ensures.any_moment honest1) in
+    record { whole = each.0; meant = each.1 }
 
 pub returns-clause-any_moment : goal.returns-clause-any_moment
-returns-clause-any_moment g c = λ facts list facts' list' honest only.
+returns-clause-any_moment g c = λ facts list facts' list' honest.
     let honest1 = c.read_files.ensures.kept.honest.1 honest in
     let is = c.deref.ensures.value ∙ c.in_ok-kept.ensures
     ∙ ap (λ (n : NodeVersion). kept_files n.version) c.state.ensures in
-    settling_keeps (IsOneOf facts list facts' list') (one_of_is_named facts list facts' list')
-    c.held_versions_are_left.ensures.left c.version_is_one.ensures.one c.in_ok-files.files
-    c.deref.result.now (g.D.Disk.state c.args.disk.now) (g.D.Disk.state c.read_files.new.disk)
+    let each = settling_keeps_each facts list facts' list'
+    c.held_versions_are_left.ensures.left c.version_is_one.ensures.one
+    c.version_is_one.ensures.lawful c.in_ok-files.files c.deref.result.now
+    (g.D.Disk.state c.args.disk.now) (g.D.Disk.state c.read_files.new.disk)
     (g.D.Disk.state c.remove_others.new.disk) (g.D.Disk.past c.args.disk.now)
     (g.D.Disk.past c.read_files.new.disk) (g.D.Disk.past c.remove_others.new.disk)
-    (c.in_ok-files.ensures.held honest) is only (c.read_files.ensures.still honest)
-    (c.remove_others.ensures.any_moment honest1)
+    (c.in_ok-files.ensures.held honest) is (c.read_files.ensures.still honest)
+    (c.remove_others.ensures.any_moment honest1) in
+    record { whole = each.0; meant = each.1 }
 
 -- a refusal of the reading left what there was, and one of a removal is external
 pub returns-in_err-files-clause-still : goal.returns-in_err-files-clause-still

@@ -4,8 +4,12 @@ use Rattle.disk.specs.{seen}
 use Rattle.manifest.specs.declared.line.TheConstants.{MAX_NEXT}
 use Rattle.manifest.specs.declared.TableLine.{TableLine}
 use Rattle.manifest.specs.{NodeVersion}
+use Rattle.engine.specs.Errors.{IsEngineExternal}
 use Rattle.engine.specs.OpenFiles.{IsTooLarge, IsWrittenTable, known_version}
 use Rattle.engine.specs.TableWriting.{IsNewLine}
+use Rattle.engine.proofs.Causes.{refuses}
+use Rattle.engine.proofs.MeantTends.{meant_again, next_was_fresh, next_was_opened}
+use Rattle.engine.proofs.MeantTends.{next_was_written}
 use Rattle.engine.proofs.Spills.{has_spilled, held_again, next_is_fresh, next_is_opened}
 use Rattle.engine.proofs.Spills.{next_is_written}
 use Rattle.engine.proofs.store_files.StoreFiles.spill.Goals as goal
@@ -104,3 +108,90 @@ returns-clause-any_moment g c = λ list honest h.
     (g.D.Disk.past c.open.new.disk) (g.D.Disk.state c.write_table.new.disk)
     (g.D.Disk.state c.open.new.disk) (c.write_table.ensures.any_moment honest)
     (c.open.ensures.still (c.write_table.ensures.kept.honest.1 honest))
+
+-- ---- damaged tables
+
+pub returns-in_err-line-clause-meant : goal.returns-in_err-line-clause-meant
+returns-in_err-line-clause-meant g c = λ list honest w.
+    let disk = g.D.Disk.state c.args.disk.now in
+    let files = c.args.self.now in
+    let next = c.behind-self.inside.next_file in
+    let at : next ≡ (known_version files).version.next_file =
+    ap (λ (n : NodeVersion). n.version.next_file) (c.behind-self.view_is ∙ c.state.ensures) in (
+      refuses c.from_residual.result _ IsEngineExternal c.from_residual.ensures.1
+          (c.in_err-line.ensures.written honest (next_was_fresh disk files list w next at)),
+      next_was_written disk files list w next at c.durable_file_is_left.ensures
+          c.held_versions_are_left.ensures.left c.held_versions_are_left.ensures.same
+          (g.D.Disk.past c.args.disk.now) (g.D.Disk.past c.write_table.new.disk)
+          (g.D.Disk.state c.write_table.new.disk) (c.write_table.ensures.any_moment honest),
+    )
+
+pub returns-in_default-clause-meant : goal.returns-in_default-clause-meant
+returns-in_default-clause-meant g c = λ list honest w.
+    let disk = g.D.Disk.state c.args.disk.now in
+    let files = c.args.self.now in
+    let next = c.behind-self.inside.next_file in
+    let at : next ≡ (known_version files).version.next_file =
+    ap (λ (n : NodeVersion). n.version.next_file) (c.behind-self.view_is ∙ c.state.ensures) in
+    let new = g.D.Disk.state c.write_table.new.disk in
+    let stays = c.held_versions_are_left.ensures.same in
+    let told = subst (λ (o : Option TableLine). MatchOption o
+    (IsTooLarge files.memtable × IsNone (seen (new next)))
+    (IsWrittenTable new files.memtable next)) c.in_default.is
+    (c.in_ok-line.ensures.written honest (next_was_fresh disk files list w next at)) in (
+      (
+        told.0,
+        meant_again disk files list w next at stays new (c.write_table.ensures.kept.files honest)
+            told.1,
+      ),
+      next_was_written disk files list w next at c.durable_file_is_left.ensures
+          c.held_versions_are_left.ensures.left stays (g.D.Disk.past c.args.disk.now)
+          (g.D.Disk.past c.write_table.new.disk) new (c.write_table.ensures.any_moment honest),
+    )
+
+pub returns-in_err-table-clause-meant : goal.returns-in_err-table-clause-meant
+returns-in_err-table-clause-meant g c = λ list honest w.
+    let disk = g.D.Disk.state c.args.disk.now in
+    let files = c.args.self.now in
+    let next = c.behind-self.inside.next_file in
+    let at : next ≡ (known_version files).version.next_file =
+    ap (λ (n : NodeVersion). n.version.next_file) (c.behind-self.view_is ∙ c.state.ensures) in
+    let mid = g.D.Disk.state c.write_table.new.disk in
+    let between = c.write_table.ensures.kept.honest.1 honest in
+    let told = subst (λ (o : Option TableLine). MatchOption o
+    (IsTooLarge files.memtable × IsNone (seen (mid next)))
+    (IsWrittenTable mid files.memtable next)) c.in-Some.is
+    (c.in_ok-line.ensures.written honest (next_was_fresh disk files list w next at)) in (
+      refuses c.from_residual-in_err-table.result _ IsEngineExternal
+          c.from_residual-in_err-table.ensures.1
+          (c.in_err-table.ensures.opened told.table between told.is),
+      next_was_opened disk files list w next at c.durable_file_is_left.ensures
+          c.held_versions_are_left.ensures.left c.held_versions_are_left.ensures.same
+          (g.D.Disk.past c.args.disk.now) (g.D.Disk.past c.write_table.new.disk)
+          (g.D.Disk.past c.open.new.disk) mid (g.D.Disk.state c.open.new.disk)
+          (c.write_table.ensures.any_moment honest) (c.open.ensures.still between),
+    )
+
+pub returns-clause-meant : goal.returns-clause-meant
+returns-clause-meant g c = λ list honest w.
+    let disk = g.D.Disk.state c.args.disk.now in
+    let files = c.args.self.now in
+    let next = c.behind-self.inside.next_file in
+    let at : next ≡ (known_version files).version.next_file =
+    ap (λ (n : NodeVersion). n.version.next_file) (c.behind-self.view_is ∙ c.state.ensures) in
+    let mid = g.D.Disk.state c.write_table.new.disk in
+    let new = g.D.Disk.state c.open.new.disk in
+    let between = c.write_table.ensures.kept.honest.1 honest in
+    let told = subst (λ (o : Option TableLine). MatchOption o
+    (IsTooLarge files.memtable × IsNone (seen (mid next)))
+    (IsWrittenTable mid files.memtable next)) c.in-Some.is
+    (c.in_ok-line.ensures.written honest (next_was_fresh disk files list w next at)) in (
+      has_spilled disk mid new files next c.in-Some.line c.in_ok-table.table at
+          (c.write_table.ensures.kept.files honest) (c.open.ensures.kept.files between) told
+          (c.in_ok-table.ensures.opened told.table between told.is),
+      next_was_opened disk files list w next at c.durable_file_is_left.ensures
+          c.held_versions_are_left.ensures.left c.held_versions_are_left.ensures.same
+          (g.D.Disk.past c.args.disk.now) (g.D.Disk.past c.write_table.new.disk)
+          (g.D.Disk.past c.open.new.disk) mid new (c.write_table.ensures.any_moment honest)
+          (c.open.ensures.still between),
+    )

@@ -22,7 +22,7 @@ returns-in-Err-clause-started g c = λ x n honest read.
 -- a refused opening leaves at every moment what the disk left before
 pub returns-in-Err-clause-any_moment : goal.returns-in-Err-clause-any_moment
 returns-in-Err-clause-any_moment g c = λ x n m honest rests.
-    c.in-Err.ensures.any_moment (facts_for x n) n.list (facts_for x m) m.list honest rests
+    (c.in-Err.ensures.any_moment (facts_for x n) n.list (facts_for x m) m.list honest).whole rests
 
 -- .. and one for the files no more than was there
 pub returns-in-Err-clause-still : goal.returns-in-Err-clause-still
@@ -44,7 +44,7 @@ returns-in-Ok-clause-told g c = λ honest.
 pub returns-in-Ok-clause-any_moment : goal.returns-in-Ok-clause-any_moment
 returns-in-Ok-clause-any_moment g c = λ x n m honest rests.
     subst (λ d. AlwaysRefines g.D.Disk c.args.disk d x n m) (sym c.run_opened.ensures.disk)
-    (c.in-Ok.ensures.any_moment (facts_for x n) n.list (facts_for x m) m.list honest rests)
+    ((c.in-Ok.ensures.any_moment (facts_for x n) n.list (facts_for x m) m.list honest).whole rests)
 
 -- what the engine keeps of its disk, a refusal does
 pub returns-in-Err-clause-kept : goal.returns-in-Err-clause-kept

@@ -4,8 +4,9 @@ use Rattle.std.proofs.lemmas.Result.{err_from_is_err_and}
 use Rattle.std.specs.Prelude.{IsSomeAnd}
 use Rattle.disk.specs.{seen}
 use Rattle.table_format.specs.{IsFilterPart, IsIndex, TableRepresents}
-use Rattle.sorted_table.specs.Tails.{HasTail, ReadsTail}
-use Rattle.sorted_table.proofs.OpenTails.{some_more, tail_there}
+use Rattle.sorted_table.specs.Tails.{HasReadTail, HasTail, ReadsTail}
+use Rattle.sorted_table.proofs.OpenTails.{parts_there, read_there, refused_so, some_both, some_more}
+use Rattle.sorted_table.proofs.OpenTails.{tail_there}
 use Rattle.sorted_table.proofs.table.Table.open.Goals as goal
 
 some_and : {A : Type 0} (P : A → Type 0) (o : Option A) → IsSomeAnd o P
@@ -49,13 +50,46 @@ pub returns-clause-checked : goal.returns-clause-checked
 returns-clause-checked g c = λ honest.
     let old = g.D.Disk.state c.args.disk.now c.args.file in
     let lines = rc_slice_items c.in_ok-lines.lines in
+    let part = c.in_ok-bytes.bytes.items in
     let tail = c.in_ok-bytes.tail in
+    let there = c.in_ok-bytes.ensures.there honest in
     let checked = c.in_ok-lines.ensures.checked in
+    let is = c.deref.ensures.value in (
+      subst (λ (file : Option (List ℕ)).
+          IsSomeAnd file (λ bytes. HasTail bytes lines c.in_ok-lines.filter.items))
+          (sym (ap seen (c.read_tail.ensures.kept.files honest c.args.file)))
+          (some_more (ReadsTail part tail) _ (seen old) there (λ bytes read.
+          tail_there bytes part c.in_ok-lines.filter.items tail lines read
+          (subst (λ (b : List ℕ).
+          IsFilterPart (take tail.filter_len b) c.in_ok-lines.filter.items) is checked.0)
+          (subst (λ (b : List ℕ). IsIndex (drop tail.filter_len b) tail.place lines) is
+          checked.1))),
+      λ others filter has.
+          let it = some_both (ReadsTail part tail) _ (seen old) there has in
+          let both = parts_there it.0 others filter it.2 part tail it.1 in
+          checked.2 others (subst (λ (b : List ℕ).
+          IsIndex (drop tail.filter_len b) tail.place others) (sym is) both.1),
+    )
+
+-- a file that a table can be open on is refused only by the environment
+pub returns-in_err-bytes-clause-checked : goal.returns-in_err-bytes-clause-checked
+returns-in_err-bytes-clause-checked g c = λ honest.
+    let slot = g.D.Disk.state c.args.disk.now c.args.file in
+    refused_so c.from_residual.result _ _ c.from_residual.ensures.1
+    (λ can. c.in_err-bytes.ensures.there honest (some_more _ HasReadTail (seen slot) can
+    (λ bytes it. read_there bytes it.0 it.1 it.2)))
+
+pub returns-in_err-lines-clause-checked : goal.returns-in_err-lines-clause-checked
+returns-in_err-lines-clause-checked g c = λ honest.
+    let slot = g.D.Disk.state c.args.disk.now c.args.file in
+    let part = c.in_ok-bytes.bytes.items in
+    let tail = c.in_ok-bytes.tail in
     let is = c.deref.ensures.value in
-    subst (λ (file : Option (List ℕ)). IsSomeAnd file (λ bytes. HasTail bytes lines c.in_ok-lines.filter.items))
-    (sym (ap seen (c.read_tail.ensures.kept.files honest c.args.file)))
-    (some_more (ReadsTail c.in_ok-bytes.bytes.items tail) _ (seen old)
-    (c.in_ok-bytes.ensures.there honest) (λ bytes read.
-    tail_there bytes c.in_ok-bytes.bytes.items c.in_ok-lines.filter.items tail lines read
-    (subst (λ (b : List ℕ). IsFilterPart (take tail.filter_len b) c.in_ok-lines.filter.items) is checked.0)
-    (subst (λ (b : List ℕ). IsIndex (drop tail.filter_len b) tail.place lines) is checked.1)))
+    refused_so c.from_residual-in_err-lines.result _ _ c.from_residual-in_err-lines.ensures.1
+    (λ can.
+    let it = some_both (ReadsTail part tail) _ (seen slot) (c.in_ok-bytes.ensures.there honest)
+    can in
+    let both = parts_there it.0 it.2.0 it.2.1 it.2.2 part tail it.1 in
+    inr (c.in_err-lines.ensures.checked it.2.1 it.2.0
+    (subst (λ (b : List ℕ). IsFilterPart (take tail.filter_len b) it.2.1) (sym is) both.0)
+    (subst (λ (b : List ℕ). IsIndex (drop tail.filter_len b) tail.place it.2.0) (sym is) both.1)))
