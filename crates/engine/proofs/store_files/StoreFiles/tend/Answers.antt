@@ -7,6 +7,7 @@ use Rattle.engine.proofs.Tends.{tells_rewrite}
 use Rattle.engine.specs.Errors.{IsEngineExternal}
 use Rattle.engine.proofs.Causes.{refuses}
 use Rattle.engine.proofs.Meant.{logs_are_held}
+use Rattle.engine.proofs.MeantTends.{manifest_holds, not_called}
 use Rattle.engine.proofs.store_files.StoreFiles.tend.Goals as goal
 
 -- ---- a rewrite is due
