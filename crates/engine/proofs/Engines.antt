@@ -3,6 +3,7 @@ use Rattle.std.proofs.Common.{◌≡◌, ℕ, List, Result, Ok, Err, inl, inr, r
 use Rattle.std.proofs.Common.{sym, ap, subst, ◌∙◌, Bool, false}
 use Rattle.std.specs.Prelude.{◌⊎◌, ◌↔◌, IfErr, IfOk, IsErrAnd, IsErrOf, IsTrue, MatchResult, OnOk}
 use Rattle.std.specs.Prelude.{is_err}
+use Rattle.kv_types.specs.declared.Limits.{Limits}
 use Rattle.kv_types.specs.{BatchContent}
 use Rattle.disk.specs.declared.Disk.{Ghosts}
 use Rattle.disk.specs.{AlwaysLeaves, Contents, DurableFileIsLeft, IsCrashOutcome, IsSame}

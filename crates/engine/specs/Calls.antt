@@ -108,11 +108,11 @@ pub record IsNewEngine {D : Type 0} {g : Ghosts D} (x : ℕ) (ids : List ℕ) (l
 
 -- an opened engine has these limits, and knows only the batches below the floor to be
 -- committed; its disk has no file that its version does not name
-pub record IsJustOpened {D : Type 0} {g : Ghosts D} (limits : Limits) (engine : Engine D g) : Type 0
+pub record IsJustOpened {D : Type 0} {g : Ghosts D} (given : Limits) (engine : Engine D g) : Type 0
   where
     pub works : HasEnded engine → ⊥
     pub committed : (look_ups engine).committed ≡ (look_ups engine).facts.floor
-    pub limits : (look_ups engine).limits ≡ limits
+    pub limits : (look_ups engine).limits ≡ given
     pub swept : HasOnlyFiles g engine (engine_files engine)
 
 -- the engine tells these facts, and its disk represents them and the list

@@ -282,7 +282,7 @@ StateFollows is_honest state failures past (Down disk) (to_node.Stop junk) new =
 
 -- a node in the old state took this input, with this fault armed, and these limits if it was
 -- started: its new state and its outcome
-pub record HasDispatched {D : Type 0} (g : Ghosts D) (limits : Limits) (fault : Fault)
+pub record HasDispatched {D : Type 0} (g : Ghosts D) (given : Limits) (fault : Fault)
     (node_input : NodeInput) (old new : NodeState D g) (did : StepOutcome) : Type 0 where
   pub ready : StateIsReady new
   pub refines : (x : ℕ) (n : Machine) → StateRefines g.is_honest g.state old x n →
@@ -305,7 +305,7 @@ pub record HasDispatched {D : Type 0} (g : Ghosts D) (limits : Limits) (fault : 
   pub forgets : g.is_honest (disk_in old) → fault_of (g.marks (disk_in old)) ≡ None →
       fault_of (g.marks (disk_in new)) ≡ None
   -- a node that is up has the given limits, if it was down or had those
-  pub limits : StateHasLimits old limits → StateHasLimits new limits
+  pub limits : StateHasLimits old given → StateHasLimits new given
 
 -- ---- the lines of an outcome
 

@@ -110,10 +110,10 @@ abbrev pub HaveLimits : List SimNode → Limits → Type 0
 HaveLimits sims limits = All (λ sim. StateHasLimits sim.state limits) sims
 
 -- these nodes were just created with this configuration and these limits, in this order
-pub record AreCreated (config ids : List ℕ) (limits : Limits) (sims : List SimNode) : Type 0 where
+pub record AreCreated (config ids : List ℕ) (given : Limits) (sims : List SimNode) : Type 0 where
   pub nodes : map (λ sim. sim.id) sims ≡ ids
   pub each : All (IsCreated config) sims
-  pub limits : HaveLimits sims limits
+  pub limits : HaveLimits sims given
 
 -- the report of a node that is this machine and has this disk, at the end of a run
 pub record IsLeft (n : Machine) (own : Slots) (left : NodeReport) : Type 0 where
