@@ -233,14 +233,8 @@ returns-in_ok-install-in-Some-clause-meant g c = λ list honest w.
     let were : MeantAndSpilled mid files list c.in-Some.made =
     record { before = disk; meant = w; spilled = told } in
     let then = c.in_ok-install-in-Some.ensures.meant list
-    (c.spill.ensures.kept.honest.1 honest) were in
-    let next = subst (λ (o : Option Flushed). MatchOption o Unit
-    (λ it. IsNextTable (known_version files).version it.line)) c.in-Some.is
-    c.in_ok-made.ensures.line in (
-      (
-        then.0,
-        (c.in-Some.made.line, next, c.in_ok-install-in-Some.ensures.told.1.1),
-      ),
+    (c.spill.ensures.kept.honest.1 honest) were in (
+      (then.0, returns-in_ok-install-in-Some-clause-work g c),
       join (WereMeant (known_facts files) list) disk mid (g.D.Disk.state c.install.new.disk)
           (g.D.Disk.past c.args.disk.now) (g.D.Disk.past c.spill.new.disk)
           (g.D.Disk.past c.install.new.disk) both.1 then.1,
