@@ -62,6 +62,7 @@ after_append files logs memtable = record {
   logs = logs;
   tables = files.tables;
   memtable = memtable;
+  free_file = files.free_file;
 }
 
 pub trimmed_same : (files : StoreFiles) (logs : BatchLogs) (memtable : Memtable)
@@ -90,6 +91,7 @@ usable_after files u logs memtable lines are next room numbered = record {
         floor_count = let le = u.numbers.floor_count in omega (arith, le, next);
         few = omega (arith, next, room);
       });
+  free = u.free;
 }
 
 -- ---- what the disk represents
@@ -246,8 +248,10 @@ module _ (disk : State) (files : StoreFiles) (list : List BatchContent)
         };
         unused = λ other le.
             let given = (newest_given files h.known.usable).1 in
+            let first = h.known.usable.free in
             subst (λ (s : Slot). IsNone (seen s))
-            (sym (others other (λ same. omega (arith, same, le, given)))) (h.unused other le);
+            (sym (others other (λ same. omega (arith, same, le, first, given))))
+            (h.unused other le);
       }
 
 -- ---- what an append told

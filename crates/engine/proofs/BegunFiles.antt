@@ -78,6 +78,7 @@ pub record AreFirst (files : StoreFiles) (one : BatchLog) (id : ℕ) (ids : List
   pub tables : table_lines files.tables ≡ (known_version files).version.tables
   pub memtable_works : HasFailedAdd files.memtable → ⊥
   pub empty : (entry : Entry) → TableHolds files.memtable entry → ⊥
+  pub free : files.free_file ≡ (known_version files).version.next_file
 
 module _ (files : StoreFiles) (one : BatchLog) (id : ℕ) (ids : List ℕ)
     (f : AreFirst files one id ids) where
@@ -117,6 +118,7 @@ module _ (files : StoreFiles) (one : BatchLog) (id : ℕ) (ids : List ℕ)
     tables = f.tables;
     memtable = none_numbered files.memtable f.memtable_works f.empty (batch_count files);
     numbers = first_numbers;
+    free = f.free;
   }
 
   first_store : EmptyRepresents → StoreRepresents [] (known_store files [])
@@ -160,7 +162,8 @@ module _ (files : StoreFiles) (one : BatchLog) (id : ℕ) (ids : List ℕ)
       each = All-nil IsBatch;
     };
     unused = λ file above. unused file
-        (subst (λ (v : NodeVersion). v.version.next_file ≤ file) f.known above);
+        (subst (λ (v : NodeVersion). v.version.next_file ≤ file) f.known
+        (subst (λ (n : ℕ). n ≤ file) f.free above));
   }
 
 -- nothing stands in an empty list

@@ -20,7 +20,8 @@ use Rattle.manifest.specs.Versions.{with_table}
 use Rattle.manifest.specs.VersionsLemmas.{all_logs_left, all_tables_left}
 use Rattle.manifest.specs.{IsChange, IsFit, IsLogLine, IsTableLine, StoreVersion, changed}
 use Rattle.engine.specs.StoreFiles.{begun_log, flush_change}
-use Rattle.engine.specs.Tending.{IsNextTable, LacksPlace}
+use Rattle.engine.specs.TableWriting.{IsNewLine}
+use Rattle.engine.specs.Tending.{LacksPlace}
 use Rattle.engine.proofs.KeptFiles.{some_is_given}
 use Rattle.engine.proofs.LevelLemmas.{either}
 
@@ -146,14 +147,15 @@ same_ids : (ids : List ℕ) → keeps_ids ids ids ≡ true
 same_ids [] = refl
 same_ids (x ∷ ids) = same_part (x ∷ ids)
 
-module _ (version : StoreVersion) (is : IsVersion version) (count : ℕ) (line : TableLine)
-    (place : LacksPlace version → ⊥) (few : count ≤ MAX_NUMBER) (rises : version.flushed ≤ count)
-    (next : IsNextTable version line) where
+module _ (version : StoreVersion) (is : IsVersion version) (free : ℕ)
+    (above : version.next_file ≤ free) (count : ℕ) (line : TableLine)
+    (place : LacksPlace version free → ⊥) (few : count ≤ MAX_NUMBER)
+    (rises : version.flushed ≤ count) (next : IsNewLine free line) where
   abbrev begun : LogLine
-  begun = begun_log version count
+  begun = begun_log free count
 
   abbrev after : StoreVersion
-  after = changed version (flush_change version count line)
+  after = changed version (flush_change version free count line)
 
   few_tables : length version.tables < 4096
   few_tables =
@@ -165,42 +167,44 @@ module _ (version : StoreVersion) (is : IsVersion version) (count : ℕ) (line :
       let no : (4096 ≤ length version.logs) → ⊥ = λ le. place (inl (inr le)) in
       omega (arith, no)
 
-  next_few : version.next_file + 2 ≤ MAX_NEXT
-  next_few =
-      let no : (MAX_NEXT < version.next_file + 2) → ⊥ = λ lt. place (inr lt) in
+  free_few : free + 2 ≤ MAX_NEXT
+  free_few =
+      let no : (MAX_NEXT < free + 2) → ⊥ = λ lt. place (inr lt) in
       omega (arith, no)
 
-  next_least : 3 < version.next_file
-  next_least = some_is_given version is version.logs is.lawful.some is.lines.log_files
+  free_least : 3 < free
+  free_least =
+      let least = some_is_given version is version.logs is.lawful.some is.lines.log_files in
+      omega (arith, least, above)
 
-  log_files : All (λ (l : LogLine). l.file < version.next_file) version.logs
+  log_files : All (λ (l : LogLine). l.file < free) version.logs
   log_files = All-weaker (λ (l : LogLine). IsGiven version l.file)
-      (λ (l : LogLine). l.file < version.next_file) (λ l given. given.1) version.logs
+      (λ (l : LogLine). l.file < free) (λ l given. omega (arith, given.1, above)) version.logs
       is.lines.log_files
 
-  table_files : All (λ (l : TableLine). l.file < version.next_file) version.tables
+  table_files : All (λ (l : TableLine). l.file < free) version.tables
   table_files = All-weaker (λ (l : TableLine). IsGiven version l.file)
-      (λ (l : TableLine). l.file < version.next_file) (λ l given. given.1) version.tables
+      (λ (l : TableLine). l.file < free) (λ l given. omega (arith, given.1, above)) version.tables
       is.lines.table_files
 
-  -- a number from the next one on is new
-  new_file : (file : ℕ) → version.next_file ≤ file → file < version.next_file + 2
-      → is_new_file version (flush_change version count line) file ≡ true
+  -- a number from the free one on is new
+  new_file : (file : ℕ) → free ≤ file → file < free + 2
+      → is_new_file version (flush_change version free count line) file ≡ true
   new_file file low high =
-      let least = next_least in
+      let least = free_least in
       let no_log = list_any_none (λ (l : LogLine). l.file == file) version.logs
-      (All-weaker (λ (l : LogLine). l.file < version.next_file)
+      (All-weaker (λ (l : LogLine). l.file < free)
       (λ (l : LogLine). (l.file == file) ≡ false)
       (λ l lt. ne_eqb l.file file (λ same. omega (arith, same, lt, low))) version.logs
       log_files) in
       let no_table = list_any_none (λ (l : TableLine). l.file == file) version.tables
-      (All-weaker (λ (l : TableLine). l.file < version.next_file)
+      (All-weaker (λ (l : TableLine). l.file < free)
       (λ (l : TableLine). (l.file == file) ≡ false)
       (λ l lt. ne_eqb l.file file (λ same. omega (arith, same, lt, low))) version.tables
       table_files) in
       rw (
         le-leb 3 file (omega (arith, least, low)),
-        lt-ltb file (version.next_file + 2) high,
+        lt-ltb file (free + 2) high,
         no_log,
         no_table,
       ) refl
@@ -243,17 +247,17 @@ module _ (version : StoreVersion) (is : IsVersion version) (count : ℕ) (line :
       (map-append log_file l.front (begun ∷ l.back))
       ∙ ap (λ (x : List ℕ). (map log_file l.front ++ begun.file ∷ map log_file l.back) ++ x)
       (map-append table_file t.front (line ∷ t.back)) in
-      let less : All (λ m. m < version.next_file) (files_of version.logs version.tables) =
-      All-append (λ m. m < version.next_file) (map log_file version.logs)
+      let less : All (λ m. m < free) (files_of version.logs version.tables) =
+      All-append (λ m. m < free) (map log_file version.logs)
       (map table_file version.tables)
-      (All-map (λ m. m < version.next_file) log_file version.logs log_files)
-      (All-map (λ m. m < version.next_file) table_file version.tables table_files) in
-      let new : begun.file ≡ suc version.next_file = omega arith in
+      (All-map (λ m. m < free) log_file version.logs log_files)
+      (All-map (λ m. m < free) table_file version.tables table_files) in
+      let new : begun.file ≡ suc free = omega arith in
       let two = once_two (map log_file l.front) (map log_file l.back) (map table_file t.front)
-      (map table_file t.back) version.next_file (subst (All (λ m. m < version.next_file)) were less)
+      (map table_file t.back) free (subst (All (λ m. m < free)) were less)
       (subst (λ (x : List ℕ). are_once x ≡ true) were is.lawful.files_once) in
       let log_is = subst (λ (n : ℕ). are_once ((map log_file l.front ++ n ∷ map log_file l.back)
-      ++ (map table_file t.front ++ version.next_file ∷ map table_file t.back)) ≡ true)
+      ++ (map table_file t.front ++ free ∷ map table_file t.back)) ≡ true)
       (sym new) two in
       subst (λ (x : List ℕ). are_once x ≡ true) (sym are)
       (subst (λ (n : ℕ). are_once ((map log_file l.front ++ begun.file ∷ map log_file l.back)
@@ -274,10 +278,10 @@ module _ (version : StoreVersion) (is : IsVersion version) (count : ℕ) (line :
             (subst (λ (x : List TableLine). all_apart x ≡ true) t.parted is.lawful.apart));
       }
 
-  pub flush_fit : IsFit version (flush_change version count line)
+  pub flush_fit : IsFit version (flush_change version free count line)
   flush_fit = record {
     numbers = record {
-      next_file = omega arith;
+      next_file = omega (arith, above);
       floor = omega arith;
       flushed = rises;
       epoch = omega arith;
@@ -285,15 +289,15 @@ module _ (version : StoreVersion) (is : IsVersion version) (count : ℕ) (line :
     ids = same_ids version.ids;
     there = record { logs = refl; logs_once = refl; tables = refl; tables_once = refl };
     new = record {
-      logs = rw (new_file (version.next_file + 1) (omega arith) (omega arith)) refl;
+      logs = rw (new_file (free + 1) (omega arith) (omega arith)) refl;
       tables = rw (new_file line.file (omega (arith, next.file)) (omega (arith, next.file))) refl;
     };
     lawful = flush_lawful;
   }
 
-  pub flush_change_is : IsChange (flush_change version count line)
+  pub flush_change_is : IsChange (flush_change version free count line)
   flush_change_is = record {
-    next_file = next_few;
+    next_file = free_few;
     floor = is.floor;
     flushed = few;
     epoch = is.epoch;
@@ -302,7 +306,7 @@ module _ (version : StoreVersion) (is : IsVersion version) (count : ℕ) (line :
     logs_added = (
       omega arith,
       All-cons IsLogLine begun []
-          (omega (arith, next_few), (omega arith, omega (arith, few))) (All-nil IsLogLine),
+          (omega (arith, free_few), (omega arith, omega (arith, few))) (All-nil IsLogLine),
     );
     tables_gone = (omega arith, All-nil _);
     tables_added = (omega arith, All-cons IsTableLine line [] next.proper (All-nil IsTableLine));

@@ -137,12 +137,12 @@ edited left lines before table more = record {
 
 -- ---- together
 
-module _ (version : StoreVersion) (count : ℕ) (line : TableLine) where
+module _ (version : StoreVersion) (free count : ℕ) (line : TableLine) where
   abbrev pub after : StoreVersion
-  after = changed version (flush_change version count line)
+  after = changed version (flush_change version free count line)
 
   abbrev pub begun : LogLine
-  begun = begun_log version count
+  begun = begun_log free count
 
   -- the new log stands last
   pub logs_after : All (λ (old : LogLine). old.first ≤ suc count) version.logs
@@ -161,7 +161,7 @@ module _ (version : StoreVersion) (count : ℕ) (line : TableLine) where
       ap before_newest same ∙ newest_behind version.logs begun ∙ less
 
 pub flushes_represent : FlushesKeep → FlushesRepresent
-flushes_represent keeps facts list line left other files flushed manifest =
+flushes_represent keeps facts list free line left other files flushed manifest =
     let behind = length-drop facts.kept list in
     let le = files.store.kept_floor in
     let floor = files.store.floor_count in
@@ -172,12 +172,12 @@ flushes_represent keeps facts list line left other files flushed manifest =
     let firsts : All (λ (old : LogLine). old.first ≤ suc (length list)) files.version.logs =
     subst (λ (n : ℕ). All (λ (old : LogLine). old.first ≤ n) files.version.logs) (sym end)
     (firsts_within other (suc facts.kept) files.version.logs (drop facts.kept list) logs) in
-    let is = logs_after files.version (length list) line firsts in
+    let is = logs_after files.version free (length list) line firsts in
     let more = one_more_table other files.version.tables files.tables line flushed.table
     (tables_same left other files.version.tables files.tables flushed.tables files.read)
     flushed.read in
     record {
-      version = after files.version (length list) line;
+      version = after files.version free (length list) line;
       manifest = manifest;
       epoch = files.epoch;
       ids = files.ids;
@@ -185,17 +185,17 @@ flushes_represent keeps facts list line left other files flushed manifest =
       logs = subst (λ (l : List LogLine). HaveBatches other (suc facts.kept) l
           (drop facts.kept list)) (sym is)
           (one_more_log other (suc facts.kept) files.version.logs (drop facts.kept list)
-          (begun files.version (length list) line) end flushed.log logs);
+          (begun files.version free (length list) line) end flushed.log logs);
       tables = more.after;
       read = subst (λ (l : List TableLine). AreTablesOf other l more.after)
-          (sym (tables_after files.version (length list) line)) more.read;
+          (sym (tables_after files.version free (length list) line)) more.read;
       store = subst (λ (n : ℕ). StoreRepresents list (record {
         tables = more.after;
         flushed = length list;
         floor = files.version.floor;
         kept = facts.kept;
         current = n;
-      })) (sym (newest_after files.version (length list) line is))
+      })) (sym (newest_after files.version free (length list) line is))
           (keeps list (store_of_version files.version facts.kept files.tables) flushed.table
           more.after files.store flushed.flush
           (edited other (with_table files.version.tables line) files.tables flushed.table more));

@@ -182,31 +182,38 @@ first_begun logs after file lines =
 -- the edit that was made is that of the flush
 pub edit_is : (files : StoreFiles) (line : TableLine) (named : NodeVersion) (count : ℕ)
     (edit : Change) → named ≡ known_version files → count ≡ batch_count files
-    → edit ≡ flush_change named.version count line
-    → edit ≡ flush_change (known_version files).version (batch_count files) line
+    → edit ≡ flush_change named.version files.free_file count line
+    → edit ≡ flush_change (known_version files).version files.free_file (batch_count files) line
 edit_is files line named count edit same counted is =
-    is ∙ ap (λ (n : NodeVersion). flush_change n.version count line) same
-    ∙ ap (λ (n : ℕ). flush_change (known_version files).version n line) counted
+    is ∙ ap (λ (n : NodeVersion). flush_change n.version files.free_file count line) same
+    ∙ ap (λ (n : ℕ). flush_change (known_version files).version files.free_file n line) counted
 
 module _ (files : StoreFiles) (u : AreUsableFiles files) (line : TableLine)
-    (place : LacksPlace (known_version files).version → ⊥)
-    (next : IsNextTable (known_version files).version line) (file : ℕ)
-    (at : file ≡ (known_version files).version.next_file + 1) (edit : Change)
-    (is : edit ≡ flush_change (known_version files).version (batch_count files) line) where
+    (place : LacksPlace (known_version files).version files.free_file → ⊥)
+    (next : IsNextTable files line) (file : ℕ) (at : file ≡ files.free_file + 1) (edit : Change)
+    (is : edit ≡ flush_change (known_version files).version files.free_file (batch_count files) line)
+  where
   abbrev version : StoreVersion
   version = (known_version files).version
 
+  abbrev free : ℕ
+  free = files.free_file
+
   abbrev flush_of : Change
-  flush_of = flush_change version (batch_count files) line
+  flush_of = flush_change version free (batch_count files) line
+
+  -- no file that was given is free
+  pub free_above : version.next_file ≤ free
+  free_above = let same = u.free in omega (arith, same)
 
   abbrev after : StoreVersion
   after = changed version flush_of
 
   fits_flush : IsFit version flush_of × IsChange flush_of
   fits_flush = (
-    flush_fit version u.version (batch_count files) line place u.numbers.few u.numbers.flushed_count
-        next,
-    flush_change_is version u.version (batch_count files) line place u.numbers.few
+    flush_fit version u.version free free_above (batch_count files) line place u.numbers.few
+        u.numbers.flushed_count next,
+    flush_change_is version u.version free free_above (batch_count files) line place u.numbers.few
         u.numbers.flushed_count next,
   )
 
@@ -229,7 +236,8 @@ module _ (files : StoreFiles) (u : AreUsableFiles files) (line : TableLine)
       no_file line has same =
           let given = log_given version u.version line
           (subst (λ (l : List LogLine). Contains l line) u.lines has) in
-          omega (arith, given.1, same, at)
+          let above = free_above in
+          omega (arith, given.1, above, same, at)
 
   count_next : next_number files.logs ≡ suc (batch_count files)
   count_next =
@@ -250,8 +258,8 @@ module _ (files : StoreFiles) (u : AreUsableFiles files) (line : TableLine)
       (λ old le. omega (arith, le, next)) version.logs (subst (All P) u.lines all)
 
   -- the new log stands behind the others
-  pub logs_are : after.logs ≡ version.logs ++ begun_log version (batch_count files) ∷ []
-  logs_are = logs_after version (batch_count files) line firsts
+  pub logs_are : after.logs ≡ version.logs ++ begun_log free (batch_count files) ∷ []
+  logs_are = logs_after version free (batch_count files) line firsts
 
   lines_begun : with_line files.logs file ≡ after.logs
   lines_begun =
@@ -262,16 +270,17 @@ module _ (files : StoreFiles) (u : AreUsableFiles files) (line : TableLine)
       at ∙ sym logs_are
 
   newest_is : before_newest after.logs ≡ batch_count files
-  newest_is = newest_after version (batch_count files) line logs_are
+  newest_is = newest_after version free (batch_count files) line logs_are
 
   -- and the new table behind the others of level 0
   pub tables_are : after.tables ≡ with_flushed_line version.tables line
   tables_are =
-      tables_after version (batch_count files) line
+      tables_after version free (batch_count files) line
       ∙ flushed_lines line next.level version.tables
       (All-weaker (λ (old : TableLine). IsGiven version old.file)
       (λ (old : TableLine). old.file < line.file)
-      (λ old given. omega (arith, given.1, next.file)) version.tables u.version.lines.table_files)
+      (λ old given. let above = free_above in omega (arith, given.1, above, next.file))
+      version.tables u.version.lines.table_files)
 
   -- ---- the open files after it
 
@@ -315,8 +324,8 @@ module _ (files : StoreFiles) (u : AreUsableFiles files) (line : TableLine)
           → AreUsable new.logs
           → table_lines new.tables ≡ with_flushed_line (table_lines files.tables) line
           → (HasFailedAdd new.memtable → ⊥) → ((entry : Entry) → TableHolds new.memtable entry → ⊥)
-          → AreUsableFiles new
-      installed_usable law works logs tables adds empty =
+          → new.free_file ≡ free + 2 → AreUsableFiles new
+      installed_usable law works logs tables adds empty given =
           let was = sym known in
           record {
             works = works;
@@ -330,6 +339,7 @@ module _ (files : StoreFiles) (u : AreUsableFiles files) (line : TableLine)
             numbers = subst (λ (n : NodeVersion).
                 AreOrderedNumbers n.version (trimmed_count new) (batch_count new)) was
                 numbers_after;
+            free = given ∙ ap (λ (n : NodeVersion). n.version.next_file) was;
           }
 
   -- ---- the moments of an installation
@@ -352,20 +362,27 @@ module _ (files : StoreFiles) (u : AreUsableFiles files) (line : TableLine)
     OfStore = FilesRepresent (known_facts files) list
 
     -- a slot has a lesser number than the new files
-    slot_less : (slot : ℕ) → IsSlotFile slot → slot < version.next_file
+    slot_less : (slot : ℕ) → IsSlotFile slot → slot < free
     slot_less slot is =
+        let above = free_above in
         let least = some_is_given version u.version version.logs u.version.lawful.some
         u.version.lines.log_files in
         elim is [
-          | inl one ↦ omega (arith, one, least)
-          | inr two ↦ omega (arith, two, least)
+          | inl one ↦ omega (arith, one, least, above)
+          | inr two ↦ omega (arith, two, least, above)
         ]
 
-    log_less : (old : LogLine) → Contains version.logs old → old.file < version.next_file
-    log_less old has = (log_given version u.version old has).1
+    log_less : (old : LogLine) → Contains version.logs old → old.file < free
+    log_less old has =
+        let given = log_given version u.version old has in
+        let above = free_above in
+        omega (arith, given.1, above)
 
-    table_less : (old : TableLine) → Contains version.tables old → old.file < version.next_file
-    table_less old has = (table_given version u.version old has).1
+    table_less : (old : TableLine) → Contains version.tables old → old.file < free
+    table_less old has =
+        let given = table_given version u.version old has in
+        let above = free_above in
+        omega (arith, given.1, above)
 
     pub spilled_named : NamedHold s1 version files.logs trimmed tables list
     spilled_named = named_in s0 version files.logs trimmed tables list (record {
@@ -518,7 +535,7 @@ module _ (files : StoreFiles) (u : AreUsableFiles files) (line : TableLine)
 
       module _ (s3 : State) (slot : ℕ) (is_slot : IsSlotFile slot) (same : IsSameBut slot s2 s3)
         where
-          stays_behind : (file : ℕ) → version.next_file ≤ file → s3 file ≡ s2 file
+          stays_behind : (file : ℕ) → free ≤ file → s3 file ≡ s2 file
           stays_behind file above = same file
               (λ is. let lt = slot_less slot is_slot in omega (arith, is, lt, above))
 
@@ -567,7 +584,9 @@ module _ (files : StoreFiles) (u : AreUsableFiles files) (line : TableLine)
               let was = hs.held.known.count in
               let flushed : (known_version new).version.flushed ≡ batch_count files =
               ap (λ (n : NodeVersion). n.version.flushed) now in
-              let next_file = ap (λ (n : NodeVersion). n.version.next_file) now in
+              let next_file : (known_version new).version.next_file ≡ free + 2 =
+              ap (λ (n : NodeVersion). n.version.next_file) now in
+              let first = usable.free in
               let held = subst (λ (l : BatchLogs). LogsHold s3 l (suc trimmed) (drop trimmed list))
               (sym of) last.held in
               let P : TableLine → Type 0 = λ old. IsDurable (s3 old.file) in
@@ -598,8 +617,8 @@ module _ (files : StoreFiles) (u : AreUsableFiles files) (line : TableLine)
                 };
                 unused = λ other above.
                     subst (λ (s : Slot). IsNone (seen s)) (sym (stays_behind other
-                    (omega (arith, above, next_file))
-                    ∙ spares other (λ is. omega (arith, is, above, next_file, at))
-                    ∙ hs.spilled.spares other (λ is. omega (arith, is, above, next_file))))
-                    (hs.held.unused other (omega (arith, above, next_file)));
+                    (omega (arith, above, first, next_file))
+                    ∙ spares other (λ is. omega (arith, is, above, first, next_file, at))
+                    ∙ hs.spilled.spares other (λ is. omega (arith, is, above, first, next_file))))
+                    (hs.held.unused other (omega (arith, above, first, next_file)));
               }

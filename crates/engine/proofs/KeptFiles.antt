@@ -244,6 +244,7 @@ with_manifest files manifest = record {
   logs = files.logs;
   tables = files.tables;
   memtable = files.memtable;
+  free_file = files.free_file;
 }
 
 module _ (disk : State) (files : StoreFiles) (list : List BatchContent)
@@ -302,7 +303,7 @@ module _ (disk : State) (files : StoreFiles) (list : List BatchContent)
       ManifestHolds new manifest (known_version files) →
       ((line : LogLine) → Contains version.logs line → new line.file ≡ disk line.file) →
       ((line : TableLine) → Contains version.tables line → new line.file ≡ disk line.file) →
-      ((file : ℕ) → version.next_file ≤ file → IsNone (seen (new file))) →
+      ((file : ℕ) → files.free_file ≤ file → IsNone (seen (new file))) →
       FilesHold new (with_manifest files manifest) list
   held_with new manifest holds logs_stay same unused =
       subst (λ (named : NodeVersion). FilesHold new (with_manifest files
@@ -316,6 +317,7 @@ module _ (disk : State) (files : StoreFiles) (list : List BatchContent)
             tables = h.usable.tables;
             memtable = h.usable.memtable;
             numbers = h.usable.numbers;
+            free = h.usable.free;
           };
           manifest = subst (λ (named : NodeVersion). ManifestHolds new (with_version manifest named)
               (known_version files)) holds.knows holds;
@@ -342,7 +344,7 @@ module _ (disk : State) (files : StoreFiles) (list : List BatchContent)
 
   -- where the named files stay, and no file has a number that was not given, the open files hold it
   pub stay_held : HeldVersionStays → (new : State) → SparesFiles (kept_files version) disk new →
-      ((file : ℕ) → version.next_file ≤ file → IsNone (seen (new file))) →
+      ((file : ℕ) → files.free_file ≤ file → IsNone (seen (new file))) →
       FilesHold new files list
   stay_held held_stays new keeps unused =
       held_with new files.manifest (held_stays disk new files.manifest (known_version files)
@@ -356,7 +358,8 @@ module _ (disk : State) (files : StoreFiles) (list : List BatchContent)
   settled_hold held_stays new keeps alone =
       stay_held held_stays new keeps (λ file above. alone file (λ has.
       let below = kept_is_given version h.usable.version file has in
-      absurd (omega (arith, above, below))))
+      let first = h.usable.free in
+      absurd (omega (arith, above, first, below))))
 
 -- open files hold what they held where every file is the same
 pub hold_in : (old new : State) (files : StoreFiles) (list : List BatchContent) →

@@ -34,8 +34,9 @@ use Rattle.engine.specs.StoreFiles.{WereMeant, flush_change}
 use Rattle.engine.specs.Tending.{HasSpilled, HeldAndSpilled, IsNextTable, LacksPlace}
 use Rattle.engine.specs.Tending.{MeantAndSpilled}
 use Rattle.engine.proofs.FlushedTables.{all_flushed}
-use Rattle.engine.proofs.Installed.{NamedHold, after_is, installed_holds, known, log_no_slot}
-use Rattle.engine.proofs.Installed.{manifest_begun, named_new, named_old, new_ends, new_served}
+use Rattle.engine.proofs.Installed.{NamedHold, after_is, free_above, installed_holds, known}
+use Rattle.engine.proofs.Installed.{log_no_slot, manifest_begun, named_new, named_old, new_ends}
+use Rattle.engine.proofs.Installed.{new_served}
 use Rattle.engine.proofs.Installed.{old_served, spilled_manifest, spilled_named, table_no_slot}
 use Rattle.engine.proofs.Installed.{tables_are}
 use Rattle.engine.proofs.KeptFiles.{kept_is_given, named_logs_in, one_served_in, slot_is_kept}
@@ -68,9 +69,9 @@ all_before P (other ∷ lines) line all = elim (either (other.level == 0)) [
 
 -- a table that was written is one on each disk that has its file
 abbrev written_in : (old new : State) (files : StoreFiles) (line : TableLine)
-    → (w : IsWrittenTable old files.memtable (known_version files).version.next_file line)
+    → (w : IsWrittenTable old files.memtable files.free_file line)
     → new line.file ≡ old line.file
-    → IsWrittenTable new files.memtable (known_version files).version.next_file line
+    → IsWrittenTable new files.memtable files.free_file line
 written_in old new files line w same = record {
   table = w.table;
   is = table_same (contents old) (contents new) line w.table (ap seen same) w.is;
@@ -84,17 +85,23 @@ written_in old new files line w same = record {
 }
 
 module _ (files : StoreFiles) (u : AreUsableFiles files) (line : TableLine)
-    (place : LacksPlace (known_version files).version → ⊥)
-    (next : IsNextTable (known_version files).version line) (file : ℕ)
-    (at : file ≡ (known_version files).version.next_file + 1) (edit : Change)
-    (is : edit ≡ flush_change (known_version files).version (batch_count files) line) (s1 : State)
-    (list : List BatchContent) (one : OpenTable)
+    (place : LacksPlace (known_version files).version files.free_file → ⊥)
+    (next : IsNextTable files line) (file : ℕ) (at : file ≡ files.free_file + 1) (edit : Change)
+    (is : edit ≡ flush_change (known_version files).version files.free_file (batch_count files) line)
+    (s1 : State) (list : List BatchContent) (one : OpenTable)
     (ms : MeantAndSpilled s1 files list (record { line = line; table = one })) where
   abbrev version : StoreVersion
   version = (known_version files).version
 
+  abbrev free : ℕ
+  free = files.free_file
+
+  -- no file that was given is free
+  above : version.next_file ≤ free
+  above = free_above files u line place next file at edit is
+
   abbrev after : StoreVersion
-  after = changed version (flush_change version (batch_count files) line)
+  after = changed version (flush_change version free (batch_count files) line)
 
   abbrev s0 : State
   s0 = ms.before
@@ -117,13 +124,17 @@ module _ (files : StoreFiles) (u : AreUsableFiles files) (line : TableLine)
   abbrev Meant : Contents → Type 0
   Meant = WereMeant (known_facts files) list
 
-  -- a file that no version has named is no table's
-  new_beside : (other : ℕ) → version.next_file ≤ other
-      → All (λ line. line.file ≢ other) version.tables
-  new_beside = unnamed_beside version u.version
+  -- a file that is free is no table's
+  new_beside : (other : ℕ) → free ≤ other → All (λ line. line.file ≢ other) version.tables
+  new_beside other least =
+      let first = above in
+      unnamed_beside version u.version other (omega (arith, first, least))
 
-  table_less : (old : TableLine) → Contains version.tables old → old.file < version.next_file
-  table_less old has = kept_is_given version u.version old.file (table_is_kept version old has)
+  table_less : (old : TableLine) → Contains version.tables old → old.file < free
+  table_less old has =
+      let first = above in
+      let lt = kept_is_given version u.version old.file (table_is_kept version old has) in
+      omega (arith, lt, first)
 
   t0 : TablesAsMeant s0 m0 version.tables
   t0 = tables_of_meant s0 m0 version files.tables ms.meant.disk_is
@@ -142,7 +153,7 @@ module _ (files : StoreFiles) (u : AreUsableFiles files) (line : TableLine)
     before = m0;
     held = ms.meant.hold;
     spilled = record {
-      spares = follow_but s0 m0 version.tables t0 s1 version.next_file ms.spilled.spares;
+      spares = follow_but s0 m0 version.tables t0 s1 free ms.spilled.spares;
       written = written_in s1 m1 files line ms.spilled.written line_stays;
       served = one_served_in s1 m1 line one table line_stays ms.spilled.written.is
           ms.spilled.served;
@@ -172,7 +183,7 @@ module _ (files : StoreFiles) (u : AreUsableFiles files) (line : TableLine)
         unnamed_is_left s1 m1 version u.version files.logs trimmed tables list spilled_is t1
         files.manifest (known_version files).id
         (spilled_manifest files u line place next file at edit is m1 list one meant_spilled stays)
-        stays law held file (omega (arith, at)) left leaves
+        stays law held file (let first = above in omega (arith, first, at)) left leaves
 
     -- before the first call
     pub none_were : (past : List State) → LeavesSince s1 past s1 past Meant
@@ -316,7 +327,8 @@ module _ (files : StoreFiles) (u : AreUsableFiles files) (line : TableLine)
         line_last : s3 line.file ≡ s2 line.file
         line_last = same line.file (λ here.
             let lt = kept_is_given version u.version slot (slot_is_kept version slot is_slot) in
-            omega (arith, here, lt, next.file))
+            let first = above in
+            omega (arith, here, lt, first, next.file))
 
         -- the tables that are open then were meant to be served
         pub all_served : WereServed s3 m3 files.tables tables × WasServed s3 m3 one table

@@ -1,6 +1,6 @@
--- A rewrite of the manifest, and a table written into the next file, on a disk with damaged blocks
--- of tables.
-use Rattle.std.proofs.Common.{◌≡◌, ◌≢◌, ℕ, List, [], arith, subst, sym}
+-- A rewrite of the manifest, and a table written into a free file, on a disk with damaged blocks of
+-- tables.
+use Rattle.std.proofs.Common.{◌≡◌, ◌≢◌, ◌≤◌, ℕ, List, [], arith, subst, sym}
 use Rattle.std.specs.Prelude.{All, Contains, IsNone}
 use Rattle.std.proofs.lemmas.List.Elements.{All-contains}
 use Rattle.kv_types.specs.{BatchContent}
@@ -120,11 +120,14 @@ module _ (disk : State) (files : StoreFiles) (list : List BatchContent)
             w.disk_is);
       }
 
-  -- ---- a table in the next file
+  -- ---- a table in the first free file
 
-  module _ (next : ℕ) (is : next ≡ version.next_file) where
+  module _ (next : ℕ) (is : next ≡ files.free_file) where
+    next_least : version.next_file ≤ next
+    next_least = let first = w.hold.known.usable.free in omega (arith, is, first)
+
     next_beside : All (λ line. line.file ≢ next) version.tables
-    next_beside = unnamed_beside version w.hold.known.usable.version next (omega (arith, is))
+    next_beside = unnamed_beside version w.hold.known.usable.version next next_least
 
     -- the file is fresh
     pub next_was_fresh : IsFresh (disk next) []
@@ -162,7 +165,7 @@ module _ (disk : State) (files : StoreFiles) (list : List BatchContent)
           weaker (IsLeftAt disk next (λ left. Unit {0})) Meant disk past new since
           (λ left at. unnamed_is_left disk w.meant version w.hold.known.usable.version files.logs
           trimmed w.hold.known.tables list named as_meant files.manifest known.id
-          w.hold.known.manifest stays law held next (omega (arith, is)) left at.others) run
+          w.hold.known.manifest stays law held next next_least left at.others) run
 
       -- and of calls behind them that leave nothing new
       pub next_was_opened : (past so_far since : List State) (mid new : State)

@@ -183,14 +183,20 @@ facts_are facts id epoch ids floor kept a b c d e =
     ∙ ap (λ (x : ℕ).
     record { id = facts.id; epoch = facts.epoch; ids = facts.ids; floor = facts.floor; kept = x }) e
 
--- the open files with these parts
-abbrev pub files_of_parts : Manifest → ReadParts → StoreFiles
-files_of_parts manifest parts = record {
+-- the open files with these parts, of which this file is the first that is free
+abbrev pub files_with : Manifest → ReadParts → ℕ → StoreFiles
+files_with manifest parts free = record {
   manifest = manifest;
   logs = parts.logs;
   tables = parts.tables;
   memtable = parts.memtable;
+  free_file = free;
 }
+
+-- the open files with these parts
+abbrev pub files_of_parts : Manifest → ReadParts → StoreFiles
+files_of_parts manifest parts =
+    files_with manifest parts (version_of manifest).version.next_file
 
 module _ (facts : Facts) (list : List BatchContent) (left : Contents)
     (h : FilesRepresent facts list left) where
@@ -324,6 +330,7 @@ usable_of manifest parts works p = record {
   tables = p.tables;
   memtable = p.logs.numbered;
   numbers = p.numbers;
+  free = refl;
 }
 
 pub opens_as : (s0 s1 s2 : State) → SparesOthers s0 s1 → (manifest : Manifest) (parts : ReadParts)

@@ -1,4 +1,4 @@
--- The files of a store while entries in memory are written as a table into the next file.
+-- The files of a store while entries in memory are written as a table into a free file.
 use Rattle.std.proofs.Common.{◌≡◌, ◌≢◌, ◌≤◌, ◌∙◌, ℕ, List, [], Contains}
 use Rattle.std.proofs.Common.{arith, inl, inr, refl, subst, sym, ap}
 use Rattle.std.specs.Prelude.{IsNone}
@@ -29,7 +29,7 @@ unused_is_fresh (Kept bytes kept touches) none = absurd cc
 
 -- the table that was written and then opened
 pub has_spilled : (old mid new : State) (files : StoreFiles) (file : ℕ) (line : TableLine)
-    (it : OpenTable) → file ≡ (known_version files).version.next_file →
+    (it : OpenTable) → file ≡ files.free_file →
     IsSameBut file old mid → IsSame mid new →
     (w : IsWrittenTable mid files.memtable file line) → IsServed new it w.table →
     HasSpilled old new files (record { line = line; table = it })
@@ -50,7 +50,7 @@ has_spilled old mid new files file line it at spares same w served = record {
 
 module _ (disk : State) (files : StoreFiles) (list : List BatchContent)
     (h : FilesHold disk files list) (next : ℕ)
-    (is : next ≡ (known_version files).version.next_file) where
+    (is : next ≡ files.free_file) where
   abbrev version : StoreVersion
   version = (known_version files).version
 
@@ -61,7 +61,8 @@ module _ (disk : State) (files : StoreFiles) (list : List BatchContent)
   kept_no_next : (file : ℕ) → Contains (kept_files version) file → file ≢ next
   kept_no_next file has same =
       let below = kept_is_given version h.known.usable.version file has in
-      omega (arith, same, is, below)
+      let first = h.known.usable.free in
+      omega (arith, same, is, first, below)
 
   -- where the next file is gone again, the open files hold what they held
   pub held_again : HeldVersionStays → (new : State) → IsSameBut next disk new →
@@ -70,7 +71,7 @@ module _ (disk : State) (files : StoreFiles) (list : List BatchContent)
       stay_held disk files list h.known held_stays new
       (λ file has. spares file (kept_no_next file has)) unused
     where
-      unused : (file : ℕ) → version.next_file ≤ file → IsNone (seen (new file))
+      unused : (file : ℕ) → files.free_file ≤ file → IsNone (seen (new file))
       unused file above = elim (cases_eq file next) as (λ _. IsNone (seen (new file))) [
         | inl here ↦ subst (λ (f : ℕ). IsNone (seen (new f))) (sym here) none
         | inr apart ↦ subst (λ (slot : Slot). IsNone (seen slot)) (sym (spares file apart))

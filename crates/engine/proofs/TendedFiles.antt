@@ -3,7 +3,6 @@ use Rattle.std.proofs.Common.{◌≡◌, ◌+◌, ◌∙◌, ℕ, arith, sym}
 use Rattle.disk.specs.{IsSameBut, State}
 use Rattle.manifest.specs.{counting_file, spare_file}
 use Rattle.engine.specs.declared.store_files.StoreFiles.{StoreFiles}
-use Rattle.engine.specs.OpenFiles.{known_version}
 use Rattle.engine.specs.Tending.{IsSameBeside, tended_files}
 
 module _ (files : StoreFiles) (old new : State) where
@@ -17,13 +16,13 @@ module _ (files : StoreFiles) (old new : State) where
       IsSameBeside (tended_files files) old new
   spare_alone same file other = same file (λ is. other (1, omega arith, sym is))
 
-  -- of the next file
-  pub table_alone : IsSameBut (known_version files).version.next_file old new →
+  -- of the first free file
+  pub table_alone : IsSameBut files.free_file old new →
       IsSameBeside (tended_files files) old new
   table_alone same file other = same file (λ is. other (2, omega arith, sym is))
 
   -- and of the one behind it
-  pub log_alone : (at : ℕ) → at ≡ (known_version files).version.next_file + 1 →
+  pub log_alone : (at : ℕ) → at ≡ files.free_file + 1 →
       IsSameBut at old new → IsSameBeside (tended_files files) old new
   log_alone at is same file other = same file (λ here. other (3, omega arith, sym (here ∙ is)))
 

@@ -112,8 +112,9 @@ module _ (disk : State) (files : StoreFiles) (list : List BatchContent)
       (λ line has. spares line.file
       (λ same. table_no_slot line has (subst IsSlotFile (sym same) is))) unused
     where
-      unused : (file : ℕ) → version.next_file ≤ file → IsNone (seen (new file))
+      unused : (file : ℕ) → files.free_file ≤ file → IsNone (seen (new file))
       unused file above = subst (λ (one : Slot). IsNone (seen one)) (sym (spares file (λ same.
           let below = kept_is_given version h.known.usable.version slot
           (slot_is_kept version slot is) in
-          omega (arith, same, below, above)))) (h.unused file above)
+          let first = h.known.usable.free in
+          omega (arith, same, below, first, above)))) (h.unused file above)

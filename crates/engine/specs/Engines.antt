@@ -61,7 +61,7 @@ module _ {D : Type 0} {g : Ghosts D} where
   abbrev pub engine_files : Engine D g → List ℕ
   engine_files engine = kept_files (known_version engine.store).version
 
-  -- the files that a tend of it may change: the slots, the next file, and the one behind it
+  -- the files that a tend of it may change: the slots, the first free file, and the one behind it
   abbrev pub files_of_tend : Engine D g → List ℕ
   files_of_tend engine = tended_files engine.store
 

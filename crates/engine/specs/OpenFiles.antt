@@ -117,7 +117,8 @@ pub record AreCounted (store : StoreFiles) (number : ℕ) : Type 0 where
   pub committed : number ≤ batch_count store
   pub few : batch_count store ≤ MAX_NUMBER
 
--- the open files can take another batch
+-- The open files can take another batch. No file is under way: the first free one is that of the
+-- version.
 pub record AreUsableFiles (files : StoreFiles) : Type 0 where
   pub works : ManifestHasFailed files.manifest → ⊥
   pub version : IsVersion (known_version files).version
@@ -127,6 +128,7 @@ pub record AreUsableFiles (files : StoreFiles) : Type 0 where
   pub memtable : IsNumberedTo files.memtable (batch_count files)
   pub numbers : AreOrderedNumbers (known_version files).version (trimmed_count files)
       (batch_count files)
+  pub free : files.free_file ≡ (known_version files).version.next_file
 
 -- ---- what the open files hold
 
@@ -146,11 +148,11 @@ pub record FilesAreRead (disk : State) (files : StoreFiles) (list : List BatchCo
   pub count : batch_count files ≡ length list
   pub each : All IsBatch list
 
--- the open files hold it: besides, no file exists with a number that was not given yet
+-- the open files hold it: besides, no file exists with the number of the first free one or a greater
+-- one
 pub record FilesHold (disk : State) (files : StoreFiles) (list : List BatchContent) : Type 0 where
   pub known : FilesAreRead disk files list
-  pub unused : (file : ℕ) → (known_version files).version.next_file ≤ file →
-      IsNone (seen (disk file))
+  pub unused : (file : ℕ) → files.free_file ≤ file → IsNone (seen (disk file))
 
 -- ---- damaged tables
 

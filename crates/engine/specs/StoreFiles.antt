@@ -180,46 +180,46 @@ pub record HasFirstFiles (disk : State) (id : ℕ) (ids : List ℕ) : Type 0 whe
 
 -- ---- a flush
 
--- the log that a flush begins
-abbrev pub begun_log : StoreVersion → ℕ → LogLine
-begun_log version count = record { file = version.next_file + 1; first = suc count }
+-- the log that a flush begins behind so many batches, where this file is free
+abbrev pub begun_log : ℕ → ℕ → LogLine
+begun_log free count = record { file = free + 1; first = suc count }
 
--- the edit of a flush: the batches so far are in tables, of which this is a new one, and a new log
--- takes the next batches
-abbrev pub flush_change : StoreVersion → ℕ → TableLine → Change
-flush_change version count line = record {
-  next_file = version.next_file + 2;
+-- the edit of a flush, where this file is free: the batches so far are in tables, of which this is a
+-- new one, and a new log takes the next batches
+abbrev pub flush_change : StoreVersion → ℕ → ℕ → TableLine → Change
+flush_change version free count line = record {
+  next_file = free + 2;
   floor = version.floor;
   flushed = count;
   epoch = version.epoch;
   ids = version.ids;
   logs_gone = [];
-  logs_added = begun_log version count ∷ [];
+  logs_added = begun_log free count ∷ [];
   tables_gone = [];
   tables_added = line ∷ [];
 }
 
--- The files have what a flush writes: the table of the memtable in level 0, and a log without
--- records. The other logs and tables of the version are as they were.
+-- The files have what a flush writes, where this file is free: the table of the memtable in level 0,
+-- and a log without records. The other logs and tables of the version are as they were.
 pub record HasFlushed (list : List BatchContent) (store : StoreState) (version : StoreVersion)
-    (line : TableLine) (left other : Contents) : Type 0 where
+    (free : ℕ) (line : TableLine) (left other : Contents) : Type 0 where
   pub table : LevelTable
   pub flush : IsFlush list store table
   pub read : IsTableOf other line table
-  pub log : IsLog (other (version.next_file + 1)) []
+  pub log : IsLog (other (free + 1)) []
   pub logs : (old : LogLine) → Contains version.logs old → other old.file ≡ left old.file
   pub tables : (old : TableLine) → Contains version.tables old → other old.file ≡ left old.file
 
 -- with such files and the edit in the manifest, the list stays
 abbrev pub FlushesRepresent : Type 0
 FlushesRepresent =
-    (facts : Facts) (list : List BatchContent) (line : TableLine) (left other : Contents)
-    → (files : FilesRepresent facts list left)
-    → HasFlushed list (store_of_version files.version facts.kept files.tables) files.version line
-    left other
+    (facts : Facts) (list : List BatchContent) (free : ℕ) (line : TableLine)
+    (left other : Contents) → (files : FilesRepresent facts list left)
+    → HasFlushed list (store_of_version files.version facts.kept files.tables) files.version free
+    line left other
     → ManifestRepresents (record {
       id = facts.id;
-      version = changed files.version (flush_change files.version (length list) line);
+      version = changed files.version (flush_change files.version free (length list) line);
     }) other
     → FilesRepresent facts list other
 

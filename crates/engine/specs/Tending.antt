@@ -30,18 +30,18 @@ abbrev pub FlushIsDue : ℕ → StoreFiles → Type 0
 FlushIsDue limit files = (limit < newest_length files.logs) × HasEntry files.memtable
 
 -- A flush lacks a place in the version: there are as many tables or logs as there may be, or fewer
--- than two numbers are left for its files.
-abbrev pub LacksPlace : StoreVersion → Type 0
-LacksPlace version =
+-- than two numbers are left for its files, of which this is the first.
+abbrev pub LacksPlace : StoreVersion → ℕ → Type 0
+LacksPlace version free =
     ((4096 ≤ length version.tables) ⊎ (4096 ≤ length version.logs))
-    ⊎ (MAX_NEXT < version.next_file + 2)
+    ⊎ (MAX_NEXT < free + 2)
 
--- the files that a tend may change: the slots of the manifest, the next file, and the one behind it
+-- the files that a tend may change: the slots of the manifest, the first free file, and the one
+-- behind it
 abbrev pub tended_files : StoreFiles → List ℕ
 tended_files files =
-    counting_file files.manifest ∷ spare_file files.manifest
-    ∷ (known_version files).version.next_file
-    ∷ ((known_version files).version.next_file + 1) ∷ []
+    counting_file files.manifest ∷ spare_file files.manifest ∷ files.free_file
+    ∷ (files.free_file + 1) ∷ []
 
 -- the files but these are as they were
 abbrev pub IsSameBeside : List ℕ → State → State → Type 0
@@ -49,21 +49,21 @@ IsSameBeside files old new = (file : ℕ) → (Contains files file → ⊥) → 
 
 -- ---- a flush
 
--- the line is that of a table of level 0 in the next file
-abbrev pub IsNextTable : StoreVersion → TableLine → Type 0
-IsNextTable version = IsNewLine version.next_file
+-- the line is that of a table of level 0 in the first free file
+abbrev pub IsNextTable : StoreFiles → TableLine → Type 0
+IsNextTable files = IsNewLine files.free_file
 
 -- the version is the one after the edit of a flush with this table, recorded in the slot that counts
 pub record IsFlushedBy (line : TableLine) (old new : StoreFiles) : Type 0 where
   pub version : known_version new ≡ node_version_after (known_version old)
-      (flush_change (known_version old).version (batch_count old) line)
+      (flush_change (known_version old).version old.free_file (batch_count old) line)
   pub slots : HasSameSlots old.manifest new.manifest
 
--- The entries in memory are durably in a table of level 0, in the next file, which is open. No other
--- file changed.
+-- The entries in memory are durably in a table of level 0, in the first free file, which is open. No
+-- other file changed.
 pub record HasSpilled (old new : State) (files : StoreFiles) (it : Flushed) : Type 0 where
-  pub spares : IsSameBut (known_version files).version.next_file old new
-  pub written : IsWrittenTable new files.memtable (known_version files).version.next_file it.line
+  pub spares : IsSameBut files.free_file old new
+  pub written : IsWrittenTable new files.memtable files.free_file it.line
   pub served : IsServed new it.table written.table
 
 -- the disk had such files before, and then their entries were spilled
@@ -96,9 +96,9 @@ TellsRewrite old new tended.Full = (MAX_NUMBER ≤ generation_of old.manifest) �
 abbrev pub TellsFlush : StoreFiles → StoreFiles → Tended → Type 0
 TellsFlush old new tended.Idle = ⊥
 TellsFlush old new tended.Worked =
-    (line : TableLine) × IsNextTable (known_version old).version line × IsFlushedBy line old new
+    (line : TableLine) × IsNextTable old line × IsFlushedBy line old new
 TellsFlush old new tended.Full =
-    (LacksPlace (known_version old).version ⊎ IsTooLarge old.memtable)
+    (LacksPlace (known_version old).version old.free_file ⊎ IsTooLarge old.memtable)
     × (new ≡ old)
 
 -- What a tend of any disk did: a rewrite, a flush of entries in memory, or nothing. So it is full

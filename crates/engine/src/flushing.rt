@@ -11,6 +11,7 @@ ghost use Rattle.engine.specs.OpenFiles.{AreUsableFiles, FilesHold, HasEntry, Is
 ghost use Rattle.engine.specs.OpenFiles.{WereMeantToHold, batch_count, known_facts, known_version};
 ghost use Rattle.engine.specs.StoreFiles.{FilesRepresent, WereMeant, flush_change};
 ghost use Rattle.engine.specs.Tending.{HasSpilled, HeldAndSpilled, IsFlushedBy, IsNextTable};
+ghost use Rattle.engine.specs.TableWriting.{IsNewLine};
 ghost use Rattle.engine.specs.Tending.{IsSameBeside, LacksPlace, MeantAndSpilled, TendMayFail};
 ghost use Rattle.engine.specs.Tending.{tended_files};
 
@@ -50,35 +51,38 @@ pub(crate) fn has_entries(memtable: &Memtable) -> Result<bool, EngineError>
     Ok(cursor.valid())
 }
 
-/// Whether a flush lacks a place in the version.
-pub(crate) fn lacks_place(version: &StoreVersion) -> bool
-    ensures { IsTrue result ↔ LacksPlace version.now.version }
+/// Whether a flush lacks a place in the version, where this file is the first that is free.
+pub(crate) fn lacks_place(version: &StoreVersion, free: u64) -> bool
+    ensures { IsTrue result ↔ LacksPlace version.now.version free }
 {
-    version.tables.len() >= 4096 || version.logs.len() >= 4096 || version.next_file > MAX_NEXT - 2
+    version.tables.len() >= 4096 || version.logs.len() >= 4096 || free > MAX_NEXT - 2
 }
 
-// The edit of a flush, where there are so many batches: a table more, and a log for the next ones.
+// The edit of a flush, where this file is the first that is free and there are so many batches: a
+// table more, and a log for the next ones.
 fn flush_edit(
     alloc: Global,
     version: &StoreVersion,
+    free: u64,
     count: Number,
     line: TableLine,
 ) -> Result<VersionEdit, AllocError>
-    requires place { LacksPlace version.now.version → ⊥ }
+    requires place { LacksPlace version.now.version free → ⊥ }
+    requires free { version.now.version.next_file ≤ free }
     requires flushed { version.now.version.flushed ≤ count }
-    requires next { IsNextTable version.now.version line }
-    ensures edit { IfOk result (λ edit. edit ≡ flush_change version.now.version count line) }
+    requires next { IsNewLine free line }
+    ensures edit { IfOk result (λ edit. edit ≡ flush_change version.now.version free count line) }
     ensures fit { IfOk result (λ edit. IsFit version.now.version edit × IsChange edit) }
 {
     let mut logs_added = Vec::new(alloc);
     logs_added.push(LogLine {
-        file: version.next_file + 1,
+        file: free + 1,
         first: count.get() + 1,
     })?;
     let mut tables_added = Vec::new(alloc);
     tables_added.push(line)?;
     Ok(VersionEdit {
-        next_file: version.next_file + 2,
+        next_file: free + 2,
         floor: version.floor,
         flushed: count.get(),
         epoch: version.epoch,
@@ -91,7 +95,7 @@ fn flush_edit(
 }
 
 impl StoreFiles {
-    /// Writes the entries in memory as a table of level 0 into the next file, and opens it. Where
+    /// Writes the entries in memory as a table of level 0 into a free file, and opens it. Where
     /// the table would pass the limit of its data there is none.
     pub(crate) fn spill<D: Disk>(
         &self,
@@ -100,10 +104,10 @@ impl StoreFiles {
     ) -> Result<Option<Flushed>, EngineError>
         requires usable { AreUsableFiles self.now }
         requires some { HasEntry self.now.memtable }
-        requires place { LacksPlace (known_version self.now).version → ⊥ }
+        requires place { LacksPlace (known_version self.now).version self.now.free_file → ⊥ }
         ensures kept { KeepsDisk D.Disk disk.old disk.new (FailsDevice result)
             (TendMayFail D.Disk disk.old self.now)
-            (IsSameBut (known_version self.now).version.next_file) }
+            (IsSameBut self.now.free_file) }
         ensures spilled { (list : List BatchContent) → D.is_honest disk.old →
             FilesHold (D.state disk.old) self.now list → MatchResult result
             (λ made. MatchOption made
@@ -116,7 +120,7 @@ impl StoreFiles {
             (HasSpilled (D.state disk.old) (D.state disk.new) self.now)) IsEngineExternal
             × AlwaysLeaves D.Disk disk.old disk.new (WereMeant (known_facts self.now) list) }
         ensures line { IfOk result (λ made. MatchOption made (IsTooLarge self.now.memtable)
-            (λ it. IsNextTable (known_version self.now).version it.line)) }
+            (λ it. IsNextTable self.now it.line)) }
         ensures opened { IfOk result (λ made. MatchOption made (Unit {0})
             (λ it. it.table.line ≡ it.line)) }
         ensures causes { IfErr result IsEnd }
@@ -129,8 +133,7 @@ impl StoreFiles {
         // laws: what a crash leaves of the files that are named
         held_versions_are_left();
         durable_file_is_left();
-        let file = self.manifest.state().next_file;
-        let Some(line) = write_table(alloc, disk, file, &self.memtable)? else {
+        let Some(line) = write_table(alloc, disk, self.free_file, &self.memtable)? else {
             return Ok(None);
         };
         let table = OpenTable::open(alloc, disk, &line)?;
@@ -146,8 +149,8 @@ impl StoreFiles {
         made: Flushed,
     ) -> Result<(), EngineError>
         requires usable { AreUsableFiles self.old }
-        requires place { LacksPlace (known_version self.old).version → ⊥ }
-        requires next { IsNextTable (known_version self.old).version made.line }
+        requires place { LacksPlace (known_version self.old).version self.old.free_file → ⊥ }
+        requires next { IsNextTable self.old made.line }
         requires opened { made.table.line ≡ made.line }
         ensures kept { KeepsDisk D.Disk disk.old disk.new (FailsDevice result)
             (HasFullSlot self.old.manifest) IsOwned }
@@ -183,12 +186,13 @@ impl StoreFiles {
         flushes_keep();
         let count = self.logs.last_number();
         let Flushed { line, table } = made;
-        let file = self.manifest.state().next_file + 1;
-        let edit = flush_edit(alloc, self.manifest.state(), count, line)?;
-        self.logs.begin(alloc, disk, file)?;
+        let free = self.free_file;
+        let edit = flush_edit(alloc, self.manifest.state(), free, count, line)?;
+        self.logs.begin(alloc, disk, free + 1)?;
         if let Err(e) = self.manifest.record(alloc, disk, &edit) {
             return Err(refusal_of_edit(e));
         }
+        self.free_file = free + 2;
         self.tables.add(table)?;
         drop(mem::replace(&mut self.memtable, Memtable::new(alloc)));
         Ok(())

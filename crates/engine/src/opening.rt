@@ -17,7 +17,7 @@ ghost use Rattle.engine.specs.OpenFiles.{OpensFor, WereMeantToHold, WereMeantToR
 ghost use Rattle.std.specs.Prelude.{All};
 ghost use Rattle.engine.specs.StoreFiles.{durably};
 ghost use Rattle.engine.specs.Settling.{AreSwept, IsReadAlike};
-ghost use Rattle.manifest.specs.{ManifestHolds};
+ghost use Rattle.manifest.specs.{ManifestHolds, version_of};
 ghost use Rattle.store_model.specs.{LevelTable};
 
 use crate::EngineError;
@@ -134,6 +134,13 @@ fn read_parts<D: Disk>(
     })
 }
 
+// The number that the version of a manifest gives to the next file.
+fn next_file_of(manifest: &Manifest) -> u64
+    ensures { result ≡ (version_of manifest.now).version.next_file }
+{
+    manifest.state().next_file
+}
+
 // Opens the store that the files represent, and removes none of them.
 fn read_files<D: Disk>(alloc: Global, disk: &mut D) -> Result<StoreFiles, EngineError>
     ensures kept { KeepsDisk D.Disk disk.old disk.new (FailsDevice result) ⊥ IsOwned }
@@ -156,11 +163,13 @@ fn read_files<D: Disk>(alloc: Global, disk: &mut D) -> Result<StoreFiles, Engine
     replays_agree(); // law: a replay has the entries that belong in memory
     let manifest = Manifest::open(alloc, disk)?;
     let parts = read_parts(alloc, disk, manifest.state())?;
+    let free_file = next_file_of(&manifest);
     Ok(StoreFiles {
         manifest,
         logs: parts.logs,
         tables: parts.tables,
         memtable: parts.memtable,
+        free_file,
     })
 }
 
@@ -191,11 +200,13 @@ impl StoreFiles {
         let tables = LevelTables::open(alloc, disk, &state.tables)?;
         let memtable = Memtable::new(alloc);
         let logs = BatchLogs::new(alloc, BatchLog { first: 1, log });
+        let free_file = next_file_of(&manifest);
         Ok(StoreFiles {
             manifest,
             logs,
             tables,
             memtable,
+            free_file,
         })
     }
 

@@ -37,6 +37,8 @@ pub(crate) struct StoreFiles {
     pub(crate) tables: LevelTables,
     // The entries of the batches that no table has.
     pub(crate) memtable: Memtable,
+    // The first file that is free: no file has this number or a greater one.
+    pub(crate) free_file: u64,
 }
 
 // What memory has of the key: a value, a deletion, or nothing.

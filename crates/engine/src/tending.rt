@@ -88,7 +88,7 @@ impl StoreFiles {
         // laws: what a crash leaves of the files that are named
         held_versions_are_left();
         durable_file_is_left();
-        if lacks_place(self.manifest.state()) {
+        if lacks_place(self.manifest.state(), self.free_file) {
             return Ok(Tended::Full);
         }
         match self.spill(alloc, disk)? {

@@ -14,7 +14,7 @@ returns-clause-fit c =
     let place = c.requires.place in
     let few : c.args.count ≤ MAX_NUMBER = omega (arith, c.get-2.ensures) in
     let same : ◌≡◌ {A = Change} (record {
-      next_file = c.version.inside.next_file + 2;
+      next_file = c.args.free + 2;
       floor = c.version.inside.floor;
       flushed = c.get-2.result;
       epoch = c.version.inside.epoch;
@@ -23,8 +23,10 @@ returns-clause-fit c =
       logs_added = c.push.new.self.items;
       tables_gone = c.new-2.result.items;
       tables_added = c.push-2.new.self.items;
-    }) (flush_change v c.args.count c.args.line) = search rules in
+    }) (flush_change v c.args.free c.args.count c.args.line) = search rules in
     subst (λ (e : Change). IsFit v e × IsChange e) (sym same) (
-      flush_fit v is c.args.count c.args.line place few c.requires.flushed c.requires.next,
-      flush_change_is v is c.args.count c.args.line place few c.requires.flushed c.requires.next,
+      flush_fit v is c.args.free c.requires.free c.args.count c.args.line place few
+          c.requires.flushed c.requires.next,
+      flush_change_is v is c.args.free c.requires.free c.args.count c.args.line place few
+          c.requires.flushed c.requires.next,
     )

@@ -1,16 +1,17 @@
-use Rattle.std.proofs.Common.{◌∙◌, suc, drop, subst, sym}
+use Rattle.std.proofs.Common.{◌∙◌, ℕ, suc, drop, subst, sym, Ok}
 use Rattle.disk.specs.{contents}
 use Rattle.disk.specs.StillLemmas.{still_more}
 use Rattle.manifest.specs.{NodeVersion, version_of}
 use Rattle.engine.specs.Errors.{IsEngineExternal}
-use Rattle.engine.specs.OpenFiles.{FilesOpenAs, OpeningRefusal}
+use Rattle.engine.specs.OpenFiles.{AreUsableFiles, FilesAreRead, FilesOpenAs, OpeningRefusal}
+use Rattle.engine.specs.OpenFiles.{OpensFor, WereMeantToRead}
 use Rattle.engine.specs.Openings.{AreParts, HasParts, PartsHold, PartsWereMeant, WereParts}
 use Rattle.engine.specs.StoreFiles.{durably}
 use Rattle.engine.proofs.BegunFiles.{manifest_is_external}
 use Rattle.engine.proofs.Causes.{answers_nothing, refuses}
 use Rattle.engine.proofs.MeantOpenings.{asked_as_meant, read_as_meant, slots_are_meant}
-use Rattle.engine.proofs.ReadFiles.{asked, end_explained, opens_as, parts_then, read_alike}
-use Rattle.engine.proofs.ReadFiles.{read_as, slots_explained, slots_stay, usable_of}
+use Rattle.engine.proofs.ReadFiles.{asked, end_explained, files_with, opens_as, parts_then}
+use Rattle.engine.proofs.ReadFiles.{read_alike, read_as, slots_explained, slots_stay, usable_of}
 use Rattle.engine.proofs.opening.read_files.Goals as goal
 
 -- slots that represent a version are opened
@@ -84,10 +85,23 @@ returns-clause-told g c = λ honest.
     let s2 = g.D.Disk.state c.read_parts.new.disk in
     let parts = c.in_ok-parts.parts in
     let had = (c.in_ok-manifest.ensures.told honest).had in
-    opens_as s0 s1 s2 (c.open.ensures.kept.files honest) c.in_ok-manifest.manifest parts
+    subst (λ (n : ℕ). FilesOpenAs (contents s0) (files_with c.in_ok-manifest.manifest parts n))
+    (sym c.next_file_of-free_file.ensures)
+    (opens_as s0 s1 s2 (c.open.ensures.kept.files honest) c.in_ok-manifest.manifest parts
     (c.version_is_one.ensures.lawful _ (contents s0) had) had
     (subst (λ (n : NodeVersion). WereParts s1 s2 n.version parts) c.state.ensures
-    (c.in_ok-parts.ensures.told (c.open.ensures.kept.honest.1 honest)))
+    (c.in_ok-parts.ensures.told (c.open.ensures.kept.honest.1 honest))))
+
+-- they can be used
+pub returns-clause-usable : goal.returns-clause-usable
+returns-clause-usable g c =
+    let manifest = c.in_ok-manifest.manifest in
+    let parts = c.in_ok-parts.parts in
+    subst (λ (n : ℕ). AreUsableFiles (files_with manifest parts n))
+    (sym c.next_file_of-free_file.ensures)
+    (usable_of manifest parts c.in_ok-manifest.ensures.works
+    (subst (λ (n : NodeVersion). AreParts n.version parts) c.state.ensures
+    c.in_ok-parts.ensures.usable))
 
 -- which the slots durably represent
 pub returns-clause-held : goal.returns-clause-held
@@ -128,7 +142,9 @@ returns-clause-opened g c = λ facts list honest.
     let usable = usable_of manifest parts c.in_ok-manifest.ensures.works
     (subst (λ (n : NodeVersion). AreParts n.version parts) c.state.ensures
     c.in_ok-parts.ensures.usable) in
-    record {
+    subst (λ (n : ℕ). OpensFor facts list (contents s0) (λ files. FilesAreRead s2 files list)
+    (λ files. WereMeantToRead s2 files list) (Ok (files_with manifest parts n)))
+    (sym c.next_file_of-free_file.ensures) (record {
       whole = λ h.
           let named : NodeVersion = record { id = facts.id; version = h.version } in
           let is = c.version_is_one.ensures.lawful named (contents s0) h.manifest in
@@ -157,4 +173,4 @@ returns-clause-opened g c = λ facts list honest.
           read_as_meant facts list (contents s0) w is s2 manifest parts were_parts usable
           (slots_stay stays s1 s2 manifest named held were.each)
           c.replays_agree.ensures stays;
-    }
+    })

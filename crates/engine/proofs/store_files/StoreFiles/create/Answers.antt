@@ -72,6 +72,7 @@ returns-clause-created g c = λ honest.
           ∙ ap (λ (n : NodeVersion). n.version.tables) (c.state.view_is ∙ c.state-state.ensures);
       memtable_works = c.new-memtable.ensures.works;
       empty = c.new-memtable.ensures.empty;
+      free = c.next_file_of-free_file.ensures;
     }) c.empty_represents.ensures s3
     (c.held_versions_are_left.ensures.same s2 s3 c.in_ok-manifest.manifest _
     (c.in_ok-manifest.ensures.created honest2

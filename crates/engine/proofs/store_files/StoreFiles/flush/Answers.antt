@@ -44,7 +44,7 @@ returns-in-None-clause-tended g c = λ list honest h.
 pub returns-in-None-clause-work : goal.returns-in-None-clause-work
 returns-in-None-clause-work g c = (
   inr (subst (λ (o : Option Flushed). MatchOption o (IsTooLarge c.args.self.now.memtable)
-      (λ it. IsNextTable (known_version c.args.self.now).version it.line)) c.in-None.is
+      (λ it. IsNextTable c.args.self.now it.line)) c.in-None.is
       c.in_ok-made.ensures.line),
   refl,
 )
@@ -81,7 +81,7 @@ pub returns-in_ok-install-in-Some-clause-work : goal.returns-in_ok-install-in-So
 returns-in_ok-install-in-Some-clause-work g c =
     let files = c.args.self.now in
     let next = subst (λ (o : Option Flushed). MatchOption o (IsTooLarge files.memtable)
-    (λ it. IsNextTable (known_version files).version it.line)) c.in-Some.is
+    (λ it. IsNextTable files it.line)) c.in-Some.is
     c.in_ok-made.ensures.line in
     (c.in-Some.made.line, next, c.in_ok-install-in-Some.ensures.told.1.1)
 
@@ -173,8 +173,8 @@ returns-then-lacks_place-clause-meant g c = λ list honest w. (
   (
     w,
     (
-      inl (subst (λ (n : NodeVersion). LacksPlace n.version) c.state.ensures
-          (c.lacks_place.ensures.0 c.if-lacks_place.true)),
+      inl (subst (λ (n : NodeVersion). LacksPlace n.version c.args.self.now.free_file)
+          c.state.ensures (c.lacks_place.ensures.0 c.if-lacks_place.true)),
       refl,
     ),
   ),
