@@ -45,6 +45,7 @@ abbrev pub oldest_first : List BatchLog → BatchLog → ℕ
 oldest_first [] newest = newest.first
 oldest_first (one ∷ others) newest = one.first
 
+-- the number of the first batch that the logs have, or will have
 abbrev pub first_number : BatchLogs → ℕ
 first_number logs = oldest_first logs.older.items logs.newest
 

@@ -30,6 +30,7 @@ pub record LookUps : Type 0 where
   pub limits : Limits
 
 module _ {D : Type 0} {g : Ghosts D} where
+  -- the facts that an engine knows of its files
   abbrev pub facts_of : Engine D g → Facts
   facts_of engine = known_facts engine.store
 
@@ -37,6 +38,7 @@ module _ {D : Type 0} {g : Ghosts D} where
   abbrev pub raised_facts : Engine D g → Facts
   raised_facts engine = facts_of engine
 
+  -- what an engine tells of itself
   abbrev pub look_ups : Engine D g → LookUps
   look_ups engine = record {
     facts = facts_of engine;

@@ -20,16 +20,19 @@ error_of_disk disk.NoFile = engine.Damaged
 error_of_disk disk.Short = engine.Damaged
 error_of_disk disk.Memory = engine.Memory
 
+-- the error of an engine for that of a log
 abbrev pub error_of_log : LogError → EngineError
 error_of_log (log.Disk e) = error_of_disk e
 error_of_log log.Memory = engine.Memory
 error_of_log log.TooLong = engine.Damaged
 error_of_log log.Failed = engine.Damaged
 
+-- the error of an engine for that of a memtable
 abbrev pub error_of_memtable : MemtableError → EngineError
 error_of_memtable table.Memory = engine.Memory
 error_of_memtable table.Failed = engine.Failed
 
+-- the error of an engine for that of a manifest
 abbrev pub error_of_manifest : ManifestError → EngineError
 error_of_manifest manifest.Disk = engine.Disk
 error_of_manifest manifest.Damaged = engine.Damaged
@@ -45,6 +48,7 @@ error_of_edit manifest.NotCreated = engine.Damaged
 error_of_edit manifest.Memory = engine.Memory
 error_of_edit manifest.Failed = engine.Damaged
 
+-- the error of an engine for that of a cursor
 abbrev pub error_of_cursor : CursorError → EngineError
 error_of_cursor cursor.Disk = engine.Disk
 error_of_cursor cursor.Damaged = engine.Damaged

@@ -80,5 +80,6 @@ neither works ends = (λ fails. absurd (works fails), λ fails. absurd (ends fai
 pub same_files : (disk : State) → IsSame disk disk
 same_files disk file = refl
 
+-- files that stay the same twice stay the same
 pub same_then_same : (old mid new : State) → IsSame old mid → IsSame mid new → IsSame old new
 same_then_same old mid new before after other = after other ∙ before other

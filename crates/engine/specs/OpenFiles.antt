@@ -96,6 +96,7 @@ trimmed_count files = first_number files.logs - 1
 abbrev pub batch_count : StoreFiles → ℕ
 batch_count files = next_number files.logs - 1
 
+-- the facts that open files know
 abbrev pub known_facts : StoreFiles → Facts
 known_facts files = record {
   id = (known_version files).id;

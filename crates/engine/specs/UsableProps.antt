@@ -6,10 +6,12 @@ use Rattle.std.proofs.Props as facts
 use Rattle.chain_model.specs.{AllDifferent}
 use Rattle.manifest.specs.Versions.{AreInOrder}
 
+-- two proofs that ids differ are one
 pub AllDifferent-prop : (ids : List ℕ) → IsProp (AllDifferent ids)
 AllDifferent-prop [] = Unit-prop
 AllDifferent-prop (x ∷ ids) = ×_prop (Bool-set _ _) (AllDifferent-prop ids)
 
+-- two proofs that lines are in order are one
 pub AreInOrder-prop : {A : Type 0} (before : A → A → Bool) (xs : List A) →
     IsProp (AreInOrder before xs)
 AreInOrder-prop before [] = Unit-prop

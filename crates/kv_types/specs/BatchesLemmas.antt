@@ -137,6 +137,7 @@ spells_batch bytes rest count edits same each some few short taken =
       each = All-from_recursion IsEdit edits each;
     }
 
+-- a batch that is read at the front of bytes is spelled there, and is lawful
 pub front_takes : (bytes : List ℕ) (x : List Edit × List ℕ) → IsBytes bytes
     → batch_at bytes ≡ Some x → Takes bytes (batch_bytes x.0) x.1 × IsBatch x.0
 unfolding batch_at
@@ -160,6 +161,7 @@ front_takes bytes x fits e =
     subst (λ (y : List Edit × List ℕ). Takes bytes (batch_bytes y.0) y.1 × IsBatch y.0)
     (some_is read x i.1) (whole, batch)
 
+-- a lawful batch is read back from the front of bytes
 pub front_again : (edits : List Edit) (rest : List ℕ) → IsBatch edits
     → batch_at (batch_bytes edits ++ rest) ≡ Some (edits, rest)
 unfolding batch_at
@@ -186,6 +188,7 @@ front_again edits rest is =
 abbrev ended : List Edit × List ℕ → Option (List Edit)
 ended read = cond (eqb (length read.1) 0) (Some read.0) None
 
+-- a batch that is read from all of the bytes is spelled so, and is lawful
 pub batch_takes : (bytes : List ℕ) (edits : List Edit) → IsBytes bytes → batch_of bytes ≡ Some edits
     → IsBatch edits × (bytes ≡ batch_bytes edits)
 unfolding batch_of
@@ -200,6 +203,7 @@ batch_takes bytes edits fits e =
     ∙ append-nil (batch_bytes a.0.0) in
     subst (λ (v : List Edit). IsBatch v × (bytes ≡ batch_bytes v)) i.1 (front.1, whole)
 
+-- a lawful batch is read back
 pub batch_again : (edits : List Edit) → IsBatch edits → batch_of (batch_bytes edits) ≡ Some edits
 unfolding batch_of
 batch_again edits is =
@@ -208,6 +212,7 @@ batch_again edits is =
     let short : ltb MAX_BATCH (length (batch_bytes edits)) ≡ false = le-ltb _ _ is.short in
     rw (short, front) refl
 
+-- no batch is spelled as the beginning of another
 pub spellings_differ : SpellingsDiffer
 spellings_differ a b rest is_a is_b same =
     let bytes : batch_bytes a ++ rest ≡ batch_bytes b ++ [] = same ∙ sym

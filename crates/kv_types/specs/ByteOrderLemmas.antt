@@ -10,6 +10,7 @@ use Rattle.kv_types.specs.Order.{IsBelow, IsStrictOrder}
 
 -- ---- the answers of `cmp`
 
+-- what compares as less is below
 pub below-Less : (a b : List ℕ) → slice_cmp nat_cmp a b ≡ Less → IsBelow a b
 below-Less [] [] e = absurd cc
 below-Less [] (y ∷ b) e = tt
@@ -31,6 +32,7 @@ nat_cmp-Equal x y same =
     by_ranked (x < y) (x ≡ y) (y < x) (nat_cmp x y) (ranked x y (nat_cmp x y) refl)
     (λ is h. absurd (omega (arith, same, h))) (λ is h. is) (λ is h. absurd (omega (arith, same, h)))
 
+-- what is below compares as less
 pub Less-below : (a b : List ℕ) → IsBelow a b → slice_cmp nat_cmp a b ≡ Less
 Less-below [] [] h = absurd h
 Less-below [] (y ∷ b) h = refl
@@ -89,6 +91,7 @@ total (x ∷ a) (y ∷ b) =
       ]
     ]
 
+-- the order of keys is strict and total
 pub below_is_strict : IsStrictOrder IsBelow
 below_is_strict = record { never = never; through = through; total = total }
 
@@ -99,6 +102,7 @@ not_below from key h = elim (total from key) [
   | inr other ↦ elim other [ inl same ↦ inl same | inr higher ↦ absurd (h higher) ]
 ]
 
+-- no key is below one that is at or below it
 pub from_below : (from key : List ℕ) → (from ≡ key) ⊎ IsBelow from key → IsBelow key from → ⊥
 from_below from key (inl same) h = never from (subst (λ k. IsBelow k from) (sym same) h)
 from_below from key (inr lower) h = never from (through from key from lower h)

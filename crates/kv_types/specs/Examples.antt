@@ -31,6 +31,7 @@ two_back from to = record { from = from; to = Some to; backward = true; limit = 
 abbrev pub ten : Span
 ten = record { from = []; to = None; backward = false; limit = 10 }
 
+-- a row of this key and value
 abbrev pub row : List ℕ → List ℕ → Row
 row key value = record { key = key; value = value }
 
@@ -59,6 +60,7 @@ pub record EntryExamples : Type 0 where
   pub deleted : IsShown 2 (all_entries changes) (entry_at (codes "a") 2 None) → ⊥
   pub hidden : IsShown 2 (all_entries changes) (entry_at (codes "a") 1 (Some (codes "2"))) → ⊥
 
+-- bytes of batches, order of keys, and a map, worked out
 pub record BatchExamples : Type 0 where
   pub spelled : batch_bytes (Put (codes "a") (codes "1") ∷ [])
       ≡ 0 ∷ 1 ∷ 1 ∷ 0 ∷ 1 ∷ 97 ∷ 0 ∷ 1 ∷ 49 ∷ []

@@ -10,6 +10,7 @@ use Rattle.std.proofs.lemmas.Nat.{be_bytes_2, from_be_bytes-to_be_bytes_2}
 use Rattle.kv_types.specs.Spelling.{text_bytes}
 use Rattle.kv_types.specs.Reading.{◌>>=◌, length_at, text_at}
 
+-- each is below 256
 abbrev pub IsBytes : List ℕ → Type 0
 IsBytes bytes = (i : ℕ) → get_or bytes i 0 < 256
 
@@ -24,6 +25,7 @@ IsBytes-take n bytes h i =
           (omega arith)
     ]
 
+-- bytes are bytes without the first
 pub IsBytes-rest : (b : ℕ) (bytes : List ℕ) → IsBytes (b ∷ bytes) → IsBytes bytes
 IsBytes-rest b bytes h i = h (suc i)
 
@@ -42,6 +44,7 @@ guard_some false x y e = (refl, e)
 abbrev done : {A : Type 0} → A → Option A
 done x = Some x
 
+-- of equal options the values are equal
 pub some_is : {A : Type 0} (x y : A) → done x ≡ done y → x ≡ y
 some_is x y e = cc
 
@@ -50,6 +53,7 @@ pub record Takes (bytes text_bytes rest : List ℕ) : Type 0 where
   pub parts : bytes ≡ text_bytes ++ rest
   pub rest_fits : IsBytes rest
 
+-- one text is taken, and then another: both are taken
 pub Takes-then : (a x b y c : List ℕ) → Takes a x b → Takes b y c → Takes a (x ++ y) c
 Takes-then a x b y c p q =
     record {
@@ -59,6 +63,7 @@ Takes-then a x b y c p q =
 
 -- ---- numbers
 
+-- a number that is read is spelled at the front
 pub number_takes : (bytes : List ℕ) (x : ℕ × List ℕ) → IsBytes bytes → length_at bytes ≡ Some x
     → Takes bytes (to_be_bytes w16 x.0) x.1
 number_takes bytes x fits e =
@@ -75,6 +80,7 @@ number_takes bytes x fits e =
       rest_fits = IsBytes-drop 2 bytes fits;
     })
 
+-- a number of two bytes is read back
 pub number_again : (n : ℕ) (rest : List ℕ) → n < 2 ^ 16
     → length_at (to_be_bytes w16 n ++ rest) ≡ Some (n, rest)
 number_again n rest lt =
@@ -84,6 +90,7 @@ number_again n rest lt =
 
 -- ---- texts
 
+-- a text that is read is spelled at the front, and within the limit
 pub text_takes : (limit : ℕ) (bytes : List ℕ) (x : List ℕ × List ℕ) → IsBytes bytes
     → text_at limit bytes ≡ Some x → Takes bytes (text_bytes x.0) x.1 × (length x.0 ≤ limit)
 unfolding text_at
@@ -111,6 +118,7 @@ text_takes limit bytes x fits e =
     subst (λ (p : List ℕ × List ℕ). Takes bytes (text_bytes p.0) p.1 × (length p.0 ≤ limit))
     (some_is made x h.1) (whole, omega arith)
 
+-- a text within the limit is read back
 pub text_again : (limit : ℕ) (bytes rest : List ℕ) → length bytes ≤ limit → limit < 2 ^ 16
     → text_at limit (text_bytes bytes ++ rest) ≡ Some (bytes, rest)
 unfolding text_at

@@ -11,6 +11,7 @@ use Rattle.kv_types.specs.Content.{BatchContent, edits_of}
 abbrev pub text_bytes : List ℕ → List ℕ
 text_bytes bytes = to_be_bytes w16 (length bytes) ++ bytes
 
+-- a put is the byte 1, key and value; a deletion the byte 2 and the key
 abbrev pub edit_bytes : Edit → List ℕ
 edit_bytes (Put key value) = 1 ∷ text_bytes key ++ text_bytes value
 edit_bytes (Delete key) = 2 ∷ text_bytes key

@@ -61,6 +61,7 @@ dropped_lines (Some why) = line.Dropped why ∷ []
 abbrev pub start_line : ℕ → Machine → Line
 start_line x n = line.Started x n.epoch (length n.list) n.committed
 
+-- the line of a start that was not dropped
 abbrev pub if_started : Option DropReason → Option (ℕ × Machine) → List Line
 if_started None None = []
 if_started None (Some at) = start_line at.0 at.1 ∷ []
@@ -71,6 +72,7 @@ abbrev pub if_tended : Option DropReason → Tended → List Line
 if_tended None did = line.Tended did ∷ []
 if_tended (Some why) did = []
 
+-- the line of an event that is no frame or reply
 abbrev pub turn_trace : EventKind → Choice → model_frame.Outcome BatchContent → List Line
 turn_trace (Start node) choice o = if_started o.dropped o.acted_on
 turn_trace (Tend node) choice o = if_tended o.dropped choice.tended
@@ -103,6 +105,7 @@ value_lines (Tend node) i s batches = []
 value_lines (Start node) i s batches = []
 value_lines (Stop node junk) i s batches = []
 
+-- the line of a reply
 abbrev pub reply_line : EventKind → model_frame.Response BatchContent → List Line
 reply_line kind (Response.Committed i k) = line.Replied (reply.Committed i k) ∷ []
 reply_line kind (Response.Shows i s batches) = value_lines kind i s batches
@@ -111,6 +114,7 @@ reply_line kind (Response.Closed i s) = []
 reply_line kind (Response.Refused i why) =
     line.Replied (reply.Refused i why) ∷ []
 
+-- the lines of replies, in order
 abbrev pub reply_lines : EventKind → List (model_frame.Response BatchContent) → List Line
 reply_lines kind replies = flat_map (reply_line kind) replies
 

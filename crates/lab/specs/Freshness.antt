@@ -43,6 +43,7 @@ ReplyIsFresh earlier (Value i s value) = AreAtMost s earlier
 ReplyIsFresh earlier (Committed i n) = Unit {0}
 ReplyIsFresh earlier (Refused i refusal) = Unit {0}
 
+-- a line of a reply is fresh after these lines
 abbrev pub LineIsFresh : List (List Line) → Line → Type 0
 LineIsFresh earlier (line.Replied reply) = ReplyIsFresh earlier reply
 LineIsFresh earlier line.Nothing = Unit {0}

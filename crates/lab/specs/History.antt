@@ -32,6 +32,7 @@ with_batch i (Tend node) later = later
 with_batch i (Start node) later = later
 with_batch i (Stop node junk) later = later
 
+-- the batches that these events submit, each with the place of its event
 abbrev pub submitted_from : ℕ → List Event → List Placed
 submitted_from i [] = []
 submitted_from i (event ∷ events) = with_batch i event.kind (submitted_from (suc i) events)
@@ -53,6 +54,7 @@ SpeaksOf B kind (Committed i n) = (batch : BatchContent) × (place B n ≡ Some 
 SpeaksOf B kind (Value i s value) = ShowsOf B kind s value
 SpeaksOf B kind (Refused i refusal) = Unit {0}
 
+-- a line of a reply speaks of these batches
 abbrev pub LineSpeaksOf : List Placed → EventKind → Line → Type 0
 LineSpeaksOf B kind (line.Replied reply) = SpeaksOf B kind reply
 LineSpeaksOf B kind line.Nothing = Unit {0}

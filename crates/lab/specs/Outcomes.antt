@@ -323,6 +323,7 @@ sent_as p to (frame.Ack epoch from committed have) =
     line.Acknowledged p from to epoch committed have
 sent_as p to _ = line.Dropped reason.NotForNodes
 
+-- the line of a frame that was sent, at this place
 abbrev pub sent_line : ℕ → Sent → Line
 sent_line p sent = sent_as p sent.to sent.frame
 

@@ -59,6 +59,7 @@ pub record Choice : Type 0 where
 abbrev pub is_honest : Slots → Type 0
 is_honest disk = Unit {0}
 
+-- the state of a disk in memory
 abbrev pub state : Slots → State
 state disk = state_of disk.slots
 

@@ -61,6 +61,7 @@ abbrev pub frames_of_step : List Line → ℕ
 frames_of_step [] = 0
 frames_of_step (line ∷ lines) = frames_in line + frames_of_step lines
 
+-- how many frames the lines of these steps show
 abbrev pub frames_in_steps : List (List Line) → ℕ
 frames_in_steps [] = 0
 frames_in_steps (step ∷ steps) = frames_of_step step + frames_in_steps steps

@@ -92,6 +92,7 @@ mem_left cursor way = left_on (map_entries cursor.map.now.entries) way (mem_posi
 abbrev pub mem_most : MemCursor → ℕ
 mem_most cursor = length (map_entries cursor.map.now.entries)
 
+-- the laws of a cursor hold of one over a memtable
 pub cursor_laws : AreCursorLaws {C = MemCursor} {S = Unit {0}} {K = Unit {0}} (λ _. tt)
     (λ _ _. Unit {0}) (λ _ c _. MemCursorHolds c) (λ _ _ _. Unit {0}) (λ _ _ _. Unit {0})
     (λ _ _. Unit {0}) (λ _ _ _. Unit {0}) mem_left mem_most

@@ -11,9 +11,11 @@ use Rattle.memtable.specs.Maps.{VersionMap}
 abbrev pub KeyList : Type 0
 KeyList = List (StoredKey × Versions)
 
+-- the keys behind this one, each with its versions
 abbrev pub keys_after : VersionMap → StoredKey → KeyList
 keys_after map key = entries_between stored_cmp (Excluded key) Unbounded map.entries
 
+-- the keys before this one, each with its versions
 abbrev pub keys_before : VersionMap → StoredKey → KeyList
 keys_before map key = entries_between stored_cmp Unbounded (Excluded key) map.entries
 

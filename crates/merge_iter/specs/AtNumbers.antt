@@ -24,6 +24,7 @@ module _ {C S : Type 0} (holds : C → S → Entry → Type 0) (sound : C → S 
   within c mode.Off way = omega arith
   within c mode.Broken way = omega arith
 
+  -- the laws of a cursor hold of a view of one
   pub at_laws : {M : Type 0} (inner : M → C) (at : M → ℕ) (m : M → Mode) (kept : M → Entry)
       → IsLawful {C = M} (λ a s. IsShown (at a) (holds (inner a) s)) (λ a s. sound (inner a) s
       × IsSettled (at a) (holds (inner a) s) (m a) (position (inner a)) (kept a))

@@ -18,14 +18,17 @@ abbrev pub Earlier : Direction → ℕ → ℕ → Type 0
 Earlier Forward i j = i < j
 Earlier Backward i j = j < i
 
+-- one of two numbers is less, or they are equal
 pub apart : (i j : ℕ) → (i < j) ⊎ ((i ≡ j) ⊎ (j < i))
 apart i j = grind arith
 
+-- an earlier place of a sorted list has the earlier entry
 pub in_turn : (way : Direction) (xs : List OwnedEntry) (i j : ℕ) (a b : Entry) → IsSortedList xs
     → Earlier way i j → position_at xs i ≡ On a → position_at xs j ≡ On b → EntryPrecedes way a b
 in_turn Forward xs i j a b rising e p q = rising i j a b e p q
 in_turn Backward xs i j a b rising e p q = rising j i b a e q p
 
+-- of two places one is earlier in a direction, or they are equal
 pub turned : (way : Direction) (i j : ℕ) → Earlier way i j ⊎ ((i ≡ j) ⊎ Earlier way j i)
 turned Forward i j = apart i j
 turned Backward i j =
@@ -55,10 +58,12 @@ earlier way xs i j a b rising p q h =
       ]
     ]
 
+-- where there is no entry, a cursor on none stands on the first
 pub off_empty : (way : Direction) (P : Entry → Type 0) (s : Position) → s ≡ Off
     → ((entry : Entry) → P entry → ⊥) → IsFirst way P s
 off_empty way P s e none = subst (λ x. IsFirst way P x) (sym e) none
 
+-- an entry that none precedes is the first
 pub on_first : (way : Direction) (P : Entry → Type 0) (s : Position) (entry : Entry) → s ≡ On entry
     → P entry → ((other : Entry) → P other → EntryPrecedes way other entry → ⊥) → IsFirst way P s
 on_first way P s entry e p least = subst (λ x. IsFirst way P x) (sym e) (p, least)
@@ -82,6 +87,7 @@ stands_first way xs P n rising here among =
           among entry p in let h : n < length xs = a.1 in omega arith)
     ]
 
+-- an entry stands within the list
 pub on_within : (xs : List OwnedEntry) (i : ℕ) (entry : Entry) → position_at xs i ≡ On entry
     → i < length xs
 on_within xs i entry e =
@@ -90,6 +96,7 @@ on_within xs i entry e =
       | inr (past, is) ↦ let h : Off ≡ On entry = sym (ap position_of is) ∙ e in cc
     ]
 
+-- an entry that is not before a place needs a list that is longer
 pub at_least : (xs : List OwnedEntry) (i n : ℕ) (entry : Entry) → position_at xs i ≡ On entry
     → (i < n → ⊥) → n < length xs
 at_least xs i n entry e late = let w : i < length xs = on_within xs i entry e in grind arith
@@ -179,6 +186,7 @@ pub read_at : (xs : List OwnedEntry) (i : ℕ) (x : OwnedEntry) (entry : Entry) 
 read_at xs i x entry w e s = let h : On entry ≡ On (entry_of x) = sym s ∙ ap position_of
     (slice_get_read xs (length xs) i x refl w e) in cc
 
+-- what holds before a place and at it holds up to it
 pub upto : (xs : List OwnedEntry) (i : ℕ) (P : Entry → Type 0) → ((k : ℕ) (entry : Entry) → k < i
     → position_at xs k ≡ On entry → P entry) → ((entry : Entry) → position_at xs i ≡ On entry
     → P entry) → (k : ℕ) (entry : Entry) → k < i + 1 → position_at xs k ≡ On entry → P entry

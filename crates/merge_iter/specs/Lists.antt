@@ -38,11 +38,13 @@ behind_if at len false e = omega arith
 behind : (at len : ℕ) → (if nat_lt at len then at + 1 else 0) ≤ len
 behind at len = behind_if at len (nat_lt at len) refl
 
+-- no more steps are left than there are entries
 pub left_within : (xs : List OwnedEntry) (at : ℕ) (way : Direction) → entries_left xs at way ≤
     length xs
 left_within xs at Forward = omega arith
 left_within xs at Backward = behind at (length xs)
 
+-- the laws of a cursor hold of one over a list
 pub list_laws : AreCursorLaws {C = ListCursor} {S = Unit {0}} {K = Unit {0}} (λ _. tt) (λ _ _. Unit {0})
     (λ _ c _. ListHolds c.entries.items) (λ _ c _. IsSortedList c.entries.items)
     (λ _ _ _. Unit {0}) (λ _ _. Unit {0}) (λ _ _ _. Unit {0})

@@ -8,6 +8,7 @@ use Rattle.merge_iter.specs.ListEntries.{entry_of}
 use Rattle.kv_types.specs.{Entry, StoredKey, stored_cmp}
 use Rattle.merge_iter.specs.Order.{entry_cmp}
 
+-- the test for less says so
 pub less_iff : (r : Ordering) → IsTrue (is_lt r) ↔ (r ≡ Less)
 less_iff Less = (λ h. refl, λ e. refl)
 less_iff Equal = (λ h. cc, λ e. cc)
@@ -23,6 +24,7 @@ before_by key e spot r b k o t =
     in
     t ∙ ap is_lt same
 
+-- an order of keys and numbers is that of their entries
 pub by_parts : (k l : StoredKey) (m n : ℕ) (a b : Entry) (r : Ordering) (t : Bool) → k ≡ a.key
     → m ≡ a.number → l ≡ b.key → n ≡ b.number → r ≡ ordering_then (stored_cmp k l)
     (nat_cmp n m) → t ≡ is_lt r → IsTrue t ↔ (entry_cmp a b ≡ Less)

@@ -83,6 +83,7 @@ module _ (at : ℕ) (S : Entry → Type 0) where
     none = none;
   }
 
+  -- an entry that is passed leaves the search ahead of what is shown
   pub judged_step : IsApart S → (start : WalkStart) (hides hides' : Bool)
       (hidden hidden' : StoredKey)
       (r : Entry) (s : Position) → IsAhead at S start (IsHidden hides hidden) (On r)
@@ -121,6 +122,7 @@ module _ (at : ℕ) (S : Entry → Type 0) where
         ]
       ]) f
 
+  -- an entry that is judged as shown is the first that is shown
   pub shown_here : (start : WalkStart) (hides hides' : Bool) (hidden hidden' : StoredKey)
       (r : Entry)
       → IsAhead at S start (IsHidden hides hidden) (On r)
@@ -137,6 +139,7 @@ module _ (at : ℕ) (S : Entry → Type 0) where
       ]) in
       (((shown, a.before.1), λ other h c. a.before.2 other h.0 h.1 c), shown)
 
+  -- where no entry is left, none is shown
   pub shown_none : (start : WalkStart) (hid : StoredKey → Type 0) → IsAhead at S start hid Off
       → IsFirst Forward (λ p. IsShown at S p × WalkMeets Forward start p) Off
   shown_none start hid a = λ other h. a.before other h.0 h.1
@@ -309,6 +312,7 @@ module _ (at : ℕ) (S : Entry → Type 0) where
   skips start false w r s c big f = before_step Backward start r s c (λ p sh m e. let z =
       (equal_parts p r e).1 in let y = sh.newest.seen.1 in omega (arith, z, y, big)) f
 
+  -- an entry that is passed on the way back leaves the search on its way
   pub judged_back : IsApart S → (start : WalkStart) (found found' : Bool) (w w' r : Entry)
       (s : Position) → IsOnTheWay found at S start w (On r)
       → IsJudgedBack at found w r found' w' false → IsFirst Backward
@@ -436,6 +440,7 @@ module _ (at : ℕ) (S : Entry → Type 0) where
     ]),
   )
 
+  -- what was found from the number of the view on is found from a greater number on
   pub late_found : (key : StoredKey) (number : ℕ) (m : Mode) (s : Position) (kept : Entry)
       → IsForward
       m → (m ≡ mode.Inner → (entry : Entry) → s ≡ On entry → EntryPrecedes Forward entry
@@ -461,6 +466,7 @@ module _ (at : ℕ) (S : Entry → Type 0) where
   late_found key number mode.Kept s kept fw late f = absurd fw
   late_found key number mode.Broken s kept fw late f = absurd fw
 
+  -- what was found after the shown entry of the key is found from there on
   pub early_found : (key : StoredKey) (number : ℕ) (r : Entry) → IsShown at S r
       → (EntryPrecedes Forward r (spot key at) → ⊥) → EntryPrecedes Forward r (spot key number)
       → (result : Result Mode CursorError) (s : Position) (kept : Entry) → IsFound Forward at S
@@ -503,10 +509,12 @@ module _ (at : ℕ) (S : Entry → Type 0) where
 -- ---- of sets with the same entries
 
 module _ (at : ℕ) (S T : Entry → Type 0) (same : IsAlike T S) where
+  -- sets of the same entries show the same
   pub shown_alike : (p : Entry) → IsShown at S p → IsShown at T p
   shown_alike p h = shown_by at T p ((same p).1 h.newest.seen.0, h.newest.seen.1) h.put
       (λ q seen k. h.newest.newest q ((same q).0 seen.0, seen.1) k)
 
+  -- a position is before the same entries of sets that are alike
   pub before_alike : (way : Direction) (start : WalkStart) (s : Position) → IsBefore way at S start
       s → IsBefore way at T start s
   before_alike way start (On r) b = ((same r).1 b.0, b.1, λ p sh. b.2 p (shown_back p sh))
@@ -519,6 +527,7 @@ module _ (at : ℕ) (S T : Entry → Type 0) (same : IsAlike T S) where
       (λ q seen k. sh.newest.newest q ((same q).1 seen.0, seen.1) k))
   before_alike way start Broken b = b
 
+  -- a view that is settled over one set is settled over one that is alike
   pub settled_alike : (m : Mode) (s : Position) (kept : Entry) → IsSettled at S m s kept → IsSettled
       at T m s kept
   settled_alike mode.Inner s kept h = (h.0, h.1, shown_alike h.0 h.2)
@@ -534,9 +543,11 @@ module _ (at : ℕ) (S T : Entry → Type 0) (same : IsAlike T S) where
   other_way : IsAlike S T
   other_way entry = ((same entry).1, (same entry).0)
 
+  -- sets of the same entries show the same, both ways
   pub all_shown_alike : IsAlike (IsShown at T) (IsShown at S)
   all_shown_alike p = (shown_alike at T S other_way p, shown_alike at S T same p)
 
+  -- what was found is found in a set of the same entries
   pub found_alike : (way : Direction) (start : WalkStart) (result : Result Mode CursorError)
       (s : Position) (kept : Entry) → IsFound way at S start result s kept → IsFound way at T start
       result s kept

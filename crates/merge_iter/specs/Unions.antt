@@ -25,6 +25,7 @@ same_first way P Q (On q) same f = ((same q).0 f.0, λ other k c. f.1 other ((sa
 same_first way P Q Off same f = λ other k. f other ((same other).1 k)
 same_first way P Q Broken same f = f
 
+-- the first of a set is that of a set of the same entries
 pub first_kept : (way : Direction) (start : WalkStart) (s : Position) (P Q : Entry → Type 0)
     → IsAlike Q P → IsFirst way (λ p. P p × WalkMeets way start p) s → IsFirst way
     (λ p. Q p × WalkMeets way start p) s
@@ -47,9 +48,11 @@ one xs i c d p q = let h : Some d ≡ Some c = sym q ∙ p in cc
 
 module _ {C S : Type 0} (holds : C → S → Entry → Type 0) (sound : C → S → Type 0)
     (suits : C → S → S → Type 0) where
+  -- entries stay where nothing changes
   pub stays_same : (c : C) (s : S) → EntriesStay holds sound suits c s c s
   stays_same c s h = (h, λ entry. ((λ x. x), (λ x. x)), λ a b z. z)
 
+  -- entries that stay twice stay
   pub stays_through : (a b d : C) (s t u : S) → EntriesStay holds sound suits a s b t → EntriesStay
       holds
       sound suits b t d u → EntriesStay holds sound suits a s d u
@@ -96,6 +99,7 @@ module _ {C S : Type 0} (holds : C → S → Entry → Type 0) (sound : C → S 
       let o = there old new j c m.len e in
       (m.each j o.0 c o.1 e (each j o.0 o.1)).2 v w (all j o.0 o.1)
 
+  -- children that keep their entries stay apart
   pub children_apart : (old new : List C) (before now : S) → ChildrenKeep holds sound suits keeps most
       old
       before new now → EachChild (λ c. sound c before) old → AreApart (λ c. holds c before) old
@@ -181,6 +185,7 @@ module _ {C S : Type 0} (holds : C → S → Entry → Type 0) (sound : C → S 
     merged_within xs place.Off way = omega arith
     merged_within xs place.Broken way = omega arith
 
+    -- the laws of a cursor hold of a union
     pub merged_laws : {M : Type 0} (children : M → List C) (at : M → Place)
         → IsLawful {C = M} (λ m s. UnionHolds (λ c. holds c s) (children m))
         (λ m s. IsMerge (λ c. holds c s) position (λ c. sound c s) (children m) (at m))

@@ -34,6 +34,7 @@ module _ (at : ℕ) (S : Entry → Type 0) where
         put = refl;
       }
 
+  -- the entries that are shown at a number are the view at it
   pub shown_is_view : IsApart S → IsView at S (IsShown at S)
   shown_is_view apart key value o (inl (n, d)) = (
     (λ e. (n, shown_value key n o value e d)),

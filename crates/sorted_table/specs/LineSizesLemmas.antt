@@ -71,6 +71,7 @@ place_left_within lines place Backward bounded =
       size_parts lines (place.line + 1),
     )
 
+-- no more steps are left than the blocks have bytes
 pub steps_within : (lines : List IndexLine) (place : Option BlockPlace) (way : Direction)
     → ForSome place (IsBounded lines) → steps_left lines place way ≤ blocks_size lines
 steps_within lines None way bounded = omega arith

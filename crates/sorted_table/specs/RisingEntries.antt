@@ -25,6 +25,7 @@ pub contained_at : (entries : List Entry) (a : Entry) → (p : Contains entries 
     → slice_get entries p.0 ≡ Some a
 contained_at entries a p = slice_get_read entries (length entries) p.0 a refl p.1 (sym p.2)
 
+-- an entry at a place is one of the list
 pub at_contained : (entries : List Entry) (i : ℕ) (a : Entry) → slice_get entries i ≡ Some a
     → Contains entries a
 at_contained entries i a at =

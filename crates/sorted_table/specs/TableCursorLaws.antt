@@ -42,6 +42,7 @@ rising_of : (file : Option (List ℕ)) (entries : List Entry)
 rising_of None entries a = absurd a
 rising_of (Some bytes) entries a = a.rising
 
+-- of one file no two entries have one key and number
 pub files_apart : (file : Slot) → IsApart (FileHolds file)
 files_apart file a b p q e =
     let same = one_list file q.0 p.0 q.1 p.1 in
@@ -93,6 +94,7 @@ module _ {C S : Type 0} (g : Ghosts S) (file : C → ℕ) (lines : C → List In
   abbrev pub FileSuits : C → S → S → Type 0
   FileSuits c a b = g.is_honest a → g.is_honest b × (g.state b (file c) ≡ g.state a (file c))
 
+  -- the laws of a cursor hold of one over a table
   pub table_laws : (bounded : (c : C) → ForSome (place c) (IsBounded (lines c)))
       → AreCursorLaws {C = C} {S = S} {K = State} g.state (AreIntactFiles g)
       (λ meant c s. FileHolds (meant (file c))) ServesMeant FileSuits

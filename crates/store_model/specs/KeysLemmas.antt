@@ -10,9 +10,11 @@ use Rattle.store_model.specs.Keys.{KeyPrecedes, KeyRange, RangeHolds, AreDisjoin
 
 -- ---- a strict order
 
+-- no key precedes itself
 pub key_never : (a : StoredKey) → KeyPrecedes a a → ⊥
 key_never a h = let e : Equal ≡ Less = sym (tied_itself stored_total a) ∙ h in cc
 
+-- what precedes a key that precedes another precedes that
 pub key_chain : (a b c : StoredKey) → KeyPrecedes a b → KeyPrecedes b c → KeyPrecedes a c
 key_chain a b c h k = stored_total.trans a b c h k
 
@@ -55,6 +57,7 @@ pub disjoint_keys : (a b : KeyRange) (key : StoredKey) → AreDisjointRanges a b
 disjoint_keys a b key (inl x) p q = p.1 (precedes_upto a.greatest b.least key x q.0)
 disjoint_keys a b key (inr x) p q = q.1 (precedes_upto b.greatest a.least key x p.0)
 
+-- ranges are disjoint both ways
 pub disjoint_back : (a b : KeyRange) → AreDisjointRanges a b → AreDisjointRanges b a
 disjoint_back a b (inl x) = inr x
 disjoint_back a b (inr x) = inl x

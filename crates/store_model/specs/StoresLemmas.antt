@@ -5,6 +5,7 @@ use Rattle.std.proofs.lemmas.Option.{slice_get_within}
 use Rattle.kv_types.specs.{BatchContent, Entry, all_entries, last_edit}
 use Rattle.store_model.specs.Stores.{StoreRepresents, StoreState, store_entries}
 
+-- no entry has a number greater than that of the last batch
 pub entry_within : (l : List BatchContent) (a : Entry) → all_entries l a → a.number ≤ length l
 entry_within l a (i, batch, is, of) =
     let number = of.0 in

@@ -19,6 +19,7 @@ with_entry it entry =
     }
     else record { closed = it.closed; opened = it.opened ++ entry ∷ [] }
 
+-- a division with these entries added, in order
 abbrev pub with_entries : Division → List Entry → Division
 with_entries it [] = it
 with_entries it (entry ∷ entries) = with_entries (with_entry it entry) entries

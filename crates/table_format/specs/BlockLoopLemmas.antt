@@ -24,6 +24,7 @@ use Rattle.table_format.specs.Reading.{table_entry_at}
 entry_full : (entry : Entry) → 0 < length (entry_bytes entry)
 entry_full entry = omega (arith, entry_long entry)
 
+-- the loop over the entries of a block has read so many: these stand before the rest, in order
 pub record EntriesRead (text rest : List ℕ) (seen : ℕ) (last : Option Entry) : Type 0 where
   pub entries : List Entry
   pub passed : Passed IsTableEntry entry_bytes text rest entries
@@ -31,6 +32,7 @@ pub record EntriesRead (text rest : List ℕ) (seen : ℕ) (last : Option Entry)
   pub number : seen ≡ length entries
   pub end : last ≡ last_entry entries
 
+-- before the loop nothing has been read
 pub entries_begin : (text : List ℕ) → IsBytes text → EntriesRead text text 0 None
 entries_begin text fits =
     record {
@@ -41,6 +43,7 @@ entries_begin text fits =
       end = refl;
     }
 
+-- one more entry in order is read
 pub entries_next : (text rest : List ℕ) (seen : ℕ) (last : Option Entry) (entry : Entry) (behind : List ℕ)
     → EntriesRead text rest seen last → table_entry_at rest ≡ Some (entry, behind)
     → IfSome last (λ before. EntryPrecedes Forward before entry) → EntriesRead text behind (seen + 1) (Some entry)
@@ -54,10 +57,12 @@ entries_next text rest seen last entry behind r e follows =
       end = sym (last_push r.entries entry);
     }
 
+-- the text is that of so many entries
 pub record SpelledEntries (text : List ℕ) (count : ℕ) (all : List Entry) : Type 0 where
   pub size : count ≡ length all
   pub spelled : text ≡ flat_map entry_bytes all
 
+-- the text of a block is that of its entries
 pub block_spells : (part content text : List ℕ) (count : ℕ) → part ≡ sealed content
     → number_at w32 content ≡ Some (count, text) → (all : List Entry) → IsBlock part all → SpelledEntries text count all
 block_spells part content text count is e all x =
@@ -72,6 +77,7 @@ after_entries : (text rest : List ℕ) (seen count : ℕ) (last : Option Entry) 
 after_entries text rest seen count last part all r w x =
     split_of entry_reads entry_full text rest r.entries all r.passed (recursion_from_All IsTableEntry all x.each) w.spelled
 
+-- where a block has bytes left, an entry is read
 pub no_entry : (text rest : List ℕ) (seen count : ℕ) (last : Option Entry) (part : List ℕ) (all : List Entry)
     → EntriesRead text rest seen last → SpelledEntries text count all → IsBlock part all → 0 < length rest
     → table_entry_at rest ≡ None → ⊥
@@ -79,6 +85,7 @@ no_entry text rest seen count last part all r w x some e =
     let s = after_entries text rest seen count last part all r w x in
     never_none entry_reads rest s.after s.each s.spelled some e
 
+-- the next entry that is read is one of the block's, and comes behind the last
 pub next_entry : (text rest : List ℕ) (seen count : ℕ) (last : Option Entry) (part : List ℕ) (all : List Entry)
     (entry : Entry) (behind : List ℕ) → EntriesRead text rest seen last → SpelledEntries text count all
     → IsBlock part all → 0 < length rest → table_entry_at rest ≡ Some (entry, behind)
@@ -93,6 +100,7 @@ next_entry text rest seen count last part all entry behind r w x some e =
           (can_follow r.entries n.others entry (subst (AllPairs (EntryPrecedes Forward)) n.split x.rising)),
     )
 
+-- where no bytes are left, as many entries were read as the block counts
 pub entries_all : (text rest : List ℕ) (seen count : ℕ) (last : Option Entry) (part : List ℕ) (all : List Entry)
     → EntriesRead text rest seen last → SpelledEntries text count all → IsBlock part all → length rest ≡ 0
     → seen ≡ count
@@ -103,6 +111,7 @@ entries_all text rest seen count last part all r w x none =
     let seen_is = r.number in
     omega (arith, count_is, seen_is, ap length same)
 
+-- so many entries in order, up to the end of the text, are a block
 pub is_block : (part content text rest : List ℕ) (seen count : ℕ) (last : Option Entry) → part ≡ sealed content
     → IsBytes content → number_at w32 content ≡ Some (count, text) → EntriesRead text rest seen last
     → length rest ≡ 0 → seen ≡ count → 0 < count → IsBlockText part text
@@ -124,6 +133,7 @@ is_block part content text rest seen count last is fits e r none len some =
       end,
     )
 
+-- each entry that is read leaves fewer bytes
 pub entry_shorter : (rest : List ℕ) (entry : Entry) (behind : List ℕ) → IsBytes rest
     → table_entry_at rest ≡ Some (entry, behind) → length behind < length rest
 entry_shorter rest entry behind fits read =

@@ -24,6 +24,7 @@ sealed content = content ++ digest content
 abbrev pub be32 : ℕ → List ℕ
 be32 n = to_be_bytes w32 n
 
+-- a number in eight bytes, the most significant first
 abbrev pub be64 : ℕ → List ℕ
 be64 n = to_be_bytes w64 n
 
@@ -46,6 +47,7 @@ change_bytes None = 2 ∷ []
 abbrev pub entry_bytes : Entry → List ℕ
 entry_bytes entry = key_bytes entry.key ++ (be64 entry.number ++ change_bytes entry.value)
 
+-- entries, one behind the other
 abbrev pub entries_bytes : List Entry → List ℕ
 entries_bytes entries = flat_map entry_bytes entries
 

@@ -13,6 +13,7 @@ use Rattle.table_format.specs.Blocks.{key_bytes}
 use Rattle.table_format.specs.Reading.{as_entry, change_at, key_at, stored_number_at}
 use Rattle.table_format.specs.Reading.{table_entry_at}
 
+-- a key is read as it is spelled
 pub key_reads : Reads IsStoredKey key_bytes key_at
 unfolding key_at
 key_reads = record {
@@ -20,6 +21,7 @@ key_reads = record {
   again = λ key rest is. text_again MAX_KEY key rest is (omega arith);
 }
 
+-- a number is read as it is spelled
 pub count_reads : Reads (λ n. n ≤ MAX_NUMBER) be64 stored_number_at
 unfolding stored_number_at
 count_reads =

@@ -11,6 +11,7 @@ use Rattle.table_format.specs.Tables.{TableRepresents, different_keys, index_par
 abbrev pub of_a : Option (List ℕ) → Entry
 of_a value = record { key = codes "a"; number = 1; value = value }
 
+-- a put of 1 at the key a
 abbrev pub put_a : Entry
 put_a = of_a (Some (codes "1"))
 
@@ -22,6 +23,7 @@ single entry = record { front = []; last = entry }
 abbrev pub single_table : Entry → List ℕ → List ℕ
 single_table entry filter = table_spelling (single entry ∷ []) filter
 
+-- the bytes of a block of one entry, of its line, and of a table of it
 pub record TableExamples : Type 0 where
   pub content : block_content (put_a ∷ [])
       ≡ 0 ∷ 0 ∷ 0 ∷ 1 ∷ 0 ∷ 1 ∷ 97 ∷ 0 ∷ 0 ∷ 0 ∷ 0 ∷ 0 ∷ 0 ∷ 0 ∷ 1 ∷ 1 ∷ 0 ∷ 1 ∷ 49 ∷ []

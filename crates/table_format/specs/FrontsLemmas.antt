@@ -41,6 +41,7 @@ same_count m n x y small_m small_n is =
       s.1,
     )
 
+-- of equal options the values are equal
 pub entry_some : {A : Type 0} (x y : A) → Some x ≡ Some y → x ≡ y
 entry_some x y e = cc
 
@@ -88,11 +89,13 @@ few_entries (entry ∷ entries) =
       length-append (entry_bytes entry) (flat_map entry_bytes entries),
     )
 
+-- the length of the content of a block
 pub length-block_content : (entries : List Entry)
     → length (block_content entries) ≡ 4 + length (flat_map entry_bytes entries)
 length-block_content entries =
     length-append (be32 (length entries)) (flat_map entry_bytes entries)
 
+-- the length of a block with its digest
 pub length-block_part : (entries : List Entry)
     → length (block_part entries) ≡ 12 + length (flat_map entry_bytes entries)
 length-block_part entries =
@@ -121,6 +124,7 @@ same_block a b x y is_a is_b small_a small_b e =
 
 -- ---- blocks one behind the other
 
+-- what holds of each of two lists one behind the other holds of each of both
 pub split_each : {A : Type 0} (P : A → Type 0) (xs ys : List A) → AllByRecursion P (xs ++ ys)
     → AllByRecursion P xs × AllByRecursion P ys
 split_each P [] ys each = (tt, each)
@@ -167,6 +171,7 @@ same_data (x ∷ a) (y ∷ b) small_a small_b each_a each_b e =
 
 -- ---- the entries of a block
 
+-- the entries of a block stand between their number and the digest
 pub entries_there : (block : List ℕ) (entries : List Entry) → block ≡ block_part entries
     → take (length block - 12) (drop 4 block) ≡ entries_bytes entries
 entries_there block entries is =
@@ -180,6 +185,7 @@ entries_there block entries is =
     ∙ ap (take (length block - 12)) (drop_at (be32 (length entries)) (text ++ d) 4 refl)
     ∙ take_at text d (length block - 12) len
 
+-- no block is shorter than its number and its digest
 pub block_long : (block : List ℕ) (entries : List Entry) → block ≡ block_part entries
     → 12 ≤ length block
 block_long block entries is = omega (arith, ap length is, length-block_part entries)

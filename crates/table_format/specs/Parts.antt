@@ -33,12 +33,14 @@ pub record HasFieldRanges (it : Footer) : Type 0 where
   pub filter_len : it.filter_len < 2 ^ 32
   pub entries : it.entries < 2 ^ 64
 
+-- the part is this footer, spelled with its digest, and its fields are in range
 pub record IsFooter (part : List ℕ) (it : Footer) : Type 0 where
   pub spelled : part ≡ footer_part it
   pub ranges : HasFieldRanges it
 
 -- ---- the filter
 
+-- the part is this filter, spelled behind its length and with its digest
 pub record IsFilterPart (part filter : List ℕ) : Type 0 where
   pub spelled : part ≡ filter_part filter
   pub short : length filter < 2 ^ 32

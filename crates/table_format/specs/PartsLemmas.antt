@@ -14,6 +14,7 @@ use Rattle.table_format.specs.Reading.{as_footer, footer_at}
 use Rattle.table_format.specs.Tables.{footer_content, mark}
 use Rattle.table_format.specs.declared.footer.Footer.{Footer}
 
+-- of one text with a digest there is one content
 pub same_content : (a b : List ℕ) → sealed a ≡ sealed b → a ≡ b
 same_content a b is =
     let len : length a ≡ length b = omega (arith, ap length is, length-sealed a, length-sealed b) in
@@ -30,9 +31,11 @@ as_parts it = (it.index, (it.index_len, (it.filter, (it.filter_len, it.entries))
 abbrev fields_text : Footer → List ℕ
 fields_text it = be64 it.index ++ (be32 it.index_len ++ (be64 it.filter ++ (be32 it.filter_len ++ be64 it.entries)))
 
+-- what a footer ends in: the number of the format and the mark
 abbrev pub format_bytes : List ℕ
 format_bytes = be32 1 ++ mark
 
+-- the fields of a footer are read as they are spelled
 pub footer_reads : Reads HasFieldRanges fields_text footer_at
 unfolding footer_at
 footer_reads =
@@ -51,10 +54,12 @@ footer_again part content it is f =
     let same : content ≡ footer_content it = same_content content (footer_content it) (sym is ∙ f.spelled) in
     ap footer_at same ∙ footer_reads.again it format_bytes f.ranges
 
+-- what no footer is read from is no footer
 pub footer_none : (part content : List ℕ) → part ≡ sealed content → footer_at content ≡ None
     → (it : Footer) → IsFooter part it → ⊥
 footer_none part content is none it f = none_some (footer_at content) (it, format_bytes) none (footer_again part content it is f)
 
+-- the footer that is read is the only one that is spelled so
 pub footer_same : (part content : List ℕ) (it : Footer) (rest : List ℕ) → part ≡ sealed content
     → footer_at content ≡ Some (it, rest) → (other : Footer) → IsFooter part other
     → (other ≡ it) × (rest ≡ format_bytes)
@@ -62,6 +67,7 @@ footer_same part content it rest is read other f =
     let e : (other, format_bytes) ≡ (it, rest) = some_is (other, format_bytes) (it, rest) (sym (footer_again part content other is f) ∙ read) in
     (ap (λ (p : Footer × List ℕ). p.0) e, sym (ap (λ (p : Footer × List ℕ). p.1) e))
 
+-- what is read up to the number of the format and the mark is a footer
 pub footer_right : (part content : List ℕ) (it : Footer) (rest : List ℕ) → part ≡ sealed content → IsBytes content
     → footer_at content ≡ Some (it, rest) → rest ≡ format_bytes → IsFooter part it
 footer_right part content it rest is fits read end =
@@ -71,9 +77,11 @@ footer_right part content it rest is fits read end =
 
 -- ---- the filter
 
+-- a length of four bytes is read as it is spelled
 pub length_reads : Reads (λ n. n < 2 ^ 32) be32 (number_at w32)
 length_reads = number_reads w32 (2 ^ 32) wide32
 
+-- the length of a filter is read back
 pub filter_again : (part content filter : List ℕ) → part ≡ sealed content → IsFilterPart part filter
     → number_at w32 content ≡ Some (length filter, filter)
 filter_again part content filter is f =
@@ -81,11 +89,13 @@ filter_again part content filter is f =
     same_content content (be32 (length filter) ++ filter) (sym is ∙ f.spelled) in
     ap (number_at w32) same ∙ length_reads.again (length filter) filter f.short
 
+-- what no length is read from is no filter
 pub filter_none : (part content : List ℕ) → part ≡ sealed content → number_at w32 content ≡ None
     → (filter : List ℕ) → IsFilterPart part filter → ⊥
 filter_none part content is none filter f =
     none_some (number_at w32 content) (length filter, filter) none (filter_again part content filter is f)
 
+-- the filter that is read is the only one that is spelled so
 pub filter_same : (part content : List ℕ) (n : ℕ) (rest : List ℕ) → part ≡ sealed content
     → number_at w32 content ≡ Some (n, rest) → (filter : List ℕ) → IsFilterPart part filter
     → (filter ≡ rest) × (n ≡ length rest)
@@ -95,6 +105,7 @@ filter_same part content n rest is read filter f =
     let same : filter ≡ rest = ap (λ (p : ℕ × List ℕ). p.1) e in
     (same, sym (ap (λ (p : ℕ × List ℕ). p.0) e) ∙ ap length same)
 
+-- what is as long as its length says is a filter
 pub filter_right : (part content : List ℕ) (n : ℕ) (rest : List ℕ) → part ≡ sealed content → IsBytes content
     → number_at w32 content ≡ Some (n, rest) → n ≡ length rest → IsFilterPart part rest
 filter_right part content n rest is fits read len =
@@ -113,6 +124,7 @@ content_fits part content fits is =
 
 -- ---- a count, and what it counts
 
+-- what no number is read from is no list behind its number
 pub text_none : (part content : List ℕ) (n : ℕ) (items : List ℕ) → part ≡ sealed content
     → number_at w32 content ≡ None → part ≡ sealed (be32 n ++ items) → n < 2 ^ 32 → ⊥
 text_none part content n items is none spelled few =
@@ -120,10 +132,12 @@ text_none part content n items is none spelled few =
     none_some (number_at w32 content) (n, items) none
     (ap (number_at w32) same ∙ length_reads.again n items few)
 
+-- what stands behind a number is of bytes
 pub text_fits : (content : List ℕ) (n : ℕ) (text : List ℕ) → IsBytes content
     → number_at w32 content ≡ Some (n, text) → IsBytes text
 text_fits content n text fits e = (length_reads.takes content (n, text) fits e).0.rest_fits
 
+-- the number and the text that are read are the only ones that are spelled so
 pub same_counted : (content text items : List ℕ) (count n : ℕ) → content ≡ be32 n ++ items → n < 2 ^ 32
     → number_at w32 content ≡ Some (count, text) → (count ≡ n) × (text ≡ items)
 same_counted content text items count n is few e =

@@ -9,12 +9,14 @@ use Rattle.kv_types.specs.FieldsLemmas.{IsBytes, some_is}
 use Rattle.byte_fields.specs.{Reader}
 use Rattle.byte_fields.specs.ReadersLemmas.{Reads}
 
+-- one item more is spelled behind the others
 pub flat_push : {A : Type 0} (spell : A → List ℕ) (xs : List A) (x : A)
     → flat_map spell (xs ++ x ∷ []) ≡ flat_map spell xs ++ spell x
 flat_push spell xs x =
     flat_map-append spell xs (x ∷ []) ∙ ap (λ (b : List ℕ). flat_map spell xs ++ b)
     (flat_map-cons spell x [] ∙ append-nil (spell x))
 
+-- what holds of all and of one more holds of all with it
 pub all_push : {A : Type 0} (P : A → Type 0) (xs : List A) (x : A) → AllByRecursion P xs → P x
     → AllByRecursion P (xs ++ x ∷ [])
 all_push P [] x each is = (is, tt)
@@ -22,12 +24,14 @@ all_push P (y ∷ xs) x each is = (each.0, all_push P xs x each.1 is)
 
 -- ---- what was read so far
 
+-- a loop has read these items from the text, and the rest is left
 pub record Passed {A : Type 0} (Is : A → Type 0) (spell : A → List ℕ) (text rest : List ℕ)
     (read : List A) : Type 0 where
   pub spelled : text ≡ flat_map spell read ++ rest
   pub each : AllByRecursion Is read
   pub fits : IsBytes rest
 
+-- one item more is read
 pub passed_next : {A : Type 0} {Is : A → Type 0} {spell : A → List ℕ} {reader : Reader A}
     → Reads Is spell reader → (text rest : List ℕ) (read : List A) (a : A) (behind : List ℕ)
     → Passed Is spell text rest read → reader rest ≡ Some (a, behind)
@@ -50,6 +54,7 @@ pub record After {A : Type 0} (Is : A → Type 0) (spell : A → List ℕ) (rest
   pub spelled : rest ≡ flat_map spell after
   pub each : AllByRecursion Is after
 
+-- the items that were read begin the items that are spelled, by their spellings
 pub split_by : {A : Type 0} {Is : A → Type 0} {spell : A → List ℕ} {reader : Reader A}
     → Reads Is spell reader → ((a : A) → 0 < length (spell a)) → (rest : List ℕ) (read all : List A)
     → AllByRecursion Is read → AllByRecursion Is all → flat_map spell read ++ rest ≡ flat_map spell all
@@ -82,6 +87,7 @@ split_by {A} {Is} {spell} {reader} reads long rest (x ∷ read) (y ∷ all) each
       each = below.each;
     }
 
+-- the items that a loop has read begin the items that the text spells
 pub split_of : {A : Type 0} {Is : A → Type 0} {spell : A → List ℕ} {reader : Reader A}
     → Reads Is spell reader → ((a : A) → 0 < length (spell a)) → (text rest : List ℕ) (read all : List A)
     → Passed Is spell text rest read → AllByRecursion Is all → text ≡ flat_map spell all
@@ -116,6 +122,7 @@ next_by {A} {Is} {spell} {reader} reads rest read all (x ∷ xs) a behind each s
     let two : (x, flat_map spell xs) ≡ (a, behind) = some_is (x, flat_map spell xs) (a, behind) (sym again ∙ e) in
     record { others = xs; split = split ∙ ap (λ (h : A). read ++ h ∷ xs) (ap (λ (p : A × List ℕ). p.0) two) }
 
+-- the next item that is read is the next of those that are spelled
 pub next_of : {A : Type 0} {Is : A → Type 0} {spell : A → List ℕ} {reader : Reader A}
     → Reads Is spell reader → (rest : List ℕ) (read all : List A) (a : A) (behind : List ℕ)
     → After Is spell rest read all → 0 < length rest → reader rest ≡ Some (a, behind) → Next read all a
@@ -136,6 +143,7 @@ all_by {A} spell long rest read all (x ∷ xs) split is none =
       length-append (spell x) (flat_map spell xs),
     ))
 
+-- where nothing is left, all items were read
 pub all_read : {A : Type 0} {Is : A → Type 0} (spell : A → List ℕ) → ((a : A) → 0 < length (spell a))
     → (rest : List ℕ) (read all : List A) → After Is spell rest read all → length rest ≡ 0 → all ≡ read
 all_read spell long rest read all s none = all_by spell long rest read all s.after s.split s.spelled none
@@ -144,6 +152,7 @@ nil_of : (l : List ℕ) → length l ≡ 0 → l ≡ []
 nil_of [] e = refl
 nil_of (x ∷ l) e = absurd (omega (arith, e))
 
+-- where nothing is left, the text spells what was read
 pub text_end : {A : Type 0} {Is : A → Type 0} {spell : A → List ℕ} (text rest : List ℕ) (read : List A)
     → Passed Is spell text rest read → length rest ≡ 0 → text ≡ flat_map spell read
 text_end {A} {Is} {spell} text rest read p none =

@@ -12,6 +12,7 @@ use Rattle.table_format.specs.declared.entry.LentEntry.{LentEntry}
 
 -- ---- entries
 
+-- a key within its limit
 unfoldable pub key_at : Reader StoredKey
 key_at bytes = text_at MAX_KEY bytes
 
@@ -19,6 +20,7 @@ key_at bytes = text_at MAX_KEY bytes
 unfoldable pub stored_number_at : Reader ℕ
 stored_number_at bytes = only (λ n. nat_le n MAX_NUMBER) (number_at w64) bytes
 
+-- what an entry leaves: the byte 1 and a value, or the byte 2 for a deletion
 unfoldable pub change_at : Reader (Option (List ℕ))
 change_at [] = None
 change_at (zero ∷ rest) = None
@@ -26,9 +28,11 @@ change_at (suc zero ∷ rest) = text_at MAX_VALUE rest >>= λ value. Some (Some 
 change_at (suc (suc zero) ∷ rest) = Some (None, rest)
 change_at (suc (suc (suc b)) ∷ rest) = None
 
+-- the parts of an entry, as an entry
 abbrev pub as_entry : StoredKey × (ℕ × Option (List ℕ)) → Entry
 as_entry x = record { key = x.0; number = x.1.0; value = x.1.1 }
 
+-- an entry: its key, its number and what it leaves
 unfoldable pub table_entry_at : Reader Entry
 table_entry_at bytes = mapped as_entry (both key_at (both stored_number_at change_at)) bytes
 
@@ -46,9 +50,11 @@ lent_entry it = record {
 abbrev pub lent_line : LentLine → IndexLine
 lent_line it = record { place = it.place; len = it.len; key = lent_key it.key; number = it.number }
 
+-- the parts of an index's line, as a line
 abbrev pub as_line : ℕ × (ℕ × (StoredKey × ℕ)) → IndexLine
 as_line x = record { place = x.0; len = x.1.0; key = x.1.1.0; number = x.1.1.1 }
 
+-- a line of the index: place and length of a block, key and number of its last entry
 unfoldable pub line_at : Reader IndexLine
 line_at bytes =
     mapped as_line (both (number_at w64) (both (number_at w32) (both key_at stored_number_at)))
@@ -56,6 +62,7 @@ line_at bytes =
 
 -- ---- the footer
 
+-- the parts of a footer, as a footer
 abbrev pub as_footer : ℕ × (ℕ × (ℕ × (ℕ × ℕ))) → Footer
 as_footer x = record {
   index = x.0;
@@ -65,6 +72,7 @@ as_footer x = record {
   entries = x.1.1.1.1;
 }
 
+-- place and length of the index, those of the filter, and the number of entries
 unfoldable pub footer_at : Reader Footer
 footer_at bytes =
     mapped as_footer (both (number_at w64) (both (number_at w32) (both (number_at w64)

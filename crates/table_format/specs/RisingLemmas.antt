@@ -10,11 +10,13 @@ use Rattle.table_format.specs.Blocks.{CanFollow, last_entry}
 
 -- ---- ends
 
+-- the entry that is added is the last
 pub last_push : (entries : List Entry) (entry : Entry) → last_entry (entries ++ entry ∷ []) ≡ Some entry
 last_push [] entry = refl
 last_push (x ∷ []) entry = refl
 last_push (x ∷ y ∷ entries) entry = last_push (y ∷ entries) entry
 
+-- the last entry is one of them
 pub last_among : (entries : List Entry) (last : Entry) → last_entry entries ≡ Some last → Among last entries
 last_among [] last e = absurd cc
 last_among (x ∷ []) last e = inl (cc)
@@ -28,6 +30,7 @@ last_of_some (x ∷ y ∷ entries) some = last_of_some (y ∷ entries) (omega ar
 
 -- ---- order
 
+-- one of the entries with one more: one of them, or that one
 pub among_push : (entries : List Entry) (entry z : Entry) → Among z (entries ++ entry ∷ []) → Among z entries ⊎ (entry ≡ z)
 among_push [] entry z (inl e) = inr e
 among_push [] entry z (inr none) = absurd none
@@ -53,6 +56,7 @@ rises_push (x ∷ y ∷ entries) entry rises follows =
       rises_push (y ∷ entries) entry rises.1 follows,
     )
 
+-- entries in order with one that can follow them are in order
 pub rising_push : (entries : List Entry) (entry : Entry) → AllPairs (EntryPrecedes Forward) entries → CanFollow entries entry
     → AllPairs (EntryPrecedes Forward) (entries ++ entry ∷ [])
 rising_push entries entry rising follows =
@@ -77,6 +81,7 @@ follows_last : (entries : List Entry) (entry : Entry) (o : Option Entry) → las
 follows_last entries entry None e early = tt
 follows_last entries entry (Some last) e early = early last (last_among entries last e)
 
+-- of entries in order each can follow those before it
 pub can_follow : (entries others : List Entry) (entry : Entry) → AllPairs (EntryPrecedes Forward) (entries ++ entry ∷ others)
     → CanFollow entries entry
 can_follow entries others entry rising =

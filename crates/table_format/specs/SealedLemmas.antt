@@ -6,10 +6,12 @@ use Rattle.sha2.specs.Sha256.{sha256}
 use Rattle.sha2.proofs.Facts256.{length-sha256}
 use Rattle.table_format.specs.Blocks.{digest, sealed}
 
+-- a digest has eight bytes
 pub length-digest : (content : List ℕ) → length (digest content) ≡ 8
 unfolding digest
 length-digest content = omega (arith, length-take 8 (sha256 content), length-sha256 content)
 
+-- a text with its digest is eight bytes longer
 pub length-sealed : (content : List ℕ) → length (sealed content) ≡ length content + 8
 length-sealed content =
     omega (arith, length-append content (digest content), length-digest content)

@@ -18,9 +18,11 @@ pub record Block : Type 0 where
   pub front : List Entry
   pub last : Entry
 
+-- the entries of a block, with the last one
 abbrev pub block_entries : Block → List Entry
 block_entries block = block.front ++ block.last ∷ []
 
+-- a block, spelled
 abbrev pub block_bytes : Block → List ℕ
 block_bytes block = block_part (block_entries block)
 
@@ -28,6 +30,7 @@ block_bytes block = block_part (block_entries block)
 abbrev pub entries_of_blocks : List Block → List Entry
 entries_of_blocks blocks = flat_map block_entries blocks
 
+-- blocks, one behind the other
 abbrev pub data_bytes : List Block → List ℕ
 data_bytes blocks = flat_map block_bytes blocks
 
@@ -48,6 +51,7 @@ block_lines place [] = []
 block_lines place (block ∷ blocks) =
     block_line place block ∷ block_lines (place + length (block_bytes block)) blocks
 
+-- a line of the index, spelled
 abbrev pub line_bytes : IndexLine → List ℕ
 line_bytes line = be64 line.place ++ (be32 line.len ++ (key_bytes line.key ++ be64 line.number))
 
@@ -55,6 +59,7 @@ line_bytes line = be64 line.place ++ (be32 line.len ++ (key_bytes line.key ++ be
 abbrev pub index_content : List IndexLine → List ℕ
 index_content lines = be32 (length lines) ++ flat_map line_bytes lines
 
+-- the index with its digest
 abbrev pub index_part : List IndexLine → List ℕ
 index_part lines = sealed (index_content lines)
 
@@ -88,6 +93,7 @@ footer_content it =
     be64 it.index ++ (be32 it.index_len ++ (be64 it.filter ++ (be32 it.filter_len
     ++ (be64 it.entries ++ (be32 1 ++ mark)))))
 
+-- the footer with its digest
 abbrev pub footer_part : Footer → List ℕ
 footer_part it = sealed (footer_content it)
 

@@ -26,6 +26,7 @@ same_footer a b small_a small_b is =
 abbrev pub before_footer : List Block → List ℕ → List ℕ
 before_footer blocks filter = data_bytes blocks ++ (filter_part filter ++ index_part (block_lines 0 blocks))
 
+-- a table is what stands before its footer, and the footer
 pub table_parts : (blocks : List Block) (filter : List ℕ) → table_spelling blocks filter
     ≡ before_footer blocks filter ++ sealed (footer_content (table_footer blocks filter))
 table_parts blocks filter =
@@ -34,9 +35,11 @@ table_parts blocks filter =
     (sym (append_assoc (filter_part filter) (index_part (block_lines 0 blocks)) foot))
     ∙ sym (append_assoc (data_bytes blocks) (filter_part filter ++ index_part (block_lines 0 blocks)) foot)
 
+-- a footer has 52 bytes
 pub length-footer : (it : Footer) → length (sealed (footer_content it)) ≡ 52
 length-footer it = length-sealed (footer_content it)
 
+-- a table is 52 bytes longer than what stands before its footer
 pub length-table : (blocks : List Block) (filter : List ℕ)
     → length (table_spelling blocks filter) ≡ length (before_footer blocks filter) + 52
 length-table blocks filter =
@@ -48,6 +51,7 @@ length-table blocks filter =
       length-append (before_footer blocks filter) (sealed (footer_content foot)),
     )
 
+-- bytes are a table of one list of entries at most
 pub table_is_unique : TableIsUnique
 table_is_unique bytes entries others s t =
     let fa = table_footer s.blocks s.filter in
